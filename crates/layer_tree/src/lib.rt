@@ -1,0 +1,10 @@
+//! One layer of an overlay mount: a tree of objects in memory.
+#![tactic(auto)]
+
+mod layer;
+mod name_table;
+mod node;
+
+pub use layer::{Layer, ROOT};
+pub use name_table::{Entry, NameTable};
+pub use node::{Directory, Inode, Marks, Node, Object};

@@ -1,0 +1,40 @@
+// The objects of a layer.
+use crate::name_table::NameTable;
+use ov_base::{Attributes, Content, Redirect};
+
+/// The marks of a directory: `trusted.overlay.opaque` and `trusted.overlay.redirect` of overlayfs.rst.
+#[derive(Drop)]
+pub struct Marks {
+    pub opaque: bool,
+    pub redirect: Option<Redirect>,
+}
+
+/// A directory of a layer: its names, attributes and marks.
+#[derive(Drop)]
+pub struct Directory {
+    pub names: NameTable,
+    pub attributes: Attributes,
+    pub marks: Marks,
+}
+
+/// A file or symbolic link of a layer, and how many names it has there.
+#[derive(Drop)]
+pub struct Inode {
+    pub content: Content,
+    pub attributes: Attributes,
+    pub links: u64,
+}
+
+/// What stands under a key of a layer.
+#[derive(Drop)]
+pub enum Node {
+    Directory(Directory),
+    Inode(Inode),
+}
+
+/// An object on its way into a layer.
+#[derive(Drop)]
+pub enum Object {
+    Directory(Attributes, Marks),
+    Inode(Content, Attributes),
+}

@@ -1,0 +1,58 @@
+-- How the pieces of a path text follow one another.
+use Rattle.std.proofs.Common.{◌≡◌, ◌+◌, ◌<◌, ℕ, suc, List, [], ◌∷◌, Option, Some, None, Bool, true, false, cond, Result, Ok, Err, nat_eq, nat_lt, ◌≤◌, position, take, drop, length, refl, sym, ap, ◌∙◌, arith}
+use Rattle.std.specs.List.{position_or_len}
+use Rattle.std.proofs.lemmas.Bool.{ltb-true, ltb-false}
+use Rattle.std.proofs.lemmas.List.Sums.{fails_before_first}
+use Rattle.std.proofs.lemmas.List.Splits.{slice_split_none, slice_split_first}
+use Rattle.ov_base.specs.declared.errno.Errno.{Errno}
+use Rattle.ov_base.specs.Names.{is_name, name_fault, name_of}
+use Rattle.ov_base.specs.Paths.{pieces, path_below}
+
+-- where a test lets a value through
+some_of_cond : (b : Bool) (i k : ℕ) → cond b (Some i) None ≡ Some k → (b ≡ true) × (i ≡ k)
+some_of_cond true i k e = (refl, cc)
+some_of_cond false i k e = cc
+
+-- the same for a test that is known
+not_some_of_test : (a b i : ℕ) (t : Bool) → nat_lt a b ≡ t → cond t (Some i) None ≡ None → b ≤ a
+not_some_of_test a b i true is e = cc
+not_some_of_test a b i false is e = ltb-false a b is
+
+-- where a test lets nothing through
+not_some_of_cond : (a b i : ℕ) → cond (nat_lt a b) (Some i) None ≡ None → b ≤ a
+not_some_of_cond a b i e = not_some_of_test a b i (nat_lt a b) refl e
+
+-- a text without '/' is one piece
+pub pieces-whole : (text : List ℕ) → position (λ b. nat_eq b 47) text ≡ None → pieces text ≡ text ∷ []
+pieces-whole text none =
+    let not_below : length text ≤ position_or_len (λ b. nat_eq b 47) text = not_some_of_cond _ _ _ none in
+    slice_split_none _ text (λ k d lt. let before : k < position_or_len (λ b. nat_eq b 47) text = omega arith in fails_before_first _ text k d before)
+
+-- the same of a search that finds no '/'
+pub pieces-none : (found : Option ℕ) (text : List ℕ) → found ≡ position (λ b. nat_eq b 47) text → ((place : ℕ) → found ≡ Some place → ⊥) → pieces text ≡ text ∷ []
+pieces-none None text e never = pieces-whole text (sym e)
+pieces-none (Some place) text e never = absurd (never place refl)
+
+-- a text is the piece before its first '/', and the pieces of what follows
+pub pieces-first : (text : List ℕ) (place : ℕ) → position (λ b. nat_eq b 47) text ≡ Some place → pieces text ≡ take place text ∷ pieces (drop (place + 1) text)
+pieces-first text place found =
+    let there = some_of_cond _ _ _ found in
+    let within : position_or_len (λ b. nat_eq b 47) text < length text = ltb-true _ _ there.0 in
+    let zero : ℕ = 0 in
+    slice_split_first (λ b. nat_eq b 47) text zero within ∙ ap (λ k. take k text ∷ pieces (drop (k + 1) text)) there.1
+
+-- a name leads on
+pub below-Ok : (b : Bool) (name piece : List ℕ) (fault : Errno) (more : Result (List (List ℕ)) Errno) → Ok name ≡ cond b (Ok piece) (Err fault) → (cond b more (Err fault) ≡ more) × (name ≡ piece)
+below-Ok true name piece fault more e = (refl, cc)
+below-Ok false name piece fault more e = cc
+
+-- what is no name is the fault
+pub below-Err : (b : Bool) (piece : List ℕ) (told fault : Errno) (more : Result (List (List ℕ)) Errno) → Err told ≡ cond b (Ok piece) (Err fault) → cond b more (Err fault) ≡ Err told
+below-Err true piece told fault more e = cc
+below-Err false piece told fault more e = let same : told ≡ fault = cc in ap Err (sym same)
+
+-- the path after a name and what follows it
+pub below-next : (p : List (List ℕ)) (name piece : List ℕ) (rest : List (List ℕ)) → Ok name ≡ name_of piece → path_below p (piece ∷ rest) ≡ path_below (name ∷ p) rest
+below-next p name piece rest e =
+    let on = below-Ok (is_name piece) name piece (name_fault piece) (path_below (piece ∷ p) rest) e in
+    on.0 ∙ ap (λ (n : List ℕ). path_below (n ∷ p) rest) (sym on.1)

@@ -1,0 +1,26 @@
+//! What every crate of the engine speaks of: names, paths, numbers of refusals, attributes, calls, replies and notices.
+#![tactic(auto)]
+
+mod attributes;
+mod bytes;
+mod call;
+mod errno;
+mod name;
+mod node_id;
+mod notice;
+mod options;
+mod path;
+mod redirect;
+mod reply;
+
+pub use attributes::{Attributes, UserAttributes};
+pub use bytes::{Bytes, Content, Texts};
+pub use call::{Call, OpenFlags};
+pub use errno::Errno;
+pub use name::{Name, NameList, NAME_MAX};
+pub use node_id::NodeId;
+pub use notice::{Event, Notice, Notices};
+pub use options::Options;
+pub use path::{Path, PATH_MAX};
+pub use redirect::Redirect;
+pub use reply::{ObjectKind, Reply, Stat};

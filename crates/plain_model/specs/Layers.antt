@@ -1,0 +1,111 @@
+-- Layers, and what a list of them shows at a path (Linux's Documentation/filesystems/overlayfs.rst: "Upper and Lower", "Directories",
+-- "whiteouts and opaque directories", "Multiple lower layers", "redirect_dir").
+use Rattle.std.specs.Prelude.{◌≡◌, ◌≢◌, ℕ, suc, Bool, true, false, not, ◌&&◌, ◌||◌, List, [], ◌∷◌, Option, None, Some}
+use Rattle.ov_base.specs.declared.attributes.Attributes.{Attributes}
+use Rattle.ov_base.specs.declared.bytes.Content.{Content}
+use Rattle.ov_base.specs.declared.bytes.Content.TheVariants.{File}
+use Rattle.ov_base.specs.declared.redirect.Redirect.{Redirect}
+use Rattle.ov_base.specs.declared.redirect.Redirect.TheVariants.{Absolute, Single}
+
+abbrev pub Name : Type 0
+Name = List ℕ
+
+-- A path has its last name first: n ∷ p is the name n in the directory p, and r ++ p is p followed by r.
+abbrev pub Path : Type 0
+Path = List Name
+
+-- What a layer holds at a path: a directory by its number, with its attributes, whether it is opaque, and its redirect;
+-- a name of an inode, which is a file or a symbolic link; or a whiteout.
+pub data Object : Type 0 where
+  Directory : ℕ → Attributes → Bool → Option Redirect → Object
+  Named : ℕ → Object
+  Whiteout : Object
+
+-- A file or symbolic link of a layer, and how many names it has there.
+pub record Inode : Type 0 where
+  pub content : Content
+  pub attributes : Attributes
+  pub links : ℕ
+
+-- A layer is two look-ups: what it holds below the root at a path, and its inodes by their numbers. Beside them, the root's attributes.
+pub record Layer : Type 0 where
+  pub root : Attributes
+  pub objects : Path → Option Object
+  pub inodes : ℕ → Option Inode
+
+-- what the layer holds at a path; its root is a directory without marks, with the number 0
+abbrev pub held : Layer → Path → Option Object
+held L [] = Some (Directory 0 L.root false None)
+held L (n ∷ p) = L.objects (n ∷ p)
+
+-- the spelling of n in p for the next layer, s being that of p
+abbrev pub spell : Option Object → Name → Path → Path
+spell (Some (Directory k a o (Some (Absolute q)))) n s = q
+spell (Some (Directory k a o (Some (Single m)))) n s = m ∷ s
+spell _ n s = n ∷ s
+
+-- the spelling of a path for the next layer
+abbrev pub below : Layer → Path → Path
+below L [] = []
+below L (n ∷ p) = spell (held L (n ∷ p)) n (below L p)
+
+-- whether the layer cuts n in p, where c says whether it cuts p: an absolute redirect leads on unless its directory is opaque
+abbrev pub cut : Option Object → Bool → Bool
+cut None c = c
+cut (Some (Directory k a o (Some (Absolute q)))) c = o
+cut (Some (Directory k a o (Some (Single m)))) c = o || c
+cut (Some (Directory k a o None)) c = o || c
+cut (Some (Named i)) c = true
+cut (Some Whiteout) c = true
+
+-- whether nothing of the layers below comes through the layer at a path
+abbrev pub cuts : Layer → Path → Bool
+cuts L [] = false
+cuts L (n ∷ p) = cut (held L (n ∷ p)) (cuts L p)
+
+-- what a path shows: a directory, by its layer and number, or an inode, by its layer and number
+pub data Shown : Type 0 where
+  Folder : ℕ → ℕ → Attributes → Shown
+  Contents : ℕ → ℕ → Option Inode → Shown
+
+-- what comes through a layer: nothing where it cuts
+abbrev pub unless : Bool → Option Shown → Option Shown
+unless true s = None
+unless false s = s
+
+-- what is shown where layer i, of these inodes, holds the first and s comes through it
+abbrev pub over : ℕ → (ℕ → Option Inode) → Option Object → Option Shown → Option Shown
+over i inodes None s = s
+over i inodes (Some Whiteout) s = None
+over i inodes (Some (Directory k a o r)) s = Some (Folder i k a)
+over i inodes (Some (Named k)) s = Some (Contents i k (inodes k))
+
+-- what the layers, numbered from i, show at a path
+abbrev pub shows : ℕ → List Layer → Path → Option Shown
+shows i [] p = None
+shows i (L ∷ Ls) p = over i L.inodes (held L p) (unless (cuts L p) (shows (suc i) Ls (below L p)))
+
+-- what comes through the upper at a path from the layers below it
+abbrev pub through : Layer → List Layer → Path → Option Shown
+through U lowers p = unless (cuts U p) (shows 1 lowers (below U p))
+
+-- what the layers below show at the name n in p, whatever the upper holds there: by the spelling that it hands down for p
+abbrev pub under : Layer → List Layer → Name → Path → Option Shown
+under U lowers n p = unless (cuts U p) (shows 1 lowers (n ∷ below U p))
+
+abbrev pub is_directory : Option Shown → Bool
+is_directory (Some (Folder i k a)) = true
+is_directory _ = false
+
+abbrev pub holds_directory : Option Object → Bool
+holds_directory (Some (Directory k a o r)) = true
+holds_directory _ = false
+
+-- whether some layer that is reached at p holds a directory there
+abbrev pub reaches_directory : List Layer → Path → Bool
+reaches_directory [] p = false
+reaches_directory (L ∷ Ls) p = holds_directory (held L p) || (not (cuts L p) && reaches_directory Ls (below L p))
+
+-- whether a reached lower layer holds a directory at p
+abbrev pub base : Layer → List Layer → Path → Bool
+base U lowers p = not (cuts U p) && reaches_directory lowers (below U p)
