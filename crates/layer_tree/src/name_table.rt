@@ -1,7 +1,17 @@
 // The names of a directory.
+ghost use Rattle.std.specs.Prelude.{◌≡◌, ℕ, ◌+◌, ◌<◌, ◌≤◌, None, OnOk, IsOk, IfOk, IsTrue, ◌↔◌, List, is_some, IsSorted};
+ghost use Rattle.std.specs.FinMap as map;
+ghost use Rattle.std.specs.List.{list_any};
+ghost use Rattle.std.specs.Str.{bytes_eq};
+ghost use Rattle.std.specs.Ordering.{nat_cmp};
+ghost use Rattle.std.specs.Cmp.Lexicographic.{slice_cmp};
+ghost use Rattle.indexmap.specs.IndexMap.{keys};
+ghost use Rattle.layer_tree.specs.Table.{Table, entry_in};
+
 use indexmap::IndexMap;
 use ov_base::Name;
 use std::alloc::{AllocError, Global};
+use std::marker::Model;
 
 /// What a directory has at a name: the key of an object, or a whiteout.
 #[derive(Clone, Copy)]
@@ -16,43 +26,87 @@ pub struct NameTable {
     table: IndexMap<Name, Entry>,
 }
 
+impl Model for NameTable {
+    ghost use Rattle.std.specs.FinMap as map;
+    ghost use Rattle.std.specs.HashMap.{spare as places};
+    ghost use Rattle.layer_tree.specs.Table.{Table, table_code};
+
+    ghost Value = { Table };
+
+    ghost coded = { table_code };
+
+    ghost view = { λ t. record { entries = map.from_entries t.table.entries; spare = places t.table } };
+}
+
 impl NameTable {
     /// A table of no names.
-    pub fn new(alloc: Global) -> Self {
+    pub fn new(alloc: Global) -> Self
+        ensures { result.entries ≡ map.empty }
+    {
         NameTable {
             table: IndexMap::new(alloc),
         }
     }
 
     /// The entry at a name.
-    pub fn get(&self, name: &Name) -> Option<Entry> {
+    pub fn get(&self, name: &Name) -> Option<Entry>
+        ensures { result ≡ entry_in self.now name.now }
+    {
         self.table.get(name).copied()
     }
 
     /// Makes room for so many more names.
-    pub fn reserve(&mut self, names: usize) -> Result<(), AllocError> {
+    pub fn reserve(&mut self, names: usize) -> Result<(), AllocError>
+        ensures entries { self.new.entries ≡ self.old.entries }
+        ensures room { OnOk result (names ≤ self.new.spare) }
+        ensures spare { self.old.spare ≤ self.new.spare }
+        ensures succeeds { names ≤ self.old.spare → IsOk result }
+    {
         self.table.reserve(names)
     }
 
-    /// Puts an entry at a name, over the one that is there.
-    pub fn put_reserved(&mut self, name: Name, entry: Entry) {
-        let _ = self.table.insert(name, entry);
+    /// Puts an entry at a name, over the one that is there, which it returns. A new name needs room.
+    pub fn put_reserved(&mut self, name: Name, entry: Entry) -> Option<Entry>
+        requires { entry_in self.old name ≡ None → 0 < self.old.spare }
+        ensures value { result ≡ entry_in self.old name }
+        ensures entries { self.new.entries ≡ map.insert self.old.entries name entry }
+        ensures spare { self.old.spare ≤ self.new.spare + 1 }
+    {
+        match self.table.insert(name, entry) {
+            Ok(old) => old,
+            Err(_) => unreachable!(),
+        }
     }
 
     /// Takes a name out.
-    pub fn remove(&mut self, name: &Name) -> Option<Entry> {
+    pub fn remove(&mut self, name: &Name) -> Option<Entry>
+        ensures value { result ≡ entry_in self.old name.now }
+        ensures entries { self.new.entries ≡ map.remove self.old.entries name.now }
+        ensures spare { self.old.spare ≤ self.new.spare }
+    {
         self.table.swap_remove(name)
     }
 
     /// The names, sorted by their bytes.
-    pub fn sorted(&self, alloc: Global) -> Result<Vec<Name>, AllocError> {
-        let mut all: Vec<Name> = self.table.keys().copied().collect(alloc)?;
+    pub fn sorted(&self, alloc: Global) -> Result<Vec<Name>, AllocError>
+        ensures sorted { IfOk result (λ v. IsSorted (slice_cmp nat_cmp) v.items) }
+        ensures names { IfOk result (λ v. (name : List ℕ) → list_any (bytes_eq name) v.items ≡ is_some (entry_in self.now name)) }
+    {
+        let mut all = names_of(alloc, &self.table)?;
         all.sort_unstable();
         Ok(all)
     }
 
     /// Whether there is no name.
-    pub fn is_empty(&self) -> bool {
+    pub fn is_empty(&self) -> bool
+        ensures { IsTrue result ↔ (self.now.entries ≡ map.empty) }
+    {
         self.table.is_empty()
     }
+}
+
+fn names_of(alloc: Global, table: &IndexMap<Name, Entry>) -> Result<Vec<Name>, AllocError>
+    ensures { IfOk result (λ v. v.items ≡ keys table.now) }
+{
+    table.keys().copied().collect(alloc)
 }

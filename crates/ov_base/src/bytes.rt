@@ -87,6 +87,14 @@ impl Bytes {
     {
         self.bytes.as_slice()
     }
+
+    /// The bytes as a vector, with no copy.
+    pub fn into_vec(self) -> Vec<u8>
+        ensures { result.items ≡ self }
+    {
+        let Bytes { bytes } = self;
+        bytes
+    }
 }
 
 /// Byte strings in an order, as the names of an object's attributes.

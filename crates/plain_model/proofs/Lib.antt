@@ -1,1 +1,12 @@
-
+pub mod LookUp
+pub mod Paths
+pub mod Uppers
+pub mod Moves
+pub mod Stepping
+pub mod Opening
+pub mod Leaders
+pub mod Merged
+pub mod Histories
+pub mod Bounds
+pub mod Rows
+pub mod Values

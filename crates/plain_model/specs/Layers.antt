@@ -1,9 +1,10 @@
 -- Layers, and what a list of them shows at a path (Linux's Documentation/filesystems/overlayfs.rst: "Upper and Lower", "Directories",
 -- "whiteouts and opaque directories", "Multiple lower layers", "redirect_dir").
-use Rattle.std.specs.Prelude.{◌≡◌, ◌≢◌, ℕ, suc, Bool, true, false, not, ◌&&◌, ◌||◌, List, [], ◌∷◌, Option, None, Some}
+use Rattle.std.specs.Prelude.{◌≡◌, ◌≢◌, ◌↔◌, ℕ, suc, Bool, true, false, not, ◌&&◌, ◌||◌, List, [], ◌∷◌, Option, None, Some, is_some, length, bytes_eq}
+use Rattle.std.specs.List.{list_any, IsDistinct}
+use Rattle.std.specs.Cmp.Lexicographic.{pointwise}
 use Rattle.ov_base.specs.declared.attributes.Attributes.{Attributes}
 use Rattle.ov_base.specs.declared.bytes.Content.{Content}
-use Rattle.ov_base.specs.declared.bytes.Content.TheVariants.{File}
 use Rattle.ov_base.specs.declared.redirect.Redirect.{Redirect}
 use Rattle.ov_base.specs.declared.redirect.Redirect.TheVariants.{Absolute, Single}
 
@@ -109,3 +110,37 @@ reaches_directory (L ∷ Ls) p = holds_directory (held L p) || (not (cuts L p) &
 -- whether a reached lower layer holds a directory at p
 abbrev pub base : Layer → List Layer → Path → Bool
 base U lowers p = not (cuts U p) && reaches_directory lowers (below U p)
+
+-- whether two names are the same
+abbrev pub same_name : Name → Name → Bool
+same_name = bytes_eq
+
+-- whether two paths are the same
+abbrev pub same_path : Path → Path → Bool
+same_path = pointwise bytes_eq
+
+-- the names of an inode in its layer: a list of exactly the paths that name it, each once, as long as its link count says
+pub record AreLinks (L : Layer) (k count : ℕ) : Type 0 where
+  pub paths : List Path
+  pub once : IsDistinct same_path paths
+  pub exact : (p : Path) → (list_any (same_path p) paths ≡ true) ↔ (held L p ≡ Some (Named k))
+  pub counted : count ≡ length paths
+
+-- a list has every path below the root that the layer holds
+abbrev pub HasAllPaths : Layer → List Path → Type 0
+HasAllPaths L paths = (p : Path) → is_some (L.objects p) ≡ true → list_any (same_path p) paths ≡ true
+
+-- what a layer is: the parent of a held path is a directory, an absolute redirect has a name, a named inode is there,
+-- an inode's link count is the number of its names, and it holds finitely many paths
+pub record IsLayer (L : Layer) : Type 0 where
+  pub parents : (n : Name) (p : Path) → is_some (held L (n ∷ p)) ≡ true → holds_directory (held L p) ≡ true
+  pub redirects : (p : Path) (k : ℕ) (a : Attributes) (o : Bool) (q : Path) → held L p ≡ Some (Directory k a o (Some (Absolute q))) → q ≢ []
+  pub present : (p : Path) (k : ℕ) → held L p ≡ Some (Named k) → is_some (L.inodes k) ≡ true
+  pub links : (k : ℕ) (i : Inode) → L.inodes k ≡ Some i → AreLinks L k i.links
+  pub paths : List Path
+  pub finite : HasAllPaths L paths
+
+-- each of a list is a layer
+abbrev pub AreLayers : List Layer → Type 0
+AreLayers [] = Unit {0}
+AreLayers (L ∷ Ls) = IsLayer L × AreLayers Ls

@@ -1,1 +1,13 @@
 pub mod Layers
+pub mod Stacks
+pub mod Tree
+pub mod Laws
+pub mod Merging
+pub mod Watching
+pub mod Machine
+pub mod Refusals
+pub mod Changes
+pub mod Replies
+pub mod Subjects
+pub mod Runs
+pub mod Bounds

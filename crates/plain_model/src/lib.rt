@@ -1,5 +1,12 @@
-//! The definitions that the contracts of the engine cite. `specs/` holds them.
+//! The definitions that the contracts of the engine cite, in `specs/`, and the laws that are proved of them.
 #![tactic(auto)]
+
+mod laws;
+
+pub use laws::{
+    law_of_bounds, law_of_look_up, law_of_merge, law_of_mount, law_of_moves, law_of_parents,
+    law_of_paths, law_of_queues, law_of_steps,
+};
 
 /// The most lower layers of a mount.
 pub const LOWERS_MAX: usize = 16;

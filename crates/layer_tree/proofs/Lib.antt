@@ -1,0 +1,10 @@
+pub mod TableLemmas
+pub mod Tables
+pub mod Retabling
+pub mod Unlinking
+pub mod Walks
+pub mod Counting
+pub mod Changing
+pub mod Binding
+pub mod Following
+pub mod Roots

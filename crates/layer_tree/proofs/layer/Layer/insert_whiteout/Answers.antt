@@ -1,0 +1,13 @@
+use Rattle.std.proofs.Common.{sym, ap, ◌∙◌}
+use Rattle.layer_tree.specs.Tree.{layer_of}
+use Rattle.layer_tree.proofs.Binding.{Unbinds-after, ReplacesPath-after}
+use Rattle.layer_tree.proofs.Roots.{key_at-alike}
+use Rattle.layer_tree.proofs.layer.Layer.insert_whiteout.Goals as goal
+
+pub returns-clause-covers : goal.returns-clause-covers
+returns-clause-covers c path at =
+    ReplacesPath-after (layer_of c.args.self.now) (layer_of c.name_room.new.self) (layer_of c.whiteout_reserved.new.self) _ _ c.name_room.ensures.objects_held (c.whiteout_reserved.ensures.covers path (key_at-alike c.args.self.now c.name_room.new.self c.name_room.ensures.same.entries c.name_room.ensures.same.seen path ∙ at))
+
+pub returns-clause-unbinds : goal.returns-clause-unbinds
+returns-clause-unbinds c =
+    Unbinds-after c.args.self.now c.name_room.new.self c.whiteout_reserved.new.self c.args.dir c.args.name _ c.name_room.ensures.same c.whiteout_reserved.ensures.unbinds

@@ -1,0 +1,5 @@
+pub mod Table
+pub mod Walk
+pub mod Places
+pub mod Tree
+pub mod Change
