@@ -1,8 +1,10 @@
-# Two commands: `make show` prints the merged tree of an example, `make test` runs the gate.
+# `make show` builds the program, with the build's own lines in out/show.log, and prints the merged tree of an example.
+# `make test` runs the gate.
 .PHONY: show test
 
 show:
-	@cd crates/overlayd && rt check >out-build.log 2>&1 || { cat out-build.log >&2; exit 1; }
+	@mkdir -p out
+	@cd crates/overlayd && rt run -- show ../../examples/change-layer.toml 2>../../out/show.log || { cat ../../out/show.log >&2; exit 1; }
 
 test:
 	rt ci

@@ -8,3 +8,5 @@ pub mod Changing
 pub mod Binding
 pub mod Following
 pub mod Roots
+pub mod Writing
+pub mod Overlays

@@ -18,13 +18,18 @@ use Rattle.layer_tree.specs.declared.name_table.Entry.TheVariants as to
 use Rattle.layer_tree.specs.declared.node.Node.{Node}
 use Rattle.layer_tree.specs.declared.node.Node.TheVariants as node
 use Rattle.layer_tree.specs.declared.node.Directory.{Directory}
+use Rattle.layer_tree.specs.Places.{HasNames}
+use Rattle.layer_tree.proofs.Walks.{unwrapped}
 use Rattle.layer_tree.proofs.Changing.{same_kind, same_presence}
 use Rattle.layer_tree.proofs.Counting.{HasNames-alike}
 
+abbrev pub links_of : layers.Inode → ℕ
+links_of i = i.links
+
 -- where the same is seen under each key, and each name is bound as it was
 module _ (old new : Tree) (entries : (d : ℕ) (n : List ℕ) → entry new d n ≡ entry old d n) (same : (k : ℕ) → seen_at new k ≡ seen_at old k) where
-  pub IsTree-alike : ((k : ℕ) → inode_at new k ≡ inode_at old k) → IsTree old → IsTree new
-  IsTree-alike inodes tree =
+  pub IsTree-alike : ((k : ℕ) → option_map links_of (inode_at new k) ≡ option_map links_of (inode_at old k)) → IsTree old → IsTree new
+  IsTree-alike counts tree =
       let children : (d : ℕ) (n : List ℕ) → child new d n ≡ child old d n = λ d n. ap (option_and_then object_key) (entries d n) in
       record {
         root = subst IsUnmarked (sym (same ROOT)) tree.root;
@@ -32,8 +37,12 @@ module _ (old new : Tree) (entries : (d : ℕ) (n : List ℕ) → entry new d n 
         present = λ d n k e. same_presence old new k (same k) ∙ tree.present d n k (sym (children d n) ∙ e);
         one_name = λ d e n m k f g is. tree.one_name d e n m k (sym (children d n) ∙ f) (sym (children e m) ∙ g) (sym (same_kind old new k (same k)) ∙ is);
         redirects = λ k. ap leads_on (same k) ∙ tree.redirects k;
-        links = λ k i is. HasNames-alike (child old) (child new) children k i.links (tree.links k i (sym (inodes k) ∙ is));
+        links = λ k i is. HasNames-alike (child old) (child new) children k i.links (names k i.links (inode_at old k) refl (sym (counts k) ∙ ap (option_map links_of) is));
       }
+    where
+      names : (k n : ℕ) (o : Option layers.Inode) → inode_at old k ≡ o → option_map links_of o ≡ Some n → HasNames (child old) k n
+      names k n None at e = absurd (cc)
+      names k n (Some j) at e = subst (HasNames (child old) k) (unwrapped j.links n e) (tree.links k j at)
 
   pub key_at-alike : (p : Path) → key_at new p ≡ key_at old p
   key_at-alike [] = refl

@@ -4,7 +4,9 @@ use Rattle.std.specs.Option.{option_and_then, option_map_or}
 use Rattle.std.specs.FinMap as map
 use Rattle.slab.specs.Slab.{get, slab_len}
 use Rattle.layer_tree.specs.Table.{Table, NameMap, entry_in}
-use Rattle.layer_tree.specs.Tree.{Tree, table_of}
+use Rattle.ov_base.specs.declared.bytes.Content.TheVariants as content
+use Rattle.plain_model.specs.Layers as layers
+use Rattle.layer_tree.specs.Tree.{Tree, table_of, inode_of, file_bytes}
 use Rattle.layer_tree.specs.declared.name_table.Entry.{Entry}
 use Rattle.layer_tree.specs.declared.node.Node.{Node}
 use Rattle.layer_tree.specs.declared.node.Node.TheVariants as node
@@ -59,3 +61,12 @@ IsCounted (Some (node.Inode i)) = 0 < i.links
 pub record Unlinks (old new : Tree) (key : Option ℕ) : Type 0 where
   pub named : (k : ℕ) → key ≡ Some k → get new k ≡ option_map unlinked (get old k)
   pub others : (k : ℕ) → key ≢ Some k → get new k ≡ get old k
+
+-- the bytes of a node that is a file
+abbrev pub node_bytes : Node → Option (List ℕ)
+node_bytes n = option_and_then (λ (i : layers.Inode). file_bytes i.content) (inode_of n)
+
+-- the node with these bytes
+abbrev pub with_file : List ℕ → Node → Node
+with_file bytes (node.Directory d) = node.Directory d
+with_file bytes (node.Inode i) = node.Inode (record i { content = content.File bytes })

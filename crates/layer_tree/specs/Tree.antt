@@ -1,5 +1,5 @@
 -- What a contract sees of a layer: the objects under their keys, and from these what the layer holds at each path.
-use Rattle.std.specs.Prelude.{◌≡◌, ◌≢◌, ℕ, ◌+◌, ◌-◌, ◌<◌, ◌≤◌, Bool, true, false, List, [], ◌∷◌, ◌++◌, Option, Some, None, IsSome, IsTrue, option_map}
+use Rattle.std.specs.Prelude.{◌≡◌, ◌≢◌, ℕ, ◌+◌, ◌-◌, ◌<◌, ◌≤◌, Bool, true, false, List, [], ◌∷◌, ◌++◌, Option, Some, None, IsSome, IsTrue, option_map, length, take, drop, replicate}
 use Rattle.std.specs.Option.{option_and_then, option_map_or}
 use Rattle.slab.specs.Slab.{Slab, get, slab_len}
 use Rattle.ov_base.specs.declared.attributes.Attributes.{Attributes}
@@ -156,6 +156,14 @@ new_inode (object.Inode c a) = Some (record { content = c; attributes = a; links
 abbrev pub with_less : layers.Inode → layers.Inode
 with_less i = record i { links = i.links - 1 }
 
+-- the bytes with others laid over them from a place on, and zero bytes between their end and that place
+abbrev pub written : List ℕ → ℕ → List ℕ → List ℕ
+written bytes start new = (take start bytes ++ replicate (start - length bytes) 0) ++ new ++ drop (start + length new) bytes
+
+-- the inode with these bytes
+abbrev pub with_bytes : List ℕ → layers.Inode → layers.Inode
+with_bytes bytes i = record i { content = content.File bytes }
+
 -- the new layer has this at the path, and at every other path what the old one has
 pub record SetsPath (old new : Layer) (path : Path) (o : layers.Object) : Type 0 where
   pub there : held new path ≡ Some o
@@ -193,6 +201,13 @@ pub record Unbinds (old new : Tree) (dir : ℕ) (name : List ℕ) (to : Option E
   pub seen : (k : ℕ) → seen_at new k ≡ seen_at old k
   pub unlinked : (k : ℕ) → child old dir name ≡ Some k → inode_at new k ≡ option_map with_less (inode_at old k)
   pub inodes : (k : ℕ) → child old dir name ≢ Some k → inode_at new k ≡ inode_at old k
+
+-- The file under the key has these bytes. Every name is bound as it was, and every other inode has what it had.
+pub record Writes (old new : Tree) (key : ℕ) (bytes : List ℕ) : Type 0 where
+  pub there : inode_at new key ≡ option_map (with_bytes bytes) (inode_at old key)
+  pub inodes : (k : ℕ) → k ≢ key → inode_at new k ≡ inode_at old k
+  pub entries : (dir : ℕ) (name : List ℕ) → entry new dir name ≡ entry old dir name
+  pub seen : (k : ℕ) → seen_at new k ≡ seen_at old k
 
 -- at every path the same is held
 abbrev pub SameObjects : Layer → Layer → Type 0

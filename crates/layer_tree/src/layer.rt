@@ -1,5 +1,5 @@
 // A tree of objects in memory.
-ghost use Rattle.std.specs.Prelude.{◌≡◌, ◌≢◌, ℕ, ◌+◌, ◌<◌, ◌≤◌, Option, Some, None, OnOk, OnErr, IsOk, IfOk, IfErr, IsSome, IsTrue, ◌↔◌, List, ◌∷◌, [], option_map, is_some, false, IsSorted, length};
+ghost use Rattle.std.specs.Prelude.{◌≡◌, ◌≢◌, ℕ, ◌+◌, ◌^◌, ◌<◌, ◌≤◌, Option, Some, None, OnOk, OnErr, IsOk, is_ok, IfOk, IfErr, IsSome, if◌then◌else◌, IsTrue, ◌↔◌, List, ◌∷◌, [], option_map, is_some, false, IsSorted, length, take, drop, ◌++◌};
 ghost use Rattle.std.specs.List.{list_any};
 ghost use Rattle.std.specs.Option.{option_and_then, option_copied};
 ghost use Rattle.std.specs.Str.{bytes_eq};
@@ -11,16 +11,17 @@ ghost use Rattle.plain_model.specs.Layers as layers;
 ghost use Rattle.plain_model.specs.Layers.{held};
 ghost use Rattle.layer_tree.specs.Table.{object_key};
 ghost use Rattle.layer_tree.specs.Walk.{Rebinds};
-ghost use Rattle.layer_tree.specs.Tree.{Tree, entry, child, key_at, entry_at, seen_at, inode_at, marks_at, bytes_at, layer_of, seen_object, new_inode, with_less, table_of, leads_on, Inserts, Unbinds, IsDirectory, names_room, SetsPath, ClearsPath, CoversPath, SameObjects, SameTree, UsesObjects};
-ghost use Rattle.layer_tree.specs.Change.{IsPlanted, Retables, Retabled, Unlinks, IsCounted, node_room, node_entry, unlinked};
+ghost use Rattle.layer_tree.specs.Tree.{Tree, entry, child, key_at, entry_at, seen_at, inode_at, marks_at, bytes_at, file_bytes, layer_of, seen_object, new_inode, with_less, table_of, leads_on, Inserts, Unbinds, Writes, written, IsDirectory, names_room, SetsPath, ClearsPath, CoversPath, SameObjects, SameTree, UsesObjects};
+ghost use Rattle.layer_tree.specs.Change.{IsPlanted, Retables, Retabled, Unlinks, IsCounted, node_room, node_entry, unlinked, node_bytes, with_file};
 ghost use Rattle.layer_tree.specs.declared.name_table.Entry.TheVariants as bound;
 
 use crate::name_table::{Entry, NameTable};
 use crate::node::{Directory, Inode, Marks, Node, Object};
-use ov_base::{Attributes, Content, Name, Path};
+use ov_base::{Attributes, Bytes, Content, Name, Path};
 use slab::Slab;
 use std::alloc::{AllocError, AllocFailed, Global};
 use std::marker::Model;
+use std::mem::replace;
 
 /// The key of the root directory.
 pub const ROOT: usize = 0;
@@ -139,6 +140,23 @@ impl Layer {
             })) => Some(bytes.as_slice()),
             _ => None,
         }
+    }
+
+    /// Lays bytes over those of a file from a place on, with zero bytes between the file's end and that place. It fails only for
+    /// want of memory, and changes nothing then.
+    pub fn write(&mut self, key: usize, start: usize, bytes: &[u8]) -> Result<(), AllocError>
+        requires file { IsSome (bytes_at self.old key) }
+        requires end { start + length bytes.now < 2 ^ 64 }
+        ensures writes { (old : List ℕ) → bytes_at self.old key ≡ Some old → Writes self.old self.new key (if is_ok result then written old start bytes.now else old) }
+        ensures err { OnErr result (SameTree self.old self.new) }
+        ensures objects_held { SameObjects (layer_of self.old) (layer_of self.new) }
+        ensures kinds { (d : ℕ) → IsDirectory self.old d → IsDirectory self.new d }
+        ensures names { (d : ℕ) → names_room self.new d ≡ names_room self.old d }
+        ensures objects { UsesObjects self.old self.new 0 }
+    {
+        let alloc = self.alloc;
+        let node = &mut self.nodes[key];
+        write_in(alloc, node, start, bytes)
     }
 
     /// Makes room for so many more names in a directory, and so many more objects.
@@ -383,4 +401,67 @@ fn lose_name(node: &mut Node)
     if let Node::Inode(inode) = node {
         inode.links -= 1;
     }
+}
+
+fn write_in(alloc: Global, node: &mut Node, start: usize, bytes: &[u8]) -> Result<(), AllocError>
+    requires file { IsSome (node_bytes node.old) }
+    requires end { start + length bytes.now < 2 ^ 64 }
+    ensures wrote { (old : List ℕ) → node_bytes node.old ≡ Some old → node.new ≡ with_file (if is_ok result then written old start bytes.now else old) node.old }
+    ensures err { OnErr result (node.new ≡ node.old) }
+{
+    match node {
+        Node::Inode(inode) => write_content(alloc, &mut inode.content, start, bytes),
+        _ => unreachable!(),
+    }
+}
+
+fn write_content(
+    alloc: Global,
+    content: &mut Content,
+    start: usize,
+    bytes: &[u8],
+) -> Result<(), AllocError>
+    requires file { IsSome (file_bytes content.old) }
+    requires end { start + length bytes.now < 2 ^ 64 }
+    ensures wrote { (old : List ℕ) → file_bytes content.old ≡ Some old → content.new ≡ Content.File (if is_ok result then written old start bytes.now else old) }
+    ensures err { OnErr result (content.new ≡ content.old) }
+{
+    match content {
+        Content::File(file) => write_file(alloc, file, start, bytes),
+        _ => unreachable!(),
+    }
+}
+
+fn write_file(
+    alloc: Global,
+    file: &mut Bytes,
+    start: usize,
+    bytes: &[u8],
+) -> Result<(), AllocError>
+    requires { start + length bytes.now < 2 ^ 64 }
+    ensures { file.new ≡ (if is_ok result then written file.old start bytes.now else file.old) }
+{
+    let mut all = replace(file, Bytes::new(alloc)).into_vec();
+    let outcome = lay_over(&mut all, start, bytes);
+    *file = Bytes::from_vec(all);
+    outcome
+}
+
+fn lay_over(file: &mut Vec<u8>, start: usize, bytes: &[u8]) -> Result<(), AllocError>
+    requires { start + length bytes.now < 2 ^ 64 }
+    ensures { file.new.items ≡ (if is_ok result then written file.old.items start bytes.now else file.old.items) }
+{
+    let end = start + bytes.len();
+    if file.len() < end {
+        file.resize(end, 0)?;
+    }
+    lay_in(&mut file[..], start, bytes);
+    Ok(())
+}
+
+fn lay_in(file: &mut [u8], start: usize, bytes: &[u8])
+    requires { start + length bytes.now ≤ length file.old }
+    ensures { file.new ≡ take start file.old ++ bytes.now ++ drop (start + length bytes.now) file.old }
+{
+    file[start..start + bytes.len()].copy_from_slice(bytes);
 }

@@ -1,16 +1,16 @@
-use Rattle.std.proofs.Common.{ap, ◌∙◌}
+use Rattle.std.proofs.Common.{ap, ◌∙◌, option_map}
 use Rattle.plain_model.specs.Layers.{held}
 use Rattle.layer_tree.specs.Tree.{Tree, entry, seen_at, inode_at, layer_of}
-use Rattle.layer_tree.proofs.Roots.{IsTree-alike}
+use Rattle.layer_tree.proofs.Roots.{links_of, IsTree-alike}
 use Rattle.layer_tree.proofs.layer.Layer.room.Goals as goal
 
 pub invariant_of-self : goal.invariant_of-self
 invariant_of-self c =
-    IsTree-alike c.self.inside.nodes c.reserve.new.self (λ d n. ap (λ (s : Tree). entry s d n) c.reserve.ensures.rest_kept) (λ k. ap (λ (s : Tree). seen_at s k) c.reserve.ensures.rest_kept) (λ k. ap (λ (s : Tree). inode_at s k) c.reserve.ensures.rest_kept) c.self.invariant
+    IsTree-alike c.self.inside.nodes c.reserve.new.self (λ d n. ap (λ (s : Tree). entry s d n) c.reserve.ensures.rest_kept) (λ k. ap (λ (s : Tree). seen_at s k) c.reserve.ensures.rest_kept) (λ k. ap (λ (s : Tree). option_map links_of (inode_at s k)) c.reserve.ensures.rest_kept) c.self.invariant
 
 pub invariant_of-self-2 : goal.invariant_of-self-2
 invariant_of-self-2 c =
-    IsTree-alike c.self.inside.nodes c.reserve.new.self (λ d n. ap (λ (s : Tree). entry s d n) c.reserve.ensures.rest_kept) (λ k. ap (λ (s : Tree). seen_at s k) c.reserve.ensures.rest_kept) (λ k. ap (λ (s : Tree). inode_at s k) c.reserve.ensures.rest_kept) c.self.invariant
+    IsTree-alike c.self.inside.nodes c.reserve.new.self (λ d n. ap (λ (s : Tree). entry s d n) c.reserve.ensures.rest_kept) (λ k. ap (λ (s : Tree). seen_at s k) c.reserve.ensures.rest_kept) (λ k. ap (λ (s : Tree). option_map links_of (inode_at s k)) c.reserve.ensures.rest_kept) c.self.invariant
 
 pub returns-in_err-reserve-clause-objects_held : goal.returns-in_err-reserve-clause-objects_held
 returns-in_err-reserve-clause-objects_held c path =

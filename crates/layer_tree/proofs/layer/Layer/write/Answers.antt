@@ -1,0 +1,37 @@
+use Rattle.std.proofs.Common.{◌≡◌, ℕ, List, Option, Some, None, IsSome, sym, ap, subst, ◌∙◌, is_ok, if◌then◌else◌}
+use Rattle.slab.specs.Slab.{get, with_value}
+use Rattle.plain_model.specs.Layers.{held}
+use Rattle.layer_tree.specs.Tree.{Tree, IsTree, Writes, bytes_at, inode_at, inode_of, file_bytes, names_room, layer_of, written}
+use Rattle.layer_tree.specs.Change.{node_bytes, with_file}
+use Rattle.layer_tree.specs.declared.node.Node.{Node}
+use Rattle.layer_tree.proofs.Writing.{some_of, bytes_found, IsTree-written, SameObjects-written, same_room, writes}
+use Rattle.layer_tree.proofs.layer.Layer.write.Goals as goal
+
+pub invariant_of-self : goal.invariant_of-self
+invariant_of-self c =
+    let old = some_of (bytes_at c.args.self.now c.args.key) c.requires.file in
+    let found : node_bytes c.index_mut-node.result.now ≡ Some old.0 = sym (bytes_found c.self.inside.nodes c.args.key c.index_mut-node.result.now c.index_mut-node.ensures.value) ∙ ap (λ (s : Tree). bytes_at s c.args.key) c.self.view_is ∙ old.1 in
+    subst (λ (n : Node). IsTree (with_value c.self.inside.nodes c.args.key n)) (sym (c.write_in.ensures.wrote old.0 found)) (IsTree-written c.self.inside.nodes c.args.key c.index_mut-node.result.now c.index_mut-node.ensures.value _ c.self.invariant)
+
+pub returns-clause-writes : goal.returns-clause-writes
+returns-clause-writes c old is =
+    let bytes : List ℕ = if is_ok c.write_in.result then written old c.args.start c.args.bytes.now else old in
+    let found : node_bytes c.index_mut-node.result.now ≡ Some old = sym (bytes_found c.self.inside.nodes c.args.key c.index_mut-node.result.now c.index_mut-node.ensures.value) ∙ ap (λ (s : Tree). bytes_at s c.args.key) c.self.view_is ∙ is in
+    let whole : Writes c.self.inside.nodes (with_value c.self.inside.nodes c.args.key c.write_in.new.node) c.args.key bytes = subst (λ (n : Node). Writes c.self.inside.nodes (with_value c.self.inside.nodes c.args.key n) c.args.key bytes) (sym (c.write_in.ensures.wrote old found)) (writes c.self.inside.nodes c.args.key c.index_mut-node.result.now c.index_mut-node.ensures.value bytes) in
+    subst (λ (s : Tree). Writes s (with_value c.self.inside.nodes c.args.key c.write_in.new.node) c.args.key bytes) c.self.view_is whole
+
+pub returns-clause-objects_held : goal.returns-clause-objects_held
+returns-clause-objects_held c path =
+    let old = some_of (bytes_at c.args.self.now c.args.key) c.requires.file in
+    let found : node_bytes c.index_mut-node.result.now ≡ Some old.0 = sym (bytes_found c.self.inside.nodes c.args.key c.index_mut-node.result.now c.index_mut-node.ensures.value) ∙ ap (λ (s : Tree). bytes_at s c.args.key) c.self.view_is ∙ old.1 in
+    ap (λ (n : Node). held (layer_of (with_value c.self.inside.nodes c.args.key n)) path) (c.write_in.ensures.wrote old.0 found)
+    ∙ SameObjects-written c.self.inside.nodes c.args.key c.index_mut-node.result.now c.index_mut-node.ensures.value _ path
+    ∙ ap (λ (s : Tree). held (layer_of s) path) c.self.view_is
+
+pub returns-clause-names : goal.returns-clause-names
+returns-clause-names c d =
+    let old = some_of (bytes_at c.args.self.now c.args.key) c.requires.file in
+    let found : node_bytes c.index_mut-node.result.now ≡ Some old.0 = sym (bytes_found c.self.inside.nodes c.args.key c.index_mut-node.result.now c.index_mut-node.ensures.value) ∙ ap (λ (s : Tree). bytes_at s c.args.key) c.self.view_is ∙ old.1 in
+    ap (λ (n : Node). names_room (with_value c.self.inside.nodes c.args.key n) d) (c.write_in.ensures.wrote old.0 found)
+    ∙ same_room c.self.inside.nodes c.args.key c.index_mut-node.result.now c.index_mut-node.ensures.value _ d
+    ∙ ap (λ (s : Tree). names_room s d) c.self.view_is

@@ -1,0 +1,222 @@
+-- What one step, and a walk of several, show.
+use Rattle.std.proofs.Common.{◌≡◌, ℕ, suc, ◌<◌, ◌≤◌, ◌+◌, ◌++◌, Bool, true, false, not, List, [], ◌∷◌, Option, None, Some, refl, sym, ap, ◌∙◌, subst, is_some, length, map, slice_get, drop, take, reverse, arith, nat_eq, cond, get_or, MatchOption}
+use Rattle.std.proofs.lemmas.Bool.{false≢true}
+use Rattle.std.proofs.lemmas.List.{reverse-reverse, reverse-append, length-reverse, take-append-drop, length-map}
+use Rattle.std.specs.Option.{option_and_then, option_map}
+use Rattle.slab.specs.Slab.{get}
+use Rattle.ov_base.specs.declared.attributes.Attributes.{Attributes}
+use Rattle.ov_base.specs.declared.errno.Errno.{Errno}
+use Rattle.ov_base.specs.declared.errno.Errno.TheVariants as errno
+use Rattle.plain_model.specs.Layers.{Name, Path, Object, Directory, Named, Whiteout, Inode, Layer, held, below, cuts, Shown, Folder, Contents, over, unless, shows, under, is_directory}
+use Rattle.layer_tree.specs.Tree.{Tree, layer_of, inode_at, inode_of}
+use Rattle.merged_lookup.specs.declared.stack.Place.{Place}
+use Rattle.merged_lookup.specs.declared.stack.Stack.{Stack}
+use Rattle.merged_lookup.specs.declared.layers.Layers.{Layers}
+use Rattle.merged_lookup.specs.Merged.{trees, layers_of, lowers_of, IsStackOf, ShowsDirectory, ShowsInode, ShowsNothing, level, unless_cut, places_at, top_of, fault, or_else, way_fault, inode_fault, node_in}
+use Rattle.merged_lookup.specs.Descent.{places_from, descend, first, without_upper}
+use Rattle.merged_lookup.proofs.Descending.{IsTop, top-shown, place_of, first-places, shown-inode, shown-none, walk-step, descend-places, descend-unless, length-places, drop-get, reverse-more}
+
+top-of : (s : List Place) (x : Option Shown) → 0 < length s → IsTop s x → (a : Attributes) × (x ≡ Some (Folder (top_of s).layer (top_of s).key a))
+top-of [] x h t = absurd (omega (arith, h))
+top-of (d ∷ ds) x h t = t
+
+no-top : (s : List Place) (x : Option Shown) → length s ≡ 0 → IsTop s x → is_directory x ≡ false
+no-top [] x h t = t
+no-top (d ∷ ds) x h t = absurd (omega (arith, h))
+
+-- the answers that a step is put together of
+module _ (ts : List Tree) (s : List Place) (p : Path) (n : Name) (few : length ts ≤ 17) (is : s ≡ places_at 0 (map layer_of ts) p) (reached : List Place) (exact : length (descend 0 ts s n) ≤ 17 → reached ≡ descend 0 ts s n) where
+  reached-is : reached ≡ places_at 0 (map layer_of ts) (n ∷ p)
+  reached-is = let w : (length (descend 0 ts s n) ≤ 17) × (descend 0 ts s n ≡ places_from 0 ts (n ∷ p)) = walk-step 0 ts s p n few is in exact w.0 ∙ w.1
+
+  top-is : IsTop reached (shows 0 (map layer_of ts) (n ∷ p))
+  top-is = let P : List Place → Type 0 = λ z. IsTop z (shows 0 (map layer_of ts) (n ∷ p)) in subst P (sym reached-is) (top-shown 0 (map layer_of ts) (n ∷ p))
+
+  first-is : first ts s n ≡ place_of (shows 0 (map layer_of ts) (n ∷ p))
+  first-is = ap (λ z. first ts z n) is ∙ first-places 0 ts ts refl p n
+
+  -- where directories are reached, the first is shown
+  step-top : 0 < length reached → (a : Attributes) × (shows 0 (map layer_of ts) (n ∷ p) ≡ Some (Folder (top_of reached).layer (top_of reached).key a))
+  step-top h = top-of reached (shows 0 (map layer_of ts) (n ∷ p)) h top-is
+
+  -- where none is, the topmost object is an inode, and nothing is shown without one
+  step-first : (d : Place) → length reached ≡ 0 → first ts s n ≡ Some d → (i : Option Inode) × (shows 0 (map layer_of ts) (n ∷ p) ≡ Some (Contents d.layer d.key i))
+  step-first d h e = shown-inode (shows 0 (map layer_of ts) (n ∷ p)) d (no-top reached (shows 0 (map layer_of ts) (n ∷ p)) h top-is) (sym first-is ∙ e)
+
+  step-nothing : first ts s n ≡ None → shows 0 (map layer_of ts) (n ∷ p) ≡ None
+  step-nothing e = shown-none (shows 0 (map layer_of ts) (n ∷ p)) (sym first-is ∙ e)
+
+module _ (l : Layers) (s : Stack) (asked : List Place) (same : asked ≡ s.places.items) (n : Name) (few : length (trees l) ≤ 17) (reached : List Place) (exact : length (descend 0 (trees l) asked n) ≤ 17 → reached ≡ descend 0 (trees l) asked n) (p : Path) (is : IsStackOf l p s) where
+  pub step-directory : 0 < length reached → ShowsDirectory l (n ∷ p) reached
+  step-directory h =
+      let t : (a : Attributes) × (shows 0 (map layer_of (trees l)) (n ∷ p) ≡ Some (Folder (top_of reached).layer (top_of reached).key a)) = step-top (trees l) asked p n few (same ∙ is.places) reached exact h in
+      record { attributes = t.0; shown = t.1; places = reached-is (trees l) asked p n few (same ∙ is.places) reached exact }
+
+  pub step-inode : (d : Place) → length reached ≡ 0 → first (trees l) asked n ≡ Some d → ShowsInode l (n ∷ p) d
+  step-inode d h e =
+      let t : (i : Option Inode) × (shows 0 (map layer_of (trees l)) (n ∷ p) ≡ Some (Contents d.layer d.key i)) = step-first (trees l) asked p n few (same ∙ is.places) reached exact d h e in
+      record { inode = t.0; shown = t.1 }
+
+  pub step-none : first (trees l) asked n ≡ None → ShowsNothing l (n ∷ p)
+  step-none e = record { shown = step-nothing (trees l) asked p n few (same ∙ is.places) reached exact e }
+
+is_some-place : (x : Option Shown) → is_some (place_of x) ≡ is_some x
+is_some-place None = refl
+is_some-place (Some (Folder i k a)) = refl
+is_some-place (Some (Contents i k x)) = refl
+
+-- whether a name shows something
+pub shows-some : (ts : List Tree) (s : List Place) (p : Path) (n : Name) → s ≡ places_at 0 (map layer_of ts) p → is_some (first ts s n) ≡ is_some (shows 0 (map layer_of ts) (n ∷ p))
+shows-some ts s p n e = ap (λ z. is_some (first ts z n)) e ∙ ap is_some (first-places 0 ts ts refl p n) ∙ is_some-place (shows 0 (map layer_of ts) (n ∷ p))
+
+-- the inode at a place
+abbrev pub inode_in : List Tree → ℕ → ℕ → Option Inode
+inode_in ts j k = option_and_then inode_of (node_in ts (record { layer = j; key = k }))
+
+inode-here : (x : Option Tree) (t : Tree) (k : ℕ) → x ≡ Some t → option_and_then inode_of (option_and_then (λ t. get t k) x) ≡ inode_at t k
+inode-here x t k e = ap (λ z. option_and_then inode_of (option_and_then (λ t. get t k) z)) e
+
+over-inode : (i : ℕ) (ts : List Tree) (t : Tree) (j k : ℕ) (x : Option Inode) (o : Option Object) (c : Bool) (y : Option Shown) → slice_get ts i ≡ Some t → (y ≡ Some (Contents j k x) → inode_in ts j k ≡ x) → over i (inode_at t) o (unless c y) ≡ Some (Contents j k x) → inode_in ts j k ≡ x
+over-inode i ts t j k x None true y at rest h = cc
+over-inode i ts t j k x None false y at rest h = rest h
+over-inode i ts t j k x (Some Whiteout) c y at rest h = cc
+over-inode i ts t j k x (Some (Directory m a b r)) c y at rest h = cc
+over-inode i ts t j k x (Some (Named m)) c y at rest h =
+    let ij : i ≡ j = cc in
+    let mk : m ≡ k = cc in
+    let ix : inode_at t m ≡ x = cc in
+    sym (ap (λ z. inode_in ts z k) ij) ∙ inode-here (slice_get ts i) t k at ∙ sym (ap (inode_at t) mk) ∙ ix
+
+-- an inode that is shown is the one at its place
+pub inode-shown : (i : ℕ) (ts us : List Tree) → drop i ts ≡ us → (p : Path) (j k : ℕ) (x : Option Inode) → shows i (map layer_of us) p ≡ Some (Contents j k x) → inode_in ts j k ≡ x
+inode-shown i ts [] e p j k x h = cc
+inode-shown i ts (t ∷ us) e p j k x h =
+    let d : (slice_get ts i ≡ Some t) × (drop (suc i) ts ≡ us) = drop-get ts i t us e in
+    over-inode i ts t j k x (held (layer_of t) p) (cuts (layer_of t) p) (shows (suc i) (map layer_of us) (below (layer_of t) p)) d.0 (inode-shown (suc i) ts us d.1 (below (layer_of t) p) j k x) h
+
+-- the first fault of a way is that of each longer one
+pub way-more : (Ls : List Layer) (r p : Path) (e : Errno) → way_fault Ls p ≡ Some e → way_fault Ls (r ++ p) ≡ Some e
+way-more Ls [] p e h = h
+way-more Ls (n ∷ r) p e h = ap (λ z. or_else z (fault (shows 0 Ls (n ∷ (r ++ p))))) (way-more Ls r p e h)
+
+-- one name on from a way without fault
+pub way-next : (Ls : List Layer) (p : Path) (n : Name) (e : Option Errno) → way_fault Ls p ≡ None → fault (shows 0 Ls (n ∷ p)) ≡ e → way_fault Ls (n ∷ p) ≡ e
+way-next Ls p n e h f = ap (λ z. or_else z (fault (shows 0 Ls (n ∷ p)))) h ∙ f
+
+-- a path by its names from the root
+pub path-split : (p : Path) (parents : List Name) (n : Name) → reverse p ≡ parents ++ n ∷ [] → p ≡ n ∷ reverse parents
+path-split p parents n e = sym (reverse-reverse p) ∙ ap reverse e ∙ reverse-append parents (n ∷ [])
+
+pub path-none : (p : Path) → length (reverse p) ≡ 0 → p ≡ []
+path-none [] h = refl
+path-none (n ∷ p) h = absurd (omega (arith, h, length-reverse (n ∷ p)))
+
+-- the names after some of them, before those, last first
+pub reverse-parts : (names : List Name) (i : ℕ) → reverse names ≡ reverse (drop i names) ++ reverse (take i names)
+reverse-parts names i = ap reverse (sym (take-append-drop i names)) ∙ reverse-append (take i names) (drop i names)
+
+-- the topmost of these places, if there is one, is of layer i or below it
+abbrev pub HeadFrom : ℕ → List Place → Type 0
+HeadFrom i [] = Unit {0}
+HeadFrom i (d ∷ ds) = i ≤ d.layer
+
+head-level : (i : ℕ) (o : Option Object) (c : Bool) (s : List Place) → HeadFrom (suc i) s → HeadFrom i (level i o (unless_cut c s))
+head-level i (Some (Directory k a b r)) c s h = omega arith
+head-level i None true s h = tt
+head-level i None false [] h = tt
+head-level i None false (d ∷ ds) h = omega (arith, h)
+head-level i (Some (Named k)) true s h = tt
+head-level i (Some (Named k)) false [] h = tt
+head-level i (Some (Named k)) false (d ∷ ds) h = omega (arith, h)
+head-level i (Some Whiteout) true s h = tt
+head-level i (Some Whiteout) false [] h = tt
+head-level i (Some Whiteout) false (d ∷ ds) h = omega (arith, h)
+
+head-places : (i : ℕ) (Ls : List Layer) (p : Path) → HeadFrom i (places_at i Ls p)
+head-places i [] p = tt
+head-places i (L ∷ Ls) p = head-level i (held L p) (cuts L p) (places_at (suc i) Ls (below L p)) (head-places (suc i) Ls (below L p))
+
+without-lowers : (s : List Place) → HeadFrom 1 s → without_upper s ≡ s
+without-lowers [] h = refl
+without-lowers (d ∷ ds) h = let e : nat_eq d.layer 0 ≡ false = grind (arith, h) in ap (λ b. cond b ds (d ∷ ds)) e
+
+head-unless : (c : Bool) (s : List Place) → HeadFrom 1 s → HeadFrom 1 (unless_cut c s)
+head-unless true s h = tt
+head-unless false s h = h
+
+without-level : (o : Option Object) (s : List Place) → HeadFrom 1 s → without_upper (level 0 o s) ≡ s
+without-level (Some (Directory k a b r)) s h = refl
+without-level None s h = without-lowers s h
+without-level (Some (Named k)) s h = without-lowers s h
+without-level (Some Whiteout) s h = without-lowers s h
+
+top-unless : (c : Bool) (s : List Place) (x : Option Shown) → IsTop s x → IsTop (unless_cut c s) (unless c x)
+top-unless true s x h = refl
+top-unless false s x h = h
+
+suc-not-zero : (k : ℕ) → nat_eq (suc k) 0 ≡ false
+suc-not-zero k = grind arith
+
+directory-top : (s : List Place) (x : Option Shown) → IsTop s x → not (nat_eq (length s) 0) ≡ is_directory x
+directory-top [] x h = sym h
+directory-top (d ∷ ds) x h = ap not (suc-not-zero (length ds)) ∙ sym (ap is_directory h.1)
+
+length-unless : (c : Bool) (s : List Place) (m : ℕ) → length s ≤ m → length (unless_cut c s) ≤ m
+length-unless true s m h = omega arith
+length-unless false s m h = h
+
+-- what the lower layers show under a name is asked from the places below the upper
+module _ (t : Tree) (us : List Tree) (s : List Place) (p : Path) (n : Name) (few : length us ≤ 16) (is : s ≡ places_at 0 (map layer_of (t ∷ us)) p) (reached : List Place) (exact : length (descend 1 (t ∷ us) (without_upper s) n) ≤ 17 → reached ≡ descend 1 (t ∷ us) (without_upper s) n) where
+  under-is : descend 1 (t ∷ us) (without_upper s) n ≡ unless_cut (cuts (layer_of t) p) (places_at 1 (map layer_of us) (n ∷ below (layer_of t) p))
+  under-is =
+      let lower : List Place = unless_cut (cuts (layer_of t) p) (places_at 1 (map layer_of us) (below (layer_of t) p)) in
+      let start : without_upper s ≡ lower = ap without_upper is ∙ without-level (held (layer_of t) p) lower (head-unless (cuts (layer_of t) p) (places_at 1 (map layer_of us) (below (layer_of t) p)) (head-places 1 (map layer_of us) (below (layer_of t) p))) in
+      ap (λ z. descend 1 (t ∷ us) z n) start
+      ∙ descend-unless 1 (t ∷ us) (cuts (layer_of t) p) (places_at 1 (map layer_of us) (below (layer_of t) p)) n
+      ∙ ap (unless_cut (cuts (layer_of t) p)) (descend-places 1 1 (t ∷ us) us (omega arith) refl (below (layer_of t) p) n)
+
+  under-few : length (unless_cut (cuts (layer_of t) p) (places_at 1 (map layer_of us) (n ∷ below (layer_of t) p))) ≤ 17
+  under-few =
+      let all : length (places_at 1 (map layer_of us) (n ∷ below (layer_of t) p)) ≤ length (map layer_of us) = length-places 1 (map layer_of us) (n ∷ below (layer_of t) p) in
+      let same : length (map layer_of us) ≡ length us = simp length-map in
+      length-unless (cuts (layer_of t) p) (places_at 1 (map layer_of us) (n ∷ below (layer_of t) p)) 17 (omega arith)
+
+  pub under-directory : not (nat_eq (length reached) 0) ≡ is_directory (under (layer_of t) (map layer_of us) n p)
+  under-directory =
+      let short : length (descend 1 (t ∷ us) (without_upper s) n) ≤ 17 = let P : List Place → Type 0 = λ z. length z ≤ 17 in subst P (sym under-is) under-few in
+      ap (λ z. not (nat_eq (length z) 0)) (exact short ∙ under-is)
+      ∙ directory-top (unless_cut (cuts (layer_of t) p) (places_at 1 (map layer_of us) (n ∷ below (layer_of t) p))) (unless (cuts (layer_of t) p) (shows 1 (map layer_of us) (n ∷ below (layer_of t) p)))
+      (top-unless (cuts (layer_of t) p) (places_at 1 (map layer_of us) (n ∷ below (layer_of t) p)) (shows 1 (map layer_of us) (n ∷ below (layer_of t) p)) (top-shown 1 (map layer_of us) (n ∷ below (layer_of t) p)))
+
+-- the fault of what is shown
+pub nothing-fault : (l : Layers) (p : Path) → ShowsNothing l p → fault (shows 0 (layers_of l) p) ≡ Some errno.ENOENT
+nothing-fault l p h = ap fault h.shown
+
+pub inode-fault : (l : Layers) (p : Path) (d : Place) → ShowsInode l p d → fault (shows 0 (layers_of l) p) ≡ Some (inode_fault (option_and_then inode_of (node_in (trees l) d)))
+inode-fault l p d h = ap fault h.shown ∙ ap (λ i. Some (inode_fault i)) (sym (inode-shown 0 (trees l) (trees l) refl p d.layer d.key h.inode h.shown))
+
+pub directory-fault : (l : Layers) (p : Path) (s : List Place) → ShowsDirectory l p s → fault (shows 0 (layers_of l) p) ≡ None
+directory-fault l p s h = ap fault h.shown
+
+-- a fault at one of the names is that of them all
+pub fault-at : (l : Layers) (names : List Name) (i : ℕ) (n : Name) (e : Errno) → i < length names → n ≡ get_or names i n → way_fault (layers_of l) (reverse (take i names)) ≡ None → fault (shows 0 (layers_of l) (n ∷ reverse (take i names))) ≡ Some e → way_fault (layers_of l) (reverse names) ≡ Some e
+fault-at l names i n e h is none here =
+    let next : way_fault (layers_of l) (reverse (take (i + 1) names)) ≡ Some e = ap (way_fault (layers_of l)) (reverse-more names i n h is) ∙ way-next (layers_of l) (reverse (take i names)) n (Some e) none here in
+    ap (way_fault (layers_of l)) (reverse-parts names (i + 1)) ∙ way-more (layers_of l) (reverse (drop (i + 1) names)) (reverse (take (i + 1) names)) e next
+
+-- one directory on in a way without fault
+pub fault-next : (l : Layers) (names : List Name) (i : ℕ) (n : Name) (s : List Place) → i < length names → n ≡ get_or names i n → way_fault (layers_of l) (reverse (take i names)) ≡ None → ShowsDirectory l (n ∷ reverse (take i names)) s → way_fault (layers_of l) (reverse (take (i + 1) names)) ≡ None
+fault-next l names i n s h is none d = ap (way_fault (layers_of l)) (reverse-more names i n h is) ∙ way-next (layers_of l) (reverse (take i names)) n None none (directory-fault l (n ∷ reverse (take i names)) s d)
+
+-- the root is shown as a directory
+pub root-shown : (l : Layers) (s : Stack) → IsStackOf l [] s → ShowsDirectory l [] s.places.items
+root-shown l s is =
+    record {
+      attributes = (layer_of l.upper).root;
+      shown = ap (λ z. Some (Folder (top_of z).layer (top_of z).key (layer_of l.upper).root)) (sym is.places);
+      places = is.places;
+    }
+
+pub match-map : {T : Type 0} (P R : Type 0) (Q S : T → Type 0) (o : Option T) → (P → R) → ((x : T) → Q x → S x) → MatchOption o P Q → MatchOption o R S
+match-map P R Q S None f g h = f h
+match-map P R Q S (Some x) f g h = g x h

@@ -1,0 +1,130 @@
+-- What look-up over the layers of a mount answers: the directories that a path reaches, what a path shows, and why a walk is refused
+-- (overlayfs.rst, "Directories" and "Multiple lower layers"; POSIX.1-2017, General Concepts, Pathname Resolution).
+use Rattle.std.specs.Prelude.{◌≡◌, ℕ, suc, Bool, true, false, List, [], ◌∷◌, Option, None, Some, map, slice_get}
+use Rattle.std.specs.Option.{option_and_then}
+use Rattle.slab.specs.Slab.{get}
+use Rattle.ov_base.specs.declared.attributes.Attributes.{Attributes}
+use Rattle.ov_base.specs.declared.bytes.Content.{Content}
+use Rattle.ov_base.specs.declared.bytes.Content.TheVariants as content
+use Rattle.ov_base.specs.declared.errno.Errno.{Errno}
+use Rattle.ov_base.specs.declared.errno.Errno.TheVariants as errno
+use Rattle.plain_model.specs.Layers.{Path, Object, Directory, Inode, Layer, held, below, cuts, Shown, Folder, Contents, shows}
+use Rattle.layer_tree.specs.Tree.{Tree, layer_of}
+use Rattle.layer_tree.specs.declared.node.Node.{Node}
+use Rattle.merged_lookup.specs.declared.stack.Place.{Place}
+use Rattle.merged_lookup.specs.declared.stack.Stack.{Stack}
+use Rattle.merged_lookup.specs.declared.layers.Layers.{Layers}
+use Rattle.merged_lookup.specs.declared.found.Found.{Found}
+use Rattle.merged_lookup.specs.declared.found.Found.TheVariants as found
+use Rattle.merged_lookup.specs.declared.found.Look.{Look}
+use Rattle.merged_lookup.specs.declared.found.Look.TheVariants as look
+
+-- the layers of a mount, the upper first, as trees under keys
+abbrev pub trees : Layers → List Tree
+trees l = l.upper ∷ l.lowers.items
+
+-- what stands at a place
+abbrev pub node_in : List Tree → Place → Option Node
+node_in ts d = option_and_then (λ t. get t d.key) (slice_get ts d.layer)
+
+-- the lower layers by what they hold at each path
+abbrev pub lowers_of : Layers → List Layer
+lowers_of l = map layer_of l.lowers.items
+
+-- the layers of a mount by what they hold at each path, the upper first
+abbrev pub layers_of : Layers → List Layer
+layers_of l = layer_of l.upper ∷ lowers_of l
+
+-- the places with that of layer i at their top, where the object held there is a directory
+abbrev pub level : ℕ → Option Object → List Place → List Place
+level i (Some (Directory k a o r)) s = record { layer = i; key = k } ∷ s
+level i _ s = s
+
+-- no places under a layer that cuts
+abbrev pub unless_cut : Bool → List Place → List Place
+unless_cut true s = []
+unless_cut false s = s
+
+-- the directories that a path reaches in layers numbered from i, top first
+abbrev pub places_at : ℕ → List Layer → Path → List Place
+places_at i [] p = []
+places_at i (L ∷ Ls) p = level i (held L p) (unless_cut (cuts L p) (places_at (suc i) Ls (below L p)))
+
+-- the stack is that of the directory at a path
+pub record IsStackOf (l : Layers) (p : Path) (s : Stack) : Type 0 where
+  pub places : s.places.items ≡ places_at 0 (layers_of l) p
+
+-- the place at the top
+abbrev pub top_of : List Place → Place
+top_of [] = record { layer = 0; key = 0 }
+top_of (d ∷ ds) = d
+
+-- the layers show a directory at a path, and these are its places, of which the first is the one shown
+pub record ShowsDirectory (l : Layers) (p : Path) (s : List Place) : Type 0 where
+  pub attributes : Attributes
+  pub shown : shows 0 (layers_of l) p ≡ Some (Folder (top_of s).layer (top_of s).key attributes)
+  pub places : s ≡ places_at 0 (layers_of l) p
+
+-- the layers show the file or symbolic link of this place at a path
+pub record ShowsInode (l : Layers) (p : Path) (d : Place) : Type 0 where
+  pub inode : Option Inode
+  pub shown : shows 0 (layers_of l) p ≡ Some (Contents d.layer d.key inode)
+
+-- the layers show nothing at a path
+pub record ShowsNothing (l : Layers) (p : Path) : Type 0 where
+  pub shown : shows 0 (layers_of l) p ≡ None
+
+-- what is found at a path is what the layers show there
+abbrev pub IsFound : Layers → Path → Found → Type 0
+IsFound l p (found.Directory s) = ShowsDirectory l p s.places.items
+IsFound l p (found.Inode d) = ShowsInode l p d
+
+-- the answer to what the layers show at a path
+abbrev pub IsAnswer : Layers → Path → Option Found → Type 0
+IsAnswer l p None = ShowsNothing l p
+IsAnswer l p (Some f) = IsFound l p f
+
+-- why a walk can't go on from an inode: it is a symbolic link, or no directory
+abbrev pub inode_fault : Option Inode → Errno
+inode_fault None = errno.ENOTDIR
+inode_fault (Some i) = elim i.content [ content.File bytes ↦ errno.ENOTDIR | content.SymbolicLink target ↦ errno.ELOOP ]
+
+-- why a walk can't go on from what is shown
+abbrev pub fault : Option Shown → Option Errno
+fault None = Some errno.ENOENT
+fault (Some (Folder i k a)) = None
+fault (Some (Contents i k inode)) = Some (inode_fault inode)
+
+-- the first fault, where there is one
+abbrev pub or_else : Option Errno → Option Errno → Option Errno
+or_else None e = e
+or_else (Some d) e = Some d
+
+-- why the names of a path lead to no directory, the first from the root
+abbrev pub way_fault : List Layer → Path → Option Errno
+way_fault Ls [] = None
+way_fault Ls (n ∷ p) = or_else (way_fault Ls p) (fault (shows 0 Ls (n ∷ p)))
+
+-- why the parents of a path lead to no directory
+abbrev pub parents_fault : List Layer → Path → Option Errno
+parents_fault Ls [] = None
+parents_fault Ls (n ∷ p) = way_fault Ls p
+
+-- the path without its last name
+abbrev pub parent : Path → Path
+parent [] = []
+parent (n ∷ p) = p
+
+-- what a look finds, its parents being directories
+abbrev pub IsLook : Layers → Path → Look → Type 0
+IsLook l p (look.Found f) = IsFound l p f
+IsLook l p (look.Absent s) = ShowsNothing l p × IsStackOf l (parent p) s
+
+-- ENOENT where nothing is shown
+abbrev pub absent : Option Shown → Option Errno
+absent None = Some errno.ENOENT
+absent (Some s) = None
+
+-- why a walk to what a path shows is refused
+abbrev pub walk_fault : List Layer → Path → Option Errno
+walk_fault Ls p = or_else (parents_fault Ls p) (absent (shows 0 Ls p))

@@ -1,0 +1,164 @@
+// The layers of a mount.
+ghost use Rattle.std.specs.Prelude.{◌≡◌, ◌<◌, ◌≤◌, ◌∷◌, [], List, ℕ, Option, length, slice_get, Some, None, is_some, IsOk, IfOk, IfErr, MatchOption, ◌↔◌, reverse};
+ghost use Rattle.std.specs.Vec.{vec_len};
+ghost use Rattle.std.specs.Option.{option_copied, option_and_then};
+ghost use Rattle.plain_model.specs.Layers.{Path, shows, is_directory, under};
+ghost use Rattle.layer_tree.specs.Tree.{layer_of, inode_of};
+
+use crate::descent::{below_upper, descend, first_object, roots};
+use crate::found::{Found, Look};
+use crate::stack::{Place, Stack};
+use layer_tree::{Inode, Layer, Node};
+use ov_base::{Content, Errno, Name, Path};
+
+/// The most layers of a mount: the upper and 16 lower ones.
+pub const LAYERS_MAX: usize = 17;
+
+/// The layers of a mount. Layer 0 is the upper, which takes every change; the lower ones follow, the nearest first.
+#[derive(Drop)]
+pub struct Layers {
+    pub upper: Layer,
+    pub lowers: Vec<Layer>,
+    pub ghost some_lower: { 0 < vec_len lowers },
+    pub ghost few_lowers: { vec_len lowers ≤ 16 },
+}
+
+impl Layers {
+    ghost use Rattle.merged_lookup.specs.Merged.{trees, node_in, layers_of, lowers_of, IsStackOf, IsAnswer, IsFound, IsLook, parents_fault, walk_fault, way_fault, inode_fault};
+
+    /// An upper layer over 1 to 16 lower ones, the nearest first.
+    pub fn new(upper: Layer, lowers: Vec<Layer>) -> Layers
+        requires some_lower { 0 < vec_len lowers }
+        requires few_lowers { vec_len lowers ≤ 16 }
+    {
+        Layers { upper, lowers }
+    }
+
+    /// How many layers there are, the upper included.
+    pub fn count(&self) -> usize
+        ensures count { result ≡ length (trees self.now) }
+        ensures few { result ≤ 17 }
+    {
+        self.lowers.len() + 1
+    }
+
+    /// A layer by its number, 0 for the upper.
+    pub fn layer(&self, index: usize) -> Option<&Layer>
+        ensures { option_copied result ≡ slice_get (trees self.now) index }
+    {
+        match index {
+            0 => Some(&self.upper),
+            _ => self.lowers.get(index - 1),
+        }
+    }
+
+    /// The root directory.
+    pub fn root(&self) -> Stack
+        ensures { IsStackOf self.now [] result }
+    {
+        Stack {
+            places: roots(self, 0),
+        }
+    }
+
+    /// The object at a place.
+    pub fn node(&self, place: Place) -> Option<&Node>
+        ensures { option_copied result ≡ node_in (trees self.now) place }
+    {
+        self.layer(place.layer)?.node(place.key)
+    }
+
+    /// What a name shows in a merged directory.
+    pub fn step(&self, stack: &Stack, name: &Name) -> Option<Found>
+        ensures { (p : Path) → IsStackOf self.now p stack.now → IsAnswer self.now (name.now ∷ p) result }
+    {
+        let asked = stack.places();
+        let places = descend(self, 0, asked, name);
+        if !places.is_empty() {
+            return Some(Found::Directory(Stack { places }));
+        }
+        Some(Found::Inode(first_object(self, asked, name)?))
+    }
+
+    /// Whether a name shows something in a merged directory.
+    pub fn shows(&self, stack: &Stack, name: &Name) -> bool
+        ensures { (p : Path) → IsStackOf self.now p stack.now → result ≡ is_some (shows 0 (layers_of self.now) (name.now ∷ p)) }
+    {
+        first_object(self, stack.places(), name).is_some()
+    }
+
+    /// What a path shows. On the way to its last name a name that shows nothing is ENOENT, a file ENOTDIR and a symbolic link
+    /// ELOOP.
+    pub fn look(&self, path: &Path) -> Result<Look, Errno>
+        ensures found { IfOk result (λ l. (parents_fault (layers_of self.now) path.now ≡ None) × IsLook self.now path.now l) }
+        ensures refused { IfErr result (λ e. parents_fault (layers_of self.now) path.now ≡ Some e) }
+    {
+        let Some((name, parents)) = split_last(path) else {
+            return Ok(Look::Found(Found::Directory(self.root())));
+        };
+        let parent = self.directory(parents)?;
+        match self.step(&parent, name) {
+            Some(found) => Ok(Look::Found(found)),
+            None => Ok(Look::Absent(parent)),
+        }
+    }
+
+    /// `look` for a path that is to show something, else it is ENOENT.
+    pub fn walk(&self, path: &Path) -> Result<Found, Errno>
+        ensures found { IfOk result (λ f. IsFound self.now path.now f) }
+        ensures refused { IfErr result (λ e. walk_fault (layers_of self.now) path.now ≡ Some e) }
+        ensures answers { IsOk result ↔ (walk_fault (layers_of self.now) path.now ≡ None) }
+    {
+        match self.look(path)? {
+            Look::Found(found) => Ok(found),
+            Look::Absent(_) => Err(Errno::ENOENT),
+        }
+    }
+
+    /// The directory that names lead to from the root.
+    fn directory(&self, names: &[Name]) -> Result<Stack, Errno>
+        ensures found { IfOk result (λ s. (way_fault (layers_of self.now) (reverse names.now) ≡ None) × IsStackOf self.now (reverse names.now) s) }
+        ensures refused { IfErr result (λ e. way_fault (layers_of self.now) (reverse names.now) ≡ Some e) }
+    {
+        let mut stack = self.root();
+        for name in names {
+            match self.step(&stack, name) {
+                Some(Found::Directory(next)) => stack = next,
+                Some(Found::Inode(place)) => return Err(self.blocked(place)),
+                None => return Err(Errno::ENOENT),
+            }
+        }
+        Ok(stack)
+    }
+
+    /// Why a walk cannot go on from an inode: a symbolic link is not followed, and a file has no names.
+    fn blocked(&self, place: Place) -> Errno
+        ensures { result ≡ inode_fault (option_and_then inode_of (node_in (trees self.now) place)) }
+    {
+        match self.node(place) {
+            Some(
+                Node::Inode(
+                    Inode {
+                        content: Content::SymbolicLink(_),
+                        ..
+                    },
+                ),
+            ) => Errno::ELOOP,
+            _ => Errno::ENOTDIR,
+        }
+    }
+
+    /// Whether the lower layers show a directory at a name of a merged directory, whatever the upper has there.
+    pub fn lowers_show_directory(&self, parent: &Stack, name: &Name) -> bool
+        ensures { (p : Path) → IsStackOf self.now p parent.now → result ≡ is_directory (under (layer_of self.now.upper) (lowers_of self.now) name.now p) }
+    {
+        !descend(self, 1, below_upper(parent.places()), name).is_empty()
+    }
+}
+
+/// The last name of a path, and the names before it from the root down; none for the root.
+pub fn split_last(path: &Path) -> Option<(&Name, &[Name])>
+    ensures { MatchOption result (path.now ≡ []) (λ split. path.now ≡ split.0.now ∷ reverse split.1.now) }
+{
+    path.names().split_last()
+}

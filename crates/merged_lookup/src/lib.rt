@@ -1,0 +1,15 @@
+//! Look-up through the layers of an overlay mount: one upper layer over 1 to 16 lower ones, with whiteouts, opaque directories and
+//! redirects.
+#![tactic(auto)]
+
+mod descent;
+mod found;
+mod layers;
+mod stack;
+
+pub use found::{Found, Look};
+pub use layers::{LAYERS_MAX, Layers, split_last};
+pub use stack::{Place, Stack};
+
+#[cfg(test)]
+mod tests;

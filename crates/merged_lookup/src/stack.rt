@@ -1,0 +1,41 @@
+// The directories of the layers that one merged directory is made of.
+ghost use Rattle.std.specs.Prelude.{◌≡◌, ◌<◌};
+ghost use Rattle.arrayvec.specs.ArrayVec.{array_vec_len};
+
+use crate::layers::LAYERS_MAX;
+use arrayvec::ArrayVec;
+
+/// An object of a layer: the layer, 0 for the upper, and the key that the object has there.
+#[derive(Clone, Copy, Default)]
+pub struct Place {
+    pub layer: usize,
+    pub key: usize,
+}
+
+/// Places of different layers, top first.
+pub(crate) type Places = ArrayVec<Place, LAYERS_MAX>;
+
+/// The directories of one merged directory, top first; there is at least one.
+#[derive(Drop)]
+pub struct Stack {
+    pub(crate) places: Places,
+    ghost some_place: { 0 < array_vec_len places },
+}
+
+impl Stack {
+    ghost use Rattle.merged_lookup.specs.Merged.{top_of};
+
+    /// The directory whose attributes the merged directory shows.
+    pub fn top(&self) -> Place
+        ensures { result ≡ top_of self.now.places.items }
+    {
+        self.places.as_slice()[0]
+    }
+
+    /// The directories, top first.
+    pub fn places(&self) -> &[Place]
+        ensures { result.now ≡ self.now.places.items }
+    {
+        self.places.as_slice()
+    }
+}
