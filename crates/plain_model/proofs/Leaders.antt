@@ -7,7 +7,6 @@ use Rattle.std.specs.Ordering.{is_gt, ordering_reverse}
 use Rattle.std.specs.declared.cmp.Ordering.{Ordering}
 use Rattle.std.specs.declared.cmp.Ordering.TheVariants.{Less, Equal, Greater}
 use Rattle.plain_model.specs.Layers.{Path, Object, Directory, Named, Whiteout, Layer, held, same_path, HasAllPaths}
-use Rattle.plain_model.specs.Tree.{AreLinked}
 use Rattle.plain_model.specs.Merging.{text, text_cmp, lesser, least, names_inode, leader_by, leader, Leads}
 use Rattle.plain_model.proofs.Paths.{paths_tell}
 

@@ -1,7 +1,7 @@
 -- What a list of layers shows: the law of look-up, and that what is shown stands in shown directories.
 use Rattle.std.proofs.Common.{◌≡◌, ℕ, suc, Bool, true, false, not, ◌&&◌, ◌||◌, List, [], ◌∷◌, Option, None, Some, refl, is_some, arith}
 use Rattle.std.proofs.lemmas.Bool.{false≢true}
-use Rattle.plain_model.specs.Layers.{Name, Path, Object, Layer, Inode, held, spell, below, cut, cuts, Shown, unless, over, shows, through, is_directory, holds_directory, reaches_directory, base, AreLayers}
+use Rattle.plain_model.specs.Layers.{Name, Path, Object, Layer, Inode, held, spell, below, cut, cuts, Shown, unless, over, shows, through, is_directory, holds_directory, reaches_directory, base}
 use Rattle.plain_model.specs.Laws.{LawOfLookUp, LawOfParents}
 
 reaches-step : (i : ℕ) (inodes : ℕ → Option Inode) (o : Option Object) (n : Name) (c : Bool) (q : Path) (t : Path → Bool) (s : Path → Option Shown) → t (spell o n q) ≡ is_directory (s (spell o n q)) → holds_directory o || (not (cut o c) && t (spell o n q)) ≡ is_directory (over i inodes o (unless (cut o c) (s (spell o n q))))

@@ -10,9 +10,9 @@ use Rattle.ov_base.specs.declared.node_id.NodeId.{NodeId}
 use Rattle.ov_base.specs.declared.node_id.NodeId.TheVariants.{At, New}
 use Rattle.plain_model.specs.Layers.{Name, Path, Object, Named, Inode, Layer, held, cuts, below, cut, spell, Shown, Folder, Contents, base, unless, over, shows, through, is_directory, AreLayers, same_name, same_path}
 use Rattle.plain_model.specs.Tree.{Names, Tree, Own, Untouched, names_of, entry, node_at, node_of, face, Sight, SeenBranch, SeenLeaf, see, see_inode, merged, sight_at, AreLinked}
-use Rattle.plain_model.specs.Merging.{IsMerge, leader, last_names, entries_of, names_shown, node_seen, merge_tree, HaveAllPaths, LawOfPaths, LawOfMerge}
+use Rattle.plain_model.specs.Merging.{leader, last_names, entries_of, names_shown, node_seen, merge_tree, HaveAllPaths, LawOfPaths}
 use Rattle.plain_model.proofs.Paths.{names_tell, paths_tell}
-use Rattle.plain_model.proofs.Leaders.{leader-of, own-way, leader-leads, leader-leader}
+use Rattle.plain_model.proofs.Leaders.{leader-of, own-way, leader-leader}
 use Rattle.plain_model.proofs.Uppers.{meld, merged-meld}
 use Rattle.plain_model.proofs.LookUp.{parent-shown}
 
@@ -113,7 +113,7 @@ module _ (ps : List Path) (U : Layer) (lowers : List Layer) (trees : AreLayers (
   abbrev pub seen : Path → Option Sight
   seen p = merged U lowers p
 
-  merged-leader : (p : Path) → seen (leader ps U p) ≡ seen p
+  pub merged-leader : (p : Path) → seen (leader ps U p) ≡ seen p
   merged-leader p = elim (own-way ps U have.0 p) [
     | inl n ↦ let l = leader-of ps U have.0 p n.0 n.1 in ap seen l.is ∙ named-seen U lowers l.path n.0 l.named ∙ sym (named-seen U lowers p n.0 n.1)
     | inr e ↦ ap seen e
@@ -134,7 +134,7 @@ module _ (ps : List Path) (U : Layer) (lowers : List Layer) (trees : AreLayers (
   named p = cond (is_some (seen p)) (Some (At (leader ps U p))) None
 
   -- the names of a merged directory
-  names-in : (p : Path) (n : Name) → fin.get (names_shown ps U lowers p) n ≡ named (n ∷ p)
+  pub names-in : (p : Path) (n : Name) → fin.get (names_shown ps U lowers p) n ≡ named (n ∷ p)
   names-in p n =
       fin.get-from_entries nat_list_cmp_total (entries_of (λ m. is_some (seen (m ∷ p))) (λ m. At (leader ps U (m ∷ p))) (last_names ps)) n
       ∙ find-entries (λ m. is_some (seen (m ∷ p))) (λ m. At (leader ps U (m ∷ p))) (last_names ps) n
@@ -175,28 +175,28 @@ module _ (ps : List Path) (U : Layer) (lowers : List Layer) (trees : AreLayers (
   merge-names [] = refl
   merge-names (n ∷ p) = ap (λ o. entry t o n) (merge-names p) ∙ step n p
 
-  merge-sights : (p : Path) → sight_at t p ≡ seen p
+  pub merge-sights : (p : Path) → sight_at t p ≡ seen p
   merge-sights p = ap (λ o. face (node_of t o)) (merge-names p) ∙ by (seen p) refl
     where
       by : (s : Option Sight) → seen p ≡ s → face (node_of t (cond (is_some s) (Some (At (leader ps U p))) None)) ≡ seen p
       by None e = sym e
       by (Some s) e = ap face (at-leader p) ∙ face-seen (base U lowers p) (shows 0 (U ∷ lowers) p) (names_shown ps U lowers (leader ps U p))
 
-  some-named : (p : Path) (d : NodeId) → named p ≡ Some d → d ≡ At (leader ps U p)
+  pub some-named : (p : Path) (d : NodeId) → named p ≡ Some d → d ≡ At (leader ps U p)
   some-named p d h = by (is_some (seen p)) h
     where
       by : (b : Bool) → cond b (Some (At (leader ps U p))) None ≡ Some d → d ≡ At (leader ps U p)
       by true h = cc
       by false h = cc
 
-  merge-shared : (p q : Path) → AreLinked U p q → node_at t p ≡ node_at t q
+  pub merge-shared : (p q : Path) → AreLinked U p q → node_at t p ≡ node_at t q
   merge-shared p q l =
       let f = leader-of ps U have.0 p l.number l.first in
       merge-names p
       ∙ ap₂ (λ s x. cond (is_some s) (Some (At x)) None) (named-seen U lowers p l.number l.first ∙ sym (named-seen U lowers q l.number l.second)) (f.is ∙ sym (f.alike q l.second))
       ∙ sym (merge-names q)
 
-  merge-no_more : (d : NodeId) → is_some (t d) ≡ true → (p : Path) × (node_at t p ≡ Some d)
+  pub merge-no_more : (d : NodeId) → is_some (t d) ≡ true → (p : Path) × (node_at t p ≡ Some d)
   merge-no_more (New i) h = absurd (false≢true h)
   merge-no_more (At p) h = (p, merge-names p ∙ by (same_path (leader ps U p) p) (seen p) refl h)
     where
@@ -204,15 +204,6 @@ module _ (ps : List Path) (U : Layer) (lowers : List Layer) (trees : AreLayers (
       by false s e h = absurd (false≢true h)
       by true None e h = absurd (false≢true h)
       by true (Some s) e h = ap (λ x. Some (At x)) ((paths_tell (leader ps U p) p).0 e)
-
-  -- a merge exists for every list of layers
-  pub merge-merges : IsMerge U lowers t
-  merge-merges = record {
-    sights = merge-sights;
-    names = λ p d h. (leader ps U p, some-named p d (sym (merge-names p) ∙ h), leader-leads ps U have.0 p);
-    shared = merge-shared;
-    no_more = merge-no_more;
-  }
 
 -- the paths that layers hold, one after another
 abbrev all_paths : (Ls : List Layer) → AreLayers Ls → List Path
@@ -242,7 +233,3 @@ have-all (L ∷ Ls) a = (λ p i. any-first (same_path p) a.0.paths (all_paths Ls
 -- some list has every path that layers hold
 pub law_of_paths : LawOfPaths
 law_of_paths Ls a = (all_paths Ls a, have-all Ls a)
-
--- the computed merge is one
-pub law_of_merge : LawOfMerge
-law_of_merge U lowers a ps have = merge-merges ps U lowers a have

@@ -1,9 +1,9 @@
 -- A merge of layers is shown by them.
-use Rattle.std.proofs.Common.{◌≡◌, ℕ, List, Option, Some, sym, ap, ◌∙◌, ◌⊎◌, inl, inr}
+use Rattle.std.proofs.Common.{◌≡◌, ℕ, Some, sym, ap, ◌∙◌, ◌⊎◌, inl, inr}
 use Rattle.ov_base.specs.declared.node_id.NodeId.TheVariants.{At}
 use Rattle.plain_model.specs.Layers.{Path, Named, Layer, held}
 use Rattle.plain_model.specs.Merging.{LawOfMount}
-use Rattle.plain_model.specs.Tree.{Tree, AreLinked, Remounts}
+use Rattle.plain_model.specs.Tree.{AreLinked}
 
 linked-through : (U : Layer) (p q l k : Path) → l ≡ k → (p ≡ l) ⊎ AreLinked U p l → (q ≡ k) ⊎ AreLinked U q k → (p ≡ q) ⊎ AreLinked U p q
 linked-through U p q l k e (inl a) (inl b) = inl (a ∙ e ∙ sym b)

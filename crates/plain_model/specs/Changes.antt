@@ -7,14 +7,14 @@ use Rattle.std.specs.FinMap as fin
 use Rattle.ov_base.specs.declared.attributes.Attributes.{Attributes}
 use Rattle.ov_base.specs.declared.bytes.Content.TheVariants.{File, SymbolicLink}
 use Rattle.ov_base.specs.declared.call.Call.{Call}
-use Rattle.ov_base.specs.declared.call.Call.TheVariants.{Chmod, Chown, SetAttribute, DeleteAttribute, Mkdir, Symlink, Open, Unlink, Rmdir, Hardlink, Rename, Read, Write, Seek, Truncate, ListNames, Close, Arm, Disarm, TakeNotices}
+use Rattle.ov_base.specs.declared.call.Call.TheVariants.{Chmod, Chown, SetAttribute, DeleteAttribute, Mkdir, Symlink, Open, Unlink, Rmdir, Hardlink, Rename, Read, Write, Seek, Truncate, ListNames, Close, Arm, TakeNotices}
 use Rattle.ov_base.specs.declared.call.OpenFlags.{OpenFlags}
 use Rattle.ov_base.specs.declared.node_id.NodeId.{NodeId}
 use Rattle.ov_base.specs.declared.node_id.NodeId.TheVariants.{New}
 use Rattle.plain_model.specs.Layers.{Name, Path, same_name}
-use Rattle.plain_model.specs.Tree.{same_id, Node, Branch, Leaf, Origin, Own, Untouched, Tree, node_at, node_of, put, lead}
+use Rattle.plain_model.specs.Tree.{same_id, Node, Branch, Leaf, Origin, Own, Untouched, Tree, node_at, node_of, put, lead, is_folder}
 use Rattle.plain_model.specs.Watching.{EVENTS, MASK_ADD, ONESHOT, has_bit, Watch, Instance}
-use Rattle.plain_model.specs.Machine.{View, Live, Frozen, Handle, DESCRIPTORS_MAX, Table, State, look, same_found, is_folder, value_of, bytes_of_node, handle_of, handle_node, lowest_free, bytes_of, place_of, write_place, seek_base, watch_on}
+use Rattle.plain_model.specs.Machine.{View, Live, Frozen, Handle, DESCRIPTORS_MAX, Table, State, look, same_found, bytes_of_node, handle_of, handle_node, lowest_free, bytes_of, place_of, write_place, seek_base, watch_on}
 use Rattle.plain_model.specs.Refusals.{FILE_MAX}
 
 -- the name n in the directory d

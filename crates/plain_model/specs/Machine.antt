@@ -1,6 +1,6 @@
 -- The state of the plain machine: the tree, and for each attached client its open handles and its watches
 -- (POSIX.1-2017, 2.14 File Descriptor Allocation and Base Definitions, Pathname Resolution; overlayfs.rst, "Non-standard behavior").
-use Rattle.std.specs.Prelude.{ℕ, ℤ, Bool, true, false, not, cond, ◌||◌, List, [], ◌∷◌, Option, None, Some, nat_eq, is_none, length, find, position, replicate, slice_get, bytes_eq}
+use Rattle.std.specs.Prelude.{ℕ, Bool, true, false, not, cond, ◌||◌, List, [], ◌∷◌, Option, None, Some, nat_eq, is_none, length, find, position, replicate, slice_get, bytes_eq}
 use Rattle.std.specs.FinMap as fin
 use Rattle.ov_base.specs.declared.attributes.Attributes.{Attributes}
 use Rattle.ov_base.specs.declared.bytes.Content.TheVariants.{File, SymbolicLink}
@@ -111,10 +111,6 @@ is_root (n ∷ p) = false
 abbrev pub is_below : Path → Path → Bool
 is_below p [] = false
 is_below p (n ∷ q) = same_path p q || is_below p q
-
-abbrev pub is_folder : Option Node → Bool
-is_folder (Some (Branch a b names c)) = true
-is_folder _ = false
 
 abbrev pub is_link : Option Node → Bool
 is_link (Some (Leaf (SymbolicLink target) a u l)) = true

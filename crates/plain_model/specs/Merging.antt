@@ -1,5 +1,5 @@
 -- The tree that layers are merged to when they are mounted (overlayfs.rst, "Upper and Lower", "Directories" and "Non-directories").
-use Rattle.std.specs.Prelude.{◌≡◌, ℕ, Bool, true, false, cond, ◌&&◌, List, [], ◌∷◌, ◌++◌, Option, None, Some, is_some, nat_eq, filter, unwrap_or, ◌⊎◌}
+use Rattle.std.specs.Prelude.{◌≡◌, ℕ, Bool, true, false, cond, List, [], ◌∷◌, ◌++◌, Option, None, Some, is_some, nat_eq, filter, unwrap_or, ◌⊎◌}
 use Rattle.std.specs.Cmp.Lexicographic.{slice_cmp}
 use Rattle.std.specs.Ordering.{nat_cmp, is_gt}
 use Rattle.std.specs.FinMap as fin
@@ -7,7 +7,7 @@ use Rattle.std.specs.declared.cmp.Ordering.{Ordering}
 use Rattle.ov_base.specs.declared.node_id.NodeId.{NodeId}
 use Rattle.ov_base.specs.declared.node_id.NodeId.TheVariants.{At, New}
 use Rattle.plain_model.specs.Layers.{Name, Path, Object, Directory, Named, Whiteout, Layer, held, same_path, HasAllPaths, AreLayers}
-use Rattle.plain_model.specs.Tree.{Names, Node, Branch, Leaf, Own, Untouched, Tree, node_at, sight_at, Sight, SeenBranch, SeenLeaf, merged, AreLinked, Remounts}
+use Rattle.plain_model.specs.Tree.{Names, Node, Branch, Leaf, Own, Untouched, Tree, node_at, sight_at, Sight, SeenBranch, SeenLeaf, merged, AreLinked, Remounts, IsKept}
 
 -- the text of a path: each name after a '/'
 abbrev pub text : Path → List ℕ
@@ -23,12 +23,14 @@ pub record Leads (U : Layer) (p l : Path) : Type 0 where
   pub alike : (p ≡ l) ⊎ AreLinked U p l
   pub least : (x : Path) → AreLinked U p x → is_gt (text_cmp l x) ≡ false
 
--- The merge of layers: at each path what they show, one node for the names of one upper inode, named by the least of them, and no others.
+-- The merge of layers: at each path what they show, one node for the names of one upper inode, named by the least of them, no others,
+-- and none made yet.
 pub record IsMerge (U : Layer) (lowers : List Layer) (t : Tree) : Type 0 where
   pub sights : (p : Path) → sight_at t p ≡ merged U lowers p
   pub names : (p : Path) (d : NodeId) → node_at t p ≡ Some d → (l : Path) × (d ≡ At l) × Leads U p l
   pub shared : (p q : Path) → AreLinked U p q → node_at t p ≡ node_at t q
   pub no_more : (d : NodeId) → is_some (t d) ≡ true → (p : Path) × (node_at t p ≡ Some d)
+  pub kept : IsKept t 0
 
 -- the path of the lesser text, and the path of the least of some
 abbrev pub lesser : Path → Option Path → Path

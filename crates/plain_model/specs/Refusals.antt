@@ -1,6 +1,6 @@
 -- Which calls are refused, and by which number: for each call the first line that applies (errors of the POSIX.1-2017 pages of the
 -- calls, in the order that Linux's namei.c and open.c, and inotify(7), ask for them).
-use Rattle.std.specs.Prelude.{ℕ, ℤ, pos, ◌+ℤ◌, int_lt, nat_abs, Bool, true, false, not, ◌&&◌, ◌||◌, List, [], ◌∷◌, Option, None, Some, nat_eq, nat_lt, is_none, length, bit_and, codes}
+use Rattle.std.specs.Prelude.{ℕ, ℤ, pos, ◌+ℤ◌, int_lt, nat_abs, Bool, true, false, not, ◌&&◌, ◌||◌, List, [], Option, None, Some, nat_eq, nat_lt, is_none, length, bit_and, codes}
 use Rattle.std.specs.List.{list_any, starts_with}
 use Rattle.ov_base.specs.declared.call.Call.{Call}
 use Rattle.ov_base.specs.declared.call.Call.TheVariants.{Stat, Readlink, Chmod, Chown, SetAttribute, GetAttribute, DeleteAttribute, ListAttributes, Mkdir, Symlink, Open, Unlink, Rmdir, Hardlink, Rename, Read, Write, Seek, Truncate, Fstat, ListNames, Close, Arm, Disarm, TakeNotices}
@@ -9,9 +9,9 @@ use Rattle.ov_base.specs.declared.errno.Errno.{Errno}
 use Rattle.ov_base.specs.declared.errno.Errno.TheVariants.{EPERM, ENOENT, EBADF, EBUSY, EEXIST, EXDEV, ENOTDIR, EISDIR, EINVAL, EMFILE, EFBIG, ENOSPC, ENAMETOOLONG, ENOTEMPTY, ELOOP, ENODATA, EOVERFLOW, EOPNOTSUPP}
 use Rattle.ov_base.specs.declared.node_id.NodeId.{NodeId}
 use Rattle.plain_model.specs.Layers.{Path}
-use Rattle.plain_model.specs.Tree.{same_id, Node, Tree, node_at, node_of}
-use Rattle.plain_model.specs.Watching.{Watch, EVENTS, ONLYDIR, MASK_ADD, ONESHOT, has_bit, is_numbered}
-use Rattle.plain_model.specs.Machine.{Handle, State, Look, Found, Absent, Fails, look, is_found, found, node_found, same_found, is_root, is_below, is_folder, is_link, has_names, is_base, user_of, value_of, handle_of, handle_node, lowest_free, write_place, seek_base, instance_of, hooks_of, watches_of, armed_of, watch_on}
+use Rattle.plain_model.specs.Tree.{same_id, Node, Tree, node_at, node_of, is_folder}
+use Rattle.plain_model.specs.Watching.{Watch, EVENTS, ONLYDIR, has_bit, is_numbered}
+use Rattle.plain_model.specs.Machine.{Handle, State, Look, Found, Absent, Fails, look, is_found, found, node_found, same_found, is_root, is_below, is_link, has_names, is_base, user_of, value_of, handle_of, handle_node, lowest_free, write_place, seek_base, instance_of, hooks_of, watches_of, armed_of, watch_on}
 
 -- the first refusal of two
 infixr 30 ◌or_else◌

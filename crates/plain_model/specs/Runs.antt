@@ -7,10 +7,11 @@ use Rattle.ov_base.specs.declared.call.Call.TheVariants.{Close}
 use Rattle.ov_base.specs.declared.errno.Errno.{Errno}
 use Rattle.ov_base.specs.declared.reply.Reply.{Reply}
 use Rattle.ov_base.specs.declared.reply.Reply.TheVariants.{Refused}
+use Rattle.plain_model.specs.Tree.{IsKept}
 use Rattle.plain_model.specs.Watching.{silent, Rule, AllHear}
 use Rattle.plain_model.specs.Machine.{Handle, State, free_table, handles_of}
 use Rattle.plain_model.specs.Refusals.{refusal}
-use Rattle.plain_model.specs.Changes.{after}
+use Rattle.plain_model.specs.Changes.{makes, next_if, tree_after, after}
 use Rattle.plain_model.specs.Replies.{reply_of}
 use Rattle.plain_model.specs.Subjects.{subjects}
 
@@ -24,6 +25,10 @@ pub record Taken (shows : Rule) (old : State) (c : ℕ) (call : Call) (reply : R
 abbrev pub Answered : Option Errno → Rule → State → ℕ → Call → Reply → State → Type 0
 Answered (Some e) shows old c call reply new = (reply ≡ Refused e) × (new ≡ old)
 Answered None shows old c call reply new = Taken shows old c call reply new
+
+-- each call that is not refused keeps what trees keep, so every state of a run has it
+abbrev pub LawOfNames : Type 0
+LawOfNames = (s : State) (c : ℕ) (call : Call) → IsKept s.tree s.serial → refusal s c call ≡ None → IsKept (tree_after s c call) (next_if (makes s call) s.serial)
 
 -- from the old state, the machine may give this reply to the client's call and go on to the new state
 abbrev pub Step : Rule → State → ℕ → Call → Reply → State → Type 0

@@ -5,9 +5,9 @@ use Rattle.ov_base.specs.declared.call.Call.TheVariants.{Chmod, Chown, SetAttrib
 use Rattle.ov_base.specs.declared.node_id.NodeId.{NodeId}
 use Rattle.ov_base.specs.declared.node_id.NodeId.TheVariants.{New}
 use Rattle.plain_model.specs.Layers.{Name}
-use Rattle.plain_model.specs.Tree.{Node, Tree, node_at, node_of}
+use Rattle.plain_model.specs.Tree.{Node, Tree, node_at, node_of, is_folder}
 use Rattle.plain_model.specs.Watching.{ACCESS, MODIFY, ATTRIB, CLOSE_WRITE, CLOSE_NOWRITE, OPEN, MOVED_FROM, MOVED_TO, CREATE, DELETE, DELETE_SELF, MOVE_SELF, IGNORED, ISDIR, On, Only, Subject}
-use Rattle.plain_model.specs.Machine.{Handle, State, look, same_found, is_folder, handle_of, handle_node}
+use Rattle.plain_model.specs.Machine.{Handle, State, look, same_found, handle_of, handle_node}
 use Rattle.plain_model.specs.Changes.{way_of, node_of_handle, read_bytes, tree_after}
 
 -- bits, with ISDIR where the object is a directory

@@ -1,6 +1,7 @@
 -- The plain tree that a mount shows: nodes with identities, names that lead from directories to nodes, and when layers show a tree
 -- (overlayfs.rst, "Non-directories" and "Non-standard behavior"; POSIX.1-2017, Base Definitions, Directory, Hard Link and Link Count).
-use Rattle.std.specs.Prelude.{◌≡◌, ℕ, zero, suc, ◌≤◌, Bool, true, false, cond, List, [], ◌∷◌, Option, None, Some, nat_eq, is_some, ◌⊎◌}
+use Rattle.std.specs.Prelude.{◌≡◌, ◌↔◌, ℕ, zero, suc, ◌+◌, ◌≤◌, Bool, true, false, cond, ◌&&◌, List, [], ◌∷◌, Option, None, Some, nat_eq, is_some, length, ◌⊎◌}
+use Rattle.std.specs.List.{list_any, IsDistinct}
 use Rattle.std.specs.Cmp.Lexicographic.{slice_cmp}
 use Rattle.std.specs.Ordering.{nat_cmp}
 use Rattle.std.specs.FinMap as map
@@ -8,7 +9,7 @@ use Rattle.ov_base.specs.declared.attributes.Attributes.{Attributes}
 use Rattle.ov_base.specs.declared.bytes.Content.{Content}
 use Rattle.ov_base.specs.declared.node_id.NodeId.{NodeId}
 use Rattle.ov_base.specs.declared.node_id.NodeId.TheVariants.{At, New}
-use Rattle.plain_model.specs.Layers.{Name, Path, Inode, Layer, Shown, Folder, Contents, held, Named, Whiteout, shows, under, base, same_path}
+use Rattle.plain_model.specs.Layers.{Name, Path, Inode, Layer, Shown, Folder, Contents, held, Named, Whiteout, shows, under, base, same_name, same_path}
 
 -- whether two identities are the same
 abbrev pub same_id : NodeId → NodeId → Bool
@@ -132,8 +133,32 @@ pub record Remounts (U : Layer) (lowers : List Layer) (t : Tree) : Type 0 where
 abbrev pub IsThin : Layer → List Layer → Type 0
 IsThin U lowers = (n : Name) (p : Path) → held U (n ∷ p) ≡ Some Whiteout → is_some (under U lowers n p) ≡ true
 
--- the root is a node, names lead to nodes, and no serial from i on is used
-pub record IsSound (t : Tree) (i : ℕ) : Type 0 where
-  pub home : is_some (t root) ≡ true
-  pub closed : (d : NodeId) (n : Name) (e : NodeId) → entry t (Some d) n ≡ Some e → is_some (t e) ≡ true
+-- whether a node is a directory
+abbrev pub is_folder : Option Node → Bool
+is_folder (Some (Branch a b names c)) = true
+is_folder _ = false
+
+-- how many names a node says that it has
+abbrev pub count_of : Option Node → ℕ
+count_of None = zero
+count_of (Some (Branch a b names c)) = c
+count_of (Some (Leaf content a u c)) = c
+
+-- whether two entries of directories are the same
+abbrev pub same_entry : NodeId × Name → NodeId × Name → Bool
+same_entry a b = same_id a.0 b.0 && same_name a.1 b.1
+
+-- the names of an object: a list of exactly the entries that lead to it, each once; the root has one name more, `/`
+pub record AreNames (t : Tree) (d : NodeId) (count : ℕ) : Type 0 where
+  pub entries : List (NodeId × Name)
+  pub once : IsDistinct same_entry entries
+  pub exact : (w : NodeId × Name) → (list_any (same_entry w) entries ≡ true) ↔ (names_of (t w.0) w.1 ≡ Some d)
+  pub counted : count ≡ cond (same_id root d) 1 0 + length entries
+
+-- What a tree keeps through every call: the root is a directory, no serial from i on is used, each node has as many names as it says,
+-- and one without a name has none in it.
+pub record IsKept (t : Tree) (i : ℕ) : Type 0 where
+  pub home : is_folder (t root) ≡ true
   pub unused : (j : ℕ) → i ≤ j → t (New j) ≡ None
+  pub counted : (d : NodeId) → AreNames t d (count_of (t d))
+  pub bare : (d : NodeId) (n : Name) → count_of (t d) ≡ zero → names_of (t d) n ≡ None

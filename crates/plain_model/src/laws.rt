@@ -1,6 +1,7 @@
 // The laws of the definitions, each as the contract of a function that does nothing.
 ghost use Rattle.plain_model.specs.Bounds.{LawOfBounds};
 ghost use Rattle.plain_model.specs.Merging.{LawOfPaths, LawOfMerge, LawOfMount};
+ghost use Rattle.plain_model.specs.Runs.{LawOfNames};
 ghost use Rattle.plain_model.specs.Watching.{LawOfQueues};
 ghost use Rattle.plain_model.specs.Laws.{LawOfLookUp, LawOfParents, LawOfSteps, LawOfMoves};
 
@@ -48,4 +49,10 @@ pub fn law_of_bounds()
 /// A queue of notices keeps within 65 places: 64 notices, and one that tells of an overflow (inotify(7), `IN_Q_OVERFLOW`).
 pub fn law_of_queues()
     ensures { LawOfQueues }
+{}
+
+/// Each call that is not refused leaves every object with as many names as its link count says (POSIX.1-2017, Link Count), the root a
+/// directory, new serials unused, and an object without a name without names in it.
+pub fn law_of_names()
+    ensures { LawOfNames }
 {}
