@@ -1,5 +1,5 @@
 -- A name that is bound anew, or no more: what the steps of an insert and of a removal come to.
-use Rattle.std.proofs.Common.{◌≡◌, ◌≢◌, ◌⊎◌, ℕ, ◌+◌, ◌-◌, ◌<◌, ◌≤◌, List, [], ◌∷◌, length, Option, Some, None, Bool, true, false, IsSome, IsTrue, is_some, refl, sym, ap, subst, ◌∙◌, inl, inr, arith, true≢false}
+use Rattle.std.proofs.Common.{◌≡◌, ◌≢◌, ◌⊎◌, ℕ, ◌+◌, ◌-◌, ◌<◌, ◌≤◌, List, [], ◌∷◌, length, Option, Some, None, false, IsSome, IsTrue, is_some, refl, sym, ap, subst, ◌∙◌, inl, inr, arith, true≢false}
 use Rattle.std.specs.Option.{option_and_then, option_map_or}
 use Rattle.std.specs.Prelude.{option_map}
 use Rattle.std.specs.FinMap as map
@@ -13,7 +13,7 @@ use Rattle.plain_model.specs.Layers.{Path}
 use Rattle.layer_tree.specs.Walk.{Rebinds}
 use Rattle.layer_tree.specs.Places.{Listed, StandsAt, HasNames}
 use Rattle.layer_tree.specs.Table.{Table, NameMap, entry_in, object_key}
-use Rattle.layer_tree.specs.Tree.{Tree, ROOT, table_of, inode_of, seen, seen_object, new_inode, entry, child, seen_at, seen_entry, inode_at, names_room, leads_on, with_less, key_at, layer_of, IsDirectory, IsTree, Inserts, Unbinds, SetsPath, ReplacesPath, ClearsPath, CoversPath, SameTree, SameObjects}
+use Rattle.layer_tree.specs.Tree.{Tree, table_of, inode_of, seen, seen_object, new_inode, entry, child, seen_at, inode_at, names_room, leads_on, with_less, key_at, layer_of, IsDirectory, IsTree, Inserts, Unbinds, SetsPath, ReplacesPath, ClearsPath, CoversPath, SameTree, SameObjects}
 use Rattle.layer_tree.specs.Change.{IsPlanted, Retables, Unlinks, IsCounted}
 use Rattle.layer_tree.specs.declared.name_table.Entry.{Entry}
 use Rattle.layer_tree.specs.declared.name_table.Entry.TheVariants as to

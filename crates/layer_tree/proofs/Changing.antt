@@ -1,14 +1,13 @@
 -- How a change of one name changes what a layer holds.
-use Rattle.std.proofs.Common.{◌≡◌, ◌≢◌, ◌⊎◌, ℕ, List, [], ◌∷◌, ◌++◌, Option, Some, None, Bool, true, false, IsSome, IsTrue, is_some, refl, sym, ap, subst, ◌∙◌, inl, inr, true≢false}
+use Rattle.std.proofs.Common.{◌≡◌, ◌≢◌, ◌⊎◌, ℕ, List, [], ◌∷◌, ◌++◌, Option, Some, None, true, false, IsSome, IsTrue, is_some, refl, sym, ap, subst, ◌∙◌, inl, inr, true≢false}
 use Rattle.std.specs.Option.{option_and_then}
 use Rattle.std.specs.Prelude.{option_map}
-use Rattle.std.proofs.lemmas.Bool.{cases_eq}
 use Rattle.slab.specs.Slab.{get}
 use Rattle.plain_model.specs.Layers as layers
 use Rattle.plain_model.specs.Layers.{Layer, Path, held}
-use Rattle.layer_tree.specs.Walk.{walk, Rebinds}
+use Rattle.layer_tree.specs.Walk.{Rebinds}
 use Rattle.layer_tree.specs.Places.{HasNames}
-use Rattle.layer_tree.specs.Table.{Table, entry_in, object_key}
+use Rattle.layer_tree.specs.Table.{entry_in, object_key}
 use Rattle.layer_tree.specs.Tree.{Tree, ROOT, table_of, seen, entry, child, key_at, entry_at, seen_at, seen_entry, inode_at, object_at, layer_of, directory_attributes, IsDirectory, IsUnmarked, leads_on, IsTree, SetsPath, ReplacesPath}
 use Rattle.layer_tree.specs.declared.name_table.Entry.{Entry}
 use Rattle.layer_tree.specs.declared.name_table.Entry.TheVariants as to

@@ -1,5 +1,5 @@
 -- How a change of one name changes the places where a key stands.
-use Rattle.std.proofs.Common.{◌≡◌, ◌≢◌, ◌⊎◌, ℕ, suc, ◌+◌, List, [], ◌∷◌, length, Option, Some, None, refl, sym, ap, subst, ◌∙◌, inl, inr, arith}
+use Rattle.std.proofs.Common.{◌≡◌, ◌≢◌, ◌⊎◌, ℕ, suc, List, [], ◌∷◌, length, Option, Some, None, refl, sym, ap, subst, ◌∙◌, inl, inr}
 use Rattle.layer_tree.specs.Walk.{Rebinds}
 use Rattle.layer_tree.specs.Places.{Listed, Apart, StandsAt, HasNames}
 use Rattle.layer_tree.proofs.Walks.{cases_pair}

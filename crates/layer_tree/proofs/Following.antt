@@ -4,7 +4,7 @@ use Rattle.std.specs.Option.{option_and_then}
 use Rattle.std.proofs.lemmas.List.{drop_more, drop_all, reverse-append}
 use Rattle.plain_model.specs.Layers.{Path}
 use Rattle.layer_tree.specs.Table.{object_key}
-use Rattle.layer_tree.specs.Tree.{Tree, ROOT, entry, child, key_at, entry_at}
+use Rattle.layer_tree.specs.Tree.{Tree, ROOT, entry, entry_at}
 use Rattle.layer_tree.specs.declared.name_table.Entry.{Entry}
 use Rattle.layer_tree.specs.declared.name_table.Entry.TheVariants as to
 use Rattle.layer_tree.proofs.Changing.{key_of_entry}

@@ -10,3 +10,4 @@ pub mod Following
 pub mod Roots
 pub mod Writing
 pub mod Overlays
+pub mod Held

@@ -1,16 +1,15 @@
 -- What a change of one directory's table means for the keys.
-use Rattle.std.proofs.Common.{◌≡◌, ◌≢◌, ℕ, ◌+◌, ◌≤◌, List, length, Option, Some, None, cond, IsSome, is_some, get_or, set, refl, sym, ap, subst, ◌∙◌, inl, inr, arith}
+use Rattle.std.proofs.Common.{◌≡◌, ◌≢◌, ℕ, ◌+◌, ◌≤◌, List, Option, Some, None, cond, IsSome, is_some, get_or, refl, sym, ap, subst, ◌∙◌, inl, inr, arith}
 use Rattle.std.specs.Option.{option_and_then, option_map_or}
 use Rattle.std.specs.Prelude.{option_map}
 use Rattle.std.specs.FinMap as map
 use Rattle.std.proofs.lemmas.Bool.{cases_eq}
 use Rattle.std.proofs.lemmas.List.Sums.{sum_by-set}
-use Rattle.slab.specs.Slab.{Slab, get, with_value, slab_len, Updates}
+use Rattle.slab.specs.Slab.{get, with_value, slab_len}
 use Rattle.slab.proofs.SlabLemmas.{Updates-with_value, ContainsKey-within}
 use Rattle.layer_tree.specs.Table.{Table, NameMap, entry_in}
-use Rattle.layer_tree.specs.Tree.{Tree, table_of, inode_of, seen, entry, seen_at, inode_at, IsDirectory, names_room}
+use Rattle.layer_tree.specs.Tree.{Tree, table_of, inode_of, seen, entry, seen_at, inode_at, names_room}
 use Rattle.layer_tree.specs.Change.{Retabled, Retables, IsCounted}
-use Rattle.layer_tree.specs.declared.name_table.Entry.{Entry}
 use Rattle.layer_tree.specs.declared.node.Node.{Node}
 use Rattle.layer_tree.specs.declared.node.Node.TheVariants as node
 use Rattle.layer_tree.specs.declared.node.Directory.{Directory}

@@ -1,18 +1,17 @@
 -- Trees that are alike, and the tree of one directory.
-use Rattle.std.proofs.Common.{◌≡◌, ◌≢◌, ℕ, ◌+◌, ◌≤◌, List, [], ◌∷◌, Option, Some, None, Bool, true, false, IsSome, IsTrue, is_some, get_or, refl, sym, ap, subst, ◌∙◌, inl, inr, true≢false}
-use Rattle.std.specs.Option.{option_and_then, option_map_or}
+use Rattle.std.proofs.Common.{◌≡◌, ◌≢◌, ℕ, List, [], ◌∷◌, Option, Some, None, false, is_some, get_or, refl, sym, ap, subst, ◌∙◌, inl, inr, true≢false}
+use Rattle.std.specs.Option.{option_and_then}
 use Rattle.std.specs.Prelude.{option_map}
 use Rattle.std.specs.FinMap as map
 use Rattle.std.specs.FinMap.{get-empty}
 use Rattle.std.specs.Ordering.{nat_cmp}
 use Rattle.std.specs.Cmp.Lexicographic.{slice_cmp}
 use Rattle.std.proofs.lemmas.Bool.{cases_eq}
-use Rattle.slab.specs.Slab.{Slab, get, Updates}
+use Rattle.slab.specs.Slab.{get, Updates}
 use Rattle.plain_model.specs.Layers as layers
 use Rattle.plain_model.specs.Layers.{Path, held}
-use Rattle.layer_tree.specs.Walk.{walk}
-use Rattle.layer_tree.specs.Table.{Table, entry_in, object_key}
-use Rattle.layer_tree.specs.Tree.{Tree, ROOT, table_of, inode_of, seen, entry, child, key_at, entry_at, seen_at, seen_entry, inode_at, object_at, layer_of, directory_attributes, leads_on, IsUnmarked, IsTree, SameTree, SameObjects}
+use Rattle.layer_tree.specs.Table.{entry_in, object_key}
+use Rattle.layer_tree.specs.Tree.{Tree, ROOT, table_of, inode_of, seen, entry, child, key_at, entry_at, seen_at, seen_entry, inode_at, layer_of, directory_attributes, leads_on, IsUnmarked, IsTree, SameObjects}
 use Rattle.layer_tree.specs.declared.name_table.Entry.{Entry}
 use Rattle.layer_tree.specs.declared.name_table.Entry.TheVariants as to
 use Rattle.layer_tree.specs.declared.node.Node.{Node}

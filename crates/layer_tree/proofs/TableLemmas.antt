@@ -1,13 +1,16 @@
 -- A hash table of names, seen as a finite map.
-use Rattle.std.proofs.Common.{◌≡◌, ℕ, length, arith, List, [], ◌∷◌, Bool, true, false, cond, Option, Some, None, refl, sym, ap, ◌∙◌}
+use Rattle.std.proofs.Common.{◌≡◌, ℕ, length, arith, List, [], ◌∷◌, Bool, false, cond, Some, None, refl, sym, ap, ◌∙◌, ◌+◌, get_or, true≢false}
 use Rattle.std.specs.Prelude.{nat_eq}
-use Rattle.std.specs.Ordering.{nat_cmp, is_eq, eq_by_cmp}
+use Rattle.std.specs.Ordering.{nat_cmp, is_eq, is_lt, ordering_reverse}
+use Rattle.std.specs.declared.cmp.Ordering.{Ordering}
+use Rattle.std.specs.declared.cmp.Ordering.TheVariants.{Less, Equal, Greater}
+use Rattle.std.specs.List.{IsDistinct}
+use Rattle.std.specs.List.Sorted.{IsSorted, IsPermutation, IsStrictlySortedBy}
+use Rattle.std.proofs.lemmas.Map.Keys.{IsDistinct-IsPermutation, apart_from_distinct, sorted_from_all_adjacent}
 use Rattle.std.specs.Cmp.Lexicographic.{slice_cmp, pointwise}
 use Rattle.std.specs.FinMap as map
 use Rattle.std.specs.FinMap.{find, get-from_entries, get-insert, get-remove, same_map, slice_cmp-IsAntisymmetric, nat_cmp-IsAntisymmetric}
 use Rattle.std.specs.Map.{lookup}
-use Rattle.std.specs.HashMap as hash
-use Rattle.std.specs.HashMap.{HashMap}
 use Rattle.std.proofs.lemmas.Map.Text.{is_eq-slice_cmp}
 use Rattle.std.proofs.lemmas.Cmp.{nat_list_eq_equiv, nat_list_cmp_total}
 use Rattle.layer_tree.specs.Table.{NameMap}
@@ -53,3 +56,22 @@ len_of_entries_of (x ∷ es) e =
     sym (ap (λ b. cond b (Some x.1) (lookup (name_eq x.0) es)) (nat_list_eq_equiv.refl x.0))
     ∙ sym (get-entries_of (x ∷ es) x.0) ∙ ap (λ m. map.get m x.0) e ∙ map.get-empty (slice_cmp nat_cmp) x.0 in
     absurd (cc)
+
+-- names that are sorted and differ rise
+pub sorted_apart : (xs ys : List (List ℕ)) → IsPermutation xs ys → IsDistinct name_eq xs → IsSorted (slice_cmp nat_cmp) ys → IsStrictlySortedBy (slice_cmp nat_cmp) ys
+sorted_apart xs ys permuted distinct sorted =
+    sorted_from_all_adjacent nat_list_cmp_total ys [] (λ k within. less (get_or ys k []) (get_or ys (k + 1) []) (slice_cmp nat_cmp (get_or ys (k + 1) []) (get_or ys k [])) refl (sorted k [] (omega arith) within) (apart_from_distinct name_eq ys k (k + 1) [] apart (omega arith) within))
+  where
+    apart : IsDistinct name_eq ys
+    apart = IsDistinct-IsPermutation name_eq nat_list_eq_equiv.symm xs ys permuted distinct
+
+    less : (a b : List ℕ) (o : Ordering) → slice_cmp nat_cmp b a ≡ o → is_lt o ≡ false → name_eq a b ≡ false → slice_cmp nat_cmp a b ≡ Less
+    less a b Less is not_less differs = absurd (true≢false not_less)
+    less a b Equal is not_less differs =
+        let tie : slice_cmp nat_cmp a b ≡ Equal = nat_list_cmp_total.antisymm a b ∙ ap ordering_reverse is in
+        absurd (true≢false (sym (ap is_eq tie) ∙ is_eq-slice_cmp a b ∙ differs))
+    less a b Greater is not_less differs = nat_list_cmp_total.antisymm a b ∙ ap ordering_reverse is
+
+pub none_sorted : IsStrictlySortedBy (slice_cmp nat_cmp) []
+unfolding IsStrictlySortedBy
+none_sorted = tt

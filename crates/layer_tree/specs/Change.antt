@@ -1,8 +1,8 @@
 -- How the objects under their keys change. No public clause cites this module.
-use Rattle.std.specs.Prelude.{◌≡◌, ◌≢◌, ℕ, ◌+◌, ◌-◌, ◌<◌, ◌≤◌, List, Option, Some, None, IsSome, option_map}
+use Rattle.std.specs.Prelude.{◌≡◌, ◌≢◌, ℕ, ◌+◌, ◌-◌, ◌<◌, ◌≤◌, List, Option, Some, None, option_map}
 use Rattle.std.specs.Option.{option_and_then, option_map_or}
 use Rattle.std.specs.FinMap as map
-use Rattle.slab.specs.Slab.{get, slab_len}
+use Rattle.slab.specs.Slab.{get}
 use Rattle.layer_tree.specs.Table.{Table, NameMap, entry_in}
 use Rattle.ov_base.specs.declared.bytes.Content.TheVariants as content
 use Rattle.plain_model.specs.Layers as layers

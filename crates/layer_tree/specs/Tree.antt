@@ -1,5 +1,5 @@
 -- What a contract sees of a layer: the objects under their keys, and from these what the layer holds at each path.
-use Rattle.std.specs.Prelude.{◌≡◌, ◌≢◌, ℕ, ◌+◌, ◌-◌, ◌<◌, ◌≤◌, Bool, true, false, List, [], ◌∷◌, ◌++◌, Option, Some, None, IsSome, IsTrue, option_map, length, take, drop, replicate}
+use Rattle.std.specs.Prelude.{◌≡◌, ◌≢◌, ℕ, ◌+◌, ◌-◌, ◌≤◌, Bool, true, false, List, [], ◌∷◌, ◌++◌, Option, Some, None, IsSome, is_some, IsTrue, option_map, length, take, drop, replicate}
 use Rattle.std.specs.Option.{option_and_then, option_map_or}
 use Rattle.slab.specs.Slab.{Slab, get, slab_len}
 use Rattle.ov_base.specs.declared.attributes.Attributes.{Attributes}
@@ -141,6 +141,12 @@ pub record IsTree (t : Tree) : Type 0 where
   pub one_name : (dir other : ℕ) (name second : List ℕ) (key : ℕ) → child t dir name ≡ Some key → child t other second ≡ Some key → IsDirectory t key → (dir ≡ other) × (name ≡ second)
   pub redirects : (key : ℕ) → IsTrue (leads_on (seen_at t key))
   pub links : (key : ℕ) (i : layers.Inode) → inode_at t key ≡ Some i → HasNames (child t) key i.links
+
+-- What a layer keeps: the parent of a held path is a directory, an absolute redirect has at least one name, and a named inode is there.
+pub record IsHeldTogether (L : Layer) : Type 0 where
+  pub parents : (name : List ℕ) (path : Path) → is_some (held L (name ∷ path)) ≡ true → layers.holds_directory (held L path) ≡ true
+  pub redirects : (path : Path) (key : ℕ) (a : Attributes) (opaque : Bool) (target : Path) → held L path ≡ Some (layers.Directory key a opaque (Some (redirect.Absolute target))) → target ≢ []
+  pub present : (path : Path) (key : ℕ) → held L path ≡ Some (layers.Named key) → is_some (L.inodes key) ≡ true
 
 -- what a layer holds where a new object stands under a key
 abbrev pub seen_object : ℕ → Object → layers.Object

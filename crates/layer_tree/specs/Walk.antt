@@ -1,5 +1,5 @@
 -- Walks by names, from key to key.
-use Rattle.std.specs.Prelude.{◌≡◌, ℕ, List, [], ◌∷◌, Option, Some, None}
+use Rattle.std.specs.Prelude.{◌≡◌, ℕ, List, [], ◌∷◌, Option, Some}
 use Rattle.std.specs.Option.{option_and_then}
 
 -- the key that a path leads to from this key on, its last name first

@@ -1,6 +1,7 @@
 // A tree of objects in memory.
-ghost use Rattle.std.specs.Prelude.{◌≡◌, ◌≢◌, ℕ, ◌+◌, ◌^◌, ◌<◌, ◌≤◌, Option, Some, None, OnOk, OnErr, IsOk, is_ok, IfOk, IfErr, IsSome, if◌then◌else◌, IsTrue, ◌↔◌, List, ◌∷◌, [], option_map, is_some, false, IsSorted, length, take, drop, ◌++◌};
+ghost use Rattle.std.specs.Prelude.{◌≡◌, ◌≢◌, ℕ, ◌+◌, ◌^◌, ◌<◌, ◌≤◌, Option, Some, None, OnOk, OnErr, IsOk, is_ok, IfOk, IfErr, IsSome, if◌then◌else◌, IsTrue, ◌↔◌, List, ◌∷◌, [], option_map, is_some, false, length, take, drop, ◌++◌};
 ghost use Rattle.std.specs.List.{list_any};
+ghost use Rattle.std.specs.List.Sorted.{IsStrictlySortedBy};
 ghost use Rattle.std.specs.Option.{option_and_then, option_copied};
 ghost use Rattle.std.specs.Str.{bytes_eq};
 ghost use Rattle.std.specs.Ordering.{nat_cmp};
@@ -11,7 +12,7 @@ ghost use Rattle.plain_model.specs.Layers as layers;
 ghost use Rattle.plain_model.specs.Layers.{held};
 ghost use Rattle.layer_tree.specs.Table.{object_key};
 ghost use Rattle.layer_tree.specs.Walk.{Rebinds};
-ghost use Rattle.layer_tree.specs.Tree.{Tree, entry, child, key_at, entry_at, seen_at, inode_at, marks_at, bytes_at, file_bytes, layer_of, seen_object, new_inode, with_less, table_of, leads_on, Inserts, Unbinds, Writes, written, IsDirectory, names_room, SetsPath, ClearsPath, CoversPath, SameObjects, SameTree, UsesObjects};
+ghost use Rattle.layer_tree.specs.Tree.{Tree, entry, child, key_at, entry_at, seen_at, inode_at, marks_at, bytes_at, file_bytes, layer_of, seen_object, new_inode, with_less, table_of, leads_on, Inserts, Unbinds, Writes, written, IsDirectory, names_room, SetsPath, ClearsPath, CoversPath, SameObjects, SameTree, UsesObjects, IsHeldTogether, IsTree};
 ghost use Rattle.layer_tree.specs.Change.{IsPlanted, Retables, Retabled, Unlinks, IsCounted, node_room, node_entry, unlinked, node_bytes, with_file};
 ghost use Rattle.layer_tree.specs.declared.name_table.Entry.TheVariants as bound;
 
@@ -108,9 +109,17 @@ impl Layer {
         Some(entry)
     }
 
+    /// What every layer keeps, for those who reason about one; it does nothing.
+    pub fn lawful(&self)
+        ensures tree { IsTree self.now }
+        ensures together { IsHeldTogether (layer_of self.now) }
+    {
+        let _ = &self.nodes;
+    }
+
     /// The names that a directory binds, whiteouts among them, sorted by their bytes; none where no directory stands under the key.
     pub fn names(&self, alloc: Global, dir: usize) -> Result<Vec<Name>, AllocError>
-        ensures sorted { IfOk result (λ v. IsSorted (slice_cmp nat_cmp) v.items) }
+        ensures sorted { IfOk result (λ v. IsStrictlySortedBy (slice_cmp nat_cmp) v.items) }
         ensures names { IfOk result (λ v. (name : List ℕ) → list_any (bytes_eq name) v.items ≡ is_some (entry self.now dir name)) }
     {
         match self.nodes.get(dir) {
@@ -134,10 +143,14 @@ impl Layer {
         ensures { option_copied result ≡ bytes_at self.now key }
     {
         match self.nodes.get(key) {
-            Some(Node::Inode(Inode {
-                content: Content::File(bytes),
-                ..
-            })) => Some(bytes.as_slice()),
+            Some(
+                Node::Inode(
+                    Inode {
+                        content: Content::File(bytes),
+                        ..
+                    },
+                ),
+            ) => Some(bytes.as_slice()),
             _ => None,
         }
     }
@@ -241,11 +254,7 @@ impl Layer {
 
     /// Puts a whiteout at a name of a directory, and returns what stood there, which keeps its key and what is in it. It fails only
     /// for want of memory, and changes nothing then.
-    pub fn insert_whiteout(
-        &mut self,
-        dir: usize,
-        name: Name,
-    ) -> Result<Option<Entry>, AllocError>
+    pub fn insert_whiteout(&mut self, dir: usize, name: Name) -> Result<Option<Entry>, AllocError>
         requires { IsDirectory self.old dir }
         ensures value { IfOk result (λ was. was ≡ entry self.old dir name) }
         ensures covers { OnOk result ((path : List (List ℕ)) → key_at self.old path ≡ Some dir → CoversPath (layer_of self.old) (layer_of self.new) (name ∷ path)) }
@@ -432,12 +441,7 @@ fn write_content(
     }
 }
 
-fn write_file(
-    alloc: Global,
-    file: &mut Bytes,
-    start: usize,
-    bytes: &[u8],
-) -> Result<(), AllocError>
+fn write_file(alloc: Global, file: &mut Bytes, start: usize, bytes: &[u8]) -> Result<(), AllocError>
     requires { start + length bytes.now < 2 ^ 64 }
     ensures { file.new ≡ (if is_ok result then written file.old start bytes.now else file.old) }
 {

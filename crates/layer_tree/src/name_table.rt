@@ -1,10 +1,11 @@
 // The names of a directory.
-ghost use Rattle.std.specs.Prelude.{◌≡◌, ℕ, ◌+◌, ◌<◌, ◌≤◌, None, OnOk, IsOk, IfOk, IsTrue, ◌↔◌, List, is_some, IsSorted};
+ghost use Rattle.std.specs.Prelude.{◌≡◌, ℕ, ◌+◌, ◌<◌, ◌≤◌, None, OnOk, IsOk, IfOk, IsTrue, ◌↔◌, List, is_some, nat_eq};
 ghost use Rattle.std.specs.FinMap as map;
-ghost use Rattle.std.specs.List.{list_any};
+ghost use Rattle.std.specs.List.{list_any, IsDistinct};
+ghost use Rattle.std.specs.List.Sorted.{IsStrictlySortedBy};
 ghost use Rattle.std.specs.Str.{bytes_eq};
 ghost use Rattle.std.specs.Ordering.{nat_cmp};
-ghost use Rattle.std.specs.Cmp.Lexicographic.{slice_cmp};
+ghost use Rattle.std.specs.Cmp.Lexicographic.{slice_cmp, pointwise};
 ghost use Rattle.indexmap.specs.IndexMap.{keys};
 ghost use Rattle.layer_tree.specs.Table.{Table, entry_in};
 
@@ -87,9 +88,9 @@ impl NameTable {
         self.table.swap_remove(name)
     }
 
-    /// The names, sorted by their bytes.
+    /// The names, sorted by their bytes, each once.
     pub fn sorted(&self, alloc: Global) -> Result<Vec<Name>, AllocError>
-        ensures sorted { IfOk result (λ v. IsSorted (slice_cmp nat_cmp) v.items) }
+        ensures sorted { IfOk result (λ v. IsStrictlySortedBy (slice_cmp nat_cmp) v.items) }
         ensures names { IfOk result (λ v. (name : List ℕ) → list_any (bytes_eq name) v.items ≡ is_some (entry_in self.now name)) }
     {
         let mut all = names_of(alloc, &self.table)?;
@@ -106,7 +107,8 @@ impl NameTable {
 }
 
 fn names_of(alloc: Global, table: &IndexMap<Name, Entry>) -> Result<Vec<Name>, AllocError>
-    ensures { IfOk result (λ v. v.items ≡ keys table.now) }
+    ensures names { IfOk result (λ v. v.items ≡ keys table.now) }
+    ensures distinct { IfOk result (λ v. IsDistinct (pointwise nat_eq) v.items) }
 {
     table.keys().copied().collect(alloc)
 }

@@ -9,6 +9,7 @@ use Rattle.ov_base.specs.declared.bytes.Content.TheVariants as content
 use Rattle.ov_base.specs.declared.errno.Errno.{Errno}
 use Rattle.ov_base.specs.declared.errno.Errno.TheVariants as errno
 use Rattle.plain_model.specs.Layers.{Path, Object, Directory, Inode, Layer, held, below, cuts, Shown, Folder, Contents, shows}
+pub use Rattle.mount_laws.specs.Looks.{inode_fault, fault, or_else, way_fault, parents_fault, absent, walk_fault}
 use Rattle.layer_tree.specs.Tree.{Tree, layer_of}
 use Rattle.layer_tree.specs.declared.node.Node.{Node}
 use Rattle.merged_lookup.specs.declared.stack.Place.{Place}
@@ -84,32 +85,6 @@ abbrev pub IsAnswer : Layers → Path → Option Found → Type 0
 IsAnswer l p None = ShowsNothing l p
 IsAnswer l p (Some f) = IsFound l p f
 
--- why a walk can't go on from an inode: it is a symbolic link, or no directory
-abbrev pub inode_fault : Option Inode → Errno
-inode_fault None = errno.ENOTDIR
-inode_fault (Some i) = elim i.content [ content.File bytes ↦ errno.ENOTDIR | content.SymbolicLink target ↦ errno.ELOOP ]
-
--- why a walk can't go on from what is shown
-abbrev pub fault : Option Shown → Option Errno
-fault None = Some errno.ENOENT
-fault (Some (Folder i k a)) = None
-fault (Some (Contents i k inode)) = Some (inode_fault inode)
-
--- the first fault, where there is one
-abbrev pub or_else : Option Errno → Option Errno → Option Errno
-or_else None e = e
-or_else (Some d) e = Some d
-
--- why the names of a path lead to no directory, the first from the root
-abbrev pub way_fault : List Layer → Path → Option Errno
-way_fault Ls [] = None
-way_fault Ls (n ∷ p) = or_else (way_fault Ls p) (fault (shows 0 Ls (n ∷ p)))
-
--- why the parents of a path lead to no directory
-abbrev pub parents_fault : List Layer → Path → Option Errno
-parents_fault Ls [] = None
-parents_fault Ls (n ∷ p) = way_fault Ls p
-
 -- the path without its last name
 abbrev pub parent : Path → Path
 parent [] = []
@@ -119,12 +94,3 @@ parent (n ∷ p) = p
 abbrev pub IsLook : Layers → Path → Look → Type 0
 IsLook l p (look.Found f) = IsFound l p f
 IsLook l p (look.Absent s) = ShowsNothing l p × IsStackOf l (parent p) s
-
--- ENOENT where nothing is shown
-abbrev pub absent : Option Shown → Option Errno
-absent None = Some errno.ENOENT
-absent (Some s) = None
-
--- why a walk to what a path shows is refused
-abbrev pub walk_fault : List Layer → Path → Option Errno
-walk_fault Ls p = or_else (parents_fault Ls p) (absent (shows 0 Ls p))

@@ -25,6 +25,7 @@ pub struct Layers {
 
 impl Layers {
     ghost use Rattle.merged_lookup.specs.Merged.{trees, node_in, layers_of, lowers_of, IsStackOf, IsAnswer, IsFound, IsLook, parents_fault, walk_fault, way_fault, inode_fault};
+    ghost use Rattle.merged_lookup.specs.Descent.{first};
 
     /// An upper layer over 1 to 16 lower ones, the nearest first.
     pub fn new(upper: Layer, lowers: Vec<Layer>) -> Layers
@@ -82,7 +83,8 @@ impl Layers {
 
     /// Whether a name shows something in a merged directory.
     pub fn shows(&self, stack: &Stack, name: &Name) -> bool
-        ensures { (p : Path) → IsStackOf self.now p stack.now → result ≡ is_some (shows 0 (layers_of self.now) (name.now ∷ p)) }
+        ensures shown { (p : Path) → IsStackOf self.now p stack.now → result ≡ is_some (shows 0 (layers_of self.now) (name.now ∷ p)) }
+        ensures by_places { result ≡ is_some (first (trees self.now) stack.now.places.items name.now) }
     {
         first_object(self, stack.places(), name).is_some()
     }

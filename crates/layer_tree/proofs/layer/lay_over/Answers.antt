@@ -1,5 +1,4 @@
-use Rattle.std.proofs.Common.{◌≡◌, ◌+◌, ◌-◌, ℕ, Vec, Global, List, ◌++◌, length, take, drop, replicate, ap, sym, ◌∙◌, arith}
-use Rattle.layer_tree.specs.Tree.{written}
+use Rattle.std.proofs.Common.{◌≡◌, ◌+◌, ◌-◌, ℕ, Vec, Global, List, ◌++◌, length, take, drop, replicate, ap, ◌∙◌, arith}
 use Rattle.layer_tree.proofs.Overlays.{whole_part, written_within, written_filled}
 use Rattle.layer_tree.proofs.layer.lay_over.Goals.{then-len-end+in_ok-resize, else-len-end}
 use Rattle.layer_tree.proofs.layer.lay_over.Goals as goal

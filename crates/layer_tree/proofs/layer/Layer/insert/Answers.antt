@@ -1,4 +1,4 @@
-use Rattle.std.proofs.Common.{sym, ap, ◌∙◌}
+use Rattle.std.proofs.Common.{◌∙◌}
 use Rattle.layer_tree.specs.Tree.{layer_of}
 use Rattle.layer_tree.proofs.Binding.{Inserts-after, vacant_before, SetsPath-after}
 use Rattle.layer_tree.proofs.Roots.{key_at-alike}

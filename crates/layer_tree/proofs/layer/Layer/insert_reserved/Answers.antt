@@ -1,7 +1,7 @@
 use Rattle.std.proofs.Common.{◌≡◌, Some, None, sym, ap, ◌∙◌, subst}
 use Rattle.slab.specs.Slab.{get, Updates}
 use Rattle.layer_tree.specs.Tree.{Tree, IsTree, Inserts}
-use Rattle.layer_tree.proofs.Binding.{inserts, IsTree-inserts, inserts_sets, inserts_room, inserts_other_room}
+use Rattle.layer_tree.proofs.Binding.{inserts, IsTree-inserts, inserts_sets}
 use Rattle.layer_tree.proofs.layer.Layer.insert_reserved.Goals as goal
 
 pub invariant_of-self : goal.invariant_of-self

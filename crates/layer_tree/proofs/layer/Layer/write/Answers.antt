@@ -1,8 +1,8 @@
-use Rattle.std.proofs.Common.{◌≡◌, ℕ, List, Option, Some, None, IsSome, sym, ap, subst, ◌∙◌, is_ok, if◌then◌else◌}
-use Rattle.slab.specs.Slab.{get, with_value}
+use Rattle.std.proofs.Common.{◌≡◌, ℕ, List, Some, sym, ap, subst, ◌∙◌, is_ok, if◌then◌else◌}
+use Rattle.slab.specs.Slab.{with_value}
 use Rattle.plain_model.specs.Layers.{held}
-use Rattle.layer_tree.specs.Tree.{Tree, IsTree, Writes, bytes_at, inode_at, inode_of, file_bytes, names_room, layer_of, written}
-use Rattle.layer_tree.specs.Change.{node_bytes, with_file}
+use Rattle.layer_tree.specs.Tree.{Tree, IsTree, Writes, bytes_at, names_room, layer_of, written}
+use Rattle.layer_tree.specs.Change.{node_bytes}
 use Rattle.layer_tree.specs.declared.node.Node.{Node}
 use Rattle.layer_tree.proofs.Writing.{some_of, bytes_found, IsTree-written, SameObjects-written, same_room, writes}
 use Rattle.layer_tree.proofs.layer.Layer.write.Goals as goal

@@ -1,7 +1,6 @@
-use Rattle.std.proofs.Common.{refl, sym, ap, ◌∙◌, Option, ℕ, List}
-use Rattle.std.specs.FinMap as map
+use Rattle.std.proofs.Common.{sym, ap, ◌∙◌}
 use Rattle.layer_tree.specs.Table.{Table, entry_in}
-use Rattle.layer_tree.proofs.TableLemmas.{entries_of, get-entries_of, entries_of_alike, entries_of_insert, entries_of_remove, nil_of_len, len_of_entries_of}
+use Rattle.layer_tree.proofs.TableLemmas.{get-entries_of}
 use Rattle.layer_tree.proofs.name_table.NameTable.get.Goals as goal
 
 pub returns : goal.returns

@@ -2,7 +2,7 @@ use Rattle.std.proofs.Common.{◌≡◌, ◌<◌, None, sym, ap, subst, ◌∙�
 use Rattle.std.specs.HashMap.{spare as places_of}
 use Rattle.std.specs.FinMap as map
 use Rattle.layer_tree.specs.Table.{Table, entry_in}
-use Rattle.layer_tree.proofs.TableLemmas.{entries_of, get-entries_of, entries_of_alike, entries_of_insert, entries_of_remove, nil_of_len, len_of_entries_of}
+use Rattle.layer_tree.proofs.TableLemmas.{get-entries_of, entries_of_insert}
 use Rattle.layer_tree.proofs.name_table.NameTable.put_reserved.Goals as goal
 
 pub returns-clause-entries : goal.returns-clause-entries

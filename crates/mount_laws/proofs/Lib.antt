@@ -1,0 +1,5 @@
+pub mod Looks
+pub mod Opens
+pub mod Lists
+pub mod Makes
+pub mod Places

@@ -1,0 +1,5 @@
+use Rattle.mount_laws.proofs.Lists.{law_of_list}
+use Rattle.mount_laws.proofs.laws.law_of_list.Goals as goal
+
+pub returns : goal.returns
+returns c = law_of_list

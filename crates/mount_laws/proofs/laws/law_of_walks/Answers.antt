@@ -1,0 +1,5 @@
+use Rattle.mount_laws.proofs.Looks.{law_of_walks}
+use Rattle.mount_laws.proofs.laws.law_of_walks.Goals as goal
+
+pub returns : goal.returns
+returns c = law_of_walks

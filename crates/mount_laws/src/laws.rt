@@ -1,0 +1,65 @@
+// The laws of the machine on a mount of layers, each as the contract of a function that does nothing.
+ghost use Rattle.mount_laws.specs.Looks.{LawOfBadDescriptors, LawOfBeginning, LawOfClose, LawOfDirectories, LawOfList, LawOfMade, LawOfMkdir, LawOfOpen, LawOfPlacedDirectory, LawOfPlacedParent, LawOfStat, LawOfWalks};
+
+/// A mount begins as one of its layers.
+pub fn law_of_beginning()
+    ensures { LawOfBeginning }
+{}
+
+/// A directory of a merge is named by its own path.
+pub fn law_of_directories()
+    ensures { LawOfDirectories }
+{}
+
+/// The machine's walk of a path is refused as the layers' is, finds a node where they show something, and what they show.
+pub fn law_of_walks()
+    ensures { LawOfWalks }
+{}
+
+/// `stat` is refused as the layers' walk is, and answers the status of what they show.
+pub fn law_of_stat()
+    ensures { LawOfStat }
+{}
+
+/// `mkdir` is refused for its mode, then as the layers' walk of the parents is, then where they show something.
+pub fn law_of_mkdir()
+    ensures { LawOfMkdir }
+{}
+
+/// `open` of a directory for reading is refused for its mode, as the layers' walk is, for what they show and for want of a
+/// descriptor; else the lowest free descriptor leads to a new handle on the directory, and nothing else changes.
+pub fn law_of_open()
+    ensures { LawOfOpen }
+{}
+
+/// A directory's first listing has the names that the layers show in it, in the order of their bytes, and no other list has;
+/// a call gives the next of them.
+pub fn law_of_list()
+    ensures { LawOfList }
+{}
+
+/// A handle on a node that has a name closes, and nothing else changes.
+pub fn law_of_close()
+    ensures { LawOfClose }
+{}
+
+/// A descriptor that is not open is EBADF.
+pub fn law_of_bad_descriptors()
+    ensures { LawOfBadDescriptors }
+{}
+
+/// A `mkdir` that is not refused makes the mount one of the upper that gains the directory; no other path and no handle changes.
+pub fn law_of_made()
+    ensures { LawOfMade }
+{}
+
+/// A missing parent that is placed in the upper with the attributes shown and no marks leaves the mount as it was.
+pub fn law_of_placed_parent()
+    ensures { LawOfPlacedParent }
+{}
+
+/// A directory that is placed in the upper where nothing was shown, opaque exactly where the layers below show a directory, is all
+/// that is gained (overlayfs.rst, "whiteouts and opaque directories").
+pub fn law_of_placed_directory()
+    ensures { LawOfPlacedDirectory }
+{}

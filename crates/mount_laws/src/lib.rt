@@ -1,0 +1,10 @@
+//! The plain machine's answers on the merge of layers, told by what the layers show: laws for an engine that keeps the layers.
+#![tactic(auto)]
+
+mod laws;
+
+pub use laws::{
+    law_of_bad_descriptors, law_of_beginning, law_of_close, law_of_directories, law_of_list,
+    law_of_made, law_of_mkdir, law_of_open, law_of_placed_directory, law_of_placed_parent,
+    law_of_stat, law_of_walks,
+};

@@ -1,0 +1,149 @@
+// The loads, each timed by the monotonic clock.
+use crate::trees::{OBJECTS, bare_layer, deep_layer, deep_path, flat_layer, name_of, put_file};
+use dir_listing::names;
+use layer_tree::{Layer, ROOT};
+use merged_lookup::{LAYERS_MAX, Layers};
+use ov_base::{Name, Path};
+use std::alloc::{AllocError, Global};
+use std::io;
+use std::rt::Clock;
+use std::time::Instant;
+
+/// What is measured.
+#[derive(Clone, Copy)]
+pub enum Load {
+    /// A path of four names in one layer of 10,000 objects.
+    Find,
+    /// The same path over so many layers.
+    Walk(usize),
+    /// So many names into one directory.
+    Insert,
+    /// The names of a directory of 10,000, over two layers.
+    List,
+}
+
+impl Load {
+    /// The load of a word of the command line.
+    pub fn named(word: &str) -> Option<Load> {
+        match word {
+            "find" => Some(Load::Find),
+            "walk" => Some(Load::Walk(2)),
+            "walk16" => Some(Load::Walk(LAYERS_MAX)),
+            "insert" => Some(Load::Insert),
+            "list" => Some(Load::List),
+            _ => None,
+        }
+    }
+}
+
+/// How many nanoseconds so many operations took, and how many were done.
+pub fn measure<C: Clock>(
+    clock: &C,
+    alloc: Global,
+    load: Load,
+    count: u32,
+) -> io::Result<(u64, u32)> {
+    match load {
+        Load::Find => {
+            let layer = deep_layer(alloc)?;
+            let path = deep_path(alloc)?;
+            let start = Instant::now(clock)?;
+            let found = find_often(&layer, &path, count);
+            Ok((since(clock, start)?, found))
+        }
+        Load::Walk(layers) => {
+            let layers = stacked(alloc, layers)?;
+            let path = deep_path(alloc)?;
+            let start = Instant::now(clock)?;
+            let found = walk_often(&layers, &path, count);
+            Ok((since(clock, start)?, found))
+        }
+        Load::Insert => {
+            let mut layer = bare_layer(alloc)?;
+            let all = numbered(alloc, count)?;
+            let start = Instant::now(clock)?;
+            let done = insert_all(alloc, &mut layer, &all)?;
+            Ok((since(clock, start)?, done))
+        }
+        Load::List => {
+            let layers = pair(alloc, flat_layer(alloc, OBJECTS)?)?;
+            let start = Instant::now(clock)?;
+            let listed = list_often(alloc, &layers, count)?;
+            Ok((since(clock, start)?, listed))
+        }
+    }
+}
+
+fn since<C: Clock>(clock: &C, start: Instant) -> io::Result<u64> {
+    Ok(u64::try_from(start.elapsed(clock)?.as_nanos()).unwrap_or(u64::MAX))
+}
+
+fn find_often(layer: &Layer, path: &Path, count: u32) -> u32 {
+    let mut found = 0u32;
+    for _ in 0..count {
+        if layer.find(path).is_some() {
+            found = found.saturating_add(1);
+        }
+    }
+    found
+}
+
+fn walk_often(layers: &Layers, path: &Path, count: u32) -> u32 {
+    let mut found = 0u32;
+    for _ in 0..count {
+        if layers.walk(path).is_ok() {
+            found = found.saturating_add(1);
+        }
+    }
+    found
+}
+
+fn numbered(alloc: Global, count: u32) -> Result<Vec<Name>, AllocError> {
+    let mut all = Vec::new(alloc);
+    for number in 0..count as usize {
+        all.push(name_of(alloc, number)?)?;
+    }
+    Ok(all)
+}
+
+fn insert_all(alloc: Global, layer: &mut Layer, all: &[Name]) -> Result<u32, AllocError> {
+    let mut done = 0u32;
+    for name in all {
+        put_file(alloc, layer, ROOT, *name)?;
+        done = done.saturating_add(1);
+    }
+    Ok(done)
+}
+
+fn list_often(alloc: Global, layers: &Layers, count: u32) -> Result<u32, AllocError> {
+    let mut listed = 0u32;
+    for _ in 0..count {
+        if !names(alloc, layers, &layers.root())?.is_empty() {
+            listed = listed.saturating_add(1);
+        }
+    }
+    Ok(listed)
+}
+
+// An empty upper over one lower layer.
+fn pair(alloc: Global, lower: Layer) -> Result<Layers, AllocError> {
+    let mut lowers = Vec::with_capacity(alloc, 1)?;
+    lowers.push(lower)?;
+    layered(bare_layer(alloc)?, lowers)
+}
+
+// So many layers, each with the deep path.
+fn stacked(alloc: Global, count: usize) -> Result<Layers, AllocError> {
+    let mut lowers = Vec::new(alloc);
+    for _ in 1..count {
+        lowers.push(deep_layer(alloc)?)?;
+    }
+    layered(deep_layer(alloc)?, lowers)
+}
+
+fn layered(upper: Layer, lowers: Vec<Layer>) -> Result<Layers, AllocError> {
+    if lowers.is_empty() || lowers.len() >= LAYERS_MAX {
+        return Err(AllocError);
+    }
+    Ok(Layers::new(upper, lowers))
+}

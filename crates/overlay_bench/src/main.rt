@@ -1,0 +1,46 @@
+//! Measures look-up, insertion and listing, in nanoseconds an operation.
+#![tactic(auto)]
+
+mod loads;
+mod trees;
+
+use crate::loads::{Load, measure};
+use std::alloc::Global;
+use std::env;
+use std::io;
+use std::rt::{Clock, Env};
+
+const USAGE: &str = "usage: overlay_bench find|walk|walk16|insert|list COUNT";
+
+// What the command line asks for.
+fn asked<R: Env + AllocGlobal>(rt: &R) -> io::Result<Option<(Load, u32)>> {
+    let mut words = env::args(rt)?;
+    let _program = words.next();
+    let Some(word) = words.next() else {
+        return Ok(None);
+    };
+    let Some(load) = Load::named(word.as_str()) else {
+        return Ok(None);
+    };
+    let Some(count) = words.next() else {
+        return Ok(None);
+    };
+    match count.as_str().parse::<u32>() {
+        Ok(count) if count > 0 => Ok(Some((load, count))),
+        _ => Ok(None),
+    }
+}
+
+fn run<R: Env + AllocGlobal + Clock + Print>(rt: &R) -> io::Result<()> {
+    let Some((load, count)) = asked(rt)? else {
+        return println!(rt; "{USAGE}");
+    };
+    let alloc: Global = rt.alloc();
+    let (nanos, operations) = measure(rt, alloc, load, count)?;
+    let each = nanos / u64::from(operations.max(1));
+    println!(rt; "{each} ns an operation, {operations} operations")
+}
+
+fn main(rt: HostRuntime) -> io::Result<()> {
+    run(&rt)
+}
