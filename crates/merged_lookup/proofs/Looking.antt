@@ -132,7 +132,7 @@ head-level i (Some Whiteout) true s h = tt
 head-level i (Some Whiteout) false [] h = tt
 head-level i (Some Whiteout) false (d ∷ ds) h = omega (arith, h)
 
-head-places : (i : ℕ) (Ls : List Layer) (p : Path) → HeadFrom i (places_at i Ls p)
+pub head-places : (i : ℕ) (Ls : List Layer) (p : Path) → HeadFrom i (places_at i Ls p)
 head-places i [] p = tt
 head-places i (L ∷ Ls) p = head-level i (held L p) (cuts L p) (places_at (suc i) Ls (below L p)) (head-places (suc i) Ls (below L p))
 
@@ -140,7 +140,7 @@ without-lowers : (s : List Place) → HeadFrom 1 s → without_upper s ≡ s
 without-lowers [] h = refl
 without-lowers (d ∷ ds) h = let e : nat_eq d.layer 0 ≡ false = grind (arith, h) in ap (λ b. cond b ds (d ∷ ds)) e
 
-head-unless : (c : Bool) (s : List Place) → HeadFrom 1 s → HeadFrom 1 (unless_cut c s)
+pub head-unless : (c : Bool) (s : List Place) → HeadFrom 1 s → HeadFrom 1 (unless_cut c s)
 head-unless true s h = tt
 head-unless false s h = h
 

@@ -1,0 +1,10 @@
+use Rattle.std.proofs.Common.{◌≡◌, ◌∷◌, Some}
+use Rattle.merged_lookup.proofs.Descending.{key-of}
+use Rattle.make_remove.proofs.Nodes.{place-free}
+use Rattle.make_remove.proofs.parents.insert_directory.Goals as goal
+
+pub insert-requires-clause-no_object : goal.insert-requires-clause-no_object
+insert-requires-clause-no_object c = place-free c.args.upper.now c.lawful.ensures.tree c.args.dir c.args.name c.requires.0 c.requires.1
+
+pub returns-clause-sets : goal.returns-clause-sets
+returns-clause-sets c = λ p h. (c.in_ok-insert.field-0, c.in_ok-insert.ensures.sets p (key-of c.args.upper.now p c.args.dir h.attributes h.opaque h.redirect h.directory))

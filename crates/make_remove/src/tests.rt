@@ -1,0 +1,133 @@
+// `mkdir` over layers built by hand.
+ghost use Rattle.std.specs.Prelude.{IsTrue, Some};
+ghost use Rattle.layer_tree.specs.Tree.{leads_on, seen_object};
+
+use crate::mkdir;
+use layer_tree::{Layer, Marks, Node, Object, ROOT};
+use merged_lookup::{Found, Layers};
+use ov_base::{Attributes, Bytes, Content, Errno, Name, Path, UserAttributes};
+use std::alloc::Global;
+use std::process::Abort;
+use std::test::Fail;
+
+fn attributes(alloc: Global, mode: u32) -> Attributes {
+    Attributes {
+        mode,
+        uid: 7,
+        gid: 8,
+        user: UserAttributes::new(alloc),
+    }
+}
+
+fn path(rt: &impl Abort, alloc: Global, text: &[u8]) -> Path {
+    let parsed = Path::parse(alloc, text).expect(rt, "memory");
+    parsed.expect(rt, "path")
+}
+
+fn name(rt: &impl Abort, text: &[u8]) -> Name {
+    Name::parse(text).expect(rt, "name")
+}
+
+fn put(rt: &impl Abort, layer: &mut Layer, dir: usize, text: &[u8], object: Object) -> usize
+    requires { IsTrue (leads_on (Some (seen_object 0 object))) }
+{
+    let name = name(rt, text);
+    assert!(rt; layer.is_directory(dir));
+    assert!(rt; layer.entry(dir, &name).is_none());
+    match layer.insert(dir, name, object) {
+        Ok(key) => key,
+        Err(_) => ROOT,
+    }
+}
+
+fn directory(alloc: Global, mode: u32) -> Object
+    ensures { IsTrue (leads_on (Some (seen_object 0 result))) }
+{
+    let marks = Marks {
+        opaque: false,
+        redirect: None,
+    };
+    Object::Directory(attributes(alloc, mode), marks)
+}
+
+fn cover(rt: &impl Abort, layer: &mut Layer, text: &[u8]) {
+    assert!(rt; layer.is_directory(ROOT));
+    let covered = layer.insert_whiteout(ROOT, name(rt, text));
+    assert!(rt; covered.is_ok());
+}
+
+// Two directories, one in the other, a covered directory, a covered file and a symbolic link.
+fn lower(rt: &impl Abort, alloc: Global) -> Layer {
+    let mut layer = Layer::new(alloc, attributes(alloc, 0o755)).expect(rt, "memory");
+    let a = put(rt, &mut layer, ROOT, b"a", directory(alloc, 0o700));
+    put(rt, &mut layer, a, b"b", directory(alloc, 0o711));
+    put(rt, &mut layer, ROOT, b"gone", directory(alloc, 0o700));
+    let file = Content::File(Bytes::new(alloc));
+    put(
+        rt,
+        &mut layer,
+        ROOT,
+        b"old",
+        Object::Inode(file, attributes(alloc, 0o644)),
+    );
+    let link = Content::SymbolicLink(Bytes::new(alloc));
+    put(
+        rt,
+        &mut layer,
+        ROOT,
+        b"link",
+        Object::Inode(link, attributes(alloc, 0o777)),
+    );
+    layer
+}
+
+// The mode, owner and opaque mark of the upper's directory at a path.
+fn made(layers: &Layers, path: &Path) -> Option<(u32, u32, bool)> {
+    let Ok(Found::Directory(stack)) = layers.walk(path) else {
+        return None;
+    };
+    match layers.node(stack.top())? {
+        Node::Directory(directory) if stack.top().layer == 0 => {
+            let attributes = &directory.attributes;
+            Some((attributes.mode, attributes.uid, directory.marks.opaque))
+        }
+        _ => None,
+    }
+}
+
+#[test]
+fn makes_directories(rt: HostRuntime) -> Result<(), Fail> {
+    let alloc = rt.alloc();
+    let mut upper = Layer::new(alloc, attributes(alloc, 0o755))?;
+    cover(&rt, &mut upper, b"gone");
+    cover(&rt, &mut upper, b"old");
+    let mut lowers = Vec::new(alloc);
+    lowers.push(lower(&rt, alloc))?;
+    assert!(rt; lowers.len() == 1);
+    let mut layers = Layers::new(upper, lowers);
+    let calls = [
+        (b"/a/b/c".as_slice(), 0o7777, Ok(())),
+        (b"/gone", 0o750, Ok(())),
+        (b"/old", 0o751, Ok(())),
+        (b"/", 0o755, Err(Errno::EEXIST)),
+        (b"/a/b", 0o755, Err(Errno::EEXIST)),
+        (b"/x/y", 0o755, Err(Errno::ENOENT)),
+        (b"/link/y", 0o755, Err(Errno::ELOOP)),
+        (b"/z", 0o10000, Err(Errno::EINVAL)),
+    ];
+    for (text, mode, want) in calls {
+        let got = mkdir(alloc, &mut layers, &path(&rt, alloc, text), mode)?;
+        assert!(rt; got == want);
+    }
+    let shown = [
+        (b"/a".as_slice(), Some((0o700, 7, false))),
+        (b"/a/b", Some((0o711, 7, false))),
+        (b"/a/b/c", Some((0o7777, 0, false))),
+        (b"/gone", Some((0o750, 0, true))),
+        (b"/old", Some((0o751, 0, false))),
+    ];
+    for (text, want) in shown {
+        assert!(rt; made(&layers, &path(&rt, alloc, text)) == want);
+    }
+    Ok(())
+}
