@@ -1,0 +1,5 @@
+pub mod Escapes
+pub mod Shown
+pub mod Slots
+mod Tables
+pub mod Ways

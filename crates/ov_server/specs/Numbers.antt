@@ -1,0 +1,28 @@
+-- The numbers that words spell.
+use Rattle.std.specs.Prelude.{ℕ, ◌+◌, ◌*◌, ◌-◌, ◌^◌, Bool, ◌&&◌, List, [], ◌∷◌, length, cond, nat_le, nat_lt, Option, Some, None}
+
+-- whether a byte is a digit in a base of at most ten
+abbrev pub is_digit : ℕ → ℕ → Bool
+is_digit base c = nat_le 48 c && nat_lt (c - 48) base
+
+-- a number with one more digit, where it fits 32 bits
+abbrev pub with_digit : ℕ → ℕ → ℕ → Option ℕ
+with_digit base n c = cond (is_digit base c && nat_lt (n * base + (c - 48)) (2 ^ 32)) (Some (n * base + (c - 48))) None
+
+-- goes on from a number
+abbrev pub go_on : (ℕ → Option ℕ) → Option ℕ → Option ℕ
+go_on f None = None
+go_on f (Some n) = f n
+
+-- a number with these digits after its own
+abbrev pub number_after : ℕ → ℕ → List ℕ → Option ℕ
+number_after base n [] = Some n
+number_after base n (c ∷ digits) = go_on (λ m. number_after base m digits) (with_digit base n c)
+
+-- the number that digits spell, where it fits 32 bits
+abbrev pub number_of : ℕ → List ℕ → Option ℕ
+number_of base digits = number_after base 0 digits
+
+-- the mode that at most six octal digits spell
+abbrev pub mode_of : List ℕ → Option ℕ
+mode_of digits = cond (nat_lt 6 (length digits)) None (number_of 8 digits)

@@ -1,0 +1,73 @@
+-- The lines of objects.
+use Rattle.std.specs.Prelude.{ℕ, min, Bool, true, false, List, [], ◌∷◌, ◌++◌, cond, length, reverse, Option, Some, None, codes}
+use Rattle.std.specs.List.{flat_map}
+use Rattle.ov_base.specs.declared.attributes.Attributes.{Attributes}
+use Rattle.ov_base.specs.declared.bytes.Content.{Content}
+use Rattle.ov_base.specs.declared.bytes.Content.TheVariants as content
+use Rattle.ov_base.specs.declared.redirect.Redirect.{Redirect}
+use Rattle.ov_base.specs.declared.redirect.Redirect.TheVariants as redirect
+use Rattle.ov_base.specs.declared.reply.ObjectKind.{ObjectKind}
+use Rattle.ov_base.specs.declared.reply.ObjectKind.TheVariants as kind
+use Rattle.ov_base.specs.declared.reply.Stat.{Stat}
+use Rattle.layer_tree.specs.declared.node.Marks.{Marks}
+use Rattle.layer_tree.specs.declared.node.Node.{Node}
+use Rattle.layer_tree.specs.declared.node.Node.TheVariants as node
+use Rattle.ov_server.specs.Escapes.{escaped_of}
+use Rattle.ov_server.specs.Lines.{stat_words}
+
+-- what stat shows of an object with these attributes
+abbrev pub stat_with : ObjectKind → Attributes → ℕ → ℕ → Stat
+stat_with k a size links = record { kind = k; mode = a.mode; uid = a.uid; gid = a.gid; size = size; links = links }
+
+abbrev pub content_kind : Content → ObjectKind
+content_kind (content.File bytes) = kind.File
+content_kind (content.SymbolicLink target) = kind.SymbolicLink
+
+-- the bytes of a file, or of the target of a symbolic link
+abbrev pub content_bytes : Content → List ℕ
+content_bytes (content.File bytes) = bytes
+content_bytes (content.SymbolicLink target) = target
+
+-- what stat shows of a file or symbolic link with these attributes
+abbrev pub stat_of_content : Content → Attributes → ℕ → Stat
+stat_of_content c a links = stat_with (content_kind c) a (length (content_bytes c)) (min links 4294967295)
+
+-- what stat shows of an object of a layer: a directory has size 0 and one link
+abbrev pub status_of : Node → Stat
+status_of (node.Directory d) = stat_with kind.Directory d.attributes 0 1
+status_of (node.Inode i) = stat_of_content i.content i.attributes i.links
+
+-- the text of the path of these names from the root
+abbrev pub path_text : List (List ℕ) → List ℕ
+path_text [] = 47 ∷ []
+path_text (n ∷ names) = flat_map (λ m. 47 ∷ escaped_of m) (n ∷ names)
+
+abbrev pub redirect_text : Redirect → List ℕ
+redirect_text (redirect.Absolute path) = path_text (reverse path)
+redirect_text (redirect.Single name) = escaped_of name
+
+abbrev pub redirect_words : Option Redirect → List ℕ
+redirect_words None = []
+redirect_words (Some r) = codes " redirect " ++ redirect_text r
+
+-- the marks of a directory, each after a space
+abbrev pub mark_words : Marks → List ℕ
+mark_words m = cond m.opaque (codes " opaque") [] ++ redirect_words m.redirect
+
+abbrev pub target_words : Content → List ℕ
+target_words (content.File bytes) = []
+target_words (content.SymbolicLink target) = codes " -> " ++ escaped_of target
+
+-- what follows the path: the marks of a directory where they are told, the target of a symbolic link
+abbrev pub words_after : Bool → Node → List ℕ
+words_after true (node.Directory d) = mark_words d.marks
+words_after false (node.Directory d) = []
+words_after marks (node.Inode i) = target_words i.content
+
+-- the line of an object at a path, without its line break
+abbrev pub object_line : Bool → Node → List (List ℕ) → List ℕ
+object_line marks n path = stat_words (status_of n) ++ 32 ∷ path_text path ++ words_after marks n
+
+-- the line of a whiteout at a path, without its line break
+abbrev pub whiteout_line : List (List ℕ) → List ℕ
+whiteout_line path = codes "c 0000 0 0 0 1 " ++ path_text path

@@ -1,0 +1,87 @@
+// The faults of the program.
+use crate::manifest::ManifestFault;
+use std::alloc::{AllocError, AllocFailed};
+use std::io;
+use thiserror::Error;
+
+/// Why a run ended before all was done. Its text is what standard error tells after the program's name.
+#[derive(Debug, Drop, Error)]
+pub enum Fault {
+    /// The command line is wrong, or asks for help; the text is clap's.
+    #[error("{0}")]
+    CommandLine(clap::Error),
+    /// A word of the command line is no UTF-8.
+    #[error("a word of the command line is not UTF-8")]
+    NotText,
+    /// The manifest's file cannot be read.
+    #[error("cannot read manifest")]
+    CannotReadManifest,
+    /// The manifest is at fault.
+    #[error("{0}")]
+    Manifest(ManifestFault),
+    /// Standard input or standard output failed.
+    #[error("stream")]
+    Stream,
+    /// A line of the script, counted from 1, is no command.
+    #[error("line {line}: bad command")]
+    BadCommand { line: u64 },
+    /// Memory ran out.
+    #[error("out of memory")]
+    Memory,
+}
+
+impl Fault {
+    /// The exit status: 0 where help is asked for, 1 for a file, a manifest or a stream, 2 for a command line or a script
+    /// line, 3 for memory.
+    pub fn status(&self) -> u8 {
+        match self {
+            Fault::CommandLine(error) if !error.use_stderr() => 0,
+            Fault::CommandLine(_) => 2,
+            Fault::CannotReadManifest | Fault::Manifest(_) | Fault::Stream => 1,
+            Fault::NotText | Fault::BadCommand { .. } => 2,
+            Fault::Memory => 3,
+        }
+    }
+}
+
+impl From<ManifestFault> for Fault {
+    fn from(fault: ManifestFault) -> Fault {
+        match fault {
+            ManifestFault::Memory(_) => Fault::Memory,
+            fault => Fault::Manifest(fault),
+        }
+    }
+}
+
+impl From<clap::Error> for Fault {
+    fn from(fault: clap::Error) -> Fault {
+        if fault.kind() == clap::error::ErrorKind::OutOfMemory {
+            Fault::Memory
+        } else {
+            Fault::CommandLine(fault)
+        }
+    }
+}
+
+impl From<AllocError> for Fault {
+    fn from(_fault: AllocError) -> Fault {
+        Fault::Memory
+    }
+}
+
+impl<T: Drop> From<AllocFailed<T>> for Fault {
+    fn from(_fault: AllocFailed<T>) -> Fault {
+        Fault::Memory
+    }
+}
+
+// A reader or a writer that wants memory is no failing device.
+impl From<io::Error> for Fault {
+    fn from(fault: io::Error) -> Fault {
+        if fault.kind() == io::ErrorKind::OutOfMemory {
+            Fault::Memory
+        } else {
+            Fault::Stream
+        }
+    }
+}

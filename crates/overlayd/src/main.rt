@@ -1,0 +1,63 @@
+//! The program: shows the merged tree of a manifest, or plays a script on its mount.
+#![tactic(auto)]
+
+use ov_server::{command_line, play_run, show_run, Fault, Invocation};
+use std::io::{self, BufWriter};
+use std::process::ExitCode;
+use std::{env, fs};
+
+fn main(rt: HostRuntime) -> ExitCode {
+    match run(&rt) {
+        Ok(()) => ExitCode::SUCCESS,
+        Err(fault) => report(&rt, &fault),
+    }
+}
+
+fn run(rt: &HostRuntime) -> Result<(), Fault> {
+    let words = words(rt)?;
+    match command_line(rt.alloc(), words.as_slice())? {
+        Invocation::Show { manifest } => show(rt, manifest),
+        Invocation::Play { manifest } => play(rt, manifest),
+    }
+}
+
+// The words of the command line, the program's name first.
+fn words(rt: &HostRuntime) -> Result<Vec<String>, Fault> {
+    match env::args(rt) {
+        Ok(words) => Ok(words.collect(rt.alloc())?),
+        Err(fault) if fault.kind() == io::ErrorKind::OutOfMemory => Err(Fault::Memory),
+        Err(_) => Err(Fault::NotText),
+    }
+}
+
+fn show(rt: &HostRuntime, manifest: &str) -> Result<(), Fault> {
+    let manifest = bytes_of(rt, manifest)?;
+    let mut writer = BufWriter::new(rt.alloc(), io::writer(rt))?;
+    show_run(rt.alloc(), manifest.as_slice(), &mut writer)
+}
+
+fn play(rt: &HostRuntime, manifest: &str) -> Result<(), Fault> {
+    let manifest = bytes_of(rt, manifest)?;
+    let mut writer = BufWriter::new(rt.alloc(), io::writer(rt))?;
+    play_run(rt.alloc(), manifest.as_slice(), &mut rt.reader(), &mut writer)
+}
+
+fn bytes_of(rt: &HostRuntime, path: &str) -> Result<Vec<u8>, Fault> {
+    match fs::read(rt, path) {
+        Ok(bytes) => Ok(bytes),
+        Err(fault) if fault.kind() == io::ErrorKind::OutOfMemory => Err(Fault::Memory),
+        Err(_) => Err(Fault::CannotReadManifest),
+    }
+}
+
+// Tells a fault and gives the exit status. The texts of the command line are its parser's own.
+fn report(rt: &HostRuntime, fault: &Fault) -> ExitCode {
+    let told = match fault {
+        Fault::CommandLine(error) => error.print(rt),
+        fault => eprintln!(rt; "overlayd: {fault}"),
+    };
+    match told {
+        Ok(()) => ExitCode::from(fault.status()),
+        Err(_) => ExitCode::from(fault.status().max(Fault::Stream.status())),
+    }
+}
