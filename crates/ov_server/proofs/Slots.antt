@@ -31,9 +31,9 @@ slice_get-set_other (y ∷ xs) (suc i) (suc k) x h = slice_get-set_other xs i k 
 -- One slot is written.
 pub sets-slot : {D : Type 0} (slots : List (Option D)) (d : ℕ) (v : Option D) → d < length slots → SetsSlot slots (set slots d v) d v
 sets-slot slots d v h = record {
-    here = ap in_slot (slice_get-set_same slots d v h);
-    others = λ k other. ap in_slot (slice_get-set_other slots d k v other);
-  }
+  here = ap in_slot (slice_get-set_same slots d v h);
+  others = λ k other. ap in_slot (slice_get-set_other slots d k v other);
+}
 
 -- The next names of a listing, by its slot.
 pub gives-names : (slots : List (Option OpenDirectory)) (d count : ℕ) (o after : OpenDirectory) (r : Result (List (List ℕ)) AllocError) → d < length slots → Some o ≡ get_or slots d (Some o) → IfOk r (λ names. names ≡ take count (names_left (Some o))) → OnOk r (after ≡ after_names count o) → OnErr r (after ≡ o) → GivesNames slots (set slots d (Some after)) d count r
@@ -46,10 +46,10 @@ gives-names slots d count o after (Ok names) h e given left kept =
       err = tt;
     }
 gives-names slots d count o after (Err f) h e given left kept = record {
-    names = tt;
-    left = tt;
-    err = ap (λ z. set slots d (Some z)) kept ∙ ap (λ z. set slots d z) e ∙ set-get_or slots d (Some o);
-  }
+  names = tt;
+  left = tt;
+  err = ap (λ z. set slots d (Some z)) kept ∙ ap (λ z. set slots d z) e ∙ set-get_or slots d (Some o);
+}
 
 -- What is open has a slot.
 pub opened-within : {D : Type 0} (slots : List (Option D)) (d : ℕ) → IsSome (opened slots d) → d < length slots

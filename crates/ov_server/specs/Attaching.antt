@@ -1,7 +1,7 @@
 -- How clients come and go.
-use Rattle.std.specs.Prelude.{◌≡◌, ◌≢◌, ℕ, ◌+◌, ◌^◌, List, [], Option, Some, None, cond, nat_lt}
+use Rattle.std.specs.Prelude.{◌≡◌, ◌≢◌, ◌≤◌, ◌⊎◌, ℕ, ◌+◌, ◌^◌, List, [], Option, Some, None, cond, nat_lt}
 use Rattle.std.specs.Option.{option_and_then}
-use Rattle.std.specs.BTreeMap.{get}
+use Rattle.std.specs.BTreeMap.{get, btree_map_len}
 use Rattle.std.specs.Ordering.{nat_cmp}
 use Rattle.ov_server.specs.declared.clients.Clients.{Clients}
 use Rattle.ov_server.specs.declared.descriptors.Descriptors.{Descriptors}
@@ -23,6 +23,10 @@ pub record Detaches (old new : Clients) (n : ℕ) : Type 0 where
   pub gone : get nat_cmp new.attached n ≡ None
   pub others : (m : ℕ) → m ≢ n → get nat_cmp new.attached m ≡ get nat_cmp old.attached m
   pub next : new.next ≡ old.next
+
+-- 64 clients are attached, or all numbers were used
+abbrev pub HasNoRoom : Clients → Type 0
+HasNoRoom clients = (64 ≤ btree_map_len clients.attached) ⊎ (clients.next ≡ None)
 
 -- the same clients are attached, and the next number is the same
 pub record IsSame (old new : Clients) : Type 0 where

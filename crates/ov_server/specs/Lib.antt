@@ -9,5 +9,6 @@ pub mod Clients
 pub mod Attaching
 pub mod ManifestEntries
 pub mod Manifests
-pub mod Directories
 pub mod Mounts
+pub mod Opening
+pub mod States

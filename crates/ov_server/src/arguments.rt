@@ -13,10 +13,7 @@ pub enum Invocation<'a> {
 }
 
 /// Reads the words of a command line, the program's name first. An error has the text for the user, also where help is asked for.
-pub fn command_line<'a, S: AsStr>(
-    alloc: Global,
-    words: &'a [S],
-) -> Result<Invocation<'a>, Error> {
+pub fn command_line<'a, S: AsStr>(alloc: Global, words: &'a [S]) -> Result<Invocation<'a>, Error> {
     let matches = overlayd(alloc)?.try_get_matches_from(words)?;
     match invocation_of(&matches) {
         Some(invocation) => Ok(invocation),

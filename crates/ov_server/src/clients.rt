@@ -1,6 +1,6 @@
 // The attached clients.
-ghost use Rattle.std.specs.Prelude.{◌≡◌, ◌≢◌, ℕ, true, false, Some, None, IfOk, IfErr, OnErr, IsSome, is_some, [], option_copied};
-ghost use Rattle.std.specs.BTreeMap.{get};
+ghost use Rattle.std.specs.Prelude.{◌≡◌, ◌≢◌, ◌<◌, ℕ, true, false, Some, None, IfOk, IfErr, OnOk, OnErr, IsSome, is_some, [], option_copied};
+ghost use Rattle.std.specs.BTreeMap.{get, btree_map_len};
 ghost use Rattle.std.specs.Ordering.{nat_cmp};
 ghost use Rattle.ov_server.specs.Clients.{is_before};
 
@@ -22,7 +22,7 @@ pub struct Clients {
 }
 
 impl Clients {
-    ghost use Rattle.ov_server.specs.Attaching.{Attaches, Detaches, IsSame, ChangesClient, opened_by};
+    ghost use Rattle.ov_server.specs.Attaching.{HasNoRoom, Attaches, Detaches, IsSame, ChangesClient, opened_by};
     ghost use Rattle.ov_server.specs.Listings.{ChangesSlot, Opens, Closes, GivesNames, with_listing};
 
     /// No clients.
@@ -41,6 +41,8 @@ impl Clients {
     pub fn attach(&mut self, alloc: Global) -> Result<Result<u32, Errno>, AllocError>
         ensures attached { IfOk result (λ attaching. IfOk attaching (Attaches self.old self.new)) }
         ensures refusal { IfOk result (λ attaching. IfErr attaching (λ errno. errno ≡ Errno.ENFILE)) }
+        ensures full { IfOk result (λ attaching. OnErr attaching (HasNoRoom self.old)) }
+        ensures room { IfOk result (λ attaching. OnOk attaching (btree_map_len self.old.attached < 64)) }
         ensures refused { IfOk result (λ attaching. OnErr attaching (IsSame self.old self.new)) }
         ensures err { OnErr result (IsSame self.old self.new) }
     {
@@ -93,7 +95,10 @@ impl Clients {
         requires { IsSome (opened_by self.old client descriptor) }
         ensures { ChangesClient self.old self.new client (λ before after. ChangesSlot before after descriptor (with_listing listing)) }
     {
-        self.attached.get_mut(&client).unwrap().keep_listing(descriptor, listing);
+        self.attached
+            .get_mut(&client)
+            .unwrap()
+            .keep_listing(descriptor, listing);
     }
 
     /// Gives the next names of the listing of an open directory of a client, at most so many. Want of memory gives none and changes
@@ -108,7 +113,10 @@ impl Clients {
         requires { IsSome (opened_by self.old client descriptor) }
         ensures { ChangesClient self.old self.new client (λ before after. GivesNames before after descriptor count result) }
     {
-        self.attached.get_mut(&client).unwrap().next_names(alloc, descriptor, count)
+        self.attached
+            .get_mut(&client)
+            .unwrap()
+            .next_names(alloc, descriptor, count)
     }
 
     /// Closes a descriptor of a client. One that isn't open is EBADF.

@@ -4,7 +4,6 @@
 mod arguments;
 mod clients;
 mod descriptors;
-mod directories;
 mod escape;
 mod fault;
 mod lines;
@@ -17,13 +16,12 @@ mod print_tree;
 mod script;
 mod show;
 mod status;
-
 #[cfg(test)]
 mod tests;
 
-pub use arguments::{command_line, Invocation};
+pub use arguments::{Invocation, command_line};
 pub use escape::{Escaped, EscapedWord};
 pub use fault::Fault;
-pub use manifest::{layers_of, manifest_of, EntryFault, ManifestFault};
+pub use manifest::{EntryFault, ManifestFault, layers_of, manifest_of};
 pub use play::play_run;
 pub use show::show_run;

@@ -1,13 +1,10 @@
 // `play`: a script on a mount.
-ghost use Rattle.std.specs.Prelude.{OnOk};
-ghost use Rattle.ov_server.specs.Mounts.{IsAttached};
-
 use crate::fault::Fault;
 use crate::lines::ReplyLine;
 use crate::manifest::manifest_of;
 use crate::mount::Mount;
 use crate::print_tree::{write_layer, write_merge};
-use crate::script::{command_of, BadCommand, CallText, Command};
+use crate::script::{BadCommand, CallText, Command, command_of};
 use merged_lookup::Layers;
 use ov_base::{Errno, Reply};
 use std::alloc::{AllocError, Global};
@@ -162,9 +159,7 @@ fn attached_to(mount: &mut Mount) -> Result<u32, Errno> {
     }
 }
 
-fn check_attached(mount: &Mount, client: u32) -> Result<(), BadCommand>
-    ensures { OnOk result (IsAttached mount.now client) }
-{
+fn check_attached(mount: &Mount, client: u32) -> Result<(), BadCommand> {
     if mount.is_attached(client) {
         Ok(())
     } else {
@@ -179,9 +174,7 @@ enum Answer {
     NotTaken(Errno),
 }
 
-fn answer_to(alloc: Global, mount: &mut Mount, client: u32, text: &CallText<'_>) -> Answer
-    requires { IsAttached mount.old client }
-{
+fn answer_to(alloc: Global, mount: &mut Mount, client: u32, text: &CallText<'_>) -> Answer {
     match text.call(alloc) {
         Ok(Ok(call)) => match mount.call(client, call) {
             Ok(reply) => Answer::Replied(reply),

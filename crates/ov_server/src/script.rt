@@ -3,7 +3,7 @@ ghost use Rattle.std.specs.Prelude.{◌≡◌, ◌≤◌};
 ghost use Rattle.ov_server.specs.Numbers as numbers;
 ghost use Rattle.ov_server.specs.Numbers.{number_of, number_after};
 
-use crate::escape::{is_graphic, EscapedWord};
+use crate::escape::{EscapedWord, is_graphic};
 use ov_base::{Call, Errno, OpenFlags, Path};
 use std::alloc::{AllocError, Global};
 
@@ -149,8 +149,7 @@ fn split_word(text: &[u8]) -> (&[u8], Option<&[u8]>) {
 }
 
 // The number of a client, a descriptor or a layer.
-fn decimal(word: &[u8]) -> Result<u32, BadCommand>
-{
+fn decimal(word: &[u8]) -> Result<u32, BadCommand> {
     number(word, 10).ok_or(BadCommand)
 }
 
@@ -189,9 +188,7 @@ impl CallText<'_> {
     /// The call, or why its path text is refused.
     pub fn call(&self, alloc: Global) -> Result<Result<Call, Errno>, AllocError> {
         match self {
-            CallText::Stat { path } => {
-                Ok(path_of(alloc, path)?.map(|path| Call::Stat { path }))
-            }
+            CallText::Stat { path } => { Ok(path_of(alloc, path)?.map(|path| Call::Stat { path })) }
             CallText::Mkdir { mode, path } => {
                 let mode = *mode;
                 Ok(path_of(alloc, path)?.map(|path| Call::Mkdir { path, mode }))

@@ -1,5 +1,5 @@
 // Worked rows and outside values, by readers and writers in memory.
-use crate::{command_line, play_run, show_run, Escaped, EscapedWord, Fault, Invocation};
+use crate::{Escaped, EscapedWord, Fault, Invocation, command_line, play_run, show_run};
 use std::alloc::Global;
 use std::io;
 use std::io::{Read, Write};
@@ -191,23 +191,71 @@ fn opens_64_descriptors(rt: HostRuntime) {
 fn stops_at_bad_commands(rt: HostRuntime) {
     let alloc = rt.alloc();
     let bad = [
-        "attach ", " attach", "attach  ", "attach\r", "Attach", "0 stat /", "0 detach", "layer 2",
-        "layer -1", "layer 0 0", "layer", "merge 0", "work", "4294967296 detach", "x", "-", "#\n ",
+        "attach ",
+        " attach",
+        "attach  ",
+        "attach\r",
+        "Attach",
+        "0 stat /",
+        "0 detach",
+        "layer 2",
+        "layer -1",
+        "layer 0 0",
+        "layer",
+        "merge 0",
+        "work",
+        "4294967296 detach",
+        "x",
+        "-",
+        "#\n ",
     ];
     for line in bad {
-        let lines = if line.len() > 1 && line.starts_with('#') { 2 } else { 1 };
+        let lines = if line.len() > 1 && line.starts_with('#') {
+            2
+        } else {
+            1
+        };
         let fault = format!(in alloc; "line {lines}: bad command").expect(&rt, "memory");
         assert_stops(&rt, alloc, line, "", fault.as_str());
     }
     let bad_calls = [
-        "0", "0 ", "0 stat", "0 stat / /", "0 stat /\\", "0 stat /\\x2", "0 stat /\\x2F", "0 stat /\\-",
-        "0 stat /\t", "0 stat a b", "0 mkdir / 7", "0 mkdir 8 /", "0 mkdir 0000007 /", "0 open r /",
-        "0 open rdx /", "0 open rd / 8", "0 open rd / ", "0 list 0", "0 list 0 +1", "0 list 0 4294967296",
-        "0 close -1", "0 readlink /", "1 stat a", "0 stat  /", "0 detach 0", "0 fstat 0", "0 Stat /",
+        "0",
+        "0 ",
+        "0 stat",
+        "0 stat / /",
+        "0 stat /\\",
+        "0 stat /\\x2",
+        "0 stat /\\x2F",
+        "0 stat /\\-",
+        "0 stat /\t",
+        "0 stat a b",
+        "0 mkdir / 7",
+        "0 mkdir 8 /",
+        "0 mkdir 0000007 /",
+        "0 open r /",
+        "0 open rdx /",
+        "0 open rd / 8",
+        "0 open rd / ",
+        "0 list 0",
+        "0 list 0 +1",
+        "0 list 0 4294967296",
+        "0 close -1",
+        "0 readlink /",
+        "1 stat a",
+        "0 stat  /",
+        "0 detach 0",
+        "0 fstat 0",
+        "0 Stat /",
     ];
     for line in bad_calls {
         let script = format!(in alloc; "\nattach\n#\n{line}\n0 detach").expect(&rt, "memory");
-        assert_stops(&rt, alloc, script.as_str(), "client 0\n", "line 4: bad command");
+        assert_stops(
+            &rt,
+            alloc,
+            script.as_str(),
+            "client 0\n",
+            "line 4: bad command",
+        );
     }
 }
 
@@ -228,10 +276,19 @@ fn tells_manifest_faults(rt: HostRuntime) {
     assert_manifest_fault(&rt, alloc, b"", "manifest: layers");
     assert_manifest_fault(&rt, alloc, b"x = \"\xff\"\n", "manifest: not TOML");
     let entries = [
-        ("path = \"/a/b\"\nkind = \"dir\"\n", "layer 1 entry 0: parent"),
+        (
+            "path = \"/a/b\"\nkind = \"dir\"\n",
+            "layer 1 entry 0: parent",
+        ),
         ("path = \"/a\"\nkind = \"fifo\"\n", "layer 1 entry 0: kind"),
-        ("path = \"/a\"\nkind = \"dir\"\nmode = 0o10000\n", "layer 1 entry 0: value"),
-        ("path = \"/a\"\nkind = \"whiteout\"\nmode = 0o644\n", "layer 1 entry 0: key"),
+        (
+            "path = \"/a\"\nkind = \"dir\"\nmode = 0o10000\n",
+            "layer 1 entry 0: value",
+        ),
+        (
+            "path = \"/a\"\nkind = \"whiteout\"\nmode = 0o644\n",
+            "layer 1 entry 0: key",
+        ),
     ];
     for (entry, fault) in entries {
         let text = format!(in alloc; "{two}[[layer.entry]]\n{entry}").expect(&rt, "memory");

@@ -6,9 +6,8 @@ mod trees;
 
 use crate::loads::{Load, measure};
 use std::alloc::Global;
-use std::env;
-use std::io;
 use std::rt::{Clock, Env};
+use std::{env, io};
 
 const USAGE: &str = "usage: overlay_bench find|walk|walk16|insert|list COUNT";
 

@@ -30,7 +30,12 @@ pub fn bare_layer(alloc: Global) -> Result<Layer, AllocError> {
 }
 
 /// Puts an empty file at a name of the root, unless the name is taken.
-pub fn put_file(alloc: Global, layer: &mut Layer, dir: usize, name: Name) -> Result<(), AllocError> {
+pub fn put_file(
+    alloc: Global,
+    layer: &mut Layer,
+    dir: usize,
+    name: Name,
+) -> Result<(), AllocError> {
     if !layer.is_directory(dir) || layer.entry(dir, &name).is_some() {
         return Ok(());
     }
@@ -55,7 +60,11 @@ fn put_directory(
         opaque: false,
         redirect: None,
     };
-    match layer.insert(dir, name, Object::Directory(attributes(alloc, 0o755), marks)) {
+    match layer.insert(
+        dir,
+        name,
+        Object::Directory(attributes(alloc, 0o755), marks),
+    ) {
         Ok(key) => Ok(key),
         Err(_) => Err(AllocError),
     }

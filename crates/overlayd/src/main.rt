@@ -1,7 +1,7 @@
 //! The program: shows the merged tree of a manifest, or plays a script on its mount.
 #![tactic(auto)]
 
-use ov_server::{command_line, play_run, show_run, Fault, Invocation};
+use ov_server::{Fault, Invocation, command_line, play_run, show_run};
 use std::io::{self, BufWriter};
 use std::process::ExitCode;
 use std::{env, fs};
@@ -39,7 +39,12 @@ fn show(rt: &HostRuntime, manifest: &str) -> Result<(), Fault> {
 fn play(rt: &HostRuntime, manifest: &str) -> Result<(), Fault> {
     let manifest = bytes_of(rt, manifest)?;
     let mut writer = BufWriter::new(rt.alloc(), io::writer(rt))?;
-    play_run(rt.alloc(), manifest.as_slice(), &mut rt.reader(), &mut writer)
+    play_run(
+        rt.alloc(),
+        manifest.as_slice(),
+        &mut rt.reader(),
+        &mut writer,
+    )
 }
 
 fn bytes_of(rt: &HostRuntime, path: &str) -> Result<Vec<u8>, Fault> {

@@ -3,11 +3,11 @@ use Rattle.ov_server.proofs.clients.Clients.keep_listing.Goals as goal
 
 pub returns : goal.returns
 returns c = record {
-    before = c.unwrap.result.now;
-    was = search rules;
-    after = c.keep_listing.new.self;
-    is = search rules;
-    changes = c.keep_listing.ensures;
-    others = search rules;
-    next = search rules;
-  }
+  before = c.unwrap.result.now;
+  was = search rules;
+  after = c.keep_listing.new.self;
+  is = search rules;
+  changes = c.keep_listing.ensures;
+  others = search rules;
+  next = search rules;
+}

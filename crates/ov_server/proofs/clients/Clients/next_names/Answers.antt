@@ -3,11 +3,11 @@ use Rattle.ov_server.proofs.clients.Clients.next_names.Goals as goal
 
 pub returns : goal.returns
 returns c = record {
-    before = c.unwrap.result.now;
-    was = search rules;
-    after = c.next_names.new.self;
-    is = search rules;
-    changes = c.next_names.ensures;
-    others = search rules;
-    next = search rules;
-  }
+  before = c.unwrap.result.now;
+  was = search rules;
+  after = c.next_names.new.self;
+  is = search rules;
+  changes = c.next_names.ensures;
+  others = search rules;
+  next = search rules;
+}

@@ -3,11 +3,11 @@ use Rattle.ov_server.proofs.clients.Clients.open.Goals as goal
 
 pub returns : goal.returns
 returns c = record {
-    before = c.unwrap.result.now;
-    was = search rules;
-    after = c.open.new.self;
-    is = search rules;
-    changes = c.open.ensures;
-    others = search rules;
-    next = search rules;
-  }
+  before = c.unwrap.result.now;
+  was = search rules;
+  after = c.open.new.self;
+  is = search rules;
+  changes = c.open.ensures;
+  others = search rules;
+  next = search rules;
+}

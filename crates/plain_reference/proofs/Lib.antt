@@ -1,0 +1,6 @@
+pub mod NameLemmas
+pub mod SlotLemmas
+pub mod WalkLemmas
+pub mod OrLemmas
+pub mod RuleLemmas
+pub mod StepLemmas

@@ -1,0 +1,8 @@
+use Rattle.std.proofs.Common.{refl, sym, ap, ◌∙◌, Option, ℕ, List, nat_eq}
+use Rattle.std.specs.FinMap as map
+use Rattle.plain_model.specs.Tree.{Names}
+use Rattle.plain_reference.proofs.NameLemmas.{names_of, get-names, names-insert, names-remove, len-names, keys-names, same_entries}
+use Rattle.plain_reference.proofs.names.Names.remove.Goals as goal
+
+pub returns : goal.returns
+returns c = names-remove c.self.inside.ids.entries _ c.args.name.now c.remove.ensures.updates.0 ∙ ap (λ (m : Names). map.remove m c.args.name.now) c.self.view_is

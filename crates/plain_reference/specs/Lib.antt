@@ -1,0 +1,6 @@
+pub mod Codes
+pub mod Keys
+pub mod Nodes
+pub mod Slots
+pub mod Looks
+pub mod States

@@ -1,0 +1,19 @@
+-- The nodes of the plain tree that the reference's nodes stand for.
+use Rattle.std.specs.Prelude.{Option, None, Some}
+use Rattle.plain_model.specs.Tree as tree
+use Rattle.plain_reference.specs.declared.node.Origin.{Origin}
+use Rattle.plain_reference.specs.declared.node.Origin.TheVariants.{Own, Untouched}
+use Rattle.plain_reference.specs.declared.node.Node.{Node}
+use Rattle.plain_reference.specs.declared.node.Node.TheVariants.{Directory, Leaf}
+
+abbrev pub origin_of : Origin → tree.Origin
+origin_of Own = tree.Own
+origin_of (Untouched links) = tree.Untouched links
+
+abbrev pub plain : Node → tree.Node
+plain (Directory attributes is_base names count) = tree.Branch attributes is_base names count
+plain (Leaf content attributes origin count) = tree.Leaf content attributes (origin_of origin) count
+
+abbrev pub shown : Option Node → Option tree.Node
+shown None = None
+shown (Some node) = Some (plain node)

@@ -1,0 +1,153 @@
+// The calls that change the tree.
+ghost use Rattle.std.specs.Prelude.{◌≡◌, ◌+◌, ◌<◌, ◌^◌, Some, OnOk, OnErr, IfOk, false};
+ghost use Rattle.std.specs.FinMap as map;
+ghost use Rattle.ov_base.specs.declared.bytes.Content.TheVariants as content;
+ghost use Rattle.ov_base.specs.declared.call.Call.TheVariants as call;
+ghost use Rattle.plain_model.specs.Tree as plain;
+ghost use Rattle.plain_model.specs.Changes.{fresh, made_way, way_of, dropped, settled};
+ghost use Rattle.plain_model.specs.Runs.{Step};
+ghost use Rattle.plain_reference.specs.Nodes.{plain as node_of};
+ghost use Rattle.plain_reference.specs.Slots.{tree_of};
+ghost use Rattle.plain_reference.specs.States.{state_of, Mute};
+
+use crate::clients::is_held;
+use crate::id::Id;
+use crate::names::Names;
+use crate::node::{Node, Origin, is_named};
+use crate::reference::Reference;
+use ov_base::{Attributes, Bytes, Content, Path, Reply, UserAttributes};
+use std::alloc::{AllocError, Global};
+
+fn fresh(alloc: Global, mode: u32) -> Attributes
+    ensures { result ≡ fresh mode }
+{
+    Attributes {
+        mode,
+        uid: 0,
+        gid: 0,
+        user: UserAttributes::new(alloc),
+    }
+}
+
+fn new_directory(alloc: Global, mode: u32) -> Node
+    ensures { node_of result ≡ plain.Branch (fresh mode) false map.empty 1 }
+{
+    Node::Directory {
+        attributes: fresh(alloc, mode),
+        is_base: false,
+        names: Names::new(alloc),
+        count: 1,
+    }
+}
+
+fn new_link(alloc: Global, target: Bytes) -> Node
+    ensures { node_of result ≡ plain.Leaf (content.SymbolicLink target) (fresh 0o777) plain.Own 1 }
+{
+    Node::Leaf {
+        content: Content::SymbolicLink(target),
+        attributes: fresh(alloc, 0o777),
+        origin: Origin::Own,
+        count: 1,
+    }
+}
+
+impl Reference {
+    // Puts a new node under the next serial, and leads the last name of a path to it.
+    fn make(&mut self, path: &Path, node: Node) -> Result<(), AllocError>
+        ensures ok { OnOk result (tree_of self.new.tree.slots.items ≡ made_way (tree_of self.old.tree.slots.items) self.old.serial (way_of (tree_of self.old.tree.slots.items) path.now) (node_of node)) }
+        ensures err { OnErr result (tree_of self.new.tree.slots.items ≡ tree_of self.old.tree.slots.items) }
+        ensures rest { self.new ≡ record self.old { tree = self.new.tree } }
+    {
+        if let Some((directory, name)) = self.tree.way_of(self.alloc, path.names())? {
+            self.tree
+                .place(&directory, &name, Id::new(self.serial), node)?;
+        }
+        Ok(())
+    }
+
+    // Takes the node of an identity out of the tree where it has neither name nor handle.
+    fn settle(&mut self, id: &Id)
+        ensures tree { tree_of self.new.tree.slots.items ≡ settled self.old.clients.items (tree_of self.old.tree.slots.items) (Some id.now) }
+        ensures rest { self.new ≡ record self.old { tree = self.new.tree } }
+    {
+        let named = is_named(self.tree.node(id));
+        let held = is_held(self.clients.as_slice(), id);
+        if !named && !held {
+            self.tree.take_out(id);
+        }
+    }
+
+    // Takes the last name of a path away from the node that it leads to.
+    fn drop_name(&mut self, path: &Path) -> Result<(), AllocError>
+        ensures ok { OnOk result (tree_of self.new.tree.slots.items ≡ dropped self.old.clients.items (tree_of self.old.tree.slots.items) path.now) }
+        ensures err { OnErr result (tree_of self.new.tree.slots.items ≡ tree_of self.old.tree.slots.items) }
+        ensures rest { self.new ≡ record self.old { tree = self.new.tree } }
+    {
+        let node = self.tree.node_at(self.alloc, path.names())?;
+        let way = self.tree.way_of(self.alloc, path.names())?;
+        if let Some(id) = &node {
+            self.tree.lose_name(id);
+        }
+        if let Some((directory, name)) = &way {
+            self.tree.unlead(directory, name);
+        }
+        if let Some(id) = &node {
+            self.settle(id);
+        }
+        Ok(())
+    }
+
+    pub(crate) fn mkdir(&mut self, client: u32, path: &Path, mode: u32) -> Result<Reply, AllocError>
+        requires { self.old.serial + 1 < 2 ^ 64 }
+        ensures step { IfOk result (λ reply. Step Mute (state_of self.old) client (call.Mkdir path.now mode) reply (state_of self.new)) }
+        ensures err { OnErr result (state_of self.new ≡ state_of self.old) }
+    {
+        if let Some(errno) = self.mkdir_refusal(client, path, mode)? {
+            return Ok(Reply::Refused(errno));
+        }
+        self.make(path, new_directory(self.alloc, mode))?;
+        self.serial += 1;
+        Ok(Reply::Done)
+    }
+
+    pub(crate) fn symlink(
+        &mut self,
+        client: u32,
+        target: &Bytes,
+        path: &Path,
+    ) -> Result<Reply, AllocError>
+        requires { self.old.serial + 1 < 2 ^ 64 }
+        ensures step { IfOk result (λ reply. Step Mute (state_of self.old) client (call.Symlink target.now path.now) reply (state_of self.new)) }
+        ensures err { OnErr result (state_of self.new ≡ state_of self.old) }
+    {
+        if let Some(errno) = self.symlink_refusal(client, target, path)? {
+            return Ok(Reply::Refused(errno));
+        }
+        let target = target.clone()?;
+        self.make(path, new_link(self.alloc, target))?;
+        self.serial += 1;
+        Ok(Reply::Done)
+    }
+
+    pub(crate) fn unlink(&mut self, client: u32, path: &Path) -> Result<Reply, AllocError>
+        ensures step { IfOk result (λ reply. Step Mute (state_of self.old) client (call.Unlink path.now) reply (state_of self.new)) }
+        ensures err { OnErr result (state_of self.new ≡ state_of self.old) }
+    {
+        if let Some(errno) = self.unlink_refusal(client, path)? {
+            return Ok(Reply::Refused(errno));
+        }
+        self.drop_name(path)?;
+        Ok(Reply::Done)
+    }
+
+    pub(crate) fn rmdir(&mut self, client: u32, path: &Path) -> Result<Reply, AllocError>
+        ensures step { IfOk result (λ reply. Step Mute (state_of self.old) client (call.Rmdir path.now) reply (state_of self.new)) }
+        ensures err { OnErr result (state_of self.new ≡ state_of self.old) }
+    {
+        if let Some(errno) = self.rmdir_refusal(client, path)? {
+            return Ok(Reply::Refused(errno));
+        }
+        self.drop_name(path)?;
+        Ok(Reply::Done)
+    }
+}

@@ -1,0 +1,201 @@
+// The nodes of the tree.
+ghost use Rattle.std.specs.Prelude.{◌≡◌, IfOk, OnOk, OnErr};
+ghost use Rattle.std.specs.Option.{option_copied};
+ghost use Rattle.plain_model.specs.Tree.{with_name, shown_links};
+ghost use Rattle.plain_model.specs.Machine.{is_folder, is_link, has_names, bytes_of_node};
+ghost use Rattle.plain_model.specs.Changes.{one_fewer, is_named, names_in};
+ghost use Rattle.plain_model.specs.Replies.{stat_of, stat_by, capped};
+ghost use Rattle.plain_reference.specs.Nodes.{shown, plain, origin_of};
+
+use crate::id::Id;
+use crate::names::Names;
+use ov_base::{Attributes, Bytes, Content, Name, NameList, ObjectKind, Reply, Stat};
+use std::alloc::{AllocError, Global};
+
+/// Where a file or symbolic link stands: in the upper layer, or untouched in a lower one, whose link count it shows.
+#[derive(Clone, Copy)]
+pub enum Origin {
+    Own,
+    Untouched(u64),
+}
+
+/// A directory, or a file or symbolic link. `count` is how many names lead to it.
+#[derive(Drop)]
+pub enum Node {
+    Directory {
+        attributes: Attributes,
+        is_base: bool,
+        names: Names,
+        count: u64,
+    },
+    Leaf {
+        content: Content,
+        attributes: Attributes,
+        origin: Origin,
+        count: u64,
+    },
+}
+
+/// Whether there is a directory.
+pub fn is_folder(node: Option<&Node>) -> bool
+    ensures { result ≡ is_folder (shown (option_copied node.entry)) }
+{
+    matches!(node, Some(Node::Directory { .. }))
+}
+
+/// Whether there is a symbolic link.
+pub fn is_link(node: Option<&Node>) -> bool
+    ensures { result ≡ is_link (shown (option_copied node.entry)) }
+{
+    match node {
+        Some(
+            Node::Leaf {
+                content: Content::SymbolicLink(_),
+                ..
+            },
+        ) => true,
+        _ => false,
+    }
+}
+
+/// Whether there is a directory with a name.
+pub fn has_names(node: Option<&Node>) -> bool
+    ensures { result ≡ has_names (shown (option_copied node.entry)) }
+{
+    match node {
+        Some(Node::Directory { names, .. }) => !names.is_empty(),
+        _ => false,
+    }
+}
+
+/// Whether a name leads to the node.
+pub fn is_named(node: Option<&Node>) -> bool
+    ensures { result ≡ is_named (shown (option_copied node.entry)) }
+{
+    match node {
+        Some(Node::Directory { count, .. }) => *count > 0,
+        Some(Node::Leaf { count, .. }) => *count > 0,
+        None => false,
+    }
+}
+
+impl Node {
+    /// Leads a name of the directory to a node; another node stays as it is.
+    pub fn lead(&mut self, name: &Name, to: Id) -> Result<(), AllocError>
+        ensures ok { OnOk result (Some (plain self.new) ≡ with_name name.now (Some to) (Some (plain self.old))) }
+        ensures err { OnErr result (plain self.new ≡ plain self.old) }
+    {
+        if let Node::Directory { names, .. } = self {
+            names.insert(*name, to)?;
+        }
+        Ok(())
+    }
+
+    /// Takes a name out of the directory; another node stays as it is.
+    pub fn unlead(&mut self, name: &Name)
+        ensures { Some (plain self.new) ≡ with_name name.now None (Some (plain self.old)) }
+    {
+        if let Node::Directory { names, .. } = self {
+            names.remove(name);
+        }
+    }
+
+    /// Lets the node have a name less.
+    pub fn lose_name(&mut self)
+        ensures { plain self.new ≡ one_fewer (plain self.old) }
+    {
+        match self {
+            Node::Directory { count, .. } => *count = count.saturating_sub(1),
+            Node::Leaf { count, .. } => *count = count.saturating_sub(1),
+        }
+    }
+}
+
+/// The sorted names of a directory; of another node none.
+pub fn names_in(alloc: Global, node: Option<&Node>) -> Result<NameList, AllocError>
+    ensures { IfOk result (λ list. list ≡ names_in (shown (option_copied node.entry))) }
+{
+    match node {
+        Some(Node::Directory { names, .. }) => Ok(NameList::from_vec(names.list(alloc)?)),
+        _ => Ok(NameList::new(alloc)),
+    }
+}
+
+fn stat_by(kind: ObjectKind, attributes: &Attributes, size: u64, links: u32) -> Reply
+    ensures { result ≡ stat_by kind attributes.now size links }
+{
+    Reply::Status(Stat {
+        kind,
+        mode: attributes.mode,
+        uid: attributes.uid,
+        gid: attributes.gid,
+        size,
+        links,
+    })
+}
+
+fn capped(links: u64) -> u32
+    ensures { result ≡ capped links }
+{
+    links.min(u64::from(u32::MAX)) as u32
+}
+
+fn shown_links(origin: Origin, count: u64) -> u64
+    ensures { result ≡ shown_links (origin_of origin) count }
+{
+    match origin {
+        Origin::Own => count,
+        Origin::Untouched(links) => links,
+    }
+}
+
+/// What `stat` shows of a node: a directory has size 0 and 1 link.
+pub fn stat_of(node: Option<&Node>) -> Reply
+    ensures { result ≡ stat_of (shown (option_copied node.entry)) }
+{
+    match node {
+        None => Reply::Done,
+        Some(Node::Directory { attributes, .. }) => {
+            stat_by(ObjectKind::Directory, attributes, 0, 1)
+        }
+        Some(
+            Node::Leaf {
+                content,
+                attributes,
+                origin,
+                count,
+            },
+        ) => {
+            let links = capped(shown_links(*origin, *count));
+            match content {
+                Content::File(bytes) => {
+                    stat_by(
+                        ObjectKind::File,
+                        attributes,
+                        bytes.as_slice().len() as u64,
+                        links,
+                    )
+                }
+                Content::SymbolicLink(target) => stat_by(
+                    ObjectKind::SymbolicLink,
+                    attributes,
+                    target.as_slice().len() as u64,
+                    links,
+                ),
+            }
+        }
+    }
+}
+
+/// A copy of the bytes of a file, or of the target of a symbolic link; of another node none.
+pub fn bytes_of(alloc: Global, node: Option<&Node>) -> Result<Bytes, AllocError>
+    ensures { IfOk result (λ bytes. bytes ≡ bytes_of_node (shown (option_copied node.entry))) }
+{
+    match node {
+        Some(Node::Leaf { content, .. }) => match content {
+            Content::File(bytes) => bytes.clone(),
+            Content::SymbolicLink(target) => target.clone(),
+        },
+        _ => Ok(Bytes::new(alloc)),
+    }
+}

@@ -1,0 +1,291 @@
+// Which calls are refused, and by which number: for each call the first line that applies.
+ghost use Rattle.std.specs.Prelude.{◌≡◌, nat_eq, nat_lt, not, ◌&&◌, ◌||◌, is_none, length, IfOk};
+ghost use Rattle.std.specs.Option.{option_copied};
+ghost use Rattle.ov_base.specs.declared.call.Call.TheVariants as call;
+ghost use Rattle.plain_model.specs.Machine as machine;
+ghost use Rattle.plain_model.specs.Machine.{is_found, is_root};
+ghost use Rattle.plain_model.specs.Refusals as rule;
+ghost use Rattle.plain_model.specs.Refusals.{◌or_else◌, refusal};
+ghost use Rattle.plain_reference.specs.Nodes.{shown};
+ghost use Rattle.plain_reference.specs.Slots.{tree_of};
+ghost use Rattle.plain_reference.specs.Looks.{look_of};
+ghost use Rattle.plain_reference.specs.States.{state_of};
+
+use crate::clients::lowest_free;
+use crate::node::{Node, has_names, is_folder, is_link};
+use crate::reference::Reference;
+use crate::walk::Look;
+use ov_base::{Bytes, Errno, OpenFlags, Path};
+use std::alloc::AllocError;
+
+fn when(applies: bool, errno: Errno) -> Option<Errno>
+    ensures { result ≡ rule.when applies errno }
+{
+    if applies { Some(errno) } else { None }
+}
+
+// The walk of a path up to its last name.
+fn walked(look: &Look) -> Option<Errno>
+    ensures { result ≡ rule.walked (look_of look.now) }
+{
+    match look {
+        Look::Fails(errno) => Some(*errno),
+        _ => None,
+    }
+}
+
+// The walk of a path, and that its last name is there.
+fn there(look: &Look) -> Option<Errno>
+    ensures { result ≡ rule.there (look_of look.now) }
+{
+    match look {
+        Look::Fails(errno) => Some(*errno),
+        Look::Absent(_) => Some(Errno::ENOENT),
+        Look::Found(_) => None,
+    }
+}
+
+fn is_found(look: &Look) -> bool
+    ensures { result ≡ is_found (look_of look.now) }
+{
+    matches!(look, Look::Found(_))
+}
+
+fn is_root(path: &Path) -> bool
+    ensures { result ≡ is_root path.now }
+{
+    path.names().is_empty()
+}
+
+fn bad_mode(mode: u32) -> Option<Errno>
+    ensures { result ≡ rule.bad_mode mode }
+{
+    when(mode > 0o7777, Errno::EINVAL)
+}
+
+fn bad_flags(flags: OpenFlags) -> bool
+    ensures { result ≡ rule.bad_flags flags }
+{
+    (!flags.reads && !flags.writes)
+        || flags.unknown
+        || (flags.exclusive && !flags.create)
+        || (flags.truncate && !flags.writes)
+        || (flags.directory && flags.create)
+}
+
+fn has_nul(bytes: &[u8]) -> bool
+    ensures { result ≡ rule.has_nul bytes.now }
+{
+    bytes.iter().any(|byte| *byte == 0)
+}
+
+fn stat_line(look: &Look) -> Option<Errno>
+    ensures { result ≡ rule.there (look_of look.now) }
+{
+    there(look)
+}
+
+fn readlink_line(look: &Look, node: Option<&Node>) -> Option<Errno>
+    ensures { result ≡ (rule.there (look_of look.now) or_else rule.when (not (machine.is_link (shown (option_copied node.entry)))) Errno.EINVAL) }
+{
+    if let Some(errno) = there(look) {
+        return Some(errno);
+    }
+    when(!is_link(node), Errno::EINVAL)
+}
+
+fn mkdir_line(mode: u32, look: &Look) -> Option<Errno>
+    ensures { result ≡ (rule.bad_mode mode or_else rule.walked (look_of look.now) or_else rule.when (machine.is_found (look_of look.now)) Errno.EEXIST) }
+{
+    if let Some(errno) = bad_mode(mode) {
+        return Some(errno);
+    }
+    if let Some(errno) = walked(look) {
+        return Some(errno);
+    }
+    when(is_found(look), Errno::EEXIST)
+}
+
+fn symlink_line(target: &Bytes, look: &Look) -> Option<Errno>
+    ensures { result ≡ (rule.when (nat_lt 4095 (length target.now)) Errno.ENAMETOOLONG or_else rule.when (nat_eq (length target.now) 0) Errno.ENOENT or_else rule.when (rule.has_nul target.now) Errno.EINVAL or_else rule.walked (look_of look.now) or_else rule.when (machine.is_found (look_of look.now)) Errno.EEXIST) }
+{
+    if target.as_slice().len() > 4095 {
+        return Some(Errno::ENAMETOOLONG);
+    }
+    if target.as_slice().is_empty() {
+        return Some(Errno::ENOENT);
+    }
+    if has_nul(target.as_slice()) {
+        return Some(Errno::EINVAL);
+    }
+    if let Some(errno) = walked(look) {
+        return Some(errno);
+    }
+    when(is_found(look), Errno::EEXIST)
+}
+
+fn unlink_line(path: &Path, look: &Look, node: Option<&Node>) -> Option<Errno>
+    ensures { result ≡ (rule.when (machine.is_root path.now) Errno.EBUSY or_else rule.there (look_of look.now) or_else rule.when (machine.is_folder (shown (option_copied node.entry))) Errno.EISDIR) }
+{
+    if is_root(path) {
+        return Some(Errno::EBUSY);
+    }
+    if let Some(errno) = there(look) {
+        return Some(errno);
+    }
+    when(is_folder(node), Errno::EISDIR)
+}
+
+fn rmdir_line(path: &Path, look: &Look, node: Option<&Node>) -> Option<Errno>
+    ensures { result ≡ (rule.when (machine.is_root path.now) Errno.EBUSY or_else rule.there (look_of look.now) or_else rule.when (not (machine.is_folder (shown (option_copied node.entry)))) Errno.ENOTDIR or_else rule.when (machine.has_names (shown (option_copied node.entry))) Errno.ENOTEMPTY) }
+{
+    if is_root(path) {
+        return Some(Errno::EBUSY);
+    }
+    if let Some(errno) = there(look) {
+        return Some(errno);
+    }
+    if !is_folder(node) {
+        return Some(Errno::ENOTDIR);
+    }
+    when(has_names(node), Errno::ENOTEMPTY)
+}
+
+fn open_line(
+    flags: OpenFlags,
+    mode: u32,
+    look: &Look,
+    node: Option<&Node>,
+    free: Option<usize>,
+) -> Option<Errno>
+    ensures { result ≡ rule.open_refusal flags mode (look_of look.now) (shown (option_copied node.entry)) free }
+{
+    if bad_flags(flags) {
+        return Some(Errno::EINVAL);
+    }
+    if let Some(errno) = bad_mode(mode) {
+        return Some(errno);
+    }
+    if let Some(errno) = walked(look) {
+        return Some(errno);
+    }
+    if !is_found(look) && !flags.create {
+        return Some(Errno::ENOENT);
+    }
+    open_there(flags, look, node, free)
+}
+
+// The lines of an open whose path is walked and has what it needs.
+fn open_there(
+    flags: OpenFlags,
+    look: &Look,
+    node: Option<&Node>,
+    free: Option<usize>,
+) -> Option<Errno>
+    ensures { result ≡ (rule.when (machine.is_found (look_of look.now) && flags.create && flags.exclusive) Errno.EEXIST or_else rule.when (machine.is_link (shown (option_copied node.entry))) Errno.ELOOP or_else rule.when (machine.is_found (look_of look.now) && flags.directory && not (machine.is_folder (shown (option_copied node.entry)))) Errno.ENOTDIR or_else rule.when (machine.is_folder (shown (option_copied node.entry)) && (flags.writes || flags.create)) Errno.EISDIR or_else rule.when (is_none free) Errno.EMFILE) }
+{
+    if is_found(look) && flags.create && flags.exclusive {
+        return Some(Errno::EEXIST);
+    }
+    if is_link(node) {
+        return Some(Errno::ELOOP);
+    }
+    if is_found(look) && flags.directory && !is_folder(node) {
+        return Some(Errno::ENOTDIR);
+    }
+    if is_folder(node) && (flags.writes || flags.create) {
+        return Some(Errno::EISDIR);
+    }
+    when(free.is_none(), Errno::EMFILE)
+}
+
+impl Reference {
+    /// The walk of a path.
+    pub(crate) fn look(&self, path: &Path) -> Result<Look, AllocError>
+        ensures { IfOk result (λ found. look_of found ≡ machine.look (tree_of self.now.tree.slots.items) path.now) }
+    {
+        self.tree.look(self.alloc, path.names())
+    }
+
+    pub(crate) fn stat_refusal(&self, client: u32, path: &Path) -> Result<Option<Errno>, AllocError>
+        ensures { IfOk result (λ errno. errno ≡ refusal (state_of self.now) client (call.Stat path.now)) }
+    {
+        let look = self.look(path)?;
+        Ok(stat_line(&look))
+    }
+
+    pub(crate) fn readlink_refusal(
+        &self,
+        client: u32,
+        path: &Path,
+    ) -> Result<Option<Errno>, AllocError>
+        ensures { IfOk result (λ errno. errno ≡ refusal (state_of self.now) client (call.Readlink path.now)) }
+    {
+        let look = self.look(path)?;
+        let node = self.tree.node_found(&look);
+        Ok(readlink_line(&look, node))
+    }
+
+    pub(crate) fn mkdir_refusal(
+        &self,
+        client: u32,
+        path: &Path,
+        mode: u32,
+    ) -> Result<Option<Errno>, AllocError>
+        ensures { IfOk result (λ errno. errno ≡ refusal (state_of self.now) client (call.Mkdir path.now mode)) }
+    {
+        let look = self.look(path)?;
+        Ok(mkdir_line(mode, &look))
+    }
+
+    pub(crate) fn symlink_refusal(
+        &self,
+        client: u32,
+        target: &Bytes,
+        path: &Path,
+    ) -> Result<Option<Errno>, AllocError>
+        ensures { IfOk result (λ errno. errno ≡ refusal (state_of self.now) client (call.Symlink target.now path.now)) }
+    {
+        let look = self.look(path)?;
+        Ok(symlink_line(target, &look))
+    }
+
+    pub(crate) fn unlink_refusal(
+        &self,
+        client: u32,
+        path: &Path,
+    ) -> Result<Option<Errno>, AllocError>
+        ensures { IfOk result (λ errno. errno ≡ refusal (state_of self.now) client (call.Unlink path.now)) }
+    {
+        let look = self.look(path)?;
+        let node = self.tree.node_found(&look);
+        Ok(unlink_line(path, &look, node))
+    }
+
+    pub(crate) fn rmdir_refusal(
+        &self,
+        client: u32,
+        path: &Path,
+    ) -> Result<Option<Errno>, AllocError>
+        ensures { IfOk result (λ errno. errno ≡ refusal (state_of self.now) client (call.Rmdir path.now)) }
+    {
+        let look = self.look(path)?;
+        let node = self.tree.node_found(&look);
+        Ok(rmdir_line(path, &look, node))
+    }
+
+    pub(crate) fn open_refusal(
+        &self,
+        client: u32,
+        path: &Path,
+        flags: OpenFlags,
+        mode: u32,
+    ) -> Result<Option<Errno>, AllocError>
+        ensures { IfOk result (λ errno. errno ≡ refusal (state_of self.now) client (call.Open path.now flags mode)) }
+    {
+        let look = self.look(path)?;
+        let node = self.tree.node_found(&look);
+        let free = lowest_free(self.clients.as_slice(), client);
+        Ok(open_line(flags, mode, &look, node, free))
+    }
+}
