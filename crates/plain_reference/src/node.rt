@@ -2,7 +2,8 @@
 ghost use Rattle.std.specs.Prelude.{◌≡◌, IfOk, OnOk, OnErr};
 ghost use Rattle.std.specs.Option.{option_copied};
 ghost use Rattle.plain_model.specs.Tree.{with_name, shown_links};
-ghost use Rattle.plain_model.specs.Machine.{is_folder, is_link, has_names, bytes_of_node};
+ghost use Rattle.plain_model.specs.Machine.{is_link, has_names, bytes_of_node};
+ghost use Rattle.plain_model.specs.Tree.{is_folder};
 ghost use Rattle.plain_model.specs.Changes.{one_fewer, is_named, names_in};
 ghost use Rattle.plain_model.specs.Replies.{stat_of, stat_by, capped};
 ghost use Rattle.plain_reference.specs.Nodes.{shown, plain, origin_of};

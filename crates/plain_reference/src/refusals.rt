@@ -2,6 +2,7 @@
 ghost use Rattle.std.specs.Prelude.{◌≡◌, nat_eq, nat_lt, not, ◌&&◌, ◌||◌, is_none, length, IfOk};
 ghost use Rattle.std.specs.Option.{option_copied};
 ghost use Rattle.ov_base.specs.declared.call.Call.TheVariants as call;
+ghost use Rattle.plain_model.specs.Tree as plain;
 ghost use Rattle.plain_model.specs.Machine as machine;
 ghost use Rattle.plain_model.specs.Machine.{is_found, is_root};
 ghost use Rattle.plain_model.specs.Refusals as rule;
@@ -125,7 +126,7 @@ fn symlink_line(target: &Bytes, look: &Look) -> Option<Errno>
 }
 
 fn unlink_line(path: &Path, look: &Look, node: Option<&Node>) -> Option<Errno>
-    ensures { result ≡ (rule.when (machine.is_root path.now) Errno.EBUSY or_else rule.there (look_of look.now) or_else rule.when (machine.is_folder (shown (option_copied node.entry))) Errno.EISDIR) }
+    ensures { result ≡ (rule.when (machine.is_root path.now) Errno.EBUSY or_else rule.there (look_of look.now) or_else rule.when (plain.is_folder (shown (option_copied node.entry))) Errno.EISDIR) }
 {
     if is_root(path) {
         return Some(Errno::EBUSY);
@@ -137,7 +138,7 @@ fn unlink_line(path: &Path, look: &Look, node: Option<&Node>) -> Option<Errno>
 }
 
 fn rmdir_line(path: &Path, look: &Look, node: Option<&Node>) -> Option<Errno>
-    ensures { result ≡ (rule.when (machine.is_root path.now) Errno.EBUSY or_else rule.there (look_of look.now) or_else rule.when (not (machine.is_folder (shown (option_copied node.entry)))) Errno.ENOTDIR or_else rule.when (machine.has_names (shown (option_copied node.entry))) Errno.ENOTEMPTY) }
+    ensures { result ≡ (rule.when (machine.is_root path.now) Errno.EBUSY or_else rule.there (look_of look.now) or_else rule.when (not (plain.is_folder (shown (option_copied node.entry)))) Errno.ENOTDIR or_else rule.when (machine.has_names (shown (option_copied node.entry))) Errno.ENOTEMPTY) }
 {
     if is_root(path) {
         return Some(Errno::EBUSY);
@@ -182,7 +183,7 @@ fn open_there(
     node: Option<&Node>,
     free: Option<usize>,
 ) -> Option<Errno>
-    ensures { result ≡ (rule.when (machine.is_found (look_of look.now) && flags.create && flags.exclusive) Errno.EEXIST or_else rule.when (machine.is_link (shown (option_copied node.entry))) Errno.ELOOP or_else rule.when (machine.is_found (look_of look.now) && flags.directory && not (machine.is_folder (shown (option_copied node.entry)))) Errno.ENOTDIR or_else rule.when (machine.is_folder (shown (option_copied node.entry)) && (flags.writes || flags.create)) Errno.EISDIR or_else rule.when (is_none free) Errno.EMFILE) }
+    ensures { result ≡ (rule.when (machine.is_found (look_of look.now) && flags.create && flags.exclusive) Errno.EEXIST or_else rule.when (machine.is_link (shown (option_copied node.entry))) Errno.ELOOP or_else rule.when (machine.is_found (look_of look.now) && flags.directory && not (plain.is_folder (shown (option_copied node.entry)))) Errno.ENOTDIR or_else rule.when (plain.is_folder (shown (option_copied node.entry)) && (flags.writes || flags.create)) Errno.EISDIR or_else rule.when (is_none free) Errno.EMFILE) }
 {
     if is_found(look) && flags.create && flags.exclusive {
         return Some(Errno::EEXIST);
