@@ -31,6 +31,8 @@ impl Layers {
     pub fn new(upper: Layer, lowers: Vec<Layer>) -> Layers
         requires some_lower { 0 < vec_len lowers }
         requires few_lowers { vec_len lowers ≤ 16 }
+        ensures upper { result.upper ≡ upper }
+        ensures lowers { result.lowers ≡ lowers }
     {
         Layers { upper, lowers }
     }

@@ -29,7 +29,7 @@ impl Stack {
     pub fn top(&self) -> Place
         ensures { result ≡ top_of self.now.places.items }
     {
-        self.places.as_slice()[0]
+        self.places()[0]
     }
 
     /// The directories, top first.

@@ -59,10 +59,24 @@ fn bytes_of(rt: &HostRuntime, path: &str) -> Result<Vec<u8>, Fault> {
 fn report(rt: &HostRuntime, fault: &Fault) -> ExitCode {
     let told = match fault {
         Fault::CommandLine(error) => error.print(rt),
-        fault => eprintln!(rt; "overlayd: {fault}"),
+        fault => tell(rt, fault),
     };
     match told {
         Ok(()) => ExitCode::from(fault.status()),
-        Err(_) => ExitCode::from(fault.status().max(Fault::Stream.status())),
+        Err(_) => report_untold(rt, fault),
     }
+}
+
+// The same where the telling failed: for help, which standard output didn't take, it is a fault of its own.
+fn report_untold(rt: &HostRuntime, fault: &Fault) -> ExitCode {
+    if fault.status() == 0 {
+        let _ = tell(rt, &Fault::Stream);
+        ExitCode::from(Fault::Stream.status())
+    } else {
+        ExitCode::from(fault.status())
+    }
+}
+
+fn tell(rt: &HostRuntime, fault: &Fault) -> io::Result<()> {
+    eprintln!(rt; "overlayd: {fault}")
 }
