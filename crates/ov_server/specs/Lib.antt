@@ -1,14 +1,1 @@
-pub mod Escapes
-pub mod Lines
-pub mod Numbers
-pub mod Descriptors
 pub mod Objects
-pub mod Status
-pub mod Listings
-pub mod Clients
-pub mod Attaching
-pub mod ManifestEntries
-pub mod Manifests
-pub mod Mounts
-pub mod Opening
-pub mod States

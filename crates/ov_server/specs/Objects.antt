@@ -1,41 +1,16 @@
 -- The lines of objects.
-use Rattle.std.specs.Prelude.{ℕ, min, Bool, true, false, List, [], ◌∷◌, ◌++◌, cond, length, reverse, Option, Some, None, codes}
+use Rattle.std.specs.Prelude.{ℕ, Bool, true, false, List, [], ◌∷◌, ◌++◌, cond, reverse, Option, Some, None, codes}
 use Rattle.std.specs.List.{flat_map}
-use Rattle.ov_base.specs.declared.attributes.Attributes.{Attributes}
 use Rattle.ov_base.specs.declared.bytes.Content.{Content}
 use Rattle.ov_base.specs.declared.bytes.Content.TheVariants as content
 use Rattle.ov_base.specs.declared.redirect.Redirect.{Redirect}
 use Rattle.ov_base.specs.declared.redirect.Redirect.TheVariants as redirect
-use Rattle.ov_base.specs.declared.reply.ObjectKind.{ObjectKind}
-use Rattle.ov_base.specs.declared.reply.ObjectKind.TheVariants as kind
-use Rattle.ov_base.specs.declared.reply.Stat.{Stat}
 use Rattle.layer_tree.specs.declared.node.Marks.{Marks}
 use Rattle.layer_tree.specs.declared.node.Node.{Node}
 use Rattle.layer_tree.specs.declared.node.Node.TheVariants as node
-use Rattle.ov_server.specs.Escapes.{escaped_of}
-use Rattle.ov_server.specs.Lines.{stat_words}
-
--- what stat shows of an object with these attributes
-abbrev pub stat_with : ObjectKind → Attributes → ℕ → ℕ → Stat
-stat_with k a size links = record { kind = k; mode = a.mode; uid = a.uid; gid = a.gid; size = size; links = links }
-
-abbrev pub content_kind : Content → ObjectKind
-content_kind (content.File bytes) = kind.File
-content_kind (content.SymbolicLink target) = kind.SymbolicLink
-
--- the bytes of a file, or of the target of a symbolic link
-abbrev pub content_bytes : Content → List ℕ
-content_bytes (content.File bytes) = bytes
-content_bytes (content.SymbolicLink target) = target
-
--- what stat shows of a file or symbolic link with these attributes
-abbrev pub stat_of_content : Content → Attributes → ℕ → Stat
-stat_of_content c a links = stat_with (content_kind c) a (length (content_bytes c)) (min links 4294967295)
-
--- what stat shows of an object of a layer: a directory has size 0 and one link
-abbrev pub status_of : Node → Stat
-status_of (node.Directory d) = stat_with kind.Directory d.attributes 0 1
-status_of (node.Inode i) = stat_of_content i.content i.attributes i.links
+use Rattle.private_mount.specs.Status.{status_of}
+use Rattle.ov_script.specs.Escapes.{escaped_of}
+use Rattle.ov_script.specs.Lines.{stat_words}
 
 -- the text of the path of these names from the root
 abbrev pub path_text : List (List ℕ) → List ℕ

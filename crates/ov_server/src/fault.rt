@@ -1,5 +1,5 @@
 // The faults of the program.
-use crate::manifest::ManifestFault;
+use ov_wire::ManifestFault;
 use std::alloc::{AllocError, AllocFailed};
 use std::io;
 use thiserror::Error;

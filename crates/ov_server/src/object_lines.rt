@@ -3,11 +3,10 @@ ghost use Rattle.std.specs.Prelude.{Some};
 ghost use Rattle.ov_server.specs.Objects as objects;
 ghost use Rattle.ov_server.specs.Objects.{path_text, object_line, whiteout_line, words_after, mark_words, redirect_text, redirect_words};
 
-use crate::escape::Escaped;
-use crate::lines::StatWords;
-use crate::status::status_of;
 use layer_tree::{Marks, Node};
 use ov_base::{Content, Name, Redirect};
+use ov_script::{Escaped, StatWords};
+use private_mount::status_of;
 use std::fmt;
 
 /// The text of the path of these names from the root.

@@ -1,12 +1,11 @@
 // `play`: a script on a mount.
 use crate::fault::Fault;
-use crate::lines::ReplyLine;
-use crate::manifest::manifest_of;
-use crate::mount::Mount;
 use crate::print_tree::{write_layer, write_merge};
-use crate::script::{BadCommand, CallText, Command, command_of};
 use merged_lookup::Layers;
 use ov_base::{Errno, Reply};
+use ov_script::{BadCommand, CallText, Command, ReplyLine, command_of};
+use ov_wire::manifest_of;
+use private_mount::Mount;
 use std::alloc::{AllocError, Global};
 use std::io;
 use std::io::{Read, Write};

@@ -1,8 +1,8 @@
 // `show`: the merged tree of a manifest.
 use crate::fault::Fault;
-use crate::manifest::manifest_of;
 use crate::print_tree::write_merge;
 use merged_lookup::Layers;
+use ov_wire::manifest_of;
 use std::alloc::Global;
 use std::io::Write;
 

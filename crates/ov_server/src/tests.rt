@@ -1,5 +1,6 @@
 // Worked rows and outside values, by readers and writers in memory.
-use crate::{Escaped, EscapedWord, Fault, Invocation, command_line, play_run, show_run};
+use crate::{Fault, Invocation, command_line, play_run, show_run};
+use ov_script::{Escaped, EscapedWord};
 use std::alloc::Global;
 use std::io;
 use std::io::{Read, Write};

@@ -1,7 +1,7 @@
 use Rattle.std.proofs.Common.{◌∷◌, take}
 use Rattle.std.specs.List.{flat_map}
 use Rattle.std.specs.Fmt.{HasWritten, IsPlainFormatter}
-use Rattle.ov_server.specs.Escapes.{escaped_of}
+use Rattle.ov_script.specs.Escapes.{escaped_of}
 use Rattle.ov_server.proofs.object_lines.PathTextDisplay.fmt.Given as goal
 
 -- a slash and a word for each name so far is written

@@ -1,0 +1,10 @@
+use Rattle.std.proofs.Common.{take}
+use Rattle.std.specs.List.{flat_map}
+use Rattle.std.specs.Fmt.{HasWritten, IsPlainFormatter}
+use Rattle.ov_script.specs.Lines.{word_after}
+use Rattle.ov_script.proofs.lines.NameWordsDisplay.fmt.Given as goal
+
+-- a word for each so far is written
+abbrev pub invariant-loop-name : goal.invariant-loop-name
+invariant-loop-name g l =
+    IsPlainFormatter l.initial.f → HasWritten g.W.Write.write_str_gives l.initial.f (flat_map word_after (take l.name-index l.name-items)) l.f

@@ -1,0 +1,10 @@
+//! Scripts: the commands that lines spell, and the lines that answer them.
+#![tactic(auto)]
+
+mod escape;
+mod lines;
+mod script;
+
+pub use escape::{Escaped, EscapedWord};
+pub use lines::{ReplyLine, StatWords};
+pub use script::{BadCommand, CallText, Command, command_of};

@@ -1,7 +1,0 @@
-use Rattle.std.proofs.Common.{◌≡◌, ◌∷◌, rules}
-use Rattle.ov_server.specs.Escapes.{spelled}
-use Rattle.ov_server.proofs.Escapes.{is_some_after}
-use Rattle.ov_server.proofs.escape.is_escaped.Goals as goal
-
-pub word-preserved : goal.word-preserved
-word-preserved c = is_some_after _ (spelled c.args.word.now) (spelled c.word.rest.now) (spelled c.in-Some.after.now) c.in-Some.ensures.some c.word.invariant

@@ -1,8 +1,0 @@
-use Rattle.ov_server.specs.Manifests.{is_table}
-use Rattle.ov_server.proofs.Tables.{items_all-view}
-use Rattle.ov_server.proofs.manifest.is_array_of_tables.Goals as goal
-
-pub returns-in-Some : goal.returns-in-Some
-returns-in-Some c =
-    let items = rw c.in-Some.is at c.as_array.ensures in
-    rw (← items, items_all-view is_table _) (rw c.deref.ensures.value at c.are_tables.ensures)

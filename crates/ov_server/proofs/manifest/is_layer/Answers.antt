@@ -1,8 +1,0 @@
-use Rattle.ov_server.specs.Manifests.{is_layer_key}
-use Rattle.ov_server.proofs.Tables.{members_all-view}
-use Rattle.ov_server.proofs.manifest.is_layer.Goals as goal
-
-pub returns-in-Some : goal.returns-in-Some
-returns-in-Some c =
-    let keys = rw c.in-Some.is at c.as_table.ensures in
-    rw (← keys, members_all-view is_layer_key _) c.has_layer_keys.ensures

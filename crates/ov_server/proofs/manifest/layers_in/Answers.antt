@@ -1,7 +1,0 @@
-use Rattle.std.proofs.Common.{◌∙◌, ap, sym}
-use Rattle.ov_server.specs.Manifests.{items_len}
-use Rattle.ov_server.proofs.Tables.{items_len-view}
-use Rattle.ov_server.proofs.manifest.layers_in.Goals as goal
-
-pub returns : goal.returns
-returns c = sym (items_len-view c.array_at.result.now) ∙ ap items_len c.array_at.ensures

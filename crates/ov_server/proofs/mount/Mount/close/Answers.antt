@@ -1,5 +1,0 @@
-use Rattle.ov_server.proofs.Answering.{close-done}
-use Rattle.ov_server.proofs.mount.Mount.close.Goals as goal
-
-pub returns-in-Ok : goal.returns-in-Ok
-returns-in-Ok c = λ s st. close-done c.args.self.now s st c.args.client c.args.descriptor c.close.new.self c.in-Ok.ensures

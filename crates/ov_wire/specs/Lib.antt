@@ -1,0 +1,2 @@
+pub mod ManifestEntries
+pub mod Manifests

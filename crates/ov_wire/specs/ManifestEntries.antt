@@ -1,0 +1,126 @@
+-- What an entry of a manifest says: its kind, its path and what it puts there, or its first fault before it is placed.
+use Rattle.std.specs.Prelude.{◌≡◌, codes, ℕ, ℤ, pos, negsuc, List, [], Bool, true, false, ◌&&◌, ◌||◌, nat_le, nat_lt, length, Option, Some, None, is_some, Result, Ok, Err, IsTrue, if◌then◌else◌}
+use Rattle.std.specs.Option.{option_and_then, ok_or, unwrap_or}
+use Rattle.std.specs.Result.{result_ok}
+use Rattle.std.specs.Str.{bytes_eq}
+use Rattle.toml.specs.Data.{Data, Members, no_members, member, get_member, as_str, as_integer}
+use Rattle.ov_base.specs.Paths.{path_of_text}
+use Rattle.ov_base.specs.declared.attributes.Attributes.{Attributes}
+use Rattle.ov_base.specs.declared.bytes.Content.TheVariants as content
+use Rattle.layer_tree.specs.Tree.{leads_on, seen_object}
+use Rattle.layer_tree.specs.declared.node.Object.TheVariants as object
+use Rattle.ov_wire.specs.declared.manifest.entry.EntryKind.{EntryKind}
+use Rattle.ov_wire.specs.declared.manifest.entry.EntryKind.TheVariants as kind
+use Rattle.ov_wire.specs.declared.manifest.entry.Item.{Item}
+use Rattle.ov_wire.specs.declared.manifest.entry.Item.TheVariants as item
+use Rattle.ov_wire.specs.declared.manifest.fault.EntryFault.{EntryFault}
+use Rattle.ov_wire.specs.declared.manifest.fault.EntryFault.TheVariants as fault
+use Rattle.ov_wire.specs.declared.manifest.fault.EntryError.{EntryError}
+use Rattle.ov_wire.specs.declared.manifest.fault.EntryError.TheVariants as error
+
+-- the next step, where there was no fault
+abbrev pub and_then : {T U E : Type 0} → Result T E → (T → Result U E) → Result U E
+and_then (Ok x) step = step x
+and_then (Err e) step = Err e
+
+-- this is answered, unless memory ran out
+abbrev pub Answers : {T : Type 0} → Result T EntryError → Result T EntryFault → Type 0
+Answers (Ok x) wanted = wanted ≡ Ok x
+Answers (Err (error.Fault f)) wanted = wanted ≡ Err f
+Answers (Err (error.Memory e)) wanted = Unit {0}
+
+-- each key with its value passes the test
+abbrev pub members_all : (List ℕ → Data → Bool) → Members → Bool
+members_all test no_members = true
+members_all test (member key value rest) = test key value && members_all test rest
+
+-- the text at a key, where there is one
+abbrev pub text_at : List ℕ → Members → Option (List ℕ)
+text_at key entry = option_and_then as_str (get_member key entry)
+
+-- the kind that a text names
+abbrev pub kind_named : List ℕ → Option EntryKind
+kind_named text =
+    if bytes_eq text (codes "dir") then Some kind.Directory
+    else (if bytes_eq text (codes "file") then Some kind.File
+    else (if bytes_eq text (codes "whiteout") then Some kind.Whiteout
+    else None))
+
+-- the kind that an entry names
+abbrev pub kind_of : Members → Result EntryKind EntryFault
+kind_of entry = ok_or (option_and_then kind_named (text_at (codes "kind") entry)) fault.Kind
+
+-- the path that an entry names
+abbrev pub path_of : Members → Result (List (List ℕ)) EntryFault
+path_of entry = ok_or (option_and_then (λ text. result_ok (path_of_text text)) (text_at (codes "path") entry)) fault.Path
+
+-- directories and files have a mode and an owner
+abbrev pub has_attributes : EntryKind → Bool
+has_attributes kind.Whiteout = false
+has_attributes _ = true
+
+-- files have bytes
+abbrev pub has_bytes : EntryKind → Bool
+has_bytes kind.File = true
+has_bytes _ = false
+
+-- whether an entry of the kind may have this key, with such a value
+abbrev pub takes : EntryKind → List ℕ → Data → Bool
+takes k key value =
+    if bytes_eq key (codes "path") || bytes_eq key (codes "kind") then is_some (as_str value)
+    else (if bytes_eq key (codes "mode") || bytes_eq key (codes "uid") || bytes_eq key (codes "gid") then has_attributes k && is_some (as_integer value)
+    else (if bytes_eq key (codes "text") then has_bytes k && is_some (as_str value)
+    else false))
+
+-- a number of 0 to the most
+abbrev pub within : ℕ → ℤ → Result ℕ EntryFault
+within most (pos n) = if nat_le n most then Ok n else Err fault.Value
+within most (negsuc n) = Err fault.Value
+
+-- a number, or what stands in its place where there is none
+abbrev pub number_in : ℕ → ℕ → Option ℤ → Result ℕ EntryFault
+number_in most default (Some z) = within most z
+number_in most default None = Ok default
+
+-- the number at a key
+abbrev pub number_at : List ℕ → ℕ → ℕ → Members → Result ℕ EntryFault
+number_at key most default entry = number_in most default (option_and_then as_integer (get_member key entry))
+
+-- the attributes that an entry gives, with this mode where it gives none
+abbrev pub attributes_of : ℕ → Members → Result Attributes EntryFault
+attributes_of default_mode entry =
+    and_then (number_at (codes "mode") 4095 default_mode entry) (λ mode.
+    and_then (number_at (codes "uid") 4294967295 0 entry) (λ uid.
+    and_then (number_at (codes "gid") 4294967295 0 entry) (λ gid.
+    Ok (record { mode = mode; uid = uid; gid = gid; user = [] }))))
+
+-- the bytes that an entry gives, at most 1,048,576
+abbrev pub bytes_of : Members → Result (List ℕ) EntryFault
+bytes_of entry = let text = unwrap_or (text_at (codes "text") entry) [] in if nat_lt 1048576 (length text) then Err fault.Value else Ok text
+
+-- a directory without marks
+abbrev pub plain_directory : Attributes → Item
+plain_directory a = item.Object (object.Directory a (record { opaque = false; redirect = None }))
+
+-- what an entry of the kind puts at its path
+abbrev pub item_of : EntryKind → Members → Result Item EntryFault
+item_of kind.Directory entry = and_then (attributes_of 493 entry) (λ a. Ok (plain_directory a))
+item_of kind.File entry = and_then (attributes_of 420 entry) (λ a. and_then (bytes_of entry) (λ bytes. Ok (item.Object (object.Inode (content.File bytes) a))))
+item_of kind.Whiteout entry = Ok item.Whiteout
+
+-- the keys are those of the kind
+abbrev pub checked : EntryKind → Members → Result (Unit {0}) EntryFault
+checked k entry = if members_all (takes k) entry then Ok tt else Err fault.Key
+
+-- WHAT AN ENTRY SAYS: its path and what stands there, or the first of its faults `kind`, `path`, `key` and `value`
+abbrev pub read : Members → Result (List (List ℕ) × Item) EntryFault
+read entry =
+    and_then (kind_of entry) (λ k.
+    and_then (path_of entry) (λ path.
+    and_then (checked k entry) (λ _.
+    and_then (item_of k entry) (λ i. Ok (path, i)))))
+
+-- a layer takes it: an absolute redirect of a directory has at least one name
+abbrev pub IsPlaceable : Item → Type 0
+IsPlaceable (item.Object o) = IsTrue (leads_on (Some (seen_object 0 o)))
+IsPlaceable item.Whiteout = Unit {0}

@@ -1,0 +1,101 @@
+-- What a manifest says as a whole: its options and how many layers it has, or the first of its faults that are of no entry.
+use Rattle.std.specs.Prelude.{◌≡◌, codes, ℕ, ℤ, pos, negsuc, List, Bool, true, false, ◌&&◌, nat_le, nat_eq, suc, is_some, Result, Ok, Err, if◌then◌else◌}
+use Rattle.std.specs.Option.{option_and_then, option_map_or, unwrap_or}
+use Rattle.std.specs.Str.{bytes_eq}
+use Rattle.toml.specs.Data.{Data, Items, no_items, item, Members, get_member, as_str, as_integer, as_array, as_table}
+use Rattle.ov_base.specs.declared.options.Options.{Options}
+use Rattle.ov_wire.specs.ManifestEntries.{and_then, members_all, text_at}
+use Rattle.ov_wire.specs.declared.manifest.fault.ManifestFault.{ManifestFault}
+use Rattle.ov_wire.specs.declared.manifest.fault.ManifestFault.TheVariants as fault
+
+-- each item passes the test
+abbrev pub items_all : (Data → Bool) → Items → Bool
+items_all test no_items = true
+items_all test (item d rest) = test d && items_all test rest
+
+-- how many items there are
+abbrev pub items_len : Items → ℕ
+items_len no_items = 0
+items_len (item d rest) = suc (items_len rest)
+
+-- an array, and each of its items passes the test
+abbrev pub is_array_of : (Data → Bool) → Data → Bool
+is_array_of test d = option_map_or (items_all test) (as_array d) false
+
+abbrev pub is_table : Data → Bool
+is_table d = is_some (as_table d)
+
+-- a layer may have the key `entry`, an array of tables
+abbrev pub is_layer_key : List ℕ → Data → Bool
+is_layer_key key value = bytes_eq key (codes "entry") && is_array_of is_table value
+
+-- a table of such keys
+abbrev pub is_layer : Data → Bool
+is_layer d = option_map_or (members_all is_layer_key) (as_table d) false
+
+-- the keys at the top, each with a value of its type
+abbrev pub is_top_key : List ℕ → Data → Bool
+is_top_key key value =
+    if bytes_eq key (codes "redirect_dir") then is_some (as_str value)
+    else (if bytes_eq key (codes "history") then is_some (as_integer value)
+    else (if bytes_eq key (codes "layer") then is_array_of is_layer value
+    else false))
+
+-- whether redirects are made, by the word for it
+abbrev pub redirects_named : List ℕ → Result Bool ManifestFault
+redirects_named word =
+    if bytes_eq word (codes "on") then Ok true
+    else (if bytes_eq word (codes "off") then Ok false
+    else Err fault.RedirectDir)
+
+-- whether redirects are made; without the key they are not
+abbrev pub redirects_of : Members → Result Bool ManifestFault
+redirects_of manifest = option_map_or redirects_named (text_at (codes "redirect_dir") manifest) (Ok false)
+
+-- a length of 2 to 1,000,000
+abbrev pub history_within : ℤ → Result ℕ ManifestFault
+history_within (pos n) = if nat_le 2 n && nat_le n 1000000 then Ok n else Err fault.History
+history_within (negsuc n) = Err fault.History
+
+-- the length of the history, 100,000 without the key
+abbrev pub history_of : Members → Result ℕ ManifestFault
+history_of manifest = history_within (unwrap_or (option_and_then as_integer (get_member (codes "history") manifest)) (pos 100000))
+
+-- the array at a key, none without it
+abbrev pub items_at : List ℕ → Members → Items
+items_at key table = unwrap_or (option_and_then as_array (get_member key table)) no_items
+
+-- how many layers there are
+abbrev pub layer_count : Members → ℕ
+layer_count manifest = items_len (items_at (codes "layer") manifest)
+
+-- the entries of a layer, none without the key
+abbrev pub entries_in : Data → Items
+entries_in layer = option_map_or (items_at (codes "entry")) (as_table layer) no_items
+
+-- each key at the top is one of these
+abbrev pub checked : Members → Result (Unit {0}) ManifestFault
+checked manifest = if members_all is_top_key manifest then Ok tt else Err fault.Key
+
+-- the options, or a fault of the whole
+abbrev pub options_of : Members → Result Options ManifestFault
+options_of manifest =
+    and_then (checked manifest) (λ _.
+    and_then (redirects_of manifest) (λ redirects.
+    and_then (history_of manifest) (λ history. Ok (record { redirects = redirects; history = history }))))
+
+-- the options of a manifest of two layers, or THE FIRST FAULT OF THE WHOLE: `key`, `redirect_dir`, `history`, `layers`
+abbrev pub whole_of : Members → Result Options ManifestFault
+whole_of manifest = and_then (options_of manifest) (λ options. if nat_eq (layer_count manifest) 2 then Ok options else Err fault.Layers)
+
+-- a fault of an entry, or want of memory
+abbrev pub IsOfEntry : ManifestFault → Type 0
+IsOfEntry (fault.Entry layer entry f) = Unit {0}
+IsOfEntry (fault.Memory e) = Unit {0}
+IsOfEntry _ = ⊥
+
+-- the fault is this one, unless memory ran out
+abbrev pub Refuses : {T : Type 0} → Result T ManifestFault → ManifestFault → Type 0
+Refuses (Ok x) wanted = ⊥
+Refuses (Err (fault.Memory e)) wanted = Unit {0}
+Refuses (Err f) wanted = f ≡ wanted

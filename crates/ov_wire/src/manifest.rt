@@ -1,0 +1,240 @@
+// Manifests: the layers and options of a mount, as TOML.
+ghost use Rattle.std.specs.Prelude.{◌≡◌, ◌≢◌, Ok, Err, IsOk, IsSome, length, IfOk, IfErr, Some, None, option_map, string_bytes, IsUtf8};
+ghost use Rattle.std.specs.List.{list_all};
+ghost use Rattle.std.specs.Vec.{vec_len};
+ghost use Rattle.toml.specs.Data.{Members};
+ghost use Rattle.toml.specs.Parse.{parse_document};
+ghost use Rattle.toml.specs.View.{view, table_view, items_view};
+ghost use Rattle.ov_wire.specs.Manifests.{IsOfEntry, Refuses};
+ghost use Rattle.ov_wire.specs.Manifests as spec;
+
+mod entry;
+mod fault;
+mod place;
+
+use entry::{text_at, value_at};
+pub use fault::{EntryFault, ManifestFault};
+use layer_tree::Layer;
+use ov_base::Options;
+use place::read_layer;
+use std::alloc::{AllocError, Global};
+use toml::{Table, Value};
+
+/// How many layers a manifest has: the upper and one lower.
+const LAYERS: usize = 2;
+
+/// The least and the greatest length of the history, and the length where none is given.
+const HISTORY_LEAST: i64 = 2;
+
+const HISTORY_MOST: i64 = 1_000_000;
+
+const HISTORY_DEFAULT: i64 = 100_000;
+
+/// The layers and options that the bytes of a manifest spell: the upper, then the lowers from the top.
+pub fn manifest_of(
+    alloc: Global,
+    bytes: &[u8],
+) -> Result<(Layer, Vec<Layer>, Options), ManifestFault>
+    ensures not_utf8 { (IsUtf8 bytes.now → ⊥) → Refuses result ManifestFault.NotToml }
+    ensures not_toml { parse_document bytes.now ≡ None → Refuses result ManifestFault.NotToml }
+    ensures toml { IsUtf8 bytes.now → IsSome (parse_document bytes.now) → result ≢ Err ManifestFault.NotToml }
+    ensures whole { (m : Members) → IsUtf8 bytes.now → parse_document bytes.now ≡ Some m → IfErr (spec.whole_of m) (Refuses result) }
+    ensures one_lower { IfOk result (λ r. vec_len r.1 ≡ 1) }
+    ensures options { IfOk result (λ r. option_map spec.whole_of (parse_document bytes.now) ≡ Some (Ok r.2)) }
+{
+    match toml::table_from_slice(alloc, bytes) {
+        Ok(manifest) => layers_of(alloc, &manifest),
+        Err(fault) => {
+            if fault.is_memory() {
+                Err(ManifestFault::Memory(AllocError))
+            } else {
+                Err(ManifestFault::NotToml)
+            }
+        }
+    }
+}
+
+/// The layers and options of a manifest: the upper, then the lowers from the top. The faults of the whole come first, then
+/// those of the layers and of their entries in their order.
+pub fn layers_of(
+    alloc: Global,
+    manifest: &Table,
+) -> Result<(Layer, Vec<Layer>, Options), ManifestFault>
+    ensures whole { IfErr (spec.whole_of (table_view manifest.now)) (λ fault. result ≡ Err fault) }
+    ensures toml { result ≢ Err ManifestFault.NotToml }
+    ensures entries { IsOk (spec.whole_of (table_view manifest.now)) → IfErr result IsOfEntry }
+    ensures one_lower { IfOk result (λ r. vec_len r.1 ≡ 1) }
+    ensures options { IfOk result (λ r. spec.whole_of (table_view manifest.now) ≡ Ok r.2) }
+{
+    let options = options_of(manifest)?;
+    let [upper, lower] = layers_in(manifest) else {
+        return Err(ManifestFault::Layers);
+    };
+    let upper = read_layer(alloc, 0, entries_in(upper))?;
+    let mut lowers = Vec::with_capacity(alloc, LAYERS - 1)?;
+    lowers.push(read_layer(alloc, 1, entries_in(lower))?)?;
+    Ok((upper, lowers, options))
+}
+
+// The options, where no key of the whole is at fault.
+fn options_of(manifest: &Table) -> Result<Options, ManifestFault>
+    ensures { result ≡ spec.options_of (table_view manifest.now) }
+{
+    check_keys(manifest)?;
+    let redirects = redirects_of(manifest)?;
+    let history = history_of(manifest)?;
+    Ok(Options { redirects, history })
+}
+
+fn check_keys(manifest: &Table) -> Result<(), ManifestFault>
+    ensures { result ≡ spec.checked (table_view manifest.now) }
+{
+    if has_top_keys(manifest) {
+        Ok(())
+    } else {
+        Err(ManifestFault::Key)
+    }
+}
+
+fn has_top_keys(manifest: &Table) -> bool
+    ensures { result ≡ list_all (λ e. spec.is_top_key (string_bytes e.0) (view e.1)) manifest.now.entries }
+{
+    manifest
+        .iter()
+        .all(|(key, value)| is_top_key(key.as_str(), value))
+}
+
+// Whether the key may stand at the top, with such a value.
+fn is_top_key(key: &str, value: &Value) -> bool
+    ensures { result ≡ spec.is_top_key key.now (view value.now) }
+{
+    match key {
+        "redirect_dir" => value.is_str(),
+        "history" => value.is_integer(),
+        "layer" => is_array_of_layers(value),
+        _ => false,
+    }
+}
+
+fn is_array_of_layers(value: &Value) -> bool
+    ensures { result ≡ spec.is_array_of spec.is_layer (view value.now) }
+{
+    match value.as_array() {
+        Some(layers) => are_layers(layers),
+        None => false,
+    }
+}
+
+fn are_layers(layers: &[Value]) -> bool
+    ensures { result ≡ list_all (λ v. spec.is_layer (view v)) layers.now }
+{
+    layers.iter().all(|layer| is_layer(layer))
+}
+
+// Whether it is a table with at most the key `entry`, an array of tables.
+fn is_layer(layer: &Value) -> bool
+    ensures { result ≡ spec.is_layer (view layer.now) }
+{
+    match layer.as_table() {
+        Some(keys) => has_layer_keys(keys),
+        None => false,
+    }
+}
+
+fn has_layer_keys(layer: &Table) -> bool
+    ensures { result ≡ list_all (λ e. spec.is_layer_key (string_bytes e.0) (view e.1)) layer.now.entries }
+{
+    layer
+        .iter()
+        .all(|(key, value)| is_layer_key(key.as_str(), value))
+}
+
+fn is_layer_key(key: &str, value: &Value) -> bool
+    ensures { result ≡ spec.is_layer_key key.now (view value.now) }
+{
+    key == "entry" && is_array_of_tables(value)
+}
+
+fn is_array_of_tables(value: &Value) -> bool
+    ensures { result ≡ spec.is_array_of spec.is_table (view value.now) }
+{
+    match value.as_array() {
+        Some(values) => are_tables(values),
+        None => false,
+    }
+}
+
+fn are_tables(values: &[Value]) -> bool
+    ensures { result ≡ list_all (λ v. spec.is_table (view v)) values.now }
+{
+    values.iter().all(|value| value.is_table())
+}
+
+// Whether renames of merged directories make redirects; without the key they don't.
+fn redirects_of(manifest: &Table) -> Result<bool, ManifestFault>
+    ensures { result ≡ spec.redirects_of (table_view manifest.now) }
+{
+    match text_at(manifest, "redirect_dir") {
+        Some(word) => redirects_named(word),
+        None => Ok(false),
+    }
+}
+
+fn redirects_named(word: &str) -> Result<bool, ManifestFault>
+    ensures { result ≡ spec.redirects_named word.now }
+{
+    match word {
+        "on" => Ok(true),
+        "off" => Ok(false),
+        _ => Err(ManifestFault::RedirectDir),
+    }
+}
+
+fn history_of(manifest: &Table) -> Result<u32, ManifestFault>
+    ensures { result ≡ spec.history_of (table_view manifest.now) }
+{
+    let history = value_at(manifest, "history")
+        .and_then(Value::as_integer)
+        .unwrap_or(HISTORY_DEFAULT);
+    history_within(history)
+}
+
+fn history_within(history: i64) -> Result<u32, ManifestFault>
+    ensures { result ≡ spec.history_within history }
+{
+    if history >= HISTORY_LEAST && history <= HISTORY_MOST {
+        Ok(history as u32)
+    } else {
+        Err(ManifestFault::History)
+    }
+}
+
+// The layers, the upper first; none where there is no such key.
+fn layers_in(manifest: &Table) -> &[Value]
+    ensures { length result.now ≡ spec.layer_count (table_view manifest.now) }
+{
+    array_at(manifest, "layer")
+}
+
+// The entries of a layer; none where there is no such key.
+fn entries_in(layer: &Value) -> &[Value]
+    ensures { items_view result.now ≡ spec.entries_in (view layer.now) }
+{
+    match layer.as_table() {
+        Some(keys) => array_at(keys, "entry"),
+        None => &[],
+    }
+}
+
+// The array at a key; empty where there is none.
+fn array_at<'a>(table: &'a Table, key: &str) -> &'a [Value]
+    ensures { items_view result.now ≡ spec.items_at key.now (table_view table.now) }
+{
+    match value_at(table, key).and_then(Value::as_array) {
+        Some(items) => items.as_slice(),
+        None => &[],
+    }
+}
+
+#[cfg(test)]
+mod tests;

@@ -1,0 +1,239 @@
+// One entry of a layer: its kind, its path and what it puts there.
+ghost use Rattle.std.specs.Prelude.{◌≡◌, [], ◌≤◌, IfOk, option_map, option_copied, string_bytes};
+ghost use Rattle.std.specs.List.{list_all};
+ghost use Rattle.std.specs.Option.{option_and_then};
+ghost use Rattle.toml.specs.Data.{as_integer, as_str, get_member};
+ghost use Rattle.toml.specs.View.{view, table_view};
+ghost use Rattle.ov_wire.specs.ManifestEntries.{Answers, IsPlaceable};
+ghost use Rattle.ov_wire.specs.ManifestEntries as spec;
+
+use super::fault::{EntryError, EntryFault};
+use layer_tree::{Marks, Object};
+use ov_base::{Attributes, Bytes, Content, Path, UserAttributes};
+use std::alloc::Global;
+use toml::{Table, Value};
+
+/// The twelve mode bits.
+const MODE_MOST: u32 = 0o7777;
+
+/// The mode of a directory that gives none, the root too.
+const DIRECTORY_MODE: u32 = 0o755;
+
+/// The mode of a file that gives none.
+const FILE_MODE: u32 = 0o644;
+
+/// The most bytes of a file.
+const FILE_MOST: usize = 1_048_576;
+
+/// The kinds of entries.
+#[derive(Clone, Copy, Debug, PartialEq, Eq)]
+pub(super) enum EntryKind {
+    Directory,
+    File,
+    Whiteout,
+}
+
+/// What an entry puts at its path.
+#[derive(Drop)]
+pub(super) enum Item {
+    Object(Object),
+    Whiteout,
+}
+
+// The path of an entry and what it puts there. The faults are looked for in the order `kind`, `path`, `key`, `value`.
+pub(super) fn read(alloc: Global, entry: &Table) -> Result<(Path, Item), EntryError>
+    ensures answer { Answers result (spec.read (table_view entry.now)) }
+    ensures placeable { IfOk result (λ r. IsPlaceable r.1) }
+{
+    let kind = kind_of(entry)?;
+    let path = path_of(alloc, entry)?;
+    check_keys(kind, entry)?;
+    let item = item_of(alloc, kind, entry)?;
+    Ok((path, item))
+}
+
+// The kind that an entry names.
+fn kind_of(entry: &Table) -> Result<EntryKind, EntryFault>
+    ensures { result ≡ spec.kind_of (table_view entry.now) }
+{
+    text_at(entry, "kind")
+        .and_then(kind_named)
+        .ok_or(EntryFault::Kind)
+}
+
+fn kind_named(text: &str) -> Option<EntryKind>
+    ensures { result ≡ spec.kind_named text.now }
+{
+    match text {
+        "dir" => Some(EntryKind::Directory),
+        "file" => Some(EntryKind::File),
+        "whiteout" => Some(EntryKind::Whiteout),
+        _ => None,
+    }
+}
+
+// The path that an entry names.
+fn path_of(alloc: Global, entry: &Table) -> Result<Path, EntryError>
+    ensures { Answers result (spec.path_of (table_view entry.now)) }
+{
+    let Some(text) = text_at(entry, "path") else {
+        return Err(EntryError::Fault(EntryFault::Path));
+    };
+    match Path::parse(alloc, text.as_bytes())? {
+        Ok(path) => Ok(path),
+        Err(_) => Err(EntryError::Fault(EntryFault::Path)),
+    }
+}
+
+// Each key has to be one that this kind takes, with a value of its type.
+fn check_keys(kind: EntryKind, entry: &Table) -> Result<(), EntryFault>
+    ensures { result ≡ spec.checked kind (table_view entry.now) }
+{
+    if takes_all(kind, entry) {
+        Ok(())
+    } else {
+        Err(EntryFault::Key)
+    }
+}
+
+fn takes_all(kind: EntryKind, entry: &Table) -> bool
+    ensures { result ≡ list_all (λ e. spec.takes kind (string_bytes e.0) (view e.1)) entry.now.entries }
+{
+    entry
+        .iter()
+        .all(|(key, value)| takes(kind, key.as_str(), value))
+}
+
+// Whether an entry of this kind may have this key, with such a value.
+fn takes(kind: EntryKind, key: &str, value: &Value) -> bool
+    ensures { result ≡ spec.takes kind key.now (view value.now) }
+{
+    match key {
+        "path" | "kind" => value.is_str(),
+        "mode" | "uid" | "gid" => has_attributes(kind) && value.is_integer(),
+        "text" => has_bytes(kind) && value.is_str(),
+        _ => false,
+    }
+}
+
+fn has_attributes(kind: EntryKind) -> bool
+    ensures { result ≡ spec.has_attributes kind }
+{
+    match kind {
+        EntryKind::Directory | EntryKind::File => true,
+        EntryKind::Whiteout => false,
+    }
+}
+
+fn has_bytes(kind: EntryKind) -> bool
+    ensures { result ≡ spec.has_bytes kind }
+{
+    match kind {
+        EntryKind::File => true,
+        EntryKind::Directory | EntryKind::Whiteout => false,
+    }
+}
+
+// What the entry of this kind puts at its path, where its values are in their ranges.
+fn item_of(alloc: Global, kind: EntryKind, entry: &Table) -> Result<Item, EntryError>
+    ensures answer { Answers result (spec.item_of kind (table_view entry.now)) }
+    ensures placeable { IfOk result IsPlaceable }
+{
+    match kind {
+        EntryKind::Directory => Ok(directory(directory_attributes(alloc, entry)?)),
+        EntryKind::File => {
+            let attributes = attributes_of(alloc, entry, FILE_MODE)?;
+            let content = Content::File(bytes_of(alloc, entry)?);
+            Ok(Item::Object(Object::Inode(content, attributes)))
+        }
+        EntryKind::Whiteout => Ok(Item::Whiteout),
+    }
+}
+
+// A directory without marks.
+fn directory(attributes: Attributes) -> Item
+    ensures { result ≡ spec.plain_directory attributes }
+{
+    let marks = Marks {
+        opaque: false,
+        redirect: None,
+    };
+    Item::Object(Object::Directory(attributes, marks))
+}
+
+// The mode and owner that an entry of kind `dir` gives.
+pub(super) fn directory_attributes(alloc: Global, entry: &Table) -> Result<Attributes, EntryFault>
+    ensures { result ≡ spec.attributes_of 493 (table_view entry.now) }
+{
+    attributes_of(alloc, entry, DIRECTORY_MODE)
+}
+
+// The attributes of a root that no entry sets.
+pub(super) fn default_attributes(alloc: Global) -> Attributes
+    ensures { result ≡ record { mode = 493; uid = 0; gid = 0; user = [] } }
+{
+    Attributes {
+        mode: DIRECTORY_MODE,
+        uid: 0,
+        gid: 0,
+        user: UserAttributes::new(alloc),
+    }
+}
+
+fn attributes_of(alloc: Global, entry: &Table, default_mode: u32) -> Result<Attributes, EntryFault>
+    ensures { result ≡ spec.attributes_of default_mode (table_view entry.now) }
+{
+    let mode = number_at(entry, "mode", MODE_MOST, default_mode)?;
+    let uid = number_at(entry, "uid", u32::MAX, 0)?;
+    let gid = number_at(entry, "gid", u32::MAX, 0)?;
+    Ok(Attributes {
+        mode,
+        uid,
+        gid,
+        user: UserAttributes::new(alloc),
+    })
+}
+
+// The bytes of an entry of kind `file`.
+fn bytes_of(alloc: Global, entry: &Table) -> Result<Bytes, EntryError>
+    ensures { Answers result (spec.bytes_of (table_view entry.now)) }
+{
+    let text = text_at(entry, "text").unwrap_or("");
+    if text.len() > FILE_MOST {
+        return Err(EntryError::Fault(EntryFault::Value));
+    }
+    Ok(Bytes::from_slice(alloc, text.as_bytes())?)
+}
+
+// The whole number at a key, which may be at most `most`; `default` without one.
+fn number_at(entry: &Table, key: &str, most: u32, default: u32) -> Result<u32, EntryFault>
+    ensures { result ≡ spec.number_at key.now most default (table_view entry.now) }
+{
+    match value_at(entry, key).and_then(Value::as_integer) {
+        Some(number) => number_within(most, number),
+        None => Ok(default),
+    }
+}
+
+fn number_within(most: u32, number: i64) -> Result<u32, EntryFault>
+    ensures { result ≡ spec.within most number }
+{
+    if number >= 0 && number <= most as i64 {
+        Ok(number as u32)
+    } else {
+        Err(EntryFault::Value)
+    }
+}
+
+// The text at a key, where there is one.
+pub(super) fn text_at<'a>(entry: &'a Table, key: &str) -> Option<&'a str>
+    ensures { option_copied result ≡ spec.text_at key.now (table_view entry.now) }
+{
+    value_at(entry, key)?.as_str()
+}
+
+pub(super) fn value_at<'a>(table: &'a Table, key: &str) -> Option<&'a Value>
+    ensures { option_map (λ v. view v.now) result ≡ get_member key.now (table_view table.now) }
+{
+    table.get(key)
+}
