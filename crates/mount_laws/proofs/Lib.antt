@@ -3,3 +3,4 @@ pub mod Opens
 pub mod Lists
 pub mod Makes
 pub mod Places
+pub mod Refusing

@@ -1,5 +1,7 @@
 // The laws of the machine on a mount of layers, each as the contract of a function that does nothing.
+ghost use Rattle.mount_laws.specs.Leaves.{LawOfReadlink, LawOfSymlink};
 ghost use Rattle.mount_laws.specs.Looks.{LawOfBadDescriptors, LawOfBeginning, LawOfClose, LawOfDirectories, LawOfList, LawOfMade, LawOfMkdir, LawOfOpen, LawOfPlacedDirectory, LawOfPlacedParent, LawOfStat, LawOfWalks};
+ghost use Rattle.mount_laws.specs.Removals.{LawOfRmdir, LawOfUnlink};
 
 /// A mount begins as one of its layers.
 pub fn law_of_beginning()
@@ -62,4 +64,24 @@ pub fn law_of_placed_parent()
 /// that is gained (overlayfs.rst, "whiteouts and opaque directories").
 pub fn law_of_placed_directory()
     ensures { LawOfPlacedDirectory }
+{}
+
+/// `unlink` is refused for the root, then as the layers' walk is, then where they show a directory.
+pub fn law_of_unlink()
+    ensures { LawOfUnlink }
+{}
+
+/// `rmdir` is refused for the root, then as the layers' walk is, then where they show no directory, then where they show a name in it.
+pub fn law_of_rmdir()
+    ensures { LawOfRmdir }
+{}
+
+/// `symlink` is refused for its target, then as the layers' walk of the parents is, then where they show something.
+pub fn law_of_symlink()
+    ensures { LawOfSymlink }
+{}
+
+/// `readlink` is refused as the layers' walk is, then where they show no symbolic link, and answers the target of the link.
+pub fn law_of_readlink()
+    ensures { LawOfReadlink }
 {}
