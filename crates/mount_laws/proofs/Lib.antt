@@ -4,3 +4,4 @@ pub mod Lists
 pub mod Makes
 pub mod Places
 pub mod Refusing
+pub mod Alters

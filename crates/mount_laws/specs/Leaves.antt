@@ -1,12 +1,16 @@
 -- What symlink and readlink do on the merge of layers, told by what the layers show (POSIX.1-2017, symlink() and readlink(), as Linux's
 -- namei.c asks for their errors).
-use Rattle.std.specs.Prelude.{◌≡◌, ℕ, not, List, ◌∷◌, Option, None, Some, nat_eq, nat_lt, is_some, length}
+use Rattle.std.specs.Prelude.{◌≡◌, ◌≢◌, ◌↔◌, ℕ, not, cond, List, ◌∷◌, ◌++◌, Option, None, Some, nat_eq, nat_lt, is_some, length}
+use Rattle.ov_base.specs.declared.attributes.Attributes.{Attributes}
+use Rattle.ov_base.specs.declared.bytes.Content.{Content}
 use Rattle.ov_base.specs.declared.bytes.Content.TheVariants as content
 use Rattle.ov_base.specs.declared.call.Call.TheVariants as call
 use Rattle.ov_base.specs.declared.errno.Errno.{Errno}
 use Rattle.ov_base.specs.declared.errno.Errno.TheVariants as errno
 use Rattle.ov_base.specs.declared.reply.Reply.TheVariants as reply
-use Rattle.plain_model.specs.Layers.{Path, Inode, Layer, Shown, Contents, shows}
+use Rattle.plain_model.specs.Layers.{Name, Path, Named, Inode, Layer, held, Shown, Contents, shows, same_path, AreLayers}
+use Rattle.plain_model.specs.Laws.{IsOutside}
+use Rattle.plain_model.specs.Tree.{Own, SeenLeaf, merged}
 use Rattle.plain_model.specs.Machine.{State}
 use Rattle.plain_model.specs.Refusals.{when, has_nul, refusal}
 use Rattle.plain_model.specs.Replies.{reply_of}
@@ -46,3 +50,30 @@ pub record Reads (Ls : List Layer) (s : State) (c : ℕ) (p : Path) : Type 0 whe
 
 abbrev pub LawOfReadlink : Type 0
 LawOfReadlink = (U : Layer) (lowers : List Layer) (s : State) → IsMountOf U lowers s → (c : ℕ) (p : Path) → Reads (U ∷ lowers) s c p
+
+-- The upper V is U with a name of a new inode at p, which has no other, and nothing below; other inodes stay.
+pub record PlacesLeaf (U V : Layer) (p : Path) (k : ℕ) (i : Inode) : Type 0 where
+  pub here : held V p ≡ Some (Named k)
+  pub beneath : (m : Name) (r : Path) → held V (m ∷ r ++ p) ≡ None
+  pub elsewhere : (x : Path) → IsOutside p x → held V x ≡ held U x
+  pub free : U.inodes k ≡ None
+  pub inode : V.inodes k ≡ Some i
+  pub one : i.links ≡ 1
+  pub inodes : (j : ℕ) → j ≢ k → V.inodes j ≡ U.inodes j
+
+-- The upper V shows all that U does over the lower layers, and a file or link at p, an inode of its own with no other name; it names
+-- the same inodes elsewhere.
+pub record GainsLeaf (U V : Layer) (lowers : List Layer) (p : Path) (content : Content) (a : Attributes) : Type 0 where
+  pub layers : AreLayers (V ∷ lowers)
+  pub number : ℕ
+  pub here : held V p ≡ Some (Named number)
+  pub alone : (q : Path) → held V q ≡ Some (Named number) → q ≡ p
+  pub sights : (q : Path) → merged V lowers q ≡ cond (same_path p q) (Some (SeenLeaf content a Own 1)) (merged U lowers q)
+  pub names : (q : Path) (k : ℕ) → q ≢ p → (held V q ≡ Some (Named k)) ↔ (held U q ≡ Some (Named k))
+
+-- a new inode that is placed in the upper where nothing was shown is all that is gained
+abbrev pub LawOfPlacedLeaf : Type 0
+LawOfPlacedLeaf =
+    (U V : Layer) (lowers : List Layer) → AreLayers (U ∷ lowers) → AreLayers (V ∷ lowers) →
+    (n : Name) (p : Path) (k : ℕ) (i : Inode) → shows 0 (U ∷ lowers) (n ∷ p) ≡ None →
+    PlacesLeaf U V (n ∷ p) k i → GainsLeaf U V lowers (n ∷ p) i.content i.attributes
