@@ -5,3 +5,4 @@ pub mod Makes
 pub mod Places
 pub mod Refusing
 pub mod Alters
+pub mod Links
