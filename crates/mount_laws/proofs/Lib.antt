@@ -6,3 +6,5 @@ pub mod Places
 pub mod Refusing
 pub mod Alters
 pub mod Links
+pub mod Handles
+pub mod Removes
