@@ -4,3 +4,4 @@ pub mod WalkLemmas
 pub mod OrLemmas
 pub mod RuleLemmas
 pub mod StepLemmas
+pub mod TableLemmas

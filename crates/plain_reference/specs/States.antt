@@ -13,10 +13,10 @@ state_of r = record {
   tree = tree_of r.tree.slots.items;
   serial = r.serial;
   renames = 0;
-  arrived = r.arrived;
+  arrived = r.clients.arrived;
   redirects = r.redirects;
-  tables = r.clients.items;
-  instances = silent_all r.clients.items;
+  tables = r.clients.list.items;
+  instances = silent_all r.clients.list.items;
 }
 
 -- the rule of callbacks that never answer: with no hooks, none is asked

@@ -1,6 +1,7 @@
 // The opening tree, put together by hand.
 ghost use Rattle.std.specs.Prelude.{◌≡◌, OnErr};
 
+use crate::clients::Clients;
 use crate::id::Id;
 use crate::names::Names;
 use crate::node::{Node, Origin};
@@ -93,8 +94,7 @@ impl Builder {
         } = self;
         Reference {
             tree,
-            clients: Vec::new(alloc),
-            arrived: 0,
+            clients: Clients::new(alloc),
             serial: 0,
             redirects,
             alloc,

@@ -67,7 +67,7 @@ impl Reference {
 
     // Takes the node of an identity out of the tree where it has neither name nor handle.
     fn settle(&mut self, id: &Id)
-        ensures tree { tree_of self.new.tree.slots.items ≡ settled self.old.clients.items (tree_of self.old.tree.slots.items) (Some id.now) }
+        ensures tree { tree_of self.new.tree.slots.items ≡ settled self.old.clients.list.items (tree_of self.old.tree.slots.items) (Some id.now) }
         ensures rest { self.new ≡ record self.old { tree = self.new.tree } }
     {
         let named = is_named(self.tree.node(id));
@@ -79,7 +79,7 @@ impl Reference {
 
     // Takes the last name of a path away from the node that it leads to.
     fn drop_name(&mut self, path: &Path) -> Result<(), AllocError>
-        ensures ok { OnOk result (tree_of self.new.tree.slots.items ≡ dropped self.old.clients.items (tree_of self.old.tree.slots.items) path.now) }
+        ensures ok { OnOk result (tree_of self.new.tree.slots.items ≡ dropped self.old.clients.list.items (tree_of self.old.tree.slots.items) path.now) }
         ensures err { OnErr result (tree_of self.new.tree.slots.items ≡ tree_of self.old.tree.slots.items) }
         ensures rest { self.new ≡ record self.old { tree = self.new.tree } }
     {

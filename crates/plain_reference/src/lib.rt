@@ -15,7 +15,7 @@ mod tree;
 mod walk;
 
 pub use builder::Builder;
-pub use clients::{Client, DESCRIPTORS, Handle};
+pub use clients::{CLIENTS, Client, Clients, DESCRIPTORS, Handle};
 pub use id::Id;
 pub use names::Names;
 pub use node::{Node, Origin};
