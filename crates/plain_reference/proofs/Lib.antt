@@ -5,3 +5,4 @@ pub mod OrLemmas
 pub mod RuleLemmas
 pub mod StepLemmas
 pub mod TableLemmas
+pub mod HandleLemmas

@@ -22,3 +22,7 @@ state_of r = record {
 -- the rule of callbacks that never answer: with no hooks, none is asked
 abbrev pub Mute : Rule
 Mute tag event answer = ⊥
+
+-- the state in which the instances are those of other clients: a client that goes is unheard first
+abbrev pub heard_by : Reference → List Table → State
+heard_by r tables = record (state_of r) { instances = silent_all tables }

@@ -66,7 +66,7 @@ impl Reference {
     }
 
     // Takes the node of an identity out of the tree where it has neither name nor handle.
-    fn settle(&mut self, id: &Id)
+    pub(crate) fn settle(&mut self, id: &Id)
         ensures tree { tree_of self.new.tree.slots.items ≡ settled self.old.clients.list.items (tree_of self.old.tree.slots.items) (Some id.now) }
         ensures rest { self.new ≡ record self.old { tree = self.new.tree } }
     {

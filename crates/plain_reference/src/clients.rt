@@ -3,12 +3,12 @@ ghost use Rattle.std.specs.Prelude.{◌≡◌, ◌+◌, ◌<◌, ◌^◌, ◌∷
 ghost use Rattle.std.specs.Option.{option_copied};
 ghost use Rattle.std.specs.List.{list_any};
 ghost use Rattle.plain_model.specs.Machine.{DESCRIPTORS_MAX, free_table, handles_of, held_in, handle_of, lowest_free};
-ghost use Rattle.plain_model.specs.Changes.{holds, is_held, with_handle};
+ghost use Rattle.plain_model.specs.Changes.{holds, is_held, new_handle, with_handle};
 ghost use Rattle.plain_model.specs.Runs.{CLIENTS_MAX};
 ghost use Rattle.plain_reference.specs.Tables.{AreNumbered, AreNumbered-prop, kept, fresh, over_handle};
 
 use crate::id::Id;
-use ov_base::{Name, NameList};
+use ov_base::{Name, NameList, OpenFlags};
 use std::alloc::{AllocError, Global};
 use std::marker::Model;
 
@@ -40,6 +40,42 @@ impl Model for Handle {
 }
 
 impl Handle {
+    /// A handle on a directory, as an open with these flags makes it.
+    pub fn new(flags: OpenFlags, node: Id, way: Option<(Id, Name)>) -> Handle
+        ensures { result ≡ new_handle flags node way None }
+    {
+        Handle {
+            node,
+            reads: flags.reads,
+            writes: flags.writes,
+            append: flags.append,
+            place: 0,
+            way,
+            listed: None,
+        }
+    }
+
+    /// The node of the handle.
+    pub fn node(&self) -> &Id
+        ensures { result.now ≡ self.now.node }
+    {
+        &self.node
+    }
+
+    /// The place in the listing.
+    pub fn place(&self) -> u64
+        ensures { result ≡ self.now.place }
+    {
+        self.place
+    }
+
+    /// The listing that the handle keeps.
+    pub fn listed(&self) -> Option<&NameList>
+        ensures { option_copied result ≡ self.now.listed }
+    {
+        self.listed.as_ref()
+    }
+
     /// Goes on by so many names of a listing, which the handle keeps.
     pub fn keep(&mut self, names: NameList, count: u32)
         ensures { self.new ≡ kept names count self.old }
@@ -161,7 +197,9 @@ impl Clients {
         ensures place { result ≡ position (λ client. nat_eq client.client number) self.now.list.items }
         ensures within { IfSome result (λ index. index < length self.now.list.items) }
     {
-        self.list.iter().position(|client| client.number() == number)
+        self.list
+            .iter()
+            .position(|client| client.number() == number)
     }
 
     /// The lowest free descriptor of a client; 64 where none is free.

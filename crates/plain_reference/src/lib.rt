@@ -6,6 +6,7 @@ mod builder;
 mod calls;
 mod changes;
 mod clients;
+mod directories;
 mod id;
 mod names;
 mod node;

@@ -23,7 +23,7 @@ returns-clause-list c =
 pub invariant_of-self : goal.invariant_of-self
 invariant_of-self c = record {
   numbered = subst (λ (ks : List Table). AreNumbered 0 c.args.self.now.arrived ks)
-    (sym (ap (λ (k : Table). set c.args.self.now.list.items c.in_ok-index.index k) c.take.ensures.rest
-    ∙ changed_at (λ (k : Table). record k { handles = slice_set k.handles c.args.descriptor None }) c.args.self.now.list.items c.args.number c.args.self.now.arrived c.in_ok-index.index _ c.in_ok-index.ensures.place c.args.self.now.numbered c.index_mut-client.ensures.value))
-    (numbered-changed (λ (k : Table). record k { handles = slice_set k.handles c.args.descriptor None }) c.args.self.now.list.items c.args.number 0 c.args.self.now.arrived (λ k. refl) (λ k. length-set k.handles c.args.descriptor None) c.args.self.now.numbered);
+      (sym (ap (λ (k : Table). set c.args.self.now.list.items c.in_ok-index.index k) c.take.ensures.rest
+      ∙ changed_at (λ (k : Table). record k { handles = slice_set k.handles c.args.descriptor None }) c.args.self.now.list.items c.args.number c.args.self.now.arrived c.in_ok-index.index _ c.in_ok-index.ensures.place c.args.self.now.numbered c.index_mut-client.ensures.value))
+      (numbered-changed (λ (k : Table). record k { handles = slice_set k.handles c.args.descriptor None }) c.args.self.now.list.items c.args.number 0 c.args.self.now.arrived (λ k. refl) (λ k. length-set k.handles c.args.descriptor None) c.args.self.now.numbered);
 }
