@@ -1,5 +1,5 @@
 -- Steps that change one handle of a client.
-use Rattle.std.proofs.Common.{◌≡◌, ℕ, zero, suc, ◌||◌, List, [], ◌∷◌, Bool, true, false, not, cond, Option, None, Some, refl, sym, ap, subst, ◌∙◌, nat_eq, nat_lt, is_none, take, drop, unwrap_or}
+use Rattle.std.proofs.Common.{◌≡◌, ℕ, zero, suc, ◌||◌, List, [], Bool, true, false, not, cond, Option, None, Some, refl, sym, ap, subst, ◌∙◌, nat_eq, nat_lt, is_none, take, drop, unwrap_or}
 use Rattle.std.specs.Prelude.{pos}
 use Rattle.ov_base.specs.declared.call.Call.{Call}
 use Rattle.ov_base.specs.declared.call.Call.TheVariants.{Seek, Open}

@@ -6,3 +6,4 @@ pub mod RuleLemmas
 pub mod StepLemmas
 pub mod TableLemmas
 pub mod HandleLemmas
+pub mod CloseLemmas

@@ -1,12 +1,12 @@
 -- Steps of a machine whose clients have no hooks.
-use Rattle.std.proofs.Common.{◌≡◌, ℕ, List, [], ◌∷◌, Bool, true, false, cond, Option, None, Some, refl, sym, ap, subst, ◌∙◌, nat_eq, map}
+use Rattle.std.proofs.Common.{◌≡◌, ℕ, List, [], ◌∷◌, Bool, true, false, cond, Option, None, Some, refl, sym, ap, subst, ◌∙◌, nat_eq}
 use Rattle.std.specs.Prelude.{slice_set, ◌+◌, suc}
 use Rattle.std.proofs.Common.{arith}
 use Rattle.ov_base.specs.declared.call.Call.{Call}
 use Rattle.ov_base.specs.declared.errno.Errno.{Errno}
 use Rattle.ov_base.specs.declared.reply.Reply.{Reply}
 use Rattle.ov_base.specs.declared.reply.Reply.TheVariants.{Refused}
-use Rattle.plain_model.specs.Watching.{Instance, Subject, silent, passed, all_passed, all_asked, AllHear, Hears, Puts}
+use Rattle.plain_model.specs.Watching.{Instance, Subject, silent, all_passed, all_asked, AllHear, Puts}
 use Rattle.plain_model.specs.Machine.{State, Table, Handle}
 use Rattle.plain_model.specs.Refusals.{refusal}
 use Rattle.plain_model.specs.Changes.{after, tree_after, with_handle}

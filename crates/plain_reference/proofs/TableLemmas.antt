@@ -1,11 +1,11 @@
 -- The clients' tables, as one of them changes, comes or goes.
-use Rattle.std.proofs.Common.{◌≡◌, ℕ, zero, suc, ◌+◌, ◌-◌, ◌≤◌, ◌<◌, List, [], ◌∷◌, ◌++◌, Bool, true, false, not, cond, Option, Some, None, refl, sym, ap, subst, ◌∙◌, unwrap_or, get_or, set, length, map, filter, arith, nat_eq, ltb, is_none}
-use Rattle.std.specs.Prelude.{slice_set, slice_get, replicate}
+use Rattle.std.proofs.Common.{◌≡◌, ℕ, suc, ◌+◌, ◌-◌, ◌≤◌, ◌<◌, List, [], ◌∷◌, ◌++◌, Bool, true, false, not, cond, Option, Some, None, refl, sym, ap, subst, ◌∙◌, unwrap_or, get_or, set, length, map, filter, arith, nat_eq, ltb, is_none}
+use Rattle.std.specs.Prelude.{slice_set, slice_get}
 use Rattle.std.specs.List.{position, position_from, position_or_len}
 use Rattle.std.proofs.lemmas.Iterator.Adapters.{position_from-zero}
 use Rattle.std.proofs.lemmas.Bool.{eqb-true, ltb-true}
-use Rattle.std.proofs.lemmas.List.{length-set, set-set, set_past}
-use Rattle.plain_model.specs.Machine.{Table, Handle, State, free_table, handles_of, held_in, handle_of, lowest_free, DESCRIPTORS_MAX}
+use Rattle.std.proofs.lemmas.List.{set-set}
+use Rattle.plain_model.specs.Machine.{Table, Handle, free_table, handles_of, held_in, handle_of, lowest_free, DESCRIPTORS_MAX}
 use Rattle.plain_model.specs.Watching.{Instance, silent}
 use Rattle.plain_model.specs.Changes.{with_handle}
 use Rattle.plain_reference.specs.Tables.{AreNumbered}

@@ -210,6 +210,13 @@ impl Clients {
         free as u32
     }
 
+    /// Whether a client is attached.
+    pub fn has(&self, number: u32) -> bool
+        ensures { result ≡ list_any (λ client. nat_eq client.client number) self.now.list.items }
+    {
+        self.list.iter().any(|client| client.number() == number)
+    }
+
     /// Leads a client's descriptor to a handle, or frees it.
     pub fn set(&mut self, number: u32, descriptor: u32, handle: Option<Handle>)
         ensures list { self.new.list.items ≡ with_handle self.old.list.items number descriptor handle }
@@ -254,16 +261,19 @@ impl Clients {
         }
     }
 
-    /// Whether no client can come: 64 are attached, or the last number but one was given.
+    /// Whether no client can come: 64 are attached, or the numbers have run out.
     pub fn is_full(&self) -> bool
-        ensures { result ≡ (not (nat_lt (length self.now.list.items) CLIENTS_MAX) || nat_eq self.now.arrived 0xffff_ffff) }
+        ensures full { result ≡ (not (nat_lt (length self.now.list.items) CLIENTS_MAX) || nat_eq self.now.arrived 0xffff_ffff) }
+        ensures fits { self.now.arrived < 2 ^ 32 }
     {
-        self.list.len() >= CLIENTS || self.arrived == u32::MAX
+        let is_spent = self.arrived == u32::MAX;
+        self.list.len() >= CLIENTS || is_spent
     }
 
-    /// Lets a client come, under the next number and with free descriptors.
-    pub fn attach(&mut self, alloc: Global) -> Result<(), AllocError>
+    /// Lets a client come, with free descriptors, and gives its number, the next one.
+    pub fn attach(&mut self, alloc: Global) -> Result<u32, AllocError>
         requires { self.old.arrived + 1 < 2 ^ 32 }
+        ensures number { IfOk result (λ number. number ≡ self.old.arrived) }
         ensures list { OnOk result (self.new.list.items ≡ self.old.list.items ++ free_table self.old.arrived ∷ []) }
         ensures arrived { OnOk result (self.new.arrived ≡ self.old.arrived + 1) }
         ensures err { OnErr result (self.new.list.items ≡ self.old.list.items) }
@@ -273,7 +283,7 @@ impl Clients {
         let number = self.arrived;
         self.list.push(Client { number, handles })?;
         self.arrived += 1;
-        Ok(())
+        Ok(number)
     }
 
     /// Lets a client go.

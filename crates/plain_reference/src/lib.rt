@@ -12,6 +12,7 @@ mod names;
 mod node;
 mod reference;
 mod refusals;
+mod runs;
 mod tree;
 mod walk;
 

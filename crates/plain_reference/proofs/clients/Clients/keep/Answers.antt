@@ -1,4 +1,4 @@
-use Rattle.std.proofs.Common.{sym, ap, ◌∙◌, List, Option, Some, None}
+use Rattle.std.proofs.Common.{ap, ◌∙◌, List, Option, Some, None}
 use Rattle.plain_model.specs.Machine.{Table, Handle}
 use Rattle.plain_model.specs.Changes.{with_handle}
 use Rattle.plain_reference.specs.Tables.{kept, over_handle}

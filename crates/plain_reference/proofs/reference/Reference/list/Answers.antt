@@ -1,9 +1,9 @@
-use Rattle.std.proofs.Common.{◌≡◌, ◌∙◌, ℕ, List, Option, None, Some, refl, sym, ap, take, drop}
+use Rattle.std.proofs.Common.{◌≡◌, ◌∙◌, List, None, refl, sym, ap, take, drop}
 use Rattle.std.specs.Option.{option_copied}
 use Rattle.ov_base.specs.declared.call.Call.TheVariants.{ListNames}
 use Rattle.ov_base.specs.declared.reply.Reply.TheVariants.{Names}
 use Rattle.plain_model.specs.Layers.{Name}
-use Rattle.plain_model.specs.Machine.{Table, Handle, handle_of, handle_node, place_of}
+use Rattle.plain_model.specs.Machine.{Table, handle_of, handle_node, place_of}
 use Rattle.plain_model.specs.Refusals.{refusal}
 use Rattle.plain_model.specs.Changes.{with_handle, listed_on}
 use Rattle.plain_model.specs.Replies.{page}

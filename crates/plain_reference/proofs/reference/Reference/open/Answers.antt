@@ -1,12 +1,11 @@
-use Rattle.std.proofs.Common.{◌≡◌, ◌∙◌, ◌||◌, ℕ, Bool, true, false, List, Option, None, Some, refl, sym, ap, subst, is_some, reverse}
+use Rattle.std.proofs.Common.{◌≡◌, ◌∙◌, ◌||◌, true, Option, None, Some, sym, ap, is_some, reverse}
 use Rattle.std.proofs.lemmas.List.{reverse-reverse}
-use Rattle.std.specs.Option.{option_copied}
 use Rattle.ov_base.specs.declared.call.Call.TheVariants.{Open}
 use Rattle.ov_base.specs.declared.errno.Errno.{Errno}
 use Rattle.ov_base.specs.declared.node_id.NodeId.{NodeId}
 use Rattle.ov_base.specs.declared.reply.Reply.TheVariants.{Descriptor}
 use Rattle.plain_model.specs.Machine.{Handle}
-use Rattle.plain_model.specs.Tree.{Node, is_folder, node_at, node_of}
+use Rattle.plain_model.specs.Tree.{is_folder, node_at, node_of}
 use Rattle.plain_model.specs.Changes.{with_handle, way_of, new_handle}
 use Rattle.plain_model.specs.Refusals.{refusal}
 use Rattle.plain_reference.specs.Slots.{tree_of}

@@ -1,9 +1,8 @@
-use Rattle.std.proofs.Common.{◌≡◌, ◌∙◌, List, Option, None, Some, refl, sym, ap, is_none}
+use Rattle.std.proofs.Common.{◌≡◌, ◌∙◌, Option, None, Some, refl, sym, ap, is_none}
 use Rattle.ov_base.specs.declared.call.Call.TheVariants.{Close}
 use Rattle.ov_base.specs.declared.errno.Errno.TheVariants.{EBADF}
 use Rattle.ov_base.specs.declared.reply.Reply.TheVariants.{Done}
-use Rattle.ov_base.specs.declared.node_id.NodeId.{NodeId}
-use Rattle.plain_model.specs.Machine.{Table, Handle, handle_of}
+use Rattle.plain_model.specs.Machine.{Handle, handle_of}
 use Rattle.plain_model.specs.Refusals.{when}
 use Rattle.plain_model.specs.Changes.{with_handle, settled, node_of_handle}
 use Rattle.plain_reference.specs.Slots.{tree_of}

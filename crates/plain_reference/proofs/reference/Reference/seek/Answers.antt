@@ -1,17 +1,15 @@
-use Rattle.std.proofs.Common.{◌≡◌, ◌∙◌, ◌||◌, ℕ, Bool, true, false, List, Option, None, Some, refl, sym, ap, subst, is_none, arith, rules}
+use Rattle.std.proofs.Common.{◌≡◌, ◌∙◌, ◌||◌, ℕ, Bool, true, false, List, refl, sym, ap, subst, is_none, arith, rules}
 use Rattle.std.proofs.lemmas.Int.{ints}
 use Rattle.std.specs.Prelude.{pos, ℤ}
 use Rattle.std.specs.Option.{option_copied}
 use Rattle.ov_base.specs.declared.call.Call.TheVariants.{Seek}
 use Rattle.ov_base.specs.declared.reply.Reply.TheVariants.{Place}
-use Rattle.plain_model.specs.Tree.{Node, is_folder}
-use Rattle.plain_model.specs.Machine.{Table, Handle, handle_of, handle_node}
+use Rattle.plain_model.specs.Tree.{is_folder}
+use Rattle.plain_model.specs.Machine.{Table, handle_of, handle_node}
 use Rattle.plain_model.specs.Changes.{with_handle}
 use Rattle.plain_model.specs.Runs.{Step}
-use Rattle.plain_reference.specs.Nodes.{shown}
 use Rattle.plain_reference.specs.Slots.{tree_of}
 use Rattle.plain_reference.specs.States.{state_of, Mute}
-use Rattle.plain_reference.specs.Tables.{fresh, over_handle}
 use Rattle.plain_reference.proofs.HandleLemmas.{handled_step, own_step, seek_taken, rewound_on}
 use Rattle.plain_reference.proofs.reference.Reference.seek.Goals as goal
 

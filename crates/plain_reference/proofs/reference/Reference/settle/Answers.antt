@@ -1,4 +1,4 @@
-use Rattle.std.proofs.Common.{◌∙◌, sym, ap, Bool, cond, ◌||◌, None, List}
+use Rattle.std.proofs.Common.{◌∙◌, ap, Bool, cond, ◌||◌, None, List}
 use Rattle.plain_model.specs.Tree.{put}
 use Rattle.plain_model.specs.Machine.{Table}
 use Rattle.plain_model.specs.Changes.{is_named, is_held}
