@@ -6,3 +6,4 @@ pub mod Tables
 pub mod Looks
 pub mod States
 pub mod Offers
+pub mod Planted

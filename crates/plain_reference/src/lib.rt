@@ -17,10 +17,5 @@ mod tree;
 mod walk;
 
 pub use builder::Builder;
-pub use clients::{CLIENTS, Client, Clients, DESCRIPTORS, Handle};
-pub use id::Id;
-pub use names::Names;
-pub use node::{Node, Origin};
+pub use node::Origin;
 pub use reference::Reference;
-pub use tree::{Slot, Tree};
-pub use walk::Look;
