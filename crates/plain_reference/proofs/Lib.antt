@@ -4,3 +4,6 @@ pub mod WalkLemmas
 pub mod OrLemmas
 pub mod RuleLemmas
 pub mod StepLemmas
+pub mod TableLemmas
+pub mod HandleLemmas
+pub mod CloseLemmas

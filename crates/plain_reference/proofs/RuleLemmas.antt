@@ -1,9 +1,9 @@
 -- A call by path that a line of the order of checks refuses, is refused so by the machine.
-use Rattle.std.proofs.Common.{◌≡◌, ℕ, Option, None, Some, refl, sym, ap, ◌∙◌}
+use Rattle.std.proofs.Common.{◌≡◌, ℕ, Option, None, sym, ap, ◌∙◌}
 use Rattle.ov_base.specs.declared.call.Call.{Call}
 use Rattle.plain_model.specs.Layers.{Path}
 use Rattle.plain_model.specs.Tree.{Node, Tree, node_at, node_of}
-use Rattle.plain_model.specs.Machine.{State, Look, look, found, node_found, handle_of, handle_node}
+use Rattle.plain_model.specs.Machine.{State, Look, look, node_found, handle_of, handle_node}
 use Rattle.plain_model.specs.Refusals.{path_refusal, descriptor_refusal, path_of, descriptor_of, refusal, ◌or_else◌}
 use Rattle.plain_reference.proofs.OrLemmas.{or_none}
 use Rattle.plain_reference.proofs.WalkLemmas.{found-look}

@@ -1,12 +1,12 @@
 -- Steps of a machine whose clients have no hooks.
-use Rattle.std.proofs.Common.{◌≡◌, ℕ, List, [], ◌∷◌, Bool, true, false, cond, Option, None, Some, refl, sym, ap, subst, ◌∙◌, nat_eq, map}
+use Rattle.std.proofs.Common.{◌≡◌, ℕ, List, [], ◌∷◌, Bool, true, false, cond, Option, None, Some, refl, sym, ap, subst, ◌∙◌, nat_eq}
 use Rattle.std.specs.Prelude.{slice_set, ◌+◌, suc}
 use Rattle.std.proofs.Common.{arith}
 use Rattle.ov_base.specs.declared.call.Call.{Call}
 use Rattle.ov_base.specs.declared.errno.Errno.{Errno}
 use Rattle.ov_base.specs.declared.reply.Reply.{Reply}
 use Rattle.ov_base.specs.declared.reply.Reply.TheVariants.{Refused}
-use Rattle.plain_model.specs.Watching.{Instance, Subject, silent, passed, all_passed, all_asked, AllHear, Hears, Puts}
+use Rattle.plain_model.specs.Watching.{Instance, Subject, silent, all_passed, all_asked, AllHear, Puts}
 use Rattle.plain_model.specs.Machine.{State, Table, Handle}
 use Rattle.plain_model.specs.Refusals.{refusal}
 use Rattle.plain_model.specs.Changes.{after, tree_after, with_handle}
@@ -54,8 +54,8 @@ made_step old mid c k r none answer rest tree shape =
     let is_new : state_of (record mid { serial = mid.serial + 1 }) ≡ new = ap (λ (x : Reference). state_of (record x { tree = mid.tree; serial = x.serial + 1 })) rest in
     let later : old.serial + 1 ≡ suc old.serial = omega arith in
     let steps : new ≡ record (after (state_of old) c k) { instances = new.instances } =
-    (λ i. record (state_of old) { tree = tree i; serial = later i }) ∙ sym (ap (λ (a : State). record a { instances = silent_all old.clients.items }) shape) in
-    let hears = subst (λ (es : List Instance). AllHear Mute (subjects (state_of old) c k) es (silent_all old.clients.items)) (sym (ap (λ (a : State). a.instances) shape)) (silence (subjects (state_of old) c k) old.clients.items) in
+    (λ i. record (state_of old) { tree = tree i; serial = later i }) ∙ sym (ap (λ (a : State). record a { instances = silent_all old.clients.list.items }) shape) in
+    let hears = subst (λ (es : List Instance). AllHear Mute (subjects (state_of old) c k) es (silent_all old.clients.list.items)) (sym (ap (λ (a : State). a.instances) shape)) (silence (subjects (state_of old) c k) old.clients.list.items) in
     subst (λ (t : State). Step Mute (state_of old) c k r t) (sym is_new) (taken_step (state_of old) new c k r none (record { answer = answer; state = steps; heard = hears }))
 
 -- a call that changes the tree alone
@@ -64,6 +64,6 @@ changed_step old new c k r none answer rest tree shape =
     let to : State = record (state_of old) { tree = tree_of new.tree.slots.items } in
     let is_to : state_of new ≡ to = ap state_of rest in
     let steps : to ≡ record (after (state_of old) c k) { instances = to.instances } =
-    (λ i. record (state_of old) { tree = tree i }) ∙ sym (ap (λ (a : State). record a { instances = silent_all old.clients.items }) shape) in
-    let hears = subst (λ (es : List Instance). AllHear Mute (subjects (state_of old) c k) es (silent_all old.clients.items)) (sym (ap (λ (a : State). a.instances) shape)) (silence (subjects (state_of old) c k) old.clients.items) in
+    (λ i. record (state_of old) { tree = tree i }) ∙ sym (ap (λ (a : State). record a { instances = silent_all old.clients.list.items }) shape) in
+    let hears = subst (λ (es : List Instance). AllHear Mute (subjects (state_of old) c k) es (silent_all old.clients.list.items)) (sym (ap (λ (a : State). a.instances) shape)) (silence (subjects (state_of old) c k) old.clients.list.items) in
     subst (λ (t : State). Step Mute (state_of old) c k r t) (sym is_to) (taken_step (state_of old) to c k r none (record { answer = answer; state = steps; heard = hears }))

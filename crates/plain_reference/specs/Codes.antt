@@ -1,8 +1,6 @@
 -- How identities and names are stored.
-use Rattle.std.specs.Prelude.{◌≡◌, ℕ, List, refl, ◌⊎◌}
+use Rattle.std.specs.Prelude.{◌≡◌, ℕ, refl, ◌⊎◌}
 use Rattle.std.proofs.Common.{inl, inr}
-use Rattle.std.specs.Ordering.{nat_cmp}
-use Rattle.std.specs.Cmp.Lexicographic.{slice_cmp}
 use Rattle.std.specs.Coded.{Coded, code_by, coded⊎, coded_ℕ, coded_list}
 use Rattle.std.specs.FinMap as map
 use Rattle.ov_base.specs.declared.node_id.NodeId.{NodeId}

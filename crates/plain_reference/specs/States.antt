@@ -13,12 +13,16 @@ state_of r = record {
   tree = tree_of r.tree.slots.items;
   serial = r.serial;
   renames = 0;
-  arrived = r.arrived;
+  arrived = r.clients.arrived;
   redirects = r.redirects;
-  tables = r.clients.items;
-  instances = silent_all r.clients.items;
+  tables = r.clients.list.items;
+  instances = silent_all r.clients.list.items;
 }
 
 -- the rule of callbacks that never answer: with no hooks, none is asked
 abbrev pub Mute : Rule
 Mute tag event answer = ⊥
+
+-- the state in which the instances are those of other clients: a client that goes is unheard first
+abbrev pub heard_by : Reference → List Table → State
+heard_by r tables = record (state_of r) { instances = silent_all tables }

@@ -1,6 +1,14 @@
 // The opening tree, put together by hand.
-ghost use Rattle.std.specs.Prelude.{◌≡◌, OnErr};
+ghost use Rattle.std.specs.Prelude.{◌≡◌, IfOk, OnOk, OnErr};
+ghost use Rattle.std.specs.FinMap as map;
+ghost use Rattle.plain_model.specs.Tree as plain;
+ghost use Rattle.plain_model.specs.Machine.{opening};
+ghost use Rattle.plain_reference.specs.Nodes.{plain as node_of, origin_of};
+ghost use Rattle.plain_reference.specs.Slots.{tree_of};
+ghost use Rattle.plain_reference.specs.Planted.{root_alone, planted};
+ghost use Rattle.plain_reference.specs.States.{state_of};
 
+use crate::clients::Clients;
 use crate::id::Id;
 use crate::names::Names;
 use crate::node::{Node, Origin};
@@ -38,7 +46,11 @@ impl Builder {
     }
 
     // Puts a node at a path whose parent is there.
-    fn put(&mut self, path: &Path, node: Node) -> Result<(), AllocError> {
+    fn put(&mut self, path: &Path, node: Node) -> Result<(), AllocError>
+        ensures ok { OnOk result (tree_of self.new.tree.slots.items ≡ planted (tree_of self.old.tree.slots.items) path.now (node_of node)) }
+        ensures err { OnErr result (tree_of self.new.tree.slots.items ≡ tree_of self.old.tree.slots.items) }
+        ensures redirects { self.new.redirects ≡ self.old.redirects }
+    {
         if let Some((directory, name)) = self.tree.way_of(self.alloc, path.names())? {
             let id = Id::at(self.alloc, path)?;
             self.tree.place(&directory, &name, id, node)?;
@@ -46,13 +58,18 @@ impl Builder {
         Ok(())
     }
 
-    /// Puts a directory at a path, which says whether a lower layer has it too. A path without parent, or the root, is left alone.
+    /// Puts a directory at a path, and says whether a lower layer has it too. Nothing changes where the path has no parent, and where
+    /// memory is refused.
     pub fn directory(
         &mut self,
         path: &Path,
         attributes: Attributes,
         is_base: bool,
-    ) -> Result<(), AllocError> {
+    ) -> Result<(), AllocError>
+        ensures ok { OnOk result (tree_of self.new.tree.slots.items ≡ planted (tree_of self.old.tree.slots.items) path.now (plain.Branch attributes is_base map.empty 1)) }
+        ensures err { OnErr result (tree_of self.new.tree.slots.items ≡ tree_of self.old.tree.slots.items) }
+        ensures redirects { self.new.redirects ≡ self.old.redirects }
+    {
         let names = Names::new(self.alloc);
         self.put(
             path,
@@ -65,14 +82,19 @@ impl Builder {
         )
     }
 
-    /// Puts a file or a symbolic link at a path, of the upper layer or untouched in a lower one.
+    /// Puts a file or a symbolic link at a path, of the upper layer or untouched in a lower one. Nothing changes where the path has no
+    /// parent, and where memory is refused.
     pub fn leaf(
         &mut self,
         path: &Path,
         content: Content,
         attributes: Attributes,
         origin: Origin,
-    ) -> Result<(), AllocError> {
+    ) -> Result<(), AllocError>
+        ensures ok { OnOk result (tree_of self.new.tree.slots.items ≡ planted (tree_of self.old.tree.slots.items) path.now (plain.Leaf content attributes (origin_of origin) 1)) }
+        ensures err { OnErr result (tree_of self.new.tree.slots.items ≡ tree_of self.old.tree.slots.items) }
+        ensures redirects { self.new.redirects ≡ self.old.redirects }
+    {
         self.put(
             path,
             Node::Leaf {
@@ -85,7 +107,9 @@ impl Builder {
     }
 
     /// The plain machine at the tree, with no client.
-    pub fn finish(self) -> Reference {
+    pub fn finish(self) -> Reference
+        ensures { state_of result ≡ opening (tree_of self.tree.slots.items) self.redirects }
+    {
         let Builder {
             tree,
             redirects,
@@ -93,8 +117,7 @@ impl Builder {
         } = self;
         Reference {
             tree,
-            clients: Vec::new(alloc),
-            arrived: 0,
+            clients: Clients::new(alloc),
             serial: 0,
             redirects,
             alloc,

@@ -9,6 +9,7 @@ ghost use Rattle.plain_model.specs.Runs.{Step};
 ghost use Rattle.plain_reference.specs.Nodes.{plain as node_of};
 ghost use Rattle.plain_reference.specs.Slots.{tree_of};
 ghost use Rattle.plain_reference.specs.States.{state_of, Mute};
+ghost use Rattle.plain_reference.specs.Offers.{Answers};
 
 use crate::clients::is_held;
 use crate::id::Id;
@@ -66,8 +67,8 @@ impl Reference {
     }
 
     // Takes the node of an identity out of the tree where it has neither name nor handle.
-    fn settle(&mut self, id: &Id)
-        ensures tree { tree_of self.new.tree.slots.items ≡ settled self.old.clients.items (tree_of self.old.tree.slots.items) (Some id.now) }
+    pub(crate) fn settle(&mut self, id: &Id)
+        ensures tree { tree_of self.new.tree.slots.items ≡ settled self.old.clients.list.items (tree_of self.old.tree.slots.items) (Some id.now) }
         ensures rest { self.new ≡ record self.old { tree = self.new.tree } }
     {
         let named = is_named(self.tree.node(id));
@@ -79,7 +80,7 @@ impl Reference {
 
     // Takes the last name of a path away from the node that it leads to.
     fn drop_name(&mut self, path: &Path) -> Result<(), AllocError>
-        ensures ok { OnOk result (tree_of self.new.tree.slots.items ≡ dropped self.old.clients.items (tree_of self.old.tree.slots.items) path.now) }
+        ensures ok { OnOk result (tree_of self.new.tree.slots.items ≡ dropped self.old.clients.list.items (tree_of self.old.tree.slots.items) path.now) }
         ensures err { OnErr result (tree_of self.new.tree.slots.items ≡ tree_of self.old.tree.slots.items) }
         ensures rest { self.new ≡ record self.old { tree = self.new.tree } }
     {
@@ -97,17 +98,24 @@ impl Reference {
         Ok(())
     }
 
-    pub(crate) fn mkdir(&mut self, client: u32, path: &Path, mode: u32) -> Result<Reply, AllocError>
-        requires { self.old.serial + 1 < 2 ^ 64 }
-        ensures step { IfOk result (λ reply. Step Mute (state_of self.old) client (call.Mkdir path.now mode) reply (state_of self.new)) }
+    pub(crate) fn mkdir(
+        &mut self,
+        client: u32,
+        path: &Path,
+        mode: u32,
+    ) -> Result<Option<Reply>, AllocError>
+        ensures answer { IfOk result (λ answer. Answers (state_of self.old) client (call.Mkdir path.now mode) answer (state_of self.new)) }
         ensures err { OnErr result (state_of self.new ≡ state_of self.old) }
     {
+        if self.serial == u64::MAX {
+            return Ok(None);
+        }
         if let Some(errno) = self.mkdir_refusal(client, path, mode)? {
-            return Ok(Reply::Refused(errno));
+            return Ok(Some(Reply::Refused(errno)));
         }
         self.make(path, new_directory(self.alloc, mode))?;
         self.serial += 1;
-        Ok(Reply::Done)
+        Ok(Some(Reply::Done))
     }
 
     pub(crate) fn symlink(
@@ -115,18 +123,20 @@ impl Reference {
         client: u32,
         target: &Bytes,
         path: &Path,
-    ) -> Result<Reply, AllocError>
-        requires { self.old.serial + 1 < 2 ^ 64 }
-        ensures step { IfOk result (λ reply. Step Mute (state_of self.old) client (call.Symlink target.now path.now) reply (state_of self.new)) }
+    ) -> Result<Option<Reply>, AllocError>
+        ensures answer { IfOk result (λ answer. Answers (state_of self.old) client (call.Symlink target.now path.now) answer (state_of self.new)) }
         ensures err { OnErr result (state_of self.new ≡ state_of self.old) }
     {
+        if self.serial == u64::MAX {
+            return Ok(None);
+        }
         if let Some(errno) = self.symlink_refusal(client, target, path)? {
-            return Ok(Reply::Refused(errno));
+            return Ok(Some(Reply::Refused(errno)));
         }
         let target = target.clone()?;
         self.make(path, new_link(self.alloc, target))?;
         self.serial += 1;
-        Ok(Reply::Done)
+        Ok(Some(Reply::Done))
     }
 
     pub(crate) fn unlink(&mut self, client: u32, path: &Path) -> Result<Reply, AllocError>

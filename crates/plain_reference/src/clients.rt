@@ -1,17 +1,22 @@
 // The clients and their open handles.
-ghost use Rattle.std.specs.Prelude.{◌≡◌, IfOk, is_none, position, replicate};
+ghost use Rattle.std.specs.Prelude.{◌≡◌, ◌+◌, ◌<◌, ◌^◌, ◌∷◌, ◌++◌, [], Some, None, IfOk, IfSome, OnOk, OnErr, is_none, position, replicate, length, filter, not, ◌||◌, nat_eq, nat_lt, unwrap_or, slice_set, slice_get};
 ghost use Rattle.std.specs.Option.{option_copied};
 ghost use Rattle.std.specs.List.{list_any};
-ghost use Rattle.plain_model.specs.Machine.{DESCRIPTORS_MAX, handles_of, handle_of, lowest_free};
-ghost use Rattle.plain_model.specs.Changes.{holds, is_held};
+ghost use Rattle.plain_model.specs.Machine.{DESCRIPTORS_MAX, free_table, handles_of, held_in, handle_of, lowest_free};
+ghost use Rattle.plain_model.specs.Changes.{holds, is_held, new_handle, with_handle};
+ghost use Rattle.plain_model.specs.Runs.{CLIENTS_MAX};
+ghost use Rattle.plain_reference.specs.Tables.{AreNumbered, AreNumbered-prop, kept, fresh, over_handle};
 
 use crate::id::Id;
-use ov_base::{Name, NameList};
+use ov_base::{Name, NameList, OpenFlags};
 use std::alloc::{AllocError, Global};
 use std::marker::Model;
 
 /// The most descriptors of a client.
 pub const DESCRIPTORS: usize = 64;
+
+/// The most clients that are attached at a time.
+pub const CLIENTS: usize = 64;
 
 /// An open handle of a directory: its node, the flags of its `open`, its place in the listing, the directory and name by which it
 /// was opened, and the listing that it keeps.
@@ -32,6 +37,61 @@ impl Model for Handle {
     ghost Value = { machine.Handle };
 
     ghost view = { λ h. record { node = h.node; reads = h.reads; writes = h.writes; append = h.append; place = h.place; way = h.way; view = machine.Live; listed = h.listed } };
+}
+
+impl Handle {
+    /// A handle on a directory, as an open with these flags makes it.
+    pub fn new(flags: OpenFlags, node: Id, way: Option<(Id, Name)>) -> Handle
+        ensures { result ≡ new_handle flags node way None }
+    {
+        Handle {
+            node,
+            reads: flags.reads,
+            writes: flags.writes,
+            append: flags.append,
+            place: 0,
+            way,
+            listed: None,
+        }
+    }
+
+    /// The node of the handle.
+    pub fn node(&self) -> &Id
+        ensures { result.now ≡ self.now.node }
+    {
+        &self.node
+    }
+
+    /// The place in the listing.
+    pub fn place(&self) -> u64
+        ensures { result ≡ self.now.place }
+    {
+        self.place
+    }
+
+    /// The listing that the handle keeps.
+    pub fn listed(&self) -> Option<&NameList>
+        ensures { option_copied result ≡ self.now.listed }
+    {
+        self.listed.as_ref()
+    }
+
+    /// Goes on by so many names of a listing, which the handle keeps.
+    pub fn keep(&mut self, names: NameList, count: u32)
+        ensures { self.new ≡ kept names count self.old }
+    {
+        let end = names.as_slice().len() as u64;
+        self.place = end.min(self.place.saturating_add(u64::from(count)));
+        self.listed = Some(names);
+    }
+
+    /// Goes back to the start, and forgets the listing.
+    pub fn rewind(&mut self)
+        ensures { self.new ≡ fresh self.old }
+    {
+        self.place = 0;
+        self.listed = None;
+    }
 }
 
 /// An attached client and its descriptors.
@@ -69,6 +129,169 @@ impl Client {
         ensures { result.now ≡ self.now.handles }
     {
         self.handles.as_slice()
+    }
+
+    // Leads a descriptor to a handle, or frees it.
+    fn set(&mut self, descriptor: u32, handle: Option<Handle>)
+        ensures { self.new ≡ record self.old { handles = slice_set self.old.handles descriptor handle } }
+    {
+        let index = descriptor as usize;
+        if index < self.handles.len() {
+            self.handles[index] = handle;
+        }
+    }
+
+    // Frees a descriptor and gives its handle.
+    fn take(&mut self, descriptor: u32) -> Option<Handle>
+        ensures handle { result ≡ held_in (slice_get self.old.handles descriptor) }
+        ensures rest { self.new ≡ record self.old { handles = slice_set self.old.handles descriptor None } }
+    {
+        let index = descriptor as usize;
+        if index >= self.handles.len() {
+            return None;
+        }
+        let slot = &mut self.handles[index];
+        slot.take()
+    }
+}
+
+// Descriptors that are all free.
+fn free_handles(alloc: Global) -> Result<Vec<Option<Handle>>, AllocError>
+    ensures { IfOk result (λ handles. handles.items ≡ replicate DESCRIPTORS_MAX None) }
+{
+    let mut handles = Vec::new(alloc);
+    for _ in 0..DESCRIPTORS {
+        handles.push(None)?;
+    }
+    Ok(handles)
+}
+
+/// The attached clients in the order of their numbers, and the number of the next.
+#[derive(Drop)]
+pub struct Clients {
+    list: Vec<Client>,
+    arrived: u32,
+    ghost numbered: { AreNumbered 0 arrived list.items } by { AreNumbered-prop 0 arrived list.items },
+}
+
+impl Clients {
+    /// No clients.
+    pub fn new(alloc: Global) -> Clients
+        ensures list { result.list.items ≡ [] }
+        ensures arrived { result.arrived ≡ 0 }
+    {
+        Clients {
+            list: Vec::new(alloc),
+            arrived: 0,
+        }
+    }
+
+    /// The clients in the order of their numbers.
+    pub fn as_slice(&self) -> &[Client]
+        ensures { result.now ≡ self.now.list.items }
+    {
+        self.list.as_slice()
+    }
+
+    fn index(&self, number: u32) -> Option<usize>
+        ensures place { result ≡ position (λ client. nat_eq client.client number) self.now.list.items }
+        ensures within { IfSome result (λ index. index < length self.now.list.items) }
+    {
+        self.list
+            .iter()
+            .position(|client| client.number() == number)
+    }
+
+    /// The lowest free descriptor of a client; 64 where none is free.
+    pub fn free_descriptor(&self, number: u32) -> u32
+        ensures { result ≡ unwrap_or (lowest_free self.now.list.items number) DESCRIPTORS_MAX }
+    {
+        let free = lowest_free(self.as_slice(), number).unwrap_or(DESCRIPTORS);
+        free as u32
+    }
+
+    /// Whether a client is attached.
+    pub fn has(&self, number: u32) -> bool
+        ensures { result ≡ list_any (λ client. nat_eq client.client number) self.now.list.items }
+    {
+        self.list.iter().any(|client| client.number() == number)
+    }
+
+    /// Leads a client's descriptor to a handle, or frees it.
+    pub fn set(&mut self, number: u32, descriptor: u32, handle: Option<Handle>)
+        ensures list { self.new.list.items ≡ with_handle self.old.list.items number descriptor handle }
+        ensures arrived { self.new.arrived ≡ self.old.arrived }
+    {
+        if let Some(index) = self.index(number) {
+            let client = &mut self.list[index];
+            client.set(descriptor, handle);
+        }
+    }
+
+    /// Frees a client's descriptor and gives its handle.
+    pub fn take(&mut self, number: u32, descriptor: u32) -> Option<Handle>
+        ensures handle { result ≡ handle_of self.old.list.items number descriptor }
+        ensures list { self.new.list.items ≡ with_handle self.old.list.items number descriptor None }
+        ensures arrived { self.new.arrived ≡ self.old.arrived }
+    {
+        let index = self.index(number)?;
+        let client = &mut self.list[index];
+        client.take(descriptor)
+    }
+
+    /// Lets a client's handle go on by so many names of a listing, which it keeps.
+    pub fn keep(&mut self, number: u32, descriptor: u32, names: NameList, count: u32)
+        ensures list { self.new.list.items ≡ with_handle self.old.list.items number descriptor (over_handle (kept names count) (handle_of self.old.list.items number descriptor)) }
+        ensures arrived { self.new.arrived ≡ self.old.arrived }
+    {
+        if let Some(mut handle) = self.take(number, descriptor) {
+            handle.keep(names, count);
+            self.set(number, descriptor, Some(handle));
+        }
+    }
+
+    /// Lets a client's handle go back to the start, and forget its listing.
+    pub fn rewind(&mut self, number: u32, descriptor: u32)
+        ensures list { self.new.list.items ≡ with_handle self.old.list.items number descriptor (over_handle fresh (handle_of self.old.list.items number descriptor)) }
+        ensures arrived { self.new.arrived ≡ self.old.arrived }
+    {
+        if let Some(mut handle) = self.take(number, descriptor) {
+            handle.rewind();
+            self.set(number, descriptor, Some(handle));
+        }
+    }
+
+    /// Whether no client can come: 64 are attached, or the numbers have run out.
+    pub fn is_full(&self) -> bool
+        ensures full { result ≡ (not (nat_lt (length self.now.list.items) CLIENTS_MAX) || nat_eq self.now.arrived 0xffff_ffff) }
+        ensures fits { self.now.arrived < 2 ^ 32 }
+    {
+        let is_spent = self.arrived == u32::MAX;
+        self.list.len() >= CLIENTS || is_spent
+    }
+
+    /// Lets a client come, with free descriptors, and gives its number, the next one.
+    pub fn attach(&mut self, alloc: Global) -> Result<u32, AllocError>
+        requires { self.old.arrived + 1 < 2 ^ 32 }
+        ensures number { IfOk result (λ number. number ≡ self.old.arrived) }
+        ensures list { OnOk result (self.new.list.items ≡ self.old.list.items ++ free_table self.old.arrived ∷ []) }
+        ensures arrived { OnOk result (self.new.arrived ≡ self.old.arrived + 1) }
+        ensures err { OnErr result (self.new.list.items ≡ self.old.list.items) }
+        ensures unchanged { OnErr result (self.new.arrived ≡ self.old.arrived) }
+    {
+        let handles = free_handles(alloc)?;
+        let number = self.arrived;
+        self.list.push(Client { number, handles })?;
+        self.arrived += 1;
+        Ok(number)
+    }
+
+    /// Lets a client go.
+    pub fn detach(&mut self, number: u32)
+        ensures list { self.new.list.items ≡ filter (λ client. not (nat_eq client.client number)) self.old.list.items }
+        ensures arrived { self.new.arrived ≡ self.old.arrived }
+    {
+        self.list.retain(|client| client.number() != number);
     }
 }
 

@@ -1,7 +1,7 @@
-use Rattle.std.proofs.Common.{refl, sym, ap, ◌∙◌, Option, ℕ, List, nat_eq}
+use Rattle.std.proofs.Common.{sym, ap, ◌∙◌}
 use Rattle.std.specs.FinMap as map
 use Rattle.plain_model.specs.Tree.{Names}
-use Rattle.plain_reference.proofs.NameLemmas.{names_of, get-names, names-insert, names-remove, len-names, keys-names, same_entries}
+use Rattle.plain_reference.proofs.NameLemmas.{get-names}
 use Rattle.plain_reference.proofs.names.Names.get.Goals as goal
 
 pub returns : goal.returns

@@ -1,7 +1,7 @@
-use Rattle.std.proofs.Common.{sym, ap, ◌∙◌}
+use Rattle.std.proofs.Common.{ap, ◌∙◌}
 use Rattle.std.specs.FinMap as map
 use Rattle.plain_model.specs.Tree.{Names}
-use Rattle.plain_reference.proofs.NameLemmas.{names_of, names-insert}
+use Rattle.plain_reference.proofs.NameLemmas.{names-insert}
 use Rattle.plain_reference.proofs.names.Names.insert.Goals as goal
 
 pub returns : goal.returns

@@ -1,7 +1,7 @@
-use Rattle.std.proofs.Common.{refl, sym, ap, ◌∙◌, Option, ℕ, List, nat_eq}
+use Rattle.std.proofs.Common.{sym, ap, ◌∙◌, ℕ, nat_eq}
 use Rattle.std.specs.FinMap as map
 use Rattle.plain_model.specs.Tree.{Names}
-use Rattle.plain_reference.proofs.NameLemmas.{names_of, get-names, names-insert, names-remove, len-names, keys-names, same_entries}
+use Rattle.plain_reference.proofs.NameLemmas.{len-names}
 use Rattle.plain_reference.proofs.names.Names.is_empty.Goals as goal
 
 pub returns : goal.returns

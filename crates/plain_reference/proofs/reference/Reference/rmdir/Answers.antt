@@ -1,7 +1,5 @@
-use Rattle.std.proofs.Common.{◌∙◌, refl, sym, ap}
+use Rattle.std.proofs.Common.{◌∙◌, refl, sym}
 use Rattle.ov_base.specs.declared.call.Call.TheVariants.{Rmdir}
-use Rattle.plain_reference.specs.States.{state_of}
-use Rattle.plain_reference.specs.Slots.{tree_of}
 use Rattle.plain_reference.proofs.StepLemmas.{changed_step}
 use Rattle.plain_reference.proofs.reference.Reference.rmdir.Goals as goal
 

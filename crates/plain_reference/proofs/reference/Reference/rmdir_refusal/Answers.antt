@@ -1,4 +1,4 @@
-use Rattle.std.proofs.Common.{◌∙◌, refl, ap, Option, ℕ}
+use Rattle.std.proofs.Common.{◌∙◌, refl}
 use Rattle.ov_base.specs.declared.call.Call.TheVariants.{Rmdir}
 use Rattle.plain_reference.specs.States.{state_of}
 use Rattle.plain_reference.proofs.RuleLemmas.{by_path}

@@ -1,8 +1,6 @@
 use Rattle.std.proofs.Common.{◌∙◌, refl, sym, ap}
 use Rattle.ov_base.specs.declared.call.Call.TheVariants.{Stat}
-use Rattle.ov_base.specs.declared.reply.Reply.TheVariants.{Content}
 use Rattle.plain_model.specs.Replies.{stat_of}
-use Rattle.plain_model.specs.Machine.{bytes_of_node}
 use Rattle.plain_model.specs.Subjects.{subjects}
 use Rattle.plain_reference.specs.States.{state_of}
 use Rattle.plain_reference.proofs.StepLemmas.{taken_step, silence}

@@ -1,5 +1,5 @@
-use Rattle.std.proofs.Common.{ap, ◌∙◌, sym, reverse, Option, Some, None}
-use Rattle.plain_model.specs.Machine.{found, Look}
+use Rattle.std.proofs.Common.{ap, ◌∙◌, reverse}
+use Rattle.plain_model.specs.Machine.{found}
 use Rattle.plain_reference.specs.Slots.{tree_of}
 use Rattle.plain_reference.proofs.WalkLemmas.{found-look}
 use Rattle.plain_reference.proofs.tree.Tree.node_at.Goals as goal

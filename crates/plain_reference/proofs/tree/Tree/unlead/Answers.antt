@@ -1,10 +1,8 @@
 use Rattle.std.proofs.Common.{◌≡◌, Option, Some, None, refl, sym, ap, ◌∙◌}
 use Rattle.plain_model.specs.Tree as plain
 use Rattle.plain_model.specs.Tree.{put, with_name}
-use Rattle.plain_model.specs.Changes.{over_node, one_fewer}
 use Rattle.plain_reference.specs.Nodes as nodes
 use Rattle.plain_reference.specs.Nodes.{shown}
-use Rattle.std.specs.Option.{option_copied}
 use Rattle.plain_reference.specs.Slots.{tree_of}
 use Rattle.plain_reference.proofs.SlotLemmas.{placed, no_node, put_absent, node_in, tree_with}
 use Rattle.plain_reference.proofs.tree.Tree.unlead.Goals as goal

@@ -1,0 +1,14 @@
+use Rattle.std.proofs.Common.{ap, ◌∙◌, List, Option, Some, None}
+use Rattle.plain_model.specs.Machine.{Table, Handle}
+use Rattle.plain_model.specs.Changes.{with_handle}
+use Rattle.plain_reference.specs.Tables.{kept, over_handle}
+use Rattle.plain_reference.proofs.TableLemmas.{set_twice}
+use Rattle.plain_reference.proofs.clients.Clients.keep.Goals as goal
+
+pub returns-in-Some-clause-list : goal.returns-in-Some-clause-list
+returns-in-Some-clause-list c =
+    c.set.ensures.list
+    ∙ ap (λ (ks : List Table). with_handle ks c.args.number c.args.descriptor (Some c.keep.new.self)) c.in-Some.ensures.list
+    ∙ set_twice c.args.self.now.list.items c.args.number c.args.descriptor None (Some c.keep.new.self)
+    ∙ ap (λ (h : Handle). with_handle c.args.self.now.list.items c.args.number c.args.descriptor (Some h)) c.keep.ensures
+    ∙ ap (λ (h : Option Handle). with_handle c.args.self.now.list.items c.args.number c.args.descriptor (over_handle (kept c.args.names c.args.count) h)) c.in-Some.ensures.handle
