@@ -1,0 +1,118 @@
+// Scripts made by a seeded generator: names `a` to `c`, three names deep, two clients.
+use crate::playing::{Seed, assert_same};
+use std::alloc::Global;
+use std::test::Fail;
+
+/// How many scripts are played, and how many lines each has.
+const SCRIPTS: u64 = 200;
+
+const LINES: u32 = 40;
+
+const MANIFEST: &str = "[[layer]]
+[[layer.entry]]
+path = \"/a\"
+kind = \"dir\"
+mode = 0o700
+[[layer.entry]]
+path = \"/b\"
+kind = \"whiteout\"
+[[layer]]
+[[layer.entry]]
+path = \"/a\"
+kind = \"dir\"
+[[layer.entry]]
+path = \"/a/b\"
+kind = \"dir\"
+mode = 0o711
+[[layer.entry]]
+path = \"/a/b/c\"
+kind = \"file\"
+text = \"xyz\"
+[[layer.entry]]
+path = \"/b\"
+kind = \"dir\"
+[[layer.entry]]
+path = \"/b/a\"
+kind = \"file\"
+[[layer.entry]]
+path = \"/c\"
+kind = \"file\"
+text = \"c\"
+";
+
+// What MANIFEST shows.
+const SEEDS: [Seed; 4] = [
+    Seed::Directory("/a", 0o700),
+    Seed::Directory("/a/b", 0o711),
+    Seed::File("/a/b/c", "xyz"),
+    Seed::File("/c", "c"),
+];
+
+// Numbers that look random and are the same for each seed: a linear congruential generator with Knuth's multiplier.
+#[derive(Drop)]
+struct Dice {
+    state: u64,
+}
+
+impl Dice {
+    // A number below a small one.
+    fn roll(&mut self, sides: u8) -> u8 {
+        self.state = self
+            .state
+            .wrapping_mul(6_364_136_223_846_793_005)
+            .wrapping_add(1_442_695_040_888_963_407);
+        let high = (self.state >> 56) as u8;
+        high.checked_rem(sides).unwrap_or(0)
+    }
+}
+
+fn push_path(dice: &mut Dice, script: &mut String) -> Result<(), Fail> {
+    let depth = dice.roll(4);
+    if depth == 0 {
+        script.push_str("/")?;
+    }
+    for _ in 0..depth {
+        let name = match dice.roll(3) {
+            0 => "/a",
+            1 => "/b",
+            _ => "/c",
+        };
+        script.push_str(name)?;
+    }
+    Ok(())
+}
+
+// One more call of one of two clients.
+fn push_call(alloc: Global, dice: &mut Dice, script: &mut String) -> Result<(), Fail> {
+    let client = dice.roll(2);
+    let small = dice.roll(4);
+    let call = match dice.roll(5) {
+        0 => format!(in alloc; "{client} stat ")?,
+        1 => format!(in alloc; "{client} mkdir 7{small}0 ")?,
+        2 => format!(in alloc; "{client} open rd ")?,
+        3 => format!(in alloc; "{client} list {small} 2")?,
+        _ => format!(in alloc; "{client} close {small}")?,
+    };
+    let takes_path = call.ends_with(' ');
+    script.push_str(call.as_str())?;
+    if takes_path {
+        push_path(dice, script)?;
+    }
+    script.push_str("\n")?;
+    Ok(())
+}
+
+#[test]
+fn generated_scripts(rt: HostRuntime) -> Result<(), Fail> {
+    let alloc = rt.alloc();
+    for seed in 0..SCRIPTS {
+        let mut dice = Dice { state: seed };
+        let mut script = String::from_str(alloc, "attach\nattach\n")?;
+        for _ in 0..LINES {
+            push_call(alloc, &mut dice, &mut script)?;
+        }
+        script.push_str("1 detach\n")?;
+        assert_same(&rt, alloc, (MANIFEST, &SEEDS), script.as_str(), None)?;
+    }
+    Ok(())
+}
