@@ -1,10 +1,11 @@
 -- What an entry of a manifest says: its kind, its path and what it puts there, or its first fault before it is placed.
-use Rattle.std.specs.Prelude.{◌≡◌, codes, ℕ, ℤ, pos, negsuc, List, [], Bool, true, false, ◌&&◌, ◌||◌, nat_le, nat_lt, length, Option, Some, None, is_some, Result, Ok, Err, IsTrue, if◌then◌else◌}
+use Rattle.std.specs.Prelude.{◌≡◌, codes, ℕ, ℤ, pos, negsuc, List, [], Bool, true, false, ◌&&◌, ◌||◌, not, nat_le, nat_lt, length, Option, Some, None, is_some, Result, Ok, Err, IsTrue, if◌then◌else◌}
 use Rattle.std.specs.Option.{option_and_then, ok_or, unwrap_or}
 use Rattle.std.specs.Result.{result_ok}
 use Rattle.std.specs.Str.{bytes_eq}
 use Rattle.toml.specs.Data.{Data, Members, no_members, member, get_member, as_str, as_integer}
 use Rattle.ov_base.specs.Paths.{path_of_text}
+use Rattle.plain_model.specs.Refusals.{has_nul}
 use Rattle.ov_base.specs.declared.attributes.Attributes.{Attributes}
 use Rattle.ov_base.specs.declared.bytes.Content.TheVariants as content
 use Rattle.layer_tree.specs.Tree.{leads_on, seen_object}
@@ -43,8 +44,9 @@ abbrev pub kind_named : List ℕ → Option EntryKind
 kind_named text =
     if bytes_eq text (codes "dir") then Some kind.Directory
     else (if bytes_eq text (codes "file") then Some kind.File
+    else (if bytes_eq text (codes "symlink") then Some kind.SymbolicLink
     else (if bytes_eq text (codes "whiteout") then Some kind.Whiteout
-    else None))
+    else None)))
 
 -- the kind that an entry names
 abbrev pub kind_of : Members → Result EntryKind EntryFault
@@ -54,23 +56,33 @@ kind_of entry = ok_or (option_and_then kind_named (text_at (codes "kind") entry)
 abbrev pub path_of : Members → Result (List (List ℕ)) EntryFault
 path_of entry = ok_or (option_and_then (λ text. result_ok (path_of_text text)) (text_at (codes "path") entry)) fault.Path
 
--- directories and files have a mode and an owner
-abbrev pub has_attributes : EntryKind → Bool
-has_attributes kind.Whiteout = false
-has_attributes _ = true
+-- directories and files have a mode; they and symbolic links have an owner
+abbrev pub has_mode : EntryKind → Bool
+has_mode kind.Directory = true
+has_mode kind.File = true
+has_mode _ = false
 
--- files have bytes
-abbrev pub has_bytes : EntryKind → Bool
-has_bytes kind.File = true
-has_bytes _ = false
+abbrev pub has_owner : EntryKind → Bool
+has_owner kind.Whiteout = false
+has_owner _ = true
+
+abbrev pub is_file : EntryKind → Bool
+is_file kind.File = true
+is_file _ = false
+
+abbrev pub is_link : EntryKind → Bool
+is_link kind.SymbolicLink = true
+is_link _ = false
 
 -- whether an entry of the kind may have this key, with such a value
 abbrev pub takes : EntryKind → List ℕ → Data → Bool
 takes k key value =
     if bytes_eq key (codes "path") || bytes_eq key (codes "kind") then is_some (as_str value)
-    else (if bytes_eq key (codes "mode") || bytes_eq key (codes "uid") || bytes_eq key (codes "gid") then has_attributes k && is_some (as_integer value)
-    else (if bytes_eq key (codes "text") then has_bytes k && is_some (as_str value)
-    else false))
+    else (if bytes_eq key (codes "mode") then has_mode k && is_some (as_integer value)
+    else (if bytes_eq key (codes "uid") || bytes_eq key (codes "gid") then has_owner k && is_some (as_integer value)
+    else (if bytes_eq key (codes "text") then is_file k && is_some (as_str value)
+    else (if bytes_eq key (codes "target") then is_link k && is_some (as_str value)
+    else false))))
 
 -- a number of 0 to the most
 abbrev pub within : ℕ → ℤ → Result ℕ EntryFault
@@ -98,6 +110,14 @@ attributes_of default_mode entry =
 abbrev pub bytes_of : Members → Result (List ℕ) EntryFault
 bytes_of entry = let text = unwrap_or (text_at (codes "text") entry) [] in if nat_lt 1048576 (length text) then Err fault.Value else Ok text
 
+-- symlink(2) takes a target of 1 to 4,095 bytes without a NUL
+abbrev pub is_target : List ℕ → Bool
+is_target target = nat_lt 0 (length target) && nat_le (length target) 4095 && not (has_nul target)
+
+-- the target that an entry gives
+abbrev pub target_of : Members → Result (List ℕ) EntryFault
+target_of entry = let text = unwrap_or (text_at (codes "target") entry) [] in if is_target text then Ok text else Err fault.Value
+
 -- a directory without marks
 abbrev pub plain_directory : Attributes → Item
 plain_directory a = item.Object (object.Directory a (record { opaque = false; redirect = None }))
@@ -106,11 +126,17 @@ plain_directory a = item.Object (object.Directory a (record { opaque = false; re
 abbrev pub item_of : EntryKind → Members → Result Item EntryFault
 item_of kind.Directory entry = and_then (attributes_of 493 entry) (λ a. Ok (plain_directory a))
 item_of kind.File entry = and_then (attributes_of 420 entry) (λ a. and_then (bytes_of entry) (λ bytes. Ok (item.Object (object.Inode (content.File bytes) a))))
+item_of kind.SymbolicLink entry = and_then (attributes_of 511 entry) (λ a. and_then (target_of entry) (λ target. Ok (item.Object (object.Inode (content.SymbolicLink target) a))))
 item_of kind.Whiteout entry = Ok item.Whiteout
 
--- the keys are those of the kind
+-- a symbolic link has a target
+abbrev pub has_required : EntryKind → Members → Bool
+has_required kind.SymbolicLink entry = is_some (text_at (codes "target") entry)
+has_required _ entry = true
+
+-- the keys are those of the kind, and none that it needs is missing
 abbrev pub checked : EntryKind → Members → Result (Unit {0}) EntryFault
-checked k entry = if members_all (takes k) entry then Ok tt else Err fault.Key
+checked k entry = if members_all (takes k) entry && has_required k entry then Ok tt else Err fault.Key
 
 -- WHAT AN ENTRY SAYS: its path and what stands there, or the first of its faults `kind`, `path`, `key` and `value`
 abbrev pub read : Members → Result (List (List ℕ) × Item) EntryFault

@@ -22,14 +22,21 @@ const DIRECTORY_MODE: u32 = 0o755;
 /// The mode of a file that gives none.
 const FILE_MODE: u32 = 0o644;
 
+/// The mode of every symbolic link.
+const LINK_MODE: u32 = 0o777;
+
 /// The most bytes of a file.
 const FILE_MOST: usize = 1_048_576;
+
+/// The most bytes of a symbolic link's target, as Linux's `PATH_MAX` without the NUL.
+const TARGET_MOST: usize = 4_095;
 
 /// The kinds of entries.
 #[derive(Clone, Copy, Debug, PartialEq, Eq)]
 pub(super) enum EntryKind {
     Directory,
     File,
+    SymbolicLink,
     Whiteout,
 }
 
@@ -67,6 +74,7 @@ fn kind_named(text: &str) -> Option<EntryKind>
     match text {
         "dir" => Some(EntryKind::Directory),
         "file" => Some(EntryKind::File),
+        "symlink" => Some(EntryKind::SymbolicLink),
         "whiteout" => Some(EntryKind::Whiteout),
         _ => None,
     }
@@ -85,11 +93,14 @@ fn path_of(alloc: Global, entry: &Table) -> Result<Path, EntryError>
     }
 }
 
-// Each key has to be one that this kind takes, with a value of its type.
+// Each key has to be one that this kind takes, with a value of its type, and none that it needs may be missing.
 fn check_keys(kind: EntryKind, entry: &Table) -> Result<(), EntryFault>
     ensures { result ≡ spec.checked kind (table_view entry.now) }
 {
-    if takes_all(kind, entry) {
+    if !takes_all(kind, entry) {
+        return Err(EntryFault::Key);
+    }
+    if has_required(kind, entry) {
         Ok(())
     } else {
         Err(EntryFault::Key)
@@ -110,27 +121,45 @@ fn takes(kind: EntryKind, key: &str, value: &Value) -> bool
 {
     match key {
         "path" | "kind" => value.is_str(),
-        "mode" | "uid" | "gid" => has_attributes(kind) && value.is_integer(),
-        "text" => has_bytes(kind) && value.is_str(),
+        "mode" => has_mode(kind) && value.is_integer(),
+        "uid" | "gid" => has_owner(kind) && value.is_integer(),
+        "text" => is_file(kind) && value.is_str(),
+        "target" => is_link(kind) && value.is_str(),
         _ => false,
     }
 }
 
-fn has_attributes(kind: EntryKind) -> bool
-    ensures { result ≡ spec.has_attributes kind }
+fn is_file(kind: EntryKind) -> bool
+    ensures { result ≡ spec.is_file kind }
 {
-    match kind {
-        EntryKind::Directory | EntryKind::File => true,
-        EntryKind::Whiteout => false,
-    }
+    matches!(kind, EntryKind::File)
 }
 
-fn has_bytes(kind: EntryKind) -> bool
-    ensures { result ≡ spec.has_bytes kind }
+fn is_link(kind: EntryKind) -> bool
+    ensures { result ≡ spec.is_link kind }
+{
+    matches!(kind, EntryKind::SymbolicLink)
+}
+
+fn has_mode(kind: EntryKind) -> bool
+    ensures { result ≡ spec.has_mode kind }
+{
+    matches!(kind, EntryKind::Directory | EntryKind::File)
+}
+
+fn has_owner(kind: EntryKind) -> bool
+    ensures { result ≡ spec.has_owner kind }
+{
+    !matches!(kind, EntryKind::Whiteout)
+}
+
+// Whether an entry has the keys that its kind can't do without.
+fn has_required(kind: EntryKind, entry: &Table) -> bool
+    ensures { result ≡ spec.has_required kind (table_view entry.now) }
 {
     match kind {
-        EntryKind::File => true,
-        EntryKind::Directory | EntryKind::Whiteout => false,
+        EntryKind::SymbolicLink => text_at(entry, "target").is_some(),
+        EntryKind::Directory | EntryKind::File | EntryKind::Whiteout => true,
     }
 }
 
@@ -144,6 +173,11 @@ fn item_of(alloc: Global, kind: EntryKind, entry: &Table) -> Result<Item, EntryE
         EntryKind::File => {
             let attributes = attributes_of(alloc, entry, FILE_MODE)?;
             let content = Content::File(bytes_of(alloc, entry)?);
+            Ok(Item::Object(Object::Inode(content, attributes)))
+        }
+        EntryKind::SymbolicLink => {
+            let attributes = attributes_of(alloc, entry, LINK_MODE)?;
+            let content = Content::SymbolicLink(target_of(alloc, entry)?);
             Ok(Item::Object(Object::Inode(content, attributes)))
         }
         EntryKind::Whiteout => Ok(Item::Whiteout),
@@ -203,6 +237,24 @@ fn bytes_of(alloc: Global, entry: &Table) -> Result<Bytes, EntryError>
         return Err(EntryError::Fault(EntryFault::Value));
     }
     Ok(Bytes::from_slice(alloc, text.as_bytes())?)
+}
+
+// The target of an entry of kind `symlink`.
+fn target_of(alloc: Global, entry: &Table) -> Result<Bytes, EntryError>
+    ensures { Answers result (spec.target_of (table_view entry.now)) }
+{
+    let text = text_at(entry, "target").unwrap_or("");
+    if !is_target(text.as_bytes()) {
+        return Err(EntryError::Fault(EntryFault::Value));
+    }
+    Ok(Bytes::from_slice(alloc, text.as_bytes())?)
+}
+
+// Whether symlink(2) takes a target: 1 to 4,095 bytes without a NUL.
+fn is_target(target: &[u8]) -> bool
+    ensures { result ≡ spec.is_target target.now }
+{
+    !target.is_empty() && target.len() <= TARGET_MOST && !target.contains(&0)
 }
 
 // The whole number at a key, which may be at most `most`; `default` without one.

@@ -1,7 +1,7 @@
 // Manifests, each with what is wrong with it, and what the good ones say.
 use super::manifest_of;
 use layer_tree::{Entry, Layer, Node};
-use ov_base::Path;
+use ov_base::{Content, Path};
 use std::alloc::Global;
 use std::test::Fail;
 
@@ -119,7 +119,6 @@ fn faults_of_an_entry(rt: HostRuntime) -> Result<(), Fail> {
         ("path = \"/a\"", "kind"),
         ("path = \"/a\"\nkind = 1", "kind"),
         ("path = \"/a\"\nkind = \"fifo\"", "kind"),
-        ("path = \"/a\"\nkind = \"symlink\"\ntarget = \"b\"", "kind"),
         ("path = \"/a\"\nkind = \"link\"\nto = \"/b\"", "kind"),
         ("kind = \"dir\"", "path"),
         ("kind = \"dir\"\npath = 1", "path"),
@@ -141,6 +140,22 @@ fn faults_of_an_entry(rt: HostRuntime) -> Result<(), Fail> {
         ("kind = \"file\"\npath = \"/a\"\nuid = 1.0", "key"),
         ("kind = \"whiteout\"\npath = \"/a\"\nmode = 0o644", "key"),
         ("kind = \"whiteout\"\npath = \"/a\"\ntext = \"\"", "key"),
+        ("kind = \"file\"\npath = \"/a\"\ntarget = \"b\"", "key"),
+        ("kind = \"symlink\"\npath = \"/a\"", "key"),
+        ("kind = \"symlink\"\npath = \"/a\"\ntarget = 1", "key"),
+        (
+            "kind = \"symlink\"\npath = \"/a\"\ntarget = \"b\"\nmode = 0o777",
+            "key",
+        ),
+        ("kind = \"symlink\"\npath = \"/a\"\ntarget = \"\"", "value"),
+        (
+            "kind = \"symlink\"\npath = \"/a\"\ntarget = \"\\u0000\"",
+            "value",
+        ),
+        (
+            "kind = \"symlink\"\npath = \"/a\"\ntarget = \"b\"\nuid = -1",
+            "value",
+        ),
     ] {
         let entries = format!(in rt.alloc(); "[[layer.entry]]\n{entry}\n")?;
         let found = fault_in_lower(rt.alloc(), entries.as_str())?;
@@ -234,8 +249,12 @@ fn shown(alloc: Global, layer: &Layer, path: &str) -> Result<String, Fail> {
         Some(Node::Inode(inode)) => {
             let attributes = &inode.attributes;
             let (mode, uid, gid) = (attributes.mode, attributes.uid, attributes.gid);
-            let bytes = std::str::from_utf8(layer.read(key).unwrap_or(b"")).unwrap_or("?");
-            Ok(format!(in alloc; "file {mode:o} {uid} {gid} {bytes}")?)
+            let (kind, bytes) = match &inode.content {
+                Content::File(bytes) => ("file", bytes.as_slice()),
+                Content::SymbolicLink(target) => ("symlink", target.as_slice()),
+            };
+            let bytes = std::str::from_utf8(bytes).unwrap_or("?");
+            Ok(format!(in alloc; "{kind} {mode:o} {uid} {gid} {bytes}")?)
         }
         None => Ok(String::from_str(alloc, "nothing")?),
     }
@@ -251,7 +270,8 @@ fn what_a_manifest_says(rt: HostRuntime) -> Result<(), Fail> {
 [[layer.entry]]\npath = \"/a\"\nkind = \"dir\"
 [[layer.entry]]\npath = \"/a/x\"\nkind = \"file\"\ntext = \"hi\"
 [[layer.entry]]\npath = \"/a/y\"\nkind = \"file\"\nmode = 0
-[[layer.entry]]\npath = \"/b\"\nkind = \"whiteout\"\n";
+[[layer.entry]]\npath = \"/b\"\nkind = \"whiteout\"
+[[layer.entry]]\npath = \"/s\"\nkind = \"symlink\"\ntarget = \"a/x\"\nuid = 5\ngid = 6\n";
     let (upper, lowers, options) = manifest_of(alloc, manifest.as_bytes())?;
     assert!(rt; options.redirects);
     assert_eq!(rt; options.history, 7);
@@ -270,6 +290,7 @@ fn what_a_manifest_says(rt: HostRuntime) -> Result<(), Fail> {
         ("/a/x", "file 644 0 0 hi"),
         ("/a/y", "file 0 0 0 "),
         ("/b", "whiteout"),
+        ("/s", "symlink 777 5 6 a/x"),
     ] {
         let found = shown(alloc, &lowers[0], path)?;
         assert_eq!(rt; found.as_str(), wanted, "{path}");
