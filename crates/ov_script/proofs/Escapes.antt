@@ -1,5 +1,5 @@
 -- How the first byte of a text reads.
-use Rattle.std.proofs.Common.{◌≡◌, ℕ, ◌<◌, ◌+◌, List, [], ◌∷◌, ◌++◌, append_assoc, append-nil, sym, length, IfSome, IsSome, Option, Some, None, option_map, is_some, false, true, nat_eq, refl, arith, rules}
+use Rattle.std.proofs.Common.{◌≡◌, ℕ, ◌<◌, List, [], ◌∷◌, ◌++◌, append_assoc, append-nil, sym, length, IfSome, IsSome, Option, Some, None, option_map, is_some, false, true, nat_eq, refl, arith}
 use Rattle.std.specs.Option.{unwrap_or}
 use Rattle.std.specs.Str.{bytes_eq}
 use Rattle.ov_script.specs.Escapes.{spelled, spelled_word, is_graphic, plain_before, escape_before}

@@ -1,1 +1,3 @@
+pub mod EscapeLaws
 pub mod Escapes
+pub mod Words

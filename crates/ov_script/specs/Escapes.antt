@@ -1,8 +1,9 @@
 -- Any bytes as one word of a line, and the bytes that a word spells.
-use Rattle.std.specs.Prelude.{ℕ, ◌+◌, ◌*◌, ◌-◌, ◌/◌, ◌%◌, Bool, false, not, ◌&&◌, List, [], ◌∷◌, ◌++◌, cond, nat_le, nat_eq, Option, Some, None, option_map}
-use Rattle.std.specs.List.{flat_map}
+use Rattle.std.specs.Prelude.{◌≡◌, ◌<◌, ℕ, ◌+◌, ◌*◌, ◌-◌, ◌/◌, ◌%◌, Bool, false, not, ◌&&◌, List, [], ◌∷◌, cond, nat_le, nat_eq, Option, Some, None, option_map}
+use Rattle.std.specs.List.{All, flat_map}
 use Rattle.std.specs.Fmt.{digit_glyph}
 use Rattle.std.specs.Str.{bytes_eq}
+use Rattle.ov_script.specs.Words.{words}
 
 -- whether a byte may stand in a word
 abbrev pub is_graphic : ℕ → Bool
@@ -51,3 +52,7 @@ spelled (c ∷ x ∷ h ∷ l ∷ rest) = cond (nat_eq c 92) (escape_before x h l
 abbrev pub spelled_word : List ℕ → Option (List ℕ)
 spelled_word [] = None
 spelled_word (c ∷ word) = cond (bytes_eq (c ∷ word) (92 ∷ 45 ∷ [])) (Some []) (spelled (c ∷ word))
+
+-- what bytes are written as is one word of a line, and spells the bytes
+abbrev pub LawOfEscapes : Type 0
+LawOfEscapes = (bytes : List ℕ) → All (λ b. b < 256) bytes → (words (escaped_of bytes) ≡ escaped_of bytes ∷ []) × (spelled_word (escaped_of bytes) ≡ Some bytes)

@@ -1,3 +1,5 @@
+pub mod Commands
 pub mod Escapes
 pub mod Lines
 pub mod Numbers
+pub mod Words

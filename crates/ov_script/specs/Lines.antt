@@ -1,9 +1,8 @@
 -- The lines that answer calls.
-use Rattle.std.specs.Prelude.{ℕ, ◌-◌, ◌^◌, ℤ, false, List, [], ◌∷◌, ◌++◌, Option, Some, None, codes}
+use Rattle.std.specs.Prelude.{ℕ, ◌-◌, ◌^◌, false, List, [], ◌∷◌, ◌++◌, Option, Some, None, codes}
 use Rattle.std.specs.List.{flat_map}
 use Rattle.std.specs.Fmt.{decimal, signed_decimal, digits, padded_integral, format_spec}
 use Rattle.ov_base.specs.Errnos.{text_of}
-use Rattle.ov_base.specs.declared.errno.Errno.{Errno}
 use Rattle.ov_base.specs.declared.notice.Notice.{Notice}
 use Rattle.ov_base.specs.declared.reply.ObjectKind.{ObjectKind}
 use Rattle.ov_base.specs.declared.reply.ObjectKind.TheVariants.{Directory, File, SymbolicLink}

@@ -19,10 +19,11 @@ abbrev pub number_after : ℕ → ℕ → List ℕ → Option ℕ
 number_after base n [] = Some n
 number_after base n (c ∷ digits) = go_on (λ m. number_after base m digits) (with_digit base n c)
 
--- the number that digits spell, where it fits 32 bits
+-- the number that one digit or more spell, where it fits 32 bits
 abbrev pub number_of : ℕ → List ℕ → Option ℕ
-number_of base digits = number_after base 0 digits
+number_of base [] = None
+number_of base (c ∷ digits) = number_after base 0 (c ∷ digits)
 
--- the mode that at most six octal digits spell
+-- the mode that one to six octal digits spell
 abbrev pub mode_of : List ℕ → Option ℕ
 mode_of digits = cond (nat_lt 6 (length digits)) None (number_of 8 digits)

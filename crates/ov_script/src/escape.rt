@@ -1,7 +1,7 @@
 // Any bytes as one word of a line, and back.
 ghost use Rattle.std.specs.Prelude.{◌≡◌, ◌∷◌, Some, None, ◌<◌, ◌==◌, IfOk, IfSome, IfNone, is_some, option_map, length};
 ghost use Rattle.ov_script.specs.Escapes as escapes;
-ghost use Rattle.ov_script.specs.Escapes.{escaped_byte, escaped_of, hexadecimal_value, spelled, spelled_word};
+ghost use Rattle.ov_script.specs.Escapes.{LawOfEscapes, escaped_byte, escaped_of, hexadecimal_value, spelled, spelled_word};
 
 use std::alloc::{AllocError, Global};
 use std::fmt;
@@ -45,7 +45,7 @@ impl fmt::Display for EscapedByte {
 }
 
 // Whether the byte may stand in a word.
-pub(crate) fn is_graphic(byte: u8) -> bool
+fn is_graphic(byte: u8) -> bool
     ensures { result ≡ escapes.is_graphic byte }
 {
     byte >= 0x21 && byte <= 0x7e
@@ -162,3 +162,8 @@ fn hexadecimal_digit(byte: u8) -> Option<u8>
         _ => None,
     }
 }
+
+/// What `Escaped` writes is one word of a line, of which `EscapedWord` gives the bytes back.
+pub fn law_of_escapes()
+    ensures { LawOfEscapes }
+{}

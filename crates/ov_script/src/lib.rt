@@ -3,8 +3,9 @@
 
 mod escape;
 mod lines;
+mod numbers;
 mod script;
 
-pub use escape::{Escaped, EscapedWord};
+pub use escape::{Escaped, EscapedWord, law_of_escapes};
 pub use lines::{ReplyLine, StatWords};
 pub use script::{BadCommand, CallText, Command, command_of};

@@ -1,9 +1,12 @@
 // The lines of a script.
-ghost use Rattle.std.specs.Prelude.{◌≡◌, ◌≤◌};
-ghost use Rattle.ov_script.specs.Numbers as numbers;
-ghost use Rattle.ov_script.specs.Numbers.{number_of, number_after};
+ghost use Rattle.std.specs.Prelude.{◌≡◌, ◌<◌, ◌∷◌, [], IfOk, IfSome, MatchOption, length, nat_eq, position};
+ghost use Rattle.std.specs.Result.{result_ok};
+ghost use Rattle.ov_base.specs.Paths.{path_of_text};
+ghost use Rattle.ov_script.specs.Commands as commands;
+ghost use Rattle.ov_script.specs.Words.{words};
 
-use crate::escape::{EscapedWord, is_graphic};
+use crate::escape::EscapedWord;
+use crate::numbers::{decimal, octal_mode};
 use ov_base::{Call, Errno, OpenFlags, Path};
 use std::alloc::{AllocError, Global};
 
@@ -34,159 +37,154 @@ pub enum CallText<'a> {
 /// The mode of `open` where the line has none.
 const MODE_DEFAULT: u32 = 0o644;
 
-/// The most digits of a mode.
-const MODE_DIGITS: usize = 6;
-
 /// The command of a line, without its line break. Words have one space between.
-pub fn command_of(line: &[u8]) -> Result<Command<'_>, BadCommand> {
-    let mut words = Words { rest: Some(line) };
-    let command = match words.word()? {
-        b"attach" => Command::Attach,
-        b"merge" => Command::Merge,
-        b"layer" => Command::Layer {
-            index: words.number()?,
-        },
-        client => client_command(decimal(client)?, &mut words)?,
+pub fn command_of(line: &[u8]) -> Result<Command<'_>, BadCommand>
+    ensures { result_ok result ≡ commands.command_of line.now }
+{
+    let (first, rest) = split_word(line);
+    let command = match rest {
+        None => one_word(first),
+        Some(rest) => more_words(first, rest),
     };
-    words.end()?;
-    Ok(command)
+    command.ok_or(BadCommand)
 }
 
-fn client_command<'a>(client: u32, words: &mut Words<'a>) -> Result<Command<'a>, BadCommand> {
-    match words.word()? {
-        b"detach" => Ok(Command::Detach { client }),
-        name => Ok(Command::Call {
-            client,
-            call: call_text(name, words)?,
-        }),
-    }
-}
-
-fn call_text<'a>(name: &[u8], words: &mut Words<'a>) -> Result<CallText<'a>, BadCommand> {
-    match name {
-        b"stat" => Ok(CallText::Stat {
-            path: words.escaped()?,
-        }),
-        b"mkdir" => Ok(CallText::Mkdir {
-            mode: words.mode()?,
-            path: words.escaped()?,
-        }),
-        b"open" => words.open(),
-        b"list" => Ok(CallText::ListNames {
-            descriptor: words.number()?,
-            count: words.number()?,
-        }),
-        b"close" => Ok(CallText::Close {
-            descriptor: words.number()?,
-        }),
-        _ => Err(BadCommand),
-    }
-}
-
-// What is left of a line: nothing after its last word.
-#[derive(Drop)]
-struct Words<'a> {
-    rest: Option<&'a [u8]>,
-}
-
-impl<'a> Words<'a> {
-    // The next word.
-    fn word(&mut self) -> Result<&'a [u8], BadCommand> {
-        let Some(text) = self.rest else {
-            return Err(BadCommand);
-        };
-        let (word, rest) = split_word(text);
-        self.rest = rest;
-        if !word.is_empty() && word.iter().all(|byte| is_graphic(*byte)) {
-            Ok(word)
-        } else {
-            Err(BadCommand)
-        }
-    }
-
-    fn number(&mut self) -> Result<u32, BadCommand> {
-        decimal(self.word()?)
-    }
-
-    fn mode(&mut self) -> Result<u32, BadCommand> {
-        octal_mode(self.word()?)
-    }
-
-    fn escaped(&mut self) -> Result<EscapedWord<'a>, BadCommand> {
-        EscapedWord::parse(self.word()?).ok_or(BadCommand)
-    }
-
-    // The words of `open` after its name.
-    fn open(&mut self) -> Result<CallText<'a>, BadCommand> {
-        if self.word()? != b"rd".as_slice() {
-            return Err(BadCommand);
-        }
-        let path = self.escaped()?;
-        let mode = if self.rest.is_some() {
-            self.mode()?
-        } else {
-            MODE_DEFAULT
-        };
-        Ok(CallText::OpenDirectory { path, mode })
-    }
-
-    // No word is left.
-    fn end(&self) -> Result<(), BadCommand> {
-        if self.rest.is_some() {
-            Err(BadCommand)
-        } else {
-            Ok(())
-        }
-    }
-}
-
-// The text before the first space, and what follows that space.
-fn split_word(text: &[u8]) -> (&[u8], Option<&[u8]>) {
-    match text.iter().position(|byte| *byte == b' ') {
+// The word before the first space, and what follows that space.
+fn split_word(text: &[u8]) -> (&[u8], Option<&[u8]>)
+    ensures { MatchOption result.1 (words text.now ≡ result.0.now ∷ []) (λ rest. words text.now ≡ result.0.now ∷ words rest.now) }
+{
+    match first_space(text) {
         Some(space) => (&text[..space], Some(&text[space + 1..])),
         None => (text, None),
     }
 }
 
-// The number of a client, a descriptor or a layer.
-fn decimal(word: &[u8]) -> Result<u32, BadCommand> {
-    number(word, 10).ok_or(BadCommand)
-}
-
-// A mode, at most six octal digits.
-fn octal_mode(word: &[u8]) -> Result<u32, BadCommand> {
-    if word.len() > MODE_DIGITS {
-        return Err(BadCommand);
-    }
-    number(word, 8).ok_or(BadCommand)
-}
-
-// The number that digits spell, of which there may be zeros at the front, where it fits 32 bits.
-fn number(word: &[u8], base: u32) -> Option<u32>
-    requires { base ≤ 10 }
-    ensures { result ≡ number_of base word.now }
+fn first_space(text: &[u8]) -> Option<usize>
+    ensures place { result ≡ position (λ b. nat_eq b 32) text.now }
+    ensures within { IfSome result (λ place. place < length text.now) }
 {
-    let mut value: u32 = 0;
-    for byte in word {
-        value = with_digit(value, *byte, base)?;
-    }
-    Some(value)
+    text.iter().position(|byte| *byte == b' ')
 }
 
-// A number with one more digit.
-fn with_digit(value: u32, byte: u8, base: u32) -> Option<u32>
-    requires { base ≤ 10 }
-    ensures { result ≡ numbers.with_digit base value byte }
+fn one_word<'a>(word: &[u8]) -> Option<Command<'a>>
+    ensures { result ≡ commands.one_word word.now }
 {
-    if byte < b'0' || u32::from(byte - b'0') >= base {
-        return None;
+    if word == b"attach".as_slice() {
+        Some(Command::Attach)
+    } else if word == b"merge".as_slice() {
+        Some(Command::Merge)
+    } else {
+        None
     }
-    value.checked_mul(base)?.checked_add(u32::from(byte - b'0'))
+}
+
+fn more_words<'a>(first: &[u8], rest: &'a [u8]) -> Option<Command<'a>>
+    ensures { result ≡ commands.more_words first.now (words rest.now) }
+{
+    let (second, rest) = split_word(rest);
+    match rest {
+        None => two_words(first, second),
+        Some(rest) => client_call(first, second, rest),
+    }
+}
+
+fn two_words<'a>(first: &[u8], second: &[u8]) -> Option<Command<'a>>
+    ensures { result ≡ commands.two_words first.now second.now }
+{
+    if first == b"layer".as_slice() {
+        let index = decimal(second)?;
+        Some(Command::Layer { index })
+    } else if second == b"detach".as_slice() {
+        let client = decimal(first)?;
+        Some(Command::Detach { client })
+    } else {
+        None
+    }
+}
+
+fn client_call<'a>(client: &[u8], name: &[u8], rest: &'a [u8]) -> Option<Command<'a>>
+    ensures { result ≡ commands.client_call client.now (commands.call_text name.now (words rest.now)) }
+{
+    let client = decimal(client)?;
+    let call = call_text(name, rest)?;
+    Some(Command::Call { client, call })
+}
+
+// The call of a name and the words after it.
+fn call_text<'a>(name: &[u8], rest: &'a [u8]) -> Option<CallText<'a>>
+    ensures { result ≡ commands.call_text name.now (words rest.now) }
+{
+    let (first, rest) = split_word(rest);
+    let Some(rest) = rest else {
+        return call_of_one(name, first);
+    };
+    let (second, rest) = split_word(rest);
+    let Some(rest) = rest else {
+        return call_of_two(name, first, second);
+    };
+    let (third, rest) = split_word(rest);
+    match rest {
+        None => call_of_three(name, first, second, third),
+        Some(_) => None,
+    }
+}
+
+fn call_of_one<'a>(name: &[u8], word: &'a [u8]) -> Option<CallText<'a>>
+    ensures { result ≡ commands.call_of_one name.now word.now }
+{
+    if name == b"stat".as_slice() {
+        let path = EscapedWord::parse(word)?;
+        Some(CallText::Stat { path })
+    } else if name == b"close".as_slice() {
+        let descriptor = decimal(word)?;
+        Some(CallText::Close { descriptor })
+    } else {
+        None
+    }
+}
+
+fn call_of_two<'a>(name: &[u8], first: &[u8], second: &'a [u8]) -> Option<CallText<'a>>
+    ensures { result ≡ commands.call_of_two name.now first.now second.now }
+{
+    if name == b"mkdir".as_slice() {
+        let mode = octal_mode(first)?;
+        let path = EscapedWord::parse(second)?;
+        Some(CallText::Mkdir { mode, path })
+    } else if name == b"list".as_slice() {
+        let descriptor = decimal(first)?;
+        let count = decimal(second)?;
+        Some(CallText::ListNames { descriptor, count })
+    } else if name == b"open".as_slice() && first == b"rd".as_slice() {
+        let path = EscapedWord::parse(second)?;
+        let mode = MODE_DEFAULT;
+        Some(CallText::OpenDirectory { path, mode })
+    } else {
+        None
+    }
+}
+
+fn call_of_three<'a>(
+    name: &[u8],
+    first: &[u8],
+    second: &'a [u8],
+    third: &[u8],
+) -> Option<CallText<'a>>
+    ensures { result ≡ commands.call_of_three name.now first.now second.now third.now }
+{
+    if name == b"open".as_slice() && first == b"rd".as_slice() {
+        let path = EscapedWord::parse(second)?;
+        let mode = octal_mode(third)?;
+        Some(CallText::OpenDirectory { path, mode })
+    } else {
+        None
+    }
 }
 
 impl CallText<'_> {
     /// The call, or why its path text is refused.
-    pub fn call(&self, alloc: Global) -> Result<Result<Call, Errno>, AllocError> {
+    pub fn call(&self, alloc: Global) -> Result<Result<Call, Errno>, AllocError>
+        ensures { IfOk result (λ outcome. outcome ≡ commands.call_of self.now) }
+    {
         match self {
             CallText::Stat { path } => { Ok(path_of(alloc, path)?.map(|path| Call::Stat { path })) }
             CallText::Mkdir { mode, path } => {
@@ -220,7 +218,9 @@ const READ_DIRECTORY: OpenFlags = OpenFlags {
     unknown: false,
 };
 
-fn path_of(alloc: Global, word: &EscapedWord<'_>) -> Result<Result<Path, Errno>, AllocError> {
+fn path_of(alloc: Global, word: &EscapedWord<'_>) -> Result<Result<Path, Errno>, AllocError>
+    ensures { IfOk result (λ outcome. outcome ≡ path_of_text word.now) }
+{
     let text = word.bytes(alloc)?;
     Path::parse(alloc, text.as_slice())
 }

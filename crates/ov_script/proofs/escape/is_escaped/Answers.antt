@@ -1,4 +1,3 @@
-use Rattle.std.proofs.Common.{◌≡◌, ◌∷◌, rules}
 use Rattle.ov_script.specs.Escapes.{spelled}
 use Rattle.ov_script.proofs.Escapes.{is_some_after}
 use Rattle.ov_script.proofs.escape.is_escaped.Goals as goal

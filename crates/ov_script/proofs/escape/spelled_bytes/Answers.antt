@@ -1,4 +1,4 @@
-use Rattle.std.proofs.Common.{◌≡◌, ◌∷◌, length, rules}
+use Rattle.std.proofs.Common.{length}
 use Rattle.ov_script.specs.Escapes.{spelled}
 use Rattle.ov_script.proofs.Escapes.{none_before, more_before, all_read, spelled_nothing}
 use Rattle.ov_script.proofs.escape.spelled_bytes.Goals as goal

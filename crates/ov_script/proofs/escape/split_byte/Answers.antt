@@ -1,4 +1,4 @@
-use Rattle.std.proofs.Common.{◌≡◌, ◌∷◌, rules}
+use Rattle.std.proofs.Common.{rules}
 use Rattle.ov_script.proofs.Escapes.{spelled_first}
 use Rattle.ov_script.proofs.escape.split_byte.Goals as goal
 

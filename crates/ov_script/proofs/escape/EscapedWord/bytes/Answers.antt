@@ -1,4 +1,4 @@
-use Rattle.std.proofs.Common.{◌≡◌, rules}
+use Rattle.std.proofs.Common.{rules}
 use Rattle.std.proofs.lemmas.Result.{IfOk-weaker}
 use Rattle.ov_script.proofs.Escapes.{word_read}
 use Rattle.ov_script.proofs.escape.EscapedWord.bytes.Goals as goal

@@ -1,4 +1,4 @@
-use Rattle.std.proofs.Common.{◌≡◌, List, ℕ, [], Option, Some, None, is_some, true, false, refl, sym, rules}
+use Rattle.std.proofs.Common.{◌≡◌, List, ℕ, [], Option, Some, None, is_some, true, false, refl, rules}
 use Rattle.std.specs.Option.{unwrap_or}
 use Rattle.ov_script.specs.Escapes.{spelled_word}
 use Rattle.ov_script.proofs.escape.EscapedWord.parse.Goals as goal

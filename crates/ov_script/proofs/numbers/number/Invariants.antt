@@ -1,6 +1,6 @@
 use Rattle.std.proofs.Common.{◌≡◌, drop}
 use Rattle.ov_script.specs.Numbers.{number_after}
-use Rattle.ov_script.proofs.script.number.Given as goal
+use Rattle.ov_script.proofs.numbers.number.Given as goal
 
 -- the digits that are left go on from the value so far
 abbrev pub invariant-loop-byte : goal.invariant-loop-byte

@@ -1,0 +1,92 @@
+-- The commands of a script's lines, by the number of their words.
+use Rattle.std.specs.Prelude.{ℕ, true, false, ◌&&◌, List, [], ◌∷◌, Option, Some, None, option_map, Result, Ok, Err, codes, if◌then◌else◌}
+use Rattle.std.specs.Str.{bytes_eq}
+use Rattle.ov_base.specs.Paths.{path_of_text}
+use Rattle.ov_base.specs.declared.call.Call.{Call}
+use Rattle.ov_base.specs.declared.call.Call.TheVariants as call
+use Rattle.ov_base.specs.declared.call.OpenFlags.{OpenFlags}
+use Rattle.ov_base.specs.declared.errno.Errno.{Errno}
+use Rattle.ov_script.specs.Escapes.{spelled_word}
+use Rattle.ov_script.specs.Numbers.{number_of, mode_of}
+use Rattle.ov_script.specs.Words.{words}
+use Rattle.ov_script.specs.declared.script.Command.{Command}
+use Rattle.ov_script.specs.declared.script.Command.TheVariants.{Attach, Detach, Call as CallOf, Layer, Merge}
+use Rattle.ov_script.specs.declared.script.CallText.{CallText}
+use Rattle.ov_script.specs.declared.script.CallText.TheVariants.{Stat, Mkdir, OpenDirectory, ListNames, Close}
+
+-- what two words come to, if each has its form
+abbrev pub both : {A B C : Type 0} → (A → B → C) → Option A → Option B → Option C
+both f None b = None
+both f (Some a) b = option_map (f a) b
+
+-- `stat P`, `close FD`
+abbrev pub call_of_one : List ℕ → List ℕ → Option CallText
+call_of_one name w =
+    if bytes_eq name (codes "stat") then option_map Stat (spelled_word w)
+    else (if bytes_eq name (codes "close") then option_map Close (number_of 10 w) else None)
+
+-- `mkdir MODE P`, `list FD N`, `open rd P`, whose mode is 0o644
+abbrev pub call_of_two : List ℕ → List ℕ → List ℕ → Option CallText
+call_of_two name v w =
+    if bytes_eq name (codes "mkdir") then both Mkdir (mode_of v) (spelled_word w)
+    else (if bytes_eq name (codes "list") then both ListNames (number_of 10 v) (number_of 10 w)
+    else (if bytes_eq name (codes "open") && bytes_eq v (codes "rd") then option_map (λ path. OpenDirectory path 420) (spelled_word w) else None))
+
+-- `open rd P MODE`
+abbrev pub call_of_three : List ℕ → List ℕ → List ℕ → List ℕ → Option CallText
+call_of_three name u v w =
+    if bytes_eq name (codes "open") && bytes_eq u (codes "rd") then both OpenDirectory (spelled_word v) (mode_of w) else None
+
+-- the call of a name and the words after it
+abbrev pub call_text : List ℕ → List (List ℕ) → Option CallText
+call_text name [] = None
+call_text name (w ∷ []) = call_of_one name w
+call_text name (v ∷ w ∷ []) = call_of_two name v w
+call_text name (u ∷ v ∷ w ∷ []) = call_of_three name u v w
+call_text name (u ∷ v ∷ w ∷ x ∷ more) = None
+
+-- `attach`, `merge`
+abbrev pub one_word : List ℕ → Option Command
+one_word w = if bytes_eq w (codes "attach") then Some Attach else (if bytes_eq w (codes "merge") then Some Merge else None)
+
+-- `layer I`, `C detach`
+abbrev pub two_words : List ℕ → List ℕ → Option Command
+two_words v w =
+    if bytes_eq v (codes "layer") then option_map Layer (number_of 10 w)
+    else (if bytes_eq w (codes "detach") then option_map Detach (number_of 10 v) else None)
+
+-- `C CALL`
+abbrev pub client_call : List ℕ → Option CallText → Option Command
+client_call client text = both CallOf (number_of 10 client) text
+
+-- the command of a word and those after it
+abbrev pub more_words : List ℕ → List (List ℕ) → Option Command
+more_words first [] = one_word first
+more_words first (second ∷ []) = two_words first second
+more_words first (second ∷ w ∷ rest) = client_call first (call_text second (w ∷ rest))
+
+-- the command of the words of a line
+abbrev pub command_of_words : List (List ℕ) → Option Command
+command_of_words [] = None
+command_of_words (first ∷ rest) = more_words first rest
+
+-- the command of a line, if it is one
+abbrev pub command_of : List ℕ → Option Command
+command_of line = command_of_words (words line)
+
+-- the flags of `open rd`
+abbrev pub read_directory : OpenFlags
+read_directory = record { reads = true; writes = false; create = false; exclusive = false; truncate = false; append = false; directory = true; unknown = false }
+
+-- what is made of a path, or its refusal
+abbrev pub on_path : (List (List ℕ) → Call) → Result (List (List ℕ)) Errno → Result Call Errno
+on_path make (Ok path) = Ok (make path)
+on_path make (Err errno) = Err errno
+
+-- the call that a text asks for, or the refusal of its path
+abbrev pub call_of : CallText → Result Call Errno
+call_of (Stat text) = on_path call.Stat (path_of_text text)
+call_of (Mkdir mode text) = on_path (λ path. call.Mkdir path mode) (path_of_text text)
+call_of (OpenDirectory text mode) = on_path (λ path. call.Open path read_directory mode) (path_of_text text)
+call_of (ListNames descriptor count) = Ok (call.ListNames descriptor count)
+call_of (Close descriptor) = Ok (call.Close descriptor)
