@@ -11,3 +11,5 @@ pub mod Roots
 pub mod Writing
 pub mod Overlays
 pub mod Held
+pub mod Layers
+pub mod Keeping

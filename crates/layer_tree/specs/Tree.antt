@@ -215,6 +215,10 @@ pub record Writes (old new : Tree) (key : ℕ) (bytes : List ℕ) : Type 0 where
   pub entries : (dir : ℕ) (name : List ℕ) → entry new dir name ≡ entry old dir name
   pub seen : (k : ℕ) → seen_at new k ≡ seen_at old k
 
+-- what stands at the name has at most whiteouts in it
+abbrev pub HoldsNoObjects : Tree → ℕ → List ℕ → Type 0
+HoldsNoObjects t dir name = (key : ℕ) → child t dir name ≡ Some key → (n : List ℕ) → child t key n ≡ None
+
 -- at every path the same is held
 abbrev pub SameObjects : Layer → Layer → Type 0
 SameObjects old new = (path : Path) → held new path ≡ held old path

@@ -9,10 +9,10 @@ ghost use Rattle.std.specs.Cmp.Lexicographic.{slice_cmp};
 ghost use Rattle.std.specs.FinMap as map;
 ghost use Rattle.slab.specs.Slab.{get, slab_len, HasRoomFor};
 ghost use Rattle.plain_model.specs.Layers as layers;
-ghost use Rattle.plain_model.specs.Layers.{held};
+ghost use Rattle.plain_model.specs.Layers.{held, IsLayer};
 ghost use Rattle.layer_tree.specs.Table.{object_key};
 ghost use Rattle.layer_tree.specs.Walk.{Rebinds};
-ghost use Rattle.layer_tree.specs.Tree.{Tree, entry, child, key_at, entry_at, seen_at, inode_at, marks_at, bytes_at, file_bytes, layer_of, seen_object, new_inode, with_less, table_of, leads_on, Inserts, Unbinds, Writes, written, IsDirectory, names_room, SetsPath, ClearsPath, CoversPath, SameObjects, SameTree, UsesObjects, IsHeldTogether, IsTree};
+ghost use Rattle.layer_tree.specs.Tree.{Tree, entry, child, key_at, entry_at, seen_at, inode_at, marks_at, bytes_at, file_bytes, layer_of, seen_object, new_inode, with_less, table_of, leads_on, Inserts, Unbinds, Writes, written, IsDirectory, names_room, SetsPath, ClearsPath, CoversPath, SameObjects, SameTree, UsesObjects, HoldsNoObjects, IsHeldTogether, IsTree};
 ghost use Rattle.layer_tree.specs.Change.{IsPlanted, Retables, Retabled, Unlinks, IsCounted, node_room, node_entry, unlinked, node_bytes, with_file};
 ghost use Rattle.layer_tree.specs.declared.name_table.Entry.TheVariants as bound;
 
@@ -58,6 +58,7 @@ impl Layer {
         ensures root { IfOk result (λ l. held (layer_of l) [] ≡ Some (layers.Directory 0 attributes false None)) }
         ensures nothing_else { IfOk result (λ l. (name : List ℕ) (path : List (List ℕ)) → held (layer_of l) (name ∷ path) ≡ None) }
         ensures no_inodes { IfOk result (λ l. (key : ℕ) → inode_at l key ≡ None) }
+        ensures layer { IfOk result (λ l. IsLayer (layer_of l)) }
     {
         let mut nodes = Slab::with_capacity(alloc, 1)?;
         nodes.insert_reserved(Node::Directory(Directory {
@@ -166,6 +167,7 @@ impl Layer {
         ensures kinds { (d : ℕ) → IsDirectory self.old d → IsDirectory self.new d }
         ensures names { (d : ℕ) → names_room self.new d ≡ names_room self.old d }
         ensures objects { UsesObjects self.old self.new 0 }
+        ensures keeps { IsLayer (layer_of self.old) → IsLayer (layer_of self.new) }
     {
         let alloc = self.alloc;
         let node = &mut self.nodes[key];
@@ -181,6 +183,7 @@ impl Layer {
         ensures names { OnOk result (names ≤ names_room self.new dir) }
         ensures objects { OnOk result (HasRoomFor self.new objects) }
         ensures succeeds { names ≤ names_room self.old dir → HasRoomFor self.old objects → IsOk result }
+        ensures keeps { IsLayer (layer_of self.old) → IsLayer (layer_of self.new) }
     {
         self.nodes.reserve(objects)?;
         self.name_room(dir, names)
@@ -225,6 +228,7 @@ impl Layer {
         ensures names { names_room self.old dir ≤ names_room self.new dir + 1 }
         ensures other_names { (d : ℕ) → d ≢ dir → names_room self.old d ≤ names_room self.new d }
         ensures objects { UsesObjects self.old self.new 1 }
+        ensures keeps { (path : List (List ℕ)) → key_at self.old path ≡ Some dir → IsLayer (layer_of self.old) → IsLayer (layer_of self.new) }
     {
         if self.room(dir, 1, 1).is_err() {
             return Err(AllocFailed { value: object });
@@ -245,6 +249,7 @@ impl Layer {
         ensures names { names_room self.old dir ≤ names_room self.new dir + 1 }
         ensures other_names { (d : ℕ) → d ≢ dir → names_room self.old d ≤ names_room self.new d }
         ensures objects { UsesObjects self.old self.new 1 }
+        ensures keeps { (path : List (List ℕ)) → key_at self.old path ≡ Some dir → IsLayer (layer_of self.old) → IsLayer (layer_of self.new) }
     {
         let node = planted(self.alloc, object);
         let key = self.nodes.insert_reserved(node);
@@ -265,6 +270,7 @@ impl Layer {
         ensures succeeds { 0 < names_room self.old dir → IsOk result }
         ensures names { (d : ℕ) → names_room self.old d ≤ names_room self.new d + 1 }
         ensures objects { UsesObjects self.old self.new 0 }
+        ensures keeps { (path : List (List ℕ)) → key_at self.old path ≡ Some dir → HoldsNoObjects self.old dir name → IsLayer (layer_of self.old) → IsLayer (layer_of self.new) }
     {
         self.name_room(dir, 1)?;
         Ok(self.whiteout_reserved(dir, name))
@@ -280,6 +286,7 @@ impl Layer {
         ensures kinds { (d : ℕ) → IsDirectory self.old d → IsDirectory self.new d }
         ensures names { (d : ℕ) → names_room self.old d ≤ names_room self.new d + 1 }
         ensures objects { UsesObjects self.old self.new 0 }
+        ensures keeps { (path : List (List ℕ)) → key_at self.old path ≡ Some dir → HoldsNoObjects self.old dir name → IsLayer (layer_of self.old) → IsLayer (layer_of self.new) }
     {
         let entry = bind_name(&mut self.nodes, dir, name, Entry::Whiteout);
         unlink(&mut self.nodes, entry);
@@ -295,6 +302,7 @@ impl Layer {
         ensures kinds { (d : ℕ) → IsDirectory self.old d → IsDirectory self.new d }
         ensures names { (d : ℕ) → names_room self.old d ≤ names_room self.new d }
         ensures objects { UsesObjects self.old self.new 0 }
+        ensures keeps { (path : List (List ℕ)) → key_at self.old path ≡ Some dir → HoldsNoObjects self.old dir name.now → IsLayer (layer_of self.old) → IsLayer (layer_of self.new) }
     {
         let entry = unbind_name(&mut self.nodes, dir, name);
         unlink(&mut self.nodes, entry);
