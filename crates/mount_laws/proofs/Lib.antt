@@ -3,3 +3,5 @@ pub mod Opens
 pub mod Lists
 pub mod Makes
 pub mod Places
+pub mod Refusing
+pub mod Alters

@@ -102,7 +102,7 @@ node-sorted None = tt
 node-sorted (Some (Leaf content a u l)) = tt
 node-sorted (Some (Branch a b names c)) = sorted-from (fin.entries names) (fin.entries_sorted names)
 
-node-names : (o : Option Node) (n : Name) → list_any (same_name n) (names_in o) ≡ is_some (names_of o n)
+pub node-names : (o : Option Node) (n : Name) → list_any (same_name n) (names_in o) ≡ is_some (names_of o n)
 node-names None n = refl
 node-names (Some (Leaf content a u l)) n = refl
 node-names (Some (Branch a b names c)) n = any-ties n (fin.keys names) ∙ sym (fin.contains_key-keys names n)

@@ -1,1 +1,4 @@
 pub mod Looks
+pub mod Leaves
+pub mod Removals
+pub mod Thin

@@ -1,5 +1,8 @@
 // The laws of the machine on a mount of layers, each as the contract of a function that does nothing.
+ghost use Rattle.mount_laws.specs.Leaves.{LawOfPlacedLeaf, LawOfReadlink, LawOfSymlink};
 ghost use Rattle.mount_laws.specs.Looks.{LawOfBadDescriptors, LawOfBeginning, LawOfClose, LawOfDirectories, LawOfList, LawOfMade, LawOfMkdir, LawOfOpen, LawOfPlacedDirectory, LawOfPlacedParent, LawOfStat, LawOfWalks};
+ghost use Rattle.mount_laws.specs.Removals.{LawOfRmdir, LawOfTakenAway, LawOfUnlink};
+ghost use Rattle.mount_laws.specs.Thin.{LawOfThin};
 
 /// A mount begins as one of its layers.
 pub fn law_of_beginning()
@@ -62,4 +65,40 @@ pub fn law_of_placed_parent()
 /// that is gained (overlayfs.rst, "whiteouts and opaque directories").
 pub fn law_of_placed_directory()
     ensures { LawOfPlacedDirectory }
+{}
+
+/// `unlink` is refused for the root, then as the layers' walk is, then where they show a directory.
+pub fn law_of_unlink()
+    ensures { LawOfUnlink }
+{}
+
+/// `rmdir` is refused for the root, then as the layers' walk is, then where they show no directory, then where they show a name in it.
+pub fn law_of_rmdir()
+    ensures { LawOfRmdir }
+{}
+
+/// `symlink` is refused for its target, then as the layers' walk of the parents is, then where they show something.
+pub fn law_of_symlink()
+    ensures { LawOfSymlink }
+{}
+
+/// `readlink` is refused as the layers' walk is, then where they show no symbolic link, and answers the target of the link.
+pub fn law_of_readlink()
+    ensures { LawOfReadlink }
+{}
+
+/// An upper from which an object is taken away loses it and no more: a whiteout stands in its place exactly where the layers below show
+/// something (overlayfs.rst, "whiteouts and opaque directories").
+pub fn law_of_taken_away()
+    ensures { LawOfTakenAway }
+{}
+
+/// A file or link that is placed in the upper where nothing was shown is all that is gained.
+pub fn law_of_placed_leaf()
+    ensures { LawOfPlacedLeaf }
+{}
+
+/// An upper without needless whiteouts stays one where it gets a directory, a file or a link, or has an object taken away.
+pub fn law_of_thin()
+    ensures { LawOfThin }
 {}
