@@ -1,3 +1,1 @@
-pub mod Nodes
-pub mod Placing
-pub mod Keeping
+pub mod Making

@@ -2,10 +2,8 @@
 #![tactic(auto)]
 
 mod directories;
-mod parents;
 
 pub use directories::mkdir;
-pub use parents::place_parents;
 
 #[cfg(test)]
 mod tests;

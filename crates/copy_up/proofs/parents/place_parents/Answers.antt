@@ -1,6 +1,6 @@
-use Rattle.std.proofs.Common.{◌≡◌, ◌∷◌, take, reverse}
-use Rattle.make_remove.proofs.Keeping.{directory-same, way-shows}
-use Rattle.make_remove.proofs.parents.place_parents.Goals as goal
+use Rattle.std.proofs.Common.{◌∷◌, take, reverse}
+use Rattle.copy_up.proofs.Keeping.{directory-same, way-shows}
+use Rattle.copy_up.proofs.parents.place_parents.Goals as goal
 
 pub place_parent-requires-clause-shown : goal.place_parent-requires-clause-shown
 place_parent-requires-clause-shown c =

@@ -5,7 +5,7 @@ ghost use Rattle.plain_model.specs.Layers as held;
 ghost use Rattle.plain_model.specs.Layers.{Path, shows, is_directory};
 ghost use Rattle.layer_tree.specs.Tree.{layer_of, inode_at, SetsPath, SameObjects};
 ghost use Rattle.merged_lookup.specs.Merged.{layers_of, way_fault, top_of, IsStackOf, ShowsDirectory};
-ghost use Rattle.make_remove.specs.Making.{ShowsSame, HasPlace};
+ghost use Rattle.copy_up.specs.Showing.{ShowsSame, HasPlace};
 
 use layer_tree::{Layer, Marks, Node, Object};
 use merged_lookup::{Found, Layers, Place, Stack};
@@ -73,8 +73,8 @@ fn attributes_at(layers: &Layers, place: Place) -> Result<Attributes, AllocError
     }
 }
 
-// Puts a directory without a redirect at a name of a directory at which no object stands.
-pub(crate) fn insert_directory(
+/// Puts a directory without a redirect at a name of a directory at which no object stands.
+pub fn insert_directory(
     upper: &mut Layer,
     dir: usize,
     name: Name,

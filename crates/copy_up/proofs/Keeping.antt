@@ -1,20 +1,19 @@
 -- What a mount shows before and after its upper gains a directory.
-use Rattle.std.proofs.Common.{◌≡◌, ◌≢◌, ℕ, suc, ◌+◌, ◌≤◌, ◌<◌, Bool, true, false, List, [], ◌∷◌, ◌++◌, Option, None, Some, refl, sym, ap, ◌∙◌, subst, is_some, length, map, drop, take, reverse, get_or, arith, Result, Ok, Err, OnErr}
-use Rattle.std.proofs.lemmas.Bool.{false≢true}
+use Rattle.std.proofs.Common.{◌≡◌, ◌≢◌, ℕ, suc, ◌+◌, ◌<◌, Bool, true, false, List, [], ◌∷◌, ◌++◌, Option, None, Some, refl, sym, ap, ◌∙◌, subst, length, map, drop, take, reverse, get_or, arith, Result, Ok, Err, OnErr}
 use Rattle.ov_base.specs.declared.attributes.Attributes.{Attributes}
 use Rattle.ov_base.specs.declared.errno.Errno.{Errno}
-use Rattle.plain_model.specs.Layers.{Name, Path, Object, Directory, Inode, Layer, held, below, cuts, Shown, Folder, Contents, over, unless, shows, through, under, is_directory}
-use Rattle.plain_model.specs.Tree.{Sight, SeenBranch, SeenLeaf, see, see_inode, merged}
-use Rattle.plain_model.proofs.Uppers.{AgreeTo, agree-where, under-agree, merged-agree}
+use Rattle.plain_model.specs.Layers.{Name, Path, Directory, Inode, Layer, held, below, cuts, Shown, Folder, Contents, over, shows, through, is_directory}
+use Rattle.plain_model.specs.Tree.{Sight, SeenBranch, see, see_inode, merged}
+use Rattle.plain_model.proofs.Uppers.{AgreeTo, agree-where, merged-agree}
 use Rattle.layer_tree.specs.Tree.{Tree, layer_of, inode_at, SetsPath, SameObjects}
 use Rattle.merged_lookup.specs.declared.stack.Place.{Place}
 use Rattle.merged_lookup.specs.declared.stack.Stack.{Stack}
 use Rattle.merged_lookup.specs.declared.layers.Layers.{Layers}
-use Rattle.merged_lookup.specs.Merged.{level, unless_cut, places_at, top_of, trees, lowers_of, layers_of, or_else, fault, way_fault, IsStackOf, ShowsDirectory}
+use Rattle.merged_lookup.specs.Merged.{level, unless_cut, places_at, top_of, lowers_of, layers_of, or_else, fault, way_fault, IsStackOf, ShowsDirectory}
 use Rattle.merged_lookup.proofs.Descending.{reverse-more}
-use Rattle.merged_lookup.proofs.Looking.{HeadFrom, head-places, head-unless, reverse-parts}
-use Rattle.make_remove.specs.Making.{sight, PassesSame, ShowsSame, HasPlace, MakesDirectory, new_attributes, is_object, shown_under}
-use Rattle.make_remove.proofs.Placing.{some-not-none, agree-placed, placed-same, placed-absent, shows-agree, made-here, made-elsewhere, IsHeldDirectory, top-held, free-folder, free-absent}
+use Rattle.merged_lookup.proofs.Looking.{head-places, head-unless, reverse-parts}
+use Rattle.copy_up.specs.Showing.{PassesSame, ShowsSame, HasPlace, is_object}
+use Rattle.copy_up.proofs.Placing.{some-not-none, agree-placed, placed-same, placed-absent, shows-agree, IsHeldDirectory, top-held, free-folder}
 
 pub same-self : (l : Layers) → ShowsSame l l
 same-self l = record { lowers = refl; sights = λ p. refl; absent = λ p h. h; passes = record { cuts = λ p. refl; spelling = λ p. refl } }
@@ -41,7 +40,7 @@ place-of l p s n is top free =
     let d : IsHeldDirectory (held U p) (top_of s.places.items).key = top-held (held U p) rest s.places.items is.places (head-unless (cuts U p) (places_at 1 (lowers_of l) (below U p)) (head-places 1 (lowers_of l) (below U p))) some top in
     record { attributes = d.attributes; opaque = d.opaque; redirect = d.redirect; directory = d.is; free = free }
 
-lowers-same : (old new : Layers) → new.lowers ≡ old.lowers → lowers_of new ≡ lowers_of old
+pub lowers-same : (old new : Layers) → new.lowers ≡ old.lowers → lowers_of new ≡ lowers_of old
 lowers-same old new low = ap (λ v. map layer_of v.items) low
 
 -- an upper that holds the same everywhere shows the same
@@ -144,28 +143,6 @@ way-shows l names i n h is none =
     let front : way_fault (layers_of l) (reverse (take (i + 1) names)) ≡ None = way-first (layers_of l) (reverse (drop (i + 1) names)) (reverse (take (i + 1) names)) whole in
     way-directory (layers_of l) (reverse (take i names)) n (sym (ap (way_fault (layers_of l)) (reverse-more names i n h is)) ∙ front)
 
-under-same : (start old : Layers) (n : Name) (q : Path) → ShowsSame start old → under (layer_of old.upper) (lowers_of old) n q ≡ under (layer_of start.upper) (lowers_of start) n q
-under-same start old n q s =
-    ap (λ Ls. under (layer_of old.upper) Ls n q) (lowers-same start old s.lowers)
-    ∙ under-agree (layer_of start.upper) (layer_of old.upper) (lowers_of start) n q (record { cut_alike = s.passes.cuts q; spelled = s.passes.spelling q })
-
-makes-at : (start old new : Layers) (q : Path) (n : Name) (key mode : ℕ) (o : Bool) → ShowsSame start old → new.lowers ≡ old.lowers → ((k : ℕ) → inode_at new.upper k ≡ inode_at old.upper k) → shows 0 (layers_of start) (n ∷ q) ≡ None → o ≡ is_directory (under (layer_of old.upper) (lowers_of old) n q) → SetsPath (layer_of old.upper) (layer_of new.upper) (n ∷ q) (Directory key (new_attributes mode) o None) → MakesDirectory start new (n ∷ q) mode
-makes-at start old new q n key mode o same low inodes absent opaque sets =
-    let I : (layer_of new.upper).inodes ≡ (layer_of old.upper).inodes = inodes-same old.upper new.upper inodes in
-    let none : shows 0 (layers_of old) (n ∷ q) ≡ None = same.absent (n ∷ q) absent in
-    let free : is_object (held (layer_of old.upper) (n ∷ q)) ≡ false = free-absent (layer_of old.upper).inodes (held (layer_of old.upper) (n ∷ q)) (through (layer_of old.upper) (lowers_of old) (n ∷ q)) none in
-    record {
-      lowers = low ∙ same.lowers;
-      key = key;
-      held_there = sets.there ∙ ap (λ b. Some (Directory key (new_attributes mode) b None)) (opaque ∙ ap is_directory (under-same start old n q same));
-      shown_there = ap (λ Ls. merged (layer_of new.upper) Ls (n ∷ q)) (lowers-same old new low) ∙ made-here old.upper (layer_of new.upper) old.lowers.items n q key (new_attributes mode) o free none opaque sets I;
-      elsewhere = λ x ne. ap (λ Ls. merged (layer_of new.upper) Ls x) (lowers-same old new low) ∙ made-elsewhere old.upper (layer_of new.upper) old.lowers.items n q key (new_attributes mode) o free none opaque sets I x ne ∙ same.sights x;
-    }
-
--- a new directory where nothing is shown, in a parent that the upper has
-pub makes : (start old new : Layers) (p q : Path) (n : Name) (key mode : ℕ) (o : Bool) → p ≡ n ∷ q → ShowsSame start old → new.lowers ≡ old.lowers → ((k : ℕ) → inode_at new.upper k ≡ inode_at old.upper k) → shows 0 (layers_of start) p ≡ None → o ≡ is_directory (under (layer_of old.upper) (lowers_of old) n q) → SetsPath (layer_of old.upper) (layer_of new.upper) (n ∷ q) (Directory key (new_attributes mode) o None) → MakesDirectory start new p mode
-makes start old new p q n key mode o e same low inodes absent opaque sets = subst (λ (z : Path). MakesDirectory start new z mode) (sym e) (makes-at start old new q n key mode o same low inodes (sym (ap (shows 0 (layers_of start)) e) ∙ absent) opaque sets)
-
 -- the upper has the directory n in p now, and the same is shown as before
 pub record IsPlaced (old new : Layers) (p : Path) (n : Name) : Type 0 where
   pub key : ℕ
@@ -200,10 +177,3 @@ module _ (old : Layers) (p : Path) (n : Name) (parent : Stack) (is : IsStackOf o
 pub on-err : {A E : Type 0} (P : Type 0) (r : Result A E) → P → OnErr r P
 on-err P (Ok x) h = tt
 on-err P (Err e) h = h
-
--- the place of a new directory where nothing is shown
-pub absent-place : (start old : Layers) (p q : Path) (n : Name) (parent : Stack) (dir : Place) → p ≡ n ∷ q → ShowsSame start old → shows 0 (layers_of start) p ≡ None → IsStackOf old q parent → (top_of parent.places.items).layer ≡ 0 → dir ≡ top_of parent.places.items → HasPlace (layer_of old.upper) dir.key n q
-absent-place start old p q n parent dir e same absent is top is_dir =
-    let none : shows 0 (layers_of old) (n ∷ q) ≡ None = same.absent (n ∷ q) (sym (ap (shows 0 (layers_of start)) e) ∙ absent) in
-    let free : is_object (held (layer_of old.upper) (n ∷ q)) ≡ false = free-absent (layer_of old.upper).inodes (held (layer_of old.upper) (n ∷ q)) (through (layer_of old.upper) (lowers_of old) (n ∷ q)) none in
-    subst (λ (d : Place). HasPlace (layer_of old.upper) d.key n q) (sym is_dir) (place-of old q parent n is top free)

@@ -1,7 +1,6 @@
-use Rattle.std.proofs.Common.{◌≡◌, ◌∷◌, Some}
 use Rattle.merged_lookup.proofs.Descending.{key-of}
-use Rattle.make_remove.proofs.Nodes.{place-free}
-use Rattle.make_remove.proofs.parents.insert_directory.Goals as goal
+use Rattle.copy_up.proofs.Nodes.{place-free}
+use Rattle.copy_up.proofs.parents.insert_directory.Goals as goal
 
 pub insert-requires-clause-no_object : goal.insert-requires-clause-no_object
 insert-requires-clause-no_object c = place-free c.args.upper.now c.lawful.ensures.tree c.args.dir c.args.name c.requires.0 c.requires.1

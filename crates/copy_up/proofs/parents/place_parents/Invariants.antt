@@ -1,7 +1,7 @@
 use Rattle.std.proofs.Common.{◌≡◌, take, reverse}
 use Rattle.merged_lookup.specs.Merged.{IsStackOf, top_of}
-use Rattle.make_remove.specs.Making.{ShowsSame}
-use Rattle.make_remove.proofs.parents.place_parents.Given as goal
+use Rattle.copy_up.specs.Showing.{ShowsSame}
+use Rattle.copy_up.proofs.parents.place_parents.Given as goal
 
 abbrev pub invariant-loop-name : goal.invariant-loop-name
 invariant-loop-name l =

@@ -1,0 +1,3 @@
+pub mod Nodes
+pub mod Placing
+pub mod Keeping
