@@ -5,3 +5,6 @@ pub mod Makes
 pub mod Places
 pub mod Refusing
 pub mod Alters
+pub mod Links
+pub mod Handles
+pub mod Removes

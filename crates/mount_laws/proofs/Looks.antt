@@ -223,7 +223,7 @@ see-stat b (Some (Contents i k (Some inode))) h g = by inode.content
     by (SymbolicLink target) = refl
 
 -- a walk that isn't refused shows something
-shown-there : (e : Option Errno) (s : Option Shown) → first e (absent s) ≡ None → is_some s ≡ true
+pub shown-there : (e : Option Errno) (s : Option Shown) → first e (absent s) ≡ None → is_some s ≡ true
 shown-there None None h = cc
 shown-there None (Some s) h = refl
 shown-there (Some e) s h = cc

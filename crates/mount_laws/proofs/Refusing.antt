@@ -70,13 +70,16 @@ filled-names None = refl
 filled-names (Some (Leaf content a u l)) = refl
 filled-names (Some (Branch a b names c)) = ap (λ k. not (nat_eq k 0)) (fin.len-entries names ∙ sym (length-keys_of (fin.entries names))) ∙ filled-length (fin.keys names)
 
--- a directory without a name has none, and one with a name has some
-pub no-names : (o : Option Node) → ((n : Name) → names_of o n ≡ None) → has_names o ≡ false
-no-names o h = filled-names o ∙ by (names_in o) refl
+-- a node in which no name leads on has none, and one in which a name does has some
+pub names-none : (o : Option Node) → ((n : Name) → names_of o n ≡ None) → names_in o ≡ []
+names-none o h = by (names_in o) refl
   where
-    by : (ns : List Name) → names_in o ≡ ns → is_filled (names_in o) ≡ false
-    by [] e = ap is_filled e
+    by : (ns : List Name) → names_in o ≡ ns → names_in o ≡ []
+    by [] e = e
     by (n ∷ ns) e = absurd (false≢true (sym (node-names o n ∙ ap is_some (h n)) ∙ ap (list_any (same_name n)) e ∙ ap (λ b. b || list_any (same_name n) ns) ((names_tell n n).1 refl)))
+
+pub no-names : (o : Option Node) → ((n : Name) → names_of o n ≡ None) → has_names o ≡ false
+no-names o h = filled-names o ∙ ap is_filled (names-none o h)
 
 pub some-names : (o : Option Node) (n : Name) → is_some (names_of o n) ≡ true → has_names o ≡ true
 some-names o n h = filled-names o ∙ by (names_in o) refl

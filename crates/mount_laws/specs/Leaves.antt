@@ -7,14 +7,16 @@ use Rattle.ov_base.specs.declared.bytes.Content.TheVariants as content
 use Rattle.ov_base.specs.declared.call.Call.TheVariants as call
 use Rattle.ov_base.specs.declared.errno.Errno.{Errno}
 use Rattle.ov_base.specs.declared.errno.Errno.TheVariants as errno
+use Rattle.ov_base.specs.declared.node_id.NodeId.{NodeId}
 use Rattle.ov_base.specs.declared.reply.Reply.TheVariants as reply
 use Rattle.plain_model.specs.Layers.{Name, Path, Named, Inode, Layer, held, Shown, Contents, shows, same_path, AreLayers}
 use Rattle.plain_model.specs.Laws.{IsOutside}
-use Rattle.plain_model.specs.Tree.{Own, SeenLeaf, merged}
+use Rattle.plain_model.specs.Tree.{node_at, Own, SeenLeaf, merged}
 use Rattle.plain_model.specs.Machine.{State}
 use Rattle.plain_model.specs.Refusals.{when, has_nul, refusal}
+use Rattle.plain_model.specs.Changes.{fresh, after}
 use Rattle.plain_model.specs.Replies.{reply_of}
-use Rattle.mount_laws.specs.Looks.{or_else, parents_fault, walk_fault, shows_link, IsMountOf}
+use Rattle.mount_laws.specs.Looks.{or_else, parents_fault, walk_fault, shows_link, IsMountOf, KeepsHidden}
 
 -- why symlink is refused: its target, which has 1 to 4,095 bytes and no NUL, then the parents, then what is there
 abbrev pub symlink_fault : List Layer → List ℕ → Path → Option Errno
@@ -77,3 +79,17 @@ LawOfPlacedLeaf =
     (U V : Layer) (lowers : List Layer) → AreLayers (U ∷ lowers) → AreLayers (V ∷ lowers) →
     (n : Name) (p : Path) (k : ℕ) (i : Inode) → shows 0 (U ∷ lowers) (n ∷ p) ≡ None →
     PlacesLeaf U V (n ∷ p) k i → GainsLeaf U V lowers (n ∷ p) i.content i.attributes
+
+-- symlink makes the mount one of the upper that gains the link; what a path led to it leads to still, and no handle changes
+pub record MakesLink (V : Layer) (lowers : List Layer) (s : State) (c : ℕ) (target : List ℕ) (p : Path) : Type 0 where
+  pub answer : reply_of s c (call.Symlink target p) ≡ reply.Done
+  pub mounts : IsMountOf V lowers (after s c (call.Symlink target p))
+  pub tables : (after s c (call.Symlink target p)).tables ≡ s.tables
+  pub stays : (q : Path) (d : NodeId) → node_at s.tree q ≡ Some d → node_at (after s c (call.Symlink target p)).tree q ≡ Some d
+  pub hidden : KeepsHidden s.tree (after s c (call.Symlink target p)).tree
+
+abbrev pub LawOfLinkMade : Type 0
+LawOfLinkMade =
+    (U V : Layer) (lowers : List Layer) (s : State) → IsMountOf U lowers s →
+    (c : ℕ) (target : List ℕ) (p : Path) → symlink_fault (U ∷ lowers) target p ≡ None →
+    GainsLeaf U V lowers p (content.SymbolicLink target) (fresh 0o777) → MakesLink V lowers s c target p

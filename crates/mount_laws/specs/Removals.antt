@@ -1,15 +1,20 @@
 -- What unlink and rmdir do on the merge of layers, told by what the layers show (overlayfs.rst, "whiteouts and opaque directories";
 -- POSIX.1-2017, unlink() and rmdir(), as Linux's namei.c asks for their errors).
-use Rattle.std.specs.Prelude.{◌≡◌, ◌≢◌, ◌↔◌, ℕ, ◌-◌, ◌<◌, Bool, true, false, not, cond, List, ◌∷◌, ◌++◌, Option, None, Some, is_some}
+use Rattle.std.specs.Prelude.{◌≡◌, ◌≢◌, ◌↔◌, ℕ, ◌-◌, ◌<◌, Bool, true, false, not, cond, List, [], ◌∷◌, ◌++◌, Option, None, Some, is_some}
+use Rattle.ov_base.specs.declared.call.Call.{Call}
 use Rattle.ov_base.specs.declared.call.Call.TheVariants as call
 use Rattle.ov_base.specs.declared.errno.Errno.{Errno}
 use Rattle.ov_base.specs.declared.errno.Errno.TheVariants as errno
+use Rattle.ov_base.specs.declared.node_id.NodeId.{NodeId}
+use Rattle.ov_base.specs.declared.reply.Reply.TheVariants as reply
 use Rattle.plain_model.specs.Layers.{Name, Path, Object, Named, Whiteout, Inode, Layer, held, shows, under, is_directory, AreLayers}
 use Rattle.plain_model.specs.Laws.{IsOutside}
-use Rattle.plain_model.specs.Tree.{Sight, SeenLeaf, merged, AreLinked}
-use Rattle.plain_model.specs.Machine.{State, is_root}
+use Rattle.plain_model.specs.Tree.{node_at, Sight, SeenLeaf, merged, AreLinked, is_folder}
+use Rattle.plain_model.specs.Machine.{Handle, State, is_root, handle_of}
 use Rattle.plain_model.specs.Refusals.{when, refusal}
-use Rattle.mount_laws.specs.Looks.{or_else, walk_fault, IsMountOf}
+use Rattle.plain_model.specs.Changes.{names_in, after}
+use Rattle.plain_model.specs.Replies.{reply_of}
+use Rattle.mount_laws.specs.Looks.{or_else, walk_fault, IsMountOf, IsHidden, KeepsHidden}
 
 -- why unlink is refused: the root, the walk, and last a directory
 abbrev pub unlink_fault : List Layer → Path → Option Errno
@@ -73,3 +78,27 @@ LawOfTakenAway =
     (U V : Layer) (lowers : List Layer) → AreLayers (U ∷ lowers) → AreLayers (V ∷ lowers) →
     (n : Name) (p : Path) → ShowsNoName (U ∷ lowers) (n ∷ p) →
     TakesAway U V (n ∷ p) (left_behind U lowers n p) → Loses U V lowers (n ∷ p)
+
+-- The call takes p away: it makes the mount one of the upper that loses p, other paths lead where they led, and no handle changes.
+-- Directories that a handle is open on stay directories; one that p led to has no names, and no path leads to it.
+pub record Removes (V : Layer) (lowers : List Layer) (s : State) (c : ℕ) (p : Path) (removal : Call) : Type 0 where
+  pub answer : reply_of s c removal ≡ reply.Done
+  pub mounts : IsMountOf V lowers (after s c removal)
+  pub tables : (after s c removal).tables ≡ s.tables
+  pub gone : node_at (after s c removal).tree p ≡ None
+  pub stays : (q : Path) → q ≢ p → node_at (after s c removal).tree q ≡ node_at s.tree q
+  pub hidden : KeepsHidden s.tree (after s c removal).tree
+  pub held : (k fd : ℕ) (h : Handle) → handle_of s.tables k fd ≡ Some h → is_folder ((after s c removal).tree h.node) ≡ is_folder (s.tree h.node)
+  pub empty : (d : NodeId) → node_at s.tree p ≡ Some d → is_folder (s.tree d) ≡ true → (names_in ((after s c removal).tree d) ≡ []) × IsHidden (after s c removal).tree d
+
+abbrev pub LawOfUnlinked : Type 0
+LawOfUnlinked =
+    (U V : Layer) (lowers : List Layer) (s : State) → IsMountOf U lowers s →
+    (c : ℕ) (p : Path) → unlink_fault (U ∷ lowers) p ≡ None →
+    Loses U V lowers p → Removes V lowers s c p (call.Unlink p)
+
+abbrev pub LawOfRemovedDirectory : Type 0
+LawOfRemovedDirectory =
+    (U V : Layer) (lowers : List Layer) (s : State) → IsMountOf U lowers s →
+    (c : ℕ) (p : Path) → rmdir_fault (U ∷ lowers) p false ≡ None → ShowsNoName (U ∷ lowers) p →
+    Loses U V lowers p → Removes V lowers s c p (call.Rmdir p)

@@ -1,7 +1,7 @@
 // The laws of the machine on a mount of layers, each as the contract of a function that does nothing.
-ghost use Rattle.mount_laws.specs.Leaves.{LawOfPlacedLeaf, LawOfReadlink, LawOfSymlink};
+ghost use Rattle.mount_laws.specs.Leaves.{LawOfLinkMade, LawOfPlacedLeaf, LawOfReadlink, LawOfSymlink};
 ghost use Rattle.mount_laws.specs.Looks.{LawOfBadDescriptors, LawOfBeginning, LawOfClose, LawOfDirectories, LawOfList, LawOfMade, LawOfMkdir, LawOfOpen, LawOfPlacedDirectory, LawOfPlacedParent, LawOfStat, LawOfWalks};
-ghost use Rattle.mount_laws.specs.Removals.{LawOfRmdir, LawOfTakenAway, LawOfUnlink};
+ghost use Rattle.mount_laws.specs.Removals.{LawOfRemovedDirectory, LawOfRmdir, LawOfTakenAway, LawOfUnlink, LawOfUnlinked};
 ghost use Rattle.mount_laws.specs.Thin.{LawOfThin};
 
 /// A mount begins as one of its layers.
@@ -101,4 +101,20 @@ pub fn law_of_placed_leaf()
 /// An upper without needless whiteouts stays one where it gets a directory, a file or a link, or has an object taken away.
 pub fn law_of_thin()
     ensures { LawOfThin }
+{}
+
+/// A `symlink` that is not refused makes the mount one of the upper that gains the link; no other path and no handle changes.
+pub fn law_of_link_made()
+    ensures { LawOfLinkMade }
+{}
+
+/// An `unlink` that is not refused makes the mount one of the upper that loses the name; no other path and no handle changes.
+pub fn law_of_unlinked()
+    ensures { LawOfUnlinked }
+{}
+
+/// An `rmdir` that is not refused makes the mount one of the upper that loses the directory; no other path and no handle changes,
+/// and where a handle is open on the directory it stays one, without names and under no path.
+pub fn law_of_removed_directory()
+    ensures { LawOfRemovedDirectory }
 {}
