@@ -4,7 +4,9 @@ use Rattle.std.specs.Prelude.{◌≡◌, ◌≢◌, ℕ, Bool, false, [], ◌∷
 use Rattle.ov_base.specs.declared.attributes.Attributes.{Attributes}
 use Rattle.plain_model.specs.Layers.{Path, Directory, held, under, is_directory}
 use Rattle.plain_model.specs.Tree.{SeenBranch}
+use Rattle.plain_model.specs.Machine.{State}
 pub use Rattle.mount_laws.specs.Looks.{mkdir_fault}
+use Rattle.mount_laws.specs.Looks.{IsMountOf, Makes}
 use Rattle.layer_tree.specs.Tree.{layer_of}
 use Rattle.merged_lookup.specs.declared.layers.Layers.{Layers}
 use Rattle.merged_lookup.specs.Merged.{lowers_of}
@@ -27,3 +29,8 @@ pub record MakesDirectory (old new : Layers) (p : Path) (mode : ℕ) : Type 0 wh
   pub held_there : held (layer_of new.upper) p ≡ Some (Directory key (new_attributes mode) (shown_under old p) None)
   pub shown_there : sight new p ≡ Some (SeenBranch (new_attributes mode) false)
   pub elsewhere : (x : Path) → x ≢ p → sight new x ≡ sight old x
+
+-- every state of the machine whose mount has the old layers goes on to one with the new layers by mkdir
+abbrev pub MkdirSteps : Layers → Layers → Path → ℕ → Type 0
+MkdirSteps old new p mode =
+    (s : State) → IsMountOf (layer_of old.upper) (lowers_of old) s → (c : ℕ) → Makes (layer_of new.upper) (lowers_of new) s c p mode

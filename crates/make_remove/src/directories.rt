@@ -2,8 +2,8 @@
 ghost use Rattle.std.specs.Prelude.{◌≡◌, Some, None, IfOk, IfErr, OnOk, OnErr};
 ghost use Rattle.plain_model.specs.Layers.{shows};
 ghost use Rattle.merged_lookup.specs.Merged.{layers_of, parents_fault};
-ghost use Rattle.copy_up.specs.Showing.{ShowsSame};
-ghost use Rattle.make_remove.specs.Making.{MakesDirectory, mkdir_fault};
+ghost use Rattle.copy_up.specs.Showing.{ShowsSame, StaysLayers, StaysMount, StaysThin};
+ghost use Rattle.make_remove.specs.Making.{MakesDirectory, MkdirSteps, mkdir_fault};
 
 use copy_up::{insert_directory, place_parents};
 use merged_lookup::{Layers, Look, split_last};
@@ -26,7 +26,11 @@ pub fn mkdir(
     ensures unchanged { IfOk result (λ r. OnErr r (layers.new ≡ layers.old)) }
     ensures allowed { IfOk result (λ r. OnOk r (mkdir_fault (layers_of layers.old) path.now mode ≡ None)) }
     ensures made { IfOk result (λ r. OnOk r (MakesDirectory layers.old layers.new path.now mode)) }
+    ensures steps { IfOk result (λ r. OnOk r (MkdirSteps layers.old layers.new path.now mode)) }
     ensures no_memory { OnErr result (ShowsSame layers.old layers.new) }
+    ensures mounts { OnErr result (StaysMount layers.old layers.new) }
+    ensures keeps { StaysLayers layers.old layers.new }
+    ensures thin { StaysThin layers.old layers.new }
 {
     if mode > MODE_BITS {
         return Ok(Err(Errno::EINVAL));
@@ -44,8 +48,13 @@ pub fn mkdir(
 fn make(alloc: Global, layers: &mut Layers, path: &Path, mode: u32) -> Result<(), AllocError>
     requires parents { parents_fault (layers_of layers.old) path.now ≡ None }
     requires absent { shows 0 (layers_of layers.old) path.now ≡ None }
+    requires allowed { mkdir_fault (layers_of layers.old) path.now mode ≡ None }
     ensures made { OnOk result (MakesDirectory layers.old layers.new path.now mode) }
+    ensures steps { OnOk result (MkdirSteps layers.old layers.new path.now mode) }
     ensures no_memory { OnErr result (ShowsSame layers.old layers.new) }
+    ensures mounts { OnErr result (StaysMount layers.old layers.new) }
+    ensures keeps { StaysLayers layers.old layers.new }
+    ensures thin { StaysThin layers.old layers.new }
 {
     let Some((name, parents)) = split_last(path) else {
         unreachable!()
