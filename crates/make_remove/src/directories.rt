@@ -5,13 +5,11 @@ ghost use Rattle.merged_lookup.specs.Merged.{layers_of, parents_fault};
 ghost use Rattle.copy_up.specs.Showing.{ShowsSame, StaysLayers, StaysMount, StaysThin};
 ghost use Rattle.make_remove.specs.Making.{MakesDirectory, MkdirSteps, mkdir_fault};
 
+use crate::objects::{MODE_BITS, new_attributes, vacant};
 use copy_up::{insert_directory, place_parents};
-use merged_lookup::{Layers, Look, split_last};
-use ov_base::{Attributes, Errno, Path, UserAttributes};
+use merged_lookup::{Layers, split_last};
+use ov_base::{Errno, Path};
 use std::alloc::{AllocError, Global};
-
-/// The twelve bits of a mode.
-const MODE_BITS: u32 = 0o7777;
 
 /// Makes a directory with this mode, owner 0, group 0 and no user attributes, as mkdir(2). A mode over 0o7777 is EINVAL; on the way
 /// to the last name a name that shows nothing is ENOENT, a file ENOTDIR and a symbolic link ELOOP; where something is shown it is
@@ -35,10 +33,8 @@ pub fn mkdir(
     if mode > MODE_BITS {
         return Ok(Err(Errno::EINVAL));
     }
-    match layers.look(path) {
-        Ok(Look::Absent(_)) => {}
-        Ok(Look::Found(_)) => return Ok(Err(Errno::EEXIST)),
-        Err(errno) => return Ok(Err(errno)),
+    if let Err(errno) = vacant(layers, path) {
+        return Ok(Err(errno));
     }
     make(alloc, layers, path, mode)?;
     Ok(Ok(()))
@@ -61,12 +57,7 @@ fn make(alloc: Global, layers: &mut Layers, path: &Path, mode: u32) -> Result<()
     };
     let parent = place_parents(layers, parents)?;
     let opaque = layers.lowers_show_directory(&parent, name);
-    let attributes = Attributes {
-        mode,
-        uid: 0,
-        gid: 0,
-        user: UserAttributes::new(alloc),
-    };
+    let attributes = new_attributes(alloc, mode);
     let dir = parent.top();
     insert_directory(&mut layers.upper, dir.key, *name, attributes, opaque)?;
     Ok(())

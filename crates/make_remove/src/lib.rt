@@ -2,8 +2,11 @@
 #![tactic(auto)]
 
 mod directories;
+mod leaves;
+mod objects;
 
 pub use directories::mkdir;
+pub use leaves::{create, symlink};
 
 #[cfg(test)]
 mod tests;
