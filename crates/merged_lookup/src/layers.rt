@@ -135,8 +135,8 @@ impl Layers {
         Ok(stack)
     }
 
-    /// Why a walk cannot go on from an inode: a symbolic link is not followed, and a file has no names.
-    fn blocked(&self, place: Place) -> Errno
+    /// Why a walk can't go on from an inode: a symbolic link, which isn't followed, is ELOOP, and a file is ENOTDIR.
+    pub fn blocked(&self, place: Place) -> Errno
         ensures { result ≡ inode_fault (option_and_then inode_of (node_in (trees self.now) place)) }
     {
         match self.node(place) {

@@ -24,7 +24,6 @@ use Rattle.plain_model.specs.Replies.{reply_of}
 use Rattle.layer_tree.specs.Tree.{layer_of, inode_of}
 use Rattle.merged_lookup.specs.declared.layers.Layers.{Layers}
 use Rattle.merged_lookup.specs.Merged.{layers_of, lowers_of}
-use Rattle.merged_lookup.specs.Merged as merged
 use Rattle.merged_lookup.specs.Merged.{trees, node_in, ShowsInode}
 use Rattle.merged_lookup.specs.declared.stack.Place.{Place}
 use Rattle.merged_lookup.proofs.Looking.{inode-shown}
@@ -44,10 +43,6 @@ use Rattle.private_mount.specs.Opening.{place_fault}
 use Rattle.private_mount.specs.Status.{stat_at, stat_shown, unless_refused}
 use Rattle.private_mount.specs.States.{number, IsLeft, IsHandle, IsSlot, AreTables, IsStateOf, Serves, AreLeft, Pages}
 use Rattle.private_mount.proofs.Serving.{slot-open, slot-closed, in-room, free-lowest, free-none, free-absent, handle-absent, tables-kept, tables-set, room-of}
-
--- both crates tell alike why a walk is refused
-pub same-walk : (Ls : List Layer) (p : Path) → merged.walk_fault Ls p ≡ walk_fault Ls p
-same-walk Ls p = refl
 
 serve-refused : (o : Option Errno) (s : State) (c : ℕ) (k : Call) (e : Errno) (new : Mount) → o ≡ Some e → IsStateOf new s → Serves o s c k (reply.Refused e) new
 serve-refused o s c k e new h st = subst (λ z. Serves z s c k (reply.Refused e) new) (sym h) (refl, st)

@@ -1,10 +1,9 @@
 // A mount and the clients on it.
 ghost use Rattle.std.specs.Prelude.{◌≡◌, ◌<◌, ◌↔◌, ℕ, Bool, List, Some, None, IfOk, IfErr, OnOk, OnErr, IsTrue, IsSome, MatchResult, option_copied, true};
 ghost use Rattle.plain_model.specs.Layers.{shows, is_directory, AreLayers};
-ghost use Rattle.std.specs.Option.{option_and_then};
-ghost use Rattle.layer_tree.specs.Tree.{inode_of, layer_of};
-ghost use Rattle.merged_lookup.specs.Merged.{trees, layers_of, lowers_of, node_in};
-ghost use Rattle.mount_laws.specs.Looks.{FOR_LISTING, AreShown, inode_fault, walk_fault};
+ghost use Rattle.layer_tree.specs.Tree.{layer_of};
+ghost use Rattle.merged_lookup.specs.Merged.{layers_of, lowers_of};
+ghost use Rattle.mount_laws.specs.Looks.{FOR_LISTING, AreShown, walk_fault};
 ghost use Rattle.private_mount.specs.Opening.{place_fault};
 
 use crate::clients::Clients;
@@ -12,10 +11,9 @@ use crate::descriptors::OpenDirectory;
 use crate::listing::Listing;
 use crate::status::status_at;
 use dir_listing::names;
-use layer_tree::{Inode, Node};
 use make_remove::mkdir;
-use merged_lookup::{Found, Layers, Place};
-use ov_base::{Call, Content, Errno, NameList, OpenFlags, Path, Reply};
+use merged_lookup::{Found, Layers};
+use ov_base::{Call, Errno, NameList, OpenFlags, Path, Reply};
 use std::alloc::{AllocError, Global};
 
 /// The most names that one `list` gives.
@@ -152,7 +150,7 @@ impl Mount {
         }
     }
 
-    // Whether a directory stands there that these flags and this mode open.
+    // Whether a directory stands there that these flags and this mode open; a symbolic link isn't followed.
     fn may_open(&self, path: &Path, flags: OpenFlags, mode: u32) -> Result<(), Errno>
         ensures { flags ≡ FOR_LISTING → MatchResult result (λ _. place_fault (layers_of self.now.layers) path.now mode ≡ None) (λ e. place_fault (layers_of self.now.layers) path.now mode ≡ Some e) }
     {
@@ -164,24 +162,7 @@ impl Mount {
         }
         match self.layers.walk(path)? {
             Found::Directory(_) => Ok(()),
-            Found::Inode(place) => Err(self.not_a_directory(place)),
-        }
-    }
-
-    // Why what stands at a place can't be opened as a directory: a symbolic link isn't followed.
-    fn not_a_directory(&self, place: Place) -> Errno
-        ensures { result ≡ inode_fault (option_and_then inode_of (node_in (trees self.now.layers) place)) }
-    {
-        match self.layers.node(place) {
-            Some(
-                Node::Inode(
-                    Inode {
-                        content: Content::SymbolicLink(_),
-                        ..
-                    },
-                ),
-            ) => Errno::ELOOP,
-            _ => Errno::ENOTDIR,
+            Found::Inode(place) => Err(self.layers.blocked(place)),
         }
     }
 
