@@ -1,10 +1,13 @@
 -- What placing missing parents in the upper leaves: what is shown, and where a directory has its place (overlayfs.rst, "Directories").
-use Rattle.std.specs.Prelude.{◌≡◌, ℕ, Bool, true, false, ◌∷◌, Option, None, Some}
+use Rattle.std.specs.Prelude.{◌≡◌, ◌↔◌, ℕ, Bool, true, false, ◌∷◌, Option, None, Some}
 use Rattle.ov_base.specs.declared.attributes.Attributes.{Attributes}
 use Rattle.ov_base.specs.declared.redirect.Redirect.{Redirect}
-use Rattle.plain_model.specs.Layers.{Name, Path, Object, Directory, Named, Layer, held, below, cuts, shows}
-use Rattle.plain_model.specs.Tree.{Sight, merged}
-use Rattle.layer_tree.specs.Tree.{layer_of}
+use Rattle.plain_model.specs.Laws.{Placed}
+use Rattle.plain_model.specs.Machine.{State}
+use Rattle.plain_model.specs.Layers.{AreLayers, Folder, Name, Path, Object, Directory, Named, Layer, held, below, cuts, shows}
+use Rattle.plain_model.specs.Tree.{Sight, merged, IsThin}
+use Rattle.mount_laws.specs.Looks.{IsMountOf}
+use Rattle.layer_tree.specs.Tree.{layer_of, inode_at}
 use Rattle.merged_lookup.specs.declared.layers.Layers.{Layers}
 use Rattle.merged_lookup.specs.Merged.{layers_of, lowers_of}
 
@@ -37,3 +40,33 @@ pub record HasPlace (L : Layer) (dir : ℕ) (n : Name) (p : Path) : Type 0 where
   pub redirect : Option Redirect
   pub directory : held L p ≡ Some (Directory dir attributes opaque redirect)
   pub free : is_object (held L (n ∷ p)) ≡ false
+
+-- layers that are layers stay so
+abbrev pub StaysLayers : Layers → Layers → Type 0
+StaysLayers old new = AreLayers (layers_of old) → AreLayers (layers_of new)
+
+-- a state of the machine whose mount has the old layers has the new ones
+abbrev pub StaysMount : Layers → Layers → Type 0
+StaysMount old new = (s : State) → IsMountOf (layer_of old.upper) (lowers_of old) s → IsMountOf (layer_of new.upper) (lowers_of new) s
+
+-- an upper without needless whiteouts stays so
+abbrev pub StaysThin : Layers → Layers → Type 0
+StaysThin old new = IsThin (layer_of old.upper) (lowers_of old) → IsThin (layer_of new.upper) (lowers_of new)
+
+-- what directories that are placed with the attributes that they show leave as it was
+pub record Stays (old new : Layers) : Type 0 where
+  pub layers : StaysLayers old new
+  pub mounts : StaysMount old new
+  pub thin : StaysThin old new
+  pub names : (p : Path) (k : ℕ) → (held (layer_of new.upper) p ≡ Some (Named k)) ↔ (held (layer_of old.upper) p ≡ Some (Named k))
+  pub inodes : (k : ℕ) → inode_at new.upper k ≡ inode_at old.upper k
+
+-- The upper gets the directory that is shown at the path, with the attributes that are shown, no marks and nothing in it, and nothing else.
+pub record GainsParent (old new : Layers) (p : Path) : Type 0 where
+  pub layer : ℕ
+  pub key : ℕ
+  pub attributes : Attributes
+  pub shown : shows 0 (layers_of old) p ≡ Some (Folder layer key attributes)
+  pub lowers : new.lowers ≡ old.lowers
+  pub number : ℕ
+  pub placed : Placed (layer_of old.upper) (layer_of new.upper) p (Some (Directory number attributes false None))
