@@ -18,11 +18,8 @@ use Rattle.plain_model.proofs.Kept.{law_of_names}
 use Rattle.plain_model.proofs.Paths.{ids_tell}
 use Rattle.mount_laws.specs.Looks.{IsMountOf, IsHidden}
 use Rattle.mount_laws.specs.Removed.{ClosesHidden, LawOfCloseRemoved, LawOfListRemoved}
-use Rattle.mount_laws.proofs.Handles.{held-by}
+use Rattle.mount_laws.proofs.Handles.{not-same, held-by}
 use Rattle.mount_laws.proofs.Lists.{list-chain}
-
-not-same : (x y : NodeId) → x ≢ y → same_id x y ≡ false
-not-same x y h = elim (cases_Bool (same_id x y)) [ inl s ↦ absurd (h ((ids_tell x y).0 s)) | inr s ↦ s ]
 
 -- another node at d, which no path leads to, changes no path and nothing that is seen at one
 module _ (t : Tree) (d : NodeId) (hid : IsHidden t d) (o : Option Node) where
