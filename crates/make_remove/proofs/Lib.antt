@@ -1,1 +1,3 @@
 pub mod Making
+pub mod Freeing
+pub mod Removing

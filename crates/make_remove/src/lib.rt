@@ -2,8 +2,10 @@
 #![tactic(auto)]
 
 mod directories;
+mod removals;
 
 pub use directories::mkdir;
+pub use removals::{rmdir, unlink};
 
 #[cfg(test)]
 mod tests;
