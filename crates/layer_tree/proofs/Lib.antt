@@ -11,3 +11,6 @@ pub mod Roots
 pub mod Writing
 pub mod Overlays
 pub mod Held
+pub mod Layers
+pub mod Keeping
+pub mod Freeing

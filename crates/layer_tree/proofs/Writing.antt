@@ -6,12 +6,14 @@ use Rattle.std.proofs.lemmas.Bool.{cases_eq}
 use Rattle.slab.specs.Slab.{get, with_value, Updates}
 use Rattle.slab.proofs.SlabLemmas.{Updates-with_value}
 use Rattle.plain_model.specs.Layers as layers
+use Rattle.plain_model.specs.Layers.{IsLayer}
 use Rattle.layer_tree.specs.Table.{Table, entry_in}
 use Rattle.layer_tree.specs.Tree.{Tree, table_of, inode_of, seen, entry, seen_at, inode_at, bytes_at, file_bytes, names_room, layer_of, with_bytes, IsTree, Writes, SameObjects}
 use Rattle.layer_tree.specs.Change.{node_bytes, with_file}
 use Rattle.layer_tree.specs.declared.node.Node.{Node}
 use Rattle.layer_tree.specs.declared.node.Node.TheVariants as node
 use Rattle.layer_tree.proofs.Roots.{links_of, IsTree-alike, SameObjects-alike}
+use Rattle.layer_tree.proofs.Layers.{IsLayer-alike}
 
 pub some_of : {A : Type 0} (o : Option A) → IsSome o → (x : A) × (o ≡ Some x)
 some_of None h = absurd (true≢false (sym h))
@@ -69,6 +71,9 @@ module _ (old : Tree) (key : ℕ) (before : Node) (found : get old key ≡ Some 
 
   pub SameObjects-written : SameObjects (layer_of old) (layer_of after)
   SameObjects-written = SameObjects-alike old after same_entries same_seen
+
+  pub IsLayer-written : IsLayer (layer_of old) → IsLayer (layer_of after)
+  IsLayer-written = IsLayer-alike (layer_of old) (layer_of after) SameObjects-written same_links
 
   pub writes : Writes old after key bytes
   writes =

@@ -121,7 +121,7 @@ fn onward_from<'a>(key: usize, marks: &'a Marks, name: &'a Name) -> Onward<'a>
         Marks {
             redirect: Some(Redirect::Single(other)),
             ..
-        } => Onward::By(key, other),
+        } => Onward::By(key, other.get()),
         Marks {
             redirect: Some(Redirect::Absolute(path)),
             ..

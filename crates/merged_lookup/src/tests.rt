@@ -4,7 +4,7 @@ ghost use Rattle.layer_tree.specs.Tree.{leads, leads_on, seen_object};
 
 use crate::{Found, Layers};
 use layer_tree::{Layer, Marks, Object, ROOT};
-use ov_base::{Attributes, Bytes, Content, Errno, Name, Path, Redirect, UserAttributes};
+use ov_base::{Attributes, BoxedName, Bytes, Content, Errno, Name, Path, Redirect, UserAttributes};
 use std::alloc::Global;
 use std::process::Abort;
 use std::test::Fail;
@@ -82,7 +82,8 @@ fn upper(rt: &impl Abort, alloc: Global) -> Layer {
         b"moved",
         directory(alloc, false, away),
     );
-    let old = Some(Redirect::Single(name(rt, b"old")));
+    let old = BoxedName::new(alloc, name(rt, b"old")).expect(rt, "memory");
+    let old = Some(Redirect::Single(old));
     put(
         rt,
         &mut layer,

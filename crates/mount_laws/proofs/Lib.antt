@@ -3,3 +3,9 @@ pub mod Opens
 pub mod Lists
 pub mod Makes
 pub mod Places
+pub mod Refusing
+pub mod Alters
+pub mod Links
+pub mod Handles
+pub mod Removes
+pub mod Removed

@@ -102,13 +102,13 @@ node-sorted None = tt
 node-sorted (Some (Leaf content a u l)) = tt
 node-sorted (Some (Branch a b names c)) = sorted-from (fin.entries names) (fin.entries_sorted names)
 
-node-names : (o : Option Node) (n : Name) → list_any (same_name n) (names_in o) ≡ is_some (names_of o n)
+pub node-names : (o : Option Node) (n : Name) → list_any (same_name n) (names_in o) ≡ is_some (names_of o n)
 node-names None n = refl
 node-names (Some (Leaf content a u l)) n = refl
 node-names (Some (Branch a b names c)) n = any-ties n (fin.keys names) ∙ sym (fin.contains_key-keys names n)
 
 -- a listing's refusals, where the handle is open on a directory
-list-chain : (b : Bool) (d : Bool) → d ≡ true → (when false EBADF or_else when (not d) ENOTDIR or_else when b EINVAL) ≡ when b EINVAL
+pub list-chain : (b : Bool) (d : Bool) → d ≡ true → (when false EBADF or_else when (not d) ENOTDIR or_else when b EINVAL) ≡ when b EINVAL
 list-chain b true h = refl
 list-chain b false h = absurd (false≢true h)
 

@@ -11,17 +11,17 @@ use Rattle.ov_base.specs.declared.node_id.NodeId.{NodeId}
 use Rattle.ov_base.specs.declared.node_id.NodeId.TheVariants.{New}
 use Rattle.plain_model.specs.Layers.{Name, Path, Named, Inode, Layer, held, over, through, same_path}
 use Rattle.plain_model.specs.Laws.{IsOutside}
-use Rattle.plain_model.specs.Tree.{same_id, Node, Branch, Leaf, Tree, names_of, entry, node_at, node_of, with_name, put, lead, face, SeenBranch, sight_at, merged, AreLinked, Remounts, IsKept, is_folder, count_of, see_inode}
+use Rattle.plain_model.specs.Tree.{same_id, Node, Branch, Leaf, Tree, names_of, entry, node_at, node_of, with_name, put, lead, face, sight_at, merged, AreLinked, Remounts, IsKept, is_folder, count_of, see_inode}
 use Rattle.plain_model.specs.Machine.{State, Look, Found, Absent, Fails, look, is_found}
-use Rattle.plain_model.specs.Refusals.{when, walked, bad_mode, refusal}
-use Rattle.plain_model.specs.Changes.{fresh, on_way, way_of, made_way, tree_after}
+use Rattle.plain_model.specs.Refusals.{when, walked, bad_mode}
+use Rattle.plain_model.specs.Changes.{fresh, on_way, way_of, made_way}
 use Rattle.plain_model.proofs.Keeping.{put-here, put-there}
 use Rattle.plain_model.proofs.Kept.{at-path, law_of_names}
 use Rattle.plain_model.proofs.Looking.{Reached, Tells, look-reached}
 use Rattle.plain_model.proofs.Paths.{place, paths_tell, ids_tell}
 use Rattle.plain_model.proofs.Merged.{named-seen}
 use Rattle.plain_model.proofs.Walks.{lead-outside, lead-at}
-use Rattle.mount_laws.specs.Looks.{or_else as first, mkdir_fault, IsMountOf, Gains, Makes, LawOfMade}
+use Rattle.mount_laws.specs.Looks.{or_else as first, IsMountOf, KeepsHidden, LawOfMade}
 use Rattle.mount_laws.proofs.Looks.{at-some, to-parents, finds, law_of_mkdir}
 
 -- a free name, where mkdir is not refused
@@ -34,7 +34,7 @@ pub record Spot (t : Tree) (p : Path) : Type 0 where
   pub folder : is_folder (t dir) ≡ true
   pub free : names_of (t dir) name ≡ None
 
-free-spot : (t : Tree) (p : Path) (b : Option Errno) → first b (first (walked (look t p)) (when (is_found (look t p)) EEXIST)) ≡ None → Spot t p
+pub free-spot : (t : Tree) (p : Path) (b : Option Errno) → first b (first (walked (look t p)) (when (is_found (look t p)) EEXIST)) ≡ None → Spot t p
 free-spot t p (Some e) h = cc
 free-spot t [] None h = cc
 free-spot t (n ∷ q) None h = by (look t (n ∷ q)) refl h
@@ -124,6 +124,17 @@ module _ (t : Tree) (i : ℕ) (kept : IsKept t i) (q : Path) (n : Name) (d : Nod
       below [] g = inl (g, (let z : Some (New i) ≡ Some e = sym here-at ∙ ap (node_at made) (sym g) ∙ h in cc))
       below (m ∷ r) g = let z : None ≡ Some e = sym (below-at m r) ∙ ap (node_at made) (sym g) ∙ h in cc
 
+  -- a node that was there under no path is as it was, and no path leads to it
+  pub hidden-made : KeepsHidden t made
+  hidden-made e some hid = (
+    put-there apart d (with_name n (Some (New i)) (apart d)) e (elim (cases_Bool (same_id d e)) [ inl s ↦ absurd (hid q (at ∙ ap Some ((ids_tell d e).0 s))) | inr s ↦ s ])
+        ∙ put-there t (New i) (Some x) e (elim (cases_Bool (same_id (New i) e)) [ inl s ↦ absurd (other ((ids_tell (New i) e).0 s)) | inr s ↦ s ]),
+    λ y h. elim (new-at y e h) [ inl b ↦ absurd (other (sym b.1)) | inr b ↦ hid y b ],
+  )
+    where
+      other : New i ≡ e → ⊥
+      other s = false≢true (sym (ap is_some (ap t (sym s) ∙ none)) ∙ some)
+
   face-name : (o : Option Node) → face (with_name n (Some (New i)) o) ≡ face o
   face-name None = refl
   face-name (Some (Branch a b names c)) = refl
@@ -171,12 +182,8 @@ module _ (t : Tree) (i : ℕ) (kept : IsKept t i) (q : Path) (n : Name) (d : Nod
           ∙ sym (ap (λ o. face (node_of t o)) (ap (node_at t) g ∙ before-at (m ∷ r)))
           ∙ sym (ap (λ b. cond b (face (Some x)) (sight_at t y)) (other (λ e. longer m r (e ∙ g))))
 
--- the machine's refusal is none where the layers' is
-unrefused : (U : Layer) (lowers : List Layer) (s : State) → IsMountOf U lowers s → (c : ℕ) (p : Path) (mode : ℕ) → mkdir_fault (U ∷ lowers) p mode ≡ None → refusal s c (Mkdir p mode) ≡ None
-unrefused U lowers s m c p mode h = law_of_mkdir U lowers s m c p mode ∙ h
-
 -- a directory stands at one path alone
-folder-alone : (U : Layer) (lowers : List Layer) (s : State) → IsMountOf U lowers s → (q y : Path) (d : NodeId) → is_folder (s.tree d) ≡ true → node_at s.tree q ≡ Some d → node_at s.tree y ≡ Some d → y ≡ q
+pub folder-alone : (U : Layer) (lowers : List Layer) (s : State) → IsMountOf U lowers s → (q y : Path) (d : NodeId) → is_folder (s.tree d) ≡ true → node_at s.tree q ≡ Some d → node_at s.tree y ≡ Some d → y ≡ q
 folder-alone U lowers s m q y d f a b = elim (m.shows.apart y q d b a) [
   | inl e ↦ e
   | inr l ↦ absurd (false≢true (sym (no-folder l.number l.second) ∙ f))
@@ -191,57 +198,52 @@ folder-alone U lowers s m q y d f a b = elim (m.shows.apart y q d b a) [
     no-folder : (k : ℕ) → held U q ≡ Some (Named k) → is_folder (s.tree d) ≡ false
     no-folder k h = leaf (s.tree d) (U.inodes k) (ap (λ o. face (node_of s.tree o)) (sym a) ∙ m.shows.sights q ∙ named-seen U lowers q k h)
 
-module _ (U V : Layer) (lowers : List Layer) (s : State) (m : IsMountOf U lowers s) (c : ℕ) (p : Path) (mode : ℕ) (fine : mkdir_fault (U ∷ lowers) p mode ≡ None) (g : Gains U V lowers p (fresh mode)) (spot : Spot s.tree p) where
-  abbrev pub x : Node
-  x = Branch (fresh mode) false fin.empty 1
-
-  none-in : (n : Name) → names_of (Some x) n ≡ None
-  none-in n = fin.get-empty (slice_cmp nat_cmp) n
-
+-- a new node x without names at a free path, where V shows that too
+module _ (U V : Layer) (lowers : List Layer) (s : State) (m : IsMountOf U lowers s) (p : Path) (spot : Spot s.tree p) (x : Node) (bare : (n : Name) → names_of (Some x) n ≡ None) (gained : (q : Path) → merged V lowers q ≡ cond (same_path p q) (face (Some x)) (merged U lowers q)) (before : (y z : Path) → AreLinked V y z → (y ≡ z) ⊎ AreLinked U y z) (later : (y z : Path) → AreLinked U y z → AreLinked V y z) where
   only : (y : Path) → node_at s.tree y ≡ Some spot.dir → y ≡ spot.parent
   only y h = folder-alone U lowers s m spot.parent y spot.dir spot.folder spot.at h
 
   abbrev pub made-tree : Tree
   made-tree = lead (put s.tree (New s.serial) (Some x)) spot.dir spot.name (Some (New s.serial))
 
+  abbrev pub way-tree : Tree
+  way-tree = made_way s.tree s.serial (way_of s.tree p) x
+
   -- the tree after the call
-  is-made : tree_after s c (Mkdir p mode) ≡ made-tree
+  is-made : way-tree ≡ made-tree
   is-made = ap (λ w. made_way s.tree s.serial w x) (ap (way_of s.tree) spot.is ∙ ap (λ o. on_way o spot.name) spot.at)
 
   sights : (y : Path) → sight_at made-tree y ≡ merged V lowers y
   sights y =
-      made-sights s.tree s.serial m.kept spot.parent spot.name spot.dir spot.at spot.folder spot.free only x none-in y
-      ∙ ap₂ (λ z o. cond (same_path z y) (Some (SeenBranch (fresh mode) false)) o) (sym spot.is) (m.shows.sights y)
-      ∙ sym (g.sights y)
+      made-sights s.tree s.serial m.kept spot.parent spot.name spot.dir spot.at spot.folder spot.free only x bare y
+      ∙ ap₂ (λ z o. cond (same_path z y) (face (Some x)) o) (sym spot.is) (m.shows.sights y)
+      ∙ sym (gained y)
 
   still : (y : Path) (d : NodeId) → node_at s.tree y ≡ Some d → node_at made-tree y ≡ Some d
-  still = still-at s.tree s.serial m.kept spot.parent spot.name spot.dir spot.at spot.folder spot.free only x none-in
-
-  linked-before : (y z : Path) → AreLinked V y z → AreLinked U y z
-  linked-before y z l = record { number = l.number; first = (g.names y l.number).0 l.first; second = (g.names z l.number).0 l.second }
-
-  linked-after : (y z : Path) → AreLinked U y z → AreLinked V y z
-  linked-after y z l = record { number = l.number; first = (g.names y l.number).1 l.first; second = (g.names z l.number).1 l.second }
+  still = still-at s.tree s.serial m.kept spot.parent spot.name spot.dir spot.at spot.folder spot.free only x bare
 
   linked : (y z : Path) → AreLinked V y z → node_at made-tree y ≡ node_at made-tree z
-  linked y z l = by (node_at s.tree y) refl (at-some U lowers s m y ∙ ap (λ o. is_some (over 0 U.inodes o (through U lowers y))) (linked-before y z l).first)
+  linked y z l = elim (before y z l) [
+    | inl e ↦ ap (node_at made-tree) e
+    | inr k ↦ by k (node_at s.tree y) refl (at-some U lowers s m y ∙ ap (λ o. is_some (over 0 U.inodes o (through U lowers y))) k.first)
+  ]
     where
-      by : (o : Option NodeId) → node_at s.tree y ≡ o → is_some o ≡ true → node_at made-tree y ≡ node_at made-tree z
-      by None h i = absurd (false≢true i)
-      by (Some d) h i = still y d h ∙ sym (still z d (sym (m.shows.linked y z (linked-before y z l)) ∙ h))
+      by : AreLinked U y z → (o : Option NodeId) → node_at s.tree y ≡ o → is_some o ≡ true → node_at made-tree y ≡ node_at made-tree z
+      by k None h i = absurd (false≢true i)
+      by k (Some d) h i = still y d h ∙ sym (still z d (sym (m.shows.linked y z k) ∙ h))
 
   apart-paths : (y z : Path) (d : NodeId) → node_at made-tree y ≡ Some d → node_at made-tree z ≡ Some d → (y ≡ z) ⊎ AreLinked V y z
   apart-paths y z d h k = by (new y d h) (new z d k)
     where
       new : (y : Path) (d : NodeId) → node_at made-tree y ≡ Some d → ((y ≡ spot.name ∷ spot.parent) × (d ≡ New s.serial)) ⊎ (node_at s.tree y ≡ Some d)
-      new = new-at s.tree s.serial m.kept spot.parent spot.name spot.dir spot.at spot.folder spot.free only x none-in
+      new = new-at s.tree s.serial m.kept spot.parent spot.name spot.dir spot.at spot.folder spot.free only x bare
 
       unused : (y : Path) → node_at s.tree y ≡ Some (New s.serial) → ⊥
-      unused = no-way s.tree s.serial m.kept spot.parent spot.name spot.dir spot.at spot.folder spot.free only x none-in
+      unused = no-way s.tree s.serial m.kept spot.parent spot.name spot.dir spot.at spot.folder spot.free only x bare
 
       lift : (y ≡ z) ⊎ AreLinked U y z → (y ≡ z) ⊎ AreLinked V y z
       lift (inl e) = inl e
-      lift (inr l) = inr (linked-after y z l)
+      lift (inr l) = inr (later y z l)
 
       by : ((y ≡ spot.name ∷ spot.parent) × (d ≡ New s.serial)) ⊎ (node_at s.tree y ≡ Some d) → ((z ≡ spot.name ∷ spot.parent) × (d ≡ New s.serial)) ⊎ (node_at s.tree z ≡ Some d) → (y ≡ z) ⊎ AreLinked V y z
       by (inl a) (inl b) = inl (a.0 ∙ sym b.0)
@@ -249,24 +251,40 @@ module _ (U V : Layer) (lowers : List Layer) (s : State) (m : IsMountOf U lowers
       by (inr a) (inl b) = absurd (unused y (a ∙ ap Some b.1))
       by (inr a) (inr b) = lift (m.shows.apart y z d a b)
 
-  shows-made : Remounts V lowers made-tree
-  shows-made = record { sights = sights; linked = linked; apart = apart-paths }
+  pub way-shows : Remounts V lowers way-tree
+  way-shows = subst (Remounts V lowers) (sym is-made) (record { sights = sights; linked = linked; apart = apart-paths })
 
-  makes-it : Makes V lowers s c p mode
-  makes-it = record {
-    answer = refl;
-    mounts = record {
-      layers = g.layers;
-      shows = subst (Remounts V lowers) (sym is-made) shows-made;
-      kept = law_of_names s c (Mkdir p mode) m.kept (unrefused U lowers s m c p mode fine);
-    };
-    tables = refl;
-    stays = λ y d h. ap (λ t. node_at t y) is-made ∙ still y d h;
-  }
+  pub way-stays : (y : Path) (d : NodeId) → node_at s.tree y ≡ Some d → node_at way-tree y ≡ Some d
+  way-stays y d h = ap (λ t. node_at t y) is-made ∙ still y d h
+
+  pub way-hidden : KeepsHidden s.tree way-tree
+  way-hidden = subst (KeepsHidden s.tree) (sym is-made) (hidden-made s.tree s.serial m.kept spot.parent spot.name spot.dir spot.at spot.folder spot.free only x bare)
 
 -- mkdir makes the mount one of the upper that gains the directory
 pub law_of_made : LawOfMade
-law_of_made U V lowers s m c p mode fine g = makes-it U V lowers s m c p mode fine g (free-spot s.tree p (bad_mode mode) none)
+law_of_made U V lowers s m c p mode fine g = record {
+  answer = refl;
+  mounts = record {
+    layers = g.layers;
+    shows = way-shows U V lowers s m p spot x bare g.sights before later;
+    kept = law_of_names s c (Mkdir p mode) m.kept (law_of_mkdir U lowers s m c p mode ∙ fine);
+  };
+  tables = refl;
+  stays = way-stays U V lowers s m p spot x bare g.sights before later;
+  hidden = way-hidden U V lowers s m p spot x bare g.sights before later;
+}
   where
-    none : first (bad_mode mode) (first (walked (look s.tree p)) (when (is_found (look s.tree p)) EEXIST)) ≡ None
-    none = ap₂ (λ e b. first (bad_mode mode) (first e (when b EEXIST))) (to-parents U lowers s m p) (finds U lowers s m p) ∙ fine
+    spot : Spot s.tree p
+    spot = free-spot s.tree p (bad_mode mode) (ap₂ (λ e b. first (bad_mode mode) (first e (when b EEXIST))) (to-parents U lowers s m p) (finds U lowers s m p) ∙ fine)
+
+    x : Node
+    x = Branch (fresh mode) false fin.empty 1
+
+    bare : (n : Name) → names_of (Some x) n ≡ None
+    bare n = fin.get-empty (slice_cmp nat_cmp) n
+
+    before : (y z : Path) → AreLinked V y z → (y ≡ z) ⊎ AreLinked U y z
+    before y z l = inr (record { number = l.number; first = (g.names y l.number).0 l.first; second = (g.names z l.number).0 l.second })
+
+    later : (y z : Path) → AreLinked U y z → AreLinked V y z
+    later y z l = record { number = l.number; first = (g.names y l.number).1 l.first; second = (g.names z l.number).1 l.second }

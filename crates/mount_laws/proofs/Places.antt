@@ -11,7 +11,7 @@ use Rattle.plain_model.proofs.Uppers.{meld, merged-meld, AgreeTo, agree-step, ag
 use Rattle.mount_laws.specs.Looks.{LawOfPlacedParent, LawOfPlacedDirectory}
 
 -- what shows no directory shows nothing in it
-nothing-in : (Ls : List Layer) → AreLayers Ls → (m : Name) (q : Path) → is_directory (shows 0 Ls q) ≡ false → shows 0 Ls (m ∷ q) ≡ None
+pub nothing-in : (Ls : List Layer) → AreLayers Ls → (m : Name) (q : Path) → is_directory (shows 0 Ls q) ≡ false → shows 0 Ls (m ∷ q) ≡ None
 nothing-in Ls a m q h = by (shows 0 Ls (m ∷ q)) refl
   where
     by : (s : Option Shown) → shows 0 Ls (m ∷ q) ≡ s → shows 0 Ls (m ∷ q) ≡ None
@@ -19,12 +19,12 @@ nothing-in Ls a m q h = by (shows 0 Ls (m ∷ q)) refl
     by (Some s) e = absurd (false≢true (sym h ∙ parent-shown 0 Ls a m q (ap is_some e)))
 
 -- what shows nothing shows nothing below
-nothing-below : (Ls : List Layer) → AreLayers Ls → (p : Path) → shows 0 Ls p ≡ None → (m : Name) (r : Path) → shows 0 Ls (m ∷ r ++ p) ≡ None
+pub nothing-below : (Ls : List Layer) → AreLayers Ls → (p : Path) → shows 0 Ls p ≡ None → (m : Name) (r : Path) → shows 0 Ls (m ∷ r ++ p) ≡ None
 nothing-below Ls a p h m [] = nothing-in Ls a m p (ap is_directory h)
 nothing-below Ls a p h m (k ∷ r) = nothing-in Ls a m (k ∷ r ++ p) (ap is_directory (nothing-below Ls a p h k r))
 
 -- a name of an inode is shown
-named-shown : (U : Layer) (lowers : List Layer) (p : Path) (k : ℕ) → held U p ≡ Some (Named k) → shows 0 (U ∷ lowers) p ≡ None → ⊥
+pub named-shown : (U : Layer) (lowers : List Layer) (p : Path) (k : ℕ) → held U p ≡ Some (Named k) → shows 0 (U ∷ lowers) p ≡ None → ⊥
 named-shown U lowers p k h e = let z : Some (Contents 0 k (U.inodes k)) ≡ None = sym (ap (λ o. over 0 U.inodes o (through U lowers p)) h) ∙ e in cc
 
 -- below a path that is not held nothing is held
@@ -39,13 +39,13 @@ unheld : (U : Layer) (lowers : List Layer) → AreLayers (U ∷ lowers) → (p :
 unheld U lowers a p h m [] = unheld-in U lowers a m p (ap holds_directory h)
 unheld U lowers a p h m (k ∷ r) = unheld-in U lowers a m (k ∷ r ++ p) (ap holds_directory (unheld U lowers a p h k r))
 
-other-path : (p x : Path) → (p ≡ x → ⊥) → same_path p x ≡ false
+pub other-path : (p x : Path) → (p ≡ x → ⊥) → same_path p x ≡ false
 other-path p x h = elim (cases_Bool (same_path p x)) [
   | inl s ↦ absurd (h ((paths_tell p x).0 s))
   | inr s ↦ s
 ]
 
-longer : (p : Path) (m : Name) (r : Path) → p ≡ m ∷ r ++ p → ⊥
+pub longer : (p : Path) (m : Name) (r : Path) → p ≡ m ∷ r ++ p → ⊥
 longer p m r e = absurd (omega (arith, simp length-append at (ap length e)))
 
 -- a new directory at n in p

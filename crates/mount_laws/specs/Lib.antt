@@ -1,1 +1,5 @@
 pub mod Looks
+pub mod Leaves
+pub mod Removals
+pub mod Thin
+pub mod Removed

@@ -224,12 +224,21 @@ pub record Gains (U V : Layer) (lowers : List Layer) (p : Path) (a : Attributes)
   pub sights : (q : Path) → merged V lowers q ≡ cond (same_path p q) (Some (SeenBranch a false)) (merged U lowers q)
   pub names : (q : Path) (k : ℕ) → (held V q ≡ Some (Named k)) ↔ (held U q ≡ Some (Named k))
 
+-- a node that no path leads to
+abbrev pub IsHidden : Tree → NodeId → Type 0
+IsHidden t d = (p : Path) → node_at t p ≡ Some d → ⊥
+
+-- the nodes of the first tree that no path leads to are the same in the second, and no path leads to them there
+abbrev pub KeepsHidden : Tree → Tree → Type 0
+KeepsHidden t u = (d : NodeId) → is_some (t d) ≡ true → IsHidden t d → (u d ≡ t d) × IsHidden u d
+
 -- mkdir makes the mount one of the upper that gains the directory; what a path led to it leads to still, and no handle changes
 pub record Makes (V : Layer) (lowers : List Layer) (s : State) (c : ℕ) (p : Path) (mode : ℕ) : Type 0 where
   pub answer : reply_of s c (call.Mkdir p mode) ≡ reply.Done
   pub mounts : IsMountOf V lowers (after s c (call.Mkdir p mode))
   pub tables : (after s c (call.Mkdir p mode)).tables ≡ s.tables
   pub stays : (q : Path) (d : NodeId) → node_at s.tree q ≡ Some d → node_at (after s c (call.Mkdir p mode)).tree q ≡ Some d
+  pub hidden : KeepsHidden s.tree (after s c (call.Mkdir p mode)).tree
 
 abbrev pub LawOfMade : Type 0
 LawOfMade =

@@ -1,5 +1,9 @@
 // The laws of the machine on a mount of layers, each as the contract of a function that does nothing.
+ghost use Rattle.mount_laws.specs.Removed.{LawOfCloseRemoved, LawOfListRemoved};
+ghost use Rattle.mount_laws.specs.Leaves.{LawOfLinkMade, LawOfPlacedLeaf, LawOfReadlink, LawOfSymlink};
 ghost use Rattle.mount_laws.specs.Looks.{LawOfBadDescriptors, LawOfBeginning, LawOfClose, LawOfDirectories, LawOfList, LawOfMade, LawOfMkdir, LawOfOpen, LawOfPlacedDirectory, LawOfPlacedParent, LawOfStat, LawOfWalks};
+ghost use Rattle.mount_laws.specs.Removals.{LawOfRemovedDirectory, LawOfRmdir, LawOfTakenAway, LawOfUnlink, LawOfUnlinked};
+ghost use Rattle.mount_laws.specs.Thin.{LawOfThin};
 
 /// A mount begins as one of its layers.
 pub fn law_of_beginning()
@@ -62,4 +66,66 @@ pub fn law_of_placed_parent()
 /// that is gained (overlayfs.rst, "whiteouts and opaque directories").
 pub fn law_of_placed_directory()
     ensures { LawOfPlacedDirectory }
+{}
+
+/// `unlink` is refused for the root, then as the layers' walk is, then where they show a directory.
+pub fn law_of_unlink()
+    ensures { LawOfUnlink }
+{}
+
+/// `rmdir` is refused for the root, then as the layers' walk is, then where they show no directory, then where they show a name in it.
+pub fn law_of_rmdir()
+    ensures { LawOfRmdir }
+{}
+
+/// `symlink` is refused for its target, then as the layers' walk of the parents is, then where they show something.
+pub fn law_of_symlink()
+    ensures { LawOfSymlink }
+{}
+
+/// `readlink` is refused as the layers' walk is, then where they show no symbolic link, and answers the target of the link.
+pub fn law_of_readlink()
+    ensures { LawOfReadlink }
+{}
+
+/// An upper from which an object is taken away loses it and no more: a whiteout stands in its place exactly where the layers below show
+/// something (overlayfs.rst, "whiteouts and opaque directories").
+pub fn law_of_taken_away()
+    ensures { LawOfTakenAway }
+{}
+
+/// A file or link that is placed in the upper where nothing was shown is all that is gained.
+pub fn law_of_placed_leaf()
+    ensures { LawOfPlacedLeaf }
+{}
+
+/// An upper without needless whiteouts stays one where it gets a directory, a file or a link, or has an object taken away.
+pub fn law_of_thin()
+    ensures { LawOfThin }
+{}
+
+/// A `symlink` that is not refused makes the mount one of the upper that gains the link; no other path and no handle changes.
+pub fn law_of_link_made()
+    ensures { LawOfLinkMade }
+{}
+
+/// An `unlink` that is not refused makes the mount one of the upper that loses the name; no other path and no handle changes.
+pub fn law_of_unlinked()
+    ensures { LawOfUnlinked }
+{}
+
+/// An `rmdir` that is not refused makes the mount one of the upper that loses the directory; no other path and no handle changes,
+/// and where a handle is open on the directory it stays one, without names and under no path.
+pub fn law_of_removed_directory()
+    ensures { LawOfRemovedDirectory }
+{}
+
+/// A handle on a node that no path leads to closes: the mount stays, and a node that another handle is open on is as it was.
+pub fn law_of_close_removed()
+    ensures { LawOfCloseRemoved }
+{}
+
+/// A handle on a directory without names lists none, unless it keeps a listing of before.
+pub fn law_of_list_removed()
+    ensures { LawOfListRemoved }
 {}

@@ -22,5 +22,5 @@ pub use node_id::NodeId;
 pub use notice::{Event, Notice, Notices};
 pub use options::Options;
 pub use path::{PATH_MAX, Path};
-pub use redirect::Redirect;
+pub use redirect::{BoxedName, Redirect};
 pub use reply::{ObjectKind, Reply, Stat};

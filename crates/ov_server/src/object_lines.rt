@@ -151,7 +151,7 @@ impl fmt::Display for RedirectText<'_> {
                 write!(f, "{path}")
             }
             Redirect::Single(name) => {
-                let name = Escaped(name.as_slice());
+                let name = Escaped(name.get().as_slice());
                 write!(f, "{name}")
             }
         }

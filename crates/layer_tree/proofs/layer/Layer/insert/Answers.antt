@@ -11,3 +11,7 @@ returns-clause-sets c path at =
 pub returns-clause-inserts : goal.returns-clause-inserts
 returns-clause-inserts c =
     Inserts-after c.args.self.now c.room.new.self c.insert_reserved.new.self c.args.dir c.insert_reserved.result c.args.name c.args.object c.room.ensures.same (vacant_before c.args.self.now c.room.new.self c.insert_reserved.result c.room.ensures.same c.insert_reserved.ensures.inserts.fresh) c.insert_reserved.ensures.inserts
+
+pub returns-clause-keeps : goal.returns-clause-keeps
+returns-clause-keeps c path at layer =
+    c.insert_reserved.ensures.keeps path (key_at-alike c.args.self.now c.room.new.self c.room.ensures.same.entries c.room.ensures.same.seen path ∙ at) (c.room.ensures.keeps layer)

@@ -1,0 +1,5 @@
+use Rattle.mount_laws.proofs.Refusing.{law_of_readlink}
+use Rattle.mount_laws.proofs.laws.law_of_readlink.Goals as goal
+
+pub returns : goal.returns
+returns c = law_of_readlink
