@@ -1,21 +1,13 @@
 -- What stands at the places that the layers show.
-use Rattle.std.proofs.Common.{◌≡◌, ℕ, suc, Bool, true, false, List, [], ◌∷◌, Option, None, Some, Result, Ok, Err, refl, sym, ap, ◌∙◌, map, slice_get, drop}
-use Rattle.std.specs.Option.{option_and_then, option_map}
-use Rattle.slab.specs.Slab.{get}
-use Rattle.ov_base.specs.declared.attributes.Attributes.{Attributes}
+use Rattle.std.proofs.Common.{◌≡◌, List, None, Result, refl}
+use Rattle.std.specs.Option.{option_and_then}
 use Rattle.ov_base.specs.declared.errno.Errno.{Errno}
-use Rattle.ov_base.specs.declared.redirect.Redirect.{Redirect}
 use Rattle.ov_base.specs.declared.reply.Stat.{Stat}
-use Rattle.plain_model.specs.Layers.{Name, Path, Object, Directory, Named, Whiteout, Inode, Layer, held, below, cuts, Shown, Folder, Contents, over, unless, shows}
-use Rattle.layer_tree.specs.declared.name_table.Entry.{Entry}
-use Rattle.layer_tree.specs.declared.name_table.Entry.TheVariants as bound
-use Rattle.layer_tree.specs.declared.node.Node.{Node}
-use Rattle.layer_tree.specs.declared.node.Node.TheVariants as node
-use Rattle.layer_tree.specs.Tree.{Tree, layer_of, inode_at, inode_of, seen, seen_at, seen_entry, entry_at, object_at, directory_attributes, root_attributes}
+use Rattle.plain_model.specs.Layers.{Path, Layer, shows}
+use Rattle.layer_tree.specs.Tree.{inode_of}
 use Rattle.merged_lookup.specs.declared.stack.Place.{Place}
 use Rattle.merged_lookup.specs.declared.layers.Layers.{Layers}
-use Rattle.merged_lookup.specs.Merged.{trees, layers_of, ShowsDirectory, ShowsInode, top_of, node_in, walk_fault}
-use Rattle.merged_lookup.proofs.Descending.{drop-get}
+use Rattle.merged_lookup.specs.Merged.{trees, layers_of, ShowsInode, node_in, walk_fault}
 use Rattle.merged_lookup.proofs.Looking.{inode-shown}
 use Rattle.private_mount.specs.Status.{stat_at, stat_shown, stat_of_inode}
 

@@ -1,10 +1,9 @@
 use Rattle.std.proofs.Common.{rules, ◌≡◌, ◌∙◌, sym, ap, None, Some, Ok}
-use Rattle.merged_lookup.specs.Merged.{layers_of, trees, top_of, node_in, walk_fault, ShowsDirectory, ShowsInode}
+use Rattle.merged_lookup.specs.Merged.{layers_of, walk_fault, ShowsDirectory, ShowsInode}
 use Rattle.std.specs.Option.{option_and_then}
 use Rattle.layer_tree.specs.Tree.{inode_of}
 use Rattle.merged_lookup.specs.declared.stack.Place.{Place}
-use Rattle.ov_base.specs.declared.attributes.Attributes.{Attributes}
-use Rattle.plain_model.specs.Layers.{Path, Folder, shows}
+use Rattle.plain_model.specs.Layers.{Folder, shows}
 use Rattle.private_mount.specs.Status.{stat_of_inode, stat_shown}
 use Rattle.private_mount.proofs.Shown.{stat-inode, stat-found}
 use Rattle.private_mount.proofs.status.status_at.Goals as goal
