@@ -13,6 +13,7 @@ use Rattle.plain_model.specs.Layers.{Layer, AreLayers}
 use Rattle.plain_model.specs.Tree.{Tree}
 use Rattle.plain_model.specs.Machine.{Handle, Table, State, DESCRIPTORS_MAX, free_table, opening, handles_of, held_in, handle_of}
 use Rattle.plain_model.specs.Merging.{IsMerge}
+use Rattle.plain_model.specs.Watching.{Instance, silent}
 use Rattle.plain_model.specs.Runs.{joined, without_instance, without_table, is_attached}
 use Rattle.layer_tree.specs.Tree.{layer_of}
 use Rattle.merged_lookup.specs.Merged.{layers_of, lowers_of}
@@ -23,7 +24,7 @@ use Rattle.private_mount.specs.declared.descriptors.OpenDirectory.{OpenDirectory
 use Rattle.private_mount.specs.declared.mount.Mount.{Mount}
 use Rattle.private_mount.specs.Attaching.{Attaches, Detaches, IsSame, opened_by}
 use Rattle.private_mount.specs.Descriptors.{opened}
-use Rattle.private_mount.specs.States.{number, IsSlot, AreTables, IsStateOf}
+use Rattle.private_mount.specs.States.{number, IsSlot, AreTables, AreUnwatched, IsStateOf}
 use Rattle.private_mount.proofs.Serving.{slot-as}
 
 -- whether a table is of a client
@@ -111,12 +112,25 @@ any-kept (k ∷ ks) n b h = by (nat_eq k.client n) refl (any-kept ks n b h)
     by true e rest = rest ∙ sym (ap (λ x. x || list_any (of b) ks) (ne_eqb k.client b (λ f. h (sym f ∙ eqb-true k.client n e))))
     by false e rest = ap (λ x. nat_eq k.client b || x) rest
 
+-- instances without watches, one more and some fewer
+unwatched-last : (es : List Instance) (e : Instance) → AreUnwatched es → e.watches ≡ [] → AreUnwatched (es ++ e ∷ [])
+unwatched-last [] e a h = (h, tt)
+unwatched-last (x ∷ es) e a h = (a.0, unwatched-last es e a.1 h)
+
+unwatched-filter : (f : Instance → Bool) (es : List Instance) → AreUnwatched es → AreUnwatched (filter f es)
+unwatched-filter f [] a = tt
+unwatched-filter f (e ∷ es) a = by (f e) (unwatched-filter f es a.1)
+  where
+    by : (b : Bool) → AreUnwatched (filter f es) → AreUnwatched (cond b (e ∷ filter f es) (filter f es))
+    by true rest = (a.0, rest)
+    by false rest = rest
+
 -- what a client has open, by its descriptors
 abbrev open_in : ℕ → Option Descriptors → Option OpenDirectory
 open_in d o = option_and_then (λ (x : Descriptors). opened x.slots.items d) o
 
-module _ (Ls : List Layer) (t : Tree) (clients : Clients) (ks : List Table) (a : AreTables Ls t clients ks) (new : Clients) (n : ℕ) where
-  come : Attaches clients new n → AreTables Ls t new (ks ++ free_table n ∷ [])
+module _ (t : Tree) (clients : Clients) (ks : List Table) (a : AreTables t clients ks) (new : Clients) (n : ℕ) where
+  come : Attaches clients new n → AreTables t new (ks ++ free_table n ∷ [])
   come h = record { attached = λ b. attached b (cases_eq b n); room = λ b. room b (cases_eq b n); slots = λ b d. slots b d (cases_eq b n) }
     where
       fresh : list_any (of n) ks ≡ false
@@ -132,16 +146,16 @@ module _ (Ls : List Layer) (t : Tree) (clients : Clients) (ks : List Table) (a :
           (ap length (handles-last ks n fresh) ∙ length-replicate {A = Option Handle} DESCRIPTORS_MAX None ∙ sym (ap (λ (o : Option Descriptors). cond (is_some o) DESCRIPTORS_MAX 0) h.there))
       room b (inr m) = ap length (handles-last-other ks n b m) ∙ a.room b ∙ sym (ap (λ (o : Option Descriptors). cond (is_some o) DESCRIPTORS_MAX 0) (h.others b m))
 
-      slots : (b d : ℕ) → (b ≡ n) ⊎ (b ≡ n → ⊥) → IsSlot Ls t (opened_by new b d) (handle_of (ks ++ free_table n ∷ []) b d)
+      slots : (b d : ℕ) → (b ≡ n) ⊎ (b ≡ n → ⊥) → IsSlot t (opened_by new b d) (handle_of (ks ++ free_table n ∷ []) b d)
       slots b d (inl e) =
-          subst (λ z. IsSlot Ls t (opened_by new z d) (handle_of (ks ++ free_table n ∷ []) z d)) (sym e)
-          (slot-as Ls t None _ None _
+          subst (λ z. IsSlot t (opened_by new z d) (handle_of (ks ++ free_table n ∷ []) z d)) (sym e)
+          (slot-as t None _ None _
           (sym (ap (open_in d) h.there ∙ ap (λ z. opened z d) h.none))
           (sym (ap (λ z. held_in (slice_get z d)) (handles-last ks n fresh) ∙ held-free DESCRIPTORS_MAX d))
           tt)
-      slots b d (inr m) = slot-as Ls t _ _ _ _ (sym (ap (open_in d) (h.others b m))) (sym (ap (λ z. held_in (slice_get z d)) (handles-last-other ks n b m))) (a.slots b d)
+      slots b d (inr m) = slot-as t _ _ _ _ (sym (ap (open_in d) (h.others b m))) (sym (ap (λ z. held_in (slice_get z d)) (handles-last-other ks n b m))) (a.slots b d)
 
-  go : Detaches clients new n → AreTables Ls t new (without n ks)
+  go : Detaches clients new n → AreTables t new (without n ks)
   go h = record { attached = λ b. attached b (cases_eq b n); room = λ b. room b (cases_eq b n); slots = λ b d. slots b d (cases_eq b n) }
     where
       attached : (b : ℕ) → (b ≡ n) ⊎ (b ≡ n → ⊥) → list_any (of b) (without n ks) ≡ is_some (get nat_cmp new.attached b)
@@ -152,21 +166,22 @@ module _ (Ls : List Layer) (t : Tree) (clients : Clients) (ks : List Table) (a :
       room b (inl e) = subst (λ z. length (handles_of (without n ks) z) ≡ cond (is_some (get nat_cmp new.attached z)) DESCRIPTORS_MAX 0) (sym e) (ap length (handles-gone ks n) ∙ sym (ap (λ (o : Option Descriptors). cond (is_some o) DESCRIPTORS_MAX 0) h.gone))
       room b (inr m) = ap length (handles-kept ks n b m) ∙ a.room b ∙ sym (ap (λ (o : Option Descriptors). cond (is_some o) DESCRIPTORS_MAX 0) (h.others b m))
 
-      slots : (b d : ℕ) → (b ≡ n) ⊎ (b ≡ n → ⊥) → IsSlot Ls t (opened_by new b d) (handle_of (without n ks) b d)
+      slots : (b d : ℕ) → (b ≡ n) ⊎ (b ≡ n → ⊥) → IsSlot t (opened_by new b d) (handle_of (without n ks) b d)
       slots b d (inl e) =
-          subst (λ z. IsSlot Ls t (opened_by new z d) (handle_of (without n ks) z d)) (sym e)
-          (slot-as Ls t None _ None _ (sym (ap (open_in d) h.gone)) (sym (ap (λ z. held_in (slice_get z d)) (handles-gone ks n))) tt)
-      slots b d (inr m) = slot-as Ls t _ _ _ _ (sym (ap (open_in d) (h.others b m))) (sym (ap (λ z. held_in (slice_get z d)) (handles-kept ks n b m))) (a.slots b d)
+          subst (λ z. IsSlot t (opened_by new z d) (handle_of (without n ks) z d)) (sym e)
+          (slot-as t None _ None _ (sym (ap (open_in d) h.gone)) (sym (ap (λ z. held_in (slice_get z d)) (handles-gone ks n))) tt)
+      slots b d (inr m) = slot-as t _ _ _ _ (sym (ap (open_in d) (h.others b m))) (sym (ap (λ z. held_in (slice_get z d)) (handles-kept ks n b m))) (a.slots b d)
 
 -- a mount without clients stands for the opening state of the merge
 pub begins : (m : Mount) → ((n : ℕ) → get nat_cmp m.clients.attached n ≡ None) → m.clients.next ≡ Some 0 → (t : Tree) (redirects : Bool) → AreLayers (layers_of m.layers) → IsMerge (layer_of m.layers.upper) (lowers_of m.layers) t → IsStateOf m (opening t redirects)
 begins m none next t redirects a merge = record {
   layers = law_of_beginning (layer_of m.layers.upper) (lowers_of m.layers) t redirects a merge;
   arrived = next;
+  unwatched = tt;
   tables = record {
     attached = λ b. sym (ap (λ (o : Option Descriptors). is_some o) (none b));
     room = λ b. sym (ap (λ (o : Option Descriptors). cond (is_some o) DESCRIPTORS_MAX 0) (none b));
-    slots = λ b d. slot-as (layers_of m.layers) t None _ None _ (sym (ap (open_in d) (none b))) refl tt;
+    slots = λ b d. slot-as t None _ None _ (sym (ap (open_in d) (none b))) refl tt;
   };
 }
 
@@ -176,10 +191,11 @@ module _ (m : Mount) (s : State) (st : IsStateOf m s) (new : Clients) where
   stays h = record {
     layers = st.layers;
     arrived = h.next ∙ st.arrived;
+    unwatched = st.unwatched;
     tables = record {
       attached = λ b. st.tables.attached b ∙ sym (ap (λ (o : Option Descriptors). is_some o) (same b));
       room = λ b. st.tables.room b ∙ sym (ap (λ (o : Option Descriptors). cond (is_some o) DESCRIPTORS_MAX 0) (same b));
-      slots = λ b d. slot-as (layers_of m.layers) s.tree _ _ _ _ (sym (ap (open_in d) (same b))) refl (st.tables.slots b d);
+      slots = λ b d. slot-as s.tree _ _ _ _ (sym (ap (open_in d) (same b))) refl (st.tables.slots b d);
     };
   }
     where
@@ -200,8 +216,9 @@ module _ (m : Mount) (s : State) (st : IsStateOf m s) (new : Clients) where
         same,
         record {
           layers = record { layers = st.layers.layers; shows = st.layers.shows; kept = st.layers.kept };
+          unwatched = unwatched-last s.instances (silent s.arrived tags) st.unwatched refl;
           arrived = h.rises ∙ ap number (add-one n ∙ ap suc same);
-          tables = subst (λ z. AreTables (layers_of m.layers) s.tree new (s.tables ++ free_table z ∷ [])) same (come (layers_of m.layers) s.tree m.clients s.tables st.tables new n h);
+          tables = subst (λ z. AreTables s.tree new (s.tables ++ free_table z ∷ [])) same (come s.tree m.clients s.tables st.tables new n h);
         },
       )
 
@@ -209,7 +226,8 @@ module _ (m : Mount) (s : State) (st : IsStateOf m s) (new : Clients) where
   detaches n h = record {
     layers = record { layers = st.layers.layers; shows = st.layers.shows; kept = st.layers.kept };
     arrived = h.next ∙ st.arrived;
-    tables = go (layers_of m.layers) s.tree m.clients s.tables st.tables new n h;
+    unwatched = unwatched-filter (λ e. not (nat_eq e.client n)) s.instances st.unwatched;
+    tables = go s.tree m.clients s.tables st.tables new n h;
   }
 
   pub tells : (n : ℕ) (b : Bool) → b ≡ is_some (get nat_cmp m.clients.attached n) → b ≡ is_attached s n

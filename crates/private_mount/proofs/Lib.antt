@@ -1,6 +1,8 @@
 pub mod Shown
 pub mod Slots
+pub mod Marking
 pub mod Serving
+pub mod Standing
 pub mod Answering
 pub mod Paging
 pub mod Coming

@@ -15,6 +15,7 @@ use Rattle.plain_model.specs.Refusals.{when}
 use Rattle.make_remove.specs.Making.{mkdir_fault}
 use Rattle.merged_lookup.specs.Merged.{layers_of}
 use Rattle.private_mount.specs.declared.clients.Clients.{Clients}
+use Rattle.private_mount.specs.declared.descriptors.Location.TheVariants as location
 use Rattle.private_mount.specs.declared.descriptors.OpenDirectory.{OpenDirectory}
 use Rattle.private_mount.specs.declared.mount.Mount.{Mount}
 use Rattle.private_mount.specs.Attaching.{opened_by, ChangesClient}
@@ -61,7 +62,7 @@ mkdir-refused old new p mode (Some d) r e same a h = clients-same old new same a
 opens-refused : (old new : Mount) (c : ℕ) (p : Path) (r : Reply) (e : Errno) → OpensDirectory old new c p r → r ≡ reply.Refused e → IsUnchanged old new
 opens-refused old new c p r e a h = by a.opening a.changes (sym a.reply ∙ h)
   where
-    by : (x : Result ℕ Errno) → ChangesClient old.clients new.clients c (λ u v. Opens u v (record { path = p; listing = None }) (Ok x)) → open_reply x ≡ reply.Refused e → IsUnchanged old new
+    by : (x : Result ℕ Errno) → ChangesClient old.clients new.clients c (λ u v. Opens u v (record { location = location.At p; listing = None }) (Ok x)) → open_reply x ≡ reply.Refused e → IsUnchanged old new
     by (Ok d) ch other = cc
     by (Err f) ch is = record { layers = a.layers; clients = same-clients old.clients new.clients c (changes-as old.clients new.clients c _ _ (λ u v g. g.refused) ch) }
 

@@ -18,6 +18,7 @@ use Rattle.mount_laws.specs.Looks.{or_else}
 use Rattle.make_remove.specs.Making.{MakesDirectory, ShowsSame, mkdir_fault}
 use Rattle.merged_lookup.specs.Merged.{layers_of}
 use Rattle.private_mount.specs.declared.clients.Clients.{Clients}
+use Rattle.private_mount.specs.declared.descriptors.Location.TheVariants as location
 use Rattle.private_mount.specs.declared.descriptors.OpenDirectory.{OpenDirectory}
 use Rattle.private_mount.specs.declared.mount.Mount.{Mount}
 use Rattle.private_mount.specs.Attaching.{ChangesClient, opened_by}
@@ -83,7 +84,7 @@ open_reply (Err e) = reply.Refused e
 pub record OpensDirectory (old new : Mount) (c : ℕ) (p : Path) (r : Reply) : Type 0 where
   pub opening : Result ℕ Errno
   pub reply : r ≡ open_reply opening
-  pub changes : ChangesClient old.clients new.clients c (λ before after. Opens before after (record { path = p; listing = None }) (Ok opening))
+  pub changes : ChangesClient old.clients new.clients c (λ before after. Opens before after (record { location = location.At p; listing = None }) (Ok opening))
   pub layers : new.layers ≡ old.layers
 
 -- why an open is refused before a descriptor is looked for; a client that isn't attached has none

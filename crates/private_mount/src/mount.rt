@@ -1,15 +1,16 @@
 // A mount and the clients on it.
 ghost use Rattle.std.specs.Prelude.{◌≡◌, ◌<◌, ℕ, Bool, List, Some, None, Ok, IfOk, IfErr, OnOk, OnErr, IsSome, MatchResult, option_copied, true};
-ghost use Rattle.plain_model.specs.Layers.{shows, is_directory, AreLayers};
+ghost use Rattle.plain_model.specs.Layers.{AreLayers};
 ghost use Rattle.layer_tree.specs.Tree.{layer_of};
 ghost use Rattle.merged_lookup.specs.Merged.{layers_of, lowers_of};
-ghost use Rattle.mount_laws.specs.Looks.{FOR_LISTING, AreShown, walk_fault};
+ghost use Rattle.mount_laws.specs.Looks.{FOR_LISTING};
 ghost use Rattle.private_mount.specs.Opening as opening;
+ghost use Rattle.private_mount.specs.States.{AreNamesIn};
 ghost use Rattle.private_mount.specs.Opening.{directory_fault};
 ghost use Rattle.private_mount.specs.Status.{stat_at};
 
 use crate::clients::Clients;
-use crate::descriptors::OpenDirectory;
+use crate::descriptors::{Location, OpenDirectory};
 use crate::listing::Listing;
 use crate::status::status_at;
 use dir_listing::names;
@@ -147,7 +148,7 @@ impl Mount {
             return Ok(Reply::Refused(Errno::EMFILE));
         }
         let directory = OpenDirectory {
-            path,
+            location: Location::At(path),
             listing: None,
         };
         match self.clients.open(client, directory)? {
@@ -205,7 +206,7 @@ impl Mount {
                 .clients
                 .next_names(self.alloc, client, descriptor, count);
         }
-        let mut listing = listing_of(self.alloc, &self.layers, &directory.path)?;
+        let mut listing = listing_of(self.alloc, &self.layers, &directory.location)?;
         let names = listing.take(self.alloc, count)?;
         self.clients.keep_listing(client, descriptor, listing);
         Ok(names)
@@ -233,10 +234,13 @@ fn reads_directory(flags: OpenFlags) -> bool
     flags.reads && flags.directory && !changes && !flags.append && !flags.unknown
 }
 
-// The names that the directory at a path shows now; a directory that is gone has none.
-fn listing_of(alloc: Global, layers: &Layers, path: &Path) -> Result<Listing, AllocError>
-    ensures { IfOk result (λ left. is_directory (shows 0 (layers_of layers.now) path.now) ≡ true → walk_fault (layers_of layers.now) path.now ≡ None → AreShown (layers_of layers.now) path.now left) }
+// The names in a directory now; one that was removed has none.
+fn listing_of(alloc: Global, layers: &Layers, location: &Location) -> Result<Listing, AllocError>
+    ensures { IfOk result (λ left. AreNamesIn (layers_of layers.now) location.now left) }
 {
+    let Location::At(path) = location else {
+        return Ok(Listing::new(Vec::new(alloc)));
+    };
     match layers.walk(path) {
         Ok(Found::Directory(stack)) => Ok(Listing::new(names(alloc, layers, &stack)?)),
         _ => Ok(Listing::new(Vec::new(alloc))),
