@@ -6,4 +6,5 @@ pub mod Standing
 pub mod Answering
 pub mod Paging
 pub mod Coming
+pub mod Leaving
 pub mod Replying

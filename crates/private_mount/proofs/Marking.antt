@@ -5,7 +5,6 @@ use Rattle.std.specs.Map.{lookup}
 use Rattle.std.specs.Map.Calls.{RetainsPairs}
 use Rattle.plain_model.specs.Layers.{Path}
 use Rattle.private_mount.specs.declared.descriptors.Descriptors.{Descriptors}
-use Rattle.private_mount.specs.declared.descriptors.OpenDirectory.{OpenDirectory}
 use Rattle.private_mount.specs.Descriptors.{opened}
 use Rattle.private_mount.specs.Removing.{after_removal}
 

@@ -6,7 +6,6 @@ use Rattle.std.specs.List.{list_any, position, position_or_len}
 use Rattle.std.specs.Option.{option_and_then}
 use Rattle.std.specs.BTreeMap.{get}
 use Rattle.std.specs.Ordering.{nat_cmp}
-use Rattle.plain_model.specs.Layers.{Layer}
 use Rattle.ov_base.specs.declared.node_id.NodeId.{NodeId}
 use Rattle.plain_model.specs.Layers.{Path}
 use Rattle.plain_model.specs.Tree.{Tree, node_at, is_folder}
@@ -20,7 +19,7 @@ use Rattle.private_mount.specs.declared.descriptors.OpenDirectory.{OpenDirectory
 use Rattle.private_mount.specs.Attaching.{opened_by, ChangesClient}
 use Rattle.private_mount.specs.Descriptors.{opened, IsFull, IsLowestFree, SetsSlot}
 use Rattle.private_mount.specs.Mounts.{SameClients}
-use Rattle.private_mount.specs.States.{IsRemoved, Stands, IsHandle, IsSlot, AreTables}
+use Rattle.private_mount.specs.States.{Stands, IsHandle, IsSlot, AreTables}
 
 -- one element of a list after it is set, and the others
 get-set : {A : Type 0} (xs : List A) (i : ℕ) (v : A) → i < length xs → slice_get (slice_set xs i v) i ≡ Some v
@@ -28,7 +27,7 @@ get-set [] i v h = absurd (omega arith)
 get-set (x ∷ xs) zero v h = refl
 get-set (x ∷ xs) (suc i) v h = get-set xs i v (omega arith)
 
-get-others : {A : Type 0} (xs : List A) (i j : ℕ) (v : A) → j ≢ i → slice_get (slice_set xs i v) j ≡ slice_get xs j
+pub get-others : {A : Type 0} (xs : List A) (i j : ℕ) (v : A) → j ≢ i → slice_get (slice_set xs i v) j ≡ slice_get xs j
 get-others [] i j v h = refl
 get-others (x ∷ xs) zero zero v h = absurd (h refl)
 get-others (x ∷ xs) zero (suc j) v h = refl
@@ -47,7 +46,7 @@ same-client c fd h k = by (nat_eq k.client c)
     by false = refl
 
 -- the handles of a client after one is set, and of the others
-handles-set : (ks : List Table) (c fd : ℕ) (h : Option Handle) → handles_of (with_handle ks c fd h) c ≡ slice_set (handles_of ks c) fd h
+pub handles-set : (ks : List Table) (c fd : ℕ) (h : Option Handle) → handles_of (with_handle ks c fd h) c ≡ slice_set (handles_of ks c) fd h
 handles-set [] c fd h = refl
 handles-set (k ∷ ks) c fd h = by (handles-set ks c fd h) (cases_Bool (nat_eq k.client c))
   where
@@ -55,7 +54,7 @@ handles-set (k ∷ ks) c fd h = by (handles-set ks c fd h) (cases_Bool (nat_eq k
     by rest (inl e) = rw (e, e) refl
     by rest (inr e) = rw (e, e) rest
 
-handles-others : (ks : List Table) (c fd b : ℕ) (h : Option Handle) → b ≢ c → handles_of (with_handle ks c fd h) b ≡ handles_of ks b
+pub handles-others : (ks : List Table) (c fd b : ℕ) (h : Option Handle) → b ≢ c → handles_of (with_handle ks c fd h) b ≡ handles_of ks b
 handles-others [] c fd b h n = refl
 handles-others (k ∷ ks) c fd b h n = by (handles-others ks c fd b h n) (cases_Bool (nat_eq k.client c))
   where
@@ -65,7 +64,7 @@ handles-others (k ∷ ks) c fd b h n = by (handles-others ks c fd b h n) (cases_
         rw (e, other) rest
     by rest (inr e) = rw e (ap (cond (nat_eq k.client b) k.handles) rest)
 
-attached-same : (ks : List Table) (c fd b : ℕ) (h : Option Handle) → list_any (λ (k : Table). nat_eq k.client b) (with_handle ks c fd h) ≡ list_any (λ (k : Table). nat_eq k.client b) ks
+pub attached-same : (ks : List Table) (c fd b : ℕ) (h : Option Handle) → list_any (λ (k : Table). nat_eq k.client b) (with_handle ks c fd h) ≡ list_any (λ (k : Table). nat_eq k.client b) ks
 attached-same [] c fd b h = refl
 attached-same (k ∷ ks) c fd b h = λ i. (nat_eq (same-client c fd h k i) b) || (attached-same ks c fd b h i)
 

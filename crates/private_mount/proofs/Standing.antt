@@ -1,12 +1,12 @@
 -- Open directories where the layers show them, and what closing and listing them does.
-use Rattle.std.proofs.Common.{◌≡◌, ℕ, Bool, true, false, ◌||◌, List, ◌∷◌, Option, None, Some, refl, sym, ap, ◌∙◌, subst, take, drop, nat_eq, nat_lt}
+use Rattle.std.proofs.Common.{◌≡◌, ℕ, Bool, true, ◌||◌, List, ◌∷◌, Option, None, Some, refl, sym, ap, ◌∙◌, subst, take, drop, nat_eq, nat_lt}
 use Rattle.std.proofs.lemmas.Bool.{false≢true}
 use Rattle.ov_base.specs.declared.call.Call.TheVariants as call
 use Rattle.ov_base.specs.declared.errno.Errno.TheVariants as errno
 use Rattle.ov_base.specs.declared.node_id.NodeId.{NodeId}
 use Rattle.ov_base.specs.declared.reply.Reply.TheVariants as reply
 use Rattle.plain_model.specs.Layers.{Path, Layer, Shown, Folder, Contents, shows, base, is_directory}
-use Rattle.plain_model.specs.Tree.{Node, Branch, Leaf, Tree, node_at, node_of, face, see, is_folder}
+use Rattle.plain_model.specs.Tree.{Node, Branch, Leaf, node_at, node_of, face, see, is_folder}
 use Rattle.plain_model.specs.Machine.{Handle, State, handle_of}
 use Rattle.plain_model.specs.Refusals.{when, refusal}
 use Rattle.plain_model.specs.Changes.{after, with_handle, listing, listed_on}

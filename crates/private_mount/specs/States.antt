@@ -9,7 +9,7 @@ use Rattle.ov_base.specs.declared.errno.Errno.{Errno}
 use Rattle.ov_base.specs.declared.node_id.NodeId.{NodeId}
 use Rattle.ov_base.specs.declared.reply.Reply.{Reply}
 use Rattle.ov_base.specs.declared.reply.Reply.TheVariants as reply
-use Rattle.plain_model.specs.Layers.{Name, Path, Layer, shows, is_directory}
+use Rattle.plain_model.specs.Layers.{Name, Layer, shows, is_directory}
 use Rattle.plain_model.specs.Tree.{Tree, node_at, is_folder}
 use Rattle.plain_model.specs.Watching.{Instance}
 use Rattle.plain_model.specs.Machine.{Handle, Table, State, DESCRIPTORS_MAX, handles_of, handle_of}

@@ -40,9 +40,9 @@ impl Mount {
     ghost use Rattle.plain_model.specs.Tree.{Tree};
     ghost use Rattle.plain_model.specs.Merging.{IsMerge};
     ghost use Rattle.plain_model.specs.Runs as runs;
-    ghost use Rattle.plain_model.specs.Runs.{joined, without_instance, without_table};
+    ghost use Rattle.plain_model.specs.Runs.{joined, without_instance, without_table, Leaves};
     ghost use Rattle.plain_model.specs.Refusals.{refusal};
-    ghost use Rattle.private_mount.specs.Attaching.{HasNoRoom, opened_by};
+    ghost use Rattle.private_mount.specs.Attaching.{Anything, Nothing, HasNoRoom, opened_by};
     ghost use Rattle.private_mount.specs.States.{IsStateOf, IsOffered, Serves, Pages};
     ghost use Rattle.private_mount.specs.Mounts.{Answers, AnswersMkdir, AnswersOpen, AnswersList, AnswersClose, IsUnchanged, UnlessMkdir, stat_reply};
 
@@ -88,6 +88,8 @@ impl Mount {
     /// Detaches a client, which closes its descriptors.
     pub fn detach(&mut self, client: u32)
         ensures leaves { (s : State) → IsStateOf self.old s → IsStateOf self.new (without_table (without_instance s client) client) }
+        ensures closes { (s : State) → IsStateOf self.old s → (t : State) → Leaves Anything s client t → IsStateOf self.new t }
+        ensures ends { (s : State) → IsStateOf self.old s → (t : State) × Leaves Nothing s client t }
         ensures layers { self.new.layers ≡ self.old.layers }
     {
         self.clients.detach(client);
