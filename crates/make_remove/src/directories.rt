@@ -2,9 +2,10 @@
 ghost use Rattle.std.specs.Prelude.{◌≡◌, Some, None, IfOk, IfErr, OnOk, OnErr};
 ghost use Rattle.plain_model.specs.Layers.{shows};
 ghost use Rattle.merged_lookup.specs.Merged.{layers_of, parents_fault};
-ghost use Rattle.make_remove.specs.Making.{ShowsSame, MakesDirectory, mkdir_fault};
+ghost use Rattle.copy_up.specs.Showing.{ShowsSame};
+ghost use Rattle.make_remove.specs.Making.{MakesDirectory, mkdir_fault};
 
-use crate::parents::{insert_directory, place_parents};
+use copy_up::{insert_directory, place_parents};
 use merged_lookup::{Layers, Look, split_last};
 use ov_base::{Attributes, Errno, Path, UserAttributes};
 use std::alloc::{AllocError, Global};

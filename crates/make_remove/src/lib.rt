@@ -2,10 +2,10 @@
 #![tactic(auto)]
 
 mod directories;
-mod parents;
+mod removals;
 
 pub use directories::mkdir;
-pub use parents::place_parents;
+pub use removals::{rmdir, unlink};
 
 #[cfg(test)]
 mod tests;

@@ -1,8 +1,8 @@
-use Rattle.std.proofs.Common.{◌≡◌, ◌∷◌, ℕ, List, [], None, reverse, refl, subst}
+use Rattle.std.proofs.Common.{◌∷◌, ℕ, List, None, reverse, refl, subst}
 use Rattle.plain_model.specs.Layers.{Directory}
 use Rattle.layer_tree.specs.Tree.{layer_of, SetsPath}
-use Rattle.make_remove.specs.Making.{ShowsSame}
-use Rattle.make_remove.proofs.Keeping.{absent-place, same-then, same-unchanged, makes, on-err}
+use Rattle.copy_up.proofs.Keeping.{same-then, same-unchanged, on-err}
+use Rattle.make_remove.proofs.Making.{absent-place, makes}
 use Rattle.make_remove.proofs.directories.make.Goals as goal
 
 pub insert_directory-requires : goal.insert_directory-requires

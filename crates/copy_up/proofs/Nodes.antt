@@ -1,11 +1,11 @@
 -- From what a layer holds at a path to what stands under its keys.
-use Rattle.std.proofs.Common.{◌≡◌, ◌≢◌, ℕ, suc, Bool, true, false, List, [], ◌∷◌, Option, None, Some, refl, sym, ap, ◌∙◌, subst, is_some, IsSome, slice_get, drop, map, inl, inr}
-use Rattle.std.proofs.lemmas.Bool.{false≢true, cases_Bool}
+use Rattle.std.proofs.Common.{◌≡◌, ℕ, suc, Bool, true, false, List, [], ◌∷◌, Option, None, Some, refl, sym, ap, ◌∙◌, subst, IsSome, slice_get, drop, map}
+use Rattle.std.proofs.lemmas.Bool.{false≢true}
 use Rattle.std.specs.Option.{option_and_then, option_map}
 use Rattle.slab.specs.Slab.{get}
 use Rattle.ov_base.specs.declared.attributes.Attributes.{Attributes}
 use Rattle.ov_base.specs.declared.redirect.Redirect.{Redirect}
-use Rattle.plain_model.specs.Layers.{Name, Path, Object, Directory, Named, Whiteout, Inode, Layer, held, below, cuts, Shown, Folder, Contents, over, unless, shows}
+use Rattle.plain_model.specs.Layers.{Name, Path, Object, Directory, Named, Whiteout, Inode, held, below, cuts, Shown, Folder, over, unless, shows}
 use Rattle.layer_tree.specs.Table.{object_key}
 use Rattle.layer_tree.specs.Tree.{Tree, ROOT, IsTree, IsUnmarked, IsDirectory, directory_attributes, layer_of, table_of, key_at, entry_at, entry, child, seen, seen_entry, seen_at}
 use Rattle.layer_tree.specs.declared.name_table.Entry.{Entry}
@@ -13,9 +13,8 @@ use Rattle.layer_tree.specs.declared.name_table.Entry.TheVariants as bound
 use Rattle.layer_tree.specs.declared.node.Node.{Node}
 use Rattle.layer_tree.specs.declared.node.Node.TheVariants as node
 use Rattle.layer_tree.specs.declared.node.Directory as stored
-use Rattle.merged_lookup.specs.Descent.{holds_in}
 use Rattle.merged_lookup.proofs.Descending.{key-of, held-in, drop-get}
-use Rattle.make_remove.specs.Making.{is_object, HasPlace}
+use Rattle.copy_up.specs.Showing.{is_object, HasPlace}
 
 -- this node is a directory with these attributes
 pub record IsDirectoryWith (x : Option Node) (a : Attributes) : Type 0 where
@@ -60,7 +59,8 @@ object-node j None h = absurd (false≢true h)
 object-node j (Some (node.Directory d)) h = refl
 object-node j (Some (node.Inode i)) h = refl
 
-free-entry : (t : Tree) (e : Option Entry) → ((j : ℕ) → e ≡ Some (bound.Object j) → IsSome (get t j)) → is_object (option_and_then (seen_entry t) e) ≡ false → option_and_then object_key e ≡ None
+-- a name that shows no object leads to none
+pub free-entry : (t : Tree) (e : Option Entry) → ((j : ℕ) → e ≡ Some (bound.Object j) → IsSome (get t j)) → is_object (option_and_then (seen_entry t) e) ≡ false → option_and_then object_key e ≡ None
 free-entry t None present h = refl
 free-entry t (Some bound.Whiteout) present h = refl
 free-entry t (Some (bound.Object j)) present h = absurd (false≢true (sym h ∙ object-node j (get t j) (present j refl)))

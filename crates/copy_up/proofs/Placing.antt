@@ -1,20 +1,19 @@
 -- What a new directory of the upper does to what is shown.
-use Rattle.std.proofs.Common.{◌≡◌, ◌≢◌, ℕ, suc, ◌≤◌, ◌<◌, Bool, true, false, ◌||◌, List, [], ◌∷◌, ◌++◌, Option, None, Some, refl, sym, ap, ap₂, ◌∙◌, subst, is_some, length, length-append, map, inl, inr, arith}
+use Rattle.std.proofs.Common.{◌≡◌, ◌≢◌, ℕ, suc, ◌<◌, Bool, true, false, List, [], ◌∷◌, ◌++◌, Option, None, Some, refl, sym, ap, ◌∙◌, subst, is_some, length, map, inl, inr, arith}
 use Rattle.std.proofs.lemmas.Bool.{false≢true, cases_Bool, both_ways}
 use Rattle.ov_base.specs.declared.attributes.Attributes.{Attributes}
 use Rattle.ov_base.specs.declared.redirect.Redirect.{Redirect}
-use Rattle.plain_model.specs.Layers.{Name, Path, Object, Directory, Named, Whiteout, Inode, Layer, held, spell, below, cut, cuts, Shown, Folder, Contents, over, unless, shows, through, under, is_directory, holds_directory, same_path}
-use Rattle.plain_model.specs.Laws.{IsOutside}
-use Rattle.plain_model.specs.Tree.{Sight, SeenBranch, see, merged}
+use Rattle.plain_model.specs.Layers.{Name, Path, Object, Directory, Named, Whiteout, Inode, Layer, held, spell, below, cut, cuts, Shown, Folder, over, unless, shows, through, is_directory, holds_directory, same_path}
+use Rattle.plain_model.specs.Tree.{merged}
 use Rattle.plain_model.proofs.LookUp.{hides, hides-cuts}
-use Rattle.plain_model.proofs.Paths.{paths_tell, place, outside-parent, parent-outside}
-use Rattle.plain_model.proofs.Uppers.{meld, merged-meld, AgreeTo, agree-step, agree-where, through-agree, under-agree, merged-agree, dead-step}
+use Rattle.plain_model.proofs.Paths.{paths_tell}
+use Rattle.plain_model.proofs.Uppers.{meld, merged-meld, AgreeTo, agree-step, through-agree, merged-agree, dead-step}
 use Rattle.layer_tree.specs.Tree.{Tree, layer_of, SetsPath}
 use Rattle.merged_lookup.specs.declared.stack.Place.{Place}
-use Rattle.merged_lookup.specs.Merged.{level, unless_cut, places_at, top_of}
+use Rattle.merged_lookup.specs.Merged.{level, top_of}
 use Rattle.merged_lookup.proofs.Descending.{parent-held}
-use Rattle.merged_lookup.proofs.Looking.{HeadFrom, head-places, head-unless}
-use Rattle.make_remove.specs.Making.{is_object}
+use Rattle.merged_lookup.proofs.Looking.{HeadFrom}
+use Rattle.copy_up.specs.Showing.{is_object}
 
 -- two objects that pass on alike
 pub record Alike (o u : Option Object) : Type 0 where
@@ -107,58 +106,6 @@ module _ (V : Layer) (ts : List Tree) (p : Path) (closed : is_directory (through
 
   pub nothing-below : (k : Name) (r : Path) → merged V (map layer_of ts) (k ∷ r ++ p) ≡ None
   nothing-below k r = merged-meld V (map layer_of ts) (k ∷ r ++ p) ∙ (λ j. meld V.inodes (bare k r j) (nothing-through k r j))
-
-free-through : (inodes : ℕ → Option Inode) (o : Option Object) (c : Bool) (s : Path → Option Shown) (n : Name) (q : Path) → is_object o ≡ false → over 0 inodes o (unless (cut o c) (s (spell o n q))) ≡ None → unless (cut o c) (s (spell o n q)) ≡ None
-free-through inodes o c s n q f h = grind arith
-
-free-directory : (o : Option Object) → is_object o ≡ false → holds_directory o ≡ false
-free-directory o f = grind arith
-
-opaque-closed : (o c : Bool) (x : Option Shown) → o ≡ is_directory (unless c x) → is_directory (unless (o || c) x) ≡ false
-opaque-closed o c x e = grind arith
-
--- a directory made where nothing is shown, opaque exactly where the lower layers show one
-module _ (u : Tree) (V : Layer) (ts : List Tree) (n : Name) (q : Path) (key : ℕ) (a : Attributes) (o : Bool) (free : is_object (held (layer_of u) (n ∷ q)) ≡ false) (absent : shows 0 (layer_of u ∷ map layer_of ts) (n ∷ q) ≡ None) (is_opaque : o ≡ is_directory (under (layer_of u) (map layer_of ts) n q)) (sets : SetsPath (layer_of u) V (n ∷ q) (Directory key a o None)) (inodes : V.inodes ≡ (layer_of u).inodes) where
-  agree-outside : (x : Path) → IsOutside (n ∷ q) x → AgreeTo (layer_of u) V x
-  agree-outside = agree-where (layer_of u) V (IsOutside (n ∷ q)) (outside-parent (n ∷ q)) (λ x h. sets.elsewhere x (λ e. h [] e))
-
-  was-bare : (k : Name) (r : Path) → held (layer_of u) (k ∷ r ++ (n ∷ q)) ≡ None
-  was-bare = nothing-held u (n ∷ q) (free-directory (held (layer_of u) (n ∷ q)) free)
-
-  was-closed : is_directory (through (layer_of u) (map layer_of ts) (n ∷ q)) ≡ false
-  was-closed = ap is_directory (free-through (layer_of u).inodes (held (layer_of u) (n ∷ q)) (cuts (layer_of u) q) (shows 1 (map layer_of ts)) n (below (layer_of u) q) free absent)
-
-  now-bare : (k : Name) (r : Path) → held V (k ∷ r ++ (n ∷ q)) ≡ None
-  now-bare k r = sets.elsewhere (k ∷ r ++ (n ∷ q)) (λ e. absurd (omega (arith, simp length-append at (ap length e)))) ∙ was-bare k r
-
-  now-closed : is_directory (through V (map layer_of ts) (n ∷ q)) ≡ false
-  now-closed =
-      let e : AgreeTo (layer_of u) V q = agree-outside q (parent-outside n q) in
-      ap (λ z. is_directory (unless (cut z (cuts V q)) (shows 1 (map layer_of ts) (spell z n (below V q))))) sets.there
-      ∙ ap₂ (λ c s. is_directory (unless (o || c) (shows 1 (map layer_of ts) (n ∷ s)))) e.cut_alike e.spelled
-      ∙ opaque-closed o (cuts (layer_of u) q) (shows 1 (map layer_of ts) (n ∷ below (layer_of u) q)) is_opaque
-
-  -- is shown, empty
-  pub made-here : merged V (map layer_of ts) (n ∷ q) ≡ Some (SeenBranch a false)
-  made-here =
-      merged-meld V (map layer_of ts) (n ∷ q)
-      ∙ ap (λ z. meld V.inodes z (through V (map layer_of ts) (n ∷ q))) sets.there
-      ∙ ap (λ b. Some (SeenBranch a b)) now-closed
-
-  below-same : (r x : Path) → x ≢ n ∷ q → x ≡ r ++ (n ∷ q) → merged V (map layer_of ts) x ≡ merged (layer_of u) (map layer_of ts) x
-  below-same [] x ne e = absurd (ne e)
-  below-same (k ∷ r) x ne e =
-      ap (merged V (map layer_of ts)) e
-      ∙ nothing-below V ts (n ∷ q) now-closed now-bare k r
-      ∙ sym (nothing-below (layer_of u) ts (n ∷ q) was-closed was-bare k r)
-      ∙ sym (ap (merged (layer_of u) (map layer_of ts)) e)
-
-  -- leaves what is shown elsewhere
-  pub made-elsewhere : (x : Path) → x ≢ n ∷ q → merged V (map layer_of ts) x ≡ merged (layer_of u) (map layer_of ts) x
-  made-elsewhere x ne = elim (place (n ∷ q) x) [
-    | inl b ↦ below-same b.0 x ne b.1
-    | inr out ↦ merged-agree (layer_of u) V (map layer_of ts) x inodes (sets.elsewhere x ne) (agree-outside x out)
-  ]
 
 -- this directory is held, with some attributes and marks
 pub record IsHeldDirectory (o : Option Object) (k : ℕ) : Type 0 where

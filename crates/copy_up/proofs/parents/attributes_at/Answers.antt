@@ -3,10 +3,10 @@ use Rattle.std.specs.Option.{option_copied}
 use Rattle.slab.specs.Slab.{get}
 use Rattle.layer_tree.specs.declared.node.Node.TheVariants as node
 use Rattle.merged_lookup.specs.Merged.{trees}
-use Rattle.make_remove.proofs.Nodes.{HoldsFolder, folder-held, folder-node, same-attributes, IsDirectoryWith}
-use Rattle.make_remove.proofs.Placing.{some-not-none}
-use Rattle.make_remove.proofs.parents.attributes_at.Goals as goal
-use Rattle.make_remove.proofs.parents.attributes_at.Goals.{in_default-node-via-in-Some+in_default, in_default-node-via-in_default}
+use Rattle.copy_up.proofs.Nodes.{HoldsFolder, folder-held, folder-node, same-attributes, IsDirectoryWith}
+use Rattle.copy_up.proofs.Placing.{some-not-none}
+use Rattle.copy_up.proofs.parents.attributes_at.Goals as goal
+use Rattle.copy_up.proofs.parents.attributes_at.Goals.{in_default-node-via-in-Some+in_default, in_default-node-via-in_default}
 
 pub unreachable-requires : goal.unreachable-requires
 unreachable-requires c =

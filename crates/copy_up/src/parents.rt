@@ -1,11 +1,11 @@
 // Directories that only lower layers have, placed in the upper.
-ghost use Rattle.std.specs.Prelude.{◌≡◌, ◌∷◌, List, ℕ, Some, None, true, reverse, IfOk, OnOk, OnErr};
+ghost use Rattle.std.specs.Prelude.{◌≡◌, ◌↔◌, ◌∷◌, List, ℕ, Some, None, true, false, reverse, IfOk, OnOk, OnErr};
 ghost use Rattle.ov_base.specs.declared.attributes.Attributes.{Attributes};
 ghost use Rattle.plain_model.specs.Layers as held;
-ghost use Rattle.plain_model.specs.Layers.{Path, shows, is_directory};
+ghost use Rattle.plain_model.specs.Layers.{Path, shows, is_directory, IsLayer};
 ghost use Rattle.layer_tree.specs.Tree.{layer_of, inode_at, SetsPath, SameObjects};
 ghost use Rattle.merged_lookup.specs.Merged.{layers_of, way_fault, top_of, IsStackOf, ShowsDirectory};
-ghost use Rattle.make_remove.specs.Making.{ShowsSame, HasPlace};
+ghost use Rattle.copy_up.specs.Showing.{ShowsSame, HasPlace, GainsParent, Stays, StaysLayers, StaysMount, StaysThin};
 
 use layer_tree::{Layer, Marks, Node, Object};
 use merged_lookup::{Found, Layers, Place, Stack};
@@ -19,6 +19,12 @@ pub fn place_parents(layers: &mut Layers, names: &[Name]) -> Result<Stack, Alloc
     ensures same { ShowsSame layers.old layers.new }
     ensures stack { IfOk result (λ s. IsStackOf layers.new (reverse names.now) s) }
     ensures upper { IfOk result (λ s. (top_of s.places.items).layer ≡ 0) }
+    ensures keeps { StaysLayers layers.old layers.new }
+    ensures mounts { StaysMount layers.old layers.new }
+    ensures thin { StaysThin layers.old layers.new }
+    ensures names { (p : Path) (k : ℕ) → (held.held (layer_of layers.new.upper) p ≡ Some (held.Named k)) ↔ (held.held (layer_of layers.old.upper) p ≡ Some (held.Named k)) }
+    ensures inodes { (k : ℕ) → inode_at layers.new.upper k ≡ inode_at layers.old.upper k }
+    ensures holds { (p : Path) (o : held.Object) → held.held (layer_of layers.old.upper) p ≡ Some o → held.held (layer_of layers.new.upper) p ≡ Some o }
 {
     let mut stack = layers.root();
     for name in names {
@@ -28,12 +34,19 @@ pub fn place_parents(layers: &mut Layers, names: &[Name]) -> Result<Stack, Alloc
 }
 
 // The merged directory at a name of one that the upper has, where it is placed if the upper lacks it.
-fn place_parent(layers: &mut Layers, parent: &Stack, name: &Name) -> Result<Stack, AllocError>
+pub(crate) fn place_parent(
+    layers: &mut Layers,
+    parent: &Stack,
+    name: &Name,
+) -> Result<Stack, AllocError>
     requires shown { (p : Path) × IsStackOf layers.old p parent.now × (is_directory (shows 0 (layers_of layers.old) (name.now ∷ p)) ≡ true) }
     requires upper { (top_of parent.now.places.items).layer ≡ 0 }
     ensures same { ShowsSame layers.old layers.new }
     ensures stack { IfOk result (λ s. (p : Path) → IsStackOf layers.old p parent.now → IsStackOf layers.new (name.now ∷ p) s) }
     ensures upper { IfOk result (λ s. (top_of s.places.items).layer ≡ 0) }
+    ensures stays { Stays layers.old layers.new }
+    ensures placed { OnOk result ((p : Path) → IsStackOf layers.old p parent.now → held.holds_directory (held.held (layer_of layers.old.upper) (name.now ∷ p)) ≡ false → GainsParent layers.old layers.new (name.now ∷ p)) }
+    ensures unchanged { OnErr result (SameObjects (layer_of layers.old.upper) (layer_of layers.new.upper)) }
 {
     let found = directory_in(layers, parent, name);
     let place = found.top();
@@ -48,7 +61,7 @@ fn place_parent(layers: &mut Layers, parent: &Stack, name: &Name) -> Result<Stac
 }
 
 // The merged directory that is shown at a name.
-fn directory_in(layers: &Layers, parent: &Stack, name: &Name) -> Stack
+pub(crate) fn directory_in(layers: &Layers, parent: &Stack, name: &Name) -> Stack
     requires { (p : Path) × IsStackOf layers.now p parent.now × (is_directory (shows 0 (layers_of layers.now) (name.now ∷ p)) ≡ true) }
     ensures { (p : Path) → IsStackOf layers.now p parent.now → ShowsDirectory layers.now (name.now ∷ p) result.places.items }
 {
@@ -73,8 +86,8 @@ fn attributes_at(layers: &Layers, place: Place) -> Result<Attributes, AllocError
     }
 }
 
-// Puts a directory without a redirect at a name of a directory at which no object stands.
-pub(crate) fn insert_directory(
+/// Puts a directory without a redirect at a name of a directory at which no object stands.
+pub fn insert_directory(
     upper: &mut Layer,
     dir: usize,
     name: Name,
@@ -84,6 +97,7 @@ pub(crate) fn insert_directory(
     requires { (p : Path) × HasPlace (layer_of upper.old) dir name p }
     ensures sets { OnOk result ((p : Path) → HasPlace (layer_of upper.old) dir name p → (key : ℕ) × SetsPath (layer_of upper.old) (layer_of upper.new) (name ∷ p) (held.Directory key attributes opaque None)) }
     ensures unchanged { OnErr result (SameObjects (layer_of upper.old) (layer_of upper.new)) }
+    ensures keeps { IsLayer (layer_of upper.old) → IsLayer (layer_of upper.new) }
     ensures inodes { (key : ℕ) → inode_at upper.new key ≡ inode_at upper.old key }
 {
     upper.lawful();
