@@ -1,2 +1,3 @@
 pub mod Making
 pub mod Removing
+pub mod Leaves
