@@ -47,10 +47,10 @@ use Rattle.private_mount.specs.States.{number, IsLeft, Stands, IsHandle, AreTabl
 use Rattle.private_mount.proofs.Standing.{Turns, shown-directory, directory-folder, closes, turns}
 use Rattle.private_mount.proofs.Serving.{slot-open, handle-same, tables-moved, slot-closed, in-room, free-lowest, free-none, free-absent, handle-absent, same-clients, tables-same, tables-set, room-of}
 
-serve-refused : (o : Option Errno) (s : State) (c : ℕ) (k : Call) (e : Errno) (new : Mount) → o ≡ Some e → IsStateOf new s → Serves o s c k (reply.Refused e) new
+pub serve-refused : (o : Option Errno) (s : State) (c : ℕ) (k : Call) (e : Errno) (new : Mount) → o ≡ Some e → IsStateOf new s → Serves o s c k (reply.Refused e) new
 serve-refused o s c k e new h st = subst (λ z. Serves z s c k (reply.Refused e) new) (sym h) (refl, st)
 
-serve-done : (o : Option Errno) (s : State) (c : ℕ) (k : Call) (r : Reply) (new : Mount) → o ≡ None → r ≡ reply_of s c k → IsStateOf new (after s c k) → Serves o s c k r new
+pub serve-done : (o : Option Errno) (s : State) (c : ℕ) (k : Call) (r : Reply) (new : Mount) → o ≡ None → r ≡ reply_of s c k → IsStateOf new (after s c k) → Serves o s c k r new
 serve-done o s c k r new h e st = subst (λ z. Serves z s c k r new) (sym h) (e, st)
 
 pub changes-as : (old new : Clients) (c : ℕ) (P Q : List (Option OpenDirectory) → List (Option OpenDirectory) → Type 0) → ((x y : List (Option OpenDirectory)) → P x y → Q x y) → ChangesClient old new c P → ChangesClient old new c Q

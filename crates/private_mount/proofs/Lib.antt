@@ -4,6 +4,8 @@ pub mod Marking
 pub mod Serving
 pub mod Standing
 pub mod Answering
+pub mod Changing
+pub mod Linking
 pub mod Paging
 pub mod Coming
 pub mod Leaving

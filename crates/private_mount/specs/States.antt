@@ -82,7 +82,12 @@ pub record IsStateOf (m : Mount) (s : State) : Type 0 where
 -- the calls that are offered
 abbrev pub IsOffered : Call → Type 0
 IsOffered (call.Stat p) = Unit {0}
+IsOffered (call.Readlink p) = Unit {0}
+IsOffered (call.Mkdir p mode) = Unit {0}
+IsOffered (call.Symlink target p) = Unit {0}
 IsOffered (call.Open p f mode) = f ≡ FOR_LISTING
+IsOffered (call.Unlink p) = Unit {0}
+IsOffered (call.Rmdir p) = Unit {0}
 IsOffered (call.ListNames d n) = Unit {0}
 IsOffered (call.Close d) = Unit {0}
 IsOffered _ = ⊥
