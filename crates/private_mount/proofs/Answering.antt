@@ -29,8 +29,12 @@ use Rattle.mount_laws.specs.Looks.{fault, inode_fault, or_else, absent, parents_
 use Rattle.mount_laws.specs.Looks as looks
 use Rattle.mount_laws.proofs.Looks.{is_present, present, law_of_walks, law_of_stat}
 use Rattle.mount_laws.proofs.Opens.{law_of_open}
-use Rattle.mount_laws.proofs.Lists.{law_of_list, law_of_close, law_of_bad_descriptors}
+use Rattle.mount_laws.specs.Removed.{ListsRemoved}
+use Rattle.mount_laws.proofs.Lists.{law_of_list, law_of_bad_descriptors}
+use Rattle.mount_laws.proofs.Removed.{law_of_list_removed}
 use Rattle.private_mount.specs.declared.clients.Clients.{Clients}
+use Rattle.private_mount.specs.declared.descriptors.Location.{Location}
+use Rattle.private_mount.specs.declared.descriptors.Location.TheVariants as location
 use Rattle.private_mount.specs.declared.descriptors.OpenDirectory.{OpenDirectory}
 use Rattle.private_mount.specs.declared.mount.Mount.{Mount}
 use Rattle.private_mount.specs.Attaching.{opened_by, ChangesClient}
@@ -39,13 +43,14 @@ use Rattle.private_mount.specs.Listings.{Opens, Closes}
 use Rattle.private_mount.specs.Mounts.{IsUnchanged}
 use Rattle.private_mount.specs.Opening.{place_fault}
 use Rattle.private_mount.specs.Status.{stat_at, stat_shown, unless_refused}
-use Rattle.private_mount.specs.States.{number, IsLeft, IsHandle, AreTables, IsStateOf, Serves, AreLeft, Pages}
-use Rattle.private_mount.proofs.Serving.{slot-open, slot-closed, in-room, free-lowest, free-none, free-absent, handle-absent, same-clients, tables-same, tables-set, room-of}
+use Rattle.private_mount.specs.States.{number, IsLeft, Stands, IsHandle, AreTables, AreUnwatched, IsStateOf, Serves, AreNamesIn, AreLeft, Pages}
+use Rattle.private_mount.proofs.Standing.{Turns, shown-directory, directory-folder, closes, turns}
+use Rattle.private_mount.proofs.Serving.{slot-open, handle-same, tables-moved, slot-closed, in-room, free-lowest, free-none, free-absent, handle-absent, same-clients, tables-same, tables-set, room-of}
 
-serve-refused : (o : Option Errno) (s : State) (c : ℕ) (k : Call) (e : Errno) (new : Mount) → o ≡ Some e → IsStateOf new s → Serves o s c k (reply.Refused e) new
+pub serve-refused : (o : Option Errno) (s : State) (c : ℕ) (k : Call) (e : Errno) (new : Mount) → o ≡ Some e → IsStateOf new s → Serves o s c k (reply.Refused e) new
 serve-refused o s c k e new h st = subst (λ z. Serves z s c k (reply.Refused e) new) (sym h) (refl, st)
 
-serve-done : (o : Option Errno) (s : State) (c : ℕ) (k : Call) (r : Reply) (new : Mount) → o ≡ None → r ≡ reply_of s c k → IsStateOf new (after s c k) → Serves o s c k r new
+pub serve-done : (o : Option Errno) (s : State) (c : ℕ) (k : Call) (r : Reply) (new : Mount) → o ≡ None → r ≡ reply_of s c k → IsStateOf new (after s c k) → Serves o s c k r new
 serve-done o s c k r new h e st = subst (λ z. Serves z s c k r new) (sym h) (e, st)
 
 pub changes-as : (old new : Clients) (c : ℕ) (P Q : List (Option OpenDirectory) → List (Option OpenDirectory) → Type 0) → ((x y : List (Option OpenDirectory)) → P x y → Q x y) → ChangesClient old new c P → ChangesClient old new c Q
@@ -120,20 +125,21 @@ there-found (Absent d) h = absurd (false≢true h)
 there-found (Fails e) h = absurd (false≢true h)
 
 -- the names that are left of a listing, at a handle's place
-left-is : (Ls : List Layer) (p : Path) (x l : Option (List Name)) (place : ℕ) (now left : List Name) → AreLeft Ls p x left → IsLeft x l place → is_directory (shows 0 Ls p) ≡ true → walk_fault Ls p ≡ None → (l ≡ None → (names : List Name) → AreShown Ls p names → names ≡ unwrap_or l now) → left ≡ drop place (unwrap_or l now)
-left-is Ls p None None place now left a i dir walk alone = rw i (alone refl left (a dir walk))
-left-is Ls p (Some q) (Some r) place now left a i dir walk alone = a ∙ i
-left-is Ls p None (Some r) place now left a i dir walk alone = absurd i
-left-is Ls p (Some q) None place now left a i dir walk alone = absurd i
+left-is : (Ls : List Layer) (o : Location) (x l : Option (List Name)) (place : ℕ) (now left : List Name) → AreLeft Ls o x left → IsLeft x l place → (l ≡ None → (names : List Name) → AreNamesIn Ls o names → names ≡ unwrap_or l now) → left ≡ drop place (unwrap_or l now)
+left-is Ls o None None place now left a i alone = rw i (alone refl left a)
+left-is Ls o (Some q) (Some r) place now left a i alone = a ∙ i
+left-is Ls o None (Some r) place now left a i alone = absurd i
+left-is Ls o (Some q) None place now left a i alone = absurd i
 
 min-comm : (a b : ℕ) → min a b ≡ min b a
 min-comm a b = omega arith
 
-pub state-as : (new : Mount) (l : Layers) (s : State) → new.layers ≡ l → IsMountOf (layer_of l.upper) (lowers_of l) s → AreTables (layers_of l) s.tree new.clients s.tables → new.clients.next ≡ number s.arrived → IsStateOf new s
-state-as new l s e m a next = record {
+pub state-as : (new : Mount) (l : Layers) (s : State) → new.layers ≡ l → IsMountOf (layer_of l.upper) (lowers_of l) s → AreTables s.tree new.clients s.tables → new.clients.next ≡ number s.arrived → AreUnwatched s.instances → IsStateOf new s
+state-as new l s e m a next w = record {
   arrived = next;
   layers = subst (λ (x : Layers). IsMountOf (layer_of x.upper) (lowers_of x) s) (sym e) m;
-  tables = subst (λ (x : Layers). AreTables (layers_of x) s.tree new.clients s.tables) (sym e) a;
+  tables = a;
+  unwatched = w;
 }
 
 module _ (m : Mount) (s : State) (st : IsStateOf m s) (c : ℕ) where
@@ -150,8 +156,8 @@ module _ (m : Mount) (s : State) (st : IsStateOf m s) (c : ℕ) where
   here p = present 0 Ls st.layers.layers p
 
   -- the state with other tables
-  with-tables : (new : Clients) (ks : List Table) → new.next ≡ m.clients.next → AreTables Ls s.tree new ks → IsStateOf (record m { clients = new }) (record s { tables = ks })
-  with-tables new ks next a = record { arrived = next ∙ st.arrived; layers = record { layers = st.layers.layers; shows = st.layers.shows; kept = st.layers.kept }; tables = a }
+  with-tables : (new : Clients) (ks : List Table) → new.next ≡ m.clients.next → AreTables s.tree new ks → IsStateOf (record m { clients = new }) (record s { tables = ks })
+  with-tables new ks next a = record { arrived = next ∙ st.arrived; layers = record { layers = st.layers.layers; shows = st.layers.shows; kept = st.layers.kept }; tables = a; unwatched = st.unwatched }
 
   -- a walk to a directory that is shown is not refused
   walk-none : (p : Path) → is_directory (shows 0 Ls p) ≡ true → walk_fault Ls p ≡ None
@@ -164,8 +170,9 @@ module _ (m : Mount) (s : State) (st : IsStateOf m s) (c : ℕ) where
   keep-unchanged new h =
       state-as new m.layers s h.layers
       (record { layers = st.layers.layers; shows = st.layers.shows; kept = st.layers.kept })
-      (tables-same Ls s.tree m.clients s.tables st.tables new.clients h.clients)
+      (tables-same s.tree m.clients s.tables st.tables new.clients h.clients)
       (h.clients.next ∙ st.arrived)
+      st.unwatched
 
   keep-state : (new : Clients) → ChangesClient m.clients new c (λ x y. y ≡ x) → IsStateOf (record m { clients = new }) s
   keep-state new h = keep-unchanged (record m { clients = new }) (record { layers = refl; clients = same-clients m.clients new c h })
@@ -204,22 +211,22 @@ module _ (m : Mount) (s : State) (st : IsStateOf m s) (c : ℕ) where
   full-open p mode new h free kept = serve-refused _ s c _ errno.EMFILE new (refused-open p mode ∙ ap (λ z. or_else z (when (is_none (lowest_free s.tables c)) errno.EMFILE)) h ∙ ap (λ z. when (is_none z) errno.EMFILE) free) kept
 
   pub open-absent : (p : Path) (mode : ℕ) → place_fault Ls p mode ≡ None → get nat_cmp m.clients.attached c ≡ None → Serves (refusal s c (call.Open p FOR_LISTING mode)) s c (call.Open p FOR_LISTING mode) (reply.Refused errno.EMFILE) m
-  open-absent p mode h none = full-open p mode m h (free-absent Ls s.tree m.clients s.tables st.tables c none) st
+  open-absent p mode h none = full-open p mode m h (free-absent s.tree m.clients s.tables st.tables c none) st
 
   pub open-refused : (p : Path) (mode : ℕ) (new : Clients) (o : OpenDirectory) (e : Errno) → place_fault Ls p mode ≡ None → ChangesClient m.clients new c (λ x y. Opens x y o (Ok (Err e))) → Serves (refusal s c (call.Open p FOR_LISTING mode)) s c (call.Open p FOR_LISTING mode) (reply.Refused e) (record m { clients = new })
   open-refused p mode new o e h ch =
       let kept = keep-state new (changes-as m.clients new c _ _ (λ x y g. g.refused) ch) in
       subst (λ z. Serves (refusal s c (call.Open p FOR_LISTING mode)) s c (call.Open p FOR_LISTING mode) (reply.Refused z) (record m { clients = new })) (sym ch.changes.full.0)
-      (full-open p mode (record m { clients = new }) h (free-none Ls s.tree m.clients s.tables st.tables c ch.before ch.was ch.changes.full.1) kept)
+      (full-open p mode (record m { clients = new }) h (free-none s.tree m.clients s.tables st.tables c ch.before ch.was ch.changes.full.1) kept)
 
-  pub open-done : (p : Path) (mode d : ℕ) (new : Clients) → place_fault Ls p mode ≡ None → ChangesClient m.clients new c (λ x y. Opens x y (record { path = p; listing = None }) (Ok (Ok d))) → Serves (refusal s c (call.Open p FOR_LISTING mode)) s c (call.Open p FOR_LISTING mode) (reply.Descriptor d) (record m { clients = new })
+  pub open-done : (p : Path) (mode d : ℕ) (new : Clients) → place_fault Ls p mode ≡ None → ChangesClient m.clients new c (λ x y. Opens x y (record { location = location.At p; listing = None }) (Ok (Ok d))) → Serves (refusal s c (call.Open p FOR_LISTING mode)) s c (call.Open p FOR_LISTING mode) (reply.Descriptor d) (record m { clients = new })
   open-done p mode d new h ch = by (law.opened unrefused)
     where
       law : looks.Opens Ls s c p mode
       law = law_of_open U lowers s st.layers c p mode
 
       free : lowest_free s.tables c ≡ Some d
-      free = free-lowest Ls s.tree m.clients s.tables st.tables c d ch.before ch.was ch.changes.lowest
+      free = free-lowest s.tree m.clients s.tables st.tables c d ch.before ch.was ch.changes.lowest
 
       none : or_else (place_fault Ls p mode) (when (is_none (lowest_free s.tables c)) errno.EMFILE) ≡ None
       none = ap (λ z. or_else z (when (is_none (lowest_free s.tables c)) errno.EMFILE)) h ∙ ap (λ z. when (is_none z) errno.EMFILE) free
@@ -235,10 +242,10 @@ module _ (m : Mount) (s : State) (st : IsStateOf m s) (c : ℕ) where
           (sym (o.answer ∙ ap reply.Descriptor same))
           (subst (IsStateOf (record m { clients = new })) (sym (o.state ∙ ap (λ z. record s { tables = with_handle s.tables c z (Some (listing_handle o.node (way_of s.tree p))) }) same))
           (with-tables new _ ch.next
-          (tables-set Ls s.tree m.clients s.tables st.tables new c d (Some (record { path = p; listing = None })) (Some (listing_handle o.node (way_of s.tree p)))
+          (tables-set s.tree m.clients s.tables st.tables new c d (Some (record { location = location.At p; listing = None })) (Some (listing_handle o.node (way_of s.tree p)))
           (changes-as m.clients new c _ _ (λ x y g. g.opens) ch)
           ch.changes.lowest.in_range
-          (record { node = o.at; directory = place-directory (bad_mode mode) (walk_fault Ls p) (shows 0 Ls p) h; access = refl; left = refl }))))
+          (record { stands = o.at; directory = directory-folder U lowers s st.layers p o.node o.at (place-directory (bad_mode mode) (walk_fault Ls p) (shows 0 Ls p) h); access = refl; left = refl }))))
 
   -- close
   opened-before : (new : Clients) (P : List (Option OpenDirectory) → List (Option OpenDirectory) → Type 0) (ch : ChangesClient m.clients new c P) (d : ℕ) → opened_by m.clients c d ≡ opened ch.before.slots.items d
@@ -248,13 +255,13 @@ module _ (m : Mount) (s : State) (st : IsStateOf m s) (c : ℕ) where
   close-bad d new none kept = serve-refused _ s c _ errno.EBADF new (law_of_bad_descriptors s c d none).closing kept
 
   pub close-absent : (d : ℕ) → get nat_cmp m.clients.attached c ≡ None → Serves (refusal s c (call.Close d)) s c (call.Close d) (reply.Refused errno.EBADF) m
-  close-absent d none = close-bad d m (handle-absent Ls s.tree m.clients s.tables st.tables c d none) st
+  close-absent d none = close-bad d m (handle-absent s.tree m.clients s.tables st.tables c d none) st
 
   pub close-refused : (d : ℕ) (new : Clients) (e : Errno) → ChangesClient m.clients new c (λ x y. Closes x y d (Err e)) → Serves (refusal s c (call.Close d)) s c (call.Close d) (reply.Refused e) (record m { clients = new })
   close-refused d new e ch =
       subst (λ z. Serves (refusal s c (call.Close d)) s c (call.Close d) (reply.Refused z) (record m { clients = new })) (sym ch.changes.not_open.0)
       (close-bad d (record m { clients = new })
-      (slot-closed Ls s.tree _ _ (st.tables.slots c d) (opened-before new _ ch d ∙ ch.changes.not_open.1))
+      (slot-closed s.tree _ _ (st.tables.slots c d) (opened-before new _ ch d ∙ ch.changes.not_open.1))
       (keep-state new (changes-as m.clients new c _ _ (λ x y g. g.refused) ch)))
 
   pub close-done : (d : ℕ) (new : Clients) → ChangesClient m.clients new c (λ x y. Closes x y d (Ok tt)) → Serves (refusal s c (call.Close d)) s c (call.Close d) reply.Done (record m { clients = new })
@@ -263,21 +270,28 @@ module _ (m : Mount) (s : State) (st : IsStateOf m s) (c : ℕ) where
       by : (o : Option OpenDirectory) → opened_by m.clients c d ≡ o → Serves (refusal s c (call.Close d)) s c (call.Close d) reply.Done (record m { clients = new })
       by None e = absurd (false≢true (sym (ap is_some (sym (opened-before new _ ch d) ∙ e)) ∙ ch.changes.was_open))
       by (Some o) e =
-          let x = slot-open Ls s.tree _ _ o (st.tables.slots c d) e in
-          let inside : d < DESCRIPTORS_MAX = rw (room-of Ls s.tree m.clients s.tables st.tables c (ap is_some ch.was)) at (in-room Ls s.tree m.clients s.tables st.tables c d x.0 x.1) in
-          let law = law_of_close U lowers s st.layers c d o.path x.0 (record { handle = x.1; at = x.2.node }) in
+          let x = slot-open s.tree _ _ o (st.tables.slots c d) e in
+          let inside : d < DESCRIPTORS_MAX = rw (room-of s.tree m.clients s.tables st.tables c (ap is_some ch.was)) at (in-room s.tree m.clients s.tables st.tables c d x.0 x.1) in
+          let law = closes U lowers s st.layers c d o x.0 x.1 x.2 in
+          let set = tables-set s.tree m.clients s.tables st.tables new c d None None (changes-as m.clients new c _ _ (λ x y g. g.closes) ch) inside tt in
           serve-done _ s c _ _ (record m { clients = new }) law.refused (sym law.answer)
-          (subst (IsStateOf (record m { clients = new })) (sym law.state)
-          (with-tables new _ ch.next (tables-set Ls s.tree m.clients s.tables st.tables new c d None None (changes-as m.clients new c _ _ (λ x y g. g.closes) ch) inside tt)))
+          (record {
+            layers = law.mounts;
+            tables = subst (AreTables (after s c (call.Close d)).tree new) (sym law.tables)
+                (tables-moved s.tree new (with_handle s.tables c d None) set (after s c (call.Close d)).tree
+                (λ k i p g open_at on is. handle-same s.tree (after s c (call.Close d)).tree law.paths p g (law.held k i g on) is));
+            arrived = ch.next ∙ st.arrived;
+            unwatched = st.unwatched;
+          })
 
   -- list
   pub list-absent : (d n : ℕ) → opened_by m.clients c d ≡ None → Serves (refusal s c (call.ListNames d n)) s c (call.ListNames d n) (reply.Refused errno.EBADF) m
-  list-absent d n none = serve-refused _ s c _ errno.EBADF m ((law_of_bad_descriptors s c d (slot-closed Ls s.tree _ _ (st.tables.slots c d) none)).listing n) st
+  list-absent d n none = serve-refused _ s c _ errno.EBADF m ((law_of_bad_descriptors s c d (slot-closed s.tree _ _ (st.tables.slots c d) none)).listing n) st
 
   pub list-count : (d n : ℕ) (o : OpenDirectory) → opened_by m.clients c d ≡ Some o → (nat_eq n 0 || nat_lt 256 n) ≡ true → Serves (refusal s c (call.ListNames d n)) s c (call.ListNames d n) (reply.Refused errno.EINVAL) m
   list-count d n o e bad =
-      let x = slot-open Ls s.tree _ _ o (st.tables.slots c d) e in
-      let law = law_of_list U lowers s st.layers c d o.path x.2.directory x.0 (record { handle = x.1; at = x.2.node }) in
+      let x = slot-open s.tree _ _ o (st.tables.slots c d) e in
+      let law = turns U lowers s st.layers c d o x.0 x.1 x.2 in
       serve-refused _ s c _ errno.EINVAL m (law.refused n ∙ ap (λ b. when b errno.EINVAL) bad) st
 
   pub list-done : (d n : ℕ) (new : Mount) (names : List Name) → (nat_eq n 0 || nat_lt 256 n) ≡ false → Pages m new c d n names → Serves (refusal s c (call.ListNames d n)) s c (call.ListNames d n) (reply.Names names) new
@@ -288,20 +302,21 @@ module _ (m : Mount) (s : State) (st : IsStateOf m s) (c : ℕ) where
       (subst (IsStateOf new) (sym (law.state n))
       (state-as new m.layers _ pages.layers
       (record { layers = st.layers.layers; shows = st.layers.shows; kept = st.layers.kept })
-      (tables-set Ls s.tree m.clients s.tables st.tables new.clients c d _ (listed_on s.tree n (Some h)) pages.changes inside
+      (tables-set s.tree m.clients s.tables st.tables new.clients c d _ (listed_on s.tree n (Some h)) pages.changes inside
       (record {
-        node = x.2.node;
+        stands = x.2.stands;
         directory = x.2.directory;
         access = ap (λ (z : Handle). record z { listed = Some now; place = min (length now) (h.place + n) }) x.2.access;
         left = ap (drop n) left ∙ drop-drop n h.place now ∙ sym (ap (λ z. drop z now) (min-comm (length now) (h.place + n)) ∙ drop_min (h.place + n) now);
       }))
-      (pages.changes.next ∙ st.arrived)))
+      (pages.changes.next ∙ st.arrived)
+      st.unwatched))
     where
       o : OpenDirectory
       o = pages.directory
 
-      x : (h : Handle) × (handle_of s.tables c d ≡ Some h) × IsHandle Ls s.tree o h
-      x = slot-open Ls s.tree _ _ o (st.tables.slots c d) pages.was
+      x : (h : Handle) × (handle_of s.tables c d ≡ Some h) × IsHandle s.tree o h
+      x = slot-open s.tree _ _ o (st.tables.slots c d) pages.was
 
       h : Handle
       h = x.0
@@ -309,11 +324,21 @@ module _ (m : Mount) (s : State) (st : IsStateOf m s) (c : ℕ) where
       now : List Name
       now = listing s.tree h
 
-      law : Lists Ls s c d o.path h
-      law = law_of_list U lowers s st.layers c d o.path x.2.directory h (record { handle = x.1; at = x.2.node })
+      law : Turns s c d h
+      law = turns U lowers s st.layers c d o h x.1 x.2
+
+      -- the names of the directory are those of a new listing
+      alone : (l : Location) → Stands s.tree l h.node → h.listed ≡ None → (names : List Name) → AreNamesIn Ls l names → names ≡ now
+      alone (location.At p) at none names are =
+          let dir = shown-directory U lowers s st.layers p h.node at x.2.directory in
+          let lists : Lists Ls s c d p h = law_of_list U lowers s st.layers c d p dir h (record { handle = x.1; at = at }) in
+          lists.alone none names (are dir (walk-none p dir))
+      alone location.Removed gone none names are =
+          let lists : ListsRemoved s c d h = law_of_list_removed s c d h x.1 x.2.directory gone.empty in
+          are ∙ sym (lists.empty none)
 
       left : pages.left ≡ drop h.place now
-      left = left-is Ls o.path o.listing h.listed h.place (names_in (s.tree h.node)) pages.left pages.from x.2.left x.2.directory (walk-none o.path x.2.directory) law.alone
+      left = left-is Ls o.location o.listing h.listed h.place (names_in (s.tree h.node)) pages.left pages.from x.2.left (alone o.location x.2.stands)
 
       inside : d < DESCRIPTORS_MAX
-      inside = rw (room-of Ls s.tree m.clients s.tables st.tables c (ap is_some pages.changes.was)) at (in-room Ls s.tree m.clients s.tables st.tables c d h x.1)
+      inside = rw (room-of s.tree m.clients s.tables st.tables c (ap is_some pages.changes.was)) at (in-room s.tree m.clients s.tables st.tables c d h x.1)

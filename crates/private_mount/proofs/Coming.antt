@@ -1,6 +1,6 @@
--- Clients come and go on both sides.
-use Rattle.std.proofs.Common.{◌≡◌, ◌≢◌, ℕ, zero, suc, ◌^◌, Bool, true, false, not, cond, ◌||◌, List, [], ◌∷◌, ◌++◌, Option, None, Some, Result, Ok, Err, refl, sym, ap, ◌∙◌, subst, ◌⊎◌, inl, inr, is_some, length, filter, replicate, slice_get, nat_eq, nat_lt, add-one}
-use Rattle.std.proofs.lemmas.Bool.{false≢true, cases_eq, eqb-true, eq-eqb, ne_eqb}
+-- Clients come on both sides.
+use Rattle.std.proofs.Common.{◌≡◌, ◌≢◌, ℕ, zero, suc, ◌^◌, Bool, true, false, cond, ◌||◌, List, [], ◌∷◌, ◌++◌, Option, None, Some, Result, Ok, Err, refl, sym, ap, ◌∙◌, subst, ◌⊎◌, inl, inr, is_some, length, replicate, slice_get, nat_eq, nat_lt, add-one}
+use Rattle.std.proofs.lemmas.Bool.{false≢true, cases_eq, eq-eqb, ne_eqb}
 use Rattle.std.proofs.lemmas.List.{length-replicate}
 use Rattle.std.specs.List.{list_any}
 use Rattle.std.specs.Option.{option_and_then}
@@ -9,11 +9,12 @@ use Rattle.std.specs.declared.alloc.AllocError.{AllocError}
 use Rattle.ov_base.specs.declared.errno.Errno.{Errno}
 use Rattle.std.specs.BTreeMap.{get}
 use Rattle.std.specs.Ordering.{nat_cmp}
-use Rattle.plain_model.specs.Layers.{Layer, AreLayers}
+use Rattle.plain_model.specs.Layers.{AreLayers}
 use Rattle.plain_model.specs.Tree.{Tree}
 use Rattle.plain_model.specs.Machine.{Handle, Table, State, DESCRIPTORS_MAX, free_table, opening, handles_of, held_in, handle_of}
 use Rattle.plain_model.specs.Merging.{IsMerge}
-use Rattle.plain_model.specs.Runs.{joined, without_instance, without_table, is_attached}
+use Rattle.plain_model.specs.Watching.{Instance, silent}
+use Rattle.plain_model.specs.Runs.{joined, is_attached}
 use Rattle.layer_tree.specs.Tree.{layer_of}
 use Rattle.merged_lookup.specs.Merged.{layers_of, lowers_of}
 use Rattle.mount_laws.proofs.Looks.{law_of_beginning}
@@ -21,18 +22,14 @@ use Rattle.private_mount.specs.declared.clients.Clients.{Clients}
 use Rattle.private_mount.specs.declared.descriptors.Descriptors.{Descriptors}
 use Rattle.private_mount.specs.declared.descriptors.OpenDirectory.{OpenDirectory}
 use Rattle.private_mount.specs.declared.mount.Mount.{Mount}
-use Rattle.private_mount.specs.Attaching.{Attaches, Detaches, IsSame, opened_by}
+use Rattle.private_mount.specs.Attaching.{Attaches, IsSame, opened_by}
 use Rattle.private_mount.specs.Descriptors.{opened}
-use Rattle.private_mount.specs.States.{number, IsSlot, AreTables, IsStateOf}
+use Rattle.private_mount.specs.States.{number, IsSlot, AreTables, AreUnwatched, IsStateOf}
 use Rattle.private_mount.proofs.Serving.{slot-as}
 
 -- whether a table is of a client
-abbrev of : ℕ → Table → Bool
+abbrev pub of : ℕ → Table → Bool
 of b k = nat_eq k.client b
-
--- the tables but a client's
-abbrev without : ℕ → List Table → List Table
-without n ks = filter (λ (k : Table). not (nat_eq k.client n)) ks
 
 -- a client's table last
 any-last : (ks : List Table) (n b : ℕ) → list_any (of b) (ks ++ free_table n ∷ []) ≡ (list_any (of b) ks || nat_eq n b)
@@ -78,45 +75,17 @@ held-free zero d = refl
 held-free (suc k) zero = refl
 held-free (suc k) (suc d) = held-free k d
 
--- without a client's table
-handles-gone : (ks : List Table) (n : ℕ) → handles_of (without n ks) n ≡ []
-handles-gone [] n = refl
-handles-gone (k ∷ ks) n = by (nat_eq k.client n) refl (handles-gone ks n)
-  where
-    by : (x : Bool) → nat_eq k.client n ≡ x → handles_of (without n ks) n ≡ [] → handles_of (cond (not x) (k ∷ without n ks) (without n ks)) n ≡ []
-    by true e rest = rest
-    by false e rest = ap (λ x. cond x k.handles (handles_of (without n ks) n)) e ∙ rest
-
-handles-kept : (ks : List Table) (n b : ℕ) → b ≢ n → handles_of (without n ks) b ≡ handles_of ks b
-handles-kept [] n b h = refl
-handles-kept (k ∷ ks) n b h = by (nat_eq k.client n) refl (handles-kept ks n b h)
-  where
-    by : (x : Bool) → nat_eq k.client n ≡ x → handles_of (without n ks) b ≡ handles_of ks b → handles_of (cond (not x) (k ∷ without n ks) (without n ks)) b ≡ cond (nat_eq k.client b) k.handles (handles_of ks b)
-    by true e rest = rest ∙ sym (ap (λ x. cond x k.handles (handles_of ks b)) (ne_eqb k.client b (λ f. h (sym f ∙ eqb-true k.client n e))))
-    by false e rest = ap (cond (nat_eq k.client b) k.handles) rest
-
-any-gone : (ks : List Table) (n : ℕ) → list_any (of n) (without n ks) ≡ false
-any-gone [] n = refl
-any-gone (k ∷ ks) n = by (nat_eq k.client n) refl (any-gone ks n)
-  where
-    by : (x : Bool) → nat_eq k.client n ≡ x → list_any (of n) (without n ks) ≡ false → list_any (of n) (cond (not x) (k ∷ without n ks) (without n ks)) ≡ false
-    by true e rest = rest
-    by false e rest = ap (λ x. x || list_any (of n) (without n ks)) e ∙ rest
-
-any-kept : (ks : List Table) (n b : ℕ) → b ≢ n → list_any (of b) (without n ks) ≡ list_any (of b) ks
-any-kept [] n b h = refl
-any-kept (k ∷ ks) n b h = by (nat_eq k.client n) refl (any-kept ks n b h)
-  where
-    by : (x : Bool) → nat_eq k.client n ≡ x → list_any (of b) (without n ks) ≡ list_any (of b) ks → list_any (of b) (cond (not x) (k ∷ without n ks) (without n ks)) ≡ (nat_eq k.client b || list_any (of b) ks)
-    by true e rest = rest ∙ sym (ap (λ x. x || list_any (of b) ks) (ne_eqb k.client b (λ f. h (sym f ∙ eqb-true k.client n e))))
-    by false e rest = ap (λ x. nat_eq k.client b || x) rest
+-- instances without watches, one more
+unwatched-last : (es : List Instance) (e : Instance) → AreUnwatched es → e.watches ≡ [] → AreUnwatched (es ++ e ∷ [])
+unwatched-last [] e a h = (h, tt)
+unwatched-last (x ∷ es) e a h = (a.0, unwatched-last es e a.1 h)
 
 -- what a client has open, by its descriptors
-abbrev open_in : ℕ → Option Descriptors → Option OpenDirectory
+abbrev pub open_in : ℕ → Option Descriptors → Option OpenDirectory
 open_in d o = option_and_then (λ (x : Descriptors). opened x.slots.items d) o
 
-module _ (Ls : List Layer) (t : Tree) (clients : Clients) (ks : List Table) (a : AreTables Ls t clients ks) (new : Clients) (n : ℕ) where
-  come : Attaches clients new n → AreTables Ls t new (ks ++ free_table n ∷ [])
+module _ (t : Tree) (clients : Clients) (ks : List Table) (a : AreTables t clients ks) (new : Clients) (n : ℕ) where
+  come : Attaches clients new n → AreTables t new (ks ++ free_table n ∷ [])
   come h = record { attached = λ b. attached b (cases_eq b n); room = λ b. room b (cases_eq b n); slots = λ b d. slots b d (cases_eq b n) }
     where
       fresh : list_any (of n) ks ≡ false
@@ -132,41 +101,25 @@ module _ (Ls : List Layer) (t : Tree) (clients : Clients) (ks : List Table) (a :
           (ap length (handles-last ks n fresh) ∙ length-replicate {A = Option Handle} DESCRIPTORS_MAX None ∙ sym (ap (λ (o : Option Descriptors). cond (is_some o) DESCRIPTORS_MAX 0) h.there))
       room b (inr m) = ap length (handles-last-other ks n b m) ∙ a.room b ∙ sym (ap (λ (o : Option Descriptors). cond (is_some o) DESCRIPTORS_MAX 0) (h.others b m))
 
-      slots : (b d : ℕ) → (b ≡ n) ⊎ (b ≡ n → ⊥) → IsSlot Ls t (opened_by new b d) (handle_of (ks ++ free_table n ∷ []) b d)
+      slots : (b d : ℕ) → (b ≡ n) ⊎ (b ≡ n → ⊥) → IsSlot t (opened_by new b d) (handle_of (ks ++ free_table n ∷ []) b d)
       slots b d (inl e) =
-          subst (λ z. IsSlot Ls t (opened_by new z d) (handle_of (ks ++ free_table n ∷ []) z d)) (sym e)
-          (slot-as Ls t None _ None _
+          subst (λ z. IsSlot t (opened_by new z d) (handle_of (ks ++ free_table n ∷ []) z d)) (sym e)
+          (slot-as t None _ None _
           (sym (ap (open_in d) h.there ∙ ap (λ z. opened z d) h.none))
           (sym (ap (λ z. held_in (slice_get z d)) (handles-last ks n fresh) ∙ held-free DESCRIPTORS_MAX d))
           tt)
-      slots b d (inr m) = slot-as Ls t _ _ _ _ (sym (ap (open_in d) (h.others b m))) (sym (ap (λ z. held_in (slice_get z d)) (handles-last-other ks n b m))) (a.slots b d)
-
-  go : Detaches clients new n → AreTables Ls t new (without n ks)
-  go h = record { attached = λ b. attached b (cases_eq b n); room = λ b. room b (cases_eq b n); slots = λ b d. slots b d (cases_eq b n) }
-    where
-      attached : (b : ℕ) → (b ≡ n) ⊎ (b ≡ n → ⊥) → list_any (of b) (without n ks) ≡ is_some (get nat_cmp new.attached b)
-      attached b (inl e) = subst (λ z. list_any (of z) (without n ks) ≡ is_some (get nat_cmp new.attached z)) (sym e) (any-gone ks n ∙ sym (ap (λ (o : Option Descriptors). is_some o) h.gone))
-      attached b (inr m) = any-kept ks n b m ∙ a.attached b ∙ sym (ap (λ (o : Option Descriptors). is_some o) (h.others b m))
-
-      room : (b : ℕ) → (b ≡ n) ⊎ (b ≡ n → ⊥) → length (handles_of (without n ks) b) ≡ cond (is_some (get nat_cmp new.attached b)) DESCRIPTORS_MAX 0
-      room b (inl e) = subst (λ z. length (handles_of (without n ks) z) ≡ cond (is_some (get nat_cmp new.attached z)) DESCRIPTORS_MAX 0) (sym e) (ap length (handles-gone ks n) ∙ sym (ap (λ (o : Option Descriptors). cond (is_some o) DESCRIPTORS_MAX 0) h.gone))
-      room b (inr m) = ap length (handles-kept ks n b m) ∙ a.room b ∙ sym (ap (λ (o : Option Descriptors). cond (is_some o) DESCRIPTORS_MAX 0) (h.others b m))
-
-      slots : (b d : ℕ) → (b ≡ n) ⊎ (b ≡ n → ⊥) → IsSlot Ls t (opened_by new b d) (handle_of (without n ks) b d)
-      slots b d (inl e) =
-          subst (λ z. IsSlot Ls t (opened_by new z d) (handle_of (without n ks) z d)) (sym e)
-          (slot-as Ls t None _ None _ (sym (ap (open_in d) h.gone)) (sym (ap (λ z. held_in (slice_get z d)) (handles-gone ks n))) tt)
-      slots b d (inr m) = slot-as Ls t _ _ _ _ (sym (ap (open_in d) (h.others b m))) (sym (ap (λ z. held_in (slice_get z d)) (handles-kept ks n b m))) (a.slots b d)
+      slots b d (inr m) = slot-as t _ _ _ _ (sym (ap (open_in d) (h.others b m))) (sym (ap (λ z. held_in (slice_get z d)) (handles-last-other ks n b m))) (a.slots b d)
 
 -- a mount without clients stands for the opening state of the merge
 pub begins : (m : Mount) → ((n : ℕ) → get nat_cmp m.clients.attached n ≡ None) → m.clients.next ≡ Some 0 → (t : Tree) (redirects : Bool) → AreLayers (layers_of m.layers) → IsMerge (layer_of m.layers.upper) (lowers_of m.layers) t → IsStateOf m (opening t redirects)
 begins m none next t redirects a merge = record {
   layers = law_of_beginning (layer_of m.layers.upper) (lowers_of m.layers) t redirects a merge;
   arrived = next;
+  unwatched = tt;
   tables = record {
     attached = λ b. sym (ap (λ (o : Option Descriptors). is_some o) (none b));
     room = λ b. sym (ap (λ (o : Option Descriptors). cond (is_some o) DESCRIPTORS_MAX 0) (none b));
-    slots = λ b d. slot-as (layers_of m.layers) t None _ None _ (sym (ap (open_in d) (none b))) refl tt;
+    slots = λ b d. slot-as t None _ None _ (sym (ap (open_in d) (none b))) refl tt;
   };
 }
 
@@ -176,10 +129,11 @@ module _ (m : Mount) (s : State) (st : IsStateOf m s) (new : Clients) where
   stays h = record {
     layers = st.layers;
     arrived = h.next ∙ st.arrived;
+    unwatched = st.unwatched;
     tables = record {
       attached = λ b. st.tables.attached b ∙ sym (ap (λ (o : Option Descriptors). is_some o) (same b));
       room = λ b. st.tables.room b ∙ sym (ap (λ (o : Option Descriptors). cond (is_some o) DESCRIPTORS_MAX 0) (same b));
-      slots = λ b d. slot-as (layers_of m.layers) s.tree _ _ _ _ (sym (ap (open_in d) (same b))) refl (st.tables.slots b d);
+      slots = λ b d. slot-as s.tree _ _ _ _ (sym (ap (open_in d) (same b))) refl (st.tables.slots b d);
     };
   }
     where
@@ -200,17 +154,11 @@ module _ (m : Mount) (s : State) (st : IsStateOf m s) (new : Clients) where
         same,
         record {
           layers = record { layers = st.layers.layers; shows = st.layers.shows; kept = st.layers.kept };
+          unwatched = unwatched-last s.instances (silent s.arrived tags) st.unwatched refl;
           arrived = h.rises ∙ ap number (add-one n ∙ ap suc same);
-          tables = subst (λ z. AreTables (layers_of m.layers) s.tree new (s.tables ++ free_table z ∷ [])) same (come (layers_of m.layers) s.tree m.clients s.tables st.tables new n h);
+          tables = subst (λ z. AreTables s.tree new (s.tables ++ free_table z ∷ [])) same (come s.tree m.clients s.tables st.tables new n h);
         },
       )
-
-  pub detaches : (n : ℕ) → Detaches m.clients new n → IsStateOf (record m { clients = new }) (without_table (without_instance s n) n)
-  detaches n h = record {
-    layers = record { layers = st.layers.layers; shows = st.layers.shows; kept = st.layers.kept };
-    arrived = h.next ∙ st.arrived;
-    tables = go (layers_of m.layers) s.tree m.clients s.tables st.tables new n h;
-  }
 
   pub tells : (n : ℕ) (b : Bool) → b ≡ is_some (get nat_cmp m.clients.attached n) → b ≡ is_attached s n
   tells n b e = e ∙ sym (st.tables.attached n)

@@ -1,7 +1,12 @@
 pub mod Shown
 pub mod Slots
+pub mod Marking
 pub mod Serving
+pub mod Standing
 pub mod Answering
+pub mod Changing
+pub mod Linking
 pub mod Paging
 pub mod Coming
+pub mod Leaving
 pub mod Replying

@@ -3,16 +3,15 @@ use Rattle.std.proofs.Common.{◌≡◌, ℕ, true, false, List, Option, None, S
 use Rattle.std.specs.Result.{IfOk}
 use Rattle.std.proofs.lemmas.Bool.{false≢true}
 use Rattle.std.specs.declared.alloc.AllocError.{AllocError}
-use Rattle.plain_model.specs.Layers.{Name, shows, is_directory}
+use Rattle.plain_model.specs.Layers.{Name}
 use Rattle.merged_lookup.specs.Merged.{layers_of}
-use Rattle.mount_laws.specs.Looks.{walk_fault, AreShown}
 use Rattle.private_mount.specs.declared.clients.Clients.{Clients}
 use Rattle.private_mount.specs.declared.descriptors.OpenDirectory.{OpenDirectory}
 use Rattle.private_mount.specs.declared.mount.Mount.{Mount}
 use Rattle.private_mount.specs.Attaching.{opened_by, ChangesClient}
 use Rattle.private_mount.specs.Descriptors.{opened, SetsSlot}
 use Rattle.private_mount.specs.Listings.{ChangesSlot, GivesNames, after_names, names_left, with_listing}
-use Rattle.private_mount.specs.States.{AreLeft, Pages}
+use Rattle.private_mount.specs.States.{AreNamesIn, AreLeft, Pages}
 
 abbrev Slots : Type 0
 Slots = List (Option OpenDirectory)
@@ -37,7 +36,7 @@ module _ (m : Mount) (new : Clients) (c d n : ℕ) (o : OpenDirectory) (was : op
         directory = o;
         was = was;
         left = left;
-        from = subst (λ l. AreLeft (layers_of m.layers) o.path l left) (sym e) refl;
+        from = subst (λ l. AreLeft (layers_of m.layers) o.location l left) (sym e) refl;
         next = h.changes.names ∙ ap (λ z. take n (names_left z)) before ∙ ap (λ z. take n (names_left (Some (record o { listing = z })))) e;
         changes = changes-to m.clients new c _ (λ x y. SetsSlot x y d (Some (record o { listing = Some (drop n left) }))) h
             (set-as _ _ d _ _ (ap (option_map (after_names n)) before ∙ ap (λ z. Some (record o { listing = option_map (drop n) z })) e) h.changes.left);
@@ -54,7 +53,7 @@ module _ (m : Mount) (new : Clients) (c d n : ℕ) (o : OpenDirectory) (was : op
       by (Some left) e t = next-names left names e h
 
   -- a new listing is made, of which the first names are given
-  pub page-fresh : (left names : List Name) → is_some o.listing ≡ false → (is_directory (shows 0 (layers_of m.layers) o.path) ≡ true → walk_fault (layers_of m.layers) o.path ≡ None → AreShown (layers_of m.layers) o.path left) → names ≡ take n left → ChangesClient m.clients new c (λ x y. ChangesSlot x y d (with_listing (drop n left))) → Pages m (record m { clients = new }) c d n names
+  pub page-fresh : (left names : List Name) → is_some o.listing ≡ false → AreNamesIn (layers_of m.layers) o.location left → names ≡ take n left → ChangesClient m.clients new c (λ x y. ChangesSlot x y d (with_listing (drop n left))) → Pages m (record m { clients = new }) c d n names
   page-fresh left names none shown e h = record {
     directory = o;
     was = was;
@@ -66,6 +65,6 @@ module _ (m : Mount) (new : Clients) (c d n : ℕ) (o : OpenDirectory) (was : op
     layers = refl;
   }
     where
-      by : (l : Option (List Name)) → is_some l ≡ false → AreLeft (layers_of m.layers) o.path l left
+      by : (l : Option (List Name)) → is_some l ≡ false → AreLeft (layers_of m.layers) o.location l left
       by None t = shown
       by (Some x) t = absurd (false≢true (sym t))

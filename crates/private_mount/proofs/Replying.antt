@@ -1,8 +1,9 @@
 -- What refused calls keep, told by what each call answers.
 use Rattle.std.proofs.Common.{◌≡◌, ℕ, true, false, List, Option, None, Some, Result, Ok, Err, refl, sym, ap, ◌∙◌, subst, is_some, is_none}
-use Rattle.std.specs.Result.{IfOk}
+use Rattle.std.specs.Result.{IfOk, OnErr}
 use Rattle.std.proofs.lemmas.Bool.{false≢true}
 use Rattle.std.specs.declared.alloc.AllocError.{AllocError}
+use Rattle.ov_base.specs.declared.bytes.Content.TheVariants as content
 use Rattle.ov_base.specs.declared.call.Call.{Call}
 use Rattle.ov_base.specs.declared.call.Call.TheVariants as call
 use Rattle.ov_base.specs.declared.call.OpenFlags.{OpenFlags}
@@ -10,17 +11,25 @@ use Rattle.ov_base.specs.declared.errno.Errno.{Errno}
 use Rattle.ov_base.specs.declared.errno.Errno.TheVariants as errno
 use Rattle.ov_base.specs.declared.reply.Reply.{Reply}
 use Rattle.ov_base.specs.declared.reply.Reply.TheVariants as reply
-use Rattle.plain_model.specs.Layers.{Path}
+use Rattle.plain_model.specs.Layers.{Path, AreLayers}
+use Rattle.plain_model.specs.Tree.{IsThin}
+use Rattle.layer_tree.specs.Tree.{layer_of}
+use Rattle.copy_up.specs.Showing.{StaysLayers, StaysThin}
 use Rattle.plain_model.specs.Refusals.{when}
-use Rattle.make_remove.specs.Making.{mkdir_fault}
-use Rattle.merged_lookup.specs.Merged.{layers_of}
+use Rattle.mount_laws.specs.Leaves.{symlink_fault}
+use Rattle.make_remove.specs.Leaves.{MakesLeaf}
+use Rattle.make_remove.specs.Making.{MakesDirectory, new_attributes, mkdir_fault}
+use Rattle.make_remove.specs.Removing.{TakesName, unlink_fault}
+use Rattle.merged_lookup.specs.declared.layers.Layers.{Layers}
+use Rattle.merged_lookup.specs.Merged.{layers_of, lowers_of}
 use Rattle.private_mount.specs.declared.clients.Clients.{Clients}
+use Rattle.private_mount.specs.declared.descriptors.Location.TheVariants as location
 use Rattle.private_mount.specs.declared.descriptors.OpenDirectory.{OpenDirectory}
 use Rattle.private_mount.specs.declared.mount.Mount.{Mount}
 use Rattle.private_mount.specs.Attaching.{opened_by, ChangesClient}
 use Rattle.private_mount.specs.Descriptors.{opened}
 use Rattle.private_mount.specs.Listings.{Opens, Closes}
-use Rattle.private_mount.specs.Mounts.{SameClients, IsUnchanged, MakesOrRefuses, UnlessRefused, IsAnswered, open_reply, OpensDirectory, open_fault, AnswersOpen, GivesPage, list_fault, ClosesDescriptor, AnswersClose, Answers}
+use Rattle.private_mount.specs.Mounts.{SameClients, IsUnchanged, ChangesOrRefuses, done_reply, RemovesDirectory, UnlessRefused, IsAnswered, open_reply, OpensDirectory, open_fault, AnswersOpen, GivesPage, list_fault, ClosesDescriptor, AnswersList, AnswersClose, Answers}
 use Rattle.private_mount.proofs.Answering.{changes-as}
 use Rattle.private_mount.proofs.Serving.{same-clients}
 
@@ -52,16 +61,24 @@ clients-same old new e l = record {
   clients = subst (λ z. SameClients old.clients z) (sym e) (record { attached = λ c. refl; opened = λ c d. refl; next = refl });
 }
 
--- a refused mkdir keeps the layers
-mkdir-refused : (old new : Mount) (p : Path) (mode : ℕ) (o : Option Errno) (r : Reply) (e : Errno) → new.clients ≡ old.clients → MakesOrRefuses old new p mode o r → r ≡ reply.Refused e → IsUnchanged old new
-mkdir-refused old new p mode None r e same a h = let other : reply.Done ≡ reply.Refused e = sym a.0 ∙ h in cc
-mkdir-refused old new p mode (Some d) r e same a h = clients-same old new same a.1
+-- a refused call on the layers keeps them
+change-refused : (old new : Mount) (P : Layers → Layers → Type 0) (o : Option Errno) (r : Reply) (e : Errno) → new.clients ≡ old.clients → ChangesOrRefuses old new P o r → r ≡ reply.Refused e → IsUnchanged old new
+change-refused old new P None r e same a h = let other : reply.Done ≡ reply.Refused e = sym a.0 ∙ h in cc
+change-refused old new P (Some d) r e same a h = clients-same old new same a.1
+
+-- and so does a refused rmdir
+rmdir-refused : (old new : Mount) (p : Path) (r : Reply) (e : Errno) → RemovesDirectory old new p r → r ≡ reply.Refused e → IsUnchanged old new
+rmdir-refused old new p r e a h = by a.outcome a.unchanged (sym a.reply ∙ h)
+  where
+    by : (x : Result (Unit {0}) Errno) → OnErr x (IsUnchanged old new) → done_reply x ≡ reply.Refused e → IsUnchanged old new
+    by (Ok u) kept other = cc
+    by (Err f) kept is = kept
 
 -- an open that finds no free descriptor changes nothing
 opens-refused : (old new : Mount) (c : ℕ) (p : Path) (r : Reply) (e : Errno) → OpensDirectory old new c p r → r ≡ reply.Refused e → IsUnchanged old new
 opens-refused old new c p r e a h = by a.opening a.changes (sym a.reply ∙ h)
   where
-    by : (x : Result ℕ Errno) → ChangesClient old.clients new.clients c (λ u v. Opens u v (record { path = p; listing = None }) (Ok x)) → open_reply x ≡ reply.Refused e → IsUnchanged old new
+    by : (x : Result ℕ Errno) → ChangesClient old.clients new.clients c (λ u v. Opens u v (record { location = location.At p; listing = None }) (Ok x)) → open_reply x ≡ reply.Refused e → IsUnchanged old new
     by (Ok d) ch other = cc
     by (Err f) ch is = record { layers = a.layers; clients = same-clients old.clients new.clients c (changes-as old.clients new.clients c _ _ (λ u v g. g.refused) ch) }
 
@@ -84,7 +101,11 @@ closes-no_refusal old new c d r e g h =
 -- a refused call changes nothing
 pub refused-unchanged : (old new : Mount) (c : ℕ) (k : Call) (r : Reply) (e : Errno) → Answers old new c k (Ok r) → r ≡ reply.Refused e → IsUnchanged old new
 refused-unchanged old new c (call.Stat p) r e a h = a.unchanged
-refused-unchanged old new c (call.Mkdir p mode) r e a h = mkdir-refused old new p mode (mkdir_fault (layers_of old.layers) p mode) r e a.clients a.answer h
+refused-unchanged old new c (call.Readlink p) r e a h = a.unchanged
+refused-unchanged old new c (call.Mkdir p mode) r e a h = change-refused old new (λ x y. MakesDirectory x y p mode) (mkdir_fault (layers_of old.layers) p mode) r e a.clients a.answer h
+refused-unchanged old new c (call.Symlink target p) r e a h = change-refused old new (λ x y. MakesLeaf x y p (content.SymbolicLink target) (new_attributes 0o777)) (symlink_fault (layers_of old.layers) target p) r e a.clients a.answer h
+refused-unchanged old new c (call.Unlink p) r e a h = change-refused old new (λ x y. TakesName x y p) (unlink_fault (layers_of old.layers) p) r e a.clients a.answer h
+refused-unchanged old new c (call.Rmdir p) r e a h = rmdir-refused old new p r e a.answer h
 refused-unchanged old new c (call.Open p f mode) r e a h = unless-refused (open_fault old c p f mode) old new r e _ a (λ x. opens-refused old new c p r e x.answer h)
 refused-unchanged old new c (call.ListNames d count) r e a h = unless-refused (list_fault (opened_by old.clients c d) count) old new r e _ a (λ x. absurd (gives-no_refusal old new c d count r e x.answer h))
 refused-unchanged old new c (call.Close d) r e a h = unless-refused (when (is_none (opened_by old.clients c d)) errno.EBADF) old new r e _ a (λ x. absurd (closes-no_refusal old new c d r e x h))
@@ -106,4 +127,30 @@ open-layers old new c p f mode result a = by (open_fault old c p f mode) a
   where
     by : (o : Option Errno) → UnlessRefused o old new result (IsAnswered old new result (OpensDirectory old new c p)) → new.layers ≡ old.layers
     by None x = answered-layers old new c p result x
+    by (Some e) x = x.unchanged.layers
+
+-- the same layers are layers as before, and the upper has no more needless whiteouts
+pub keeps-same : (old new : Layers) → new ≡ old → StaysLayers old new
+keeps-same old new e h = subst (λ z. AreLayers (layers_of z)) (sym e) h
+
+pub thin-same : (old new : Layers) → new ≡ old → StaysThin old new
+thin-same old new e h = subst (λ z. IsThin (layer_of z.upper) (lowers_of z)) (sym e) h
+
+-- list keeps the layers, and so does close
+pub list-layers : (old new : Mount) (c d count : ℕ) (result : Result Reply AllocError) → AnswersList old new c d count result → new.layers ≡ old.layers
+list-layers old new c d count result a = by (list_fault (opened_by old.clients c d) count) a
+  where
+    answered : (x : Result Reply AllocError) → IsAnswered old new x (GivesPage old new c d count) → new.layers ≡ old.layers
+    answered (Ok r) y = y.answer.pages.layers
+    answered (Err e) y = y.no_memory.layers
+
+    by : (o : Option Errno) → UnlessRefused o old new result (IsAnswered old new result (GivesPage old new c d count)) → new.layers ≡ old.layers
+    by None x = answered result x
+    by (Some e) x = x.unchanged.layers
+
+pub close-layers : (old new : Mount) (c d : ℕ) (result : Result Reply AllocError) → AnswersClose old new c d result → new.layers ≡ old.layers
+close-layers old new c d result a = by (when (is_none (opened_by old.clients c d)) errno.EBADF) a
+  where
+    by : (o : Option Errno) → UnlessRefused o old new result (ClosesDescriptor old new c d result) → new.layers ≡ old.layers
+    by None x = x.layers
     by (Some e) x = x.unchanged.layers

@@ -6,17 +6,20 @@ use Rattle.std.specs.List.{list_any, position, position_or_len}
 use Rattle.std.specs.Option.{option_and_then}
 use Rattle.std.specs.BTreeMap.{get}
 use Rattle.std.specs.Ordering.{nat_cmp}
-use Rattle.plain_model.specs.Layers.{Layer}
-use Rattle.plain_model.specs.Tree.{Tree}
+use Rattle.ov_base.specs.declared.node_id.NodeId.{NodeId}
+use Rattle.plain_model.specs.Layers.{Path}
+use Rattle.plain_model.specs.Tree.{Tree, node_at, is_folder}
 use Rattle.plain_model.specs.Machine.{Handle, Table, DESCRIPTORS_MAX, handles_of, held_in, handle_of, lowest_free}
-use Rattle.plain_model.specs.Changes.{with_handle}
+use Rattle.plain_model.specs.Changes.{names_in, with_handle}
 use Rattle.private_mount.specs.declared.clients.Clients.{Clients}
 use Rattle.private_mount.specs.declared.descriptors.Descriptors.{Descriptors}
+use Rattle.private_mount.specs.declared.descriptors.Location.{Location}
+use Rattle.private_mount.specs.declared.descriptors.Location.TheVariants as location
 use Rattle.private_mount.specs.declared.descriptors.OpenDirectory.{OpenDirectory}
 use Rattle.private_mount.specs.Attaching.{opened_by, ChangesClient}
 use Rattle.private_mount.specs.Descriptors.{opened, IsFull, IsLowestFree, SetsSlot}
 use Rattle.private_mount.specs.Mounts.{SameClients}
-use Rattle.private_mount.specs.States.{IsHandle, IsSlot, AreTables}
+use Rattle.private_mount.specs.States.{Stands, IsHandle, IsSlot, AreTables}
 
 -- one element of a list after it is set, and the others
 get-set : {A : Type 0} (xs : List A) (i : ℕ) (v : A) → i < length xs → slice_get (slice_set xs i v) i ≡ Some v
@@ -24,7 +27,7 @@ get-set [] i v h = absurd (omega arith)
 get-set (x ∷ xs) zero v h = refl
 get-set (x ∷ xs) (suc i) v h = get-set xs i v (omega arith)
 
-get-others : {A : Type 0} (xs : List A) (i j : ℕ) (v : A) → j ≢ i → slice_get (slice_set xs i v) j ≡ slice_get xs j
+pub get-others : {A : Type 0} (xs : List A) (i j : ℕ) (v : A) → j ≢ i → slice_get (slice_set xs i v) j ≡ slice_get xs j
 get-others [] i j v h = refl
 get-others (x ∷ xs) zero zero v h = absurd (h refl)
 get-others (x ∷ xs) zero (suc j) v h = refl
@@ -43,7 +46,7 @@ same-client c fd h k = by (nat_eq k.client c)
     by false = refl
 
 -- the handles of a client after one is set, and of the others
-handles-set : (ks : List Table) (c fd : ℕ) (h : Option Handle) → handles_of (with_handle ks c fd h) c ≡ slice_set (handles_of ks c) fd h
+pub handles-set : (ks : List Table) (c fd : ℕ) (h : Option Handle) → handles_of (with_handle ks c fd h) c ≡ slice_set (handles_of ks c) fd h
 handles-set [] c fd h = refl
 handles-set (k ∷ ks) c fd h = by (handles-set ks c fd h) (cases_Bool (nat_eq k.client c))
   where
@@ -51,7 +54,7 @@ handles-set (k ∷ ks) c fd h = by (handles-set ks c fd h) (cases_Bool (nat_eq k
     by rest (inl e) = rw (e, e) refl
     by rest (inr e) = rw (e, e) rest
 
-handles-others : (ks : List Table) (c fd b : ℕ) (h : Option Handle) → b ≢ c → handles_of (with_handle ks c fd h) b ≡ handles_of ks b
+pub handles-others : (ks : List Table) (c fd b : ℕ) (h : Option Handle) → b ≢ c → handles_of (with_handle ks c fd h) b ≡ handles_of ks b
 handles-others [] c fd b h n = refl
 handles-others (k ∷ ks) c fd b h n = by (handles-others ks c fd b h n) (cases_Bool (nat_eq k.client c))
   where
@@ -61,37 +64,58 @@ handles-others (k ∷ ks) c fd b h n = by (handles-others ks c fd b h n) (cases_
         rw (e, other) rest
     by rest (inr e) = rw e (ap (cond (nat_eq k.client b) k.handles) rest)
 
-attached-same : (ks : List Table) (c fd b : ℕ) (h : Option Handle) → list_any (λ (k : Table). nat_eq k.client b) (with_handle ks c fd h) ≡ list_any (λ (k : Table). nat_eq k.client b) ks
+pub attached-same : (ks : List Table) (c fd b : ℕ) (h : Option Handle) → list_any (λ (k : Table). nat_eq k.client b) (with_handle ks c fd h) ≡ list_any (λ (k : Table). nat_eq k.client b) ks
 attached-same [] c fd b h = refl
 attached-same (k ∷ ks) c fd b h = λ i. (nat_eq (same-client c fd h k i) b) || (attached-same ks c fd b h i)
 
 -- slots that are alike
-pub slot-as : (Ls : List Layer) (t : Tree) (a b : Option OpenDirectory) (x y : Option Handle) → a ≡ b → x ≡ y → IsSlot Ls t a x → IsSlot Ls t b y
-slot-as Ls t a b x y e f s = subst (λ z. IsSlot Ls t z y) e (subst (λ z. IsSlot Ls t a z) f s)
+pub slot-as : (t : Tree) (a b : Option OpenDirectory) (x y : Option Handle) → a ≡ b → x ≡ y → IsSlot t a x → IsSlot t b y
+slot-as t a b x y e f s = subst (λ z. IsSlot t z y) e (subst (λ z. IsSlot t a z) f s)
 
-pub slot-some : (Ls : List Layer) (t : Tree) (a : Option OpenDirectory) (x : Option Handle) → IsSlot Ls t a x → is_some a ≡ is_some x
-slot-some Ls t None None s = refl
-slot-some Ls t None (Some h) s = absurd s
-slot-some Ls t (Some o) None s = absurd s
-slot-some Ls t (Some o) (Some h) s = refl
+pub slot-some : (t : Tree) (a : Option OpenDirectory) (x : Option Handle) → IsSlot t a x → is_some a ≡ is_some x
+slot-some t None None s = refl
+slot-some t None (Some h) s = absurd s
+slot-some t (Some o) None s = absurd s
+slot-some t (Some o) (Some h) s = refl
 
 held-some : (o : Option Handle) → held_in (Some o) ≡ o
 held-some None = refl
 held-some (Some h) = refl
 
 -- an open descriptor has a handle
-pub slot-open : (Ls : List Layer) (t : Tree) (a : Option OpenDirectory) (x : Option Handle) (o : OpenDirectory) → IsSlot Ls t a x → a ≡ Some o → (h : Handle) × (x ≡ Some h) × IsHandle Ls t o h
-slot-open Ls t None x o s e = cc
-slot-open Ls t (Some a) None o s e = absurd s
-slot-open Ls t (Some a) (Some h) o s e =
+pub slot-open : (t : Tree) (a : Option OpenDirectory) (x : Option Handle) (o : OpenDirectory) → IsSlot t a x → a ≡ Some o → (h : Handle) × (x ≡ Some h) × IsHandle t o h
+slot-open t None x o s e = cc
+slot-open t (Some a) None o s e = absurd s
+slot-open t (Some a) (Some h) o s e =
     let same : a ≡ o = cc in
-    (h, refl, subst (λ z. IsHandle Ls t z h) same s)
+    (h, refl, subst (λ z. IsHandle t z h) same s)
 
 -- a closed one has none
-pub slot-closed : (Ls : List Layer) (t : Tree) (a : Option OpenDirectory) (x : Option Handle) → IsSlot Ls t a x → a ≡ None → x ≡ None
-slot-closed Ls t None None s e = refl
-slot-closed Ls t None (Some h) s e = absurd s
-slot-closed Ls t (Some a) x s e = cc
+pub slot-closed : (t : Tree) (a : Option OpenDirectory) (x : Option Handle) → IsSlot t a x → a ≡ None → x ≡ None
+slot-closed t None None s e = refl
+slot-closed t None (Some h) s e = absurd s
+slot-closed t (Some a) x s e = cc
+
+-- a directory stands in another tree where it did, if its paths and its node are the same
+stands-same : (t u : Tree) → ((q : Path) → node_at u q ≡ node_at t q) → (l : Location) (d : NodeId) → u d ≡ t d → Stands t l d → Stands u l d
+stands-same t u paths (location.At p) d same s = paths p ∙ s
+stands-same t u paths location.Removed d same s = record { hidden = λ p e. s.hidden p (sym (paths p) ∙ e); empty = ap names_in same ∙ s.empty }
+
+-- and so is a handle on it
+pub handle-same : (t u : Tree) → ((q : Path) → node_at u q ≡ node_at t q) → (o : OpenDirectory) (h : Handle) → u h.node ≡ t h.node → IsHandle t o h → IsHandle u o h
+handle-same t u paths o h same x = record {
+  stands = stands-same t u paths o.location h.node same x.stands;
+  directory = ap is_folder same ∙ x.directory;
+  access = x.access;
+  left = x.left;
+}
+
+-- a slot in another tree, where its handle is one there
+pub slot-moved : (t u : Tree) (a : Option OpenDirectory) (x : Option Handle) → ((o : OpenDirectory) (h : Handle) → a ≡ Some o → x ≡ Some h → IsHandle t o h → IsHandle u o h) → IsSlot t a x → IsSlot u a x
+slot-moved t u None None f s = tt
+slot-moved t u None (Some h) f s = absurd s
+slot-moved t u (Some o) None f s = absurd s
+slot-moved t u (Some o) (Some h) f s = f o h refl refl s
 
 -- the lowest free descriptor
 lowest-at : (hs : List (Option Handle)) (d : ℕ) → d < length hs → held_in (slice_get hs d) ≡ None → ((k : ℕ) → k < d → is_some (held_in (slice_get hs k)) ≡ true) → position_or_len is_none hs ≡ d
@@ -142,7 +166,11 @@ same-clients clients new c h = record { attached = same; opened = opens; next = 
         by (inl e) = rw e (opened-is new c d h.after h.is ∙ ap (λ s. opened s d) h.changes ∙ sym (opened-is clients c d h.before h.was))
         by (inr n) = ap (option_and_then (λ (x : Descriptors). opened x.slots.items d)) (h.others b n)
 
-module _ (Ls : List Layer) (t : Tree) (clients : Clients) (ks : List Table) (a : AreTables Ls t clients ks) where
+module _ (t : Tree) (clients : Clients) (ks : List Table) (a : AreTables t clients ks) where
+  -- the tables of another tree, where each handle is one there
+  pub tables-moved : (u : Tree) → ((c d : ℕ) (o : OpenDirectory) (h : Handle) → opened_by clients c d ≡ Some o → handle_of ks c d ≡ Some h → IsHandle t o h → IsHandle u o h) → AreTables u clients ks
+  tables-moved u f = record { attached = a.attached; room = a.room; slots = λ c d. slot-moved t u _ _ (f c d) (a.slots c d) }
+
   -- how many descriptors an attached client has
   pub room-of : (c : ℕ) → is_some (get nat_cmp clients.attached c) ≡ true → length (handles_of ks c) ≡ DESCRIPTORS_MAX
   room-of c e = a.room c ∙ ap (λ b. cond b DESCRIPTORS_MAX 0) e
@@ -162,8 +190,8 @@ module _ (Ls : List Layer) (t : Tree) (clients : Clients) (ks : List Table) (a :
       let inside : d < length (handles_of ks c) = rw long l.in_range in
       position-lowest (handles_of ks c) d inside
       (lowest-at (handles_of ks c) d inside
-      (slot-closed Ls t _ _ (a.slots c d) (opened-is clients c d ds e ∙ l.free))
-      (λ k h. sym (slot-some Ls t _ _ (a.slots c k)) ∙ ap is_some (opened-is clients c k ds e) ∙ l.lowest k h))
+      (slot-closed t _ _ (a.slots c d) (opened-is clients c d ds e ∙ l.free))
+      (λ k h. sym (slot-some t _ _ (a.slots c k)) ∙ ap is_some (opened-is clients c k ds e) ∙ l.lowest k h))
 
   -- it gives none where all are open
   pub free-none : (c : ℕ) (ds : Descriptors) → get nat_cmp clients.attached c ≡ Some ds → IsFull ds.slots.items → lowest_free ks c ≡ None
@@ -171,7 +199,7 @@ module _ (Ls : List Layer) (t : Tree) (clients : Clients) (ks : List Table) (a :
       let long : length (handles_of ks c) ≡ DESCRIPTORS_MAX = room-of c (ap is_some e) in
       position-none (handles_of ks c)
       (none-free (handles_of ks c)
-      (λ k h. sym (slot-some Ls t _ _ (a.slots c k)) ∙ ap is_some (opened-is clients c k ds e) ∙ full k (rw long at h)))
+      (λ k h. sym (slot-some t _ _ (a.slots c k)) ∙ ap is_some (opened-is clients c k ds e) ∙ full k (rw long at h)))
 
   -- a client that isn't attached has none
   pub free-absent : (c : ℕ) → get nat_cmp clients.attached c ≡ None → lowest_free ks c ≡ None
@@ -180,19 +208,19 @@ module _ (Ls : List Layer) (t : Tree) (clients : Clients) (ks : List Table) (a :
       position-none (handles_of ks c) (none-free (handles_of ks c) (λ k h. absurd (omega arith)))
 
   pub handle-absent : (c d : ℕ) → get nat_cmp clients.attached c ≡ None → handle_of ks c d ≡ None
-  handle-absent c d e = slot-closed Ls t _ _ (a.slots c d) (ap (option_and_then (λ (x : Descriptors). opened x.slots.items d)) e)
+  handle-absent c d e = slot-closed t _ _ (a.slots c d) (ap (option_and_then (λ (x : Descriptors). opened x.slots.items d)) e)
 
   module _ (new : Clients) where
     -- the clients and their descriptors stay as they are
-    pub tables-same : SameClients clients new → AreTables Ls t new ks
+    pub tables-same : SameClients clients new → AreTables t new ks
     tables-same h = record {
       attached = λ b. a.attached b ∙ sym (h.attached b);
       room = λ b. a.room b ∙ sym (ap (λ z. cond z DESCRIPTORS_MAX 0) (h.attached b));
-      slots = λ b d. slot-as Ls t _ _ _ _ (sym (h.opened b d)) refl (a.slots b d);
+      slots = λ b d. slot-as t _ _ _ _ (sym (h.opened b d)) refl (a.slots b d);
     }
 
     -- one descriptor is set on both sides
-    pub tables-set : (c fd : ℕ) (o : Option OpenDirectory) (x : Option Handle) → ChangesClient clients new c (λ b y. SetsSlot b y fd o) → fd < DESCRIPTORS_MAX → IsSlot Ls t o x → AreTables Ls t new (with_handle ks c fd x)
+    pub tables-set : (c fd : ℕ) (o : Option OpenDirectory) (x : Option Handle) → ChangesClient clients new c (λ b y. SetsSlot b y fd o) → fd < DESCRIPTORS_MAX → IsSlot t o x → AreTables t new (with_handle ks c fd x)
     tables-set c fd o x h inside slot = record {
       attached = λ b. attached-same ks c fd b x ∙ a.attached b ∙ sym (same b);
       room = λ b. long b ∙ a.room b ∙ sym (ap (λ z. cond z DESCRIPTORS_MAX 0) (same b));
@@ -216,26 +244,26 @@ module _ (Ls : List Layer) (t : Tree) (clients : Clients) (ks : List Table) (a :
         within : fd < length (handles_of ks c)
         within = rw (room-of c (ap is_some h.was)) inside
 
-        here : (d : ℕ) → (d ≡ fd) ⊎ (d ≡ fd → ⊥) → IsSlot Ls t (opened_by new c d) (handle_of (with_handle ks c fd x) c d)
+        here : (d : ℕ) → (d ≡ fd) ⊎ (d ≡ fd → ⊥) → IsSlot t (opened_by new c d) (handle_of (with_handle ks c fd x) c d)
         here d (inl e) =
-            subst (λ z. IsSlot Ls t (opened_by new c z) (handle_of (with_handle ks c fd x) c z)) (sym e)
-            (slot-as Ls t _ _ _ _
+            subst (λ z. IsSlot t (opened_by new c z) (handle_of (with_handle ks c fd x) c z)) (sym e)
+            (slot-as t _ _ _ _
             (sym (opened-is new c fd h.after h.is ∙ h.changes.here))
             (sym (ap (λ z. held_in (slice_get z fd)) (handles-set ks c fd x) ∙ ap held_in (get-set (handles_of ks c) fd x within) ∙ held-some x))
             slot)
         here d (inr n) =
-            slot-as Ls t _ _ _ _
+            slot-as t _ _ _ _
             (sym (opened-is new c d h.after h.is ∙ h.changes.others d n ∙ sym (opened-is clients c d h.before h.was)))
             (sym (ap (λ z. held_in (slice_get z d)) (handles-set ks c fd x) ∙ ap held_in (get-others (handles_of ks c) fd d x n)))
             (a.slots c d)
 
-        slots : (b d : ℕ) → IsSlot Ls t (opened_by new b d) (handle_of (with_handle ks c fd x) b d)
+        slots : (b d : ℕ) → IsSlot t (opened_by new b d) (handle_of (with_handle ks c fd x) b d)
         slots b d = by (cases_eq b c)
           where
-            by : (b ≡ c) ⊎ (b ≡ c → ⊥) → IsSlot Ls t (opened_by new b d) (handle_of (with_handle ks c fd x) b d)
-            by (inl e) = subst (λ z. IsSlot Ls t (opened_by new z d) (handle_of (with_handle ks c fd x) z d)) (sym e) (here d (cases_eq d fd))
+            by : (b ≡ c) ⊎ (b ≡ c → ⊥) → IsSlot t (opened_by new b d) (handle_of (with_handle ks c fd x) b d)
+            by (inl e) = subst (λ z. IsSlot t (opened_by new z d) (handle_of (with_handle ks c fd x) z d)) (sym e) (here d (cases_eq d fd))
             by (inr n) =
-                slot-as Ls t _ _ _ _
+                slot-as t _ _ _ _
                 (sym (ap (option_and_then (λ (z : Descriptors). opened z.slots.items d)) (h.others b n)))
                 (sym (ap (λ z. held_in (slice_get z d)) (handles-others ks c fd b x n)))
                 (a.slots b d)

@@ -3,6 +3,7 @@ use Rattle.std.specs.Prelude.{◌≡◌, ◌≢◌, ◌≤◌, ◌⊎◌, ℕ, �
 use Rattle.std.specs.Option.{option_and_then}
 use Rattle.std.specs.BTreeMap.{get, btree_map_len}
 use Rattle.std.specs.Ordering.{nat_cmp}
+use Rattle.plain_model.specs.Watching.{Rule}
 use Rattle.private_mount.specs.declared.clients.Clients.{Clients}
 use Rattle.private_mount.specs.declared.descriptors.Descriptors.{Descriptors}
 use Rattle.private_mount.specs.declared.descriptors.OpenDirectory.{OpenDirectory}
@@ -23,6 +24,14 @@ pub record Detaches (old new : Clients) (n : ℕ) : Type 0 where
   pub gone : get nat_cmp new.attached n ≡ None
   pub others : (m : ℕ) → m ≢ n → get nat_cmp new.attached m ≡ get nat_cmp old.attached m
   pub next : new.next ≡ old.next
+
+-- The widest and the narrowest rule of what callbacks answer, anything and nothing: what holds by the first holds by every rule, and what
+-- may be by the second may be by every rule.
+abbrev pub Anything : Rule
+Anything tag event answer = Unit {0}
+
+abbrev pub Nothing : Rule
+Nothing tag event answer = ⊥
 
 -- 64 clients are attached, or all numbers were used
 abbrev pub HasNoRoom : Clients → Type 0

@@ -6,3 +6,4 @@ pub mod Attaching
 pub mod Mounts
 pub mod Opening
 pub mod States
+pub mod Removing

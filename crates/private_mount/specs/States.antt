@@ -1,22 +1,26 @@
 -- The state of the plain machine that a mount stands for: the tree that its layers show, and for each client its descriptors.
-use Rattle.std.specs.Prelude.{◌≡◌, ℕ, ◌^◌, true, cond, List, Option, None, Some, is_some, length, take, drop, nat_eq, nat_lt}
+use Rattle.std.specs.Prelude.{◌≡◌, ℕ, ◌^◌, true, cond, List, [], ◌∷◌, Option, None, Some, is_some, length, take, drop, nat_eq, nat_lt}
 use Rattle.std.specs.List.{list_any}
 use Rattle.std.specs.BTreeMap.{get}
 use Rattle.std.specs.Ordering.{nat_cmp}
 use Rattle.ov_base.specs.declared.call.Call.{Call}
 use Rattle.ov_base.specs.declared.call.Call.TheVariants as call
 use Rattle.ov_base.specs.declared.errno.Errno.{Errno}
+use Rattle.ov_base.specs.declared.node_id.NodeId.{NodeId}
 use Rattle.ov_base.specs.declared.reply.Reply.{Reply}
 use Rattle.ov_base.specs.declared.reply.Reply.TheVariants as reply
-use Rattle.plain_model.specs.Layers.{Name, Path, Layer, shows, is_directory}
-use Rattle.plain_model.specs.Tree.{Tree, node_at}
+use Rattle.plain_model.specs.Layers.{Name, Layer, shows, is_directory}
+use Rattle.plain_model.specs.Tree.{Tree, node_at, is_folder}
+use Rattle.plain_model.specs.Watching.{Instance}
 use Rattle.plain_model.specs.Machine.{Handle, Table, State, DESCRIPTORS_MAX, handles_of, handle_of}
-use Rattle.plain_model.specs.Changes.{after}
+use Rattle.plain_model.specs.Changes.{names_in, after}
 use Rattle.plain_model.specs.Replies.{reply_of}
 use Rattle.layer_tree.specs.Tree.{layer_of}
 use Rattle.merged_lookup.specs.Merged.{layers_of, lowers_of}
-use Rattle.mount_laws.specs.Looks.{walk_fault, IsMountOf, FOR_LISTING, listing_handle, AreShown}
+use Rattle.mount_laws.specs.Looks.{walk_fault, IsMountOf, IsHidden, FOR_LISTING, listing_handle, AreShown}
 use Rattle.private_mount.specs.declared.clients.Clients.{Clients}
+use Rattle.private_mount.specs.declared.descriptors.Location.{Location}
+use Rattle.private_mount.specs.declared.descriptors.Location.TheVariants as location
 use Rattle.private_mount.specs.declared.descriptors.OpenDirectory.{OpenDirectory}
 use Rattle.private_mount.specs.declared.mount.Mount.{Mount}
 use Rattle.private_mount.specs.Attaching.{opened_by, ChangesClient}
@@ -29,25 +33,40 @@ IsLeft (Some left) (Some listed) place = left ≡ drop place listed
 IsLeft None (Some listed) place = ⊥
 IsLeft (Some left) None place = ⊥
 
--- a handle for reading on the directory at a path, whose listing is as far on
-pub record IsHandle (Ls : List Layer) (t : Tree) (o : OpenDirectory) (h : Handle) : Type 0 where
-  pub node : node_at t o.path ≡ Some h.node
-  pub directory : is_directory (shows 0 Ls o.path) ≡ true
+-- a directory that was removed: no path leads to it, and it has no names
+pub record IsRemoved (t : Tree) (d : NodeId) : Type 0 where
+  pub hidden : IsHidden t d
+  pub empty : names_in (t d) ≡ []
+
+-- a directory is where it is said to be
+abbrev pub Stands : Tree → Location → NodeId → Type 0
+Stands t (location.At p) d = node_at t p ≡ Some d
+Stands t location.Removed d = IsRemoved t d
+
+-- a handle for reading on a directory, whose listing is as far on
+pub record IsHandle (t : Tree) (o : OpenDirectory) (h : Handle) : Type 0 where
+  pub stands : Stands t o.location h.node
+  pub directory : is_folder (t h.node) ≡ true
   pub access : h ≡ record (listing_handle h.node h.way) { place = h.place; listed = h.listed }
   pub left : IsLeft o.listing h.listed h.place
 
 -- a descriptor is free on both sides, or open on both
-abbrev pub IsSlot : List Layer → Tree → Option OpenDirectory → Option Handle → Type 0
-IsSlot Ls t None None = Unit {0}
-IsSlot Ls t (Some o) (Some h) = IsHandle Ls t o h
-IsSlot Ls t None (Some h) = ⊥
-IsSlot Ls t (Some o) None = ⊥
+abbrev pub IsSlot : Tree → Option OpenDirectory → Option Handle → Type 0
+IsSlot t None None = Unit {0}
+IsSlot t (Some o) (Some h) = IsHandle t o h
+IsSlot t None (Some h) = ⊥
+IsSlot t (Some o) None = ⊥
 
 -- the same clients are attached, each with 64 descriptors, which are open as the server keeps them
-pub record AreTables (Ls : List Layer) (t : Tree) (clients : Clients) (ks : List Table) : Type 0 where
+pub record AreTables (t : Tree) (clients : Clients) (ks : List Table) : Type 0 where
   pub attached : (c : ℕ) → list_any (λ k. nat_eq k.client c) ks ≡ is_some (get nat_cmp clients.attached c)
   pub room : (c : ℕ) → length (handles_of ks c) ≡ cond (is_some (get nat_cmp clients.attached c)) DESCRIPTORS_MAX 0
-  pub slots : (c d : ℕ) → IsSlot Ls t (opened_by clients c d) (handle_of ks c d)
+  pub slots : (c d : ℕ) → IsSlot t (opened_by clients c d) (handle_of ks c d)
+
+-- no client has a watch
+abbrev pub AreUnwatched : List Instance → Type 0
+AreUnwatched [] = Unit {0}
+AreUnwatched (e ∷ es) = (e.watches ≡ []) × AreUnwatched es
 
 -- the number of a client, where numbers of 32 bits are left
 abbrev pub number : ℕ → Option ℕ
@@ -56,13 +75,19 @@ number n = cond (nat_lt n (2 ^ 32)) (Some n) None
 -- a state of the machine that the mount stands for
 pub record IsStateOf (m : Mount) (s : State) : Type 0 where
   pub layers : IsMountOf (layer_of m.layers.upper) (lowers_of m.layers) s
-  pub tables : AreTables (layers_of m.layers) s.tree m.clients s.tables
+  pub tables : AreTables s.tree m.clients s.tables
   pub arrived : m.clients.next ≡ number s.arrived
+  pub unwatched : AreUnwatched s.instances
 
 -- the calls that are offered
 abbrev pub IsOffered : Call → Type 0
 IsOffered (call.Stat p) = Unit {0}
+IsOffered (call.Readlink p) = Unit {0}
+IsOffered (call.Mkdir p mode) = Unit {0}
+IsOffered (call.Symlink target p) = Unit {0}
 IsOffered (call.Open p f mode) = f ≡ FOR_LISTING
+IsOffered (call.Unlink p) = Unit {0}
+IsOffered (call.Rmdir p) = Unit {0}
 IsOffered (call.ListNames d n) = Unit {0}
 IsOffered (call.Close d) = Unit {0}
 IsOffered _ = ⊥
@@ -72,17 +97,22 @@ abbrev pub Serves : Option Errno → State → ℕ → Call → Reply → Mount 
 Serves (Some e) s c k r new = (r ≡ reply.Refused e) × IsStateOf new s
 Serves None s c k r new = (r ≡ reply_of s c k) × IsStateOf new (after s c k)
 
--- the names that are still to be given: those of the listing that is kept, else all that the directory shows
-abbrev pub AreLeft : List Layer → Path → Option (List Name) → List Name → Type 0
-AreLeft Ls p (Some left) names = names ≡ left
-AreLeft Ls p None names = is_directory (shows 0 Ls p) ≡ true → walk_fault Ls p ≡ None → AreShown Ls p names
+-- the names in a directory: all that is shown in it, and none where it was removed
+abbrev pub AreNamesIn : List Layer → Location → List Name → Type 0
+AreNamesIn Ls (location.At p) names = is_directory (shows 0 Ls p) ≡ true → walk_fault Ls p ≡ None → AreShown Ls p names
+AreNamesIn Ls location.Removed names = names ≡ []
+
+-- the names that are still to be given: those of the listing that is kept, else all in the directory
+abbrev pub AreLeft : List Layer → Location → Option (List Name) → List Name → Type 0
+AreLeft Ls o (Some left) names = names ≡ left
+AreLeft Ls o None names = AreNamesIn Ls o names
 
 -- the next names of an open directory are given, and its descriptor alone changes
 pub record Pages (old new : Mount) (c d count : ℕ) (given : List Name) : Type 0 where
   pub directory : OpenDirectory
   pub was : opened_by old.clients c d ≡ Some directory
   pub left : List Name
-  pub from : AreLeft (layers_of old.layers) directory.path directory.listing left
+  pub from : AreLeft (layers_of old.layers) directory.location directory.listing left
   pub next : given ≡ take count left
   pub changes : ChangesClient old.clients new.clients c (λ before after. SetsSlot before after d (Some (record directory { listing = Some (drop count left) })))
   pub layers : new.layers ≡ old.layers

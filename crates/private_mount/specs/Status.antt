@@ -1,16 +1,19 @@
--- What stat(2) answers at a path of the layers of a mount, and shows of an object of a layer.
+-- What stat(2) and readlink(2) answer at a path of the layers of a mount, and shows of an object of a layer.
 use Rattle.std.specs.Prelude.{ℕ, min, List, length, Option, Some, None, Result, Ok, Err}
 use Rattle.ov_base.specs.declared.attributes.Attributes.{Attributes}
 use Rattle.ov_base.specs.declared.errno.Errno.{Errno}
-use Rattle.ov_base.specs.declared.errno.Errno.TheVariants.{ENOENT}
+use Rattle.ov_base.specs.declared.errno.Errno.TheVariants.{ENOENT, EINVAL}
 use Rattle.ov_base.specs.declared.bytes.Content.{Content}
 use Rattle.ov_base.specs.declared.bytes.Content.TheVariants as content
 use Rattle.ov_base.specs.declared.reply.ObjectKind.{ObjectKind}
 use Rattle.ov_base.specs.declared.reply.ObjectKind.TheVariants as kind
+use Rattle.ov_base.specs.declared.reply.Reply.{Reply}
+use Rattle.ov_base.specs.declared.reply.Reply.TheVariants as reply
 use Rattle.ov_base.specs.declared.reply.Stat.{Stat}
 use Rattle.layer_tree.specs.declared.node.Node.{Node}
 use Rattle.layer_tree.specs.declared.node.Node.TheVariants as node
 use Rattle.plain_model.specs.Layers.{Path, Inode, Layer, Shown, Folder, Contents, shows}
+use Rattle.mount_laws.specs.Leaves.{shown_target}
 use Rattle.merged_lookup.specs.Merged.{walk_fault}
 
 -- what stat shows of an object with these attributes
@@ -54,3 +57,17 @@ unless_refused (Some e) r = Err e
 -- the answer of stat at a path: why the walk there is refused, or what is shown
 abbrev pub stat_at : List Layer → Path → Result Stat Errno
 stat_at Ls p = unless_refused (walk_fault Ls p) (stat_shown (shows 0 Ls p))
+
+-- the reply to readlink of what has this target, or none
+abbrev pub target_reply : Option (List ℕ) → Reply
+target_reply None = reply.Refused EINVAL
+target_reply (Some target) = reply.Content target
+
+-- the same, where the walk is refused or not
+abbrev pub link_reply : Option Errno → Option (List ℕ) → Reply
+link_reply None target = target_reply target
+link_reply (Some e) target = reply.Refused e
+
+-- the reply to readlink at a path: why the walk there is refused, or the target of the symbolic link that is shown
+abbrev pub readlink_reply : List Layer → Path → Reply
+readlink_reply Ls p = link_reply (walk_fault Ls p) (shown_target (shows 0 Ls p))

@@ -6,7 +6,7 @@ ghost use Rattle.private_mount.specs.Clients.{is_before};
 
 use crate::descriptors::{Descriptors, OpenDirectory};
 use crate::listing::Listing;
-use ov_base::{Errno, NameList};
+use ov_base::{Errno, NameList, Path};
 use std::alloc::{AllocError, Global};
 use std::collections::BTreeMap;
 
@@ -24,6 +24,7 @@ pub struct Clients {
 impl Clients {
     ghost use Rattle.private_mount.specs.Attaching.{HasNoRoom, Attaches, Detaches, IsSame, ChangesClient, opened_by};
     ghost use Rattle.private_mount.specs.Listings.{ChangesSlot, Opens, Closes, GivesNames, with_listing};
+    ghost use Rattle.private_mount.specs.Removing.{MarksRemoved};
 
     /// No clients.
     pub fn new(alloc: Global) -> Clients
@@ -117,6 +118,16 @@ impl Clients {
             .get_mut(&client)
             .unwrap()
             .next_names(alloc, descriptor, count)
+    }
+
+    /// Notes of each directory that a client has open at a path that it was removed.
+    pub fn mark_removed(&mut self, path: &Path)
+        ensures { MarksRemoved self.old self.new path.now }
+    {
+        self.attached.retain(|_, descriptors| {
+            descriptors.mark_removed(path);
+            true
+        });
     }
 
     /// Closes a descriptor of a client. One that isn't open is EBADF.

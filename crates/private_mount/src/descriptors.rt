@@ -1,5 +1,5 @@
 // The descriptors of a client.
-ghost use Rattle.std.specs.Prelude.{◌≡◌, ◌≤◌, ◌<◌, [], Some, None, true, Ok, Err, IfOk, OnOk, OnErr, IfSome, IfErr, ℕ, MatchOption, MatchResult, option_copied, is_some, length, take, IsSome, vec_len};
+ghost use Rattle.std.specs.Prelude.{◌≡◌, ◌≤◌, ◌<◌, [], Some, None, true, Ok, Err, IfOk, OnOk, OnErr, IfSome, IfErr, ℕ, MatchOption, MatchResult, option_copied, is_some, length, take, IsSome, option_map, vec_len};
 ghost use Rattle.private_mount.specs.Descriptors.{opened};
 
 use crate::listing::Listing;
@@ -9,10 +9,17 @@ use std::alloc::{AllocError, Global};
 /// The most descriptors of a client.
 pub const DESCRIPTORS_MAX: usize = 64;
 
-/// A directory that is open for reading, by the path of its opening, and its listing once that is made.
+/// Where an open directory is: at the path of its opening, or under no path once it was removed.
+#[derive(Drop)]
+pub enum Location {
+    At(Path),
+    Removed,
+}
+
+/// A directory that is open for reading, and its listing once that is made.
 #[derive(Drop)]
 pub struct OpenDirectory {
-    pub path: Path,
+    pub location: Location,
     pub listing: Option<Listing>,
 }
 
@@ -23,8 +30,32 @@ pub struct Descriptors {
     ghost few: { vec_len slots ≤ 64 },
 }
 
+impl Location {
+    ghost use Rattle.private_mount.specs.Removing.{is_at};
+
+    // Whether this is at a path.
+    fn is_at(&self, path: &Path) -> bool
+        ensures { result ≡ is_at path.now self.now }
+    {
+        match self {
+            Location::At(own) => own.names() == path.names(),
+            Location::Removed => false,
+        }
+    }
+}
+
 impl OpenDirectory {
     ghost use Rattle.private_mount.specs.Listings.{after_names, names_left};
+    ghost use Rattle.private_mount.specs.Removing.{after_removal};
+
+    // Notes that the directory at a path was removed.
+    fn mark_removed(&mut self, path: &Path)
+        ensures { self.new ≡ after_removal path.now self.old }
+    {
+        if self.location.is_at(path) {
+            self.location = Location::Removed;
+        }
+    }
 
     // Gives the next names of the listing, at most so many.
     fn next_names(&mut self, alloc: Global, count: usize) -> Result<NameList, AllocError>
@@ -41,6 +72,7 @@ impl OpenDirectory {
 
 impl Descriptors {
     ghost use Rattle.private_mount.specs.Listings.{ChangesSlot, Opens, Closes, GivesNames, with_listing};
+    ghost use Rattle.private_mount.specs.Removing.{after_removal};
 
     /// No descriptors.
     pub fn new(alloc: Global) -> Descriptors
@@ -105,6 +137,17 @@ impl Descriptors {
         match &mut self.slots[descriptor as usize] {
             Some(directory) => directory.next_names(alloc, count),
             None => Ok(NameList::new(alloc)),
+        }
+    }
+
+    /// Notes of each open directory at a path that it was removed.
+    pub fn mark_removed(&mut self, path: &Path)
+        ensures { (d : ℕ) → opened self.new.slots.items d ≡ option_map (after_removal path.now) (opened self.old.slots.items d) }
+    {
+        for k in 0..self.slots.len() {
+            if let Some(directory) = &mut self.slots[k] {
+                directory.mark_removed(path);
+            }
         }
     }
 

@@ -1,21 +1,25 @@
 // A mount and the clients on it.
 ghost use Rattle.std.specs.Prelude.{◌≡◌, ◌<◌, ℕ, Bool, List, Some, None, Ok, IfOk, IfErr, OnOk, OnErr, IsSome, is_some, MatchResult, option_copied, true};
-ghost use Rattle.plain_model.specs.Layers.{shows, is_directory, AreLayers};
-ghost use Rattle.layer_tree.specs.Tree.{layer_of};
+ghost use Rattle.plain_model.specs.Layers.{AreLayers};
+ghost use Rattle.layer_tree.specs.Tree.{layer_of, inode_of};
 ghost use Rattle.merged_lookup.specs.Merged.{layers_of, lowers_of};
-ghost use Rattle.mount_laws.specs.Looks.{FOR_LISTING, AreShown, walk_fault};
+ghost use Rattle.mount_laws.specs.Looks.{FOR_LISTING};
 ghost use Rattle.private_mount.specs.Opening as opening;
+ghost use Rattle.private_mount.specs.States.{AreNamesIn};
 ghost use Rattle.private_mount.specs.Opening.{directory_fault};
-ghost use Rattle.private_mount.specs.Status.{stat_at};
+ghost use Rattle.private_mount.specs.Status.{stat_at, readlink_reply, target_reply};
+ghost use Rattle.std.specs.Option.{option_and_then};
+ghost use Rattle.mount_laws.specs.Leaves.{inode_target};
 
 use crate::clients::Clients;
-use crate::descriptors::OpenDirectory;
+use crate::descriptors::{Location, OpenDirectory};
 use crate::listing::Listing;
 use crate::status::status_at;
 use dir_listing::names;
-use make_remove::mkdir;
+use layer_tree::{Inode, Node};
+use make_remove::{mkdir, rmdir, symlink, unlink};
 use merged_lookup::{Found, Layers};
-use ov_base::{Call, Errno, NameList, OpenFlags, Path, Reply};
+use ov_base::{Bytes, Call, Content, Errno, NameList, OpenFlags, Path, Reply};
 use std::alloc::{AllocError, Global};
 
 /// The most names that one `list` gives.
@@ -40,11 +44,12 @@ impl Mount {
     ghost use Rattle.plain_model.specs.Tree.{Tree};
     ghost use Rattle.plain_model.specs.Merging.{IsMerge};
     ghost use Rattle.plain_model.specs.Runs as runs;
-    ghost use Rattle.plain_model.specs.Runs.{joined, without_instance, without_table};
+    ghost use Rattle.plain_model.specs.Runs.{joined, without_instance, without_table, Leaves};
     ghost use Rattle.plain_model.specs.Refusals.{refusal};
-    ghost use Rattle.private_mount.specs.Attaching.{HasNoRoom, Attaches, Detaches, IsSame, opened_by};
+    ghost use Rattle.private_mount.specs.Attaching.{Anything, Nothing, HasNoRoom, Attaches, Detaches, IsSame, opened_by};
     ghost use Rattle.private_mount.specs.States.{IsStateOf, IsOffered, Serves, Pages};
-    ghost use Rattle.private_mount.specs.Mounts.{Answers, AnswersMkdir, AnswersOpen, AnswersList, AnswersClose, IsUnchanged, UnlessMkdir, stat_reply};
+    ghost use Rattle.private_mount.specs.Mounts.{Answers, AnswersMkdir, AnswersSymlink, AnswersUnlink, AnswersRmdir, AnswersOpen, AnswersList, AnswersClose, IsUnchanged, UnlessChange, stat_reply};
+    ghost use Rattle.copy_up.specs.Showing.{StaysLayers, StaysThin};
 
     /// A mount of these layers without a client.
     pub fn new(alloc: Global, layers: Layers) -> Mount
@@ -94,24 +99,32 @@ impl Mount {
     /// Detaches a client, which closes its descriptors.
     pub fn detach(&mut self, client: u32)
         ensures leaves { (s : State) → IsStateOf self.old s → IsStateOf self.new (without_table (without_instance s client) client) }
+        ensures closes { (s : State) → IsStateOf self.old s → (t : State) → Leaves Anything s client t → IsStateOf self.new t }
+        ensures ends { (s : State) → IsStateOf self.old s → (t : State) × Leaves Nothing s client t }
         ensures clients { Detaches self.old.clients self.new.clients client }
         ensures layers { self.new.layers ≡ self.old.layers }
     {
         self.clients.detach(client);
     }
 
-    /// Makes a call of a client. Offered are stat, mkdir, open of a directory for reading, list and close; another is EOPNOTSUPP.
-    /// Want of memory leaves all that is shown as it was.
+    /// Makes a call of a client. Offered are stat, readlink, mkdir, symlink, open of a directory for reading, unlink, rmdir, list and close;
+    /// another is EOPNOTSUPP. Want of memory leaves all that is shown as it was.
     pub fn call(&mut self, client: u32, call: Call) -> Result<Reply, AllocError>
         ensures serves { IfOk result (λ reply. IsOffered call → (s : State) → IsStateOf self.old s → Serves (refusal s client call) s client call reply self.new) }
         ensures err { OnErr result (IsOffered call → (s : State) → IsStateOf self.old s → IsStateOf self.new s) }
         ensures answers { Answers self.old self.new client call result }
         ensures refused { IfOk result (λ reply. (errno : Errno) → reply ≡ Reply.Refused errno → IsUnchanged self.old self.new) }
-        ensures layers { UnlessMkdir call (self.new.layers ≡ self.old.layers) }
+        ensures layers { UnlessChange call (self.new.layers ≡ self.old.layers) }
+        ensures keeps { StaysLayers self.old.layers self.new.layers }
+        ensures thin { StaysThin self.old.layers self.new.layers }
     {
         match call {
             Call::Stat { path } => Ok(self.stat(&path)),
+            Call::Readlink { path } => self.readlink(&path),
             Call::Mkdir { path, mode } => self.mkdir(&path, mode),
+            Call::Symlink { target, path } => self.symlink(target, &path),
+            Call::Unlink { path } => self.unlink(&path),
+            Call::Rmdir { path } => self.rmdir(&path),
             Call::Open { path, flags, mode } => self.open(client, path, flags, mode),
             Call::ListNames { descriptor, count } => self.list(client, descriptor, count),
             Call::Close { descriptor } => Ok(self.close(client, descriptor)),
@@ -129,11 +142,68 @@ impl Mount {
         }
     }
 
+    fn readlink(&self, path: &Path) -> Result<Reply, AllocError>
+        ensures answers { IfOk result (λ reply. reply ≡ readlink_reply (layers_of self.now.layers) path.now) }
+        ensures serves { IfOk result (λ reply. (s : State) → IsStateOf self.now s → (c : ℕ) → Serves (refusal s c (Call.Readlink path.now)) s c (Call.Readlink path.now) reply self.now) }
+    {
+        match self.layers.walk(path) {
+            Ok(Found::Inode(place)) => read_link(self.layers.node(place)),
+            Ok(Found::Directory(_)) => Ok(Reply::Refused(Errno::EINVAL)),
+            Err(errno) => Ok(Reply::Refused(errno)),
+        }
+    }
+
     fn mkdir(&mut self, path: &Path, mode: u32) -> Result<Reply, AllocError>
-        ensures { AnswersMkdir self.old self.new path.now mode result }
+        ensures answers { AnswersMkdir self.old self.new path.now mode result }
+        ensures serves { IfOk result (λ reply. (s : State) → IsStateOf self.old s → (c : ℕ) → Serves (refusal s c (Call.Mkdir path.now mode)) s c (Call.Mkdir path.now mode) reply self.new) }
+        ensures err { OnErr result ((s : State) → IsStateOf self.old s → IsStateOf self.new s) }
+        ensures keeps { StaysLayers self.old.layers self.new.layers }
+        ensures thin { StaysThin self.old.layers self.new.layers }
     {
         match mkdir(self.alloc, &mut self.layers, path, mode)? {
             Ok(()) => Ok(Reply::Done),
+            Err(errno) => Ok(Reply::Refused(errno)),
+        }
+    }
+
+    fn symlink(&mut self, target: Bytes, path: &Path) -> Result<Reply, AllocError>
+        ensures answers { AnswersSymlink self.old self.new target path.now result }
+        ensures serves { IfOk result (λ reply. (s : State) → IsStateOf self.old s → (c : ℕ) → Serves (refusal s c (Call.Symlink target path.now)) s c (Call.Symlink target path.now) reply self.new) }
+        ensures err { OnErr result ((s : State) → IsStateOf self.old s → IsStateOf self.new s) }
+        ensures keeps { StaysLayers self.old.layers self.new.layers }
+        ensures thin { StaysThin self.old.layers self.new.layers }
+    {
+        match symlink(self.alloc, &mut self.layers, target, path)? {
+            Ok(()) => Ok(Reply::Done),
+            Err(errno) => Ok(Reply::Refused(errno)),
+        }
+    }
+
+    fn unlink(&mut self, path: &Path) -> Result<Reply, AllocError>
+        ensures answers { AnswersUnlink self.old self.new path.now result }
+        ensures serves { IfOk result (λ reply. (s : State) → IsStateOf self.old s → (c : ℕ) → Serves (refusal s c (Call.Unlink path.now)) s c (Call.Unlink path.now) reply self.new) }
+        ensures err { OnErr result ((s : State) → IsStateOf self.old s → IsStateOf self.new s) }
+        ensures keeps { StaysLayers self.old.layers self.new.layers }
+        ensures thin { StaysThin self.old.layers self.new.layers }
+    {
+        match unlink(&mut self.layers, path)? {
+            Ok(()) => Ok(Reply::Done),
+            Err(errno) => Ok(Reply::Refused(errno)),
+        }
+    }
+
+    fn rmdir(&mut self, path: &Path) -> Result<Reply, AllocError>
+        ensures answers { AnswersRmdir self.old self.new path.now result }
+        ensures serves { IfOk result (λ reply. (s : State) → IsStateOf self.old s → (c : ℕ) → Serves (refusal s c (Call.Rmdir path.now)) s c (Call.Rmdir path.now) reply self.new) }
+        ensures err { OnErr result ((s : State) → IsStateOf self.old s → IsStateOf self.new s) }
+        ensures keeps { StaysLayers self.old.layers self.new.layers }
+        ensures thin { StaysThin self.old.layers self.new.layers }
+    {
+        match rmdir(self.alloc, &mut self.layers, path)? {
+            Ok(()) => {
+                self.clients.mark_removed(path);
+                Ok(Reply::Done)
+            }
             Err(errno) => Ok(Reply::Refused(errno)),
         }
     }
@@ -155,7 +225,7 @@ impl Mount {
             return Ok(Reply::Refused(Errno::EMFILE));
         }
         let directory = OpenDirectory {
-            path,
+            location: Location::At(path),
             listing: None,
         };
         match self.clients.open(client, directory)? {
@@ -213,7 +283,7 @@ impl Mount {
                 .clients
                 .next_names(self.alloc, client, descriptor, count);
         }
-        let mut listing = listing_of(self.alloc, &self.layers, &directory.path)?;
+        let mut listing = listing_of(self.alloc, &self.layers, &directory.location)?;
         let names = listing.take(self.alloc, count)?;
         self.clients.keep_listing(client, descriptor, listing);
         Ok(names)
@@ -241,10 +311,30 @@ fn reads_directory(flags: OpenFlags) -> bool
     flags.reads && flags.directory && !changes && !flags.append && !flags.unknown
 }
 
-// The names that the directory at a path shows now; a directory that is gone has none.
-fn listing_of(alloc: Global, layers: &Layers, path: &Path) -> Result<Listing, AllocError>
-    ensures { IfOk result (λ left. is_directory (shows 0 (layers_of layers.now) path.now) ≡ true → walk_fault (layers_of layers.now) path.now ≡ None → AreShown (layers_of layers.now) path.now left) }
+// The reply to readlink of a file or symbolic link: a file is EINVAL.
+fn read_link(node: Option<&Node>) -> Result<Reply, AllocError>
+    ensures { IfOk result (λ reply. reply ≡ target_reply (inode_target (option_and_then inode_of (option_copied node.entry)))) }
 {
+    match node {
+        Some(
+            Node::Inode(
+                Inode {
+                    content: Content::SymbolicLink(target),
+                    ..
+                },
+            ),
+        ) => Ok(Reply::Content(target.clone()?)),
+        _ => Ok(Reply::Refused(Errno::EINVAL)),
+    }
+}
+
+// The names in a directory now; one that was removed has none.
+fn listing_of(alloc: Global, layers: &Layers, location: &Location) -> Result<Listing, AllocError>
+    ensures { IfOk result (λ left. AreNamesIn (layers_of layers.now) location.now left) }
+{
+    let Location::At(path) = location else {
+        return Ok(Listing::new(Vec::new(alloc)));
+    };
     match layers.walk(path) {
         Ok(Found::Directory(stack)) => Ok(Listing::new(names(alloc, layers, &stack)?)),
         _ => Ok(Listing::new(Vec::new(alloc))),

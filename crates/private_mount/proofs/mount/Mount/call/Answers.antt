@@ -1,5 +1,6 @@
 use Rattle.ov_base.specs.declared.call.Call.TheVariants as call
-use Rattle.private_mount.proofs.Replying.{if-refused, open-layers}
+use Rattle.std.proofs.Common.{Ok}
+use Rattle.private_mount.proofs.Replying.{if-refused, open-layers, list-layers, close-layers, keeps-same, thin-same}
 use Rattle.private_mount.proofs.mount.Mount.call.Goals as goal
 
 pub returns-in-Open-clause-refused : goal.returns-in-Open-clause-refused
@@ -10,3 +11,21 @@ returns-in-Open-clause-layers c = rw c.in-Open.is (open-layers c.args.self.now c
 
 pub returns-in-ListNames-clause-refused : goal.returns-in-ListNames-clause-refused
 returns-in-ListNames-clause-refused c = if-refused c.args.self.now c.list.new.self c.args.client (call.ListNames c.in-ListNames.descriptor c.in-ListNames.count) c.list.result c.list.ensures.answers
+
+pub returns-in-Open-clause-keeps : goal.returns-in-Open-clause-keeps
+returns-in-Open-clause-keeps c = keeps-same c.args.self.now.layers c.open.new.self.layers (open-layers c.args.self.now c.open.new.self c.args.client c.in-Open.path c.in-Open.flags c.in-Open.mode c.open.result c.open.ensures.answers)
+
+pub returns-in-Open-clause-thin : goal.returns-in-Open-clause-thin
+returns-in-Open-clause-thin c = thin-same c.args.self.now.layers c.open.new.self.layers (open-layers c.args.self.now c.open.new.self c.args.client c.in-Open.path c.in-Open.flags c.in-Open.mode c.open.result c.open.ensures.answers)
+
+pub returns-in-ListNames-clause-keeps : goal.returns-in-ListNames-clause-keeps
+returns-in-ListNames-clause-keeps c = keeps-same c.args.self.now.layers c.list.new.self.layers (list-layers c.args.self.now c.list.new.self c.args.client c.in-ListNames.descriptor c.in-ListNames.count c.list.result c.list.ensures.answers)
+
+pub returns-in-ListNames-clause-thin : goal.returns-in-ListNames-clause-thin
+returns-in-ListNames-clause-thin c = thin-same c.args.self.now.layers c.list.new.self.layers (list-layers c.args.self.now c.list.new.self c.args.client c.in-ListNames.descriptor c.in-ListNames.count c.list.result c.list.ensures.answers)
+
+pub returns-in-Close-clause-keeps : goal.returns-in-Close-clause-keeps
+returns-in-Close-clause-keeps c = keeps-same c.args.self.now.layers c.close.new.self.layers (close-layers c.args.self.now c.close.new.self c.args.client c.in-Close.descriptor (Ok c.close.result) c.close.ensures.answers)
+
+pub returns-in-Close-clause-thin : goal.returns-in-Close-clause-thin
+returns-in-Close-clause-thin c = thin-same c.args.self.now.layers c.close.new.self.layers (close-layers c.args.self.now c.close.new.self c.args.client c.in-Close.descriptor (Ok c.close.result) c.close.ensures.answers)
