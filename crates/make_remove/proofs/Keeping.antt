@@ -1,19 +1,18 @@
 -- What a mount shows before and after its upper gains a directory.
-use Rattle.std.proofs.Common.{◌≡◌, ◌≢◌, ℕ, suc, ◌+◌, ◌≤◌, ◌<◌, Bool, true, false, List, [], ◌∷◌, ◌++◌, Option, None, Some, refl, sym, ap, ◌∙◌, subst, is_some, length, map, drop, take, reverse, get_or, arith, Result, Ok, Err, OnErr}
-use Rattle.std.proofs.lemmas.Bool.{false≢true}
+use Rattle.std.proofs.Common.{◌≡◌, ◌≢◌, ℕ, suc, ◌+◌, ◌<◌, Bool, true, false, List, [], ◌∷◌, ◌++◌, Option, None, Some, refl, sym, ap, ◌∙◌, subst, length, map, drop, take, reverse, get_or, arith, Result, Ok, Err, OnErr}
 use Rattle.ov_base.specs.declared.attributes.Attributes.{Attributes}
 use Rattle.ov_base.specs.declared.errno.Errno.{Errno}
-use Rattle.plain_model.specs.Layers.{Name, Path, Object, Directory, Inode, Layer, held, below, cuts, Shown, Folder, Contents, over, unless, shows, through, under, is_directory}
-use Rattle.plain_model.specs.Tree.{Sight, SeenBranch, SeenLeaf, see, see_inode, merged}
+use Rattle.plain_model.specs.Layers.{Name, Path, Directory, Inode, Layer, held, below, cuts, Shown, Folder, Contents, over, shows, through, under, is_directory}
+use Rattle.plain_model.specs.Tree.{Sight, SeenBranch, see, see_inode, merged}
 use Rattle.plain_model.proofs.Uppers.{AgreeTo, agree-where, under-agree, merged-agree}
 use Rattle.layer_tree.specs.Tree.{Tree, layer_of, inode_at, SetsPath, SameObjects}
 use Rattle.merged_lookup.specs.declared.stack.Place.{Place}
 use Rattle.merged_lookup.specs.declared.stack.Stack.{Stack}
 use Rattle.merged_lookup.specs.declared.layers.Layers.{Layers}
-use Rattle.merged_lookup.specs.Merged.{level, unless_cut, places_at, top_of, trees, lowers_of, layers_of, or_else, fault, way_fault, IsStackOf, ShowsDirectory}
+use Rattle.merged_lookup.specs.Merged.{level, unless_cut, places_at, top_of, lowers_of, layers_of, or_else, fault, way_fault, IsStackOf, ShowsDirectory}
 use Rattle.merged_lookup.proofs.Descending.{reverse-more}
-use Rattle.merged_lookup.proofs.Looking.{HeadFrom, head-places, head-unless, reverse-parts}
-use Rattle.make_remove.specs.Making.{sight, PassesSame, ShowsSame, HasPlace, MakesDirectory, new_attributes, is_object, shown_under}
+use Rattle.merged_lookup.proofs.Looking.{head-places, head-unless, reverse-parts}
+use Rattle.make_remove.specs.Making.{PassesSame, ShowsSame, HasPlace, MakesDirectory, new_attributes, is_object}
 use Rattle.make_remove.proofs.Placing.{some-not-none, agree-placed, placed-same, placed-absent, shows-agree, made-here, made-elsewhere, IsHeldDirectory, top-held, free-folder, free-absent}
 
 pub same-self : (l : Layers) → ShowsSame l l

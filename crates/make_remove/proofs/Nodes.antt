@@ -1,11 +1,11 @@
 -- From what a layer holds at a path to what stands under its keys.
-use Rattle.std.proofs.Common.{◌≡◌, ◌≢◌, ℕ, suc, Bool, true, false, List, [], ◌∷◌, Option, None, Some, refl, sym, ap, ◌∙◌, subst, is_some, IsSome, slice_get, drop, map, inl, inr}
-use Rattle.std.proofs.lemmas.Bool.{false≢true, cases_Bool}
+use Rattle.std.proofs.Common.{◌≡◌, ℕ, suc, Bool, true, false, List, [], ◌∷◌, Option, None, Some, refl, sym, ap, ◌∙◌, subst, IsSome, slice_get, drop, map}
+use Rattle.std.proofs.lemmas.Bool.{false≢true}
 use Rattle.std.specs.Option.{option_and_then, option_map}
 use Rattle.slab.specs.Slab.{get}
 use Rattle.ov_base.specs.declared.attributes.Attributes.{Attributes}
 use Rattle.ov_base.specs.declared.redirect.Redirect.{Redirect}
-use Rattle.plain_model.specs.Layers.{Name, Path, Object, Directory, Named, Whiteout, Inode, Layer, held, below, cuts, Shown, Folder, Contents, over, unless, shows}
+use Rattle.plain_model.specs.Layers.{Name, Path, Object, Directory, Named, Whiteout, Inode, held, below, cuts, Shown, Folder, over, unless, shows}
 use Rattle.layer_tree.specs.Table.{object_key}
 use Rattle.layer_tree.specs.Tree.{Tree, ROOT, IsTree, IsUnmarked, IsDirectory, directory_attributes, layer_of, table_of, key_at, entry_at, entry, child, seen, seen_entry, seen_at}
 use Rattle.layer_tree.specs.declared.name_table.Entry.{Entry}
@@ -13,7 +13,6 @@ use Rattle.layer_tree.specs.declared.name_table.Entry.TheVariants as bound
 use Rattle.layer_tree.specs.declared.node.Node.{Node}
 use Rattle.layer_tree.specs.declared.node.Node.TheVariants as node
 use Rattle.layer_tree.specs.declared.node.Directory as stored
-use Rattle.merged_lookup.specs.Descent.{holds_in}
 use Rattle.merged_lookup.proofs.Descending.{key-of, held-in, drop-get}
 use Rattle.make_remove.specs.Making.{is_object, HasPlace}
 

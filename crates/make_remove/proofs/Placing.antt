@@ -1,19 +1,19 @@
 -- What a new directory of the upper does to what is shown.
-use Rattle.std.proofs.Common.{◌≡◌, ◌≢◌, ℕ, suc, ◌≤◌, ◌<◌, Bool, true, false, ◌||◌, List, [], ◌∷◌, ◌++◌, Option, None, Some, refl, sym, ap, ap₂, ◌∙◌, subst, is_some, length, length-append, map, inl, inr, arith}
+use Rattle.std.proofs.Common.{◌≡◌, ◌≢◌, ℕ, suc, ◌<◌, Bool, true, false, ◌||◌, List, [], ◌∷◌, ◌++◌, Option, None, Some, refl, sym, ap, ap₂, ◌∙◌, subst, is_some, length, length-append, map, inl, inr, arith}
 use Rattle.std.proofs.lemmas.Bool.{false≢true, cases_Bool, both_ways}
 use Rattle.ov_base.specs.declared.attributes.Attributes.{Attributes}
 use Rattle.ov_base.specs.declared.redirect.Redirect.{Redirect}
-use Rattle.plain_model.specs.Layers.{Name, Path, Object, Directory, Named, Whiteout, Inode, Layer, held, spell, below, cut, cuts, Shown, Folder, Contents, over, unless, shows, through, under, is_directory, holds_directory, same_path}
+use Rattle.plain_model.specs.Layers.{Name, Path, Object, Directory, Named, Whiteout, Inode, Layer, held, spell, below, cut, cuts, Shown, Folder, over, unless, shows, through, under, is_directory, holds_directory, same_path}
 use Rattle.plain_model.specs.Laws.{IsOutside}
-use Rattle.plain_model.specs.Tree.{Sight, SeenBranch, see, merged}
+use Rattle.plain_model.specs.Tree.{SeenBranch, merged}
 use Rattle.plain_model.proofs.LookUp.{hides, hides-cuts}
 use Rattle.plain_model.proofs.Paths.{paths_tell, place, outside-parent, parent-outside}
-use Rattle.plain_model.proofs.Uppers.{meld, merged-meld, AgreeTo, agree-step, agree-where, through-agree, under-agree, merged-agree, dead-step}
+use Rattle.plain_model.proofs.Uppers.{meld, merged-meld, AgreeTo, agree-step, agree-where, through-agree, merged-agree, dead-step}
 use Rattle.layer_tree.specs.Tree.{Tree, layer_of, SetsPath}
 use Rattle.merged_lookup.specs.declared.stack.Place.{Place}
-use Rattle.merged_lookup.specs.Merged.{level, unless_cut, places_at, top_of}
+use Rattle.merged_lookup.specs.Merged.{level, top_of}
 use Rattle.merged_lookup.proofs.Descending.{parent-held}
-use Rattle.merged_lookup.proofs.Looking.{HeadFrom, head-places, head-unless}
+use Rattle.merged_lookup.proofs.Looking.{HeadFrom}
 use Rattle.make_remove.specs.Making.{is_object}
 
 -- two objects that pass on alike

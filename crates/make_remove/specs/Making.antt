@@ -1,11 +1,9 @@
 -- What a call that makes a name leaves, by what is shown (overlayfs.rst, "Directories" and "whiteouts and opaque directories";
 -- POSIX.1-2017, mkdir()).
-use Rattle.std.specs.Prelude.{◌≡◌, ◌≢◌, ℕ, Bool, true, false, List, [], ◌∷◌, Option, None, Some, is_some}
+use Rattle.std.specs.Prelude.{◌≡◌, ◌≢◌, ℕ, Bool, true, false, [], ◌∷◌, Option, None, Some}
 use Rattle.ov_base.specs.declared.attributes.Attributes.{Attributes}
-use Rattle.ov_base.specs.declared.errno.Errno.{Errno}
-use Rattle.ov_base.specs.declared.errno.Errno.TheVariants as errno
 use Rattle.ov_base.specs.declared.redirect.Redirect.{Redirect}
-use Rattle.plain_model.specs.Layers.{Name, Path, Object, Directory, Named, Whiteout, Layer, held, below, cuts, shows, under, is_directory}
+use Rattle.plain_model.specs.Layers.{Name, Path, Object, Directory, Named, Layer, held, below, cuts, shows, under, is_directory}
 use Rattle.plain_model.specs.Tree.{Sight, SeenBranch, merged}
 pub use Rattle.mount_laws.specs.Looks.{mkdir_fault}
 use Rattle.layer_tree.specs.Tree.{layer_of}

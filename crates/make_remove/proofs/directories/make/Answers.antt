@@ -1,7 +1,6 @@
-use Rattle.std.proofs.Common.{◌≡◌, ◌∷◌, ℕ, List, [], None, reverse, refl, subst}
+use Rattle.std.proofs.Common.{◌∷◌, ℕ, List, None, reverse, refl, subst}
 use Rattle.plain_model.specs.Layers.{Directory}
 use Rattle.layer_tree.specs.Tree.{layer_of, SetsPath}
-use Rattle.make_remove.specs.Making.{ShowsSame}
 use Rattle.make_remove.proofs.Keeping.{absent-place, same-then, same-unchanged, makes, on-err}
 use Rattle.make_remove.proofs.directories.make.Goals as goal
 

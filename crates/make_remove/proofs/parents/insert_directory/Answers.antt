@@ -1,4 +1,3 @@
-use Rattle.std.proofs.Common.{◌≡◌, ◌∷◌, Some}
 use Rattle.merged_lookup.proofs.Descending.{key-of}
 use Rattle.make_remove.proofs.Nodes.{place-free}
 use Rattle.make_remove.proofs.parents.insert_directory.Goals as goal

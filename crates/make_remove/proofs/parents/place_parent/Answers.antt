@@ -1,8 +1,7 @@
-use Rattle.std.proofs.Common.{◌≡◌, ◌∷◌, refl, ap, sym}
+use Rattle.std.proofs.Common.{◌∷◌, refl, ap}
 use Rattle.plain_model.specs.Layers.{is_directory}
-use Rattle.merged_lookup.specs.Merged.{ShowsDirectory, IsStackOf, top_of}
-use Rattle.make_remove.specs.Making.{ShowsSame}
-use Rattle.make_remove.proofs.Keeping.{same-unchanged, found-shown, found-place, found-placed, IsPlaced, top-shown-upper}
+use Rattle.merged_lookup.specs.Merged.{ShowsDirectory, top_of}
+use Rattle.make_remove.proofs.Keeping.{same-unchanged, found-shown, found-place, found-placed, top-shown-upper}
 use Rattle.make_remove.proofs.parents.place_parent.Goals as goal
 
 pub attributes_at-requires : goal.attributes_at-requires

@@ -1,4 +1,4 @@
-use Rattle.std.proofs.Common.{◌≡◌, ◌∷◌, take, reverse}
+use Rattle.std.proofs.Common.{◌∷◌, take, reverse}
 use Rattle.make_remove.proofs.Keeping.{directory-same, way-shows}
 use Rattle.make_remove.proofs.parents.place_parents.Goals as goal
 
