@@ -19,7 +19,7 @@ use Rattle.copy_up.proofs.Keeping.{inodes-same, lowers-same, place-of}
 free-through : (inodes : ℕ → Option Inode) (o : Option Object) (c : Bool) (s : Path → Option Shown) (n : Name) (q : Path) → is_object o ≡ false → over 0 inodes o (unless (cut o c) (s (spell o n q))) ≡ None → unless (cut o c) (s (spell o n q)) ≡ None
 free-through inodes o c s n q f h = grind arith
 
-free-directory : (o : Option Object) → is_object o ≡ false → holds_directory o ≡ false
+pub free-directory : (o : Option Object) → is_object o ≡ false → holds_directory o ≡ false
 free-directory o f = grind arith
 
 opaque-closed : (o c : Bool) (x : Option Shown) → o ≡ is_directory (unless c x) → is_directory (unless (o || c) x) ≡ false

@@ -1,16 +1,25 @@
 -- What a call that makes a name leaves, by what is shown (overlayfs.rst, "Directories" and "whiteouts and opaque directories";
 -- POSIX.1-2017, mkdir()).
-use Rattle.std.specs.Prelude.{◌≡◌, ◌≢◌, ℕ, Bool, false, [], ◌∷◌, None, Some}
+use Rattle.std.specs.Prelude.{◌≡◌, ◌≢◌, ℕ, Bool, false, List, [], ◌∷◌, Option, None, Some, is_some}
 use Rattle.ov_base.specs.declared.attributes.Attributes.{Attributes}
-use Rattle.plain_model.specs.Layers.{Path, Directory, held, under, is_directory}
+use Rattle.ov_base.specs.declared.errno.Errno.{Errno}
+use Rattle.ov_base.specs.declared.errno.Errno.TheVariants as errno
+use Rattle.plain_model.specs.Layers.{Path, Directory, Layer, held, shows, under, is_directory}
+use Rattle.plain_model.specs.Refusals.{when}
 use Rattle.plain_model.specs.Tree.{SeenBranch}
+use Rattle.plain_model.specs.Machine.{State}
 pub use Rattle.mount_laws.specs.Looks.{mkdir_fault}
+use Rattle.mount_laws.specs.Looks.{or_else, parents_fault, IsMountOf, Makes}
 use Rattle.layer_tree.specs.Tree.{layer_of}
 use Rattle.merged_lookup.specs.declared.layers.Layers.{Layers}
 use Rattle.merged_lookup.specs.Merged.{lowers_of}
 pub use Rattle.copy_up.specs.Showing.{sight, ShowsSame}
 
--- the attributes of a new directory
+-- why nothing can be made at a path: its parents, then what is there
+abbrev pub vacancy_fault : List Layer → Path → Option Errno
+vacancy_fault Ls p = or_else (parents_fault Ls p) (when (is_some (shows 0 Ls p)) errno.EEXIST)
+
+-- the attributes of a new object
 abbrev pub new_attributes : ℕ → Attributes
 new_attributes mode = record { mode = mode; uid = 0; gid = 0; user = [] }
 
@@ -27,3 +36,8 @@ pub record MakesDirectory (old new : Layers) (p : Path) (mode : ℕ) : Type 0 wh
   pub held_there : held (layer_of new.upper) p ≡ Some (Directory key (new_attributes mode) (shown_under old p) None)
   pub shown_there : sight new p ≡ Some (SeenBranch (new_attributes mode) false)
   pub elsewhere : (x : Path) → x ≢ p → sight new x ≡ sight old x
+
+-- every state of the machine whose mount has the old layers goes on to one with the new layers by mkdir
+abbrev pub MkdirSteps : Layers → Layers → Path → ℕ → Type 0
+MkdirSteps old new p mode =
+    (s : State) → IsMountOf (layer_of old.upper) (lowers_of old) s → (c : ℕ) → Makes (layer_of new.upper) (lowers_of new) s c p mode

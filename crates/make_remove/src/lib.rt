@@ -2,9 +2,12 @@
 #![tactic(auto)]
 
 mod directories;
+mod leaves;
+mod objects;
 mod removals;
 
 pub use directories::mkdir;
+pub use leaves::{create, symlink};
 pub use removals::{rmdir, unlink};
 
 #[cfg(test)]
