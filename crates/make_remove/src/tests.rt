@@ -1,8 +1,8 @@
-// `mkdir`, `unlink` and `rmdir` over layers built by hand.
+// Calls that make and remove names, over layers built by hand.
 ghost use Rattle.std.specs.Prelude.{IsTrue, Some};
 ghost use Rattle.layer_tree.specs.Tree.{leads_on, seen_object};
 
-use crate::{mkdir, rmdir, unlink};
+use crate::{create, mkdir, rmdir, symlink, unlink};
 use layer_tree::{Entry, Layer, Marks, Node, Object, ROOT};
 use merged_lookup::{Found, Layers};
 use ov_base::{Attributes, Bytes, Content, Errno, Name, Path, UserAttributes};
@@ -129,6 +129,65 @@ fn makes_directories(rt: HostRuntime) -> Result<(), Fail> {
     for (text, want) in shown {
         assert!(rt; made(&layers, &path(&rt, alloc, text)) == want);
     }
+    Ok(())
+}
+
+// The layer of a file or link that is shown, its mode, whether it is a link, and its bytes or its target's.
+fn leaf(layers: &Layers, path: &Path) -> Option<(usize, u32, bool, usize)> {
+    let Ok(Found::Inode(place)) = layers.walk(path) else {
+        return None;
+    };
+    let Node::Inode(inode) = layers.node(place)? else {
+        return None;
+    };
+    let mode = inode.attributes.mode;
+    match &inode.content {
+        Content::File(bytes) => Some((place.layer, mode, false, bytes.as_slice().len())),
+        Content::SymbolicLink(target) => Some((place.layer, mode, true, target.as_slice().len())),
+    }
+}
+
+#[test]
+fn makes_links_and_files(rt: HostRuntime) -> Result<(), Fail> {
+    let alloc = rt.alloc();
+    let mut upper = Layer::new(alloc, attributes(alloc, 0o755))?;
+    cover(&rt, &mut upper, b"old");
+    let mut lowers = Vec::new(alloc);
+    lowers.push(lower(&rt, alloc))?;
+    assert!(rt; lowers.len() == 1);
+    let mut layers = Layers::new(upper, lowers);
+    let links = [
+        (b"/a/b/s".as_slice(), b"t".as_slice(), Ok(())),
+        (b"/old", b"target", Ok(())),
+        (b"/link", b"t", Err(Errno::EEXIST)),
+        (b"/", b"t", Err(Errno::EEXIST)),
+        (b"/x/s", b"t", Err(Errno::ENOENT)),
+        (b"/link/s", b"", Err(Errno::ENOENT)),
+        (b"/link/s", b"t", Err(Errno::ELOOP)),
+        (b"/a", b"t\0", Err(Errno::EINVAL)),
+    ];
+    for (text, target, want) in links {
+        let target = Bytes::from_slice(alloc, target)?;
+        let got = symlink(alloc, &mut layers, target, &path(&rt, alloc, text))?;
+        assert!(rt; got == want);
+    }
+    assert!(rt; create(alloc, &mut layers, &path(&rt, alloc, b"/a/f"), 0o640)? == Ok(()));
+    assert!(rt;
+        create(alloc, &mut layers, &path(&rt, alloc, b"/a/f"), 0o640)? == Err(Errno::EEXIST)
+    );
+    assert!(rt;
+        create(alloc, &mut layers, &path(&rt, alloc, b"/g"), 0o10000)? == Err(Errno::EINVAL)
+    );
+    let shown = [
+        (b"/a/b/s".as_slice(), Some((0, 0o777, true, 1))),
+        (b"/old", Some((0, 0o777, true, 6))),
+        (b"/link", Some((1, 0o777, true, 0))),
+        (b"/a/f", Some((0, 0o640, false, 0))),
+    ];
+    for (text, want) in shown {
+        assert!(rt; leaf(&layers, &path(&rt, alloc, text)) == want);
+    }
+    assert!(rt; made(&layers, &path(&rt, alloc, b"/a/b")) == Some((0o711, 7, false)));
     Ok(())
 }
 
