@@ -47,7 +47,8 @@ held-node t i [] k a o r h =
     subst (λ (z : ℕ). IsDirectoryWith (get t z) a) key (subst (λ (b : Attributes). IsDirectoryWith (get t ROOT) b) same (root-node (get t ROOT) i.root))
 held-node t i (n ∷ p) k a o r h = entry-node t (entry_at t (n ∷ p)) k a o r h
 
-table-some : (x : Option Node) (a : Attributes) → IsDirectoryWith x a → IsSome (option_and_then table_of x)
+-- a node with attributes has a table
+pub table-some : (x : Option Node) (a : Attributes) → IsDirectoryWith x a → IsSome (option_and_then table_of x)
 table-some x a d = subst (λ (z : Option Node). IsSome (option_and_then table_of z)) (sym d.is) refl
 
 -- the directory of a place is one

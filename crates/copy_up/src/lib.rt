@@ -6,3 +6,6 @@ mod parents;
 
 pub use needs::{Need, need_at, place_dir};
 pub use parents::{insert_directory, place_parents};
+
+#[cfg(test)]
+mod tests;

@@ -2,7 +2,6 @@
 use Rattle.std.proofs.Common.{◌≡◌, ◌↔◌, ℕ, ◌<◌, Bool, true, false, not, ◌||◌, cond, bytes_eq, List, [], ◌∷◌, Option, None, Some, is_some, length, refl, sym, ap, ap₂, ◌∙◌, subst, map, arith}
 use Rattle.std.proofs.lemmas.Bool.{false≢true}
 use Rattle.std.specs.List.{list_any}
-use Rattle.std.specs.Option.{option_and_then}
 use Rattle.plain_model.proofs.Paths.{names_tell}
 use Rattle.slab.specs.Slab.{get}
 use Rattle.ov_base.specs.declared.call.Call.TheVariants as call
@@ -17,7 +16,7 @@ use Rattle.mount_laws.specs.Removals.{fewer}
 use Rattle.mount_laws.proofs.Alters.{law_of_taken_away, law_of_thin}
 use Rattle.mount_laws.proofs.Refusing.{law_of_rmdir}
 use Rattle.mount_laws.proofs.Removes.{law_of_unlinked, law_of_removed_directory}
-use Rattle.layer_tree.specs.Tree.{Tree, IsTree, IsDirectory, layer_of, table_of, inode_at, child, key_at}
+use Rattle.layer_tree.specs.Tree.{Tree, IsTree, IsDirectory, layer_of, inode_at, child, key_at}
 use Rattle.merged_lookup.specs.declared.stack.Place.{Place}
 use Rattle.merged_lookup.specs.declared.stack.Stack.{Stack}
 use Rattle.merged_lookup.specs.declared.layers.Layers.{Layers}
@@ -28,7 +27,7 @@ use Rattle.merged_lookup.proofs.Descending.{key-of}
 use Rattle.merged_lookup.proofs.Looking.{head-places, head-unless}
 use Rattle.copy_up.specs.Showing.{ShowsSame, StaysLayers}
 use Rattle.copy_up.proofs.Keeping.{lowers-same}
-use Rattle.copy_up.proofs.Nodes.{IsDirectoryWith, held-node}
+use Rattle.copy_up.proofs.Nodes.{IsDirectoryWith, held-node, table-some}
 use Rattle.copy_up.proofs.Placing.{IsHeldDirectory, top-held, parents-shown}
 use Rattle.make_remove.specs.Removing.{unlink_fault, rmdir_fault, ShowsNoName, TakesAway, Loses, Removes, TellsNames, TakesName, left_behind, number_of, has_more}
 use Rattle.make_remove.proofs.Freeing.{number-child}
@@ -49,7 +48,7 @@ top-at l p s dir tree is top is_dir =
     let node : IsDirectoryWith (get l.upper (top_of s.places.items).key) d.attributes = held-node l.upper tree p (top_of s.places.items).key d.attributes d.opaque d.redirect d.is in
     subst (λ (x : Place). IsAt l.upper p x.key) (sym is_dir) (record {
       key = key-of l.upper p (top_of s.places.items).key d.attributes d.opaque d.redirect d.is;
-      directory = ap (λ x. is_some (option_and_then table_of x)) node.is;
+      directory = table-some (get l.upper (top_of s.places.items).key) d.attributes node;
     })
 
 -- linked names are linked by another upper that names the same

@@ -20,6 +20,9 @@ use merged_lookup::{Found, Layers, split_last};
 use ov_base::{Errno, Name, Path};
 use std::alloc::{AllocError, Global};
 
+/// Why the root is not removed: the mount stands on it.
+const ROOT_REFUSAL: Errno = Errno::EBUSY;
+
 /// Removes a name of a file or symbolic link, as unlink(2). The root is EBUSY; on the way to the last name a name that shows nothing is
 /// ENOENT, a file ENOTDIR and a symbolic link ELOOP; then a name that shows nothing is ENOENT and a directory EISDIR. A refusal changes
 /// nothing, and want of memory changes nothing that is shown.
@@ -35,7 +38,7 @@ pub fn unlink(layers: &mut Layers, path: &Path) -> Result<Result<(), Errno>, All
     ensures mounts { OnErr result (StaysMount layers.old layers.new) }
 {
     let Some((name, parents)) = split_last(path) else {
-        return Ok(Err(Errno::EBUSY));
+        return Ok(Err(ROOT_REFUSAL));
     };
     match layers.walk(path) {
         Ok(Found::Inode(_)) => {}
@@ -67,7 +70,7 @@ pub fn rmdir(
     ensures mounts { OnErr result (StaysMount layers.old layers.new) }
 {
     let Some((name, parents)) = split_last(path) else {
-        return Ok(Err(Errno::EBUSY));
+        return Ok(Err(ROOT_REFUSAL));
     };
     let stack = match layers.walk(path) {
         Ok(Found::Directory(stack)) => stack,
