@@ -1,5 +1,5 @@
 -- The calls that change the layers: what becomes of open directories, and the machine's steps.
-use Rattle.std.proofs.Common.{arith, ◌≡◌, ◌≢◌, ℕ, Bool, true, false, not, cond, List, ◌∷◌, Option, None, Some, refl, sym, ap, ◌∙◌, subst, is_some, ◌≤◌}
+use Rattle.std.proofs.Common.{arith, ◌≡◌, ℕ, Bool, true, false, cond, List, Option, None, Some, refl, sym, ap, ◌∙◌, subst, is_some}
 use Rattle.std.specs.Option.{option_map}
 use Rattle.std.proofs.lemmas.Bool.{false≢true}
 use Rattle.ov_base.specs.declared.call.Call.{Call}
@@ -10,7 +10,7 @@ use Rattle.ov_base.specs.declared.node_id.NodeId.{NodeId}
 use Rattle.ov_base.specs.declared.node_id.NodeId.TheVariants.{New}
 use Rattle.ov_base.specs.declared.reply.Reply.TheVariants as reply
 use Rattle.plain_model.specs.Layers.{Name, Path, Layer, shows, is_directory, same_path}
-use Rattle.plain_model.specs.Tree.{same_id, Node, Branch, Leaf, Tree, node_at, put, with_name, lead, is_folder}
+use Rattle.plain_model.specs.Tree.{same_id, Node, Branch, Leaf, Tree, node_at, put, with_name, is_folder}
 use Rattle.plain_model.specs.Machine.{Handle, Table, State, is_root, handle_of}
 use Rattle.plain_model.specs.Refusals.{when, refusal}
 use Rattle.plain_model.specs.Changes.{after, made_way, way_of, names_in}
@@ -18,7 +18,7 @@ use Rattle.plain_model.proofs.Paths.{ids_tell, paths_tell}
 use Rattle.layer_tree.specs.Tree.{layer_of}
 use Rattle.merged_lookup.specs.declared.layers.Layers.{Layers}
 use Rattle.merged_lookup.specs.Merged.{layers_of, lowers_of}
-use Rattle.mount_laws.specs.Looks.{or_else, walk_fault, IsMountOf, IsHidden, KeepsHidden, Makes, mkdir_fault}
+use Rattle.mount_laws.specs.Looks.{or_else, walk_fault, IsMountOf, KeepsHidden, Makes, mkdir_fault}
 use Rattle.mount_laws.specs.Leaves.{MakesLink, symlink_fault}
 use Rattle.mount_laws.specs.Removals.{Removes, unlink_fault, rmdir_fault, ShowsNoName}
 use Rattle.mount_laws.proofs.Looks.{law_of_mkdir}

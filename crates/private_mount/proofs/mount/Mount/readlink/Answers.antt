@@ -1,4 +1,4 @@
-use Rattle.std.proofs.Common.{◌≡◌, refl, sym, ap, ◌∙◌, rules}
+use Rattle.std.proofs.Common.{◌≡◌, refl, ap, ◌∙◌, rules}
 use Rattle.std.specs.Option.{option_and_then}
 use Rattle.ov_base.specs.declared.errno.Errno.TheVariants.{EINVAL}
 use Rattle.ov_base.specs.declared.reply.Reply.TheVariants as reply
