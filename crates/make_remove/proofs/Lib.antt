@@ -1,3 +1,3 @@
-pub mod Nodes
-pub mod Placing
-pub mod Keeping
+pub mod Making
+pub mod Stepping
+pub mod LeafSteps

@@ -2,15 +2,14 @@
 ghost use Rattle.std.specs.Prelude.{◌≡◌, Some, None, IfOk, IfErr, OnOk, OnErr};
 ghost use Rattle.plain_model.specs.Layers.{shows};
 ghost use Rattle.merged_lookup.specs.Merged.{layers_of, parents_fault};
-ghost use Rattle.make_remove.specs.Making.{ShowsSame, MakesDirectory, mkdir_fault};
+ghost use Rattle.copy_up.specs.Showing.{ShowsSame, StaysLayers, StaysMount, StaysThin};
+ghost use Rattle.make_remove.specs.Making.{MakesDirectory, MkdirSteps, mkdir_fault};
 
-use crate::parents::{insert_directory, place_parents};
-use merged_lookup::{Layers, Look, split_last};
-use ov_base::{Attributes, Errno, Path, UserAttributes};
+use crate::objects::{MODE_BITS, new_attributes, vacant};
+use copy_up::{insert_directory, place_parents};
+use merged_lookup::{Layers, split_last};
+use ov_base::{Errno, Path};
 use std::alloc::{AllocError, Global};
-
-/// The twelve bits of a mode.
-const MODE_BITS: u32 = 0o7777;
 
 /// Makes a directory with this mode, owner 0, group 0 and no user attributes, as mkdir(2). A mode over 0o7777 is EINVAL; on the way
 /// to the last name a name that shows nothing is ENOENT, a file ENOTDIR and a symbolic link ELOOP; where something is shown it is
@@ -25,15 +24,17 @@ pub fn mkdir(
     ensures unchanged { IfOk result (λ r. OnErr r (layers.new ≡ layers.old)) }
     ensures allowed { IfOk result (λ r. OnOk r (mkdir_fault (layers_of layers.old) path.now mode ≡ None)) }
     ensures made { IfOk result (λ r. OnOk r (MakesDirectory layers.old layers.new path.now mode)) }
+    ensures steps { IfOk result (λ r. OnOk r (MkdirSteps layers.old layers.new path.now mode)) }
     ensures no_memory { OnErr result (ShowsSame layers.old layers.new) }
+    ensures mounts { OnErr result (StaysMount layers.old layers.new) }
+    ensures keeps { StaysLayers layers.old layers.new }
+    ensures thin { StaysThin layers.old layers.new }
 {
     if mode > MODE_BITS {
         return Ok(Err(Errno::EINVAL));
     }
-    match layers.look(path) {
-        Ok(Look::Absent(_)) => {}
-        Ok(Look::Found(_)) => return Ok(Err(Errno::EEXIST)),
-        Err(errno) => return Ok(Err(errno)),
+    if let Err(errno) = vacant(layers, path) {
+        return Ok(Err(errno));
     }
     make(alloc, layers, path, mode)?;
     Ok(Ok(()))
@@ -43,20 +44,20 @@ pub fn mkdir(
 fn make(alloc: Global, layers: &mut Layers, path: &Path, mode: u32) -> Result<(), AllocError>
     requires parents { parents_fault (layers_of layers.old) path.now ≡ None }
     requires absent { shows 0 (layers_of layers.old) path.now ≡ None }
+    requires allowed { mkdir_fault (layers_of layers.old) path.now mode ≡ None }
     ensures made { OnOk result (MakesDirectory layers.old layers.new path.now mode) }
+    ensures steps { OnOk result (MkdirSteps layers.old layers.new path.now mode) }
     ensures no_memory { OnErr result (ShowsSame layers.old layers.new) }
+    ensures mounts { OnErr result (StaysMount layers.old layers.new) }
+    ensures keeps { StaysLayers layers.old layers.new }
+    ensures thin { StaysThin layers.old layers.new }
 {
     let Some((name, parents)) = split_last(path) else {
         unreachable!()
     };
     let parent = place_parents(layers, parents)?;
     let opaque = layers.lowers_show_directory(&parent, name);
-    let attributes = Attributes {
-        mode,
-        uid: 0,
-        gid: 0,
-        user: UserAttributes::new(alloc),
-    };
+    let attributes = new_attributes(alloc, mode);
     let dir = parent.top();
     insert_directory(&mut layers.upper, dir.key, *name, attributes, opaque)?;
     Ok(())

@@ -2,10 +2,11 @@
 #![tactic(auto)]
 
 mod directories;
-mod parents;
+mod leaves;
+mod objects;
 
 pub use directories::mkdir;
-pub use parents::place_parents;
+pub use leaves::{create, symlink};
 
 #[cfg(test)]
 mod tests;

@@ -1,5 +1,5 @@
 // A mount and the clients on it.
-ghost use Rattle.std.specs.Prelude.{◌≡◌, ◌<◌, ℕ, Bool, List, Some, None, Ok, IfOk, IfErr, OnOk, OnErr, IsSome, MatchResult, option_copied, true};
+ghost use Rattle.std.specs.Prelude.{◌≡◌, ◌<◌, ℕ, Bool, List, Some, None, Ok, IfOk, IfErr, OnOk, OnErr, IsSome, is_some, MatchResult, option_copied, true};
 ghost use Rattle.plain_model.specs.Layers.{shows, is_directory, AreLayers};
 ghost use Rattle.layer_tree.specs.Tree.{layer_of};
 ghost use Rattle.merged_lookup.specs.Merged.{layers_of, lowers_of};
@@ -33,7 +33,8 @@ pub struct Mount {
 }
 
 impl Mount {
-    ghost use Rattle.std.specs.BTreeMap.{btree_map_len};
+    ghost use Rattle.std.specs.BTreeMap.{get, btree_map_len};
+    ghost use Rattle.std.specs.Ordering.{nat_cmp};
     ghost use Rattle.plain_model.specs.Machine as machine;
     ghost use Rattle.plain_model.specs.Machine.{State};
     ghost use Rattle.plain_model.specs.Tree.{Tree};
@@ -41,13 +42,15 @@ impl Mount {
     ghost use Rattle.plain_model.specs.Runs as runs;
     ghost use Rattle.plain_model.specs.Runs.{joined, without_instance, without_table};
     ghost use Rattle.plain_model.specs.Refusals.{refusal};
-    ghost use Rattle.private_mount.specs.Attaching.{HasNoRoom, opened_by};
+    ghost use Rattle.private_mount.specs.Attaching.{HasNoRoom, Attaches, Detaches, IsSame, opened_by};
     ghost use Rattle.private_mount.specs.States.{IsStateOf, IsOffered, Serves, Pages};
     ghost use Rattle.private_mount.specs.Mounts.{Answers, AnswersMkdir, AnswersOpen, AnswersList, AnswersClose, IsUnchanged, UnlessMkdir, stat_reply};
 
     /// A mount of these layers without a client.
     pub fn new(alloc: Global, layers: Layers) -> Mount
         ensures layers { result.layers ≡ layers }
+        ensures none { (n : ℕ) → get nat_cmp result.clients.attached n ≡ None }
+        ensures first { result.clients.next ≡ Some 0 }
         ensures begins { (t : Tree) (redirects : Bool) → AreLayers (layers_of layers) → IsMerge (layer_of layers.upper) (lowers_of layers) t → IsStateOf result (machine.opening t redirects) }
     {
         Mount {
@@ -72,6 +75,9 @@ impl Mount {
         ensures room { IfOk result (λ attaching. OnOk attaching (btree_map_len self.old.clients.attached < 64)) }
         ensures refused { IfOk result (λ attaching. OnErr attaching ((s : State) → IsStateOf self.old s → IsStateOf self.new s)) }
         ensures err { OnErr result ((s : State) → IsStateOf self.old s → IsStateOf self.new s) }
+        ensures clients { IfOk result (λ attaching. IfOk attaching (Attaches self.old.clients self.new.clients)) }
+        ensures same { IfOk result (λ attaching. OnErr attaching (IsSame self.old.clients self.new.clients)) }
+        ensures no_memory { OnErr result (IsSame self.old.clients self.new.clients) }
         ensures layers { self.new.layers ≡ self.old.layers }
     {
         self.clients.attach(self.alloc)
@@ -79,7 +85,8 @@ impl Mount {
 
     /// Whether a client of this number is attached.
     pub fn is_attached(&self, client: u32) -> bool
-        ensures { (s : State) → IsStateOf self.now s → result ≡ runs.is_attached s client }
+        ensures there { result ≡ is_some (get nat_cmp self.now.clients.attached client) }
+        ensures state { (s : State) → IsStateOf self.now s → result ≡ runs.is_attached s client }
     {
         self.clients.get(client).is_some()
     }
@@ -87,6 +94,7 @@ impl Mount {
     /// Detaches a client, which closes its descriptors.
     pub fn detach(&mut self, client: u32)
         ensures leaves { (s : State) → IsStateOf self.old s → IsStateOf self.new (without_table (without_instance s client) client) }
+        ensures clients { Detaches self.old.clients self.new.clients client }
         ensures layers { self.new.layers ≡ self.old.layers }
     {
         self.clients.detach(client);

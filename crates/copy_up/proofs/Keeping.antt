@@ -1,0 +1,287 @@
+-- What a mount shows before and after its upper gains a directory.
+use Rattle.std.proofs.Common.{is_some, ◌≡◌, ◌≢◌, ℕ, suc, ◌+◌, ◌<◌, Bool, true, false, List, [], ◌∷◌, ◌++◌, Option, None, Some, refl, sym, ap, ◌∙◌, subst, length, map, drop, take, reverse, get_or, arith, Result, Ok, Err, OnErr, ◌⊎◌, inl, inr}
+use Rattle.std.proofs.lemmas.Bool.{false≢true}
+use Rattle.ov_base.specs.declared.attributes.Attributes.{Attributes}
+use Rattle.ov_base.specs.declared.errno.Errno.{Errno}
+use Rattle.plain_model.specs.Layers.{Name, Path, Object, Whiteout, Directory, Inode, Layer, held, below, cuts, Shown, Folder, Contents, over, shows, through, is_directory, Named, IsLayer, AreLayers, holds_directory}
+use Rattle.plain_model.specs.Tree.{Sight, SeenBranch, see, see_inode, merged, IsThin, AreLinked}
+use Rattle.plain_model.specs.Laws.{Placed}
+use Rattle.plain_model.specs.Machine.{State}
+use Rattle.mount_laws.specs.Looks.{IsMountOf}
+use Rattle.mount_laws.proofs.Places.{law_of_placed_parent, longer}
+use Rattle.mount_laws.proofs.Alters.{law_of_thin}
+use Rattle.plain_model.proofs.Uppers.{AgreeTo, agree-where, under-agree, merged-agree}
+use Rattle.layer_tree.specs.Tree.{Tree, layer_of, inode_at, SetsPath, SameObjects}
+use Rattle.merged_lookup.specs.declared.stack.Place.{Place}
+use Rattle.merged_lookup.specs.declared.stack.Stack.{Stack}
+use Rattle.merged_lookup.specs.declared.layers.Layers.{Layers}
+use Rattle.merged_lookup.specs.Merged.{level, unless_cut, places_at, top_of, lowers_of, layers_of, or_else, fault, way_fault, IsStackOf, ShowsDirectory}
+use Rattle.merged_lookup.proofs.Descending.{reverse-more}
+use Rattle.merged_lookup.proofs.Looking.{head-places, head-unless, reverse-parts}
+use Rattle.copy_up.specs.Showing.{PassesSame, ShowsSame, HasPlace, is_object, Stays, GainsParent}
+use Rattle.copy_up.proofs.Placing.{nothing-held, some-not-none, agree-placed, placed-same, placed-absent, shows-agree, IsHeldDirectory, top-held, free-folder}
+
+pub same-self : (l : Layers) → ShowsSame l l
+same-self l = record { lowers = refl; sights = λ p. refl; absent = λ p h. h; passes = record { cuts = λ p. refl; spelling = λ p. refl } }
+
+pub same-then : (a b c : Layers) → ShowsSame a b → ShowsSame b c → ShowsSame a c
+same-then a b c s t =
+    record {
+      lowers = t.lowers ∙ s.lowers;
+      sights = λ p. t.sights p ∙ s.sights p;
+      absent = λ p h. t.absent p (s.absent p h);
+      passes = record { cuts = λ p. t.passes.cuts p ∙ s.passes.cuts p; spelling = λ p. t.passes.spelling p ∙ s.passes.spelling p };
+    }
+
+-- the same inodes by each number are the same inodes
+pub inodes-same : (u v : Tree) → ((k : ℕ) → inode_at v k ≡ inode_at u k) → (layer_of v).inodes ≡ (layer_of u).inodes
+inodes-same u v h = λ j k. h k j
+
+pub stays-self : (l : Layers) → Stays l l
+stays-self l = record { layers = λ a. a; mounts = λ s h. h; thin = λ h. h; names = λ p k. (λ h. h, λ h. h); inodes = λ k. refl }
+
+pub stays-then : (a b c : Layers) → Stays a b → Stays b c → Stays a c
+stays-then a b c s t =
+    record {
+      layers = λ h. t.layers (s.layers h);
+      mounts = λ m h. t.mounts m (s.mounts m h);
+      thin = λ h. t.thin (s.thin h);
+      names = λ p k. (λ h. (s.names p k).0 ((t.names p k).0 h), λ h. (t.names p k).1 ((s.names p k).1 h));
+      inodes = λ k. t.inodes k ∙ s.inodes k;
+    }
+
+-- the place of a new directory, from the places of its parent
+pub place-of : (l : Layers) (p : Path) (s : Stack) (n : Name) → IsStackOf l p s → (top_of s.places.items).layer ≡ 0 → is_object (held (layer_of l.upper) (n ∷ p)) ≡ false → HasPlace (layer_of l.upper) (top_of s.places.items).key n p
+place-of l p s n is top free =
+    let U : Layer = layer_of l.upper in
+    let rest : List Place = unless_cut (cuts U p) (places_at 1 (lowers_of l) (below U p)) in
+    let some : 0 < length s.places.items = omega (arith, s.some_place) in
+    let d : IsHeldDirectory (held U p) (top_of s.places.items).key = top-held (held U p) rest s.places.items is.places (head-unless (cuts U p) (places_at 1 (lowers_of l) (below U p)) (head-places 1 (lowers_of l) (below U p))) some top in
+    record { attributes = d.attributes; opaque = d.opaque; redirect = d.redirect; directory = d.is; free = free }
+
+pub lowers-same : (old new : Layers) → new.lowers ≡ old.lowers → lowers_of new ≡ lowers_of old
+lowers-same old new low = ap (λ v. map layer_of v.items) low
+
+-- an upper that holds the same everywhere shows the same
+pub same-unchanged : (old new : Layers) → new.lowers ≡ old.lowers → SameObjects (layer_of old.upper) (layer_of new.upper) → ((k : ℕ) → inode_at new.upper k ≡ inode_at old.upper k) → ShowsSame old new
+same-unchanged old new low same inodes =
+    let agree : (x : Path) → AgreeTo (layer_of old.upper) (layer_of new.upper) x = λ x. agree-where (layer_of old.upper) (layer_of new.upper) (λ _. Unit {0}) (λ k y u. tt) (λ y u. same y) x tt in
+    let i : (layer_of new.upper).inodes ≡ (layer_of old.upper).inodes = inodes-same old.upper new.upper inodes in
+    record {
+      lowers = low;
+      sights = λ p. ap (λ Ls. merged (layer_of new.upper) Ls p) (lowers-same old new low) ∙ merged-agree (layer_of old.upper) (layer_of new.upper) (lowers_of old) p i (same p) (agree p);
+      absent = λ p h. ap (λ Ls. shows 0 (layer_of new.upper ∷ Ls) p) (lowers-same old new low) ∙ shows-agree (layer_of old.upper) (layer_of new.upper) (lowers_of old) p i (same p) (agree p) ∙ h;
+      passes = record { cuts = λ p. (agree p).cut_alike; spelling = λ p. (agree p).spelled };
+    }
+
+-- linked names are linked by another upper that names the same
+linked-by : (U V : Layer) → ((p : Path) (k : ℕ) → held U p ≡ Some (Named k) → held V p ≡ Some (Named k)) → (p q : Path) → AreLinked U p q → AreLinked V p q
+linked-by U V names p q l = record { number = l.number; first = names p l.number l.first; second = names q l.number l.second }
+
+lift : {A B C : Type 0} → (B → C) → A ⊎ B → A ⊎ C
+lift f (inl a) = inl a
+lift f (inr b) = inr (f b)
+
+-- an upper that holds the same everywhere is as the old one
+pub stays-unchanged : (old new : Layers) → new.lowers ≡ old.lowers → SameObjects (layer_of old.upper) (layer_of new.upper) → ((k : ℕ) → inode_at new.upper k ≡ inode_at old.upper k) → (IsLayer (layer_of old.upper) → IsLayer (layer_of new.upper)) → Stays old new
+stays-unchanged old new low same inodes keep =
+    let U : Layer = layer_of old.upper in
+    let V : Layer = layer_of new.upper in
+    let agree : (x : Path) → AgreeTo U V x = λ x. agree-where U V (λ _. Unit {0}) (λ k y u. tt) (λ y u. same y) x tt in
+    let sights : (p : Path) → merged V (lowers_of old) p ≡ merged U (lowers_of old) p = λ p. merged-agree U V (lowers_of old) p (inodes-same old.upper new.upper inodes) (same p) (agree p) in
+    let more : (p : Path) (k : ℕ) → held U p ≡ Some (Named k) → held V p ≡ Some (Named k) = λ p k h. same p ∙ h in
+    let less : (p : Path) (k : ℕ) → held V p ≡ Some (Named k) → held U p ≡ Some (Named k) = λ p k h. sym (same p) ∙ h in
+    let mounts : (s : State) → IsMountOf U (lowers_of old) s → IsMountOf V (lowers_of old) s = λ s h. record {
+      layers = (keep h.layers.0, h.layers.1);
+      shows = record {
+        sights = λ p. h.shows.sights p ∙ sym (sights p);
+        linked = λ p q l. h.shows.linked p q (linked-by V U less p q l);
+        apart = λ p q d e g. lift (linked-by U V more p q) (h.shows.apart p q d e g);
+      };
+      kept = h.kept;
+    } in
+    let thin : IsThin U (lowers_of old) → IsThin V (lowers_of old) = λ h n p is. ap is_some (under-agree U V (lowers_of old) n p (agree p)) ∙ h n p (sym (same (n ∷ p)) ∙ is) in
+    record {
+      layers = λ a. (keep a.0, subst AreLayers (sym (lowers-same old new low)) a.1);
+      mounts = λ s h. subst (λ (Ls : List Layer). IsMountOf V Ls s) (sym (lowers-same old new low)) (mounts s h);
+      thin = λ h. subst (λ (Ls : List Layer). IsThin V Ls) (sym (lowers-same old new low)) (thin h);
+      names = λ p k. (less p k, more p k);
+      inodes = inodes;
+    }
+
+places-agree : (i : ℕ) (U V : Layer) (Ls : List Layer) (p : Path) → held V p ≡ held U p → cuts V p ≡ cuts U p → below V p ≡ below U p → places_at i (V ∷ Ls) p ≡ places_at i (U ∷ Ls) p
+places-agree i U V Ls p h c b j = level i (h j) (unless_cut (c j) (places_at (suc i) Ls (b j)))
+
+-- a directory that is shown at n in p, and that the upper lacks, is placed
+module _ (old new : Layers) (low : new.lowers ≡ old.lowers) (inodes : (k : ℕ) → inode_at new.upper k ≡ inode_at old.upper k) (p : Path) (n : Name) (i m : ℕ) (a : Attributes) (shown : shows 0 (layers_of old) (n ∷ p) ≡ Some (Folder i m a)) (lacks : i ≢ 0) (key : ℕ) (sets : SetsPath (layer_of old.upper) (layer_of new.upper) (n ∷ p) (Directory key a false None)) where
+  pub lacked : held (layer_of old.upper) (n ∷ p) ≡ None
+  lacked = free-folder (layer_of old.upper).inodes (held (layer_of old.upper) (n ∷ p)) (through (layer_of old.upper) (lowers_of old) (n ∷ p)) i m a shown lacks
+
+  pub same-placed : ShowsSame old new
+  same-placed =
+      let I : (layer_of new.upper).inodes ≡ (layer_of old.upper).inodes = inodes-same old.upper new.upper inodes in
+      record {
+        lowers = low;
+        sights = λ x. ap (λ Ls. merged (layer_of new.upper) Ls x) (lowers-same old new low) ∙ placed-same (layer_of old.upper) (layer_of new.upper) (lowers_of old) (n ∷ p) key a lacked sets I i m shown x;
+        absent = λ x h. ap (λ Ls. shows 0 (layer_of new.upper ∷ Ls) x) (lowers-same old new low) ∙ placed-absent (layer_of old.upper) (layer_of new.upper) (lowers_of old) (n ∷ p) key a lacked sets I i m shown x h;
+        passes = record {
+          cuts = λ x. (agree-placed (layer_of old.upper) (layer_of new.upper) (lowers_of old) (n ∷ p) key a lacked sets I x).cut_alike;
+          spelling = λ x. (agree-placed (layer_of old.upper) (layer_of new.upper) (lowers_of old) (n ∷ p) key a lacked sets I x).spelled;
+        };
+      }
+
+  pub placed : Placed (layer_of old.upper) (layer_of new.upper) (n ∷ p) (Some (Directory key a false None))
+  placed = record {
+    here = sets.there;
+    beneath = λ k r. sets.elsewhere (k ∷ r ++ (n ∷ p)) (λ e. longer (n ∷ p) k r (sym e)) ∙ nothing-held old.upper (n ∷ p) (ap holds_directory lacked) k r;
+    elsewhere = λ x out. sets.elsewhere x (λ e. out [] e);
+    inodes = inodes-same old.upper new.upper inodes;
+  }
+
+  not-named : (x : Path) (k : ℕ) → held (layer_of new.upper) x ≡ Some (Named k) → x ≢ n ∷ p
+  not-named x k h e = let z : Some (Directory key a false None) ≡ Some (Named k) = sym sets.there ∙ ap (held (layer_of new.upper)) (sym e) ∙ h in cc
+
+  was-unnamed : (x : Path) (k : ℕ) → held (layer_of old.upper) x ≡ Some (Named k) → x ≢ n ∷ p
+  was-unnamed x k h e = let z : None ≡ Some (Named k) = sym lacked ∙ ap (held (layer_of old.upper)) (sym e) ∙ h in cc
+
+  pub stays-placed : (IsLayer (layer_of old.upper) → IsLayer (layer_of new.upper)) → Stays old new
+  stays-placed keep =
+      let U : Layer = layer_of old.upper in
+      let V : Layer = layer_of new.upper in
+      record {
+        layers = λ h. (keep h.0, subst AreLayers (sym (lowers-same old new low)) h.1);
+        mounts = λ s h. subst (λ (Ls : List Layer). IsMountOf V Ls s) (sym (lowers-same old new low)) (law_of_placed_parent U V (lowers_of old) s h (keep h.layers.0, h.layers.1) n p i m key a lacked shown placed);
+        thin = λ h. subst (λ (Ls : List Layer). IsThin V Ls) (sym (lowers-same old new low)) ((law_of_thin U V (lowers_of old) h n p).directory key a false None placed);
+        names = λ x k. (λ h. sym (sets.elsewhere x (not-named x k h)) ∙ h, λ h. sets.elsewhere x (was-unnamed x k h) ∙ h);
+        inodes = inodes;
+      }
+
+  pub gains-placed : GainsParent old new (n ∷ p)
+  gains-placed = record { layer = i; key = m; attributes = a; shown = shown; lowers = low; number = key; placed = placed }
+
+  -- the upper shows it
+  pub shown-placed : shows 0 (layers_of new) (n ∷ p) ≡ Some (Folder 0 key a)
+  shown-placed = ap (λ o. over 0 (layer_of new.upper).inodes o (through (layer_of new.upper) (lowers_of new) (n ∷ p))) sets.there
+
+  -- the stack of a directory that the upper has stays
+  pub stack-placed : (q : Path) (s : Stack) → (top_of s.places.items).layer ≡ 0 → IsStackOf old q s → IsStackOf new q s
+  stack-placed q s top is =
+      let U : Layer = layer_of old.upper in
+      let rest : List Place = unless_cut (cuts U q) (places_at 1 (lowers_of old) (below U q)) in
+      let some : 0 < length s.places.items = omega (arith, s.some_place) in
+      let d : IsHeldDirectory (held U q) (top_of s.places.items).key = top-held (held U q) rest s.places.items is.places (head-unless (cuts U q) (places_at 1 (lowers_of old) (below U q)) (head-places 1 (lowers_of old) (below U q))) some top in
+      let other : q ≢ n ∷ p = λ e. some-not-none (Directory (top_of s.places.items).key d.attributes d.opaque d.redirect) (sym d.is ∙ ap (held U) e ∙ lacked) in
+      let agree : PassesSame U (layer_of new.upper) = same-placed.passes in
+      record { places = is.places ∙ sym (ap (λ Ls. places_at 0 (layer_of new.upper ∷ Ls) q) (lowers-same old new low) ∙ places-agree 0 U (layer_of new.upper) (lowers_of old) q (sets.elsewhere q other) (agree.cuts q) (agree.spelling q)) }
+
+folder-index : (i j k m : ℕ) (a b : Attributes) → ◌≡◌ {A = Option Shown} (Some (Folder i k a)) (Some (Folder j m b)) → i ≡ j
+folder-index i j k m a b e = cc
+
+-- the place of a directory is in the upper where the upper shows it
+pub top-shown-upper : (l : Layers) (p : Path) (s : List Place) (key : ℕ) (a : Attributes) → shows 0 (layers_of l) p ≡ Some (Folder 0 key a) → ShowsDirectory l p s → (top_of s).layer ≡ 0
+top-shown-upper l p s key a h d = folder-index (top_of s).layer 0 (top_of s).key key d.attributes a (sym d.shown ∙ h)
+
+-- whether a directory is seen
+abbrev is_branch : Option Sight → Bool
+is_branch (Some (SeenBranch a b)) = true
+is_branch _ = false
+
+inode-branch : (i : ℕ) (x : Option Inode) → is_branch (see_inode i x) ≡ false
+inode-branch i None = refl
+inode-branch i (Some x) = refl
+
+branch-see : (b : Bool) (x : Option Shown) → is_branch (see b x) ≡ is_directory x
+branch-see b None = refl
+branch-see b (Some (Folder i k a)) = refl
+branch-see b (Some (Contents i k x)) = inode-branch i x
+
+-- a directory stays shown as one
+pub directory-same : (old new : Layers) (p : Path) → ShowsSame old new → is_directory (shows 0 (layers_of old) p) ≡ true → is_directory (shows 0 (layers_of new) p) ≡ true
+directory-same old new p s h = sym (branch-see _ (shows 0 (layers_of new) p)) ∙ ap is_branch (s.sights p) ∙ branch-see _ (shows 0 (layers_of old) p) ∙ h
+
+pub or-first : (a b : Option Errno) → or_else a b ≡ None → a ≡ None
+or-first None b h = refl
+or-first (Some e) b h = h
+
+or-second : (a b : Option Errno) → or_else a b ≡ None → b ≡ None
+or-second None b h = h
+or-second (Some e) b h = cc
+
+pub way-first : (Ls : List Layer) (r p : Path) → way_fault Ls (r ++ p) ≡ None → way_fault Ls p ≡ None
+way-first Ls [] p h = h
+way-first Ls (n ∷ r) p h = way-first Ls r p (or-first (way_fault Ls (r ++ p)) (fault (shows 0 Ls (n ∷ r ++ p))) h)
+
+no-fault : (x : Option Shown) → fault x ≡ None → is_directory x ≡ true
+no-fault None h = cc
+no-fault (Some (Folder i k a)) h = refl
+no-fault (Some (Contents i k x)) h = cc
+
+pub way-directory : (Ls : List Layer) (p : Path) (n : Name) → way_fault Ls (n ∷ p) ≡ None → is_directory (shows 0 Ls (n ∷ p)) ≡ true
+way-directory Ls p n h = no-fault (shows 0 Ls (n ∷ p)) (or-second (way_fault Ls p) (fault (shows 0 Ls (n ∷ p))) h)
+
+-- each name of a way without fault shows a directory
+pub way-shows : (l : Layers) (names : List Name) (i : ℕ) (n : Name) → i < length names → n ≡ get_or names i n → way_fault (layers_of l) (reverse names) ≡ None → is_directory (shows 0 (layers_of l) (n ∷ reverse (take i names))) ≡ true
+way-shows l names i n h is none =
+    let whole : way_fault (layers_of l) (reverse (drop (i + 1) names) ++ reverse (take (i + 1) names)) ≡ None = sym (ap (way_fault (layers_of l)) (reverse-parts names (i + 1))) ∙ none in
+    let front : way_fault (layers_of l) (reverse (take (i + 1) names)) ≡ None = way-first (layers_of l) (reverse (drop (i + 1) names)) (reverse (take (i + 1) names)) whole in
+    way-directory (layers_of l) (reverse (take i names)) n (sym (ap (way_fault (layers_of l)) (reverse-more names i n h is)) ∙ front)
+
+-- the upper has the directory n in p now, and the same is shown as before
+pub record IsPlaced (old new : Layers) (p : Path) (n : Name) : Type 0 where
+  pub key : ℕ
+  pub attributes : Attributes
+  pub same : ShowsSame old new
+  pub shown : shows 0 (layers_of new) (n ∷ p) ≡ Some (Folder 0 key attributes)
+  pub stack : (q : Path) (s : Stack) → (top_of s.places.items).layer ≡ 0 → IsStackOf old q s → IsStackOf new q s
+  pub stays : Stays old new
+  pub gains : GainsParent old new (n ∷ p)
+
+-- a directory that is shown by a lower layer, found from the stack of its parent in the upper
+module _ (old : Layers) (p : Path) (n : Name) (parent : Stack) (is : IsStackOf old p parent) (upper : (top_of parent.places.items).layer ≡ 0) (found : List Place) (f : ShowsDirectory old (n ∷ p) found) (spot dir : Place) (is_spot : spot ≡ top_of found) (is_dir : dir ≡ top_of parent.places.items) (lower : spot.layer ≢ 0) where
+  pub found-shown : shows 0 (layers_of old) (n ∷ p) ≡ Some (Folder spot.layer spot.key f.attributes)
+  found-shown = f.shown ∙ ap (λ (d : Place). Some (Folder d.layer d.key f.attributes)) (sym is_spot)
+
+  -- has a place in the upper
+  pub found-place : HasPlace (layer_of old.upper) dir.key n p
+  found-place =
+      let lacked : held (layer_of old.upper) (n ∷ p) ≡ None = free-folder (layer_of old.upper).inodes (held (layer_of old.upper) (n ∷ p)) (through (layer_of old.upper) (lowers_of old) (n ∷ p)) spot.layer spot.key f.attributes found-shown lower in
+      subst (λ (d : Place). HasPlace (layer_of old.upper) d.key n p) (sym is_dir) (place-of old p parent n is upper (ap is_object lacked))
+
+  -- is placed there by a copy of its attributes
+  pub found-placed : (new : Layers) (copy : Attributes) → copy ≡ f.attributes → new.lowers ≡ old.lowers → ((k : ℕ) → inode_at new.upper k ≡ inode_at old.upper k) → (key : ℕ) × SetsPath (layer_of old.upper) (layer_of new.upper) (n ∷ p) (Directory key copy false None) → (IsLayer (layer_of old.upper) → IsLayer (layer_of new.upper)) → IsPlaced old new p n
+  found-placed new copy e low inodes sets keep =
+      let shown : shows 0 (layers_of old) (n ∷ p) ≡ Some (Folder spot.layer spot.key copy) = found-shown ∙ ap (λ a. Some (Folder spot.layer spot.key a)) (sym e) in
+      record {
+        key = sets.0;
+        attributes = copy;
+        same = same-placed old new low inodes p n spot.layer spot.key copy shown lower sets.0 sets.1;
+        shown = shown-placed old new low inodes p n spot.layer spot.key copy shown lower sets.0 sets.1;
+        stack = stack-placed old new low inodes p n spot.layer spot.key copy shown lower sets.0 sets.1;
+        stays = stays-placed old new low inodes p n spot.layer spot.key copy shown lower sets.0 sets.1 keep;
+        gains = gains-placed old new low inodes p n spot.layer spot.key copy shown lower sets.0 sets.1;
+      }
+
+pub on-err : {A E : Type 0} (P : Type 0) (r : Result A E) → P → OnErr r P
+on-err P (Ok x) h = tt
+on-err P (Err e) h = h
+
+-- the place at the top of a directory's stack is in the upper exactly where the upper holds a directory
+pub held-on-top : (l : Layers) (p : Path) (s : Stack) → s.places.items ≡ places_at 0 (layers_of l) p → (top_of s.places.items).layer ≡ 0 → holds_directory (held (layer_of l.upper) p) ≡ true
+held-on-top l p s is top =
+    let U : Layer = layer_of l.upper in
+    let rest : List Place = unless_cut (cuts U p) (places_at 1 (lowers_of l) (below U p)) in
+    let some : 0 < length s.places.items = omega (arith, s.some_place) in
+    let d : IsHeldDirectory (held U p) (top_of s.places.items).key = top-held (held U p) rest s.places.items is (head-unless (cuts U p) (places_at 1 (lowers_of l) (below U p)) (head-places 1 (lowers_of l) (below U p))) some top in
+    ap holds_directory d.is
+
+level-top : (o : Option Object) (rest s : List Place) → s ≡ level 0 o rest → holds_directory o ≡ true → (top_of s).layer ≡ 0
+level-top None rest s is h = absurd (false≢true h)
+level-top (Some Whiteout) rest s is h = absurd (false≢true h)
+level-top (Some (Named k)) rest s is h = absurd (false≢true h)
+level-top (Some (Directory k a o r)) rest s is h = ap (λ z. (top_of z).layer) is
+
+pub top-in-upper : (l : Layers) (p : Path) (s : Stack) → IsStackOf l p s → holds_directory (held (layer_of l.upper) p) ≡ true → (top_of s.places.items).layer ≡ 0
+top-in-upper l p s is h = level-top (held (layer_of l.upper) p) (unless_cut (cuts (layer_of l.upper) p) (places_at 1 (lowers_of l) (below (layer_of l.upper) p))) s.places.items is.places h
+
+pub apart-held : (b : Bool) (P : Type 0) → b ≡ true → b ≡ false → P
+apart-held b P t f = absurd (false≢true (sym f ∙ t))

@@ -1,0 +1,4 @@
+pub mod Nodes
+pub mod Placing
+pub mod Keeping
+pub mod Needing

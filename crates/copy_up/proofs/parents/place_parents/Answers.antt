@@ -1,0 +1,25 @@
+use Rattle.std.proofs.Common.{sym, ap, ◌∙◌, ◌∷◌, take, reverse}
+use Rattle.merged_lookup.specs.Merged.{places_at, layers_of}
+use Rattle.merged_lookup.proofs.Descending.{reverse-more}
+use Rattle.copy_up.proofs.Keeping.{same-then, stays-then, directory-same, way-shows}
+use Rattle.copy_up.proofs.parents.place_parents.Goals as goal
+
+pub place_parent-requires-clause-shown : goal.place_parent-requires-clause-shown
+place_parent-requires-clause-shown c =
+    let p = reverse (take c.loop-name.name-index c.args.names.now) in
+    (p, c.loop-name.invariant.1, directory-same c.args.layers.now c.loop-name.layers (c.name-item.result ∷ p) c.loop-name.invariant.0 (way-shows c.args.layers.now c.args.names.now c.loop-name.name-index c.name-item.result c.loop-name-test.true c.name-item.is c.requires))
+
+pub loop-name-preserved : goal.loop-name-preserved
+loop-name-preserved c =
+    let p = reverse (take c.loop-name.name-index c.args.names.now) in (
+      same-then c.args.layers.now c.loop-name.layers c.place_parent.new.layers c.loop-name.invariant.0 c.place_parent.ensures.same,
+      record { places = (c.in_ok-stack.ensures.stack p c.loop-name.invariant.1).places ∙ ap (places_at 0 (layers_of c.place_parent.new.layers)) (sym (reverse-more c.args.names.now c.loop-name.name-index c.name-item.result c.loop-name-test.true c.name-item.is)) },
+      c.in_ok-stack.ensures.upper,
+      stays-then c.args.layers.now c.loop-name.layers c.place_parent.new.layers c.loop-name.invariant.3 c.place_parent.ensures.stays,
+    )
+
+pub returns-in_err-stack-clause-keeps : goal.returns-in_err-stack-clause-keeps
+returns-in_err-stack-clause-keeps c = (stays-then c.args.layers.now c.loop-name.layers c.place_parent.new.layers c.loop-name.invariant.3 c.place_parent.ensures.stays).layers
+
+pub returns-in_err-stack-clause-names : goal.returns-in_err-stack-clause-names
+returns-in_err-stack-clause-names c = (stays-then c.args.layers.now c.loop-name.layers c.place_parent.new.layers c.loop-name.invariant.3 c.place_parent.ensures.stays).names

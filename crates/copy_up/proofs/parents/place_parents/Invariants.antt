@@ -1,0 +1,11 @@
+use Rattle.std.proofs.Common.{◌≡◌, take, reverse}
+use Rattle.merged_lookup.specs.Merged.{IsStackOf, top_of}
+use Rattle.copy_up.specs.Showing.{ShowsSame, Stays}
+use Rattle.copy_up.proofs.parents.place_parents.Given as goal
+
+abbrev pub invariant-loop-name : goal.invariant-loop-name
+invariant-loop-name l =
+    ShowsSame l.fn.layers l.layers
+    × IsStackOf l.layers (reverse (take l.name-index l.names)) l.stack
+    × ((top_of l.stack.places.items).layer ≡ 0)
+    × Stays l.fn.layers l.layers

@@ -1,0 +1,72 @@
+-- What placing missing parents in the upper leaves: what is shown, and where a directory has its place (overlayfs.rst, "Directories").
+use Rattle.std.specs.Prelude.{◌≡◌, ◌↔◌, ℕ, Bool, true, false, ◌∷◌, Option, None, Some}
+use Rattle.ov_base.specs.declared.attributes.Attributes.{Attributes}
+use Rattle.ov_base.specs.declared.redirect.Redirect.{Redirect}
+use Rattle.plain_model.specs.Laws.{Placed}
+use Rattle.plain_model.specs.Machine.{State}
+use Rattle.plain_model.specs.Layers.{AreLayers, Folder, Name, Path, Object, Directory, Named, Layer, held, below, cuts, shows}
+use Rattle.plain_model.specs.Tree.{Sight, merged, IsThin}
+use Rattle.mount_laws.specs.Looks.{IsMountOf}
+use Rattle.layer_tree.specs.Tree.{layer_of, inode_at}
+use Rattle.merged_lookup.specs.declared.layers.Layers.{Layers}
+use Rattle.merged_lookup.specs.Merged.{layers_of, lowers_of}
+
+-- what is shown at a path: its kind, its attributes and what it holds, whatever layer has it
+abbrev pub sight : Layers → Path → Option Sight
+sight l p = merged (layer_of l.upper) (lowers_of l) p
+
+-- two uppers pass on the same at every path: none of it where they cut, and else by the same spelling
+pub record PassesSame (U V : Layer) : Type 0 where
+  pub cuts : (p : Path) → cuts V p ≡ cuts U p
+  pub spelling : (p : Path) → below V p ≡ below U p
+
+-- the same is shown at every path, and comes from the same lower layers in the same way
+pub record ShowsSame (old new : Layers) : Type 0 where
+  pub lowers : new.lowers ≡ old.lowers
+  pub sights : (p : Path) → sight new p ≡ sight old p
+  pub absent : (p : Path) → shows 0 (layers_of old) p ≡ None → shows 0 (layers_of new) p ≡ None
+  pub passes : PassesSame (layer_of old.upper) (layer_of new.upper)
+
+-- whether an object is held, a directory or the name of an inode
+abbrev pub is_object : Option Object → Bool
+is_object (Some (Directory k a o r)) = true
+is_object (Some (Named k)) = true
+is_object _ = false
+
+-- the layer holds a directory under this key at a path, and no object at the name in it
+pub record HasPlace (L : Layer) (dir : ℕ) (n : Name) (p : Path) : Type 0 where
+  pub attributes : Attributes
+  pub opaque : Bool
+  pub redirect : Option Redirect
+  pub directory : held L p ≡ Some (Directory dir attributes opaque redirect)
+  pub free : is_object (held L (n ∷ p)) ≡ false
+
+-- layers that are layers stay so
+abbrev pub StaysLayers : Layers → Layers → Type 0
+StaysLayers old new = AreLayers (layers_of old) → AreLayers (layers_of new)
+
+-- a state of the machine whose mount has the old layers has the new ones
+abbrev pub StaysMount : Layers → Layers → Type 0
+StaysMount old new = (s : State) → IsMountOf (layer_of old.upper) (lowers_of old) s → IsMountOf (layer_of new.upper) (lowers_of new) s
+
+-- an upper without needless whiteouts stays so
+abbrev pub StaysThin : Layers → Layers → Type 0
+StaysThin old new = IsThin (layer_of old.upper) (lowers_of old) → IsThin (layer_of new.upper) (lowers_of new)
+
+-- what directories that are placed with the attributes that they show leave as it was
+pub record Stays (old new : Layers) : Type 0 where
+  pub layers : StaysLayers old new
+  pub mounts : StaysMount old new
+  pub thin : StaysThin old new
+  pub names : (p : Path) (k : ℕ) → (held (layer_of new.upper) p ≡ Some (Named k)) ↔ (held (layer_of old.upper) p ≡ Some (Named k))
+  pub inodes : (k : ℕ) → inode_at new.upper k ≡ inode_at old.upper k
+
+-- The upper gets the directory that is shown at the path, with the attributes that are shown, no marks and nothing in it, and nothing else.
+pub record GainsParent (old new : Layers) (p : Path) : Type 0 where
+  pub layer : ℕ
+  pub key : ℕ
+  pub attributes : Attributes
+  pub shown : shows 0 (layers_of old) p ≡ Some (Folder layer key attributes)
+  pub lowers : new.lowers ≡ old.lowers
+  pub number : ℕ
+  pub placed : Placed (layer_of old.upper) (layer_of new.upper) p (Some (Directory number attributes false None))

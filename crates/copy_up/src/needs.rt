@@ -1,0 +1,87 @@
+// Which parents of a path the upper lacks, and placing them one at a time.
+ghost use Rattle.std.specs.Prelude.{◌≡◌, ◌∷◌, List, ℕ, Some, None, true, false, reverse, IfSome, OnOk, OnErr};
+ghost use Rattle.plain_model.specs.Layers.{Path as Names, held, shows, is_directory, holds_directory};
+ghost use Rattle.layer_tree.specs.Tree.{layer_of, key_at, SameObjects};
+ghost use Rattle.merged_lookup.specs.Merged.{layers_of, parents_fault, way_fault, IsStackOf};
+ghost use Rattle.copy_up.specs.Showing.{ShowsSame, GainsParent, StaysLayers, StaysMount, StaysThin};
+ghost use Rattle.copy_up.specs.Needs.{IsNeed, first_names};
+
+use crate::parents::{directory_in, place_parent};
+use layer_tree::{Entry, Layer, ROOT};
+use merged_lookup::{Layers, Stack, split_last};
+use ov_base::{Name, Path};
+use std::alloc::AllocError;
+
+/// What has to be placed in the upper before it is changed at a path: the directory at so many of the path's first names, or nothing.
+#[derive(Clone, Copy, Debug, PartialEq, Eq)]
+pub enum Need {
+    Directory(usize),
+    Nothing,
+}
+
+/// The topmost parent of a path at which the upper holds no directory.
+pub fn need_at(layers: &Layers, path: &Path) -> Need
+    ensures { IsNeed (layer_of layers.now.upper) path.now result }
+{
+    let Some((_, parents)) = split_last(path) else {
+        return Need::Nothing;
+    };
+    let mut dir = ROOT;
+    for (index, name) in parents.iter().enumerate() {
+        match upper_directory(&layers.upper, dir, name) {
+            Some(key) => dir = key,
+            None => return Need::Directory(index + 1),
+        }
+    }
+    Need::Nothing
+}
+
+// The key of the directory that a layer holds at a name in a directory of its own.
+fn upper_directory(upper: &Layer, dir: usize, name: &Name) -> Option<usize>
+    ensures held { IfSome result (λ key. (p : Names) → key_at upper.now p ≡ Some dir → (key_at upper.now (name.now ∷ p) ≡ Some key) × (holds_directory (held (layer_of upper.now) (name.now ∷ p)) ≡ true)) }
+    ensures none { result ≡ None → (p : Names) → key_at upper.now p ≡ Some dir → holds_directory (held (layer_of upper.now) (name.now ∷ p)) ≡ false }
+{
+    match upper.entry(dir, name) {
+        Some(Entry::Object(key)) => {
+            if upper.is_directory(key) {
+                Some(key)
+            } else {
+                None
+            }
+        }
+        _ => None,
+    }
+}
+
+/// Places the directory that `need_at` tells of, at so many of the path's first names, with the attributes that it shows. It fails only
+/// for want of memory, and changes nothing then; what is shown stays the same in each case.
+pub fn place_dir(layers: &mut Layers, path: &Path, count: usize) -> Result<(), AllocError>
+    requires shown { parents_fault (layers_of layers.old) path.now ≡ None }
+    requires needed { IsNeed (layer_of layers.old.upper) path.now (Need.Directory count) }
+    ensures same { ShowsSame layers.old layers.new }
+    ensures placed { OnOk result (GainsParent layers.old layers.new (first_names count path.now)) }
+    ensures unchanged { OnErr result (SameObjects (layer_of layers.old.upper) (layer_of layers.new.upper)) }
+    ensures keeps { StaysLayers layers.old layers.new }
+    ensures mounts { StaysMount layers.old layers.new }
+    ensures thin { StaysThin layers.old layers.new }
+{
+    let names = &path.names()[..count];
+    let Some((name, parents)) = names.split_last() else {
+        unreachable!()
+    };
+    let parent = directory_at(layers, parents);
+    place_parent(layers, &parent, name)?;
+    Ok(())
+}
+
+// The merged directory at names that show directories from the root down.
+fn directory_at(layers: &Layers, names: &[Name]) -> Stack
+    requires { way_fault (layers_of layers.now) (reverse names.now) ≡ None }
+    ensures { IsStackOf layers.now (reverse names.now) result }
+{
+    let mut stack = layers.root();
+    for name in names {
+        stack = directory_in(layers, &stack, name);
+    }
+    stack
+}

@@ -1,0 +1,109 @@
+// Directories that only lower layers have, placed in the upper.
+ghost use Rattle.std.specs.Prelude.{◌≡◌, ◌↔◌, ◌∷◌, List, ℕ, Some, None, true, false, reverse, IfOk, OnOk, OnErr};
+ghost use Rattle.ov_base.specs.declared.attributes.Attributes.{Attributes};
+ghost use Rattle.plain_model.specs.Layers as held;
+ghost use Rattle.plain_model.specs.Layers.{Path, shows, is_directory, IsLayer};
+ghost use Rattle.layer_tree.specs.Tree.{layer_of, inode_at, SetsPath, SameObjects};
+ghost use Rattle.merged_lookup.specs.Merged.{layers_of, way_fault, top_of, IsStackOf, ShowsDirectory};
+ghost use Rattle.copy_up.specs.Showing.{ShowsSame, HasPlace, GainsParent, Stays, StaysLayers, StaysMount, StaysThin};
+
+use layer_tree::{Layer, Marks, Node, Object};
+use merged_lookup::{Found, Layers, Place, Stack};
+use ov_base::{Attributes, Name};
+use std::alloc::{AllocError, Global};
+
+/// The merged directory at these names from the root down, where the upper has one. Those that it lacks are placed first, from the
+/// root down, with the attributes that they show. It fails only for want of memory; what is shown stays the same in each case.
+pub fn place_parents(layers: &mut Layers, names: &[Name]) -> Result<Stack, AllocError>
+    requires { way_fault (layers_of layers.old) (reverse names.now) ≡ None }
+    ensures same { ShowsSame layers.old layers.new }
+    ensures stack { IfOk result (λ s. IsStackOf layers.new (reverse names.now) s) }
+    ensures upper { IfOk result (λ s. (top_of s.places.items).layer ≡ 0) }
+    ensures keeps { StaysLayers layers.old layers.new }
+    ensures mounts { StaysMount layers.old layers.new }
+    ensures thin { StaysThin layers.old layers.new }
+    ensures names { (p : Path) (k : ℕ) → (held.held (layer_of layers.new.upper) p ≡ Some (held.Named k)) ↔ (held.held (layer_of layers.old.upper) p ≡ Some (held.Named k)) }
+    ensures inodes { (k : ℕ) → inode_at layers.new.upper k ≡ inode_at layers.old.upper k }
+{
+    let mut stack = layers.root();
+    for name in names {
+        stack = place_parent(layers, &stack, name)?;
+    }
+    Ok(stack)
+}
+
+// The merged directory at a name of one that the upper has, where it is placed if the upper lacks it.
+pub(crate) fn place_parent(
+    layers: &mut Layers,
+    parent: &Stack,
+    name: &Name,
+) -> Result<Stack, AllocError>
+    requires shown { (p : Path) × IsStackOf layers.old p parent.now × (is_directory (shows 0 (layers_of layers.old) (name.now ∷ p)) ≡ true) }
+    requires upper { (top_of parent.now.places.items).layer ≡ 0 }
+    ensures same { ShowsSame layers.old layers.new }
+    ensures stack { IfOk result (λ s. (p : Path) → IsStackOf layers.old p parent.now → IsStackOf layers.new (name.now ∷ p) s) }
+    ensures upper { IfOk result (λ s. (top_of s.places.items).layer ≡ 0) }
+    ensures stays { Stays layers.old layers.new }
+    ensures placed { OnOk result ((p : Path) → IsStackOf layers.old p parent.now → held.holds_directory (held.held (layer_of layers.old.upper) (name.now ∷ p)) ≡ false → GainsParent layers.old layers.new (name.now ∷ p)) }
+    ensures unchanged { OnErr result (SameObjects (layer_of layers.old.upper) (layer_of layers.new.upper)) }
+{
+    let found = directory_in(layers, parent, name);
+    let place = found.top();
+    if place.layer == 0 {
+        return Ok(found);
+    }
+    let attributes = attributes_at(layers, place)?;
+    let dir = parent.top();
+    insert_directory(&mut layers.upper, dir.key, *name, attributes, false)?;
+    let placed = directory_in(layers, parent, name);
+    Ok(placed)
+}
+
+// The merged directory that is shown at a name.
+pub(crate) fn directory_in(layers: &Layers, parent: &Stack, name: &Name) -> Stack
+    requires { (p : Path) × IsStackOf layers.now p parent.now × (is_directory (shows 0 (layers_of layers.now) (name.now ∷ p)) ≡ true) }
+    ensures { (p : Path) → IsStackOf layers.now p parent.now → ShowsDirectory layers.now (name.now ∷ p) result.places.items }
+{
+    match layers.step(parent, name) {
+        Some(Found::Directory(stack)) => stack,
+        _ => unreachable!(),
+    }
+}
+
+// A copy of the attributes of a directory.
+fn attributes_at(layers: &Layers, place: Place) -> Result<Attributes, AllocError>
+    requires { (p : Path) × (a : Attributes) × (shows 0 (layers_of layers.now) p ≡ Some (held.Folder place.layer place.key a)) }
+    ensures { IfOk result (λ copy. (p : Path) (a : Attributes) → shows 0 (layers_of layers.now) p ≡ Some (held.Folder place.layer place.key a) → copy ≡ a) }
+{
+    let Some(layer) = layers.layer(place.layer) else {
+        unreachable!()
+    };
+    layer.lawful();
+    match layer.node(place.key) {
+        Some(Node::Directory(directory)) => Ok(directory.attributes.clone()?),
+        _ => unreachable!(),
+    }
+}
+
+/// Puts a directory without a redirect at a name of a directory at which no object stands.
+pub fn insert_directory(
+    upper: &mut Layer,
+    dir: usize,
+    name: Name,
+    attributes: Attributes,
+    opaque: bool,
+) -> Result<(), AllocError>
+    requires { (p : Path) × HasPlace (layer_of upper.old) dir name p }
+    ensures sets { OnOk result ((p : Path) → HasPlace (layer_of upper.old) dir name p → (key : ℕ) × SetsPath (layer_of upper.old) (layer_of upper.new) (name ∷ p) (held.Directory key attributes opaque None)) }
+    ensures unchanged { OnErr result (SameObjects (layer_of upper.old) (layer_of upper.new)) }
+    ensures keeps { IsLayer (layer_of upper.old) → IsLayer (layer_of upper.new) }
+    ensures inodes { (key : ℕ) → inode_at upper.new key ≡ inode_at upper.old key }
+{
+    upper.lawful();
+    let marks = Marks {
+        opaque,
+        redirect: None,
+    };
+    upper.insert(dir, name, Object::Directory(attributes, marks))?;
+    Ok(())
+}

@@ -1,0 +1,91 @@
+-- A file or link that is made in a directory whose missing parents were placed.
+use Rattle.std.proofs.Common.{◌≡◌, ◌↔◌, ℕ, cond, List, [], ◌∷◌, ◌++◌, Option, None, Some, refl, sym, ap, ◌∙◌, subst, length, nat_lt, nat_eq}
+use Rattle.std.specs.Option.{option_and_then}
+use Rattle.ov_base.specs.declared.attributes.Attributes.{Attributes}
+use Rattle.ov_base.specs.declared.bytes.Content.{Content}
+use Rattle.ov_base.specs.declared.bytes.Content.TheVariants as content
+use Rattle.plain_model.specs.Layers.{Name, Path, Named, Inode, Layer, held, shows, same_path, IsLayer, AreLayers}
+use Rattle.plain_model.specs.Tree.{IsThin, Own, SeenLeaf, merged}
+use Rattle.ov_base.specs.declared.errno.Errno.{Errno}
+use Rattle.ov_base.specs.declared.errno.Errno.TheVariants as errno
+use Rattle.plain_model.specs.Refusals.{when, has_nul}
+use Rattle.mount_laws.specs.Looks.{or_else}
+use Rattle.mount_laws.specs.Leaves.{PlacesLeaf, GainsLeaf, MakesLink, symlink_fault}
+use Rattle.mount_laws.proofs.Places.{longer}
+use Rattle.mount_laws.proofs.Alters.{law_of_thin, law_of_placed_leaf}
+use Rattle.mount_laws.proofs.Links.{law_of_link_made}
+use Rattle.layer_tree.specs.Tree.{Tree, layer_of, inode_of, Inserts, SetsPath}
+use Rattle.layer_tree.specs.declared.node.Object.TheVariants as object
+use Rattle.merged_lookup.specs.declared.layers.Layers.{Layers}
+use Rattle.merged_lookup.specs.Merged.{layers_of, lowers_of}
+use Rattle.copy_up.specs.Showing.{ShowsSame, StaysLayers, StaysThin, HasPlace}
+use Rattle.copy_up.proofs.Placing.{nothing-held}
+use Rattle.copy_up.proofs.Keeping.{lowers-same}
+use Rattle.make_remove.specs.Making.{new_attributes, vacancy_fault}
+use Rattle.make_remove.specs.Leaves.{MakesLeaf, SymlinkSteps, target_fault}
+use Rattle.make_remove.proofs.Making.{free-directory}
+
+-- a new inode of one name
+abbrev pub leaf_of : Content → Attributes → Inode
+leaf_of c a = record { content = c; attributes = a; links = 1 }
+
+-- a layer that gets a file or link, by its keys
+pub leaf-placed : (u v : Tree) (dir : ℕ) (n : Name) (p : Path) (key : ℕ) (c : Content) (a : Attributes) → HasPlace (layer_of u) dir n p → SetsPath (layer_of u) (layer_of v) (n ∷ p) (Named key) → Inserts u v dir n (object.Inode c a) key → PlacesLeaf (layer_of u) (layer_of v) (n ∷ p) key (leaf_of c a)
+leaf-placed u v dir n p key c a place sets i = record {
+  here = sets.there;
+  beneath = λ k r. sets.elsewhere (k ∷ r ++ (n ∷ p)) (λ e. longer (n ∷ p) k r (sym e)) ∙ nothing-held u (n ∷ p) (free-directory (held (layer_of u) (n ∷ p)) place.free) k r;
+  elsewhere = λ x out. sets.elsewhere x (λ e. out [] e);
+  free = ap (option_and_then inode_of) i.fresh;
+  inode = i.inode;
+  one = refl;
+  inodes = i.inodes;
+}
+
+-- what is gained over an upper whose missing parents were placed is gained over the upper before that
+gains-since : (start old : Layers) (V : Layer) (p : Path) (c : Content) (a : Attributes) → ShowsSame start old → ((x : Path) (k : ℕ) → (held (layer_of old.upper) x ≡ Some (Named k)) ↔ (held (layer_of start.upper) x ≡ Some (Named k))) → GainsLeaf (layer_of old.upper) V (lowers_of old) p c a → GainsLeaf (layer_of start.upper) V (lowers_of start) p c a
+gains-since start old V p c a same names g =
+    let low : lowers_of old ≡ lowers_of start = lowers-same start old same.lowers in
+    record {
+      layers = subst (λ (Ls : List Layer). AreLayers (V ∷ Ls)) low g.layers;
+      number = g.number;
+      here = g.here;
+      alone = g.alone;
+      sights = λ q. sym (ap (λ Ls. merged V Ls q) low) ∙ g.sights q ∙ ap (cond (same_path p q) (Some (SeenLeaf c a Own 1))) (same.sights q);
+      names = λ q k ne. (λ h. (names q k).0 ((g.names q k ne).0 h), λ h. (g.names q k ne).1 ((names q k).1 h));
+    }
+
+module _ (start old new : Layers) (same : ShowsSame start old) (stays : StaysLayers start old) (names : (x : Path) (k : ℕ) → (held (layer_of old.upper) x ≡ Some (Named k)) ↔ (held (layer_of start.upper) x ≡ Some (Named k))) (low : new.lowers ≡ old.lowers) (keep : IsLayer (layer_of old.upper) → IsLayer (layer_of new.upper)) (n : Name) (q : Path) (key : ℕ) (c : Content) (a : Attributes) (absent : shows 0 (layers_of start) (n ∷ q) ≡ None) (placed : PlacesLeaf (layer_of old.upper) (layer_of new.upper) (n ∷ q) key (leaf_of c a)) where
+  makes-at : MakesLeaf start new (n ∷ q) c a
+  makes-at = record {
+    lowers = low ∙ same.lowers;
+    number = key;
+    held_there = placed.here;
+    inode = placed.inode;
+    gains = λ h. gains-since start old (layer_of new.upper) (n ∷ q) c a same names (law_of_placed_leaf (layer_of old.upper) (layer_of new.upper) (lowers_of old) (stays h) (keep (stays h).0, (stays h).1) n q key (leaf_of c a) (same.absent (n ∷ q) absent) placed);
+  }
+
+  thin-at : StaysThin start old → StaysThin start new
+  thin-at thin h = subst (λ (Ls : List Layer). IsThin (layer_of new.upper) Ls) (sym (lowers-same old new low)) ((law_of_thin (layer_of old.upper) (layer_of new.upper) (lowers_of old) (thin h) n q).leaf key (leaf_of c a) placed)
+
+-- a file or link at a path that ends in the name
+pub leaf-made : (start old new : Layers) → ShowsSame start old → StaysLayers start old → ((x : Path) (k : ℕ) → (held (layer_of old.upper) x ≡ Some (Named k)) ↔ (held (layer_of start.upper) x ≡ Some (Named k))) → new.lowers ≡ old.lowers → (IsLayer (layer_of old.upper) → IsLayer (layer_of new.upper)) → (p : Path) (n : Name) (q : Path) (key : ℕ) (c : Content) (a : Attributes) → p ≡ n ∷ q → shows 0 (layers_of start) p ≡ None → PlacesLeaf (layer_of old.upper) (layer_of new.upper) (n ∷ q) key (leaf_of c a) → MakesLeaf start new p c a
+leaf-made start old new same stays names low keep p n q key c a e absent placed =
+    subst (λ (z : Path). MakesLeaf start new z c a) (sym e) (makes-at start old new same stays names low keep n q key c a (sym (ap (shows 0 (layers_of start)) e) ∙ absent) placed)
+
+pub leaf-thin : (start old new : Layers) → ShowsSame start old → StaysLayers start old → ((x : Path) (k : ℕ) → (held (layer_of old.upper) x ≡ Some (Named k)) ↔ (held (layer_of start.upper) x ≡ Some (Named k))) → new.lowers ≡ old.lowers → (IsLayer (layer_of old.upper) → IsLayer (layer_of new.upper)) → (p : Path) (n : Name) (q : Path) (key : ℕ) (c : Content) (a : Attributes) → p ≡ n ∷ q → shows 0 (layers_of start) p ≡ None → PlacesLeaf (layer_of old.upper) (layer_of new.upper) (n ∷ q) key (leaf_of c a) → StaysThin start old → StaysThin start new
+leaf-thin start old new same stays names low keep p n q key c a e absent placed thin = thin-at start old new same stays names low keep n q key c a (sym (ap (shows 0 (layers_of start)) e) ∙ absent) placed thin
+
+or-chain : (a b c d : Option Errno) → or_else a (or_else b c) ≡ None → d ≡ None → or_else a (or_else b (or_else c d)) ≡ None
+or-chain None None None d h e = e
+or-chain None None (Some x) d h e = h
+or-chain None (Some x) c d h e = h
+or-chain (Some x) b c d h e = h
+
+-- a link with a target that it may have, where something may be made
+pub symlink-fine : (Ls : List Layer) (target : List ℕ) (p : Path) → target_fault target ≡ None → vacancy_fault Ls p ≡ None → symlink_fault Ls target p ≡ None
+symlink-fine Ls target p h e = or-chain (when (nat_lt 4095 (length target)) errno.ENAMETOOLONG) (when (nat_eq (length target) 0) errno.ENOENT) (when (has_nul target) errno.EINVAL) (vacancy_fault Ls p) h e
+
+-- symlink is the machine's step where the link is made
+pub symlink-steps : (old new : Layers) (target : List ℕ) (p : Path) → symlink_fault (layers_of old) target p ≡ None → MakesLeaf old new p (content.SymbolicLink target) (new_attributes 0o777) → SymlinkSteps old new target p
+symlink-steps old new target p fine made s h c =
+    subst (λ (Ls : List Layer). MakesLink (layer_of new.upper) Ls s c target p) (sym (lowers-same old new made.lowers)) (law_of_link_made (layer_of old.upper) (layer_of new.upper) (lowers_of old) s h c target p fine (made.gains h.layers))

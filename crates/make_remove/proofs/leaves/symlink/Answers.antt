@@ -1,0 +1,13 @@
+use Rattle.std.proofs.Common.{subst}
+use Rattle.ov_base.specs.declared.attributes.Attributes.{Attributes}
+use Rattle.ov_base.specs.declared.bytes.Content.TheVariants as content
+use Rattle.merged_lookup.specs.Merged.{layers_of}
+use Rattle.make_remove.specs.Leaves.{MakesLeaf}
+use Rattle.make_remove.proofs.LeafSteps.{symlink-fine, symlink-steps}
+use Rattle.make_remove.proofs.leaves.symlink.Goals as goal
+
+pub returns-clause-steps : goal.returns-clause-steps
+returns-clause-steps c =
+    symlink-steps c.args.layers.now c.make_leaf.new.layers c.args.target c.args.path.now
+    (symlink-fine (layers_of c.args.layers.now) c.args.target c.args.path.now c.in_default.ensures c.in_default-vacant.ensures.cases)
+    (subst (λ (a : Attributes). MakesLeaf c.args.layers.now c.make_leaf.new.layers c.args.path.now (content.SymbolicLink c.args.target) a) c.new_attributes-attributes.ensures c.in_ok-make_leaf.ensures.made)

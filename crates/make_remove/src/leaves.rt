@@ -1,0 +1,149 @@
+// `symlink`, and making a file.
+ghost use Rattle.std.specs.Prelude.{◌≡◌, ◌∷◌, [], ℕ, Some, None, IfOk, IfErr, OnOk, OnErr, MatchResult};
+ghost use Rattle.plain_model.specs.Layers.{Path as Names, shows, AreLayers, IsLayer};
+ghost use Rattle.plain_model.specs.Refusals as rule;
+ghost use Rattle.mount_laws.specs.Leaves.{PlacesLeaf, symlink_fault};
+ghost use Rattle.layer_tree.specs.Tree.{layer_of, inode_at, SameObjects};
+ghost use Rattle.merged_lookup.specs.Merged.{layers_of, parents_fault};
+ghost use Rattle.copy_up.specs.Showing.{ShowsSame, HasPlace, StaysLayers, StaysMount, StaysThin};
+ghost use Rattle.make_remove.specs.Making as made;
+ghost use Rattle.make_remove.specs.Making.{mkdir_fault};
+ghost use Rattle.make_remove.specs.Leaves.{MakesLeaf, SymlinkSteps, target_fault};
+ghost use Rattle.ov_base.specs.declared.bytes.Content.TheVariants as content;
+
+use crate::objects::{MODE_BITS, new_attributes, vacant};
+use copy_up::place_parents;
+use layer_tree::{Layer, Object};
+use merged_lookup::{Layers, split_last};
+use ov_base::{Attributes, Bytes, Content, Errno, Name, Path};
+use std::alloc::{AllocError, Global};
+
+/// The most bytes of a link's target, as Linux's `PATH_MAX` without the NUL.
+const TARGET_MAX: usize = 4095;
+
+/// The mode of a symbolic link.
+const LINK_MODE: u32 = 0o777;
+
+/// Makes a symbolic link of this target, with mode 0777, owner 0, group 0 and no user attributes, as symlink(2). A target over 4,095
+/// bytes is ENAMETOOLONG, an empty one ENOENT, one with a NUL EINVAL; then the way to the last name is refused as `mkdir`'s, and
+/// where something is shown it is EEXIST. A refusal changes nothing, and want of memory changes nothing that is shown.
+pub fn symlink(
+    alloc: Global,
+    layers: &mut Layers,
+    target: Bytes,
+    path: &Path,
+) -> Result<Result<(), Errno>, AllocError>
+    ensures refused { IfOk result (λ r. IfErr r (λ e. symlink_fault (layers_of layers.old) target path.now ≡ Some e)) }
+    ensures unchanged { IfOk result (λ r. OnErr r (layers.new ≡ layers.old)) }
+    ensures allowed { IfOk result (λ r. OnOk r (symlink_fault (layers_of layers.old) target path.now ≡ None)) }
+    ensures made { IfOk result (λ r. OnOk r (MakesLeaf layers.old layers.new path.now (content.SymbolicLink target) (made.new_attributes 0o777))) }
+    ensures steps { IfOk result (λ r. OnOk r (SymlinkSteps layers.old layers.new target path.now)) }
+    ensures no_memory { OnErr result (ShowsSame layers.old layers.new) }
+    ensures mounts { OnErr result (StaysMount layers.old layers.new) }
+    ensures keeps { StaysLayers layers.old layers.new }
+    ensures thin { StaysThin layers.old layers.new }
+{
+    if let Err(errno) = check_target(&target) {
+        return Ok(Err(errno));
+    }
+    if let Err(errno) = vacant(layers, path) {
+        return Ok(Err(errno));
+    }
+    let attributes = new_attributes(alloc, LINK_MODE);
+    make_leaf(layers, path, Content::SymbolicLink(target), attributes)?;
+    Ok(Ok(()))
+}
+
+// Whether a link may have this target.
+fn check_target(target: &Bytes) -> Result<(), Errno>
+    ensures { MatchResult result (λ _. target_fault target.now ≡ None) (λ e. target_fault target.now ≡ Some e) }
+{
+    let bytes = target.as_slice();
+    if bytes.len() > TARGET_MAX {
+        return Err(Errno::ENAMETOOLONG);
+    }
+    if bytes.is_empty() {
+        return Err(Errno::ENOENT);
+    }
+    if has_nul(bytes) {
+        return Err(Errno::EINVAL);
+    }
+    Ok(())
+}
+
+fn has_nul(bytes: &[u8]) -> bool
+    ensures { result ≡ rule.has_nul bytes.now }
+{
+    bytes.iter().any(|byte| *byte == 0)
+}
+
+/// Makes an empty file with this mode, owner 0, group 0 and no user attributes. It is refused as `mkdir` is. A refusal changes nothing,
+/// and want of memory changes nothing that is shown.
+pub fn create(
+    alloc: Global,
+    layers: &mut Layers,
+    path: &Path,
+    mode: u32,
+) -> Result<Result<(), Errno>, AllocError>
+    ensures refused { IfOk result (λ r. IfErr r (λ e. mkdir_fault (layers_of layers.old) path.now mode ≡ Some e)) }
+    ensures unchanged { IfOk result (λ r. OnErr r (layers.new ≡ layers.old)) }
+    ensures allowed { IfOk result (λ r. OnOk r (mkdir_fault (layers_of layers.old) path.now mode ≡ None)) }
+    ensures made { IfOk result (λ r. OnOk r (MakesLeaf layers.old layers.new path.now (content.File []) (made.new_attributes mode))) }
+    ensures no_memory { OnErr result (ShowsSame layers.old layers.new) }
+    ensures mounts { OnErr result (StaysMount layers.old layers.new) }
+    ensures keeps { StaysLayers layers.old layers.new }
+    ensures thin { StaysThin layers.old layers.new }
+{
+    if mode > MODE_BITS {
+        return Ok(Err(Errno::EINVAL));
+    }
+    if let Err(errno) = vacant(layers, path) {
+        return Ok(Err(errno));
+    }
+    let content = Content::File(Bytes::new(alloc));
+    make_leaf(layers, path, content, new_attributes(alloc, mode))?;
+    Ok(Ok(()))
+}
+
+// Makes a file or symbolic link where nothing is shown.
+fn make_leaf(
+    layers: &mut Layers,
+    path: &Path,
+    content: Content,
+    attributes: Attributes,
+) -> Result<(), AllocError>
+    requires parents { parents_fault (layers_of layers.old) path.now ≡ None }
+    requires absent { shows 0 (layers_of layers.old) path.now ≡ None }
+    ensures made { OnOk result (MakesLeaf layers.old layers.new path.now content attributes) }
+    ensures no_memory { OnErr result (ShowsSame layers.old layers.new) }
+    ensures mounts { OnErr result (StaysMount layers.old layers.new) }
+    ensures keeps { StaysLayers layers.old layers.new }
+    ensures thin { StaysThin layers.old layers.new }
+{
+    let Some((name, parents)) = split_last(path) else {
+        unreachable!()
+    };
+    let parent = place_parents(layers, parents)?;
+    let dir = parent.top();
+    insert_leaf(&mut layers.upper, dir.key, *name, content, attributes)?;
+    Ok(())
+}
+
+// Puts a new file or symbolic link at a name of a directory at which no object stands.
+fn insert_leaf(
+    upper: &mut Layer,
+    dir: usize,
+    name: Name,
+    content: Content,
+    attributes: Attributes,
+) -> Result<(), AllocError>
+    requires { (p : Names) × HasPlace (layer_of upper.old) dir name p }
+    ensures placed { OnOk result ((p : Names) → HasPlace (layer_of upper.old) dir name p → (key : ℕ) × PlacesLeaf (layer_of upper.old) (layer_of upper.new) (name ∷ p) key (record { content = content; attributes = attributes; links = 1 })) }
+    ensures unchanged { OnErr result (SameObjects (layer_of upper.old) (layer_of upper.new)) }
+    ensures inodes { OnErr result ((key : ℕ) → inode_at upper.new key ≡ inode_at upper.old key) }
+    ensures keeps { IsLayer (layer_of upper.old) → IsLayer (layer_of upper.new) }
+{
+    upper.lawful();
+    upper.insert(dir, name, Object::Inode(content, attributes))?;
+    Ok(())
+}
