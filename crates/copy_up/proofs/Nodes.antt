@@ -59,7 +59,8 @@ object-node j None h = absurd (false≢true h)
 object-node j (Some (node.Directory d)) h = refl
 object-node j (Some (node.Inode i)) h = refl
 
-free-entry : (t : Tree) (e : Option Entry) → ((j : ℕ) → e ≡ Some (bound.Object j) → IsSome (get t j)) → is_object (option_and_then (seen_entry t) e) ≡ false → option_and_then object_key e ≡ None
+-- a name that shows no object leads to none
+pub free-entry : (t : Tree) (e : Option Entry) → ((j : ℕ) → e ≡ Some (bound.Object j) → IsSome (get t j)) → is_object (option_and_then (seen_entry t) e) ≡ false → option_and_then object_key e ≡ None
 free-entry t None present h = refl
 free-entry t (Some bound.Whiteout) present h = refl
 free-entry t (Some (bound.Object j)) present h = absurd (false≢true (sym h ∙ object-node j (get t j) (present j refl)))

@@ -44,6 +44,7 @@ directory_unnamed old new dir name e tree u no_object key led is d n again =
 
 -- a key is freed to which no name leads and which has no objects in it
 module _ (old new : Tree) (key : ℕ) (updates : Updates old new key None) (not_root : key ≢ ROOT) (unnamed : (dir : ℕ) (name : List ℕ) → child old dir name ≢ Some key) (bare : (name : List ℕ) → child old key name ≡ None) where
+  -- nothing stands under the key, and every other has what it had
   pub frees : Frees old new key
   frees =
       record {
@@ -67,6 +68,7 @@ module _ (old new : Tree) (key : ℕ) (updates : Updates old new key None) (not_
       nothing_there : child new key n ≡ None
       nothing_there = ap (λ o. option_and_then object_key (option_and_then (λ table. entry_in table n) (option_and_then table_of o))) updates.changed
 
+  -- each path leads where it led
   pub same_keys : (p : Path) → key_at new p ≡ key_at old p
   same_keys [] = refl
   same_keys (n ∷ p) = ap (option_and_then (λ k. child new k n)) (same_keys p) ∙ of (key_at old p)
@@ -84,6 +86,7 @@ module _ (old new : Tree) (key : ℕ) (updates : Updates old new key None) (not_
       of None f = absurd (cc)
       of (Some j) f = unnamed j n (f ∙ ap Some e)
 
+  -- at each path stands what stood there
   same_entries : (p : Path) → entry_at new p ≡ entry_at old p
   same_entries [] = refl
   same_entries (n ∷ p) = ap (option_and_then (λ k. entry new k n)) (same_keys p) ∙ of (key_at old p) refl
@@ -92,6 +95,7 @@ module _ (old new : Tree) (key : ℕ) (updates : Updates old new key None) (not_
       of None at = refl
       of (Some k) at = frees.entries k n (not_reached p k at)
 
+  -- at each path the same is held
   pub SameObjects-freed : SameObjects (layer_of old) (layer_of new)
   SameObjects-freed [] = ap (λ o. Some (layers.Directory ROOT (directory_attributes o) false None)) (frees.seen ROOT (λ e. not_root (sym e)))
   SameObjects-freed (n ∷ p) = ap (option_and_then (seen_entry new)) (same_entries (n ∷ p)) ∙ of (entry_at old (n ∷ p)) refl
@@ -111,6 +115,7 @@ module _ (old new : Tree) (key : ℕ) (updates : Updates old new key None) (not_
         | inr off ↦ sym (frees.inodes k off) ∙ is
       ]
 
+  -- the tree after it
   pub IsTree-freed : IsTree old → IsTree new
   IsTree-freed tree =
       record {
@@ -132,5 +137,6 @@ module _ (old new : Tree) (key : ℕ) (updates : Updates old new key None) (not_
       named_other : (d : ℕ) (n : List ℕ) (k : ℕ) → child old d n ≡ Some k → k ≢ key
       named_other d n k was e = unnamed d n (was ∙ ap Some e)
 
+  -- the layer after it
   pub IsLayer-freed : IsTree old → IsLayer (layer_of old) → IsLayer (layer_of new)
   IsLayer-freed tree = IsLayer-fewer (layer_of old) (layer_of new) SameObjects-freed inode_was (held_together new (IsTree-freed tree))

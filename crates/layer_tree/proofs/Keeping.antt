@@ -63,9 +63,11 @@ module _ (old new : Tree) (dir : ℕ) (name : List ℕ) (e : Option Entry) (u : 
   entry_here : entry_at old (name ∷ path) ≡ entry old dir name
   entry_here = ap (option_and_then (λ key. entry old key name)) at
 
+  -- the path leads to what the name leads to
   key_here : key_at old (name ∷ path) ≡ child old dir name
   key_here = ap (option_and_then (λ key. child old key name)) at
 
+  -- below the name no path leads to a key
   no_key_below : (n : List ℕ) (s : Path) → key_at old (n ∷ (s ++ name ∷ path)) ≡ None
   no_key_below n [] = ap (option_and_then (λ key. child old key n)) key_here ∙ of (child old dir name) refl
     where
@@ -74,15 +76,18 @@ module _ (old new : Tree) (dir : ℕ) (name : List ℕ) (e : Option Entry) (u : 
       of (Some key) f = bare key f n
   no_key_below n (m ∷ s) = ap (option_and_then (λ key. child old key n)) (no_key_below m s)
 
+  -- below the name no path names an inode
   none_below : (n : List ℕ) (s : Path) (k : ℕ) → held (layer_of old) (n ∷ (s ++ name ∷ path)) ≢ Some (Named k)
   none_below n s k h =
       let found : key_at old (n ∷ (s ++ name ∷ path)) ≡ Some k = named_key old n (s ++ name ∷ path) k h in
       let none : key_at old (n ∷ (s ++ name ∷ path)) ≡ None = no_key_below n s in
       absurd (cc)
 
+  -- the name leads to an inode that its path names
   led : (k : ℕ) → Names (layer_of old) k (name ∷ path) → child old dir name ≡ Some k
   led k h = sym key_here ∙ named_key old name path k h
 
+  -- the path names an inode to which the name leads
   named : (k : ℕ) (i : layers.Inode) → inode_at old k ≡ Some i → child old dir name ≡ Some k → Names (layer_of old) k (name ∷ path)
   named k i is f = ap (option_and_then (seen_entry old)) entry_here ∙ of (entry old dir name) f
     where
@@ -103,6 +108,7 @@ module _ (old new : Tree) (dir : ℕ) (name : List ℕ) (e : Option Entry) (u : 
       of None is f = refl
       of (Some i) is f = absurd (off (named k i is f))
 
+  -- the layer after it
   pub IsLayer-unbinds : (o : Option layers.Object) → ((k : ℕ) → o ≢ Some (Named k)) → ReplacesPath (layer_of old) (layer_of new) (name ∷ path) o → IsTree new → IsLayer (layer_of old) → IsLayer (layer_of new)
   IsLayer-unbinds o no_name replaces tree = IsLayer-replaced (layer_of old) (layer_of new) (name ∷ path) o replaces no_name none_below (λ k h. u.unlinked k (led k h)) inode_left (held_together new tree)
 

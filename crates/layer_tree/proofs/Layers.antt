@@ -42,6 +42,7 @@ none-twice : IsDistinct same_path []
 unfolding IsDistinct
 none-twice = tt
 
+-- a test or a later one holds
 or-later : (a b : Bool) → (a ≡ false → b ≡ true) → a || b ≡ true
 or-later true b h = refl
 or-later false b h = h refl
@@ -132,12 +133,15 @@ module _ (old new : Layer) (path : Path) (o : Option layers.Object) (replaces : 
         | inr off ↦ replaces.elsewhere w off ∙ h.0
       ]
 
+  -- an inode that the path named has one name less
   links-less : (k n : ℕ) → Names old k path → AreLinks old k n → AreLinks new k (n - 1)
   links-less k n named a = shuts new k (n - 1) (count-less Path same_path paths_tell (Names old k) (Names new k) n path named (names_left k) (opens old k n a))
 
+  -- any other has as many as it had
   links-kept : (k n : ℕ) → (Names old k path → ⊥) → AreLinks old k n → AreLinks new k n
   links-kept k n off = links-same old new k n (λ w. ((λ h. (names_left k w).1 (h, λ f. off (sym (ap (held old) f) ∙ h))), (λ h. ((names_left k w).0 h).0)))
 
+  -- with the path the list of all paths has all of them still
   finite-replaced : (ps : List Path) → HasAllPaths old ps → HasAllPaths new ([] ∷ path ∷ ps)
   finite-replaced ps all = has_all new path ps others
     where
@@ -151,6 +155,7 @@ module _ (old new : Layer) (path : Path) (o : Option layers.Object) (replaces : 
         | inr away ↦ all (n ∷ p) (sym (ap is_some (replaces.elsewhere (n ∷ p) away)) ∙ h)
       ]
 
+  -- the layer after it
   pub IsLayer-replaced : ((k : ℕ) → Names old k path → new.inodes k ≡ option_map with_less (old.inodes k)) → ((k : ℕ) → (Names old k path → ⊥) → new.inodes k ≡ old.inodes k) → IsHeldTogether new → IsLayer old → IsLayer new
   IsLayer-replaced less same together layer =
       record {
@@ -206,9 +211,11 @@ module _ (old new : Layer) (path : Path) (o : layers.Object) (key : ℕ) (sets :
           back (inl f) = ap (held new) f ∙ sets.there ∙ ap Some is
           back (inr h) = absurd (unnamed w h)
 
+  -- with the path the list of all paths has all of them still
   finite-set : (ps : List Path) → HasAllPaths old ps → HasAllPaths new ([] ∷ path ∷ ps)
   finite-set ps all = has_all new path ps (λ n p off h. all (n ∷ p) (sym (ap is_some (sets.elsewhere (n ∷ p) off)) ∙ h))
 
+  -- the layer after it
   pub IsLayer-set : ((i : layers.Inode) → new.inodes key ≡ Some i → (o ≡ Named key) × (i.links ≡ 1)) → ((k : ℕ) → k ≢ key → (new.inodes k ≡ old.inodes k) × (o ≢ Named k)) → IsHeldTogether new → IsLayer old → IsLayer new
   IsLayer-set first same together layer =
       record {

@@ -158,6 +158,13 @@ impl Layers {
     {
         !descend(self, 1, below_upper(parent.places()), name).is_empty()
     }
+
+    /// Whether the lower layers show something at a name of a merged directory, whatever the upper has there.
+    pub fn lowers_show(&self, parent: &Stack, name: &Name) -> bool
+        ensures { (p : Path) → IsStackOf self.now p parent.now → result ≡ is_some (under (layer_of self.now.upper) (lowers_of self.now) name.now p) }
+    {
+        first_object(self, below_upper(parent.places()), name).is_some()
+    }
 }
 
 /// The last name of a path, and the names before it from the root down; none for the root.

@@ -1,4 +1,5 @@
 // The loads, each timed by the monotonic clock.
+use crate::changes::{measure_create, measure_parents, measure_whiteout};
 use crate::trees::{OBJECTS, bare_layer, deep_layer, deep_path, flat_layer, name_of, put_file};
 use dir_listing::names;
 use layer_tree::{Layer, ROOT};
@@ -20,6 +21,12 @@ pub enum Load {
     Insert,
     /// The names of a directory of 10,000, over two layers.
     List,
+    /// A name made and removed in a directory of so many names.
+    Create(usize),
+    /// A lower name removed in a directory of so many names.
+    Whiteout(usize),
+    /// A directory made below four that only a lower layer has.
+    Parents,
 }
 
 impl Load {
@@ -31,6 +38,13 @@ impl Load {
             "walk16" => Some(Load::Walk(LAYERS_MAX)),
             "insert" => Some(Load::Insert),
             "list" => Some(Load::List),
+            "create1k" => Some(Load::Create(1_000)),
+            "create" => Some(Load::Create(OBJECTS)),
+            "create100k" => Some(Load::Create(100_000)),
+            "whiteout1k" => Some(Load::Whiteout(1_000)),
+            "whiteout" => Some(Load::Whiteout(OBJECTS)),
+            "whiteout100k" => Some(Load::Whiteout(100_000)),
+            "parents" => Some(Load::Parents),
             _ => None,
         }
     }
@@ -71,10 +85,14 @@ pub fn measure<C: Clock>(
             let listed = list_often(alloc, &layers, count)?;
             Ok((since(clock, start)?, listed))
         }
+        Load::Create(names) => measure_create(clock, alloc, names, count),
+        Load::Whiteout(names) => measure_whiteout(clock, alloc, names, count),
+        Load::Parents => measure_parents(clock, alloc, count),
     }
 }
 
-fn since<C: Clock>(clock: &C, start: Instant) -> io::Result<u64> {
+/// The nanoseconds since a moment.
+pub fn since<C: Clock>(clock: &C, start: Instant) -> io::Result<u64> {
     Ok(u64::try_from(start.elapsed(clock)?.as_nanos()).unwrap_or(u64::MAX))
 }
 
@@ -141,7 +159,8 @@ fn stacked(alloc: Global, count: usize) -> Result<Layers, AllocError> {
     layered(deep_layer(alloc)?, lowers)
 }
 
-fn layered(upper: Layer, lowers: Vec<Layer>) -> Result<Layers, AllocError> {
+/// An upper layer over 1 to 16 lower ones; other numbers are answered as want of memory is.
+pub fn layered(upper: Layer, lowers: Vec<Layer>) -> Result<Layers, AllocError> {
     if lowers.is_empty() || lowers.len() >= LAYERS_MAX {
         return Err(AllocError);
     }

@@ -1,6 +1,7 @@
 //! Measures look-up, insertion and listing, in nanoseconds an operation.
 #![tactic(auto)]
 
+mod changes;
 mod loads;
 mod trees;
 
@@ -9,7 +10,8 @@ use std::alloc::Global;
 use std::rt::{Clock, Env};
 use std::{env, io};
 
-const USAGE: &str = "usage: overlay_bench find|walk|walk16|insert|list COUNT";
+const USAGE: &str =
+    "usage: overlay_bench find|walk|walk16|insert|list|create|create1k|create100k|whiteout|whiteout1k|whiteout100k|parents COUNT";
 
 // What the command line asks for.
 fn asked<R: Env + AllocGlobal>(rt: &R) -> io::Result<Option<(Load, u32)>> {

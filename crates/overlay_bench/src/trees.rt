@@ -92,6 +92,18 @@ pub fn deep_layer(alloc: Global) -> Result<Layer, AllocError> {
     Ok(layer)
 }
 
+/// A layer of so many chains of four directories, `/n0/n1/n2/n3` and on.
+pub fn chained_layer(alloc: Global, chains: usize) -> Result<Layer, AllocError> {
+    let mut layer = bare_layer(alloc)?;
+    for number in 0..chains {
+        let mut dir = put_directory(alloc, &mut layer, ROOT, name_of(alloc, number)?)?;
+        dir = put_directory(alloc, &mut layer, dir, name_of(alloc, 1)?)?;
+        dir = put_directory(alloc, &mut layer, dir, name_of(alloc, 2)?)?;
+        put_directory(alloc, &mut layer, dir, name_of(alloc, 3)?)?;
+    }
+    Ok(layer)
+}
+
 /// The path `/n1/n2/n3/n4`.
 pub fn deep_path(alloc: Global) -> Result<Path, AllocError> {
     let mut path = Path::root(alloc);

@@ -27,7 +27,10 @@ pub struct Builder {
 
 impl Builder {
     /// A tree of the root alone.
-    pub fn new(alloc: Global, root: Attributes, redirects: bool) -> Result<Builder, AllocError> {
+    pub fn new(alloc: Global, root: Attributes, redirects: bool) -> Result<Builder, AllocError>
+        ensures tree { IfOk result (λ builder. tree_of builder.tree.slots.items ≡ root_alone root) }
+        ensures redirects { IfOk result (λ builder. builder.redirects ≡ redirects) }
+    {
         let mut tree = Tree::new(alloc);
         tree.put(
             Id::root(alloc),

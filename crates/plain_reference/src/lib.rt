@@ -19,3 +19,6 @@ mod walk;
 pub use builder::Builder;
 pub use node::Origin;
 pub use reference::Reference;
+
+#[cfg(test)]
+mod tests;

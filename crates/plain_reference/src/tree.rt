@@ -1,5 +1,5 @@
 // The nodes of the tree by their identities.
-ghost use Rattle.std.specs.Prelude.{◌≡◌, ◌<◌, Some, None, OnOk, OnErr, IfSome, length, drop, position, vec_len};
+ghost use Rattle.std.specs.Prelude.{◌≡◌, ◌<◌, [], Some, None, OnOk, OnErr, IfSome, length, drop, position, vec_len};
 ghost use Rattle.std.specs.Option.{option_copied};
 ghost use Rattle.plain_model.specs.Tree.{same_id, put, lead};
 ghost use Rattle.plain_model.specs.Changes.{change, one_fewer};
@@ -26,7 +26,9 @@ pub struct Tree {
 
 impl Tree {
     /// A tree of no nodes.
-    pub fn new(alloc: Global) -> Tree {
+    pub fn new(alloc: Global) -> Tree
+        ensures { result.slots.items ≡ [] }
+    {
         Tree {
             slots: Vec::new(alloc),
         }
