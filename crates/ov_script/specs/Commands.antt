@@ -1,5 +1,6 @@
 -- The commands of a script's lines, by the number of their words.
 use Rattle.std.specs.Prelude.{ℕ, true, false, ◌&&◌, List, [], ◌∷◌, Option, Some, None, option_map, Result, Ok, Err, codes, if◌then◌else◌}
+use Rattle.std.specs.Option.{option_and_then}
 use Rattle.std.specs.Str.{bytes_eq}
 use Rattle.ov_base.specs.Paths.{path_of_text}
 use Rattle.ov_base.specs.declared.call.Call.{Call}
@@ -12,25 +13,32 @@ use Rattle.ov_script.specs.Words.{words}
 use Rattle.ov_script.specs.declared.script.Command.{Command}
 use Rattle.ov_script.specs.declared.script.Command.TheVariants.{Attach, Detach, Call as CallOf, Layer, Merge}
 use Rattle.ov_script.specs.declared.script.CallText.{CallText}
-use Rattle.ov_script.specs.declared.script.CallText.TheVariants.{Stat, Mkdir, OpenDirectory, ListNames, Close}
+use Rattle.ov_script.specs.declared.script.CallText.TheVariants.{Stat, Readlink, Mkdir, Symlink, Unlink, Rmdir, OpenDirectory, ListNames, Close}
 
 -- what two words come to, if each has its form
 abbrev pub both : {A B C : Type 0} → (A → B → C) → Option A → Option B → Option C
 both f None b = None
 both f (Some a) b = option_map (f a) b
 
--- `stat P`, `close FD`
-abbrev pub call_of_one : List ℕ → List ℕ → Option CallText
-call_of_one name w =
-    if bytes_eq name (codes "stat") then option_map Stat (spelled_word w)
-    else (if bytes_eq name (codes "close") then option_map Close (number_of 10 w) else None)
+-- `stat P`, `readlink P`, `unlink P`, `rmdir P`
+abbrev pub call_of_path : List ℕ → List ℕ → Option CallText
+call_of_path name path =
+    if bytes_eq name (codes "stat") then Some (Stat path)
+    else (if bytes_eq name (codes "readlink") then Some (Readlink path)
+    else (if bytes_eq name (codes "unlink") then Some (Unlink path)
+    else (if bytes_eq name (codes "rmdir") then Some (Rmdir path) else None)))
 
--- `mkdir MODE P`, `list FD N`, `open rd P`, whose mode is 0o644
+-- `close FD`, and the calls of one path
+abbrev pub call_of_one : List ℕ → List ℕ → Option CallText
+call_of_one name w = if bytes_eq name (codes "close") then option_map Close (number_of 10 w) else option_and_then (call_of_path name) (spelled_word w)
+
+-- `mkdir MODE P`, `symlink TARGET P`, `list FD N`, `open rd P`, whose mode is 0o644
 abbrev pub call_of_two : List ℕ → List ℕ → List ℕ → Option CallText
 call_of_two name v w =
     if bytes_eq name (codes "mkdir") then both Mkdir (mode_of v) (spelled_word w)
+    else (if bytes_eq name (codes "symlink") then both Symlink (spelled_word v) (spelled_word w)
     else (if bytes_eq name (codes "list") then both ListNames (number_of 10 v) (number_of 10 w)
-    else (if bytes_eq name (codes "open") && bytes_eq v (codes "rd") then option_map (λ path. OpenDirectory path 420) (spelled_word w) else None))
+    else (if bytes_eq name (codes "open") && bytes_eq v (codes "rd") then option_map (λ path. OpenDirectory path 420) (spelled_word w) else None)))
 
 -- `open rd P MODE`
 abbrev pub call_of_three : List ℕ → List ℕ → List ℕ → List ℕ → Option CallText
@@ -86,6 +94,10 @@ on_path make (Err errno) = Err errno
 -- the call that a text asks for, or the refusal of its path
 abbrev pub call_of : CallText → Result Call Errno
 call_of (Stat text) = on_path call.Stat (path_of_text text)
+call_of (Readlink text) = on_path call.Readlink (path_of_text text)
+call_of (Symlink target text) = on_path (call.Symlink target) (path_of_text text)
+call_of (Unlink text) = on_path call.Unlink (path_of_text text)
+call_of (Rmdir text) = on_path call.Rmdir (path_of_text text)
 call_of (Mkdir mode text) = on_path (λ path. call.Mkdir path mode) (path_of_text text)
 call_of (OpenDirectory text mode) = on_path (λ path. call.Open path read_directory mode) (path_of_text text)
 call_of (ListNames descriptor count) = Ok (call.ListNames descriptor count)

@@ -1,13 +1,15 @@
 // The lines of a script.
 ghost use Rattle.std.specs.Prelude.{◌≡◌, ◌<◌, ◌∷◌, [], IfOk, IfSome, MatchOption, length, nat_eq, position};
+ghost use Rattle.std.specs.Option.{option_and_then};
 ghost use Rattle.std.specs.Result.{result_ok};
 ghost use Rattle.ov_base.specs.Paths.{path_of_text};
 ghost use Rattle.ov_script.specs.Commands as commands;
+ghost use Rattle.ov_script.specs.Escapes.{spelled_word};
 ghost use Rattle.ov_script.specs.Words.{words};
 
 use crate::escape::EscapedWord;
 use crate::numbers::{decimal, octal_mode};
-use ov_base::{Call, Errno, OpenFlags, Path};
+use ov_base::{Bytes, Call, Errno, OpenFlags, Path};
 use std::alloc::{AllocError, Global};
 
 /// A line that is no command.
@@ -27,11 +29,37 @@ pub enum Command<'a> {
 /// A call as a line spells it. Its words have their form; whether the path is one is judged later.
 #[derive(Drop)]
 pub enum CallText<'a> {
-    Stat { path: EscapedWord<'a> },
-    Mkdir { mode: u32, path: EscapedWord<'a> },
-    OpenDirectory { path: EscapedWord<'a>, mode: u32 },
-    ListNames { descriptor: u32, count: u32 },
-    Close { descriptor: u32 },
+    Stat {
+        path: EscapedWord<'a>,
+    },
+    Readlink {
+        path: EscapedWord<'a>,
+    },
+    Mkdir {
+        mode: u32,
+        path: EscapedWord<'a>,
+    },
+    Symlink {
+        target: EscapedWord<'a>,
+        path: EscapedWord<'a>,
+    },
+    Unlink {
+        path: EscapedWord<'a>,
+    },
+    Rmdir {
+        path: EscapedWord<'a>,
+    },
+    OpenDirectory {
+        path: EscapedWord<'a>,
+        mode: u32,
+    },
+    ListNames {
+        descriptor: u32,
+        count: u32,
+    },
+    Close {
+        descriptor: u32,
+    },
 }
 
 /// The mode of `open` where the line has none.
@@ -132,24 +160,42 @@ fn call_text<'a>(name: &[u8], rest: &'a [u8]) -> Option<CallText<'a>>
 fn call_of_one<'a>(name: &[u8], word: &'a [u8]) -> Option<CallText<'a>>
     ensures { result ≡ commands.call_of_one name.now word.now }
 {
-    if name == b"stat".as_slice() {
-        let path = EscapedWord::parse(word)?;
-        Some(CallText::Stat { path })
-    } else if name == b"close".as_slice() {
+    if name == b"close".as_slice() {
         let descriptor = decimal(word)?;
         Some(CallText::Close { descriptor })
+    } else {
+        call_of_path(name, word)
+    }
+}
+
+fn call_of_path<'a>(name: &[u8], word: &'a [u8]) -> Option<CallText<'a>>
+    ensures { result ≡ option_and_then (commands.call_of_path name.now) (spelled_word word.now) }
+{
+    let path = EscapedWord::parse(word)?;
+    if name == b"stat".as_slice() {
+        Some(CallText::Stat { path })
+    } else if name == b"readlink".as_slice() {
+        Some(CallText::Readlink { path })
+    } else if name == b"unlink".as_slice() {
+        Some(CallText::Unlink { path })
+    } else if name == b"rmdir".as_slice() {
+        Some(CallText::Rmdir { path })
     } else {
         None
     }
 }
 
-fn call_of_two<'a>(name: &[u8], first: &[u8], second: &'a [u8]) -> Option<CallText<'a>>
+fn call_of_two<'a>(name: &[u8], first: &'a [u8], second: &'a [u8]) -> Option<CallText<'a>>
     ensures { result ≡ commands.call_of_two name.now first.now second.now }
 {
     if name == b"mkdir".as_slice() {
         let mode = octal_mode(first)?;
         let path = EscapedWord::parse(second)?;
         Some(CallText::Mkdir { mode, path })
+    } else if name == b"symlink".as_slice() {
+        let target = EscapedWord::parse(first)?;
+        let path = EscapedWord::parse(second)?;
+        Some(CallText::Symlink { target, path })
     } else if name == b"list".as_slice() {
         let descriptor = decimal(first)?;
         let count = decimal(second)?;
@@ -187,6 +233,19 @@ impl CallText<'_> {
     {
         match self {
             CallText::Stat { path } => { Ok(path_of(alloc, path)?.map(|path| Call::Stat { path })) }
+            CallText::Readlink { path } => {
+                Ok(path_of(alloc, path)?.map(|path| Call::Readlink { path }))
+            }
+            CallText::Symlink { target, path } => {
+                let target = Bytes::from_vec(target.bytes(alloc)?);
+                Ok(path_of(alloc, path)?.map(|path| Call::Symlink { target, path }))
+            }
+            CallText::Unlink { path } => {
+                Ok(path_of(alloc, path)?.map(|path| Call::Unlink { path }))
+            }
+            CallText::Rmdir { path } => {
+                Ok(path_of(alloc, path)?.map(|path| Call::Rmdir { path }))
+            }
             CallText::Mkdir { mode, path } => {
                 let mode = *mode;
                 Ok(path_of(alloc, path)?.map(|path| Call::Mkdir { path, mode }))

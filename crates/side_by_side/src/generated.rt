@@ -38,14 +38,19 @@ kind = \"file\"
 path = \"/c\"
 kind = \"file\"
 text = \"c\"
+[[layer.entry]]
+path = \"/a/c\"
+kind = \"symlink\"
+target = \"b\"
 ";
 
 // What MANIFEST shows.
-const SEEDS: [Seed; 4] = [
+const SEEDS: [Seed; 5] = [
     Seed::Directory("/a", 0o700),
     Seed::Directory("/a/b", 0o711),
     Seed::File("/a/b/c", "xyz"),
     Seed::File("/c", "c"),
+    Seed::Link("/a/c", "b"),
 ];
 
 // Numbers that look random and are the same for each seed: a linear congruential generator with Knuth's multiplier.
@@ -86,12 +91,16 @@ fn push_path(dice: &mut Dice, script: &mut String) -> Result<(), Fail> {
 fn push_call(alloc: Global, dice: &mut Dice, script: &mut String) -> Result<(), Fail> {
     let client = dice.roll(2);
     let small = dice.roll(4);
-    let call = match dice.roll(5) {
+    let call = match dice.roll(11) {
         0 => format!(in alloc; "{client} stat ")?,
-        1 => format!(in alloc; "{client} mkdir 7{small}0 ")?,
-        2 => format!(in alloc; "{client} open rd ")?,
-        3 => format!(in alloc; "{client} list {small} 2")?,
-        _ => format!(in alloc; "{client} close {small}")?,
+        1 | 2 => format!(in alloc; "{client} mkdir 7{small}0 ")?,
+        3 => format!(in alloc; "{client} open rd ")?,
+        4 => format!(in alloc; "{client} list {small} 2")?,
+        5 => format!(in alloc; "{client} close {small}")?,
+        6 => format!(in alloc; "{client} readlink ")?,
+        7 => format!(in alloc; "{client} symlink t{small} ")?,
+        8 | 9 => format!(in alloc; "{client} unlink ")?,
+        _ => format!(in alloc; "{client} rmdir ")?,
     };
     let takes_path = call.ends_with(' ');
     script.push_str(call.as_str())?;

@@ -63,3 +63,124 @@ fn an_empty_mount(rt: HostRuntime) -> Result<(), Fail> {
     let manifest = "[[layer]]\n[[layer]]\n";
     assert_same(&rt, rt.alloc(), (manifest, &[]), script, Some(wanted))
 }
+
+#[test]
+fn a_directory_over_a_removed_file(rt: HostRuntime) -> Result<(), Fail> {
+    let manifest = "[[layer]]
+[[layer]]
+[[layer.entry]]
+path = \"/f\"
+kind = \"file\"
+text = \"x\"
+";
+    let script = "attach
+0 unlink /f
+0 mkdir 755 /f
+layer 0
+";
+    let wanted = "client 0
+0 ok
+0 ok
+";
+    let seeds = [Seed::File("/f", "x")];
+    assert_same(&rt, rt.alloc(), (manifest, &seeds), script, Some(wanted))
+}
+
+#[test]
+fn a_link_comes_and_goes(rt: HostRuntime) -> Result<(), Fail> {
+    let script = "attach
+0 symlink t /s
+0 readlink /s
+0 unlink /s
+layer 0
+";
+    let wanted = "client 0
+0 ok
+0 ok t
+0 ok
+";
+    let manifest = "[[layer]]\n[[layer]]\n";
+    assert_same(&rt, rt.alloc(), (manifest, &[]), script, Some(wanted))
+}
+
+#[test]
+fn a_directory_with_a_name_stays(rt: HostRuntime) -> Result<(), Fail> {
+    let manifest = "[[layer]]
+[[layer]]
+[[layer.entry]]
+path = \"/a\"
+kind = \"dir\"
+[[layer.entry]]
+path = \"/a/x\"
+kind = \"file\"
+";
+    let seeds = [Seed::Directory("/a", 0o755), Seed::File("/a/x", "")];
+    let wanted = "client 0\n0 ENOTEMPTY\n";
+    let script = "attach\n0 rmdir /a\n";
+    assert_same(&rt, rt.alloc(), (manifest, &seeds), script, Some(wanted))
+}
+
+#[test]
+fn a_directory_made_anew_is_empty(rt: HostRuntime) -> Result<(), Fail> {
+    let manifest = "[[layer]]
+[[layer]]
+[[layer.entry]]
+path = \"/a\"
+kind = \"dir\"
+[[layer.entry]]
+path = \"/a/x\"
+kind = \"file\"
+text = \"1\"
+";
+    let script = "attach
+0 unlink /a/x
+0 rmdir /a
+0 mkdir 755 /a
+0 open rd /a
+0 list 0 256
+0 stat /a/x
+layer 0
+";
+    let wanted = "client 0
+0 ok
+0 ok
+0 ok
+0 ok 0
+0 ok
+0 ENOENT
+";
+    let seeds = [Seed::Directory("/a", 0o755), Seed::File("/a/x", "1")];
+    assert_same(&rt, rt.alloc(), (manifest, &seeds), script, Some(wanted))
+}
+
+#[test]
+fn a_removed_directory_lists_nothing(rt: HostRuntime) -> Result<(), Fail> {
+    let manifest = "[[layer]]
+[[layer]]
+[[layer.entry]]
+path = \"/d\"
+kind = \"dir\"
+";
+    let script = "attach
+0 open rd /d
+0 rmdir /d
+0 mkdir 755 /d
+0 mkdir 755 /d/new
+0 list 0 9
+0 open rd /d
+0 list 1 9
+0 close 0
+";
+    let wanted = "client 0
+0 ok 0
+0 ok
+0 ok
+0 ok
+0 ok
+0 ok 1
+0 ok new
+0 ok
+";
+    let seeds = [Seed::Directory("/d", 0o755)];
+    assert_same(&rt, rt.alloc(), (manifest, &seeds), script, Some(wanted))
+}
