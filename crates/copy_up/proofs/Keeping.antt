@@ -38,7 +38,7 @@ pub inodes-same : (u v : Tree) → ((k : ℕ) → inode_at v k ≡ inode_at u k)
 inodes-same u v h = λ j k. h k j
 
 pub stays-self : (l : Layers) → Stays l l
-stays-self l = record { layers = λ a. a; mounts = λ s h. h; thin = λ h. h; names = λ p k. (λ h. h, λ h. h); inodes = λ k. refl }
+stays-self l = record { layers = λ a. a; mounts = λ s h. h; thin = λ h. h; names = λ p k. (λ h. h, λ h. h); inodes = λ k. refl; holds = λ p o h. h }
 
 pub stays-then : (a b c : Layers) → Stays a b → Stays b c → Stays a c
 stays-then a b c s t =
@@ -48,6 +48,7 @@ stays-then a b c s t =
       thin = λ h. t.thin (s.thin h);
       names = λ p k. (λ h. (s.names p k).0 ((t.names p k).0 h), λ h. (t.names p k).1 ((s.names p k).1 h));
       inodes = λ k. t.inodes k ∙ s.inodes k;
+      holds = λ p o h. t.holds p o (s.holds p o h);
     }
 
 -- the place of a new directory, from the places of its parent
@@ -107,6 +108,7 @@ stays-unchanged old new low same inodes keep =
       thin = λ h. subst (λ (Ls : List Layer). IsThin V Ls) (sym (lowers-same old new low)) (thin h);
       names = λ p k. (less p k, more p k);
       inodes = inodes;
+      holds = λ p o h. same p ∙ h;
     }
 
 places-agree : (i : ℕ) (U V : Layer) (Ls : List Layer) (p : Path) → held V p ≡ held U p → cuts V p ≡ cuts U p → below V p ≡ below U p → places_at i (V ∷ Ls) p ≡ places_at i (U ∷ Ls) p
@@ -141,8 +143,8 @@ module _ (old new : Layers) (low : new.lowers ≡ old.lowers) (inodes : (k : ℕ
   not-named : (x : Path) (k : ℕ) → held (layer_of new.upper) x ≡ Some (Named k) → x ≢ n ∷ p
   not-named x k h e = let z : Some (Directory key a false None) ≡ Some (Named k) = sym sets.there ∙ ap (held (layer_of new.upper)) (sym e) ∙ h in cc
 
-  was-unnamed : (x : Path) (k : ℕ) → held (layer_of old.upper) x ≡ Some (Named k) → x ≢ n ∷ p
-  was-unnamed x k h e = let z : None ≡ Some (Named k) = sym lacked ∙ ap (held (layer_of old.upper)) (sym e) ∙ h in cc
+  was-held : (x : Path) (o : Object) → held (layer_of old.upper) x ≡ Some o → x ≢ n ∷ p
+  was-held x o h e = let z : None ≡ Some o = sym lacked ∙ ap (held (layer_of old.upper)) (sym e) ∙ h in cc
 
   pub stays-placed : (IsLayer (layer_of old.upper) → IsLayer (layer_of new.upper)) → Stays old new
   stays-placed keep =
@@ -152,8 +154,9 @@ module _ (old new : Layers) (low : new.lowers ≡ old.lowers) (inodes : (k : ℕ
         layers = λ h. (keep h.0, subst AreLayers (sym (lowers-same old new low)) h.1);
         mounts = λ s h. subst (λ (Ls : List Layer). IsMountOf V Ls s) (sym (lowers-same old new low)) (law_of_placed_parent U V (lowers_of old) s h (keep h.layers.0, h.layers.1) n p i m key a lacked shown placed);
         thin = λ h. subst (λ (Ls : List Layer). IsThin V Ls) (sym (lowers-same old new low)) ((law_of_thin U V (lowers_of old) h n p).directory key a false None placed);
-        names = λ x k. (λ h. sym (sets.elsewhere x (not-named x k h)) ∙ h, λ h. sets.elsewhere x (was-unnamed x k h) ∙ h);
+        names = λ x k. (λ h. sym (sets.elsewhere x (not-named x k h)) ∙ h, λ h. sets.elsewhere x (was-held x (Named k) h) ∙ h);
         inodes = inodes;
+        holds = λ x o h. sets.elsewhere x (was-held x o h) ∙ h;
       }
 
   pub gains-placed : GainsParent old new (n ∷ p)

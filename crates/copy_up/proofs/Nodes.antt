@@ -47,7 +47,8 @@ held-node t i [] k a o r h =
     subst (λ (z : ℕ). IsDirectoryWith (get t z) a) key (subst (λ (b : Attributes). IsDirectoryWith (get t ROOT) b) same (root-node (get t ROOT) i.root))
 held-node t i (n ∷ p) k a o r h = entry-node t (entry_at t (n ∷ p)) k a o r h
 
-table-some : (x : Option Node) (a : Attributes) → IsDirectoryWith x a → IsSome (option_and_then table_of x)
+-- a node with attributes has a table
+pub table-some : (x : Option Node) (a : Attributes) → IsDirectoryWith x a → IsSome (option_and_then table_of x)
 table-some x a d = subst (λ (z : Option Node). IsSome (option_and_then table_of z)) (sym d.is) refl
 
 -- the directory of a place is one
@@ -59,7 +60,8 @@ object-node j None h = absurd (false≢true h)
 object-node j (Some (node.Directory d)) h = refl
 object-node j (Some (node.Inode i)) h = refl
 
-free-entry : (t : Tree) (e : Option Entry) → ((j : ℕ) → e ≡ Some (bound.Object j) → IsSome (get t j)) → is_object (option_and_then (seen_entry t) e) ≡ false → option_and_then object_key e ≡ None
+-- a name that shows no object leads to none
+pub free-entry : (t : Tree) (e : Option Entry) → ((j : ℕ) → e ≡ Some (bound.Object j) → IsSome (get t j)) → is_object (option_and_then (seen_entry t) e) ≡ false → option_and_then object_key e ≡ None
 free-entry t None present h = refl
 free-entry t (Some bound.Whiteout) present h = refl
 free-entry t (Some (bound.Object j)) present h = absurd (false≢true (sym h ∙ object-node j (get t j) (present j refl)))

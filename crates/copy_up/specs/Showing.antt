@@ -60,6 +60,7 @@ pub record Stays (old new : Layers) : Type 0 where
   pub thin : StaysThin old new
   pub names : (p : Path) (k : ℕ) → (held (layer_of new.upper) p ≡ Some (Named k)) ↔ (held (layer_of old.upper) p ≡ Some (Named k))
   pub inodes : (k : ℕ) → inode_at new.upper k ≡ inode_at old.upper k
+  pub holds : (p : Path) (o : Object) → held (layer_of old.upper) p ≡ Some o → held (layer_of new.upper) p ≡ Some o
 
 -- The upper gets the directory that is shown at the path, with the attributes that are shown, no marks and nothing in it, and nothing else.
 pub record GainsParent (old new : Layers) (p : Path) : Type 0 where

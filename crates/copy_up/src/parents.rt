@@ -24,6 +24,7 @@ pub fn place_parents(layers: &mut Layers, names: &[Name]) -> Result<Stack, Alloc
     ensures thin { StaysThin layers.old layers.new }
     ensures names { (p : Path) (k : ℕ) → (held.held (layer_of layers.new.upper) p ≡ Some (held.Named k)) ↔ (held.held (layer_of layers.old.upper) p ≡ Some (held.Named k)) }
     ensures inodes { (k : ℕ) → inode_at layers.new.upper k ≡ inode_at layers.old.upper k }
+    ensures holds { (p : Path) (o : held.Object) → held.held (layer_of layers.old.upper) p ≡ Some o → held.held (layer_of layers.new.upper) p ≡ Some o }
 {
     let mut stack = layers.root();
     for name in names {

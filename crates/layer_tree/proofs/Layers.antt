@@ -94,6 +94,18 @@ IsLayer-alike old new same counts layer =
         let kept : AreLinks new k j.links = links-same old new k j.links (λ w. ((λ h. same w ∙ h), (λ h. sym (same w) ∙ h))) (layer.links k j was) in
         subst (AreLinks new k) (sym (unwrapped i.links j.links e)) kept
 
+-- where the same is held, and no inode is new
+pub IsLayer-fewer : (old new : Layer) → SameObjects old new → ((k : ℕ) (i : layers.Inode) → new.inodes k ≡ Some i → old.inodes k ≡ Some i) → IsHeldTogether new → IsLayer old → IsLayer new
+IsLayer-fewer old new same was together layer =
+    record {
+      parents = together.parents;
+      redirects = together.redirects;
+      present = together.present;
+      links = λ k i h. links-same old new k i.links (λ w. ((λ f. same w ∙ f), (λ f. sym (same w) ∙ f))) (layer.links k i (was k i h));
+      paths = [] ∷ [] ∷ layer.paths;
+      finite = has_all new [] layer.paths (λ n p off h. layer.finite (n ∷ p) (sym (ap is_some (same (n ∷ p))) ∙ h));
+    }
+
 -- A path is replaced by what names no inode, and below it no path named one: an inode that it named has one name less.
 module _ (old new : Layer) (path : Path) (o : Option layers.Object) (replaces : ReplacesPath old new path o) (no_name : (k : ℕ) → o ≢ Some (Named k)) (bare : (n : List ℕ) (s : Path) (k : ℕ) → held old (n ∷ (s ++ path)) ≢ Some (Named k)) where
   -- an inode keeps its names but for the path

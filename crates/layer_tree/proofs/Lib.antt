@@ -13,3 +13,4 @@ pub mod Overlays
 pub mod Held
 pub mod Layers
 pub mod Keeping
+pub mod Freeing

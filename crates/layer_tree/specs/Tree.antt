@@ -215,6 +215,16 @@ pub record Writes (old new : Tree) (key : ℕ) (bytes : List ℕ) : Type 0 where
   pub entries : (dir : ℕ) (name : List ℕ) → entry new dir name ≡ entry old dir name
   pub seen : (k : ℕ) → seen_at new k ≡ seen_at old k
 
+-- Nothing stands under the key any more, and every other key has what it had.
+pub record Frees (old new : Tree) (key : ℕ) : Type 0 where
+  pub gone : get new key ≡ None
+  pub no_inode : inode_at new key ≡ None
+  pub nodes : (k : ℕ) → k ≢ key → get new k ≡ get old k
+  pub entries : (k : ℕ) (name : List ℕ) → k ≢ key → entry new k name ≡ entry old k name
+  pub seen : (k : ℕ) → k ≢ key → seen_at new k ≡ seen_at old k
+  pub inodes : (k : ℕ) → k ≢ key → inode_at new k ≡ inode_at old k
+  pub names : (k : ℕ) → k ≢ key → names_room new k ≡ names_room old k
+
 -- what stands at the name has at most whiteouts in it
 abbrev pub HoldsNoObjects : Tree → ℕ → List ℕ → Type 0
 HoldsNoObjects t dir name = (key : ℕ) → child t dir name ≡ Some key → (n : List ℕ) → child t key n ≡ None

@@ -12,17 +12,17 @@ ghost use Rattle.plain_model.specs.Layers as layers;
 ghost use Rattle.plain_model.specs.Layers.{held, IsLayer};
 ghost use Rattle.layer_tree.specs.Table.{object_key};
 ghost use Rattle.layer_tree.specs.Walk.{Rebinds};
-ghost use Rattle.layer_tree.specs.Tree.{Tree, entry, child, key_at, entry_at, seen_at, inode_at, marks_at, bytes_at, file_bytes, layer_of, seen_object, new_inode, with_less, table_of, leads_on, Inserts, Unbinds, Writes, written, IsDirectory, names_room, SetsPath, ClearsPath, CoversPath, SameObjects, SameTree, UsesObjects, HoldsNoObjects, IsHeldTogether, IsTree};
+ghost use Rattle.layer_tree.specs.Tree.{Tree, entry, child, key_at, entry_at, seen_at, inode_at, marks_at, bytes_at, file_bytes, layer_of, seen_object, new_inode, with_less, table_of, leads_on, Inserts, Unbinds, Writes, written, IsDirectory, names_room, SetsPath, ClearsPath, CoversPath, SameObjects, SameTree, UsesObjects, Frees, HoldsNoObjects, IsHeldTogether, IsTree};
 ghost use Rattle.layer_tree.specs.Change.{IsPlanted, Retables, Retabled, Unlinks, IsCounted, node_room, node_entry, unlinked, node_bytes, with_file};
 ghost use Rattle.layer_tree.specs.declared.name_table.Entry.TheVariants as bound;
 
+use crate::file_write::write_in;
 use crate::name_table::{Entry, NameTable};
 use crate::node::{Directory, Inode, Marks, Node, Object};
-use ov_base::{Attributes, Bytes, Content, Name, Path};
+use ov_base::{Attributes, Content, Name, Path};
 use slab::Slab;
 use std::alloc::{AllocError, AllocFailed, Global};
 use std::marker::Model;
-use std::mem::replace;
 
 /// The key of the root directory.
 pub const ROOT: usize = 0;
@@ -114,6 +114,7 @@ impl Layer {
     pub fn lawful(&self)
         ensures tree { IsTree self.now }
         ensures together { IsHeldTogether (layer_of self.now) }
+        ensures unnamed { (key : ℕ) (i : layers.Inode) → inode_at self.now key ≡ Some i → i.links ≡ 0 → (dir : ℕ) (name : List ℕ) → child self.now dir name ≢ Some key }
     {
         let _ = &self.nodes;
     }
@@ -270,6 +271,7 @@ impl Layer {
         ensures succeeds { 0 < names_room self.old dir → IsOk result }
         ensures names { (d : ℕ) → names_room self.old d ≤ names_room self.new d + 1 }
         ensures objects { UsesObjects self.old self.new 0 }
+        ensures unnamed { OnOk result ((key : ℕ) → child self.old dir name ≡ Some key → IsDirectory self.old key → (d : ℕ) (n : List ℕ) → child self.new d n ≢ Some key) }
         ensures keeps { (path : List (List ℕ)) → key_at self.old path ≡ Some dir → HoldsNoObjects self.old dir name → IsLayer (layer_of self.old) → IsLayer (layer_of self.new) }
     {
         self.name_room(dir, 1)?;
@@ -286,6 +288,7 @@ impl Layer {
         ensures kinds { (d : ℕ) → IsDirectory self.old d → IsDirectory self.new d }
         ensures names { (d : ℕ) → names_room self.old d ≤ names_room self.new d + 1 }
         ensures objects { UsesObjects self.old self.new 0 }
+        ensures unnamed { (key : ℕ) → child self.old dir name ≡ Some key → IsDirectory self.old key → (d : ℕ) (n : List ℕ) → child self.new d n ≢ Some key }
         ensures keeps { (path : List (List ℕ)) → key_at self.old path ≡ Some dir → HoldsNoObjects self.old dir name → IsLayer (layer_of self.old) → IsLayer (layer_of self.new) }
     {
         let entry = bind_name(&mut self.nodes, dir, name, Entry::Whiteout);
@@ -302,11 +305,34 @@ impl Layer {
         ensures kinds { (d : ℕ) → IsDirectory self.old d → IsDirectory self.new d }
         ensures names { (d : ℕ) → names_room self.old d ≤ names_room self.new d }
         ensures objects { UsesObjects self.old self.new 0 }
+        ensures unnamed { (key : ℕ) → child self.old dir name.now ≡ Some key → IsDirectory self.old key → (d : ℕ) (n : List ℕ) → child self.new d n ≢ Some key }
         ensures keeps { (path : List (List ℕ)) → key_at self.old path ≡ Some dir → HoldsNoObjects self.old dir name.now → IsLayer (layer_of self.old) → IsLayer (layer_of self.new) }
     {
         let entry = unbind_name(&mut self.nodes, dir, name);
         unlink(&mut self.nodes, entry);
         entry
+    }
+
+    /// Frees what stands under a key to which no name leads and in which at most whiteouts stand; nothing else changes.
+    pub fn discard(&mut self, key: usize)
+        requires not_root { key ≢ ROOT }
+        requires unnamed { (dir : ℕ) (name : List ℕ) → child self.old dir name ≢ Some key }
+        requires bare { (name : List ℕ) → child self.old key name ≡ None }
+        ensures frees { Frees self.old self.new key }
+        ensures children { (dir : ℕ) (name : List ℕ) → child self.new dir name ≡ child self.old dir name }
+        ensures keys { (path : List (List ℕ)) → key_at self.new path ≡ key_at self.old path }
+        ensures objects_held { SameObjects (layer_of self.old) (layer_of self.new) }
+        ensures kinds { (d : ℕ) → d ≢ key → IsDirectory self.old d → IsDirectory self.new d }
+        ensures absent { get self.old key ≡ None → self.new ≡ self.old }
+
+        // Where something stood there, its place is free again.
+        ensures len { IsSome (get self.old key) → slab_len self.new + 1 ≡ slab_len self.old }
+        ensures room { IsSome (get self.old key) → HasRoomFor self.new 1 }
+        ensures capacity { self.new.capacity ≡ self.old.capacity }
+        ensures objects { UsesObjects self.old self.new 0 }
+        ensures keeps { IsLayer (layer_of self.old) → IsLayer (layer_of self.new) }
+    {
+        let _ = self.nodes.try_remove(key);
     }
 }
 
@@ -418,62 +444,4 @@ fn lose_name(node: &mut Node)
     if let Node::Inode(inode) = node {
         inode.links -= 1;
     }
-}
-
-fn write_in(alloc: Global, node: &mut Node, start: usize, bytes: &[u8]) -> Result<(), AllocError>
-    requires file { IsSome (node_bytes node.old) }
-    requires end { start + length bytes.now < 2 ^ 64 }
-    ensures wrote { (old : List ℕ) → node_bytes node.old ≡ Some old → node.new ≡ with_file (if is_ok result then written old start bytes.now else old) node.old }
-    ensures err { OnErr result (node.new ≡ node.old) }
-{
-    match node {
-        Node::Inode(inode) => write_content(alloc, &mut inode.content, start, bytes),
-        _ => unreachable!(),
-    }
-}
-
-fn write_content(
-    alloc: Global,
-    content: &mut Content,
-    start: usize,
-    bytes: &[u8],
-) -> Result<(), AllocError>
-    requires file { IsSome (file_bytes content.old) }
-    requires end { start + length bytes.now < 2 ^ 64 }
-    ensures wrote { (old : List ℕ) → file_bytes content.old ≡ Some old → content.new ≡ Content.File (if is_ok result then written old start bytes.now else old) }
-    ensures err { OnErr result (content.new ≡ content.old) }
-{
-    match content {
-        Content::File(file) => write_file(alloc, file, start, bytes),
-        _ => unreachable!(),
-    }
-}
-
-fn write_file(alloc: Global, file: &mut Bytes, start: usize, bytes: &[u8]) -> Result<(), AllocError>
-    requires { start + length bytes.now < 2 ^ 64 }
-    ensures { file.new ≡ (if is_ok result then written file.old start bytes.now else file.old) }
-{
-    let mut all = replace(file, Bytes::new(alloc)).into_vec();
-    let outcome = lay_over(&mut all, start, bytes);
-    *file = Bytes::from_vec(all);
-    outcome
-}
-
-fn lay_over(file: &mut Vec<u8>, start: usize, bytes: &[u8]) -> Result<(), AllocError>
-    requires { start + length bytes.now < 2 ^ 64 }
-    ensures { file.new.items ≡ (if is_ok result then written file.old.items start bytes.now else file.old.items) }
-{
-    let end = start + bytes.len();
-    if file.len() < end {
-        file.resize(end, 0)?;
-    }
-    lay_in(&mut file[..], start, bytes);
-    Ok(())
-}
-
-fn lay_in(file: &mut [u8], start: usize, bytes: &[u8])
-    requires { start + length bytes.now ≤ length file.old }
-    ensures { file.new ≡ take start file.old ++ bytes.now ++ drop (start + length bytes.now) file.old }
-{
-    file[start..start + bytes.len()].copy_from_slice(bytes);
 }

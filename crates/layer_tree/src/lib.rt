@@ -1,6 +1,7 @@
 //! One layer of an overlay mount: a tree of objects in memory.
 #![tactic(auto)]
 
+mod file_write;
 mod layer;
 mod name_table;
 mod node;

@@ -1,3 +1,6 @@
+ghost use Rattle.std.specs.Prelude.{◌≡◌, ◌≢◌, ℕ, List, Some, None, IsTrue};
+ghost use Rattle.layer_tree.specs.Tree.{child};
+
 use super::*;
 use ov_base::{Attributes, Bytes, Content, Name, Path, UserAttributes};
 use std::alloc::Global;
@@ -67,5 +70,39 @@ fn names_go_and_whiteouts_stand(rt: HostRuntime) -> Result<(), Fail> {
     let gone = layer.take_out(dir, &name(&rt, b"f"));
     assert!(rt; matches!(gone, Some(Entry::Whiteout)));
     assert!(rt; layer.find(&file).is_none());
+    Ok(())
+}
+
+// Whether an inode stands under a key to which no name leads.
+fn is_nameless(layer: &Layer, key: usize) -> bool
+    ensures unnamed { IsTrue result → (dir : ℕ) (name : List ℕ) → child layer.now dir name ≢ Some key }
+    ensures bare { IsTrue result → (name : List ℕ) → child layer.now key name ≡ None }
+{
+    layer.lawful();
+    match layer.node(key) {
+        Some(Node::Inode(inode)) => inode.links == 0,
+        _ => false,
+    }
+}
+
+#[test]
+fn a_discarded_object_leaves_its_place(rt: HostRuntime) -> Result<(), Fail> {
+    let alloc = rt.alloc();
+    let (mut layer, dir, key) = layer_of_one_file(&rt, alloc)?;
+    let f = name(&rt, b"f");
+    assert!(rt; layer.is_directory(dir));
+    let gone = layer.take_out(dir, &f);
+    assert!(rt; matches!(gone, Some(Entry::Object(found)) if found == key));
+    assert!(rt; key != ROOT);
+    assert!(rt; is_nameless(&layer, key));
+    layer.discard(key);
+    assert!(rt; layer.node(key).is_none());
+    assert!(rt; layer.read(key).is_none());
+    let content = Content::SymbolicLink(Bytes::from_slice(alloc, b"/d".as_slice())?);
+    assert!(rt; layer.is_directory(dir));
+    assert!(rt; layer.entry(dir, &f).is_none());
+    let again = layer.insert(dir, f, Object::Inode(content, attributes(alloc)))?;
+    assert_eq!(rt; again, key);
+    assert!(rt; layer.read(again).is_none());
     Ok(())
 }

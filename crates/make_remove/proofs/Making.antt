@@ -68,7 +68,8 @@ module _ (u : Tree) (V : Layer) (ts : List Tree) (n : Name) (q : Path) (key : �
     | inr out ↦ merged-agree (layer_of u) V (map layer_of ts) x inodes (sets.elsewhere x ne) (agree-outside x out)
   ]
 
-under-same : (start old : Layers) (n : Name) (q : Path) → ShowsSame start old → under (layer_of old.upper) (lowers_of old) n q ≡ under (layer_of start.upper) (lowers_of start) n q
+-- what the lower layers show at a name stays
+pub under-same : (start old : Layers) (n : Name) (q : Path) → ShowsSame start old → under (layer_of old.upper) (lowers_of old) n q ≡ under (layer_of start.upper) (lowers_of start) n q
 under-same start old n q s =
     ap (λ Ls. under (layer_of old.upper) Ls n q) (lowers-same start old s.lowers)
     ∙ under-agree (layer_of start.upper) (layer_of old.upper) (lowers_of start) n q (record { cut_alike = s.passes.cuts q; spelled = s.passes.spelling q })

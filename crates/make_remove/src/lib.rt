@@ -4,9 +4,11 @@
 mod directories;
 mod leaves;
 mod objects;
+mod removals;
 
 pub use directories::mkdir;
 pub use leaves::{create, symlink};
+pub use removals::{rmdir, unlink};
 
 #[cfg(test)]
 mod tests;

@@ -1,9 +1,9 @@
-// Calls that make an object, over layers built by hand.
+// Calls that make and remove names, over layers built by hand.
 ghost use Rattle.std.specs.Prelude.{IsTrue, Some};
 ghost use Rattle.layer_tree.specs.Tree.{leads_on, seen_object};
 
-use crate::{create, mkdir, symlink};
-use layer_tree::{Layer, Marks, Node, Object, ROOT};
+use crate::{create, mkdir, rmdir, symlink, unlink};
+use layer_tree::{Entry, Layer, Marks, Node, Object, ROOT};
 use merged_lookup::{Found, Layers};
 use ov_base::{Attributes, Bytes, Content, Errno, Name, Path, UserAttributes};
 use std::alloc::Global;
@@ -188,5 +188,88 @@ fn makes_links_and_files(rt: HostRuntime) -> Result<(), Fail> {
         assert!(rt; leaf(&layers, &path(&rt, alloc, text)) == want);
     }
     assert!(rt; made(&layers, &path(&rt, alloc, b"/a/b")) == Some((0o711, 7, false)));
+    Ok(())
+}
+
+fn file(alloc: Global) -> Object
+    ensures { IsTrue (leads_on (Some (seen_object 0 result))) }
+{
+    Object::Inode(Content::File(Bytes::new(alloc)), attributes(alloc, 0o644))
+}
+
+fn over(rt: &impl Abort, alloc: Global, upper: Layer, lower: Layer) -> Layers {
+    let mut lowers = Vec::new(alloc);
+    lowers.push(lower).expect(rt, "memory");
+    assert!(rt; lowers.len() == 1);
+    Layers::new(upper, lowers)
+}
+
+fn covered(layers: &Layers, path: &Path) -> bool {
+    matches!(layers.upper.find(path), Some(Entry::Whiteout))
+}
+
+// Over a directory with a file in it, and a file beside it.
+#[test]
+fn removes_what_lower_layers_show(rt: HostRuntime) -> Result<(), Fail> {
+    let alloc = rt.alloc();
+    let mut lower = Layer::new(alloc, attributes(alloc, 0o755))?;
+    let a = put(&rt, &mut lower, ROOT, b"a", directory(alloc, 0o700));
+    put(&rt, &mut lower, a, b"x", file(alloc));
+    put(&rt, &mut lower, ROOT, b"f", file(alloc));
+    let upper = Layer::new(alloc, attributes(alloc, 0o755))?;
+    let mut layers = over(&rt, alloc, upper, lower);
+    let root = path(&rt, alloc, b"/");
+    let a = path(&rt, alloc, b"/a");
+    let x = path(&rt, alloc, b"/a/x");
+    let f = path(&rt, alloc, b"/f");
+    assert!(rt; unlink(&mut layers, &root)? == Err(Errno::EBUSY));
+    assert!(rt; rmdir(alloc, &mut layers, &root)? == Err(Errno::EBUSY));
+    assert!(rt; unlink(&mut layers, &a)? == Err(Errno::EISDIR));
+    assert!(rt; rmdir(alloc, &mut layers, &f)? == Err(Errno::ENOTDIR));
+    assert!(rt; rmdir(alloc, &mut layers, &a)? == Err(Errno::ENOTEMPTY));
+    assert!(rt; unlink(&mut layers, &x)? == Ok(()));
+    assert!(rt; covered(&layers, &x));
+    assert!(rt; unlink(&mut layers, &x)? == Err(Errno::ENOENT));
+    assert!(rt; rmdir(alloc, &mut layers, &a)? == Ok(()));
+    assert!(rt; covered(&layers, &a));
+    assert!(rt; rmdir(alloc, &mut layers, &a)? == Err(Errno::ENOENT));
+    assert!(rt; mkdir(alloc, &mut layers, &a, 0o755)? == Ok(()));
+    assert!(rt; made(&layers, &a) == Some((0o755, 0, true)));
+    assert!(rt; layers.walk(&x).is_err());
+    assert!(rt; unlink(&mut layers, &f)? == Ok(()));
+    assert!(rt; mkdir(alloc, &mut layers, &f, 0o755)? == Ok(()));
+    assert!(rt; made(&layers, &f) == Some((0o755, 0, false)));
+    Ok(())
+}
+
+// In an opaque directory, and where only the upper has the name; what stood there is freed.
+#[test]
+fn leaves_no_needless_whiteout(rt: HostRuntime) -> Result<(), Fail> {
+    let alloc = rt.alloc();
+    let mut lower = Layer::new(alloc, attributes(alloc, 0o755))?;
+    let hidden = put(&rt, &mut lower, ROOT, b"o", directory(alloc, 0o700));
+    put(&rt, &mut lower, hidden, b"y", file(alloc));
+    let mut upper = Layer::new(alloc, attributes(alloc, 0o755))?;
+    let marks = Marks {
+        opaque: true,
+        redirect: None,
+    };
+    let opaque = Object::Directory(attributes(alloc, 0o750), marks);
+    let o = put(&rt, &mut upper, ROOT, b"o", opaque);
+    let y = put(&rt, &mut upper, o, b"y", file(alloc));
+    let z = put(&rt, &mut upper, ROOT, b"z", file(alloc));
+    let mut layers = over(&rt, alloc, upper, lower);
+    let inside = path(&rt, alloc, b"/o/y");
+    let beside = path(&rt, alloc, b"/z");
+    assert!(rt; unlink(&mut layers, &inside)? == Ok(()));
+    assert!(rt; unlink(&mut layers, &beside)? == Ok(()));
+    assert!(rt; layers.upper.find(&inside).is_none());
+    assert!(rt; layers.upper.find(&beside).is_none());
+    assert!(rt; layers.upper.node(y).is_none());
+    assert!(rt; layers.upper.node(z).is_none());
+    let gone = path(&rt, alloc, b"/o");
+    assert!(rt; rmdir(alloc, &mut layers, &gone)? == Ok(()));
+    assert!(rt; covered(&layers, &gone));
+    assert!(rt; layers.upper.node(o).is_none());
     Ok(())
 }

@@ -159,7 +159,8 @@ pub top-shown : (i : ℕ) (Ls : List Layer) (p : Path) → IsTop (places_at i Ls
 top-shown i [] p = refl
 top-shown i (L ∷ Ls) p = top-level i L.inodes (held L p) (cuts L p) (places_at (suc i) Ls (below L p)) (shows (suc i) Ls (below L p)) (hides-cuts L p) (top-shown (suc i) Ls (below L p))
 
-first-unless : (ts : List Tree) (c : Bool) (s : List Place) (n : Name) (x : Option Shown) → first ts s n ≡ place_of x → first ts (unless_cut c s) n ≡ place_of (unless c x)
+-- the topmost object from places by the cut of the layer above them
+pub first-unless : (ts : List Tree) (c : Bool) (s : List Place) (n : Name) (x : Option Shown) → first ts s n ≡ place_of x → first ts (unless_cut c s) n ≡ place_of (unless c x)
 first-unless ts true s n x h = refl
 first-unless ts false s n x h = h
 

@@ -14,7 +14,7 @@ use Rattle.merged_lookup.specs.declared.stack.Stack.{Stack}
 use Rattle.merged_lookup.specs.declared.layers.Layers.{Layers}
 use Rattle.merged_lookup.specs.Merged.{trees, layers_of, lowers_of, IsStackOf, ShowsDirectory, ShowsInode, ShowsNothing, level, unless_cut, places_at, top_of, fault, or_else, way_fault, inode_fault, node_in}
 use Rattle.merged_lookup.specs.Descent.{places_from, descend, first, without_upper}
-use Rattle.merged_lookup.proofs.Descending.{IsTop, top-shown, place_of, first-places, shown-inode, shown-none, walk-step, descend-places, descend-unless, length-places, drop-get, reverse-more}
+use Rattle.merged_lookup.proofs.Descending.{IsTop, top-shown, place_of, first-places, first-unless, shown-inode, shown-none, walk-step, descend-places, descend-unless, length-places, drop-get, reverse-more}
 
 top-of : (s : List Place) (x : Option Shown) → 0 < length s → IsTop s x → (a : Attributes) × (x ≡ Some (Folder (top_of s).layer (top_of s).key a))
 top-of [] x h t = absurd (omega (arith, h))
@@ -187,6 +187,16 @@ module _ (t : Tree) (us : List Tree) (s : List Place) (p : Path) (n : Name) (few
       ap (λ z. not (nat_eq (length z) 0)) (exact short ∙ under-is)
       ∙ directory-top (unless_cut (cuts (layer_of t) p) (places_at 1 (map layer_of us) (n ∷ below (layer_of t) p))) (unless (cuts (layer_of t) p) (shows 1 (map layer_of us) (n ∷ below (layer_of t) p)))
       (top-unless (cuts (layer_of t) p) (places_at 1 (map layer_of us) (n ∷ below (layer_of t) p)) (shows 1 (map layer_of us) (n ∷ below (layer_of t) p)) (top-shown 1 (map layer_of us) (n ∷ below (layer_of t) p)))
+
+-- whether the lower layers show something at a name, from the places below the upper
+pub under-some : (t : Tree) (us : List Tree) (s : List Place) (p : Path) (n : Name) → s ≡ places_at 0 (map layer_of (t ∷ us)) p → is_some (first (t ∷ us) (without_upper s) n) ≡ is_some (under (layer_of t) (map layer_of us) n p)
+under-some t us s p n is =
+    let spelled : Path = below (layer_of t) p in
+    let lower : List Place = unless_cut (cuts (layer_of t) p) (places_at 1 (map layer_of us) spelled) in
+    let start : without_upper s ≡ lower = ap without_upper is ∙ without-level (held (layer_of t) p) lower (head-unless (cuts (layer_of t) p) (places_at 1 (map layer_of us) spelled) (head-places 1 (map layer_of us) spelled)) in
+    ap (λ z. is_some (first (t ∷ us) z n)) start
+    ∙ ap is_some (first-unless (t ∷ us) (cuts (layer_of t) p) (places_at 1 (map layer_of us) spelled) n (shows 1 (map layer_of us) (n ∷ spelled)) (first-places 1 (t ∷ us) us refl spelled n))
+    ∙ is_some-place (under (layer_of t) (map layer_of us) n p)
 
 -- the fault of what is shown
 pub nothing-fault : (l : Layers) (p : Path) → ShowsNothing l p → fault (shows 0 (layers_of l) p) ≡ Some errno.ENOENT

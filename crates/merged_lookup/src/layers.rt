@@ -135,8 +135,8 @@ impl Layers {
         Ok(stack)
     }
 
-    /// Why a walk cannot go on from an inode: a symbolic link is not followed, and a file has no names.
-    fn blocked(&self, place: Place) -> Errno
+    /// Why a walk can't go on from an inode: a symbolic link, which isn't followed, is ELOOP, and a file is ENOTDIR.
+    pub fn blocked(&self, place: Place) -> Errno
         ensures { result ≡ inode_fault (option_and_then inode_of (node_in (trees self.now) place)) }
     {
         match self.node(place) {
@@ -157,6 +157,13 @@ impl Layers {
         ensures { (p : Path) → IsStackOf self.now p parent.now → result ≡ is_directory (under (layer_of self.now.upper) (lowers_of self.now) name.now p) }
     {
         !descend(self, 1, below_upper(parent.places()), name).is_empty()
+    }
+
+    /// Whether the lower layers show something at a name of a merged directory, whatever the upper has there.
+    pub fn lowers_show(&self, parent: &Stack, name: &Name) -> bool
+        ensures { (p : Path) → IsStackOf self.now p parent.now → result ≡ is_some (under (layer_of self.now.upper) (lowers_of self.now) name.now p) }
+    {
+        first_object(self, below_upper(parent.places()), name).is_some()
     }
 }
 

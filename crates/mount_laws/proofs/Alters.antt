@@ -90,6 +90,7 @@ module _ (U V : Layer) (lowers : List Layer) (a : AreLayers (U ∷ lowers)) (b :
   none-left true = refl
   none-left false = refl
 
+  -- nothing is seen in its place
   gone : merged V lowers path ≡ None
   gone = merged-meld V lowers path ∙ ap₂ (meld V.inodes) m.here none-through ∙ none-left (is_some (under U lowers n p))
 

@@ -8,3 +8,4 @@ pub mod Alters
 pub mod Links
 pub mod Handles
 pub mod Removes
+pub mod Removed

@@ -1,12 +1,12 @@
 -- What symlink makes of the tree, and that the layers which gain the link show it.
 use Rattle.std.proofs.Common.{◌≡◌, ℕ, true, false, List, ◌∷◌, Option, None, Some, refl, sym, ap, ap₂, ◌∙◌, ◌⊎◌, inl, inr, is_some, length}
 use Rattle.std.specs.Prelude.{nat_eq, nat_lt}
-use Rattle.std.proofs.lemmas.Bool.{false≢true, cases_Bool, both_ways}
+use Rattle.std.proofs.lemmas.Bool.{cases_Bool, both_ways}
 use Rattle.ov_base.specs.declared.bytes.Content.TheVariants.{SymbolicLink}
 use Rattle.ov_base.specs.declared.call.Call.TheVariants.{Symlink}
 use Rattle.ov_base.specs.declared.errno.Errno.{Errno}
 use Rattle.ov_base.specs.declared.errno.Errno.TheVariants.{ENOENT, EEXIST, EINVAL, ENAMETOOLONG}
-use Rattle.plain_model.specs.Layers.{Name, Path, Named, Layer, held, Shown, shows, same_path}
+use Rattle.plain_model.specs.Layers.{Name, Path, Named, Layer, held, shows, same_path}
 use Rattle.plain_model.specs.Tree.{Node, Leaf, Own, names_of, AreLinked}
 use Rattle.plain_model.specs.Machine.{State}
 use Rattle.plain_model.specs.Refusals.{when, has_nul}
@@ -16,7 +16,7 @@ use Rattle.plain_model.proofs.Looking.{when-not}
 use Rattle.plain_model.proofs.Paths.{paths_tell}
 use Rattle.mount_laws.specs.Looks.{or_else as first, parents_fault, IsMountOf}
 use Rattle.mount_laws.specs.Leaves.{symlink_fault, GainsLeaf, MakesLink, LawOfLinkMade}
-use Rattle.mount_laws.proofs.Looks.{to-parents, finds}
+use Rattle.mount_laws.proofs.Looks.{none-of, to-parents, finds}
 use Rattle.mount_laws.proofs.Makes.{Spot, free-spot, way-shows, way-stays, way-hidden}
 use Rattle.mount_laws.proofs.Places.{named-shown}
 use Rattle.mount_laws.proofs.Refusing.{law_of_symlink}
@@ -29,11 +29,6 @@ first-none (Some e) b h = cc
 pub second-none : (a b : Option Errno) → first a b ≡ None → b ≡ None
 second-none None b h = h
 second-none (Some e) b h = cc
-
--- what is not there
-pub not-there : (s : Option Shown) → is_some s ≡ false → s ≡ None
-not-there None h = refl
-not-there (Some x) h = absurd (false≢true (sym h))
 
 module _ (U V : Layer) (lowers : List Layer) (s : State) (m : IsMountOf U lowers s) (c : ℕ) (target : List ℕ) (p : Path) (fine : symlink_fault (U ∷ lowers) target p ≡ None) (g : GainsLeaf U V lowers p (SymbolicLink target) (fresh 0o777)) where
   abbrev x : Node
@@ -50,7 +45,7 @@ module _ (U V : Layer) (lowers : List Layer) (s : State) (m : IsMountOf U lowers
       (second-none (when (nat_lt 4095 (length target)) ENAMETOOLONG) _ fine))
 
   free : shows 0 (U ∷ lowers) p ≡ None
-  free = not-there (shows 0 (U ∷ lowers) p) (when-not (is_some (shows 0 (U ∷ lowers) p)) EEXIST (second-none (parents_fault (U ∷ lowers) p) _ last-none))
+  free = none-of (shows 0 (U ∷ lowers) p) (when-not (is_some (shows 0 (U ∷ lowers) p)) EEXIST (second-none (parents_fault (U ∷ lowers) p) _ last-none))
 
   spot : Spot s.tree p
   spot = free-spot s.tree p None (ap₂ (λ e b. first e (when b EEXIST)) (to-parents U lowers s m p) (finds U lowers s m p) ∙ last-none)

@@ -108,7 +108,7 @@ node-names (Some (Leaf content a u l)) n = refl
 node-names (Some (Branch a b names c)) n = any-ties n (fin.keys names) ∙ sym (fin.contains_key-keys names n)
 
 -- a listing's refusals, where the handle is open on a directory
-list-chain : (b : Bool) (d : Bool) → d ≡ true → (when false EBADF or_else when (not d) ENOTDIR or_else when b EINVAL) ≡ when b EINVAL
+pub list-chain : (b : Bool) (d : Bool) → d ≡ true → (when false EBADF or_else when (not d) ENOTDIR or_else when b EINVAL) ≡ when b EINVAL
 list-chain b true h = refl
 list-chain b false h = absurd (false≢true h)
 

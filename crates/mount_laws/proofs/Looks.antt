@@ -188,16 +188,32 @@ law_of_walks U lowers s m p = record {
   seen = seen U lowers s m p;
 }
 
+-- what is not there
+pub none-of : {X : Type 0} (o : Option X) → is_some o ≡ false → o ≡ None
+none-of None h = refl
+none-of (Some x) h = absurd (false≢true (sym h))
+
 -- the words of refusals and of look-up for the first fault are one
 none : (e : Option Errno) → (e or_else None) ≡ e
 none None = refl
 none (Some e) = refl
 
-chain : (a b c : Option Errno) → ((a or_else b or_else c) or_else None) ≡ first a (first b c)
-chain (Some a) b c = refl
-chain None (Some b) c = refl
-chain None None (Some c) = refl
-chain None None None = refl
+pub chain-two : (a b : Option Errno) → ((a or_else b) or_else None) ≡ first a b
+chain-two (Some a) b = refl
+chain-two None (Some b) = refl
+chain-two None None = refl
+
+pub chain-three : (a b c : Option Errno) → ((a or_else b or_else c) or_else None) ≡ first a (first b c)
+chain-three (Some a) b c = refl
+chain-three None b c = chain-two b c
+
+pub chain-four : (a b c d : Option Errno) → ((a or_else b or_else c or_else d) or_else None) ≡ first a (first b (first c d))
+chain-four (Some a) b c d = refl
+chain-four None b c d = chain-three b c d
+
+pub chain-five : (a b c d e : Option Errno) → ((a or_else b or_else c or_else d or_else e) or_else None) ≡ first a (first b (first c (first d e)))
+chain-five (Some a) b c d e = refl
+chain-five None b c d e = chain-four b c d e
 
 -- what stat answers, by what is seen
 abbrev pub sight_stat : Option Sight → Reply
@@ -241,7 +257,7 @@ law_of_stat U lowers s m c p = record {
 -- mkdir's refusals are told by the layers
 pub law_of_mkdir : LawOfMkdir
 law_of_mkdir U lowers s m c p mode =
-    chain (bad_mode mode) (walked (look s.tree p)) (when (is_found (look s.tree p)) EEXIST)
+    chain-three (bad_mode mode) (walked (look s.tree p)) (when (is_found (look s.tree p)) EEXIST)
     ∙ ap₂ (λ e b. first (bad_mode mode) (first e (when b EEXIST))) (to-parents U lowers s m p) (finds U lowers s m p)
 
 -- a mount begins as one of its layers

@@ -9,40 +9,21 @@ use Rattle.std.specs.List.{list_any}
 use Rattle.ov_base.specs.declared.bytes.Content.{Content}
 use Rattle.ov_base.specs.declared.bytes.Content.TheVariants.{File, SymbolicLink}
 use Rattle.ov_base.specs.declared.call.Call.TheVariants.{Rmdir}
-use Rattle.ov_base.specs.declared.errno.Errno.{Errno}
 use Rattle.ov_base.specs.declared.errno.Errno.TheVariants.{ENOENT, EBUSY, EEXIST, ENOTDIR, EISDIR, EINVAL, ENAMETOOLONG, ENOTEMPTY}
 use Rattle.ov_base.specs.declared.node_id.NodeId.{NodeId}
 use Rattle.ov_base.specs.declared.reply.Reply.TheVariants as reply
 use Rattle.plain_model.specs.Layers.{Name, Path, Layer, Shown, Folder, Contents, shows, same_name}
 use Rattle.plain_model.specs.Tree.{Node, Branch, Leaf, names_of, entry, node_at, node_of, face, Sight, SeenLeaf, origin_in, see, is_folder}
 use Rattle.plain_model.specs.Machine.{State, look, is_found, is_link, is_root, has_names, bytes_of_node}
-use Rattle.plain_model.specs.Refusals.{◌or_else◌, when, walked, there, has_nul, refusal}
+use Rattle.plain_model.specs.Refusals.{when, walked, there, has_nul, refusal}
 use Rattle.plain_model.specs.Changes.{names_in}
 use Rattle.plain_model.proofs.Paths.{names_tell}
 use Rattle.mount_laws.specs.Looks.{or_else as first, IsMountOf}
 use Rattle.mount_laws.specs.Leaves.{LawOfSymlink, shown_target, LawOfReadlink}
 use Rattle.mount_laws.specs.Removals.{LawOfUnlink, rmdir_fault, ShowsNoName, LawOfRmdir}
-use Rattle.mount_laws.proofs.Looks.{at-some, to-parents, to-last, finds}
+use Rattle.mount_laws.proofs.Looks.{none-of, chain-two, chain-three, chain-four, chain-five, at-some, to-parents, to-last, finds}
 use Rattle.mount_laws.proofs.Opens.{folder-at, link-at}
 use Rattle.mount_laws.proofs.Lists.{node-names}
-
--- the words of refusals and of look-up for the first fault are one
-pub chain-two : (a b : Option Errno) → ((a or_else b) or_else None) ≡ first a b
-chain-two (Some a) b = refl
-chain-two None (Some b) = refl
-chain-two None None = refl
-
-pub chain-three : (a b c : Option Errno) → ((a or_else b or_else c) or_else None) ≡ first a (first b c)
-chain-three (Some a) b c = refl
-chain-three None b c = chain-two b c
-
-pub chain-four : (a b c d : Option Errno) → ((a or_else b or_else c or_else d) or_else None) ≡ first a (first b (first c d))
-chain-four (Some a) b c d = refl
-chain-four None b c d = chain-three b c d
-
-pub chain-five : (a b c d e : Option Errno) → ((a or_else b or_else c or_else d or_else e) or_else None) ≡ first a (first b (first c (first d e)))
-chain-five (Some a) b c d e = refl
-chain-five None b c d e = chain-four b c d e
 
 -- unlink's refusals are told by the layers
 pub law_of_unlink : LawOfUnlink
@@ -96,10 +77,6 @@ module _ (U : Layer) (lowers : List Layer) (s : State) (m : IsMountOf U lowers s
       by : (o : Option NodeId) → is_some (names_of (node_of s.tree o) n) ≡ is_some (entry s.tree o n)
       by None = refl
       by (Some d) = refl
-
-  none-of : (o : Option NodeId) → is_some o ≡ false → o ≡ None
-  none-of None h = refl
-  none-of (Some d) h = absurd (false≢true (sym h))
 
   pub nameless-at : (p : Path) → ShowsNoName (U ∷ lowers) p → has_names (node_of s.tree (node_at s.tree p)) ≡ false
   nameless-at p h = no-names (node_of s.tree (node_at s.tree p)) (λ n. none-of (names_of (node_of s.tree (node_at s.tree p)) n) (name-at p n ∙ ap is_some (h n)))

@@ -17,9 +17,9 @@ use Rattle.plain_model.proofs.Paths.{place, paths_tell, ids_tell}
 use Rattle.plain_model.proofs.Walks.{lead-outside, lead-at}
 use Rattle.mount_laws.specs.Looks.{parents_fault, walk_fault, IsMountOf, IsHidden, KeepsHidden}
 use Rattle.mount_laws.specs.Removals.{ShowsNoName, fewer, Loses, LawOfUnlinked, LawOfRemovedDirectory}
-use Rattle.mount_laws.proofs.Handles.{held-by}
+use Rattle.mount_laws.proofs.Handles.{not-same, held-by}
 use Rattle.mount_laws.proofs.Links.{first-none, second-none}
-use Rattle.mount_laws.proofs.Looks.{at-some, shown-there}
+use Rattle.mount_laws.proofs.Looks.{none-of, at-some, shown-there}
 use Rattle.mount_laws.proofs.Makes.{folder-alone}
 use Rattle.mount_laws.proofs.Places.{nothing-in}
 use Rattle.mount_laws.proofs.Refusing.{names-none, name-at, law_of_unlink, law_of_rmdir}
@@ -40,9 +40,6 @@ module _ (t : Tree) (ks : List Table) (n : Name) (q : Path) (d e : NodeId) (at :
 
   different : d ≢ e
   different s = let z : None ≡ Some e = sym (bare n) ∙ ap (λ x. names_of (t x) n) (sym s) ∙ leads in cc
-
-  not-same : (x y : NodeId) → x ≢ y → same_id x y ≡ false
-  not-same x y h = elim (cases_Bool (same_id x y)) [ inl s ↦ absurd (h ((ids_tell x y).0 s)) | inr s ↦ s ]
 
   -- a name fewer leads where it led
   counted-entry : (o : Option NodeId) (k : Name) → entry counted o k ≡ entry t o k
@@ -204,10 +201,6 @@ module _ (U V : Layer) (lowers : List Layer) (s : State) (m : IsMountOf U lowers
 
   at-path-node : node_at s.tree path ≡ Some e
   at-path-node = ap (λ o. entry s.tree o n) at ∙ leads
-
-  none-of : (o : Option NodeId) → is_some o ≡ false → o ≡ None
-  none-of None h = refl
-  none-of (Some x) h = absurd (false≢true (sym h))
 
   bare : (k : Name) → names_of (s.tree e) k ≡ None
   bare k = none-of (names_of (s.tree e) k) (ap (λ o. is_some (names_of (node_of s.tree o) k)) (sym at-path-node) ∙ name-at U lowers s m path k ∙ ap is_some (unshown k))

@@ -2,3 +2,4 @@ pub mod Looks
 pub mod Leaves
 pub mod Removals
 pub mod Thin
+pub mod Removed

@@ -1,4 +1,5 @@
 // The laws of the machine on a mount of layers, each as the contract of a function that does nothing.
+ghost use Rattle.mount_laws.specs.Removed.{LawOfCloseRemoved, LawOfListRemoved};
 ghost use Rattle.mount_laws.specs.Leaves.{LawOfLinkMade, LawOfPlacedLeaf, LawOfReadlink, LawOfSymlink};
 ghost use Rattle.mount_laws.specs.Looks.{LawOfBadDescriptors, LawOfBeginning, LawOfClose, LawOfDirectories, LawOfList, LawOfMade, LawOfMkdir, LawOfOpen, LawOfPlacedDirectory, LawOfPlacedParent, LawOfStat, LawOfWalks};
 ghost use Rattle.mount_laws.specs.Removals.{LawOfRemovedDirectory, LawOfRmdir, LawOfTakenAway, LawOfUnlink, LawOfUnlinked};
@@ -117,4 +118,14 @@ pub fn law_of_unlinked()
 /// and where a handle is open on the directory it stays one, without names and under no path.
 pub fn law_of_removed_directory()
     ensures { LawOfRemovedDirectory }
+{}
+
+/// A handle on a node that no path leads to closes: the mount stays, and a node that another handle is open on is as it was.
+pub fn law_of_close_removed()
+    ensures { LawOfCloseRemoved }
+{}
+
+/// A handle on a directory without names lists none, unless it keeps a listing of before.
+pub fn law_of_list_removed()
+    ensures { LawOfListRemoved }
 {}

@@ -1,11 +1,10 @@
 -- The mount answers each call as the machine does.
-use Rattle.std.proofs.Common.{arith, ◌≡◌, ℕ, ◌+◌, ◌<◌, ◌≤◌, Bool, true, false, cond, min, ◌||◌, List, [], ◌∷◌, Option, None, Some, Result, Ok, Err, refl, sym, ap, ◌∙◌, subst, ◌⊎◌, inl, inr, is_some, is_none, length, take, drop, nat_eq, nat_lt}
+use Rattle.std.proofs.Common.{arith, ◌≡◌, ℕ, ◌+◌, ◌<◌, ◌≤◌, true, false, min, ◌||◌, List, Option, None, Some, Ok, Err, refl, sym, ap, ◌∙◌, subst, is_some, is_none, length, take, drop, nat_eq, nat_lt}
 use Rattle.std.specs.Option.{unwrap_or, option_and_then}
-use Rattle.std.proofs.lemmas.Bool.{false≢true, lt-ltb, le-ltb, eq-eqb, ne_eqb}
+use Rattle.std.proofs.lemmas.Bool.{false≢true, le-ltb}
 use Rattle.std.proofs.lemmas.List.{drop_min, drop-drop}
 use Rattle.std.specs.BTreeMap.{get}
 use Rattle.std.specs.Ordering.{nat_cmp}
-use Rattle.std.specs.declared.alloc.AllocError.{AllocError}
 use Rattle.ov_base.specs.declared.bytes.Content.{Content}
 use Rattle.ov_base.specs.declared.bytes.Content.TheVariants as content
 use Rattle.ov_base.specs.declared.call.Call.{Call}
@@ -16,7 +15,6 @@ use Rattle.ov_base.specs.declared.reply.Reply.{Reply}
 use Rattle.ov_base.specs.declared.reply.Reply.TheVariants as reply
 use Rattle.ov_base.specs.declared.reply.Stat.{Stat}
 use Rattle.plain_model.specs.Layers.{Name, Path, Inode, Layer, Shown, Folder, Contents, shows, is_directory}
-use Rattle.plain_model.specs.Tree.{Tree}
 use Rattle.plain_model.specs.Machine.{Handle, Table, State, Look, Found, Absent, Fails, DESCRIPTORS_MAX, handle_of, lowest_free, look, is_found}
 use Rattle.plain_model.specs.Refusals.{when, there, bad_mode, refusal}
 use Rattle.plain_model.specs.Changes.{after, with_handle, names_in, listing, listed_on, way_of}
@@ -24,7 +22,6 @@ use Rattle.plain_model.specs.Replies.{reply_of}
 use Rattle.layer_tree.specs.Tree.{layer_of, inode_of}
 use Rattle.merged_lookup.specs.declared.layers.Layers.{Layers}
 use Rattle.merged_lookup.specs.Merged.{layers_of, lowers_of}
-use Rattle.merged_lookup.specs.Merged as merged
 use Rattle.merged_lookup.specs.Merged.{trees, node_in, ShowsInode}
 use Rattle.merged_lookup.specs.declared.stack.Place.{Place}
 use Rattle.merged_lookup.proofs.Looking.{inode-shown}
@@ -34,20 +31,16 @@ use Rattle.mount_laws.proofs.Looks.{is_present, present, law_of_walks, law_of_st
 use Rattle.mount_laws.proofs.Opens.{law_of_open}
 use Rattle.mount_laws.proofs.Lists.{law_of_list, law_of_close, law_of_bad_descriptors}
 use Rattle.private_mount.specs.declared.clients.Clients.{Clients}
-use Rattle.private_mount.specs.declared.descriptors.Descriptors.{Descriptors}
 use Rattle.private_mount.specs.declared.descriptors.OpenDirectory.{OpenDirectory}
 use Rattle.private_mount.specs.declared.mount.Mount.{Mount}
 use Rattle.private_mount.specs.Attaching.{opened_by, ChangesClient}
-use Rattle.private_mount.specs.Descriptors.{opened, SetsSlot}
+use Rattle.private_mount.specs.Descriptors.{opened}
 use Rattle.private_mount.specs.Listings.{Opens, Closes}
+use Rattle.private_mount.specs.Mounts.{IsUnchanged}
 use Rattle.private_mount.specs.Opening.{place_fault}
 use Rattle.private_mount.specs.Status.{stat_at, stat_shown, unless_refused}
-use Rattle.private_mount.specs.States.{number, IsLeft, IsHandle, IsSlot, AreTables, IsStateOf, Serves, AreLeft, Pages}
-use Rattle.private_mount.proofs.Serving.{slot-open, slot-closed, in-room, free-lowest, free-none, free-absent, handle-absent, tables-kept, tables-set, room-of}
-
--- both crates tell alike why a walk is refused
-pub same-walk : (Ls : List Layer) (p : Path) → merged.walk_fault Ls p ≡ walk_fault Ls p
-same-walk Ls p = refl
+use Rattle.private_mount.specs.States.{number, IsLeft, IsHandle, AreTables, IsStateOf, Serves, AreLeft, Pages}
+use Rattle.private_mount.proofs.Serving.{slot-open, slot-closed, in-room, free-lowest, free-none, free-absent, handle-absent, same-clients, tables-same, tables-set, room-of}
 
 serve-refused : (o : Option Errno) (s : State) (c : ℕ) (k : Call) (e : Errno) (new : Mount) → o ≡ Some e → IsStateOf new s → Serves o s c k (reply.Refused e) new
 serve-refused o s c k e new h st = subst (λ z. Serves z s c k (reply.Refused e) new) (sym h) (refl, st)
@@ -55,7 +48,7 @@ serve-refused o s c k e new h st = subst (λ z. Serves z s c k (reply.Refused e)
 serve-done : (o : Option Errno) (s : State) (c : ℕ) (k : Call) (r : Reply) (new : Mount) → o ≡ None → r ≡ reply_of s c k → IsStateOf new (after s c k) → Serves o s c k r new
 serve-done o s c k r new h e st = subst (λ z. Serves z s c k r new) (sym h) (e, st)
 
-changes-as : (old new : Clients) (c : ℕ) (P Q : List (Option OpenDirectory) → List (Option OpenDirectory) → Type 0) → ((x y : List (Option OpenDirectory)) → P x y → Q x y) → ChangesClient old new c P → ChangesClient old new c Q
+pub changes-as : (old new : Clients) (c : ℕ) (P Q : List (Option OpenDirectory) → List (Option OpenDirectory) → Type 0) → ((x y : List (Option OpenDirectory)) → P x y → Q x y) → ChangesClient old new c P → ChangesClient old new c Q
 changes-as old new c P Q f h = record {
   before = h.before;
   was = h.was;
@@ -166,8 +159,16 @@ module _ (m : Mount) (s : State) (st : IsStateOf m s) (c : ℕ) where
       let w = law_of_walks U lowers s st.layers p in
       sym w.to_last ∙ there-found (look s.tree p) (w.finds ∙ directory-some (shows 0 Ls p) h)
 
-  pub keep-state : (new : Clients) → ChangesClient m.clients new c (λ x y. y ≡ x) → IsStateOf (record m { clients = new }) s
-  keep-state new h = with-tables new s.tables h.next (tables-kept Ls s.tree m.clients s.tables st.tables new c h)
+  -- nothing is changed
+  pub keep-unchanged : (new : Mount) → IsUnchanged m new → IsStateOf new s
+  keep-unchanged new h =
+      state-as new m.layers s h.layers
+      (record { layers = st.layers.layers; shows = st.layers.shows; kept = st.layers.kept })
+      (tables-same Ls s.tree m.clients s.tables st.tables new.clients h.clients)
+      (h.clients.next ∙ st.arrived)
+
+  keep-state : (new : Clients) → ChangesClient m.clients new c (λ x y. y ≡ x) → IsStateOf (record m { clients = new }) s
+  keep-state new h = keep-unchanged (record m { clients = new }) (record { layers = refl; clients = same-clients m.clients new c h })
 
   -- stat
   pub stat-ok : (p : Path) (a : Stat) → Ok a ≡ stat_at Ls p → Serves (refusal s c (call.Stat p)) s c (call.Stat p) (reply.Status a) m
@@ -210,9 +211,6 @@ module _ (m : Mount) (s : State) (st : IsStateOf m s) (c : ℕ) where
       let kept = keep-state new (changes-as m.clients new c _ _ (λ x y g. g.refused) ch) in
       subst (λ z. Serves (refusal s c (call.Open p FOR_LISTING mode)) s c (call.Open p FOR_LISTING mode) (reply.Refused z) (record m { clients = new })) (sym ch.changes.full.0)
       (full-open p mode (record m { clients = new }) h (free-none Ls s.tree m.clients s.tables st.tables c ch.before ch.was ch.changes.full.1) kept)
-
-  pub open-failed : (new : Clients) (o : OpenDirectory) (e : AllocError) → ChangesClient m.clients new c (λ x y. Opens x y o (Err e)) → IsStateOf (record m { clients = new }) s
-  open-failed new o e ch = keep-state new (changes-as m.clients new c _ _ (λ x y g. g.err) ch)
 
   pub open-done : (p : Path) (mode d : ℕ) (new : Clients) → place_fault Ls p mode ≡ None → ChangesClient m.clients new c (λ x y. Opens x y (record { path = p; listing = None }) (Ok (Ok d))) → Serves (refusal s c (call.Open p FOR_LISTING mode)) s c (call.Open p FOR_LISTING mode) (reply.Descriptor d) (record m { clients = new })
   open-done p mode d new h ch = by (law.opened unrefused)

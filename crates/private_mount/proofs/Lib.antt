@@ -4,3 +4,4 @@ pub mod Serving
 pub mod Answering
 pub mod Paging
 pub mod Coming
+pub mod Replying

@@ -1,9 +1,9 @@
 -- The names that a listing gives.
-use Rattle.std.proofs.Common.{◌≡◌, ℕ, Bool, true, false, List, [], Option, None, Some, Result, Ok, Err, refl, sym, ap, ◌∙◌, subst, is_some, take, drop, option_map}
+use Rattle.std.proofs.Common.{◌≡◌, ℕ, true, false, List, Option, None, Some, Result, Ok, Err, refl, sym, ap, ◌∙◌, subst, is_some, take, drop, option_map}
 use Rattle.std.specs.Result.{IfOk}
 use Rattle.std.proofs.lemmas.Bool.{false≢true}
 use Rattle.std.specs.declared.alloc.AllocError.{AllocError}
-use Rattle.plain_model.specs.Layers.{Name, Path, Layer, shows, is_directory}
+use Rattle.plain_model.specs.Layers.{Name, shows, is_directory}
 use Rattle.merged_lookup.specs.Merged.{layers_of}
 use Rattle.mount_laws.specs.Looks.{walk_fault, AreShown}
 use Rattle.private_mount.specs.declared.clients.Clients.{Clients}

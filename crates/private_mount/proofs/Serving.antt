@@ -1,21 +1,21 @@
 -- The descriptors of a mount are those of the machine's tables.
-use Rattle.std.proofs.Common.{arith, ◌≡◌, ◌≢◌, ℕ, zero, suc, ◌+◌, ◌<◌, Bool, true, false, not, cond, min, ◌||◌, List, [], ◌∷◌, Option, None, Some, refl, sym, ap, ◌∙◌, subst, ◌⊎◌, inl, inr, is_some, is_none, length, map, take, drop, slice_get, slice_set, length-set, nat_eq, nat_lt}
-use Rattle.std.proofs.lemmas.Bool.{false≢true, cases_Bool, cases_eq, eqb-true, eq-eqb, ne_eqb, lt-ltb, le-ltb}
-use Rattle.std.proofs.lemmas.List.{drop_min, drop-drop}
+use Rattle.std.proofs.Common.{arith, ◌≡◌, ◌≢◌, ℕ, zero, suc, ◌<◌, Bool, true, false, cond, ◌||◌, List, [], ◌∷◌, Option, None, Some, refl, sym, ap, ◌∙◌, subst, ◌⊎◌, inl, inr, is_some, is_none, length, slice_get, slice_set, length-set, nat_eq}
+use Rattle.std.proofs.lemmas.Bool.{false≢true, cases_Bool, cases_eq, eqb-true, ne_eqb, lt-ltb, le-ltb}
 use Rattle.std.proofs.lemmas.Option.{slice_get_within}
 use Rattle.std.specs.List.{list_any, position, position_or_len}
 use Rattle.std.specs.Option.{option_and_then}
 use Rattle.std.specs.BTreeMap.{get}
 use Rattle.std.specs.Ordering.{nat_cmp}
-use Rattle.plain_model.specs.Layers.{Name, Path, Layer}
+use Rattle.plain_model.specs.Layers.{Layer}
 use Rattle.plain_model.specs.Tree.{Tree}
-use Rattle.plain_model.specs.Machine.{Handle, Table, State, DESCRIPTORS_MAX, handles_of, held_in, handle_of, lowest_free}
+use Rattle.plain_model.specs.Machine.{Handle, Table, DESCRIPTORS_MAX, handles_of, held_in, handle_of, lowest_free}
 use Rattle.plain_model.specs.Changes.{with_handle}
 use Rattle.private_mount.specs.declared.clients.Clients.{Clients}
 use Rattle.private_mount.specs.declared.descriptors.Descriptors.{Descriptors}
 use Rattle.private_mount.specs.declared.descriptors.OpenDirectory.{OpenDirectory}
 use Rattle.private_mount.specs.Attaching.{opened_by, ChangesClient}
 use Rattle.private_mount.specs.Descriptors.{opened, IsFull, IsLowestFree, SetsSlot}
+use Rattle.private_mount.specs.Mounts.{SameClients}
 use Rattle.private_mount.specs.States.{IsHandle, IsSlot, AreTables}
 
 -- one element of a list after it is set, and the others
@@ -124,6 +124,24 @@ there o = is_some o
 opened-is : (clients : Clients) (c d : ℕ) (ds : Descriptors) → get nat_cmp clients.attached c ≡ Some ds → opened_by clients c d ≡ opened ds.slots.items d
 opened-is clients c d ds e = ap (option_and_then (λ (x : Descriptors). opened x.slots.items d)) e
 
+-- a client's descriptors stay as they are
+pub same-clients : (clients new : Clients) (c : ℕ) → ChangesClient clients new c (λ x y. y ≡ x) → SameClients clients new
+same-clients clients new c h = record { attached = same; opened = opens; next = h.next }
+  where
+    same : (b : ℕ) → is_some (get nat_cmp new.attached b) ≡ is_some (get nat_cmp clients.attached b)
+    same b = by (cases_eq b c)
+      where
+        by : (b ≡ c) ⊎ (b ≡ c → ⊥) → is_some (get nat_cmp new.attached b) ≡ is_some (get nat_cmp clients.attached b)
+        by (inl e) = rw e (ap there h.is ∙ sym (ap there h.was))
+        by (inr n) = ap there (h.others b n)
+
+    opens : (b d : ℕ) → opened_by new b d ≡ opened_by clients b d
+    opens b d = by (cases_eq b c)
+      where
+        by : (b ≡ c) ⊎ (b ≡ c → ⊥) → opened_by new b d ≡ opened_by clients b d
+        by (inl e) = rw e (opened-is new c d h.after h.is ∙ ap (λ s. opened s d) h.changes ∙ sym (opened-is clients c d h.before h.was))
+        by (inr n) = ap (option_and_then (λ (x : Descriptors). opened x.slots.items d)) (h.others b n)
+
 module _ (Ls : List Layer) (t : Tree) (clients : Clients) (ks : List Table) (a : AreTables Ls t clients ks) where
   -- how many descriptors an attached client has
   pub room-of : (c : ℕ) → is_some (get nat_cmp clients.attached c) ≡ true → length (handles_of ks c) ≡ DESCRIPTORS_MAX
@@ -164,32 +182,18 @@ module _ (Ls : List Layer) (t : Tree) (clients : Clients) (ks : List Table) (a :
   pub handle-absent : (c d : ℕ) → get nat_cmp clients.attached c ≡ None → handle_of ks c d ≡ None
   handle-absent c d e = slot-closed Ls t _ _ (a.slots c d) (ap (option_and_then (λ (x : Descriptors). opened x.slots.items d)) e)
 
-  module _ (new : Clients) (c : ℕ) where
-    -- the descriptors of a client stay as they are
-    pub tables-kept : ChangesClient clients new c (λ x y. y ≡ x) → AreTables Ls t new ks
-    tables-kept h = record {
-      attached = λ b. a.attached b ∙ sym (same b);
-      room = λ b. a.room b ∙ sym (ap (λ z. cond z DESCRIPTORS_MAX 0) (same b));
-      slots = λ b d. slot-as Ls t _ _ _ _ (sym (opens b d)) refl (a.slots b d);
+  module _ (new : Clients) where
+    -- the clients and their descriptors stay as they are
+    pub tables-same : SameClients clients new → AreTables Ls t new ks
+    tables-same h = record {
+      attached = λ b. a.attached b ∙ sym (h.attached b);
+      room = λ b. a.room b ∙ sym (ap (λ z. cond z DESCRIPTORS_MAX 0) (h.attached b));
+      slots = λ b d. slot-as Ls t _ _ _ _ (sym (h.opened b d)) refl (a.slots b d);
     }
-      where
-        same : (b : ℕ) → is_some (get nat_cmp new.attached b) ≡ is_some (get nat_cmp clients.attached b)
-        same b = by (cases_eq b c)
-          where
-            by : (b ≡ c) ⊎ (b ≡ c → ⊥) → is_some (get nat_cmp new.attached b) ≡ is_some (get nat_cmp clients.attached b)
-            by (inl e) = rw e (ap there h.is ∙ sym (ap there h.was))
-            by (inr n) = ap there (h.others b n)
-
-        opens : (b d : ℕ) → opened_by new b d ≡ opened_by clients b d
-        opens b d = by (cases_eq b c)
-          where
-            by : (b ≡ c) ⊎ (b ≡ c → ⊥) → opened_by new b d ≡ opened_by clients b d
-            by (inl e) = rw e (opened-is new c d h.after h.is ∙ ap (λ s. opened s d) h.changes ∙ sym (opened-is clients c d h.before h.was))
-            by (inr n) = ap (option_and_then (λ (x : Descriptors). opened x.slots.items d)) (h.others b n)
 
     -- one descriptor is set on both sides
-    pub tables-set : (fd : ℕ) (o : Option OpenDirectory) (x : Option Handle) → ChangesClient clients new c (λ b y. SetsSlot b y fd o) → fd < DESCRIPTORS_MAX → IsSlot Ls t o x → AreTables Ls t new (with_handle ks c fd x)
-    tables-set fd o x h inside slot = record {
+    pub tables-set : (c fd : ℕ) (o : Option OpenDirectory) (x : Option Handle) → ChangesClient clients new c (λ b y. SetsSlot b y fd o) → fd < DESCRIPTORS_MAX → IsSlot Ls t o x → AreTables Ls t new (with_handle ks c fd x)
+    tables-set c fd o x h inside slot = record {
       attached = λ b. attached-same ks c fd b x ∙ a.attached b ∙ sym (same b);
       room = λ b. long b ∙ a.room b ∙ sym (ap (λ z. cond z DESCRIPTORS_MAX 0) (same b));
       slots = slots;

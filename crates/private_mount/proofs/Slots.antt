@@ -1,14 +1,13 @@
 -- What slots have after one of them was read or written.
-use Rattle.std.proofs.Common.{◌≡◌, ◌≢◌, ℕ, zero, suc, ◌<◌, ◌≤◌, List, [], ◌∷◌, length, take, get_or, Option, None, Some, Result, Ok, Err, IfOk, OnOk, OnErr, IsSome, option_map, refl, sym, ap, ◌∙◌, arith, rules, true, false}
+use Rattle.std.proofs.Common.{◌≡◌, ◌≢◌, ℕ, zero, suc, ◌<◌, List, [], ◌∷◌, length, take, get_or, Option, None, Some, Result, Ok, Err, IfOk, OnOk, OnErr, IsSome, option_map, refl, sym, ap, ◌∙◌, arith, true, false}
 use Rattle.std.proofs.Math.ListN.{set}
-use Rattle.std.proofs.lemmas.List.{set-get_or, get_or-set_same, get_or-set_other, length-set}
-use Rattle.std.proofs.lemmas.Option.{slice_get_read, slice_get_past, slice_get-get_or}
-use Rattle.std.proofs.lemmas.Grind.{common_steps}
+use Rattle.std.proofs.lemmas.List.{set-get_or}
+use Rattle.std.proofs.lemmas.Option.{slice_get_read}
 use Rattle.std.specs.List.{slice_get}
 use Rattle.std.specs.declared.alloc.AllocError.{AllocError}
 use Rattle.private_mount.specs.declared.descriptors.OpenDirectory.{OpenDirectory}
 use Rattle.private_mount.specs.Descriptors.{opened, in_slot, SetsSlot}
-use Rattle.private_mount.specs.Listings.{GivesNames, ChangesSlot, names_left, after_names}
+use Rattle.private_mount.specs.Listings.{GivesNames, names_left, after_names}
 
 -- What is read in a slot is open there.
 pub opened-read : {D : Type 0} (slots : List (Option D)) (d : ℕ) (v : Option D) → d < length slots → v ≡ get_or slots d v → opened slots d ≡ v

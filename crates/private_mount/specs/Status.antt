@@ -1,5 +1,5 @@
 -- What stat(2) answers at a path of the layers of a mount, and shows of an object of a layer.
-use Rattle.std.specs.Prelude.{ℕ, min, List, [], length, Option, Some, None, Result, Ok, Err}
+use Rattle.std.specs.Prelude.{ℕ, min, List, length, Option, Some, None, Result, Ok, Err}
 use Rattle.ov_base.specs.declared.attributes.Attributes.{Attributes}
 use Rattle.ov_base.specs.declared.errno.Errno.{Errno}
 use Rattle.ov_base.specs.declared.errno.Errno.TheVariants.{ENOENT}
@@ -54,12 +54,3 @@ unless_refused (Some e) r = Err e
 -- the answer of stat at a path: why the walk there is refused, or what is shown
 abbrev pub stat_at : List Layer → Path → Result Stat Errno
 stat_at Ls p = unless_refused (walk_fault Ls p) (stat_shown (shows 0 Ls p))
-
--- the attributes of a directory
-abbrev pub attributes_of : Option Node → Attributes
-attributes_of (Some (node.Directory d)) = d.attributes
-attributes_of _ = record { mode = 0; uid = 0; gid = 0; user = [] }
-
--- what stat shows of the directory at the top of a stack
-abbrev pub stat_of_top : Option Node → Stat
-stat_of_top o = stat_with kind.Directory (attributes_of o) 0 1

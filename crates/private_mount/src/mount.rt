@@ -1,21 +1,21 @@
 // A mount and the clients on it.
-ghost use Rattle.std.specs.Prelude.{◌≡◌, ◌<◌, ◌↔◌, ℕ, Bool, List, Some, None, IfOk, IfErr, OnOk, OnErr, IsTrue, IsSome, MatchResult, option_copied, true};
+ghost use Rattle.std.specs.Prelude.{◌≡◌, ◌<◌, ℕ, Bool, List, Some, None, Ok, IfOk, IfErr, OnOk, OnErr, IsSome, MatchResult, option_copied, true};
 ghost use Rattle.plain_model.specs.Layers.{shows, is_directory, AreLayers};
-ghost use Rattle.std.specs.Option.{option_and_then};
-ghost use Rattle.layer_tree.specs.Tree.{inode_of, layer_of};
-ghost use Rattle.merged_lookup.specs.Merged.{trees, layers_of, lowers_of, node_in};
-ghost use Rattle.mount_laws.specs.Looks.{FOR_LISTING, AreShown, inode_fault, walk_fault};
-ghost use Rattle.private_mount.specs.Opening.{place_fault};
+ghost use Rattle.layer_tree.specs.Tree.{layer_of};
+ghost use Rattle.merged_lookup.specs.Merged.{layers_of, lowers_of};
+ghost use Rattle.mount_laws.specs.Looks.{FOR_LISTING, AreShown, walk_fault};
+ghost use Rattle.private_mount.specs.Opening as opening;
+ghost use Rattle.private_mount.specs.Opening.{directory_fault};
+ghost use Rattle.private_mount.specs.Status.{stat_at};
 
 use crate::clients::Clients;
 use crate::descriptors::OpenDirectory;
 use crate::listing::Listing;
 use crate::status::status_at;
 use dir_listing::names;
-use layer_tree::{Inode, Node};
 use make_remove::mkdir;
-use merged_lookup::{Found, Layers, Place};
-use ov_base::{Call, Content, Errno, NameList, OpenFlags, Path, Reply};
+use merged_lookup::{Found, Layers};
+use ov_base::{Call, Errno, NameList, OpenFlags, Path, Reply};
 use std::alloc::{AllocError, Global};
 
 /// The most names that one `list` gives.
@@ -34,7 +34,8 @@ pub struct Mount {
 
 impl Mount {
     ghost use Rattle.std.specs.BTreeMap.{btree_map_len};
-    ghost use Rattle.plain_model.specs.Machine.{State, opening};
+    ghost use Rattle.plain_model.specs.Machine as machine;
+    ghost use Rattle.plain_model.specs.Machine.{State};
     ghost use Rattle.plain_model.specs.Tree.{Tree};
     ghost use Rattle.plain_model.specs.Merging.{IsMerge};
     ghost use Rattle.plain_model.specs.Runs as runs;
@@ -42,12 +43,12 @@ impl Mount {
     ghost use Rattle.plain_model.specs.Refusals.{refusal};
     ghost use Rattle.private_mount.specs.Attaching.{HasNoRoom, opened_by};
     ghost use Rattle.private_mount.specs.States.{IsStateOf, IsOffered, Serves, Pages};
-    ghost use Rattle.private_mount.specs.Mounts.{AnswersMkdir, Makes};
+    ghost use Rattle.private_mount.specs.Mounts.{Answers, AnswersMkdir, AnswersOpen, AnswersList, AnswersClose, IsUnchanged, UnlessMkdir, stat_reply};
 
     /// A mount of these layers without a client.
     pub fn new(alloc: Global, layers: Layers) -> Mount
         ensures layers { result.layers ≡ layers }
-        ensures begins { (t : Tree) (redirects : Bool) → AreLayers (layers_of layers) → IsMerge (layer_of layers.upper) (lowers_of layers) t → IsStateOf result (opening t redirects) }
+        ensures begins { (t : Tree) (redirects : Bool) → AreLayers (layers_of layers) → IsMerge (layer_of layers.upper) (lowers_of layers) t → IsStateOf result (machine.opening t redirects) }
     {
         Mount {
             layers,
@@ -96,7 +97,9 @@ impl Mount {
     pub fn call(&mut self, client: u32, call: Call) -> Result<Reply, AllocError>
         ensures serves { IfOk result (λ reply. IsOffered call → (s : State) → IsStateOf self.old s → Serves (refusal s client call) s client call reply self.new) }
         ensures err { OnErr result (IsOffered call → (s : State) → IsStateOf self.old s → IsStateOf self.new s) }
-        ensures makes { Makes self.old self.new call result }
+        ensures answers { Answers self.old self.new client call result }
+        ensures refused { IfOk result (λ reply. (errno : Errno) → reply ≡ Reply.Refused errno → IsUnchanged self.old self.new) }
+        ensures layers { UnlessMkdir call (self.new.layers ≡ self.old.layers) }
     {
         match call {
             Call::Stat { path } => Ok(self.stat(&path)),
@@ -109,7 +112,8 @@ impl Mount {
     }
 
     fn stat(&self, path: &Path) -> Reply
-        ensures { (s : State) → IsStateOf self.now s → (c : ℕ) → Serves (refusal s c (Call.Stat path.now)) s c (Call.Stat path.now) result self.now }
+        ensures answers { result ≡ stat_reply (stat_at (layers_of self.now.layers) path.now) }
+        ensures serves { (s : State) → IsStateOf self.now s → (c : ℕ) → Serves (refusal s c (Call.Stat path.now)) s c (Call.Stat path.now) result self.now }
     {
         match status_at(&self.layers, path) {
             Ok(status) => Reply::Status(status),
@@ -134,7 +138,7 @@ impl Mount {
         mode: u32,
     ) -> Result<Reply, AllocError>
         ensures serves { IfOk result (λ reply. flags ≡ FOR_LISTING → (s : State) → IsStateOf self.old s → Serves (refusal s client (Call.Open path flags mode)) s client (Call.Open path flags mode) reply self.new) }
-        ensures err { OnErr result ((s : State) → IsStateOf self.old s → IsStateOf self.new s) }
+        ensures answers { AnswersOpen self.old self.new client path flags mode result }
     {
         if let Err(errno) = self.may_open(&path, flags, mode) {
             return Ok(Reply::Refused(errno));
@@ -152,9 +156,9 @@ impl Mount {
         }
     }
 
-    // Whether a directory stands there that these flags and this mode open.
+    // Whether a directory stands there that these flags and this mode open; a symbolic link isn't followed.
     fn may_open(&self, path: &Path, flags: OpenFlags, mode: u32) -> Result<(), Errno>
-        ensures { flags ≡ FOR_LISTING → MatchResult result (λ _. place_fault (layers_of self.now.layers) path.now mode ≡ None) (λ e. place_fault (layers_of self.now.layers) path.now mode ≡ Some e) }
+        ensures { MatchResult result (λ _. directory_fault (layers_of self.now.layers) path.now flags mode ≡ None) (λ e. directory_fault (layers_of self.now.layers) path.now flags mode ≡ Some e) }
     {
         if !reads_directory(flags) {
             return Err(Errno::EOPNOTSUPP);
@@ -164,30 +168,13 @@ impl Mount {
         }
         match self.layers.walk(path)? {
             Found::Directory(_) => Ok(()),
-            Found::Inode(place) => Err(self.not_a_directory(place)),
-        }
-    }
-
-    // Why what stands at a place can't be opened as a directory: a symbolic link isn't followed.
-    fn not_a_directory(&self, place: Place) -> Errno
-        ensures { result ≡ inode_fault (option_and_then inode_of (node_in (trees self.now.layers) place)) }
-    {
-        match self.layers.node(place) {
-            Some(
-                Node::Inode(
-                    Inode {
-                        content: Content::SymbolicLink(_),
-                        ..
-                    },
-                ),
-            ) => Errno::ELOOP,
-            _ => Errno::ENOTDIR,
+            Found::Inode(place) => Err(self.layers.blocked(place)),
         }
     }
 
     fn list(&mut self, client: u32, descriptor: u32, count: u32) -> Result<Reply, AllocError>
         ensures serves { IfOk result (λ reply. (s : State) → IsStateOf self.old s → Serves (refusal s client (Call.ListNames descriptor count)) s client (Call.ListNames descriptor count) reply self.new) }
-        ensures err { OnErr result ((s : State) → IsStateOf self.old s → IsStateOf self.new s) }
+        ensures answers { AnswersList self.old self.new client descriptor count result }
     {
         if self.opened(client, descriptor).is_none() {
             return Ok(Reply::Refused(Errno::EBADF));
@@ -210,7 +197,7 @@ impl Mount {
     fn page(&mut self, client: u32, descriptor: u32, count: usize) -> Result<NameList, AllocError>
         requires { IsSome (opened_by self.old.clients client descriptor) }
         ensures pages { IfOk result (λ names. Pages self.old self.new client descriptor count names) }
-        ensures err { OnErr result ((s : State) → IsStateOf self.old s → IsStateOf self.new s) }
+        ensures err { OnErr result (IsUnchanged self.old self.new) }
     {
         let directory = self.opened(client, descriptor).unwrap();
         if directory.listing.is_some() {
@@ -225,7 +212,8 @@ impl Mount {
     }
 
     fn close(&mut self, client: u32, descriptor: u32) -> Reply
-        ensures { (s : State) → IsStateOf self.old s → Serves (refusal s client (Call.Close descriptor)) s client (Call.Close descriptor) result self.new }
+        ensures answers { AnswersClose self.old self.new client descriptor (Ok result) }
+        ensures serves { (s : State) → IsStateOf self.old s → Serves (refusal s client (Call.Close descriptor)) s client (Call.Close descriptor) result self.new }
     {
         if self.clients.get(client).is_none() {
             return Reply::Refused(Errno::EBADF);
@@ -239,7 +227,7 @@ impl Mount {
 
 // Whether the flags are those of a directory that is opened for reading.
 fn reads_directory(flags: OpenFlags) -> bool
-    ensures { IsTrue result ↔ (flags ≡ FOR_LISTING) }
+    ensures { result ≡ opening.reads_directory flags }
 {
     let changes = flags.writes || flags.create || flags.exclusive || flags.truncate;
     flags.reads && flags.directory && !changes && !flags.append && !flags.unknown

@@ -1,13 +1,16 @@
 // What stat(2) shows of an object of a layer.
-ghost use Rattle.std.specs.Prelude.{◌≡◌, min, length};
+ghost use Rattle.std.specs.Prelude.{◌≡◌, Some, min, length};
 ghost use Rattle.private_mount.specs.Status as status;
-ghost use Rattle.private_mount.specs.Status.{content_kind, content_bytes, stat_of_content, stat_at, stat_of_inode, stat_of_top};
+ghost use Rattle.private_mount.specs.Status.{content_kind, content_bytes, stat_of_content, stat_at, stat_of_inode};
+ghost use Rattle.ov_base.specs.declared.attributes.Attributes.{Attributes};
+ghost use Rattle.plain_model.specs.Layers as held;
+ghost use Rattle.plain_model.specs.Layers.{Path, shows};
 ghost use Rattle.std.specs.Option.{option_and_then, option_copied};
 ghost use Rattle.layer_tree.specs.Tree.{inode_of};
 ghost use Rattle.merged_lookup.specs.Merged.{layers_of};
 
 use layer_tree::{Inode, Node};
-use merged_lookup::{Found, Layers};
+use merged_lookup::{Found, Layers, Place};
 use ov_base::{Attributes, Content, Errno, ObjectKind, Path, Stat};
 
 /// What stat(2) answers at a path. On the way to its last name a name that shows nothing is ENOENT, a file ENOTDIR and a symbolic
@@ -16,27 +19,25 @@ pub fn status_at(layers: &Layers, path: &Path) -> Result<Stat, Errno>
     ensures { result ≡ stat_at (layers_of layers.now) path.now }
 {
     match layers.walk(path)? {
-        Found::Directory(stack) => Ok(directory_status(layers.node(stack.top()))),
+        Found::Directory(stack) => Ok(directory_status(layers, stack.top())),
         Found::Inode(place) => inode_status(layers.node(place)),
     }
 }
 
-// The status of the directory at the top of a stack, which is always there.
-fn directory_status(node: Option<&Node>) -> Stat
-    ensures { result ≡ stat_of_top (option_copied node.entry) }
+// The status of the directory that is shown at a place.
+fn directory_status(layers: &Layers, place: Place) -> Stat
+    requires { (p : Path) × (a : Attributes) × (shows 0 (layers_of layers.now) p ≡ Some (held.Folder place.layer place.key a)) }
+    ensures { (p : Path) (a : Attributes) → shows 0 (layers_of layers.now) p ≡ Some (held.Folder place.layer place.key a) → result ≡ status.stat_with ObjectKind.Directory a 0 1 }
 {
-    match node {
+    let Some(layer) = layers.layer(place.layer) else {
+        unreachable!()
+    };
+    layer.lawful();
+    match layer.node(place.key) {
         Some(Node::Directory(directory)) => {
             status_with(ObjectKind::Directory, &directory.attributes, 0, 1)
         }
-        _ => Stat {
-            kind: ObjectKind::Directory,
-            mode: 0,
-            uid: 0,
-            gid: 0,
-            size: 0,
-            links: 1,
-        },
+        _ => unreachable!(),
     }
 }
 

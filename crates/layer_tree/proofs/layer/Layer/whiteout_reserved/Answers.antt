@@ -1,4 +1,4 @@
-use Rattle.std.proofs.Common.{◌≡◌, ap, ◌∙◌, subst, Some}
+use Rattle.std.proofs.Common.{◌≡◌, ap, ◌∙◌, subst, Some, refl}
 use Rattle.std.specs.FinMap as map
 use Rattle.plain_model.specs.Layers as layers
 use Rattle.layer_tree.specs.Change.{Retables}
@@ -6,6 +6,7 @@ use Rattle.layer_tree.specs.Tree.{Tree, IsTree, entry}
 use Rattle.layer_tree.specs.declared.name_table.Entry.TheVariants as to
 use Rattle.layer_tree.proofs.Binding.{covered, IsTree-covered, covered_covers, counted_retabled}
 use Rattle.layer_tree.proofs.Keeping.{IsLayer-unbinds}
+use Rattle.layer_tree.proofs.Freeing.{directory_unnamed}
 use Rattle.layer_tree.proofs.layer.Layer.whiteout_reserved.Goals as goal
 
 pub unlink-requires : goal.unlink-requires
@@ -32,6 +33,13 @@ returns-clause-unbinds c =
     let r : Retables c.args.self.now c.bind_name-entry.new.nodes c.args.dir (λ m. map.insert m c.args.name to.Whiteout) 1 = subst (λ (s : Tree). Retables s c.bind_name-entry.new.nodes c.args.dir (λ m. map.insert m c.args.name to.Whiteout) 1) c.self.view_is c.bind_name-entry.ensures.retables in
     let value : c.bind_name-entry.result ≡ entry c.args.self.now c.args.dir c.args.name = c.bind_name-entry.ensures.value ∙ ap (λ (s : Tree). entry s c.args.dir c.args.name) c.self.view_is in
     covered c.args.self.now c.bind_name-entry.new.nodes c.unlink.new.nodes c.args.dir c.args.name c.bind_name-entry.result tree c.requires.is_dir value c.unlink.ensures.unlinks r
+
+pub returns-clause-unnamed : goal.returns-clause-unnamed
+returns-clause-unnamed c =
+    let tree : IsTree c.args.self.now = subst IsTree c.self.view_is c.self.invariant in
+    let r : Retables c.args.self.now c.bind_name-entry.new.nodes c.args.dir (λ m. map.insert m c.args.name to.Whiteout) 1 = subst (λ (s : Tree). Retables s c.bind_name-entry.new.nodes c.args.dir (λ m. map.insert m c.args.name to.Whiteout) 1) c.self.view_is c.bind_name-entry.ensures.retables in
+    let value : c.bind_name-entry.result ≡ entry c.args.self.now c.args.dir c.args.name = c.bind_name-entry.ensures.value ∙ ap (λ (s : Tree). entry s c.args.dir c.args.name) c.self.view_is in
+    directory_unnamed c.args.self.now c.unlink.new.nodes c.args.dir c.args.name (Some to.Whiteout) tree (covered c.args.self.now c.bind_name-entry.new.nodes c.unlink.new.nodes c.args.dir c.args.name c.bind_name-entry.result tree c.requires.is_dir value c.unlink.ensures.unlinks r) refl
 
 pub returns-clause-keeps : goal.returns-clause-keeps
 returns-clause-keeps c path at bare =

@@ -1,6 +1,4 @@
-use Rattle.std.proofs.Common.{rules, arith, ◌≡◌, ◌≢◌, ℕ, ◌+◌, ◌^◌, true, false, cond, nat_lt, ◌<◌, Option, Some, None, is_some, sym}
-use Rattle.std.specs.BTreeMap.{get}
-use Rattle.std.specs.Ordering.{nat_cmp}
+use Rattle.std.proofs.Common.{rules, arith, ◌≡◌, ℕ, ◌^◌, true, cond, nat_lt, ◌<◌, Option, Some, None, is_some}
 use Rattle.std.specs.Option.{SomeIff}
 use Rattle.private_mount.specs.Clients.{is_before}
 use Rattle.private_mount.proofs.clients.Clients.attach.Goals as goal

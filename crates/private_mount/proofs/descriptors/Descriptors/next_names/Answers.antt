@@ -1,4 +1,3 @@
-use Rattle.std.proofs.Common.{rules, ◌≡◌, get_or, None}
 use Rattle.private_mount.proofs.Slots.{gives-names, opened-within, opened-taken}
 use Rattle.private_mount.proofs.descriptors.Descriptors.next_names.Goals as goal
 

@@ -1,4 +1,4 @@
-use Rattle.std.proofs.Common.{◌≡◌, Bool, false, ◌||◌, nat_eq, nat_lt, refl}
+use Rattle.std.proofs.Common.{◌≡◌, false, ◌||◌, nat_eq, nat_lt, refl}
 use Rattle.std.proofs.lemmas.Bool.{ne_eqb, le-ltb}
 use Rattle.private_mount.proofs.Answering.{list-done}
 use Rattle.private_mount.proofs.mount.Mount.list.Goals as goal

@@ -3,7 +3,7 @@ use Rattle.ov_base.specs.declared.bytes.Content.{Content}
 use Rattle.layer_tree.specs.Tree.{file_bytes, written}
 use Rattle.layer_tree.specs.Change.{node_bytes, with_file}
 use Rattle.layer_tree.specs.declared.node.Node.TheVariants as node
-use Rattle.layer_tree.proofs.layer.write_in.Goals as goal
+use Rattle.layer_tree.proofs.file_write.write_in.Goals as goal
 
 pub returns-clause-wrote : goal.returns-clause-wrote
 returns-clause-wrote c old is =

@@ -2,7 +2,7 @@ use Rattle.std.proofs.Common.{◌≡◌, ℕ, List, sym, ap, ◌∙◌, is_ok, i
 use Rattle.ov_base.specs.declared.bytes.Content.TheVariants as content
 use Rattle.layer_tree.specs.Tree.{file_bytes, written}
 use Rattle.layer_tree.proofs.Walks.{unwrapped}
-use Rattle.layer_tree.proofs.layer.write_content.Goals as goal
+use Rattle.layer_tree.proofs.file_write.write_content.Goals as goal
 
 pub returns-clause-wrote : goal.returns-clause-wrote
 returns-clause-wrote c old is =

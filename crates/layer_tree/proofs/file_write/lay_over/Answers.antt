@@ -1,7 +1,7 @@
 use Rattle.std.proofs.Common.{◌≡◌, ◌+◌, ◌-◌, ℕ, Vec, Global, List, ◌++◌, length, take, drop, replicate, ap, ◌∙◌, arith}
 use Rattle.layer_tree.proofs.Overlays.{whole_part, written_within, written_filled}
-use Rattle.layer_tree.proofs.layer.lay_over.Goals.{then-len-end+in_ok-resize, else-len-end}
-use Rattle.layer_tree.proofs.layer.lay_over.Goals as goal
+use Rattle.layer_tree.proofs.file_write.lay_over.Goals.{then-len-end+in_ok-resize, else-len-end}
+use Rattle.layer_tree.proofs.file_write.lay_over.Goals as goal
 
 pub returns : goal.returns
 returns c =

@@ -1,0 +1,225 @@
+-- What layers show once a name is removed, from what the upper held before missing parents were placed.
+use Rattle.std.proofs.Common.{◌≡◌, ◌↔◌, ℕ, ◌<◌, Bool, true, false, not, ◌||◌, cond, bytes_eq, List, [], ◌∷◌, Option, None, Some, is_some, length, refl, sym, ap, ap₂, ◌∙◌, subst, map, arith}
+use Rattle.std.proofs.lemmas.Bool.{false≢true}
+use Rattle.std.specs.List.{list_any}
+use Rattle.plain_model.proofs.Paths.{names_tell}
+use Rattle.slab.specs.Slab.{get}
+use Rattle.ov_base.specs.declared.call.Call.TheVariants as call
+use Rattle.ov_base.specs.declared.errno.Errno.{Errno}
+use Rattle.ov_base.specs.declared.errno.Errno.TheVariants as errno
+use Rattle.plain_model.specs.Layers.{Name, Path, Object, Named, Whiteout, Layer, IsLayer, AreLayers, held, below, cuts, Shown, Folder, Contents, shows, under, is_directory}
+use Rattle.plain_model.specs.Machine.{State, is_root}
+use Rattle.plain_model.specs.Refusals.{refusal, when}
+use Rattle.plain_model.specs.Tree.{merged, AreLinked, IsThin}
+use Rattle.mount_laws.specs.Looks.{IsMountOf, or_else, absent, fault, way_fault, walk_fault}
+use Rattle.mount_laws.specs.Removals.{fewer}
+use Rattle.mount_laws.proofs.Alters.{law_of_taken_away, law_of_thin}
+use Rattle.mount_laws.proofs.Refusing.{law_of_rmdir}
+use Rattle.mount_laws.proofs.Removes.{law_of_unlinked, law_of_removed_directory}
+use Rattle.layer_tree.specs.Tree.{Tree, IsTree, IsDirectory, layer_of, inode_at, child, key_at}
+use Rattle.merged_lookup.specs.declared.stack.Place.{Place}
+use Rattle.merged_lookup.specs.declared.stack.Stack.{Stack}
+use Rattle.merged_lookup.specs.declared.layers.Layers.{Layers}
+use Rattle.merged_lookup.specs.declared.found.Found.{Found}
+use Rattle.merged_lookup.specs.declared.found.Found.TheVariants as found
+use Rattle.merged_lookup.specs.Merged.{trees, layers_of, lowers_of, top_of, unless_cut, places_at, IsStackOf, IsFound, ShowsDirectory, ShowsInode}
+use Rattle.merged_lookup.proofs.Descending.{key-of}
+use Rattle.merged_lookup.proofs.Looking.{head-places, head-unless}
+use Rattle.copy_up.specs.Showing.{ShowsSame, StaysLayers}
+use Rattle.copy_up.proofs.Keeping.{lowers-same}
+use Rattle.copy_up.proofs.Nodes.{IsDirectoryWith, held-node, table-some}
+use Rattle.copy_up.proofs.Placing.{IsHeldDirectory, top-held, parents-shown}
+use Rattle.make_remove.specs.Removing.{unlink_fault, rmdir_fault, ShowsNoName, TakesAway, Loses, Removes, TellsNames, TakesName, left_behind, number_of, has_more}
+use Rattle.make_remove.proofs.Freeing.{number-child}
+use Rattle.make_remove.proofs.Making.{under-same}
+
+-- the directory at a path is under this key of the tree
+pub record IsAt (t : Tree) (p : Path) (dir : ℕ) : Type 0 where
+  pub key : key_at t p ≡ Some dir
+  pub directory : IsDirectory t dir
+
+-- a directory whose topmost place is in the upper is there
+pub top-at : (l : Layers) (p : Path) (s : Stack) (dir : Place) → IsTree l.upper → IsStackOf l p s → (top_of s.places.items).layer ≡ 0 → dir ≡ top_of s.places.items → IsAt l.upper p dir.key
+top-at l p s dir tree is top is_dir =
+    let U : Layer = layer_of l.upper in
+    let rest : List Place = unless_cut (cuts U p) (places_at 1 (lowers_of l) (below U p)) in
+    let some : 0 < length s.places.items = omega (arith, s.some_place) in
+    let d : IsHeldDirectory (held U p) (top_of s.places.items).key = top-held (held U p) rest s.places.items is.places (head-unless (cuts U p) (places_at 1 (lowers_of l) (below U p)) (head-places 1 (lowers_of l) (below U p))) some top in
+    let node : IsDirectoryWith (get l.upper (top_of s.places.items).key) d.attributes = held-node l.upper tree p (top_of s.places.items).key d.attributes d.opaque d.redirect d.is in
+    subst (λ (x : Place). IsAt l.upper p x.key) (sym is_dir) (record {
+      key = key-of l.upper p (top_of s.places.items).key d.attributes d.opaque d.redirect d.is;
+      directory = table-some (get l.upper (top_of s.places.items).key) d.attributes node;
+    })
+
+-- linked names are linked by another upper that names the same
+linked-by : (U V : Layer) → ((x : Path) (k : ℕ) → held U x ≡ Some (Named k) → held V x ≡ Some (Named k)) → (p q : Path) → AreLinked U p q → AreLinked V p q
+linked-by U V names p q l = record { number = l.number; first = names p l.number l.first; second = names q l.number l.second }
+
+-- an upper that shows and names the same loses the same
+loses-from : (W U V : Layer) (lowers : List Layer) (p : Path) → ((x : Path) → merged U lowers x ≡ merged W lowers x) → ((x : Path) (k : ℕ) → (held U x ≡ Some (Named k)) ↔ (held W x ≡ Some (Named k))) → Loses U V lowers p → Loses W V lowers p
+loses-from W U V lowers p sights names l = record {
+  layers = l.layers;
+  gone = l.gone;
+  linked = λ q ne both. l.linked q ne (linked-by W U (λ x k. (names x k).1) p q both) ∙ ap fewer (sights q);
+  others = λ q ne apart. l.others q ne (λ both. apart (linked-by U W (λ x k. (names x k).0) p q both)) ∙ sights q;
+  names = λ q k. (λ h. (let z = (l.names q k).0 h in (z.0, (names q k).0 z.1)), λ h. (l.names q k).1 (h.0, (names q k).1 h.1));
+}
+
+-- what the upper holds keeps its number
+number-kept : (o v : Option Object) (k : ℕ) → ((x : Object) → o ≡ Some x → v ≡ Some x) → number_of o ≡ Some k → number_of v ≡ Some k
+number-kept None v k holds h = cc
+number-kept (Some x) v k holds h = ap number_of (holds x refl) ∙ h
+
+-- what is left is a whiteout exactly where the lower layers show something, and the upper stays without needless ones
+taken-left : (old : Layers) (V : Layer) (q : Path) (n : Name) (covered : Bool) → covered ≡ is_some (under (layer_of old.upper) (lowers_of old) n q) → TakesAway (layer_of old.upper) V (n ∷ q) (cond covered (Some Whiteout) None) → TakesAway (layer_of old.upper) V (n ∷ q) (left_behind (layer_of old.upper) (lowers_of old) n q)
+taken-left old V q n covered e taken = subst (λ c. TakesAway (layer_of old.upper) V (n ∷ q) (cond c (Some Whiteout) None)) e taken
+
+pub taken-thin : (old : Layers) (V : Layer) (q : Path) (n : Name) (covered : Bool) → covered ≡ is_some (under (layer_of old.upper) (lowers_of old) n q) → TakesAway (layer_of old.upper) V (n ∷ q) (cond covered (Some Whiteout) None) → IsThin (layer_of old.upper) (lowers_of old) → IsThin V (lowers_of old)
+taken-thin old V q n covered e taken thin = (law_of_thin (layer_of old.upper) V (lowers_of old) thin n q).taken (taken-left old V q n covered e taken)
+
+-- the name goes from an upper that shows what the first did
+module _ (start old new : Layers) (q : Path) (n : Name) (dir : ℕ) (covered : Bool) (same : ShowsSame start old) (keeps : StaysLayers start old) (names : (p : Path) (k : ℕ) → (held (layer_of old.upper) p ≡ Some (Named k)) ↔ (held (layer_of start.upper) p ≡ Some (Named k))) (inodes : (k : ℕ) → inode_at old.upper k ≡ inode_at start.upper k) (holds : (p : Path) (o : Object) → held (layer_of start.upper) p ≡ Some o → held (layer_of old.upper) p ≡ Some o) (low : new.lowers ≡ old.lowers) (unshown : ShowsNoName (layers_of start) (n ∷ q)) (at : key_at old.upper q ≡ Some dir) (is_covered : covered ≡ is_some (under (layer_of old.upper) (lowers_of old) n q)) (taken : TakesAway (layer_of old.upper) (layer_of new.upper) (n ∷ q) (cond covered (Some Whiteout) None)) (keep : IsLayer (layer_of old.upper) → IsLayer (layer_of new.upper)) (freed : (key : ℕ) → child old.upper dir n ≡ Some key → has_more 1 (inode_at old.upper key) ≡ false → get new.upper key ≡ None) where
+  loses : AreLayers (layers_of start) → Loses (layer_of start.upper) (layer_of new.upper) (lowers_of start) (n ∷ q)
+  loses a =
+      let b : AreLayers (layers_of old) = keeps a in
+      let e : lowers_of old ≡ lowers_of start = lowers-same start old same.lowers in
+      let l : Loses (layer_of old.upper) (layer_of new.upper) (lowers_of old) (n ∷ q) = law_of_taken_away (layer_of old.upper) (layer_of new.upper) (lowers_of old) b (keep b.0, b.1) n q (λ m. same.absent (m ∷ n ∷ q) (unshown m)) (taken-left old (layer_of new.upper) q n covered is_covered taken) in
+      loses-from (layer_of start.upper) (layer_of old.upper) (layer_of new.upper) (lowers_of start) (n ∷ q)
+      (λ x. sym (ap (λ Ls. merged (layer_of old.upper) Ls x) e) ∙ same.sights x) names
+      (subst (λ (Ls : List Layer). Loses (layer_of old.upper) (layer_of new.upper) Ls (n ∷ q)) e l)
+
+  pub takes-name : TakesName start new (n ∷ q)
+  takes-name = record {
+    lowers = low ∙ same.lowers;
+    left = (taken-left old (layer_of new.upper) q n covered is_covered taken).here ∙ ap (λ s. cond (is_some s) (Some Whiteout) None) (under-same start old n q same);
+    loses = loses;
+    freed = λ key here last. freed key
+        (number-child old.upper q dir n key at (number-kept (held (layer_of start.upper) (n ∷ q)) (held (layer_of old.upper) (n ∷ q)) key (holds (n ∷ q)) here))
+        (ap (has_more 1) (inodes key) ∙ last);
+  }
+
+-- what shows no directory shows nothing in it
+pub unshown-in : (ts : List Tree) (p : Path) → is_directory (shows 0 (map layer_of ts) p) ≡ false → ShowsNoName (map layer_of ts) p
+unshown-in ts p h m = by (shows 0 (map layer_of ts) (m ∷ p)) refl
+  where
+    by : (s : Option Shown) → shows 0 (map layer_of ts) (m ∷ p) ≡ s → shows 0 (map layer_of ts) (m ∷ p) ≡ None
+    by None e = e
+    by (Some s) e = absurd (false≢true (sym h ∙ parents-shown 0 ts m p (ap is_some e)))
+
+directory-some : (s : Option Shown) → is_directory s ≡ true → is_some s ≡ true
+directory-some s h = grind arith
+
+directory-fault : (s : Option Shown) → is_directory s ≡ true → (fault s ≡ None) × (absent s ≡ None)
+directory-fault None h = absurd (false≢true h)
+directory-fault (Some (Folder i k a)) h = (refl, refl)
+directory-fault (Some (Contents i k x)) h = absurd (false≢true h)
+
+-- a directory that is shown is walked to
+way-none : (ts : List Tree) (p : Path) → is_directory (shows 0 (map layer_of ts) p) ≡ true → way_fault (map layer_of ts) p ≡ None
+way-none ts [] h = refl
+way-none ts (n ∷ p) h = ap₂ or_else (way-none ts p (parents-shown 0 ts n p (directory-some (shows 0 (map layer_of ts) (n ∷ p)) h))) (directory-fault (shows 0 (map layer_of ts) (n ∷ p)) h).0
+
+walk-none : (ts : List Tree) (p : Path) → is_directory (shows 0 (map layer_of ts) p) ≡ true → walk_fault (map layer_of ts) p ≡ None
+walk-none ts [] h = (directory-fault (shows 0 (map layer_of ts) []) h).1
+walk-none ts (n ∷ p) h = ap₂ or_else (way-none ts p (parents-shown 0 ts n p (directory-some (shows 0 (map layer_of ts) (n ∷ p)) h))) (directory-fault (shows 0 (map layer_of ts) (n ∷ p)) h).1
+
+fault-no-directory : (ts : List Tree) (p : Path) (e : Errno) → walk_fault (map layer_of ts) p ≡ Some e → is_directory (shows 0 (map layer_of ts) p) ≡ false
+fault-no-directory ts p e h = by (is_directory (shows 0 (map layer_of ts) p)) refl
+  where
+    by : (b : Bool) → is_directory (shows 0 (map layer_of ts) p) ≡ b → b ≡ false
+    by false is = refl
+    by true is = let z : Some e ≡ None = sym h ∙ walk-none ts p is in cc
+
+below-root : (p q : Path) (n : Name) → p ≡ n ∷ q → is_root p ≡ false
+below-root p q n e = ap is_root e
+
+unlink-chain : (r d : Bool) (w : Option Errno) → r ≡ false → w ≡ None → d ≡ false → or_else (when r errno.EBUSY) (or_else w (when d errno.EISDIR)) ≡ None
+unlink-chain r d w root walk file = grind arith
+
+-- an unlink that takes the name away is the machine's step
+pub unlink-step : (old new : Layers) (p q : Path) (n : Name) → p ≡ n ∷ q → walk_fault (layers_of old) p ≡ None → is_directory (shows 0 (layers_of old) p) ≡ false → TakesName old new (n ∷ q) → (s : State) → IsMountOf (layer_of old.upper) (lowers_of old) s → (c : ℕ) → Removes (layer_of new.upper) (lowers_of new) s c p (call.Unlink p)
+unlink-step old new p q n e walk file t s m c =
+    let U : Layer = layer_of old.upper in
+    let V : Layer = layer_of new.upper in
+    let fine : unlink_fault (layers_of old) p ≡ None = unlink-chain (is_root p) (is_directory (shows 0 (layers_of old) p)) (walk_fault (layers_of old) p) (below-root p q n e) walk file in
+    let lost : Loses U V (lowers_of old) p = subst (λ (x : Path). Loses U V (lowers_of old) x) (sym e) (t.loses m.layers) in
+    subst (λ (Ls : List Layer). Removes V Ls s c p (call.Unlink p)) (sym (lowers-same old new t.lowers)) (law_of_unlinked U V (lowers_of old) s m c p fine lost)
+
+rmdir-chain : (r d b : Bool) (w : Option Errno) → r ≡ false → or_else (when r errno.EBUSY) (or_else w (or_else (when (not d) errno.ENOTDIR) (when b errno.ENOTEMPTY))) ≡ or_else w (or_else (when (not d) errno.ENOTDIR) (when b errno.ENOTEMPTY))
+rmdir-chain r d b w root = ap (λ r. or_else (when r errno.EBUSY) (or_else w (or_else (when (not d) errno.ENOTDIR) (when b errno.ENOTEMPTY)))) root
+
+-- why rmdir of a path below the root is refused
+rmdir-below : (Ls : List Layer) (p q : Path) (n : Name) (b : Bool) → p ≡ n ∷ q → rmdir_fault Ls p b ≡ or_else (walk_fault Ls p) (or_else (when (not (is_directory (shows 0 Ls p))) errno.ENOTDIR) (when b errno.ENOTEMPTY))
+rmdir-below Ls p q n b e = rmdir-chain (is_root p) (is_directory (shows 0 Ls p)) b (walk_fault Ls p) (below-root p q n e)
+
+-- an rmdir that takes the name away is the machine's step
+pub rmdir-step : (old new : Layers) (p q : Path) (n : Name) → p ≡ n ∷ q → is_directory (shows 0 (layers_of old) p) ≡ true → ShowsNoName (layers_of old) p → TakesName old new (n ∷ q) → (s : State) → IsMountOf (layer_of old.upper) (lowers_of old) s → (c : ℕ) → Removes (layer_of new.upper) (lowers_of new) s c p (call.Rmdir p)
+rmdir-step old new p q n e dir unshown t s m c =
+    let U : Layer = layer_of old.upper in
+    let V : Layer = layer_of new.upper in
+    let fine : rmdir_fault (layers_of old) p false ≡ None = rmdir-below (layers_of old) p q n false e ∙ ap₂ (λ w d. or_else w (or_else (when (not d) errno.ENOTDIR) None)) (walk-none (trees old) p dir) dir in
+    let lost : Loses U V (lowers_of old) p = subst (λ (x : Path). Loses U V (lowers_of old) x) (sym e) (t.loses m.layers) in
+    subst (λ (Ls : List Layer). Removes V Ls s c p (call.Rmdir p)) (sym (lowers-same old new t.lowers)) (law_of_removed_directory U V (lowers_of old) s m c p fine unshown lost)
+
+-- rmdir's refusals are the machine's: on the way, of what is no directory, and of a directory that shows a name
+pub rmdir-walk : (l : Layers) (p q : Path) (n : Name) (e : Errno) → p ≡ n ∷ q → walk_fault (layers_of l) p ≡ Some e → (s : State) → IsMountOf (layer_of l.upper) (lowers_of l) s → (c : ℕ) → refusal s c (call.Rmdir p) ≡ Some e
+rmdir-walk l p q n e is walk s m c =
+    (law_of_rmdir (layer_of l.upper) (lowers_of l) s m c p).empty (unshown-in (trees l) p (fault-no-directory (trees l) p e walk))
+    ∙ rmdir-below (layers_of l) p q n false is
+    ∙ ap (λ w. or_else w (or_else (when (not (is_directory (shows 0 (layers_of l) p))) errno.ENOTDIR) None)) walk
+
+pub rmdir-file : (l : Layers) (p q : Path) (n : Name) → p ≡ n ∷ q → walk_fault (layers_of l) p ≡ None → is_directory (shows 0 (layers_of l) p) ≡ false → (s : State) → IsMountOf (layer_of l.upper) (lowers_of l) s → (c : ℕ) → refusal s c (call.Rmdir p) ≡ Some errno.ENOTDIR
+rmdir-file l p q n is walk file s m c =
+    (law_of_rmdir (layer_of l.upper) (lowers_of l) s m c p).empty (unshown-in (trees l) p file)
+    ∙ rmdir-below (layers_of l) p q n false is
+    ∙ ap₂ (λ w d. or_else w (or_else (when (not d) errno.ENOTDIR) None)) walk file
+
+pub rmdir-full : (l : Layers) (p q : Path) (n m : Name) → p ≡ n ∷ q → is_directory (shows 0 (layers_of l) p) ≡ true → is_some (shows 0 (layers_of l) (m ∷ p)) ≡ true → (s : State) → IsMountOf (layer_of l.upper) (lowers_of l) s → (c : ℕ) → refusal s c (call.Rmdir p) ≡ Some errno.ENOTEMPTY
+rmdir-full l p q n m is dir some s mount c =
+    (law_of_rmdir (layer_of l.upper) (lowers_of l) s mount c p).full m some
+    ∙ rmdir-below (layers_of l) p q n true is
+    ∙ ap₂ (λ w d. or_else w (or_else (when (not d) errno.ENOTDIR) (Some errno.ENOTEMPTY))) (walk-none (trees l) p dir) dir
+
+-- what a walk finds, by its kind
+pub found-inode : (l : Layers) (p : Path) (f : Found) (d : Place) → f ≡ found.Inode d → IsFound l p f → is_directory (shows 0 (layers_of l) p) ≡ false
+found-inode l p f d e h =
+    let P : Found → Type 0 = λ f. IsFound l p f in
+    let shown : ShowsInode l p d = subst P e h in
+    ap is_directory shown.shown
+
+pub found-directory : (l : Layers) (p : Path) (f : Found) (s : Stack) → f ≡ found.Directory s → IsFound l p f → ShowsDirectory l p s.places.items
+found-directory l p f s e h = let P : Found → Type 0 = λ f. IsFound l p f in subst P e h
+
+nothing-shown : (s : Option Shown) → is_some s ≡ false → s ≡ None
+nothing-shown s h = grind arith
+
+-- a listing of the names shown in a directory
+module _ (l : Layers) (p : Path) (f : Found) (s : Stack) (is : f ≡ found.Directory s) (at : IsFound l p f) (names : List Name) (exact : (q : Path) → IsStackOf l q s → (n : Name) → list_any (bytes_eq n) names ≡ is_some (shows 0 (layers_of l) (n ∷ q))) where
+  pub listed-directory : is_directory (shows 0 (layers_of l) p) ≡ true
+  listed-directory = ap is_directory (found-directory l p f s is at).shown
+
+  listed : (n : Name) → list_any (bytes_eq n) names ≡ is_some (shows 0 (layers_of l) (n ∷ p))
+  listed = exact p (record { places = (found-directory l p f s is at).places })
+
+  by-none : (xs : List Name) → names ≡ xs → length xs ≡ 0 → ShowsNoName (layers_of l) p
+  by-none [] e h n = nothing-shown (shows 0 (layers_of l) (n ∷ p)) (sym (listed n) ∙ ap (list_any (bytes_eq n)) e)
+  by-none (x ∷ xs) e h n = absurd (omega (arith, h))
+
+  -- that is empty: no name is shown
+  pub listed-none : length names ≡ 0 → ShowsNoName (layers_of l) p
+  listed-none h = by-none names refl h
+
+  by-some : (xs : List Name) → names ≡ xs → (length xs ≡ 0 → ⊥) → (n : Name) × (is_some (shows 0 (layers_of l) (n ∷ p)) ≡ true)
+  by-some [] e h = absurd (h refl)
+  by-some (x ∷ xs) e h = (x, sym (listed x) ∙ ap (list_any (bytes_eq x)) e ∙ ap (λ b. b || list_any (bytes_eq x) xs) ((names_tell x x).1 refl))
+
+  -- that is not: some name is
+  pub listed-some : (length names ≡ 0 → ⊥) → (n : Name) × (is_some (shows 0 (layers_of l) (n ∷ p)) ≡ true)
+  listed-some h = by-some names refl h
+
+-- a directory that shows a name is refused
+pub rmdir-names : (l : Layers) (p q : Path) (n : Name) → p ≡ n ∷ q → is_directory (shows 0 (layers_of l) p) ≡ true → (m : Name) × (is_some (shows 0 (layers_of l) (m ∷ p)) ≡ true) → (full : Bool) → TellsNames (layers_of l) p full → rmdir_fault (layers_of l) p full ≡ Some errno.ENOTEMPTY
+rmdir-names l p q n is dir some true tells =
+    rmdir-below (layers_of l) p q n true is
+    ∙ ap₂ (λ w d. or_else w (or_else (when (not d) errno.ENOTDIR) (Some errno.ENOTEMPTY))) (walk-none (trees l) p dir) dir
+rmdir-names l p q n is dir some false tells = absurd (false≢true (sym (ap is_some (tells some.0)) ∙ some.1))

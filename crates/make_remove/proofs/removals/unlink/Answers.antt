@@ -1,0 +1,17 @@
+use Rattle.std.proofs.Common.{reverse, refl, subst}
+use Rattle.plain_model.specs.Layers.{Path}
+use Rattle.merged_lookup.specs.Merged.{trees, layers_of}
+use Rattle.make_remove.specs.Removing.{ShowsNoName}
+use Rattle.make_remove.proofs.Removing.{found-inode, unshown-in, unlink-step}
+use Rattle.make_remove.proofs.removals.unlink.Goals as goal
+
+pub take_away-requires-clause-bare : goal.take_away-requires-clause-bare
+take_away-requires-clause-bare c =
+    let file = found-inode c.args.layers.now c.args.path.now c.in-Ok-Inode.field-0 c.in-Ok-Inode.field-0-0 c.in-Ok-Inode.field-0-is c.in-Ok-Inode.ensures.found in
+    let P : Path → Type 0 = λ p. ShowsNoName (layers_of c.args.layers.now) p in
+    subst P c.in-Some.ensures (unshown-in (trees c.args.layers.now) c.args.path.now file)
+
+pub returns-clause-steps : goal.returns-clause-steps
+returns-clause-steps c =
+    unlink-step c.args.layers.now c.take_away.new.layers c.args.path.now (reverse c.in-Some.parents.now) c.in-Some.name.now c.in-Some.ensures (c.in-Ok-Inode.ensures.answers.0 refl)
+    (found-inode c.args.layers.now c.args.path.now c.in-Ok-Inode.field-0 c.in-Ok-Inode.field-0-0 c.in-Ok-Inode.field-0-is c.in-Ok-Inode.ensures.found) c.in_ok-take_away.ensures.takes
