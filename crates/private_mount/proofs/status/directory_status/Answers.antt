@@ -5,8 +5,8 @@ use Rattle.std.specs.Option.{option_copied}
 use Rattle.slab.specs.Slab.{get}
 use Rattle.layer_tree.specs.declared.node.Node.TheVariants as node
 use Rattle.merged_lookup.specs.Merged.{trees}
-use Rattle.make_remove.proofs.Nodes.{HoldsFolder, folder-held, folder-node, same-attributes, IsDirectoryWith}
-use Rattle.make_remove.proofs.Placing.{some-not-none}
+use Rattle.copy_up.proofs.Nodes.{HoldsFolder, folder-held, folder-node, same-attributes, IsDirectoryWith}
+use Rattle.copy_up.proofs.Placing.{some-not-none}
 use Rattle.private_mount.specs.Status.{stat_with}
 use Rattle.private_mount.proofs.status.directory_status.Goals as goal
 use Rattle.private_mount.proofs.status.directory_status.Goals.{in_default-node-via-in-Some+in_default, in_default-node-via-in_default}
