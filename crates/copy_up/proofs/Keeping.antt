@@ -76,7 +76,7 @@ same-unchanged old new low same inodes =
     }
 
 -- linked names are linked by another upper that names the same
-linked-by : (U V : Layer) → ((p : Path) (k : ℕ) → held U p ≡ Some (Named k) → held V p ≡ Some (Named k)) → (p q : Path) → AreLinked U p q → AreLinked V p q
+pub linked-by : (U V : Layer) → ((p : Path) (k : ℕ) → held U p ≡ Some (Named k) → held V p ≡ Some (Named k)) → (p q : Path) → AreLinked U p q → AreLinked V p q
 linked-by U V names p q l = record { number = l.number; first = names p l.number l.first; second = names q l.number l.second }
 
 lift : {A B C : Type 0} → (B → C) → A ⊎ B → A ⊎ C

@@ -10,7 +10,7 @@ use Rattle.ov_base.specs.declared.errno.Errno.TheVariants as errno
 use Rattle.plain_model.specs.Layers.{Name, Path, Object, Named, Whiteout, Layer, IsLayer, AreLayers, held, below, cuts, Shown, Folder, Contents, shows, under, is_directory}
 use Rattle.plain_model.specs.Machine.{State, is_root}
 use Rattle.plain_model.specs.Refusals.{refusal, when}
-use Rattle.plain_model.specs.Tree.{merged, AreLinked, IsThin}
+use Rattle.plain_model.specs.Tree.{merged, IsThin}
 use Rattle.mount_laws.specs.Looks.{IsMountOf, or_else, absent, fault, way_fault, walk_fault}
 use Rattle.mount_laws.specs.Removals.{fewer}
 use Rattle.mount_laws.proofs.Alters.{law_of_taken_away, law_of_thin}
@@ -26,7 +26,7 @@ use Rattle.merged_lookup.specs.Merged.{trees, layers_of, lowers_of, top_of, unle
 use Rattle.merged_lookup.proofs.Descending.{key-of}
 use Rattle.merged_lookup.proofs.Looking.{head-places, head-unless}
 use Rattle.copy_up.specs.Showing.{ShowsSame, StaysLayers}
-use Rattle.copy_up.proofs.Keeping.{lowers-same}
+use Rattle.copy_up.proofs.Keeping.{lowers-same, linked-by}
 use Rattle.copy_up.proofs.Nodes.{IsDirectoryWith, held-node, table-some}
 use Rattle.copy_up.proofs.Placing.{IsHeldDirectory, top-held, parents-shown}
 use Rattle.make_remove.specs.Removing.{unlink_fault, rmdir_fault, ShowsNoName, TakesAway, Loses, Removes, TellsNames, TakesName, left_behind, number_of, has_more}
@@ -50,10 +50,6 @@ top-at l p s dir tree is top is_dir =
       key = key-of l.upper p (top_of s.places.items).key d.attributes d.opaque d.redirect d.is;
       directory = table-some (get l.upper (top_of s.places.items).key) d.attributes node;
     })
-
--- linked names are linked by another upper that names the same
-linked-by : (U V : Layer) → ((x : Path) (k : ℕ) → held U x ≡ Some (Named k) → held V x ≡ Some (Named k)) → (p q : Path) → AreLinked U p q → AreLinked V p q
-linked-by U V names p q l = record { number = l.number; first = names p l.number l.first; second = names q l.number l.second }
 
 -- an upper that shows and names the same loses the same
 loses-from : (W U V : Layer) (lowers : List Layer) (p : Path) → ((x : Path) → merged U lowers x ≡ merged W lowers x) → ((x : Path) (k : ℕ) → (held U x ≡ Some (Named k)) ↔ (held W x ≡ Some (Named k))) → Loses U V lowers p → Loses W V lowers p
