@@ -1,5 +1,5 @@
 -- The descent by keys leads from the places of a directory to those of a name in it.
-use Rattle.std.proofs.Common.{◌≡◌, ℕ, zero, suc, ◌≤◌, ◌<◌, ◌+◌, Bool, true, false, cond, List, [], ◌∷◌, Option, None, Some, refl, sym, ap, ◌∙◌, subst, add-one, is_some, length, drop, nat_lt, arith, map, slice_get, ◌++◌, ◌-◌, append_assoc, length-drop, take, reverse, get_or}
+use Rattle.std.proofs.Common.{◌≡◌, ℕ, zero, suc, ◌≤◌, ◌<◌, ◌+◌, Bool, true, false, cond, List, [], ◌∷◌, Option, None, Some, refl, sym, ap, ◌∙◌, add-one, is_some, length, drop, nat_lt, arith, map, slice_get, ◌++◌, ◌-◌, append_assoc, length-drop, take, reverse, get_or}
 use Rattle.std.proofs.lemmas.Bool.{false≢true}
 use Rattle.std.proofs.lemmas.List.{take_more, reverse-append, length-map}
 use Rattle.std.specs.Option.{option_and_then, option_map}
@@ -10,14 +10,14 @@ use Rattle.ov_base.specs.declared.redirect.Redirect.TheVariants as redirect
 use Rattle.plain_model.specs.Layers.{Name, Path, Object, Directory, Named, Whiteout, Inode, Layer, held, spell, below, cut, cuts, Shown, Folder, Contents, over, unless, shows, holds_directory, is_directory}
 use Rattle.plain_model.proofs.LookUp.{hides, hides-cuts}
 use Rattle.layer_tree.specs.Table.{entry_in, object_key}
-use Rattle.layer_tree.specs.Tree.{Tree, ROOT, layer_of, table_of, key_at, entry_at, entry, child, seen, seen_entry, seen_at}
+use Rattle.layer_tree.specs.Tree.{Tree, ROOT, layer_of, table_of, key_at, entry_at, entry, child, seen, seen_entry}
 use Rattle.layer_tree.specs.declared.name_table.Entry.{Entry}
 use Rattle.layer_tree.specs.declared.name_table.Entry.TheVariants as bound
 use Rattle.layer_tree.specs.declared.node.Node.{Node}
 use Rattle.layer_tree.specs.declared.node.Node.TheVariants as node
 use Rattle.merged_lookup.specs.declared.stack.Place.{Place}
 use Rattle.merged_lookup.specs.Merged.{level, unless_cut, places_at}
-use Rattle.merged_lookup.specs.Descent.{holds_in, places_from, below_by, onward, topmost, anew, onward_in, descend, topmost_in, first}
+use Rattle.merged_lookup.specs.Descent.{holds_in, places_from, onward, topmost, anew, onward_in, descend, topmost_in, first}
 
 -- a list cut at i begins with its element at i
 pub drop-get : {A : Type 0} (xs : List A) (i : ℕ) (y : A) (ys : List A) → drop i xs ≡ y ∷ ys → (slice_get xs i ≡ Some y) × (drop (suc i) xs ≡ ys)

@@ -1,8 +1,7 @@
 -- What one step, and a walk of several, show.
 use Rattle.std.proofs.Common.{◌≡◌, ℕ, suc, ◌<◌, ◌≤◌, ◌+◌, ◌++◌, Bool, true, false, not, List, [], ◌∷◌, Option, None, Some, refl, sym, ap, ◌∙◌, subst, is_some, length, map, slice_get, drop, take, reverse, arith, nat_eq, cond, get_or, MatchOption}
-use Rattle.std.proofs.lemmas.Bool.{false≢true}
 use Rattle.std.proofs.lemmas.List.{reverse-reverse, reverse-append, length-reverse, take-append-drop, length-map}
-use Rattle.std.specs.Option.{option_and_then, option_map}
+use Rattle.std.specs.Option.{option_and_then}
 use Rattle.slab.specs.Slab.{get}
 use Rattle.ov_base.specs.declared.attributes.Attributes.{Attributes}
 use Rattle.ov_base.specs.declared.errno.Errno.{Errno}
@@ -12,7 +11,7 @@ use Rattle.layer_tree.specs.Tree.{Tree, layer_of, inode_at, inode_of}
 use Rattle.merged_lookup.specs.declared.stack.Place.{Place}
 use Rattle.merged_lookup.specs.declared.stack.Stack.{Stack}
 use Rattle.merged_lookup.specs.declared.layers.Layers.{Layers}
-use Rattle.merged_lookup.specs.Merged.{trees, layers_of, lowers_of, IsStackOf, ShowsDirectory, ShowsInode, ShowsNothing, level, unless_cut, places_at, top_of, fault, or_else, way_fault, inode_fault, node_in}
+use Rattle.merged_lookup.specs.Merged.{trees, layers_of, IsStackOf, ShowsDirectory, ShowsInode, ShowsNothing, level, unless_cut, places_at, top_of, fault, or_else, way_fault, inode_fault, node_in}
 use Rattle.merged_lookup.specs.Descent.{places_from, descend, first, without_upper}
 use Rattle.merged_lookup.proofs.Descending.{IsTop, top-shown, place_of, first-places, first-unless, shown-inode, shown-none, walk-step, descend-places, descend-unless, length-places, drop-get, reverse-more}
 

@@ -1,5 +1,5 @@
 -- One name on from the places of a merged directory, by keys.
-use Rattle.std.specs.Prelude.{◌≡◌, ℕ, ◌+◌, Bool, true, false, cond, List, [], ◌∷◌, Option, None, Some, map, drop, slice_get, nat_lt, nat_eq}
+use Rattle.std.specs.Prelude.{◌≡◌, ℕ, ◌+◌, true, false, cond, List, [], ◌∷◌, Option, None, Some, map, drop, slice_get, nat_lt, nat_eq}
 use Rattle.std.specs.Option.{option_and_then}
 use Rattle.ov_base.specs.declared.redirect.Redirect.{Redirect}
 use Rattle.ov_base.specs.declared.redirect.Redirect.TheVariants as redirect

@@ -4,11 +4,7 @@ use Rattle.std.specs.Prelude.{◌≡◌, ℕ, suc, Bool, true, false, List, [], 
 use Rattle.std.specs.Option.{option_and_then}
 use Rattle.slab.specs.Slab.{get}
 use Rattle.ov_base.specs.declared.attributes.Attributes.{Attributes}
-use Rattle.ov_base.specs.declared.bytes.Content.{Content}
-use Rattle.ov_base.specs.declared.bytes.Content.TheVariants as content
-use Rattle.ov_base.specs.declared.errno.Errno.{Errno}
-use Rattle.ov_base.specs.declared.errno.Errno.TheVariants as errno
-use Rattle.plain_model.specs.Layers.{Path, Object, Directory, Inode, Layer, held, below, cuts, Shown, Folder, Contents, shows}
+use Rattle.plain_model.specs.Layers.{Path, Object, Directory, Inode, Layer, held, below, cuts, Folder, Contents, shows}
 pub use Rattle.mount_laws.specs.Looks.{inode_fault, fault, or_else, way_fault, parents_fault, absent, walk_fault}
 use Rattle.layer_tree.specs.Tree.{Tree, layer_of}
 use Rattle.layer_tree.specs.declared.node.Node.{Node}

@@ -99,11 +99,6 @@ impl Descriptors {
         Ok(Ok(slot as u32))
     }
 
-    /// Whether all descriptors are open.
-    pub fn is_full(&self) -> bool {
-        first_free(self.slots.as_slice()) >= DESCRIPTORS_MAX
-    }
-
     /// What stands open under a descriptor.
     pub fn get(&self, descriptor: u32) -> Option<&OpenDirectory>
         ensures { option_copied result ≡ opened self.now.slots.items descriptor }

@@ -254,7 +254,7 @@ impl Mount {
         ensures serves { IfOk result (λ reply. (s : State) → IsStateOf self.old s → Serves (refusal s client (Call.ListNames descriptor count)) s client (Call.ListNames descriptor count) reply self.new) }
         ensures answers { AnswersList self.old self.new client descriptor count result }
     {
-        if self.opened(client, descriptor).is_none() {
+        if self.clients.opened(client, descriptor).is_none() {
             return Ok(Reply::Refused(Errno::EBADF));
         }
         if count == 0 || count > LIST_MAX {
@@ -264,20 +264,13 @@ impl Mount {
         Ok(Reply::Names(names))
     }
 
-    // The directory that a client has open under a descriptor.
-    fn opened(&self, client: u32, descriptor: u32) -> Option<&OpenDirectory>
-        ensures { option_copied result ≡ opened_by self.now.clients client descriptor }
-    {
-        self.clients.get(client)?.get(descriptor)
-    }
-
     // Gives the next names of the listing of an open directory, at most so many. The first call makes the listing.
     fn page(&mut self, client: u32, descriptor: u32, count: usize) -> Result<NameList, AllocError>
         requires { IsSome (opened_by self.old.clients client descriptor) }
         ensures pages { IfOk result (λ names. Pages self.old self.new client descriptor count names) }
         ensures err { OnErr result (IsUnchanged self.old self.new) }
     {
-        let directory = self.opened(client, descriptor).unwrap();
+        let directory = self.clients.opened(client, descriptor).unwrap();
         if directory.listing.is_some() {
             return self
                 .clients

@@ -1,4 +1,4 @@
-use Rattle.std.proofs.Common.{◌≡◌, ◌+◌, ◌≤◌, ◌∷◌, length, take, reverse, arith, ap, sym, ◌∙◌}
+use Rattle.std.proofs.Common.{◌≡◌, ◌≤◌, ◌∷◌, length, take, reverse, arith, ap, sym, ◌∙◌}
 use Rattle.std.proofs.Common.{List}
 use Rattle.plain_model.specs.Layers.{Name}
 use Rattle.merged_lookup.specs.Merged.{trees}

@@ -1,4 +1,4 @@
-use Rattle.std.proofs.Common.{◌≡◌, ◌+◌, ◌<◌, ◌≤◌, [], ◌∷◌, ◌++◌, length, arith, ap, ◌∙◌}
+use Rattle.std.proofs.Common.{◌+◌, ◌<◌, [], ◌++◌, length, arith, ap, ◌∙◌}
 use Rattle.merged_lookup.specs.Merged.{trees}
 use Rattle.merged_lookup.specs.Descent.{places_from}
 use Rattle.merged_lookup.proofs.Descending.{roots-step}

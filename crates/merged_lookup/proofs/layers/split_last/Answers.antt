@@ -1,4 +1,4 @@
-use Rattle.std.proofs.Common.{◌≡◌, ◌∷◌, [], ◌∙◌, ◌++◌, sym, ap, length, reverse}
+use Rattle.std.proofs.Common.{◌≡◌, ◌∷◌, [], ◌∙◌, sym, ap, length, reverse}
 use Rattle.std.specs.List.{IsLastAndRest}
 use Rattle.merged_lookup.proofs.Looking.{path-split, path-none, match-map}
 use Rattle.merged_lookup.proofs.layers.split_last.Goals as goal

@@ -1,4 +1,4 @@
-use Rattle.std.proofs.Common.{◌≡◌, ◌∷◌, Some, take, reverse, sym, ◌∙◌, ap, subst}
+use Rattle.std.proofs.Common.{◌∷◌, Some, take, reverse, sym, ◌∙◌, ap, subst}
 use Rattle.ov_base.specs.declared.errno.Errno.TheVariants as errno
 use Rattle.merged_lookup.specs.declared.found.Found.{Found}
 use Rattle.merged_lookup.specs.Merged.{IsFound, ShowsInode}

@@ -1,4 +1,4 @@
-use Rattle.std.proofs.Common.{◌≡◌, [], List, None, ap, subst, sym}
+use Rattle.std.proofs.Common.{◌≡◌, [], ap, subst, sym}
 use Rattle.plain_model.specs.Layers.{Path}
 use Rattle.merged_lookup.specs.Merged.{layers_of, parents_fault, ShowsDirectory}
 use Rattle.merged_lookup.proofs.Looking.{root-shown}

@@ -1,4 +1,4 @@
-use Rattle.std.proofs.Common.{◌≡◌, ◌≤◌, ◌∷◌, ◌∙◌, ap, not, arith, length, List, subst}
+use Rattle.std.proofs.Common.{◌≡◌, ◌≤◌, ◌∙◌, ap, not, arith, length, List, subst}
 use Rattle.merged_lookup.specs.declared.stack.Place.{Place}
 use Rattle.merged_lookup.specs.Merged.{trees}
 use Rattle.merged_lookup.specs.Descent.{descend, without_upper}
