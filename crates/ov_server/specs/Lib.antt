@@ -1,1 +1,4 @@
+pub mod Answers
+pub mod Faults
 pub mod Objects
+pub mod Scripts

@@ -1,4 +1,9 @@
 // The faults of the program.
+ghost use Rattle.std.specs.Prelude.{◌≡◌};
+ghost use Rattle.std.specs.IoError.{error_kind};
+ghost use Rattle.clap.specs.Values.{kind_of};
+ghost use Rattle.ov_server.specs.Faults as faults;
+
 use ov_wire::ManifestFault;
 use std::alloc::{AllocError, AllocFailed};
 use std::io;
@@ -33,7 +38,9 @@ pub enum Fault {
 impl Fault {
     /// The exit status: 0 where help is asked for, 1 for a file, a manifest or a stream, 2 for a command line or a script
     /// line, 3 for memory.
-    pub fn status(&self) -> u8 {
+    pub fn status(&self) -> u8
+        ensures { result ≡ faults.status_of self.now }
+    {
         match self {
             Fault::CommandLine(error) if !error.use_stderr() => 0,
             Fault::CommandLine(_) => 2,
@@ -45,6 +52,8 @@ impl Fault {
 }
 
 impl From<ManifestFault> for Fault {
+    ghost from_gives = { λ error fault. fault ≡ faults.manifest_fault error };
+
     fn from(fault: ManifestFault) -> Fault {
         match fault {
             ManifestFault::Memory(_) => Fault::Memory,
@@ -54,22 +63,27 @@ impl From<ManifestFault> for Fault {
 }
 
 impl From<clap::Error> for Fault {
+    ghost from_gives = { λ error fault. fault ≡ faults.line_fault error (kind_of error) };
+
     fn from(fault: clap::Error) -> Fault {
-        if fault.kind() == clap::error::ErrorKind::OutOfMemory {
-            Fault::Memory
-        } else {
-            Fault::CommandLine(fault)
+        match fault.kind() {
+            clap::error::ErrorKind::OutOfMemory => Fault::Memory,
+            _ => Fault::CommandLine(fault),
         }
     }
 }
 
 impl From<AllocError> for Fault {
+    ghost from_gives = { λ _ fault. fault ≡ faults.memory };
+
     fn from(_fault: AllocError) -> Fault {
         Fault::Memory
     }
 }
 
 impl<T: Drop> From<AllocFailed<T>> for Fault {
+    ghost from_gives = { λ _ fault. fault ≡ faults.memory };
+
     fn from(_fault: AllocFailed<T>) -> Fault {
         Fault::Memory
     }
@@ -77,11 +91,12 @@ impl<T: Drop> From<AllocFailed<T>> for Fault {
 
 // A reader or a writer that wants memory is no failing device.
 impl From<io::Error> for Fault {
+    ghost from_gives = { λ error fault. fault ≡ faults.stream_fault (error_kind error) };
+
     fn from(fault: io::Error) -> Fault {
-        if fault.kind() == io::ErrorKind::OutOfMemory {
-            Fault::Memory
-        } else {
-            Fault::Stream
+        match fault.kind() {
+            io::ErrorKind::OutOfMemory => Fault::Memory,
+            _ => Fault::Stream,
         }
     }
 }

@@ -1,7 +1,9 @@
 //! The server of overlay mounts: what manifests and scripts come to, over readers and writers.
 #![tactic(auto)]
 
+mod answers;
 mod arguments;
+mod commands;
 mod fault;
 mod object_lines;
 mod play;

@@ -1,12 +1,16 @@
 // `play`: a script on a mount.
+ghost use Rattle.std.specs.Prelude.{◌≡◌, ◌+◌, ◌<◌, ◌≤◌, ◌^◌, [], true, length, nat_eq, position, IfErr, IfOk, IfSome, MatchOption, OnOk};
+ghost use Rattle.std.specs.Io.KnownBytes.{Keeps};
+ghost use Rattle.std.specs.List.{list_all};
+ghost use Rattle.ov_server.specs.Scripts as scripts;
+ghost use Rattle.ov_server.specs.Scripts.{EndsBy, GoesOn, IsDeviceFault, IsLineFault, IsPlayFault, is_playable, script_lines};
+
+use crate::commands::{LineFault, play_line};
 use crate::fault::Fault;
-use crate::print_tree::{write_layer, write_merge};
 use merged_lookup::Layers;
-use ov_base::{Errno, Reply};
-use ov_script::{BadCommand, CallText, Command, ReplyLine, command_of};
 use ov_wire::manifest_of;
 use private_mount::Mount;
-use std::alloc::{AllocError, Global};
+use std::alloc::Global;
 use std::io;
 use std::io::{Read, Write};
 
@@ -20,7 +24,10 @@ pub fn play_run<R: Read, W: Write>(
     manifest: &[u8],
     reader: &mut R,
     writer: &mut W,
-) -> Result<(), Fault> {
+) -> Result<(), Fault>
+    ensures ok { OnOk result (IfSome (R.remaining reader.old) (λ script. list_all is_playable (script_lines script) ≡ true)) }
+    ensures err { IfErr result (λ fault. IfSome (R.remaining reader.old) (λ script. scripts.IsRunFault script fault)) }
+{
     let (upper, lowers, _) = manifest_of(alloc, manifest)?;
     let mut script = Script {
         mount: Mount::new(alloc, Layers::new(upper, lowers)),
@@ -42,35 +49,37 @@ struct Script {
     alloc: Global,
 }
 
-// Why a line could not be played.
-#[derive(Drop)]
-enum LineFault {
-    BadCommand,
-    Run(Fault),
-}
-
 impl Script {
-    fn play<R: Read, W: Write>(&mut self, reader: &mut R, writer: &mut W) -> Result<(), Fault> {
-        let mut piece = vec![in self.alloc; 0u8; PIECE]?;
-        for _ in 0..u32::MAX {
-            let count = match reader.read(piece.as_mut_slice()) {
-                Ok(count) => count,
-                Err(fault) if fault.kind() == io::ErrorKind::Interrupted => continue,
-                Err(fault) => return Err(Fault::from(fault)),
+    fn play<R: Read, W: Write>(&mut self, reader: &mut R, writer: &mut W) -> Result<(), Fault>
+        requires pending { self.old.pending.items ≡ [] }
+        requires lines { self.old.lines ≡ 0 }
+        ensures ok { OnOk result (IfSome (R.remaining reader.old) (λ script. list_all is_playable (script_lines script) ≡ true)) }
+        ensures err { IfErr result (λ fault. IfSome (R.remaining reader.old) (λ script. IsPlayFault script fault)) }
+    {
+        let mut buffer = vec![in self.alloc; 0u8; PIECE]?;
+        let piece = buffer.as_mut_slice();
+        for _read in 0..u32::MAX {
+            let Some(count) = read_some(reader, piece)? else {
+                continue;
             };
             if count == 0 {
                 return self.end(writer);
             }
-            self.feed(&piece.as_slice()[..count], writer)?;
+            self.feed(&piece[..count], writer)?;
             writer.flush()?;
         }
         Err(Fault::Stream)
     }
 
     // Plays the lines that end in a piece and keeps what begins a further one.
-    fn feed<W: Write>(&mut self, piece: &[u8], writer: &mut W) -> Result<(), Fault> {
+    fn feed<W: Write>(&mut self, piece: &[u8], writer: &mut W) -> Result<(), Fault>
+        requires { self.old.lines + length piece.now < 2 ^ 64 }
+        ensures ok { OnOk result (GoesOn piece.now self.old.pending.items self.old.lines [] self.new.pending.items self.new.lines) }
+        ensures err { IfErr result (EndsBy piece.now self.old.pending.items self.old.lines) }
+        ensures lines { self.new.lines ≤ self.old.lines + length piece.now }
+    {
         let mut rest = piece;
-        'lines: while let Some(end) = rest.iter().position(|byte| *byte == b'\n') {
+        'lines: while let Some(end) = line_break(rest) {
             self.pending.extend_from_slice(&rest[..end])?;
             self.line(writer)?;
             rest = &rest[end + 1..];
@@ -80,7 +89,11 @@ impl Script {
     }
 
     // Plays the line that the end of the input ends.
-    fn end<W: Write>(&mut self, writer: &mut W) -> Result<(), Fault> {
+    fn end<W: Write>(&mut self, writer: &mut W) -> Result<(), Fault>
+        requires { self.old.lines + 1 < 2 ^ 64 }
+        ensures ok { OnOk result (is_playable self.old.pending.items ≡ true) }
+        ensures err { IfErr result (IsLineFault self.old.pending.items (self.old.lines + 1)) }
+    {
         if self.pending.is_empty() {
             Ok(())
         } else {
@@ -89,8 +102,14 @@ impl Script {
     }
 
     // Plays the pending line.
-    fn line<W: Write>(&mut self, writer: &mut W) -> Result<(), Fault> {
-        self.lines = self.lines.saturating_add(1);
+    fn line<W: Write>(&mut self, writer: &mut W) -> Result<(), Fault>
+        requires { self.old.lines + 1 < 2 ^ 64 }
+        ensures ok { OnOk result (is_playable self.old.pending.items ≡ true) }
+        ensures err { IfErr result (IsLineFault self.old.pending.items (self.old.lines + 1)) }
+        ensures pending { self.new.pending.items ≡ [] }
+        ensures lines { self.new.lines ≡ self.old.lines + 1 }
+    {
+        self.lines += 1;
         let outcome = play_line(self.alloc, &mut self.mount, self.pending.as_slice(), writer);
         self.pending.clear();
         match outcome {
@@ -101,103 +120,23 @@ impl Script {
     }
 }
 
-fn play_line<W: Write>(
-    alloc: Global,
-    mount: &mut Mount,
-    line: &[u8],
-    writer: &mut W,
-) -> Result<(), LineFault> {
-    if line.is_empty() || line[0] == b'#' {
-        return Ok(());
-    }
-    let command = command_of(line)?;
-    match command {
-        Command::Attach => {
-            match attached_to(mount) {
-                Ok(client) => writeln!(writer, "client {client}")?,
-                Err(errno) => {
-                    let errno = errno.text();
-                    writeln!(writer, "not attached {errno}")?;
-                }
-            }
-        }
-        Command::Detach { client } => {
-            check_attached(mount, client)?;
-            mount.detach(client);
-            writeln!(writer, "{client} detached")?;
-        }
-        Command::Call { client, call } => {
-            check_attached(mount, client)?;
-            match answer_to(alloc, mount, client, &call) {
-                Answer::Replied(reply) => {
-                    let line = ReplyLine {
-                        client,
-                        reply: &reply,
-                    };
-                    writeln!(writer, "{line}")?;
-                }
-                Answer::NotTaken(errno) => {
-                    let errno = errno.text();
-                    writeln!(writer, "{client} not taken {errno}")?;
-                }
-            }
-        }
-        Command::Layer { index } => match mount.layers().layer(index as usize) {
-            Some(layer) => write_layer(alloc, layer, writer)?,
-            None => return Err(LineFault::BadCommand),
-        },
-        Command::Merge => write_merge(alloc, mount.layers(), writer)?,
-    }
-    Ok(())
-}
-
-fn attached_to(mount: &mut Mount) -> Result<u32, Errno> {
-    match mount.attach() {
-        Ok(attached) => attached,
-        Err(AllocError) => Err(Errno::ENOMEM),
+// How many bytes one read gives, 0 at the end; none where it was interrupted.
+fn read_some<R: Read>(reader: &mut R, piece: &mut [u8]) -> Result<Option<usize>, Fault>
+    requires { 0 < length piece.old }
+    ensures ok { IfOk result (λ read. MatchOption read (Keeps (R.remaining reader.old) (R.remaining reader.new)) (λ count. scripts.Reads (R.remaining reader.old) (R.remaining reader.new) count piece.new)) }
+    ensures err { IfErr result IsDeviceFault }
+{
+    match reader.read(piece) {
+        Ok(count) => Ok(Some(count)),
+        Err(fault) if fault.kind() == io::ErrorKind::Interrupted => Ok(None),
+        Err(fault) => Err(Fault::from(fault)),
     }
 }
 
-fn check_attached(mount: &Mount, client: u32) -> Result<(), BadCommand> {
-    if mount.is_attached(client) {
-        Ok(())
-    } else {
-        Err(BadCommand)
-    }
-}
-
-// What a call comes to: a reply, or a refusal that is no event.
-#[derive(Drop)]
-enum Answer {
-    Replied(Reply),
-    NotTaken(Errno),
-}
-
-fn answer_to(alloc: Global, mount: &mut Mount, client: u32, text: &CallText<'_>) -> Answer {
-    match text.call(alloc) {
-        Ok(Ok(call)) => match mount.call(client, call) {
-            Ok(reply) => Answer::Replied(reply),
-            Err(AllocError) => Answer::NotTaken(Errno::ENOMEM),
-        },
-        Ok(Err(errno)) => Answer::NotTaken(errno),
-        Err(AllocError) => Answer::NotTaken(Errno::ENOMEM),
-    }
-}
-
-impl From<BadCommand> for LineFault {
-    fn from(_fault: BadCommand) -> LineFault {
-        LineFault::BadCommand
-    }
-}
-
-impl From<Fault> for LineFault {
-    fn from(fault: Fault) -> LineFault {
-        LineFault::Run(fault)
-    }
-}
-
-impl From<io::Error> for LineFault {
-    fn from(fault: io::Error) -> LineFault {
-        LineFault::Run(Fault::from(fault))
-    }
+// The place of the first line break.
+fn line_break(text: &[u8]) -> Option<usize>
+    ensures place { result ≡ position (λ b. nat_eq b 10) text.now }
+    ensures within { IfSome result (λ place. place < length text.now) }
+{
+    text.iter().position(|byte| *byte == b'\n')
 }

@@ -1,4 +1,7 @@
 // Trees as object lines, each directory before what is in it, names by their bytes.
+ghost use Rattle.std.specs.Prelude.{IfErr};
+ghost use Rattle.ov_server.specs.Scripts.{IsDeviceFault};
+
 use crate::fault::Fault;
 use crate::object_lines::{ObjectLine, WhiteoutLine};
 use dir_listing::names;
@@ -108,16 +111,22 @@ struct Level<D> {
 }
 
 /// Writes the tree of a layer.
-pub fn write_layer<W: Write>(alloc: Global, layer: &Layer, writer: &mut W) -> Result<(), Fault> {
+pub fn write_layer<W: Write>(alloc: Global, layer: &Layer, writer: &mut W) -> Result<(), Fault>
+    ensures { IfErr result IsDeviceFault }
+{
     write_tree(alloc, &LayerTree(layer), writer)
 }
 
 /// Writes the merged tree.
-pub fn write_merge<W: Write>(alloc: Global, layers: &Layers, writer: &mut W) -> Result<(), Fault> {
+pub fn write_merge<W: Write>(alloc: Global, layers: &Layers, writer: &mut W) -> Result<(), Fault>
+    ensures { IfErr result IsDeviceFault }
+{
     write_tree(alloc, &MergedTree(layers), writer)
 }
 
-fn write_tree<T: Tree, W: Write>(alloc: Global, tree: &T, writer: &mut W) -> Result<(), Fault> {
+fn write_tree<T: Tree, W: Write>(alloc: Global, tree: &T, writer: &mut W) -> Result<(), Fault>
+    ensures { IfErr result IsDeviceFault }
+{
     let mut path = Vec::new(alloc);
     let mut levels = Vec::new(alloc);
     levels.push(entered(alloc, tree, tree.root(), path.as_slice(), writer)?)?;
@@ -152,7 +161,9 @@ fn written<T: Tree, W: Write>(
     child: Child<'_, T::Directory>,
     path: &[Name],
     writer: &mut W,
-) -> Result<Option<Level<T::Directory>>, Fault> {
+) -> Result<Option<Level<T::Directory>>, Fault>
+    ensures { IfErr result IsDeviceFault }
+{
     match child {
         Child::Directory(directory) => Ok(Some(entered(alloc, tree, directory, path, writer)?)),
         Child::Inode(node) => {
@@ -175,7 +186,9 @@ fn entered<T: Tree, W: Write>(
     directory: T::Directory,
     path: &[Name],
     writer: &mut W,
-) -> Result<Level<T::Directory>, Fault> {
+) -> Result<Level<T::Directory>, Fault>
+    ensures { IfErr result IsDeviceFault }
+{
     if let Some(node) = tree.node(&directory) {
         write_object(node, path, T::WITH_MARKS, writer)?;
     }

@@ -1,0 +1,56 @@
+// The lines that answer commands.
+ghost use Rattle.std.specs.Prelude.{◌∷◌, ◌++◌, [], Some, OnOk};
+ghost use Rattle.std.specs.Io.KnownBytes.{Appends};
+ghost use Rattle.ov_server.specs.Answers.{answer_line};
+
+use ov_base::{Errno, Reply};
+use ov_script::ReplyLine;
+use std::io::Write;
+use std::{fmt, io};
+
+/// What a command comes to, but for the trees that `layer` and `merge` print.
+#[derive(Drop)]
+pub enum Answer {
+    Attached { client: u32 },
+    NotAttached { errno: Errno },
+    Detached { client: u32 },
+    Replied { client: u32, reply: Reply },
+    /// The call was not made, for its path text or for want of memory.
+    NotTaken { client: u32, errno: Errno },
+}
+
+/// The line of an answer, without its line break.
+#[derive(Clone, Copy)]
+pub struct AnswerLine<'a>(pub &'a Answer);
+
+impl fmt::Display for AnswerLine<'_> {
+    ghost output = { λ l. Some (answer_line l.0.now) };
+
+    fn fmt<W: fmt::Write>(&self, f: &mut fmt::Formatter<W>) -> fmt::Result {
+        match self.0 {
+            Answer::Attached { client } => write!(f, "client {client}"),
+            Answer::NotAttached { errno } => {
+                let errno = errno.text();
+                write!(f, "not attached {errno}")
+            }
+            Answer::Detached { client } => write!(f, "{client} detached"),
+            Answer::Replied { client, reply } => {
+                let client = *client;
+                let line = ReplyLine { client, reply };
+                write!(f, "{line}")
+            }
+            Answer::NotTaken { client, errno } => {
+                let errno = errno.text();
+                write!(f, "{client} not taken {errno}")
+            }
+        }
+    }
+}
+
+/// Writes the line of an answer.
+pub fn write_answer<W: Write>(answer: &Answer, writer: &mut W) -> io::Result<()>
+    ensures { OnOk result (Appends (W.contents writer.old) (W.contents writer.new) (answer_line answer.now ++ 10 ∷ [])) }
+{
+    let line = AnswerLine(answer);
+    writeln!(writer, "{line}")
+}
