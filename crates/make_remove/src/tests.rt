@@ -242,13 +242,14 @@ fn removes_what_lower_layers_show(rt: HostRuntime) -> Result<(), Fail> {
     Ok(())
 }
 
-// In an opaque directory, and where only the upper has the name; what stood there is freed.
+// In an opaque directory, where mkdir leaves no mark either, and where only the upper has the name; what stood there is freed.
 #[test]
 fn leaves_no_needless_whiteout(rt: HostRuntime) -> Result<(), Fail> {
     let alloc = rt.alloc();
     let mut lower = Layer::new(alloc, attributes(alloc, 0o755))?;
     let hidden = put(&rt, &mut lower, ROOT, b"o", directory(alloc, 0o700));
     put(&rt, &mut lower, hidden, b"y", file(alloc));
+    put(&rt, &mut lower, hidden, b"d", directory(alloc, 0o700));
     let mut upper = Layer::new(alloc, attributes(alloc, 0o755))?;
     let marks = Marks {
         opaque: true,
@@ -267,6 +268,11 @@ fn leaves_no_needless_whiteout(rt: HostRuntime) -> Result<(), Fail> {
     assert!(rt; layers.upper.find(&beside).is_none());
     assert!(rt; layers.upper.node(y).is_none());
     assert!(rt; layers.upper.node(z).is_none());
+    let below = path(&rt, alloc, b"/o/d");
+    assert!(rt; mkdir(alloc, &mut layers, &below, 0o755)? == Ok(()));
+    assert!(rt; made(&layers, &below) == Some((0o755, 0, false)));
+    assert!(rt; rmdir(alloc, &mut layers, &below)? == Ok(()));
+    assert!(rt; layers.upper.find(&below).is_none());
     let gone = path(&rt, alloc, b"/o");
     assert!(rt; rmdir(alloc, &mut layers, &gone)? == Ok(()));
     assert!(rt; covered(&layers, &gone));
