@@ -1,1 +1,2 @@
+pub mod Manifests
 pub mod Scripts

@@ -1,5 +1,8 @@
 -- The faults of the program.
-use Rattle.std.specs.Prelude.{ℕ}
+use Rattle.std.specs.Prelude.{◌≡◌, ℕ, List, Some, None, Result, Ok, Err, IfErr, IsUtf8}
+use Rattle.toml.specs.Data.{Members}
+use Rattle.toml.specs.Parse.{parse_document}
+use Rattle.ov_wire.specs.Manifests.{whole_of}
 use Rattle.std.specs.declared.io.ErrorKind.{ErrorKind}
 use Rattle.std.specs.declared.io.ErrorKind.TheVariants.{OutOfMemory}
 use Rattle.clap.specs.Values.{kind_of}
@@ -45,3 +48,15 @@ line_fault error _ = CommandLine error
 -- want of memory
 abbrev pub memory : Fault
 memory = Memory
+
+-- a run ends by this fault of its manifest, unless memory ran out
+abbrev pub EndsByManifest : {T : Type 0} → Result T Fault → ManifestFault → Type 0
+EndsByManifest (Ok x) wanted = ⊥
+EndsByManifest (Err Memory) wanted = Unit {0}
+EndsByManifest (Err fault) wanted = fault ≡ Manifest wanted
+
+-- a manifest that is no text, no TOML, or at fault above its entries ends the run
+pub record RefusesManifest {T : Type 0} (bytes : List ℕ) (result : Result T Fault) : Type 0 where
+  pub not_utf8 : (IsUtf8 bytes → ⊥) → EndsByManifest result manifest.NotToml
+  pub not_toml : parse_document bytes ≡ None → EndsByManifest result manifest.NotToml
+  pub whole : (m : Members) → IsUtf8 bytes → parse_document bytes ≡ Some m → IfErr (whole_of m) (EndsByManifest result)

@@ -1,4 +1,5 @@
 pub mod Answers
+pub mod Arguments
 pub mod Faults
 pub mod Objects
 pub mod Scripts

@@ -47,6 +47,11 @@ abbrev pub IsRunFault : List ℕ → Fault → Type 0
 IsRunFault script (Manifest fault) = Unit {0}
 IsRunFault script fault = IsPlayFault script fault
 
+-- the same without a script
+abbrev pub IsManifestOrDeviceFault : Fault → Type 0
+IsManifestOrDeviceFault (Manifest fault) = Unit {0}
+IsManifestOrDeviceFault fault = IsDeviceFault fault
+
 -- how the play of one line ends early
 abbrev pub IsLineFault : List ℕ → ℕ → Fault → Type 0
 IsLineFault line number (BadCommand told) = (told ≡ number) × (is_skipped line ≡ false)

@@ -1,4 +1,7 @@
 // The command line.
+ghost use Rattle.std.specs.Prelude.{IfOk, IfSome, map};
+ghost use Rattle.ov_server.specs.Arguments.{IsAskedBy, Names};
+
 use clap::{Arg, ArgMatches, Command, Error};
 use std::alloc::{AllocError, Global};
 use std::convert::AsStr;
@@ -13,7 +16,9 @@ pub enum Invocation<'a> {
 }
 
 /// Reads the words of a command line, the program's name first. An error has the text for the user, also where help is asked for.
-pub fn command_line<'a, S: AsStr>(alloc: Global, words: &'a [S]) -> Result<Invocation<'a>, Error> {
+pub fn command_line<'a, S: AsStr>(alloc: Global, words: &'a [S]) -> Result<Invocation<'a>, Error>
+    ensures { IfOk result (IsAskedBy (map S.text words.entry.now)) }
+{
     let matches = overlayd(alloc)?.try_get_matches_from(words)?;
     match invocation_of(&matches) {
         Some(invocation) => Ok(invocation),
@@ -42,12 +47,16 @@ fn manifest<'a>(alloc: Global) -> Arg<'a> {
         .required(true)
 }
 
-fn invocation_of<'a>(matches: &ArgMatches<'a>) -> Option<Invocation<'a>> {
+fn invocation_of<'a>(matches: &ArgMatches<'a>) -> Option<Invocation<'a>>
+    ensures { IfSome result (Names matches.now) }
+{
     let (name, inner) = matches.subcommand()?;
     let manifest = inner.get_str("MANIFEST")?;
-    match name {
-        "show" => Some(Invocation::Show { manifest }),
-        "play" => Some(Invocation::Play { manifest }),
-        _ => None,
+    if name == "show" {
+        Some(Invocation::Show { manifest })
+    } else if name == "play" {
+        Some(Invocation::Play { manifest })
+    } else {
+        None
     }
 }

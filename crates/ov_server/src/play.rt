@@ -2,13 +2,13 @@
 ghost use Rattle.std.specs.Prelude.{◌≡◌, ◌+◌, ◌<◌, ◌≤◌, ◌^◌, [], true, length, nat_eq, position, IfErr, IfOk, IfSome, MatchOption, OnOk};
 ghost use Rattle.std.specs.Io.KnownBytes.{Keeps};
 ghost use Rattle.std.specs.List.{list_all};
+ghost use Rattle.ov_server.specs.Faults.{RefusesManifest};
 ghost use Rattle.ov_server.specs.Scripts as scripts;
 ghost use Rattle.ov_server.specs.Scripts.{EndsBy, GoesOn, IsDeviceFault, IsLineFault, IsPlayFault, is_playable, script_lines};
 
 use crate::commands::{LineFault, play_line};
 use crate::fault::Fault;
-use merged_lookup::Layers;
-use ov_wire::manifest_of;
+use crate::show::layers_in;
 use private_mount::Mount;
 use std::alloc::Global;
 use std::io;
@@ -27,10 +27,11 @@ pub fn play_run<R: Read, W: Write>(
 ) -> Result<(), Fault>
     ensures ok { OnOk result (IfSome (R.remaining reader.old) (λ script. list_all is_playable (script_lines script) ≡ true)) }
     ensures err { IfErr result (λ fault. IfSome (R.remaining reader.old) (λ script. scripts.IsRunFault script fault)) }
+    ensures manifest { RefusesManifest manifest.now result }
 {
-    let (upper, lowers, _) = manifest_of(alloc, manifest)?;
+    let layers = layers_in(alloc, manifest)?;
     let mut script = Script {
-        mount: Mount::new(alloc, Layers::new(upper, lowers)),
+        mount: Mount::new(alloc, layers),
         pending: Vec::new(alloc),
         lines: 0,
         alloc,

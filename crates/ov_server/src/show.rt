@@ -1,4 +1,8 @@
 // `show`: the merged tree of a manifest.
+ghost use Rattle.std.specs.Prelude.{IfErr};
+ghost use Rattle.ov_server.specs.Faults.{RefusesManifest};
+ghost use Rattle.ov_server.specs.Scripts.{IsManifestOrDeviceFault};
+
 use crate::fault::Fault;
 use crate::print_tree::write_merge;
 use merged_lookup::Layers;
@@ -7,10 +11,21 @@ use std::alloc::Global;
 use std::io::Write;
 
 /// Writes the merged tree of the layers that the bytes of a manifest spell.
-pub fn show_run<W: Write>(alloc: Global, manifest: &[u8], writer: &mut W) -> Result<(), Fault> {
-    let (upper, lowers, _) = manifest_of(alloc, manifest)?;
-    let layers = Layers::new(upper, lowers);
+pub fn show_run<W: Write>(alloc: Global, manifest: &[u8], writer: &mut W) -> Result<(), Fault>
+    ensures manifest { RefusesManifest manifest.now result }
+    ensures err { IfErr result IsManifestOrDeviceFault }
+{
+    let layers = layers_in(alloc, manifest)?;
     write_merge(alloc, &layers, writer)?;
     writer.flush()?;
     Ok(())
+}
+
+/// The layers that the bytes of a manifest spell.
+pub fn layers_in(alloc: Global, manifest: &[u8]) -> Result<Layers, Fault>
+    ensures manifest { RefusesManifest manifest.now result }
+    ensures err { IfErr result IsManifestOrDeviceFault }
+{
+    let (upper, lowers, _) = manifest_of(alloc, manifest)?;
+    Ok(Layers::new(upper, lowers))
 }

@@ -1,0 +1,9 @@
+use Rattle.std.proofs.lemmas.Result.{err_from_is_err_and}
+use Rattle.ov_server.proofs.Manifests.{refuses_told}
+use Rattle.ov_server.proofs.show.layers_in.Goals as goal
+
+pub returns-in_err-upper-clause-manifest : goal.returns-in_err-upper-clause-manifest
+returns-in_err-upper-clause-manifest c =
+    let p = err_from_is_err_and c.from_residual.result c.from_residual.ensures.1 in
+    let told = c.in_err-upper.ensures in
+    rw (p.1, p.2) (refuses_told (Unit {0}) _ c.args.manifest.now c.in_err-upper.field-0.0 told.not_utf8 told.not_toml told.whole)
