@@ -35,7 +35,7 @@ impl Load {
         match word {
             "find" => Some(Load::Find),
             "walk" => Some(Load::Walk(2)),
-            "walk16" => Some(Load::Walk(LAYERS_MAX)),
+            "walk16" => Some(Load::Walk(16)),
             "insert" => Some(Load::Insert),
             "list" => Some(Load::List),
             "create1k" => Some(Load::Create(1_000)),
