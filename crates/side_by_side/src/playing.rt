@@ -8,6 +8,7 @@ use std::process::Abort;
 use std::test::Fail;
 
 // What a tree begins with at a path, after its parents.
+#[derive(Drop)]
 pub enum Seed {
     // A directory that a lower layer has too, with this mode.
     Directory(&'static str, u32),
