@@ -237,7 +237,7 @@ const BAD_CALLS: [&str; 27] = [
     "0 list 0 +1",
     "0 list 0 4294967296",
     "0 close -1",
-    "0 readlink /",
+    "0 attrs /",
     "1 stat a",
     "0 stat  /",
     "0 detach 0",
