@@ -1,5 +1,5 @@
 // A listing of two layers built by hand.
-use crate::names;
+use crate::{Cursor, names, shows_names};
 use layer_tree::{Layer, Marks, Object, ROOT};
 use merged_lookup::Layers;
 use ov_base::{Attributes, Name, UserAttributes};
@@ -58,5 +58,59 @@ fn lists_each_shown_name_once(rt: HostRuntime) -> Result<(), Fail> {
                 .is_some_and(|name| name.as_slice() == text.as_slice())
         );
     }
+    Ok(())
+}
+
+#[test]
+fn whiteouts_alone_show_no_name(rt: HostRuntime) -> Result<(), Fail> {
+    let alloc = rt.alloc();
+    let mut upper = Layer::new(alloc, attributes(alloc))?;
+    assert!(rt; upper.is_directory(ROOT));
+    let hidden = upper.insert_whiteout(ROOT, name(&rt, b"a"));
+    assert!(rt; hidden.is_ok());
+    let mut lower = Layer::new(alloc, attributes(alloc))?;
+    put(&rt, alloc, &mut lower, b"a");
+    let mut lowers = Vec::new(alloc);
+    lowers.push(lower)?;
+    assert!(rt; lowers.len() == 1);
+    let mut layers = Layers::new(upper, lowers);
+    assert!(rt; !shows_names(&layers, &layers.root()));
+    assert!(rt; layers.upper.is_directory(ROOT));
+    let gone = layers.upper.take_out(ROOT, &name(&rt, b"a"));
+    assert!(rt; gone.is_some());
+    assert!(rt; shows_names(&layers, &layers.root()));
+    Ok(())
+}
+
+// The next names of a cursor are these.
+fn assert_next(
+    rt: &impl Abort,
+    alloc: Global,
+    cursor: &mut Cursor,
+    count: usize,
+    wanted: &[&[u8]],
+) {
+    let names = cursor.next(alloc, count).expect(rt, "memory");
+    assert!(rt; names.as_slice().len() == wanted.len());
+    for (name, text) in names.as_slice().iter().zip(wanted) {
+        assert!(rt; name.as_slice() == *text);
+    }
+}
+
+#[test]
+fn a_cursor_gives_a_listing_bit_by_bit(rt: HostRuntime) -> Result<(), Fail> {
+    let alloc = rt.alloc();
+    let mut names = Vec::new(alloc);
+    for text in [b"a", b"b", b"c"] {
+        names.push(name(&rt, text))?;
+    }
+    let mut cursor = Cursor::over(names);
+    assert_next(&rt, alloc, &mut cursor, 2, &[b"a", b"b"]);
+    assert_next(&rt, alloc, &mut cursor, 2, &[b"c"]);
+    assert_next(&rt, alloc, &mut cursor, 2, &[]);
+    assert!(rt; cursor.is_listed());
+    cursor.rewind();
+    assert!(rt; !cursor.is_listed());
+    assert_next(&rt, alloc, &mut cursor, 2, &[]);
     Ok(())
 }

@@ -1,11 +1,11 @@
 // A tree of objects in memory.
-ghost use Rattle.std.specs.Prelude.{◌≡◌, ◌≢◌, ℕ, ◌+◌, ◌^◌, ◌<◌, ◌≤◌, Option, Some, None, OnOk, OnErr, IsOk, is_ok, IfOk, IfErr, IsSome, if◌then◌else◌, IsTrue, ◌↔◌, List, ◌∷◌, [], option_map, is_some, false, length, take, drop, ◌++◌};
-ghost use Rattle.std.specs.List.{list_any};
+ghost use Rattle.std.specs.Prelude.{◌≡◌, ◌≢◌, ℕ, ◌+◌, ◌^◌, ◌<◌, ◌≤◌, Option, Some, None, OnOk, OnErr, IsOk, is_ok, IfOk, IfErr, IsSome, if◌then◌else◌, IsTrue, ◌↔◌, List, ◌∷◌, [], option_map, is_some, false, length, take, drop, ◌++◌, nat_eq};
+ghost use Rattle.std.specs.List.{list_any, IsDistinct};
 ghost use Rattle.std.specs.List.Sorted.{IsStrictlySortedBy};
 ghost use Rattle.std.specs.Option.{option_and_then, option_copied};
 ghost use Rattle.std.specs.Str.{bytes_eq};
 ghost use Rattle.std.specs.Ordering.{nat_cmp};
-ghost use Rattle.std.specs.Cmp.Lexicographic.{slice_cmp};
+ghost use Rattle.std.specs.Cmp.Lexicographic.{slice_cmp, pointwise};
 ghost use Rattle.std.specs.FinMap as map;
 ghost use Rattle.slab.specs.Slab.{get, slab_len, HasRoomFor};
 ghost use Rattle.plain_model.specs.Layers as layers;
@@ -117,6 +117,18 @@ impl Layer {
         ensures unnamed { (key : ℕ) (i : layers.Inode) → inode_at self.now key ≡ Some i → i.links ≡ 0 → (dir : ℕ) (name : List ℕ) → child self.now dir name ≢ Some key }
     {
         let _ = &self.nodes;
+    }
+
+    /// The names that a directory binds, whiteouts among them, each once and in no order that is promised; none where no directory
+    /// stands under the key.
+    pub fn bound_names(&self, dir: usize) -> &[Name]
+        ensures names { (name : List ℕ) → list_any (bytes_eq name) result.now ≡ is_some (entry self.now dir name) }
+        ensures distinct { IsDistinct (pointwise nat_eq) result.now }
+    {
+        match self.nodes.get(dir) {
+            Some(Node::Directory(directory)) => directory.names.as_slice(),
+            _ => &[],
+        }
     }
 
     /// The names that a directory binds, whiteouts among them, sorted by their bytes; none where no directory stands under the key.

@@ -6,7 +6,6 @@ ghost use Rattle.std.specs.List.Sorted.{IsStrictlySortedBy};
 ghost use Rattle.std.specs.Str.{bytes_eq};
 ghost use Rattle.std.specs.Ordering.{nat_cmp};
 ghost use Rattle.std.specs.Cmp.Lexicographic.{slice_cmp, pointwise};
-ghost use Rattle.indexmap.specs.IndexMap.{keys};
 ghost use Rattle.layer_tree.specs.Table.{Table, entry_in};
 
 use indexmap::IndexMap;
@@ -88,12 +87,20 @@ impl NameTable {
         self.table.swap_remove(name)
     }
 
+    /// The names, each once, in no order that is promised.
+    pub fn as_slice(&self) -> &[Name]
+        ensures names { (name : List ℕ) → list_any (bytes_eq name) result.now ≡ is_some (entry_in self.now name) }
+        ensures distinct { IsDistinct (pointwise nat_eq) result.now }
+    {
+        self.table.keys().as_slice()
+    }
+
     /// The names, sorted by their bytes, each once.
     pub fn sorted(&self, alloc: Global) -> Result<Vec<Name>, AllocError>
         ensures sorted { IfOk result (λ v. IsStrictlySortedBy (slice_cmp nat_cmp) v.items) }
         ensures names { IfOk result (λ v. (name : List ℕ) → list_any (bytes_eq name) v.items ≡ is_some (entry_in self.now name)) }
     {
-        let mut all = names_of(alloc, &self.table)?;
+        let mut all = Vec::from_slice(alloc, self.as_slice())?;
         all.sort_unstable();
         Ok(all)
     }
@@ -104,11 +111,4 @@ impl NameTable {
     {
         self.table.is_empty()
     }
-}
-
-fn names_of(alloc: Global, table: &IndexMap<Name, Entry>) -> Result<Vec<Name>, AllocError>
-    ensures names { IfOk result (λ v. v.items ≡ keys table.now) }
-    ensures distinct { IfOk result (λ v. IsDistinct (pointwise nat_eq) v.items) }
-{
-    table.keys().copied().collect(alloc)
 }

@@ -1,8 +1,6 @@
 -- What layers show once a name is removed, from what the upper held before missing parents were placed.
-use Rattle.std.proofs.Common.{◌≡◌, ◌↔◌, ℕ, ◌<◌, Bool, true, false, not, ◌||◌, cond, bytes_eq, List, [], ◌∷◌, Option, None, Some, is_some, length, refl, sym, ap, ap₂, ◌∙◌, subst, map, arith}
+use Rattle.std.proofs.Common.{◌≡◌, ◌↔◌, ℕ, ◌<◌, Bool, true, false, not, cond, List, [], ◌∷◌, Option, None, Some, is_some, length, refl, sym, ap, ap₂, ◌∙◌, subst, map, arith}
 use Rattle.std.proofs.lemmas.Bool.{false≢true}
-use Rattle.std.specs.List.{list_any}
-use Rattle.plain_model.proofs.Paths.{names_tell}
 use Rattle.slab.specs.Slab.{get}
 use Rattle.ov_base.specs.declared.call.Call.TheVariants as call
 use Rattle.ov_base.specs.declared.errno.Errno.{Errno}
@@ -186,32 +184,11 @@ found-inode l p f d e h =
 pub found-directory : (l : Layers) (p : Path) (f : Found) (s : Stack) → f ≡ found.Directory s → IsFound l p f → ShowsDirectory l p s.places.items
 found-directory l p f s e h = let P : Found → Type 0 = λ f. IsFound l p f in subst P e h
 
-nothing-shown : (s : Option Shown) → is_some s ≡ false → s ≡ None
-nothing-shown s h = grind arith
+pub found-stack : (l : Layers) (p : Path) (f : Found) (s : Stack) → f ≡ found.Directory s → IsFound l p f → IsStackOf l p s
+found-stack l p f s e h = record { places = (found-directory l p f s e h).places }
 
--- a listing of the names shown in a directory
-module _ (l : Layers) (p : Path) (f : Found) (s : Stack) (is : f ≡ found.Directory s) (at : IsFound l p f) (names : List Name) (exact : (q : Path) → IsStackOf l q s → (n : Name) → list_any (bytes_eq n) names ≡ is_some (shows 0 (layers_of l) (n ∷ q))) where
-  pub listed-directory : is_directory (shows 0 (layers_of l) p) ≡ true
-  listed-directory = ap is_directory (found-directory l p f s is at).shown
-
-  listed : (n : Name) → list_any (bytes_eq n) names ≡ is_some (shows 0 (layers_of l) (n ∷ p))
-  listed = exact p (record { places = (found-directory l p f s is at).places })
-
-  by-none : (xs : List Name) → names ≡ xs → length xs ≡ 0 → ShowsNoName (layers_of l) p
-  by-none [] e h n = nothing-shown (shows 0 (layers_of l) (n ∷ p)) (sym (listed n) ∙ ap (list_any (bytes_eq n)) e)
-  by-none (x ∷ xs) e h n = absurd (omega (arith, h))
-
-  -- that is empty: no name is shown
-  pub listed-none : length names ≡ 0 → ShowsNoName (layers_of l) p
-  listed-none h = by-none names refl h
-
-  by-some : (xs : List Name) → names ≡ xs → (length xs ≡ 0 → ⊥) → (n : Name) × (is_some (shows 0 (layers_of l) (n ∷ p)) ≡ true)
-  by-some [] e h = absurd (h refl)
-  by-some (x ∷ xs) e h = (x, sym (listed x) ∙ ap (list_any (bytes_eq x)) e ∙ ap (λ b. b || list_any (bytes_eq x) xs) ((names_tell x x).1 refl))
-
-  -- that is not: some name is
-  pub listed-some : (length names ≡ 0 → ⊥) → (n : Name) × (is_some (shows 0 (layers_of l) (n ∷ p)) ≡ true)
-  listed-some h = by-some names refl h
+pub found-folder : (l : Layers) (p : Path) (f : Found) (s : Stack) → f ≡ found.Directory s → IsFound l p f → is_directory (shows 0 (layers_of l) p) ≡ true
+found-folder l p f s e h = ap is_directory (found-directory l p f s e h).shown
 
 -- a directory that shows a name is refused
 pub rmdir-names : (l : Layers) (p q : Path) (n : Name) → p ≡ n ∷ q → is_directory (shows 0 (layers_of l) p) ≡ true → (m : Name) × (is_some (shows 0 (layers_of l) (m ∷ p)) ≡ true) → (full : Bool) → TellsNames (layers_of l) p full → rmdir_fault (layers_of l) p full ≡ Some errno.ENOTEMPTY

@@ -1,19 +1,15 @@
 -- What a call that removes a name leaves, by what is shown and by what the upper holds (overlayfs.rst, "whiteouts and opaque
 -- directories"; POSIX.1-2017, unlink() and rmdir()).
-use Rattle.std.specs.Prelude.{◌≡◌, ◌≢◌, ℕ, Bool, true, false, nat_lt, [], ◌∷◌, List, Option, None, Some, is_some}
+use Rattle.std.specs.Prelude.{◌≡◌, ◌≢◌, ℕ, Bool, true, false, nat_lt, [], ◌∷◌, Option, None, Some}
 use Rattle.slab.specs.Slab.{get}
-use Rattle.plain_model.specs.Layers.{Name, Path, Object, Directory, Named, Inode, Layer, held, shows, AreLayers}
+use Rattle.plain_model.specs.Layers.{Name, Path, Object, Directory, Named, Inode, held, AreLayers}
 pub use Rattle.mount_laws.specs.Removals.{unlink_fault, rmdir_fault, ShowsNoName, TakesAway, Loses, left_behind, Removes}
+pub use Rattle.dir_listing.specs.Shown.{TellsNames}
 use Rattle.layer_tree.specs.Tree.{Tree, ROOT, IsDirectory, child, inode_at, layer_of}
 use Rattle.layer_tree.specs.declared.name_table.Entry.{Entry}
 use Rattle.layer_tree.specs.declared.name_table.Entry.TheVariants as bound
 use Rattle.merged_lookup.specs.declared.layers.Layers.{Layers}
 use Rattle.merged_lookup.specs.Merged.{layers_of, lowers_of}
-
--- whether names are shown in p
-abbrev pub TellsNames : List Layer → Path → Bool → Type 0
-TellsNames Ls p true = (n : Name) × (is_some (shows 0 Ls (n ∷ p)) ≡ true)
-TellsNames Ls p false = ShowsNoName Ls p
 
 -- what the upper holds at a path once its name is gone: a whiteout exactly where the lower layers show something
 abbrev pub left_at : Layers → Path → Option Object

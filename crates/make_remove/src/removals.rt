@@ -14,11 +14,11 @@ ghost use Rattle.copy_up.specs.Showing.{ShowsSame, Stays, StaysLayers, StaysMoun
 ghost use Rattle.make_remove.specs.Removing.{unlink_fault, rmdir_fault, ShowsNoName, TakesAway, Removes, TellsNames, TakesName, IsReleased, Releases, has_more};
 
 use copy_up::place_parents;
-use dir_listing::names;
+use dir_listing::shows_names;
 use layer_tree::{Entry, Layer, Node};
 use merged_lookup::{Found, Layers, split_last};
 use ov_base::{Errno, Name, Path};
-use std::alloc::{AllocError, Global};
+use std::alloc::AllocError;
 
 /// Why the root is not removed: the mount stands on it.
 const ROOT_REFUSAL: Errno = Errno::EBUSY;
@@ -52,11 +52,7 @@ pub fn unlink(layers: &mut Layers, path: &Path) -> Result<Result<(), Errno>, All
 /// Removes a directory that shows no name, as rmdir(2). The root is EBUSY; the way is refused as in `unlink`; a name that shows nothing is
 /// ENOENT, one that shows no directory ENOTDIR and a directory that shows a name ENOTEMPTY. A refusal changes nothing, and want of memory
 /// changes nothing that is shown.
-pub fn rmdir(
-    alloc: Global,
-    layers: &mut Layers,
-    path: &Path,
-) -> Result<Result<(), Errno>, AllocError>
+pub fn rmdir(layers: &mut Layers, path: &Path) -> Result<Result<(), Errno>, AllocError>
     ensures refused { IfOk result (λ r. IfErr r (λ e. (full : Bool) → TellsNames (layers_of layers.old) path.now full → rmdir_fault (layers_of layers.old) path.now full ≡ Some e)) }
     ensures refuses { IfOk result (λ r. IfErr r (λ e. (s : State) → IsMountOf (layer_of layers.old.upper) (lowers_of layers.old) s → (c : ℕ) → refusal s c (call.Rmdir path.now) ≡ Some e)) }
     ensures unchanged { IfOk result (λ r. OnErr r (layers.new ≡ layers.old)) }
@@ -77,7 +73,7 @@ pub fn rmdir(
         Ok(Found::Inode(_)) => return Ok(Err(Errno::ENOTDIR)),
         Err(errno) => return Ok(Err(errno)),
     };
-    if !names(alloc, layers, &stack)?.is_empty() {
+    if shows_names(layers, &stack) {
         return Ok(Err(Errno::ENOTEMPTY));
     }
     take_away(layers, parents, name)?;

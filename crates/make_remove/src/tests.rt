@@ -223,16 +223,16 @@ fn removes_what_lower_layers_show(rt: HostRuntime) -> Result<(), Fail> {
     let x = path(&rt, alloc, b"/a/x");
     let f = path(&rt, alloc, b"/f");
     assert!(rt; unlink(&mut layers, &root)? == Err(Errno::EBUSY));
-    assert!(rt; rmdir(alloc, &mut layers, &root)? == Err(Errno::EBUSY));
+    assert!(rt; rmdir(&mut layers, &root)? == Err(Errno::EBUSY));
     assert!(rt; unlink(&mut layers, &a)? == Err(Errno::EISDIR));
-    assert!(rt; rmdir(alloc, &mut layers, &f)? == Err(Errno::ENOTDIR));
-    assert!(rt; rmdir(alloc, &mut layers, &a)? == Err(Errno::ENOTEMPTY));
+    assert!(rt; rmdir(&mut layers, &f)? == Err(Errno::ENOTDIR));
+    assert!(rt; rmdir(&mut layers, &a)? == Err(Errno::ENOTEMPTY));
     assert!(rt; unlink(&mut layers, &x)? == Ok(()));
     assert!(rt; covered(&layers, &x));
     assert!(rt; unlink(&mut layers, &x)? == Err(Errno::ENOENT));
-    assert!(rt; rmdir(alloc, &mut layers, &a)? == Ok(()));
+    assert!(rt; rmdir(&mut layers, &a)? == Ok(()));
     assert!(rt; covered(&layers, &a));
-    assert!(rt; rmdir(alloc, &mut layers, &a)? == Err(Errno::ENOENT));
+    assert!(rt; rmdir(&mut layers, &a)? == Err(Errno::ENOENT));
     assert!(rt; mkdir(alloc, &mut layers, &a, 0o755)? == Ok(()));
     assert!(rt; made(&layers, &a) == Some((0o755, 0, true)));
     assert!(rt; layers.walk(&x).is_err());
@@ -271,10 +271,10 @@ fn leaves_no_needless_whiteout(rt: HostRuntime) -> Result<(), Fail> {
     let below = path(&rt, alloc, b"/o/d");
     assert!(rt; mkdir(alloc, &mut layers, &below, 0o755)? == Ok(()));
     assert!(rt; made(&layers, &below) == Some((0o755, 0, false)));
-    assert!(rt; rmdir(alloc, &mut layers, &below)? == Ok(()));
+    assert!(rt; rmdir(&mut layers, &below)? == Ok(()));
     assert!(rt; layers.upper.find(&below).is_none());
     let gone = path(&rt, alloc, b"/o");
-    assert!(rt; rmdir(alloc, &mut layers, &gone)? == Ok(()));
+    assert!(rt; rmdir(&mut layers, &gone)? == Ok(()));
     assert!(rt; covered(&layers, &gone));
     assert!(rt; layers.upper.node(o).is_none());
     Ok(())

@@ -1,2 +1,5 @@
 pub mod Descending
 pub mod Looking
+pub mod Passing
+pub mod Rows
+pub mod Walking

@@ -6,8 +6,8 @@ use Rattle.ov_base.specs.declared.redirect.Redirect.TheVariants as redirect
 use Rattle.plain_model.specs.Layers.{Name, Path, Object, Directory, Named, Whiteout}
 use Rattle.layer_tree.specs.Tree.{Tree, layer_of, entry, seen_entry}
 use Rattle.merged_lookup.specs.declared.stack.Place.{Place}
-use Rattle.merged_lookup.specs.declared.descent.Onward.{Onward}
-use Rattle.merged_lookup.specs.declared.descent.Onward.TheVariants as way
+use Rattle.merged_lookup.specs.declared.onward.Onward.{Onward}
+use Rattle.merged_lookup.specs.declared.onward.Onward.TheVariants as way
 use Rattle.merged_lookup.specs.Merged.{places_at}
 
 -- what a layer holds at a name in the directory under a key

@@ -1,2 +1,5 @@
 pub mod Merged
 pub mod Descent
+pub mod Passing
+pub mod Cursors
+pub mod Spelling

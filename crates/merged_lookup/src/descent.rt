@@ -1,32 +1,16 @@
 // The way of a name down the layers.
 ghost use Rattle.std.specs.Prelude.{◌≡◌, ◌+◌, ◌<◌, ◌≤◌, List, [], ◌∷◌, ◌++◌, ℕ, Option, length, drop, map};
 ghost use Rattle.arrayvec.specs.ArrayVec.{array_vec_len};
-ghost use Rattle.ov_base.specs.declared.attributes.Attributes.{Attributes};
-ghost use Rattle.plain_model.specs.Layers as held;
 ghost use Rattle.merged_lookup.specs.Merged.{trees};
 ghost use Rattle.merged_lookup.specs.Descent as down;
-ghost use Rattle.merged_lookup.specs.Descent.{Tells, holds_in, places_from};
+ghost use Rattle.merged_lookup.specs.Descent.{places_from};
 
+use crate::crossing::walk_below;
 use crate::layers::Layers;
+use crate::onward::{Onward, onward_in};
 use crate::stack::{Place, Places};
-use layer_tree::{Entry, Layer, Marks, Node, ROOT};
-use ov_base::{Name, Path, Redirect};
-
-// What a layer's directory does with a name.
-enum Onward<'a> {
-    // It has nothing there: the next layer is asked.
-    Through,
-    // It has a whiteout there.
-    Whiteout,
-    // It has this file or symbolic link there.
-    Inode(usize),
-    // It has this opaque directory there, which hides the layers below.
-    Last(usize),
-    // It has this directory there; the layers below go on by this name.
-    By(usize, &'a Name),
-    // It has this directory there; the layers below go on from their roots by this path.
-    From(usize, &'a Path),
-}
+use layer_tree::ROOT;
+use ov_base::Name;
 
 // The roots of the layers from this one on.
 pub(crate) fn roots(layers: &Layers, first: usize) -> Places
@@ -40,7 +24,6 @@ pub(crate) fn roots(layers: &Layers, first: usize) -> Places
 }
 
 // The directories that a name leads to from these places, of layers from `floor` on.
-#[cycle(descent)]
 pub(crate) fn descend(layers: &Layers, floor: usize, places: &[Place], name: &Name) -> Places
     ensures { length (down.descend floor (trees layers.now) places.now name.now) ≤ 17 → result.items ≡ down.descend floor (trees layers.now) places.now name.now }
 {
@@ -74,18 +57,6 @@ pub(crate) fn descend(layers: &Layers, floor: usize, places: &[Place], name: &Na
     reached
 }
 
-// The directories at a path of the layers from this one on.
-#[cycle(descent)]
-fn walk_below(layers: &Layers, first: usize, path: &Path) -> Places
-    ensures { result.items ≡ places_from first (trees layers.now) path.now }
-{
-    let mut places = roots(layers, first);
-    for name in path.names() {
-        places = descend(layers, first, places.as_slice(), name);
-    }
-    places
-}
-
 fn reach(places: &mut Places, layer: usize, key: usize)
     ensures { array_vec_len places.old < 17 → places.new.items ≡ places.old.items ++ record { layer = layer; key = key } ∷ [] }
 {
@@ -96,37 +67,6 @@ fn append(places: &mut Places, rest: &Places)
     ensures { array_vec_len places.old + array_vec_len rest.now ≤ 17 → places.new.items ≡ places.old.items ++ rest.now.items }
 {
     let _ = places.try_extend_from_slice(rest.as_slice());
-}
-
-fn onward_in<'a>(layer: &'a Layer, dir: usize, name: &'a Name) -> Onward<'a>
-    ensures { Tells (holds_in layer.now dir name.now) name.now result }
-{
-    match layer.entry(dir, name) {
-        None => Onward::Through,
-        Some(Entry::Whiteout) => Onward::Whiteout,
-        Some(Entry::Object(key)) => match layer.node(key) {
-            None => Onward::Through,
-            Some(Node::Inode(_)) => Onward::Inode(key),
-            Some(Node::Directory(directory)) => onward_from(key, &directory.marks, name),
-        },
-    }
-}
-
-fn onward_from<'a>(key: usize, marks: &'a Marks, name: &'a Name) -> Onward<'a>
-    ensures { (a : Attributes) → Tells (Some (held.Directory key a marks.now.opaque marks.now.redirect)) name.now result }
-{
-    match marks {
-        Marks { opaque: true, .. } => Onward::Last(key),
-        Marks { redirect: None, .. } => Onward::By(key, name),
-        Marks {
-            redirect: Some(Redirect::Single(other)),
-            ..
-        } => Onward::By(key, other.get()),
-        Marks {
-            redirect: Some(Redirect::Absolute(path)),
-            ..
-        } => Onward::From(key, path),
-    }
 }
 
 // The object that a name shows in these places: what the topmost one that has the name has there, unless it is a whiteout.

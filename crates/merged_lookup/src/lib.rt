@@ -2,9 +2,13 @@
 //! redirects.
 #![tactic(auto)]
 
+mod crossing;
+mod cursor;
 mod descent;
 mod found;
 mod layers;
+mod onward;
+mod spelling;
 mod stack;
 
 pub use found::{Found, Look};

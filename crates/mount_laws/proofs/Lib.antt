@@ -1,5 +1,6 @@
 pub mod Looks
 pub mod Opens
+pub mod Seeks
 pub mod Lists
 pub mod Makes
 pub mod Places

@@ -23,6 +23,7 @@ use Rattle.plain_model.proofs.Kept.{at-path}
 use Rattle.mount_laws.specs.Looks.{AreShown, LawOfList, LawOfClose, LawOfBadDescriptors}
 use Rattle.mount_laws.proofs.Looks.{at-some}
 use Rattle.mount_laws.proofs.Opens.{folder-at, put-same}
+use Rattle.mount_laws.proofs.Seeks.{seek_chain}
 
 -- the order of names by their bytes
 abbrev pub by_bytes : Name → Name → Ordering
@@ -156,5 +157,6 @@ law_of_close U lowers s m c fd p h o = record {
 pub law_of_bad_descriptors : LawOfBadDescriptors
 law_of_bad_descriptors s c fd none = record {
   listing = λ n. ap (λ x. when (is_none x) EBADF or_else when (not (is_folder (handle_node s.tree x))) ENOTDIR or_else when (nat_eq n 0 || nat_lt 256 n) EINVAL) none;
+  seeking = λ offset whence. ap (λ x. seek_chain s.tree x offset whence) none;
   closing = ap (λ x. when (is_none x) EBADF) none;
 }

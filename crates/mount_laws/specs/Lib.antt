@@ -3,3 +3,4 @@ pub mod Leaves
 pub mod Removals
 pub mod Thin
 pub mod Removed
+pub mod Seeks

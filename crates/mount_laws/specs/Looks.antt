@@ -1,6 +1,6 @@
 -- What the plain machine answers on the merge of layers, told by what the layers show
 -- (overlayfs.rst, "Directories" and "Multiple lower layers"; POSIX.1-2017, General Concepts, Pathname Resolution, and stat(), open(), mkdir()).
-use Rattle.std.specs.Prelude.{◌≡◌, ◌↔◌, ℕ, Bool, true, false, cond, ◌||◌, List, [], ◌∷◌, Option, None, Some, nat_eq, nat_lt, is_some, is_none, length, take, drop}
+use Rattle.std.specs.Prelude.{◌≡◌, ◌↔◌, ℕ, ℤ, Bool, true, false, cond, ◌||◌, List, [], ◌∷◌, Option, None, Some, nat_eq, nat_lt, is_some, is_none, length, take, drop}
 use Rattle.std.specs.Cmp.Lexicographic.{slice_cmp}
 use Rattle.std.specs.List.{list_any}
 use Rattle.std.specs.List.Sorted.{IsStrictlySortedBy}
@@ -213,6 +213,7 @@ LawOfClose = (U : Layer) (lowers : List Layer) (s : State) → IsMountOf U lower
 -- a descriptor that is not open is refused
 pub record IsBad (s : State) (c fd : ℕ) : Type 0 where
   pub listing : (n : ℕ) → refusal s c (call.ListNames fd n) ≡ Some errno.EBADF
+  pub seeking : (offset : ℤ) (whence : ℕ) → refusal s c (call.Seek fd offset whence) ≡ Some errno.EBADF
   pub closing : refusal s c (call.Close fd) ≡ Some errno.EBADF
 
 abbrev pub LawOfBadDescriptors : Type 0

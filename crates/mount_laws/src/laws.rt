@@ -3,6 +3,7 @@ ghost use Rattle.mount_laws.specs.Removed.{LawOfCloseRemoved, LawOfListRemoved};
 ghost use Rattle.mount_laws.specs.Leaves.{LawOfLinkMade, LawOfPlacedLeaf, LawOfReadlink, LawOfSymlink};
 ghost use Rattle.mount_laws.specs.Looks.{LawOfBadDescriptors, LawOfBeginning, LawOfClose, LawOfDirectories, LawOfList, LawOfMade, LawOfMkdir, LawOfOpen, LawOfPlacedDirectory, LawOfPlacedParent, LawOfStat, LawOfWalks};
 ghost use Rattle.mount_laws.specs.Removals.{LawOfRemovedDirectory, LawOfRmdir, LawOfTakenAway, LawOfUnlink, LawOfUnlinked};
+ghost use Rattle.mount_laws.specs.Seeks.{LawOfSeek};
 ghost use Rattle.mount_laws.specs.Thin.{LawOfThin};
 
 /// A mount begins as one of its layers.
@@ -40,6 +41,11 @@ pub fn law_of_open()
 /// a call gives the next of them.
 pub fn law_of_list()
     ensures { LawOfList }
+{}
+
+/// A handle on a directory goes to its start alone, and keeps no listing then; nothing else changes.
+pub fn law_of_seek()
+    ensures { LawOfSeek }
 {}
 
 /// A handle on a node that has a name closes, and nothing else changes.

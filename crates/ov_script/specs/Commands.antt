@@ -8,17 +8,22 @@ use Rattle.ov_base.specs.declared.call.Call.TheVariants as call
 use Rattle.ov_base.specs.declared.call.OpenFlags.{OpenFlags}
 use Rattle.ov_base.specs.declared.errno.Errno.{Errno}
 use Rattle.ov_script.specs.Escapes.{spelled_word}
-use Rattle.ov_script.specs.Numbers.{number_of, mode_of}
+use Rattle.ov_script.specs.Numbers.{number_of, mode_of, offset_of}
 use Rattle.ov_script.specs.Words.{words}
 use Rattle.ov_script.specs.declared.script.Command.{Command}
 use Rattle.ov_script.specs.declared.script.Command.TheVariants.{Attach, Detach, Call as CallOf, Layer, Merge}
 use Rattle.ov_script.specs.declared.script.CallText.{CallText}
-use Rattle.ov_script.specs.declared.script.CallText.TheVariants.{Stat, Readlink, Mkdir, Symlink, Unlink, Rmdir, OpenDirectory, ListNames, Close}
+use Rattle.ov_script.specs.declared.script.CallText.TheVariants.{Stat, Readlink, Mkdir, Symlink, Unlink, Rmdir, OpenDirectory, Seek, ListNames, Close}
 
 -- what two words come to, if each has its form
 abbrev pub both : {A B C : Type 0} → (A → B → C) → Option A → Option B → Option C
 both f None b = None
 both f (Some a) b = option_map (f a) b
+
+-- what three words come to, if each has its form
+abbrev pub all_three : {A B C D : Type 0} → (A → B → C → D) → Option A → Option B → Option C → Option D
+all_three f None b c = None
+all_three f (Some a) b c = both (f a) b c
 
 -- `stat P`, `readlink P`, `unlink P`, `rmdir P`
 abbrev pub call_of_path : List ℕ → List ℕ → Option CallText
@@ -40,10 +45,18 @@ call_of_two name v w =
     else (if bytes_eq name (codes "list") then both ListNames (number_of 10 v) (number_of 10 w)
     else (if bytes_eq name (codes "open") && bytes_eq v (codes "rd") then option_map (λ path. OpenDirectory path 420) (spelled_word w) else None)))
 
--- `open rd P MODE`
+-- from where a seek counts: the start, the place, or the end
+abbrev pub whence_of : List ℕ → Option ℕ
+whence_of w =
+    if bytes_eq w (codes "set") then Some 0
+    else (if bytes_eq w (codes "cur") then Some 1
+    else (if bytes_eq w (codes "end") then Some 2 else None))
+
+-- `seek FD OFFSET set|cur|end`, `open rd P MODE`
 abbrev pub call_of_three : List ℕ → List ℕ → List ℕ → List ℕ → Option CallText
 call_of_three name u v w =
-    if bytes_eq name (codes "open") && bytes_eq u (codes "rd") then both OpenDirectory (spelled_word v) (mode_of w) else None
+    if bytes_eq name (codes "seek") then all_three Seek (number_of 10 u) (offset_of v) (whence_of w)
+    else (if bytes_eq name (codes "open") && bytes_eq u (codes "rd") then both OpenDirectory (spelled_word v) (mode_of w) else None)
 
 -- the call of a name and the words after it
 abbrev pub call_text : List ℕ → List (List ℕ) → Option CallText
@@ -100,5 +113,6 @@ call_of (Unlink text) = on_path call.Unlink (path_of_text text)
 call_of (Rmdir text) = on_path call.Rmdir (path_of_text text)
 call_of (Mkdir mode text) = on_path (λ path. call.Mkdir path mode) (path_of_text text)
 call_of (OpenDirectory text mode) = on_path (λ path. call.Open path read_directory mode) (path_of_text text)
+call_of (Seek descriptor offset whence) = Ok (call.Seek descriptor offset whence)
 call_of (ListNames descriptor count) = Ok (call.ListNames descriptor count)
 call_of (Close descriptor) = Ok (call.Close descriptor)

@@ -1,13 +1,13 @@
 -- The numbers that words spell.
-use Rattle.std.specs.Prelude.{ℕ, ◌+◌, ◌*◌, ◌-◌, ◌^◌, Bool, ◌&&◌, List, [], ◌∷◌, length, cond, nat_le, nat_lt, Option, Some, None}
+use Rattle.std.specs.Prelude.{ℕ, ℤ, pos, ◌+◌, ◌*◌, ◌-◌, ◌^◌, Bool, ◌&&◌, List, [], ◌∷◌, length, cond, nat_le, nat_lt, Option, Some, None, option_map}
 
 -- whether a byte is a digit in a base of at most ten
 abbrev pub is_digit : ℕ → ℕ → Bool
 is_digit base c = nat_le 48 c && nat_lt (c - 48) base
 
--- a number with one more digit, where it fits 32 bits
+-- a number with one more digit, where it fits 64 bits
 abbrev pub with_digit : ℕ → ℕ → ℕ → Option ℕ
-with_digit base n c = cond (is_digit base c && nat_lt (n * base + (c - 48)) (2 ^ 32)) (Some (n * base + (c - 48))) None
+with_digit base n c = cond (is_digit base c && nat_lt (n * base + (c - 48)) (2 ^ 64)) (Some (n * base + (c - 48))) None
 
 -- goes on from a number
 abbrev pub go_on : (ℕ → Option ℕ) → Option ℕ → Option ℕ
@@ -19,11 +19,23 @@ abbrev pub number_after : ℕ → ℕ → List ℕ → Option ℕ
 number_after base n [] = Some n
 number_after base n (c ∷ digits) = go_on (λ m. number_after base m digits) (with_digit base n c)
 
+-- the number that one digit or more spell, where it fits 64 bits
+abbrev pub spelled_number : ℕ → List ℕ → Option ℕ
+spelled_number base [] = None
+spelled_number base (c ∷ digits) = number_after base 0 (c ∷ digits)
+
+-- a number, where it is below a limit
+abbrev pub below : ℕ → Option ℕ → Option ℕ
+below limit o = go_on (λ n. cond (nat_lt n limit) (Some n) None) o
+
 -- the number that one digit or more spell, where it fits 32 bits
 abbrev pub number_of : ℕ → List ℕ → Option ℕ
-number_of base [] = None
-number_of base (c ∷ digits) = number_after base 0 (c ∷ digits)
+number_of base digits = below (2 ^ 32) (spelled_number base digits)
 
 -- the mode that one to six octal digits spell
 abbrev pub mode_of : List ℕ → Option ℕ
 mode_of digits = cond (nat_lt 6 (length digits)) None (number_of 8 digits)
+
+-- the offset that one decimal digit or more spell, where it fits 64 bits with a sign
+abbrev pub offset_of : List ℕ → Option ℤ
+offset_of digits = option_map pos (below (2 ^ 63) (spelled_number 10 digits))

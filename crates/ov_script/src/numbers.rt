@@ -1,17 +1,23 @@
 // The numbers that words spell.
 ghost use Rattle.std.specs.Prelude.{◌≡◌, ◌≤◌};
 ghost use Rattle.ov_script.specs.Numbers as numbers;
-ghost use Rattle.ov_script.specs.Numbers.{number_of, mode_of};
+ghost use Rattle.ov_script.specs.Numbers.{number_of, mode_of, offset_of, spelled_number};
 
 /// The most digits of a mode.
 const MODE_DIGITS: usize = 6;
+
+/// The greatest number of 32 bits.
+const NUMBER_MAX: u64 = 0xffff_ffff;
+
+/// The greatest offset of a seek.
+const OFFSET_MAX: u64 = 0x7fff_ffff_ffff_ffff;
 
 /// The number of a client, a descriptor, a count or a layer: decimal digits, of which there may be zeros at the front, where it
 /// fits 32 bits.
 pub fn decimal(word: &[u8]) -> Option<u32>
     ensures { result ≡ number_of 10 word.now }
 {
-    number(word, 10)
+    short_number(word, 10)
 }
 
 /// A mode, one to six octal digits.
@@ -21,17 +27,40 @@ pub fn octal_mode(word: &[u8]) -> Option<u32>
     if word.len() > MODE_DIGITS {
         return None;
     }
-    number(word, 8)
+    short_number(word, 8)
 }
 
-fn number(word: &[u8], base: u32) -> Option<u32>
+/// The offset of a seek: decimal digits without a sign, at most 9,223,372,036,854,775,807.
+pub fn offset(word: &[u8]) -> Option<i64>
+    ensures { result ≡ offset_of word.now }
+{
+    let number = number(word, 10)?;
+    if number > OFFSET_MAX {
+        return None;
+    }
+    Some(number as i64)
+}
+
+// A number that fits 32 bits.
+fn short_number(word: &[u8], base: u64) -> Option<u32>
     requires { base ≤ 10 }
     ensures { result ≡ number_of base word.now }
+{
+    let number = number(word, base)?;
+    if number > NUMBER_MAX {
+        return None;
+    }
+    Some(number as u32)
+}
+
+fn number(word: &[u8], base: u64) -> Option<u64>
+    requires { base ≤ 10 }
+    ensures { result ≡ spelled_number base word.now }
 {
     if word.is_empty() {
         return None;
     }
-    let mut value: u32 = 0;
+    let mut value: u64 = 0;
     for byte in word {
         value = with_digit(value, *byte, base)?;
     }
@@ -39,12 +68,12 @@ fn number(word: &[u8], base: u32) -> Option<u32>
 }
 
 // A number with one more digit.
-fn with_digit(value: u32, byte: u8, base: u32) -> Option<u32>
+fn with_digit(value: u64, byte: u8, base: u64) -> Option<u64>
     requires { base ≤ 10 }
     ensures { result ≡ numbers.with_digit base value byte }
 {
-    if byte < b'0' || u32::from(byte - b'0') >= base {
+    if byte < b'0' || u64::from(byte - b'0') >= base {
         return None;
     }
-    value.checked_mul(base)?.checked_add(u32::from(byte - b'0'))
+    value.checked_mul(base)?.checked_add(u64::from(byte - b'0'))
 }

@@ -8,7 +8,7 @@ ghost use Rattle.ov_script.specs.Escapes.{spelled_word};
 ghost use Rattle.ov_script.specs.Words.{words};
 
 use crate::escape::EscapedWord;
-use crate::numbers::{decimal, octal_mode};
+use crate::numbers::{decimal, octal_mode, offset};
 use ov_base::{Bytes, Call, Errno, OpenFlags, Path};
 use std::alloc::{AllocError, Global};
 
@@ -52,6 +52,11 @@ pub enum CallText<'a> {
     OpenDirectory {
         path: EscapedWord<'a>,
         mode: u32,
+    },
+    Seek {
+        descriptor: u32,
+        offset: i64,
+        whence: u8,
     },
     ListNames {
         descriptor: u32,
@@ -217,10 +222,34 @@ fn call_of_three<'a>(
 ) -> Option<CallText<'a>>
     ensures { result ≡ commands.call_of_three name.now first.now second.now third.now }
 {
-    if name == b"open".as_slice() && first == b"rd".as_slice() {
+    if name == b"seek".as_slice() {
+        let descriptor = decimal(first)?;
+        let offset = offset(second)?;
+        let whence = whence_of(third)?;
+        Some(CallText::Seek {
+            descriptor,
+            offset,
+            whence,
+        })
+    } else if name == b"open".as_slice() && first == b"rd".as_slice() {
         let path = EscapedWord::parse(second)?;
         let mode = octal_mode(third)?;
         Some(CallText::OpenDirectory { path, mode })
+    } else {
+        None
+    }
+}
+
+// From where a seek counts: the start, the place or the end.
+fn whence_of(word: &[u8]) -> Option<u8>
+    ensures { result ≡ commands.whence_of word.now }
+{
+    if word == b"set".as_slice() {
+        Some(0)
+    } else if word == b"cur".as_slice() {
+        Some(1)
+    } else if word == b"end".as_slice() {
+        Some(2)
     } else {
         None
     }
@@ -255,6 +284,15 @@ impl CallText<'_> {
                 let flags = READ_DIRECTORY;
                 Ok(path_of(alloc, path)?.map(|path| Call::Open { path, flags, mode }))
             }
+            CallText::Seek {
+                descriptor,
+                offset,
+                whence,
+            } => Ok(Ok(Call::Seek {
+                descriptor: *descriptor,
+                offset: *offset,
+                whence: *whence,
+            })),
             CallText::ListNames { descriptor, count } => Ok(Ok(Call::ListNames {
                 descriptor: *descriptor,
                 count: *count,

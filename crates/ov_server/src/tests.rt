@@ -120,6 +120,11 @@ fn plays_refusals_in_their_order(rt: HostRuntime) {
         ("0 list 0 0", "0 EINVAL"),
         ("0 list 0 257", "0 EINVAL"),
         ("0 list 1 0", "0 EBADF"),
+        ("0 seek 1 1 cur", "0 EBADF"),
+        ("0 seek 0 1 set", "0 EINVAL"),
+        ("0 seek 0 0 cur", "0 EINVAL"),
+        ("0 seek 0 0 end", "0 EINVAL"),
+        ("0 seek 0 9223372036854775807 set", "0 EINVAL"),
         ("0 close 1", "0 EBADF"),
         ("0 open rd /a/x", "0 ENOTDIR"),
         ("0 open rd /a/x/y 10000", "0 EINVAL"),
@@ -152,6 +157,81 @@ fn plays_refusals_in_their_order(rt: HostRuntime) {
         wanted.push('\n').expect(&rt, "memory");
     }
     assert_played(&rt, alloc, FIRST, script.as_str(), wanted.as_str());
+}
+
+// A layer of many, and what a whiteout between hides.
+#[test]
+fn plays_four_layers(rt: HostRuntime) {
+    let manifest =
+        "layer = [{}, {}, {entry = [{path = '/f', kind = 'whiteout'}]}, {entry = [{path = '/f', kind = 'file', text = 'b'}]}]";
+    let script = "attach\n0 stat /f\nlayer 3\n";
+    let wanted = "client 0\n0 ENOENT\nd 0755 0 0 0 1 /\nf 0644 0 0 1 1 /f\n";
+    assert_played(&rt, rt.alloc(), manifest, script, wanted);
+}
+
+const THREE: &str = "[[layer]]
+[[layer]]
+[[layer.entry]]
+path = \"/d\"
+kind = \"dir\"
+[[layer.entry]]
+path = \"/d/a\"
+kind = \"file\"
+[[layer.entry]]
+path = \"/d/b\"
+kind = \"file\"
+[[layer.entry]]
+path = \"/d/c\"
+kind = \"file\"
+";
+
+// A listing stays as it was made at the first `list`, until a seek to 0; that of a removed directory is empty. The name that comes is of a
+// directory, since files can't be made yet; the lines follow the rule all the same.
+#[test]
+fn makes_a_listing_anew(rt: HostRuntime) {
+    let script = "attach
+attach
+0 open rd /d
+0 list 0 1
+1 mkdir 755 /d/aa
+1 unlink /d/c
+0 list 0 9
+0 list 0 9
+0 seek 0 0 set
+0 list 0 1
+0 list 0 9
+1 unlink /d/a
+1 rmdir /d/aa
+1 unlink /d/b
+1 rmdir /d
+0 list 0 9
+0 seek 0 00 set
+0 list 0 9
+0 close 0
+0 seek 0 0 set
+";
+    let wanted = "client 0
+client 1
+0 ok 0
+0 ok a
+1 ok
+1 ok
+0 ok b c
+0 ok
+0 ok 0
+0 ok a
+0 ok aa b
+1 ok
+1 ok
+1 ok
+1 ok
+0 ok
+0 ok 0
+0 ok
+0 ok
+0 EBADF
+";
+    assert_played(&rt, rt.alloc(), THREE, script, wanted);
 }
 
 #[test]
@@ -215,7 +295,7 @@ fn stops_at_bad_lines(rt: HostRuntime) {
     assert_stops(&rt, alloc, "#\n ", "", "line 2: bad command");
 }
 
-const BAD_CALLS: [&str; 27] = [
+const BAD_CALLS: [&str; 35] = [
     "0",
     "0 ",
     "0 stat",
@@ -237,6 +317,14 @@ const BAD_CALLS: [&str; 27] = [
     "0 list 0 +1",
     "0 list 0 4294967296",
     "0 close -1",
+    "0 seek 0 0",
+    "0 seek 0 0 ",
+    "0 seek 0 0 start",
+    "0 seek 0 0 0",
+    "0 seek 0 0 set 0",
+    "0 seek 0 +0 set",
+    "0 seek 0 -1 set",
+    "0 seek 0 9223372036854775808 set",
     "0 attrs /",
     "1 stat a",
     "0 stat  /",
@@ -289,6 +377,10 @@ fn tells_manifest_faults(rt: HostRuntime) {
         (
             "path = \"/a\"\nkind = \"whiteout\"\nmode = 0o644\n",
             "layer 1 entry 0: key",
+        ),
+        (
+            "path = \"/a\"\nkind = \"dir\"\nredirect = \"/\"\n",
+            "layer 1 entry 0: value",
         ),
     ];
     for (entry, fault) in entries {

@@ -1,1 +1,5 @@
 mod Tables
+mod Placing
+mod Planting
+mod RootEntries
+mod Reading

@@ -1,2 +1,4 @@
 pub mod ManifestEntries
 pub mod Manifests
+pub mod ManifestLayers
+pub mod Drafts

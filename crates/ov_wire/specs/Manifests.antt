@@ -1,5 +1,5 @@
 -- What a manifest says as a whole: its options and how many layers it has, or the first of its faults that are of no entry.
-use Rattle.std.specs.Prelude.{◌≡◌, codes, ℕ, ℤ, pos, negsuc, List, Bool, true, false, ◌&&◌, nat_le, nat_eq, suc, is_some, Result, Ok, Err, if◌then◌else◌}
+use Rattle.std.specs.Prelude.{◌≡◌, codes, ℕ, ℤ, pos, negsuc, List, Bool, true, false, ◌&&◌, nat_le, suc, is_some, Result, Ok, Err, if◌then◌else◌}
 use Rattle.std.specs.Option.{option_and_then, option_map_or, unwrap_or}
 use Rattle.std.specs.Str.{bytes_eq}
 use Rattle.toml.specs.Data.{Data, Items, no_items, item, Members, get_member, as_str, as_integer, as_array, as_table}
@@ -84,9 +84,9 @@ options_of manifest =
     and_then (redirects_of manifest) (λ redirects.
     and_then (history_of manifest) (λ history. Ok (record { redirects = redirects; history = history }))))
 
--- the options of a manifest of two layers, or THE FIRST FAULT OF THE WHOLE: `key`, `redirect_dir`, `history`, `layers`
+-- the options of a manifest of 2 to 17 layers, or THE FIRST FAULT OF THE WHOLE: `key`, `redirect_dir`, `history`, `layers`
 abbrev pub whole_of : Members → Result Options ManifestFault
-whole_of manifest = and_then (options_of manifest) (λ options. if nat_eq (layer_count manifest) 2 then Ok options else Err fault.Layers)
+whole_of manifest = and_then (options_of manifest) (λ options. if nat_le 2 (layer_count manifest) && nat_le (layer_count manifest) 17 then Ok options else Err fault.Layers)
 
 -- a fault of an entry, or want of memory
 abbrev pub IsOfEntry : ManifestFault → Type 0

@@ -1,11 +1,15 @@
 // Manifests: the layers and options of a mount, as TOML.
-ghost use Rattle.std.specs.Prelude.{◌≡◌, ◌≢◌, Ok, Err, IsOk, IsSome, length, IfOk, IfErr, Some, None, option_map, string_bytes, IsUtf8};
+ghost use Rattle.std.specs.Prelude.{◌≡◌, ◌≢◌, ◌<◌, ◌≤◌, Ok, Err, IsOk, IsSome, ◌∷◌, map, length, IfOk, IfErr, IfSome, Some, None, option_map, string_bytes, IsUtf8};
 ghost use Rattle.std.specs.List.{list_all};
 ghost use Rattle.std.specs.Vec.{vec_len};
-ghost use Rattle.toml.specs.Data.{Members};
+ghost use Rattle.toml.specs.Data.{Members, item};
 ghost use Rattle.toml.specs.Parse.{parse_document};
 ghost use Rattle.toml.specs.View.{view, table_view, items_view};
+ghost use Rattle.plain_model.specs.Layers.{AreLayers};
+ghost use Rattle.layer_tree.specs.Tree.{layer_of};
 ghost use Rattle.ov_wire.specs.Manifests.{IsOfEntry, Refuses};
+ghost use Rattle.ov_wire.specs.ManifestLayers as layers;
+ghost use Rattle.ov_wire.specs.ManifestLayers.{AreSpelled, IsTold, layer_items, layers_fault};
 ghost use Rattle.ov_wire.specs.Manifests as spec;
 
 mod entry;
@@ -20,8 +24,8 @@ use place::read_layer;
 use std::alloc::{AllocError, Global};
 use toml::{Table, Value};
 
-/// How many layers a manifest has: the upper and one lower.
-const LAYERS: usize = 2;
+/// The most lower layers of a mount.
+const LOWERS_MOST: usize = 16;
 
 /// The least and the greatest length of the history, and the length where none is given.
 const HISTORY_LEAST: i64 = 2;
@@ -39,8 +43,13 @@ pub fn manifest_of(
     ensures not_toml { parse_document bytes.now ≡ None → Refuses result ManifestFault.NotToml }
     ensures toml { IsUtf8 bytes.now → IsSome (parse_document bytes.now) → result ≢ Err ManifestFault.NotToml }
     ensures whole { (m : Members) → IsUtf8 bytes.now → parse_document bytes.now ≡ Some m → IfErr (spec.whole_of m) (Refuses result) }
-    ensures one_lower { IfOk result (λ r. vec_len r.1 ≡ 1) }
-    ensures options { IfOk result (λ r. option_map spec.whole_of (parse_document bytes.now) ≡ Some (Ok r.2)) }
+    ensures faults { (m : Members) → IsUtf8 bytes.now → parse_document bytes.now ≡ Some m → IfErr (layers.manifest_of m) (Refuses result) }
+    ensures told { (m : Members) → IsUtf8 bytes.now → parse_document bytes.now ≡ Some m → IfErr result (IsTold (layers.fault_of (layers.manifest_of m))) }
+    ensures options { IfOk result (λ r. option_map layers.manifest_of (parse_document bytes.now) ≡ Some (Ok r.2)) }
+    ensures spelled { IfOk result (λ r. IfSome (parse_document bytes.now) (λ m. AreSpelled (layer_of r.0 ∷ map layer_of r.1.items) (layer_items m))) }
+    ensures layers { IfOk result (λ r. AreLayers (layer_of r.0 ∷ map layer_of r.1.items)) }
+    ensures some_lower { IfOk result (λ r. 0 < vec_len r.1) }
+    ensures few_lowers { IfOk result (λ r. vec_len r.1 ≤ 16) }
 {
     match toml::table_from_slice(alloc, bytes) {
         Ok(manifest) => layers_of(alloc, &manifest),
@@ -60,20 +69,59 @@ pub fn layers_of(
     alloc: Global,
     manifest: &Table,
 ) -> Result<(Layer, Vec<Layer>, Options), ManifestFault>
+    ensures told { IfErr result (IsTold (layers.fault_of (layers.manifest_of (table_view manifest.now)))) }
     ensures whole { IfErr (spec.whole_of (table_view manifest.now)) (λ fault. result ≡ Err fault) }
     ensures toml { result ≢ Err ManifestFault.NotToml }
     ensures entries { IsOk (spec.whole_of (table_view manifest.now)) → IfErr result IsOfEntry }
-    ensures one_lower { IfOk result (λ r. vec_len r.1 ≡ 1) }
-    ensures options { IfOk result (λ r. spec.whole_of (table_view manifest.now) ≡ Ok r.2) }
+    ensures options { IfOk result (λ r. layers.manifest_of (table_view manifest.now) ≡ Ok r.2) }
+    ensures spelled { IfOk result (λ r. AreSpelled (layer_of r.0 ∷ map layer_of r.1.items) (layer_items (table_view manifest.now))) }
+    ensures layers { IfOk result (λ r. AreLayers (layer_of r.0 ∷ map layer_of r.1.items)) }
+    ensures some_lower { IfOk result (λ r. 0 < vec_len r.1) }
+    ensures few_lowers { IfOk result (λ r. vec_len r.1 ≤ 16) }
 {
     let options = options_of(manifest)?;
-    let [upper, lower] = layers_in(manifest) else {
+    let Some((upper, lowers)) = layers_in(manifest).split_first() else {
         return Err(ManifestFault::Layers);
     };
-    let upper = read_layer(alloc, 0, entries_in(upper))?;
-    let mut lowers = Vec::with_capacity(alloc, LAYERS - 1)?;
-    lowers.push(read_layer(alloc, 1, entries_in(lower))?)?;
+    if lowers.is_empty() || lowers.len() > LOWERS_MOST {
+        return Err(ManifestFault::Layers);
+    }
+    let (upper, lowers) = read_layers(alloc, upper, lowers)?;
     Ok((upper, lowers, options))
+}
+
+// The layers in their order, each from its entries.
+fn read_layers(
+    alloc: Global,
+    upper: &Value,
+    lowers: &[Value],
+) -> Result<(Layer, Vec<Layer>), ManifestFault>
+    requires { length lowers.now ≤ 16 }
+    ensures count { IfOk result (λ r. vec_len r.1 ≡ length lowers.now) }
+    ensures err { IfErr result IsOfEntry }
+    ensures told { IfErr result (IsTold (layers_fault 0 (item (view upper.now) (items_view lowers.now)))) }
+    ensures spelled { IfOk result (λ r. AreSpelled (layer_of r.0 ∷ map layer_of r.1.items) (item (view upper.now) (items_view lowers.now))) }
+    ensures layers { IfOk result (λ r. AreLayers (layer_of r.0 ∷ map layer_of r.1.items)) }
+{
+    let upper = read_layer(alloc, 0, entries_in(upper))?;
+    let lowers = read_lowers(alloc, lowers)?;
+    Ok((upper, lowers))
+}
+
+// The lower layers from the top, which are numbered from 1.
+fn read_lowers(alloc: Global, layers: &[Value]) -> Result<Vec<Layer>, ManifestFault>
+    requires { length layers.now ≤ 16 }
+    ensures count { IfOk result (λ lowers. vec_len lowers ≡ length layers.now) }
+    ensures err { IfErr result IsOfEntry }
+    ensures told { IfErr result (IsTold (layers_fault 1 (items_view layers.now))) }
+    ensures spelled { IfOk result (λ lowers. AreSpelled (map layer_of lowers.items) (items_view layers.now)) }
+    ensures layers { IfOk result (λ lowers. AreLayers (map layer_of lowers.items)) }
+{
+    let mut lowers = Vec::with_capacity(alloc, layers.len())?;
+    for (index, layer) in layers.iter().enumerate() {
+        lowers.push(read_layer(alloc, index + 1, entries_in(layer))?)?;
+    }
+    Ok(lowers)
 }
 
 // The options, where no key of the whole is at fault.
@@ -211,7 +259,8 @@ fn history_within(history: i64) -> Result<u32, ManifestFault>
 
 // The layers, the upper first; none where there is no such key.
 fn layers_in(manifest: &Table) -> &[Value]
-    ensures { length result.now ≡ spec.layer_count (table_view manifest.now) }
+    ensures count { length result.now ≡ spec.layer_count (table_view manifest.now) }
+    ensures items { items_view result.now ≡ layer_items (table_view manifest.now) }
 {
     array_at(manifest, "layer")
 }

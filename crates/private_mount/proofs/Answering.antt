@@ -1,5 +1,5 @@
 -- The mount answers each call as the machine does.
-use Rattle.std.proofs.Common.{arith, ◌≡◌, ℕ, ◌+◌, ◌<◌, ◌≤◌, true, false, min, ◌||◌, List, Option, None, Some, Ok, Err, refl, sym, ap, ◌∙◌, subst, is_some, is_none, length, take, drop, nat_eq, nat_lt}
+use Rattle.std.proofs.Common.{arith, ◌≡◌, ℕ, ℤ, pos, nat_abs, ◌+◌, ◌<◌, ◌≤◌, Bool, true, false, not, min, ◌&&◌, ◌||◌, List, Option, None, Some, Ok, Err, refl, sym, ap, ◌∙◌, subst, is_some, is_none, length, take, drop, nat_eq, nat_lt}
 use Rattle.std.specs.Option.{unwrap_or, option_and_then}
 use Rattle.std.proofs.lemmas.Bool.{false≢true, le-ltb}
 use Rattle.std.proofs.lemmas.List.{drop_min, drop-drop}
@@ -30,8 +30,10 @@ use Rattle.mount_laws.specs.Looks as looks
 use Rattle.mount_laws.proofs.Looks.{is_present, present, law_of_walks, law_of_stat}
 use Rattle.mount_laws.proofs.Opens.{law_of_open}
 use Rattle.mount_laws.specs.Removed.{ListsRemoved}
+use Rattle.mount_laws.specs.Seeks.{Seeks}
 use Rattle.mount_laws.proofs.Lists.{law_of_list, law_of_bad_descriptors}
 use Rattle.mount_laws.proofs.Removed.{law_of_list_removed}
+use Rattle.mount_laws.proofs.Seeks.{at-start, law_of_seek}
 use Rattle.private_mount.specs.declared.clients.Clients.{Clients}
 use Rattle.private_mount.specs.declared.descriptors.Location.{Location}
 use Rattle.private_mount.specs.declared.descriptors.Location.TheVariants as location
@@ -39,11 +41,12 @@ use Rattle.private_mount.specs.declared.descriptors.OpenDirectory.{OpenDirectory
 use Rattle.private_mount.specs.declared.mount.Mount.{Mount}
 use Rattle.private_mount.specs.Attaching.{opened_by, ChangesClient}
 use Rattle.private_mount.specs.Descriptors.{opened}
-use Rattle.private_mount.specs.Listings.{Opens, Closes}
-use Rattle.private_mount.specs.Mounts.{IsUnchanged}
+use Rattle.private_mount.specs.Listings.{ChangesSlot, Opens, Closes, with_listing}
+use Rattle.private_mount.specs.Mounts.{IsUnchanged, seek_fault}
 use Rattle.private_mount.specs.Opening.{place_fault}
 use Rattle.private_mount.specs.Status.{stat_at, stat_shown, unless_refused}
 use Rattle.private_mount.specs.States.{number, IsLeft, Stands, IsHandle, AreTables, AreUnwatched, IsStateOf, Serves, AreNamesIn, AreLeft, Pages}
+use Rattle.private_mount.proofs.Paging.{sets-changed}
 use Rattle.private_mount.proofs.Standing.{Turns, shown-directory, directory-folder, closes, turns}
 use Rattle.private_mount.proofs.Serving.{slot-open, handle-same, tables-moved, slot-closed, in-room, free-lowest, free-none, free-absent, handle-absent, same-clients, tables-same, tables-set, room-of}
 
@@ -133,6 +136,15 @@ left-is Ls o (Some q) None place now left a i alone = absurd i
 
 min-comm : (a b : ℕ) → min a b ≡ min b a
 min-comm a b = omega arith
+
+-- a seek that is not refused is of an open directory, to its start
+pub unrefused-seek : (o : Option OpenDirectory) (offset : ℤ) (whence : ℕ) → seek_fault o offset whence ≡ None → (is_some o ≡ true) × (offset ≡ pos 0) × (whence ≡ 0)
+unrefused-seek None offset whence h = cc
+unrefused-seek (Some x) offset whence h = by (nat_eq (nat_abs offset) 0 && nat_eq whence 0) refl h
+  where
+    by : (b : Bool) → (nat_eq (nat_abs offset) 0 && nat_eq whence 0) ≡ b → when (not b) errno.EINVAL ≡ None → (true ≡ true) × (offset ≡ pos 0) × (whence ≡ 0)
+    by true e g = let start = at-start offset whence e in (refl, start.0, start.1)
+    by false e g = cc
 
 pub state-as : (new : Mount) (l : Layers) (s : State) → new.layers ≡ l → IsMountOf (layer_of l.upper) (lowers_of l) s → AreTables s.tree new.clients s.tables → new.clients.next ≡ number s.arrived → AreUnwatched s.instances → IsStateOf new s
 state-as new l s e m a next w = record {
@@ -283,6 +295,48 @@ module _ (m : Mount) (s : State) (st : IsStateOf m s) (c : ℕ) where
             arrived = ch.next ∙ st.arrived;
             unwatched = st.unwatched;
           })
+
+  -- seek
+  refused-seek : (d : ℕ) (offset : ℤ) (whence : ℕ) → refusal s c (call.Seek d offset whence) ≡ seek_fault (opened_by m.clients c d) offset whence
+  refused-seek d offset whence = by (opened_by m.clients c d) refl
+    where
+      by : (o : Option OpenDirectory) → opened_by m.clients c d ≡ o → refusal s c (call.Seek d offset whence) ≡ seek_fault o offset whence
+      by None e = (law_of_bad_descriptors s c d (slot-closed s.tree _ _ (st.tables.slots c d) e)).seeking offset whence
+      by (Some o) e =
+          let x = slot-open s.tree _ _ o (st.tables.slots c d) e in
+          let law : Seeks s c d x.0 = law_of_seek s c d x.0 x.1 x.2.directory in
+          law.refused offset whence
+
+  pub seek-refused : (d : ℕ) (offset : ℤ) (whence : ℕ) (e : Errno) → seek_fault (opened_by m.clients c d) offset whence ≡ Some e → Serves (refusal s c (call.Seek d offset whence)) s c (call.Seek d offset whence) (reply.Refused e) m
+  seek-refused d offset whence e h = serve-refused _ s c _ e m (refused-seek d offset whence ∙ h) st
+
+  -- a directory goes to its start
+  rewound : (d : ℕ) (new : Clients) (o : OpenDirectory) → opened_by m.clients c d ≡ Some o → ChangesClient m.clients new c (λ x y. ChangesSlot x y d (with_listing None)) → Serves (refusal s c (call.Seek d (pos 0) 0)) s c (call.Seek d (pos 0) 0) (reply.Place 0) (record m { clients = new })
+  rewound d new o e ch =
+      let x = slot-open s.tree _ _ o (st.tables.slots c d) e in
+      let inside : d < DESCRIPTORS_MAX = rw (room-of s.tree m.clients s.tables st.tables c (ap is_some ch.was)) at (in-room s.tree m.clients s.tables st.tables c d x.0 x.1) in
+      let law : Seeks s c d x.0 = law_of_seek s c d x.0 x.1 x.2.directory in
+      serve-done _ s c _ _ (record m { clients = new }) (law.refused (pos 0) 0) (sym law.answer)
+      (subst (IsStateOf (record m { clients = new })) (sym law.state)
+      (with-tables new _ ch.next
+      (tables-set s.tree m.clients s.tables st.tables new c d (Some (with_listing None o)) (Some (record x.0 { place = 0; listed = None })) (sets-changed m new c d o e (with_listing None) ch) inside
+      (record {
+        stands = x.2.stands;
+        directory = x.2.directory;
+        access = ap (λ (z : Handle). record z { place = 0; listed = None }) x.2.access;
+        left = refl;
+      }))))
+
+  pub seek-done : (d : ℕ) (offset : ℤ) (whence : ℕ) (new : Clients) → seek_fault (opened_by m.clients c d) offset whence ≡ None → ChangesClient m.clients new c (λ x y. ChangesSlot x y d (with_listing None)) → Serves (refusal s c (call.Seek d offset whence)) s c (call.Seek d offset whence) (reply.Place 0) (record m { clients = new })
+  seek-done d offset whence new h ch =
+      let start = unrefused-seek (opened_by m.clients c d) offset whence h in
+      subst (λ z. Serves (refusal s c (call.Seek d z whence)) s c (call.Seek d z whence) (reply.Place 0) (record m { clients = new })) (sym start.1)
+      (subst (λ z. Serves (refusal s c (call.Seek d (pos 0) z)) s c (call.Seek d (pos 0) z) (reply.Place 0) (record m { clients = new })) (sym start.2)
+      (by (opened_by m.clients c d) refl start.0))
+    where
+      by : (o : Option OpenDirectory) → opened_by m.clients c d ≡ o → is_some o ≡ true → Serves (refusal s c (call.Seek d (pos 0) 0)) s c (call.Seek d (pos 0) 0) (reply.Place 0) (record m { clients = new })
+      by None e there = absurd (false≢true there)
+      by (Some o) e there = rewound d new o e ch
 
   -- list
   pub list-absent : (d n : ℕ) → opened_by m.clients c d ≡ None → Serves (refusal s c (call.ListNames d n)) s c (call.ListNames d n) (reply.Refused errno.EBADF) m

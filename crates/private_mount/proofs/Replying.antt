@@ -1,7 +1,9 @@
 -- What refused calls keep, told by what each call answers.
-use Rattle.std.proofs.Common.{◌≡◌, ℕ, true, false, List, Option, None, Some, Result, Ok, Err, refl, sym, ap, ◌∙◌, subst, is_some, is_none}
+use Rattle.std.proofs.Common.{◌≡◌, ℕ, ℤ, true, false, List, Option, None, Some, Result, Ok, Err, refl, sym, ap, ◌∙◌, subst, is_some, is_none}
 use Rattle.std.specs.Result.{IfOk, OnErr}
 use Rattle.std.proofs.lemmas.Bool.{false≢true}
+use Rattle.std.specs.BTreeMap.{get}
+use Rattle.std.specs.Ordering.{nat_cmp}
 use Rattle.std.specs.declared.alloc.AllocError.{AllocError}
 use Rattle.ov_base.specs.declared.bytes.Content.TheVariants as content
 use Rattle.ov_base.specs.declared.call.Call.{Call}
@@ -16,6 +18,7 @@ use Rattle.plain_model.specs.Tree.{IsThin}
 use Rattle.layer_tree.specs.Tree.{layer_of}
 use Rattle.copy_up.specs.Showing.{StaysLayers, StaysThin}
 use Rattle.plain_model.specs.Refusals.{when}
+use Rattle.mount_laws.specs.Looks.{or_else}
 use Rattle.mount_laws.specs.Leaves.{symlink_fault}
 use Rattle.make_remove.specs.Leaves.{MakesLeaf}
 use Rattle.make_remove.specs.Making.{MakesDirectory, new_attributes, mkdir_fault}
@@ -23,13 +26,15 @@ use Rattle.make_remove.specs.Removing.{TakesName, unlink_fault}
 use Rattle.merged_lookup.specs.declared.layers.Layers.{Layers}
 use Rattle.merged_lookup.specs.Merged.{layers_of, lowers_of}
 use Rattle.private_mount.specs.declared.clients.Clients.{Clients}
+use Rattle.private_mount.specs.declared.descriptors.Descriptors.{Descriptors}
 use Rattle.private_mount.specs.declared.descriptors.Location.TheVariants as location
 use Rattle.private_mount.specs.declared.descriptors.OpenDirectory.{OpenDirectory}
 use Rattle.private_mount.specs.declared.mount.Mount.{Mount}
 use Rattle.private_mount.specs.Attaching.{opened_by, ChangesClient}
 use Rattle.private_mount.specs.Descriptors.{opened}
-use Rattle.private_mount.specs.Listings.{Opens, Closes}
-use Rattle.private_mount.specs.Mounts.{SameClients, IsUnchanged, ChangesOrRefuses, done_reply, RemovesDirectory, UnlessRefused, IsAnswered, open_reply, OpensDirectory, open_fault, AnswersOpen, GivesPage, list_fault, ClosesDescriptor, AnswersList, AnswersClose, Answers}
+use Rattle.private_mount.specs.Listings.{ChangesSlot, Opens, Closes, with_listing}
+use Rattle.private_mount.specs.Mounts.{SameClients, IsUnchanged, ChangesOrRefuses, done_reply, RemovesDirectory, UnlessRefused, IsAnswered, open_reply, OpensDirectory, open_fault, AnswersOpen, GivesPage, seek_fault, list_fault, Rewinds, ClosesDescriptor, AnswersSeek, AnswersList, AnswersClose, Answers}
+use Rattle.private_mount.specs.Opening.{directory_fault}
 use Rattle.private_mount.proofs.Answering.{changes-as}
 use Rattle.private_mount.proofs.Serving.{same-clients}
 
@@ -47,12 +52,23 @@ module _ (m : Mount) (c : ℕ) where
   some-none None h = absurd (false≢true h)
   some-none (Some x) h = refl
 
+  -- a directory is opened, or no descriptor is free
+  pub open-opens : (p : Path) (f : OpenFlags) (mode : ℕ) (new : Clients) (opening : Result ℕ Errno) → directory_fault (layers_of m.layers) p f mode ≡ None → ChangesClient m.clients new c (λ x y. Opens x y (record { location = location.At p; listing = None }) (Ok opening)) → AnswersOpen m (record m { clients = new }) c p f mode (Ok (open_reply opening))
+  open-opens p f mode new opening none ch =
+      answers _ m (record m { clients = new }) _ _
+      (ap (λ z. or_else z (when (is_none (get nat_cmp m.clients.attached c)) errno.EMFILE)) none ∙ ap (λ (z : Option Descriptors). when (is_none z) errno.EMFILE) ch.was)
+      (record { answer = record { opening = opening; reply = refl; changes = ch; layers = refl }; no_memory = tt })
+
   -- an open descriptor is closed
   pub close-closes : (d : ℕ) (new : Clients) → ChangesClient m.clients new c (λ x y. Closes x y d (Ok tt)) → AnswersClose m (record m { clients = new }) c d (Ok reply.Done)
   close-closes d new ch =
       answers _ m (record m { clients = new }) _ _
       (ap (λ b. when b errno.EBADF) (some-none (opened_by m.clients c d) (ap is_some (opened-before new _ ch d) ∙ ch.changes.was_open)))
       (record { reply = refl; closes = changes-as m.clients new c _ _ (λ x y g. g.closes) ch; layers = refl })
+
+  -- the listing of an open directory is let go
+  pub seek-rewinds : (d : ℕ) (offset : ℤ) (whence : ℕ) (new : Clients) → seek_fault (opened_by m.clients c d) offset whence ≡ None → ChangesClient m.clients new c (λ x y. ChangesSlot x y d (with_listing None)) → AnswersSeek m (record m { clients = new }) c d offset whence (Ok (reply.Place 0))
+  seek-rewinds d offset whence new h ch = answers _ m (record m { clients = new }) _ _ h (record { reply = refl; rewinds = ch; layers = refl })
 
 -- the same mount but for its clients
 clients-same : (old new : Mount) → new.clients ≡ old.clients → new.layers ≡ old.layers → IsUnchanged old new
@@ -87,7 +103,7 @@ unless-refused : (o : Option Errno) (old new : Mount) (r : Reply) (e : Errno) (P
 unless-refused None old new r e P a f = f a
 unless-refused (Some d) old new r e P a f = a.unchanged
 
--- names are no refusal, and nor is a close that is done
+-- names are no refusal, and nor is a close or a seek that is done
 gives-no_refusal : (old new : Mount) (c d count : ℕ) (r : Reply) (e : Errno) → GivesPage old new c d count r → r ≡ reply.Refused e → ⊥
 gives-no_refusal old new c d count r e g h = let other : reply.Names g.names ≡ reply.Refused e = sym g.reply ∙ h in cc
 
@@ -96,6 +112,13 @@ closes-no_refusal old new c d r e g h =
     let done : Ok r ≡ Ok reply.Done = g.reply in
     let is : r ≡ reply.Done = cc in
     let other : reply.Done ≡ reply.Refused e = sym is ∙ h in
+    cc
+
+rewinds-no_refusal : (old new : Mount) (c d : ℕ) (r : Reply) (e : Errno) → Rewinds old new c d (Ok r) → r ≡ reply.Refused e → ⊥
+rewinds-no_refusal old new c d r e g h =
+    let done : Ok r ≡ Ok (reply.Place 0) = g.reply in
+    let is : r ≡ reply.Place 0 = cc in
+    let other : reply.Place 0 ≡ reply.Refused e = sym is ∙ h in
     cc
 
 -- a refused call changes nothing
@@ -108,6 +131,7 @@ refused-unchanged old new c (call.Unlink p) r e a h = change-refused old new (λ
 refused-unchanged old new c (call.Rmdir p) r e a h = rmdir-refused old new p r e a.answer h
 refused-unchanged old new c (call.Open p f mode) r e a h = unless-refused (open_fault old c p f mode) old new r e _ a (λ x. opens-refused old new c p r e x.answer h)
 refused-unchanged old new c (call.ListNames d count) r e a h = unless-refused (list_fault (opened_by old.clients c d) count) old new r e _ a (λ x. absurd (gives-no_refusal old new c d count r e x.answer h))
+refused-unchanged old new c (call.Seek d offset whence) r e a h = unless-refused (seek_fault (opened_by old.clients c d) offset whence) old new r e _ a (λ x. absurd (rewinds-no_refusal old new c d r e x h))
 refused-unchanged old new c (call.Close d) r e a h = unless-refused (when (is_none (opened_by old.clients c d)) errno.EBADF) old new r e _ a (λ x. absurd (closes-no_refusal old new c d r e x h))
 refused-unchanged old new c k r e a h = a.unchanged
 
@@ -136,7 +160,7 @@ keeps-same old new e h = subst (λ z. AreLayers (layers_of z)) (sym e) h
 pub thin-same : (old new : Layers) → new ≡ old → StaysThin old new
 thin-same old new e h = subst (λ z. IsThin (layer_of z.upper) (lowers_of z)) (sym e) h
 
--- list keeps the layers, and so does close
+-- list keeps the layers, and so do seek and close
 pub list-layers : (old new : Mount) (c d count : ℕ) (result : Result Reply AllocError) → AnswersList old new c d count result → new.layers ≡ old.layers
 list-layers old new c d count result a = by (list_fault (opened_by old.clients c d) count) a
   where
@@ -146,6 +170,13 @@ list-layers old new c d count result a = by (list_fault (opened_by old.clients c
 
     by : (o : Option Errno) → UnlessRefused o old new result (IsAnswered old new result (GivesPage old new c d count)) → new.layers ≡ old.layers
     by None x = answered result x
+    by (Some e) x = x.unchanged.layers
+
+pub seek-layers : (old new : Mount) (c d : ℕ) (offset : ℤ) (whence : ℕ) (result : Result Reply AllocError) → AnswersSeek old new c d offset whence result → new.layers ≡ old.layers
+seek-layers old new c d offset whence result a = by (seek_fault (opened_by old.clients c d) offset whence) a
+  where
+    by : (o : Option Errno) → UnlessRefused o old new result (Rewinds old new c d result) → new.layers ≡ old.layers
+    by None x = x.layers
     by (Some e) x = x.unchanged.layers
 
 pub close-layers : (old new : Mount) (c d : ℕ) (result : Result Reply AllocError) → AnswersClose old new c d result → new.layers ≡ old.layers

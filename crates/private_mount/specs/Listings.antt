@@ -6,9 +6,9 @@ use Rattle.ov_base.specs.declared.errno.Errno.TheVariants.{EBADF, EMFILE}
 use Rattle.private_mount.specs.declared.descriptors.OpenDirectory.{OpenDirectory}
 use Rattle.private_mount.specs.Descriptors.{opened, SetsSlot, IsLowestFree, IsFull}
 
--- an open directory with this listing
-abbrev pub with_listing : List (List ℕ) → OpenDirectory → OpenDirectory
-with_listing listing o = record o { listing = Some listing }
+-- an open directory with this listing, or none
+abbrev pub with_listing : Option (List (List ℕ)) → OpenDirectory → OpenDirectory
+with_listing listing o = record o { listing = listing }
 
 -- an open directory of whose listing so many more names were given
 abbrev pub after_names : ℕ → OpenDirectory → OpenDirectory

@@ -1,6 +1,6 @@
 -- What the calls on a mount answer and leave, by what its layers show and its clients have open
--- (POSIX.1-2017, stat(), readlink(), mkdir(), symlink(), open(), unlink(), rmdir(), readdir(), close()).
-use Rattle.std.specs.Prelude.{◌≡◌, ℕ, Bool, false, ◌||◌, List, Result, Ok, Err, Option, Some, None, is_some, is_none, nat_eq, nat_lt, IfOk, IfErr, OnOk, OnErr}
+-- (POSIX.1-2017, stat(), readlink(), mkdir(), symlink(), open(), unlink(), rmdir(), rewinddir(), readdir(), close()).
+use Rattle.std.specs.Prelude.{◌≡◌, ℕ, ℤ, nat_abs, Bool, false, not, ◌&&◌, ◌||◌, List, Result, Ok, Err, Option, Some, None, is_some, is_none, nat_eq, nat_lt, IfOk, IfErr, OnOk, OnErr}
 use Rattle.std.specs.BTreeMap.{get}
 use Rattle.std.specs.Ordering.{nat_cmp}
 use Rattle.std.specs.declared.alloc.AllocError.{AllocError}
@@ -28,7 +28,7 @@ use Rattle.private_mount.specs.declared.descriptors.OpenDirectory.{OpenDirectory
 use Rattle.private_mount.specs.declared.mount.Mount.{Mount}
 use Rattle.private_mount.specs.Attaching.{ChangesClient, opened_by}
 use Rattle.private_mount.specs.Descriptors.{SetsSlot}
-use Rattle.private_mount.specs.Listings.{Opens}
+use Rattle.private_mount.specs.Listings.{ChangesSlot, Opens, with_listing}
 use Rattle.private_mount.specs.Opening.{directory_fault}
 use Rattle.private_mount.specs.States.{Pages}
 use Rattle.private_mount.specs.Removing.{MarksRemoved}
@@ -138,6 +138,21 @@ open_fault m c p f mode = or_else (directory_fault (layers_of m.layers) p f mode
 abbrev pub AnswersOpen : Mount → Mount → ℕ → Path → OpenFlags → ℕ → Result Reply AllocError → Type 0
 AnswersOpen old new c p f mode result = UnlessRefused (open_fault old c p f mode) old new result (IsAnswered old new result (OpensDirectory old new c p))
 
+-- why a seek is refused: nothing is open, or it isn't to the start of the directory
+abbrev pub seek_fault : Option OpenDirectory → ℤ → ℕ → Option Errno
+seek_fault None offset whence = Some errno.EBADF
+seek_fault (Some o) offset whence = when (not (nat_eq (nat_abs offset) 0 && nat_eq whence 0)) errno.EINVAL
+
+-- the listing of an open directory is let go, so that the next is made anew
+pub record Rewinds (old new : Mount) (c d : ℕ) (result : Result Reply AllocError) : Type 0 where
+  pub reply : result ≡ Ok (reply.Place 0)
+  pub rewinds : ChangesClient old.clients new.clients c (λ before after. ChangesSlot before after d (with_listing None))
+  pub layers : new.layers ≡ old.layers
+
+-- the answer to seek, which never wants memory
+abbrev pub AnswersSeek : Mount → Mount → ℕ → ℕ → ℤ → ℕ → Result Reply AllocError → Type 0
+AnswersSeek old new c d offset whence result = UnlessRefused (seek_fault (opened_by old.clients c d) offset whence) old new result (Rewinds old new c d result)
+
 -- the next names of an open directory are given
 pub record GivesPage (old new : Mount) (c d count : ℕ) (r : Reply) : Type 0 where
   pub names : List Name
@@ -172,6 +187,7 @@ Answers old new c (call.Symlink target p) result = AnswersSymlink old new target
 Answers old new c (call.Unlink p) result = AnswersUnlink old new p result
 Answers old new c (call.Rmdir p) result = AnswersRmdir old new p result
 Answers old new c (call.Open p flags mode) result = AnswersOpen old new c p flags mode result
+Answers old new c (call.Seek d offset whence) result = AnswersSeek old new c d offset whence result
 Answers old new c (call.ListNames d count) result = AnswersList old new c d count result
 Answers old new c (call.Close d) result = AnswersClose old new c d result
 Answers old new c _ result = IsRefused old new errno.EOPNOTSUPP result

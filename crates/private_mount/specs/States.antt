@@ -88,6 +88,7 @@ IsOffered (call.Symlink target p) = Unit {0}
 IsOffered (call.Open p f mode) = f ≡ FOR_LISTING
 IsOffered (call.Unlink p) = Unit {0}
 IsOffered (call.Rmdir p) = Unit {0}
+IsOffered (call.Seek d offset whence) = Unit {0}
 IsOffered (call.ListNames d n) = Unit {0}
 IsOffered (call.Close d) = Unit {0}
 IsOffered _ = ⊥

@@ -5,7 +5,7 @@ ghost use Rattle.std.specs.Ordering.{nat_cmp};
 ghost use Rattle.private_mount.specs.Clients.{is_before};
 
 use crate::descriptors::{Descriptors, OpenDirectory};
-use crate::listing::Listing;
+use dir_listing::Cursor;
 use ov_base::{Errno, NameList, Path};
 use std::alloc::{AllocError, Global};
 use std::collections::BTreeMap;
@@ -92,7 +92,7 @@ impl Clients {
     }
 
     /// Keeps a listing of an open directory of a client.
-    pub fn keep_listing(&mut self, client: u32, descriptor: u32, listing: Listing)
+    pub fn keep_listing(&mut self, client: u32, descriptor: u32, listing: Cursor)
         requires { IsSome (opened_by self.old client descriptor) }
         ensures { ChangesClient self.old self.new client (λ before after. ChangesSlot before after descriptor (with_listing listing)) }
     {
@@ -100,6 +100,14 @@ impl Clients {
             .get_mut(&client)
             .unwrap()
             .keep_listing(descriptor, listing);
+    }
+
+    /// Lets the listing of an open directory of a client go.
+    pub fn rewind(&mut self, client: u32, descriptor: u32)
+        requires { IsSome (opened_by self.old client descriptor) }
+        ensures { ChangesClient self.old self.new client (λ before after. ChangesSlot before after descriptor (with_listing None)) }
+    {
+        self.attached.get_mut(&client).unwrap().rewind(descriptor);
     }
 
     /// Gives the next names of the listing of an open directory of a client, at most so many. Want of memory gives none and changes

@@ -2,7 +2,7 @@
 ghost use Rattle.std.specs.Prelude.{◌≡◌, ◌≤◌, ◌<◌, [], Some, None, true, Ok, Err, IfOk, OnOk, OnErr, IfSome, IfErr, ℕ, MatchOption, MatchResult, option_copied, is_some, length, take, IsSome, option_map, vec_len};
 ghost use Rattle.private_mount.specs.Descriptors.{opened};
 
-use crate::listing::Listing;
+use dir_listing::Cursor;
 use ov_base::{Errno, NameList, Path};
 use std::alloc::{AllocError, Global};
 
@@ -16,11 +16,11 @@ pub enum Location {
     Removed,
 }
 
-/// A directory that is open for reading, and its listing once that is made.
+/// A directory that is open for reading, and how far it was listed.
 #[derive(Drop)]
 pub struct OpenDirectory {
     pub location: Location,
-    pub listing: Option<Listing>,
+    pub listing: Cursor,
 }
 
 /// The descriptors of a client by number; a slot of none is free.
@@ -63,10 +63,7 @@ impl OpenDirectory {
         ensures left { OnOk result (self.new ≡ after_names count self.old) }
         ensures err { OnErr result (self.new ≡ self.old) }
     {
-        match &mut self.listing {
-            Some(listing) => listing.take(alloc, count),
-            None => Ok(NameList::new(alloc)),
-        }
+        self.listing.next(alloc, count)
     }
 }
 
@@ -110,12 +107,22 @@ impl Descriptors {
     }
 
     /// Keeps a listing of an open directory, in place of one that it has.
-    pub fn keep_listing(&mut self, descriptor: u32, listing: Listing)
+    pub fn keep_listing(&mut self, descriptor: u32, listing: Cursor)
         requires { IsSome (opened self.old.slots.items descriptor) }
         ensures { ChangesSlot self.old.slots.items self.new.slots.items descriptor (with_listing listing) }
     {
         if let Some(directory) = &mut self.slots[descriptor as usize] {
-            directory.listing = Some(listing);
+            directory.listing = listing;
+        }
+    }
+
+    /// Lets the listing of an open directory go.
+    pub fn rewind(&mut self, descriptor: u32)
+        requires { IsSome (opened self.old.slots.items descriptor) }
+        ensures { ChangesSlot self.old.slots.items self.new.slots.items descriptor (with_listing None) }
+    {
+        if let Some(directory) = &mut self.slots[descriptor as usize] {
+            directory.listing.rewind();
         }
     }
 

@@ -3,7 +3,6 @@
 
 mod clients;
 mod descriptors;
-mod listing;
 mod mount;
 mod status;
 

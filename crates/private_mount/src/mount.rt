@@ -1,5 +1,5 @@
 // A mount and the clients on it.
-ghost use Rattle.std.specs.Prelude.{◌≡◌, ◌<◌, ℕ, Bool, List, Some, None, Ok, IfOk, IfErr, OnOk, OnErr, IsSome, is_some, MatchResult, option_copied, true};
+ghost use Rattle.std.specs.Prelude.{◌≡◌, ◌<◌, ℕ, Bool, List, Some, None, Ok, IfOk, IfErr, OnOk, OnErr, IsSome, IsSomeAnd, is_some, MatchResult, option_copied, true};
 ghost use Rattle.plain_model.specs.Layers.{AreLayers};
 ghost use Rattle.layer_tree.specs.Tree.{layer_of, inode_of};
 ghost use Rattle.merged_lookup.specs.Merged.{layers_of, lowers_of};
@@ -13,9 +13,8 @@ ghost use Rattle.mount_laws.specs.Leaves.{inode_target};
 
 use crate::clients::Clients;
 use crate::descriptors::{Location, OpenDirectory};
-use crate::listing::Listing;
 use crate::status::status_at;
-use dir_listing::names;
+use dir_listing::{Cursor, names};
 use layer_tree::{Inode, Node};
 use make_remove::{mkdir, rmdir, symlink, unlink};
 use merged_lookup::{Found, Layers};
@@ -48,7 +47,7 @@ impl Mount {
     ghost use Rattle.plain_model.specs.Refusals.{refusal};
     ghost use Rattle.private_mount.specs.Attaching.{Anything, Nothing, HasNoRoom, Attaches, Detaches, IsSame, opened_by};
     ghost use Rattle.private_mount.specs.States.{IsStateOf, IsOffered, Serves, Pages};
-    ghost use Rattle.private_mount.specs.Mounts.{Answers, AnswersMkdir, AnswersSymlink, AnswersUnlink, AnswersRmdir, AnswersOpen, AnswersList, AnswersClose, IsUnchanged, UnlessChange, stat_reply};
+    ghost use Rattle.private_mount.specs.Mounts.{Answers, AnswersMkdir, AnswersSymlink, AnswersUnlink, AnswersRmdir, AnswersOpen, AnswersSeek, AnswersList, AnswersClose, IsUnchanged, UnlessChange, seek_fault, stat_reply};
     ghost use Rattle.copy_up.specs.Showing.{StaysLayers, StaysThin};
 
     /// A mount of these layers without a client.
@@ -107,8 +106,8 @@ impl Mount {
         self.clients.detach(client);
     }
 
-    /// Makes a call of a client. Offered are stat, readlink, mkdir, symlink, open of a directory for reading, unlink, rmdir, list and close;
-    /// another is EOPNOTSUPP. Want of memory leaves all that is shown as it was.
+    /// Makes a call of a client. Offered are stat, readlink, mkdir, symlink, open of a directory for reading, unlink, rmdir, seek, list and
+    /// close; another is EOPNOTSUPP. Want of memory leaves all that is shown as it was.
     pub fn call(&mut self, client: u32, call: Call) -> Result<Reply, AllocError>
         ensures serves { IfOk result (λ reply. IsOffered call → (s : State) → IsStateOf self.old s → Serves (refusal s client call) s client call reply self.new) }
         ensures err { OnErr result (IsOffered call → (s : State) → IsStateOf self.old s → IsStateOf self.new s) }
@@ -126,6 +125,11 @@ impl Mount {
             Call::Unlink { path } => self.unlink(&path),
             Call::Rmdir { path } => self.rmdir(&path),
             Call::Open { path, flags, mode } => self.open(client, path, flags, mode),
+            Call::Seek {
+                descriptor,
+                offset,
+                whence,
+            } => Ok(self.seek(client, descriptor, offset, whence)),
             Call::ListNames { descriptor, count } => self.list(client, descriptor, count),
             Call::Close { descriptor } => Ok(self.close(client, descriptor)),
             _ => Ok(Reply::Refused(Errno::EOPNOTSUPP)),
@@ -199,7 +203,7 @@ impl Mount {
         ensures keeps { StaysLayers self.old.layers self.new.layers }
         ensures thin { StaysThin self.old.layers self.new.layers }
     {
-        match rmdir(self.alloc, &mut self.layers, path)? {
+        match rmdir(&mut self.layers, path)? {
             Ok(()) => {
                 self.clients.mark_removed(path);
                 Ok(Reply::Done)
@@ -226,7 +230,7 @@ impl Mount {
         }
         let directory = OpenDirectory {
             location: Location::At(path),
-            listing: None,
+            listing: Cursor::new(),
         };
         match self.clients.open(client, directory)? {
             Ok(descriptor) => Ok(Reply::Descriptor(descriptor)),
@@ -250,6 +254,30 @@ impl Mount {
         }
     }
 
+    fn seek(&mut self, client: u32, descriptor: u32, offset: i64, whence: u8) -> Reply
+        ensures answers { AnswersSeek self.old self.new client descriptor offset whence (Ok result) }
+        ensures serves { (s : State) → IsStateOf self.old s → Serves (refusal s client (Call.Seek descriptor offset whence)) s client (Call.Seek descriptor offset whence) result self.new }
+    {
+        if let Some(errno) = self.seek_refusal(client, descriptor, offset, whence) {
+            return Reply::Refused(errno);
+        }
+        self.clients.rewind(client, descriptor);
+        Reply::Place(0)
+    }
+
+    // Why a seek is refused: nothing is open, or it isn't to the start of the directory.
+    fn seek_refusal(&self, client: u32, descriptor: u32, offset: i64, whence: u8) -> Option<Errno>
+        ensures { result ≡ seek_fault (opened_by self.now.clients client descriptor) offset whence }
+    {
+        if self.clients.opened(client, descriptor).is_none() {
+            return Some(Errno::EBADF);
+        }
+        if offset != 0 || whence != 0 {
+            return Some(Errno::EINVAL);
+        }
+        None
+    }
+
     fn list(&mut self, client: u32, descriptor: u32, count: u32) -> Result<Reply, AllocError>
         ensures serves { IfOk result (λ reply. (s : State) → IsStateOf self.old s → Serves (refusal s client (Call.ListNames descriptor count)) s client (Call.ListNames descriptor count) reply self.new) }
         ensures answers { AnswersList self.old self.new client descriptor count result }
@@ -271,13 +299,13 @@ impl Mount {
         ensures err { OnErr result (IsUnchanged self.old self.new) }
     {
         let directory = self.clients.opened(client, descriptor).unwrap();
-        if directory.listing.is_some() {
+        if directory.listing.is_listed() {
             return self
                 .clients
                 .next_names(self.alloc, client, descriptor, count);
         }
         let mut listing = listing_of(self.alloc, &self.layers, &directory.location)?;
-        let names = listing.take(self.alloc, count)?;
+        let names = listing.next(self.alloc, count)?;
         self.clients.keep_listing(client, descriptor, listing);
         Ok(names)
     }
@@ -321,15 +349,15 @@ fn read_link(node: Option<&Node>) -> Result<Reply, AllocError>
     }
 }
 
-// The names in a directory now; one that was removed has none.
-fn listing_of(alloc: Global, layers: &Layers, location: &Location) -> Result<Listing, AllocError>
-    ensures { IfOk result (λ left. AreNamesIn (layers_of layers.now) location.now left) }
+// A listing of the names in a directory now; one that was removed has none.
+fn listing_of(alloc: Global, layers: &Layers, location: &Location) -> Result<Cursor, AllocError>
+    ensures { IfOk result (λ listing. IsSomeAnd listing (AreNamesIn (layers_of layers.now) location.now)) }
 {
     let Location::At(path) = location else {
-        return Ok(Listing::new(Vec::new(alloc)));
+        return Ok(Cursor::over(Vec::new(alloc)));
     };
     match layers.walk(path) {
-        Ok(Found::Directory(stack)) => Ok(Listing::new(names(alloc, layers, &stack)?)),
-        _ => Ok(Listing::new(Vec::new(alloc))),
+        Ok(Found::Directory(stack)) => Ok(Cursor::over(names(alloc, layers, &stack)?)),
+        _ => Ok(Cursor::over(Vec::new(alloc))),
     }
 }

@@ -1,6 +1,7 @@
 // Scripts made by a seeded generator: names `a` to `c`, three names deep, two clients.
 use crate::playing::{Seed, assert_same};
 use std::alloc::Global;
+use std::process::Abort;
 use std::test::Fail;
 
 /// How many scripts are played, and how many lines each has.
@@ -53,6 +54,81 @@ const SEEDS: [Seed; 5] = [
     Seed::Link("/a/c", "b"),
 ];
 
+// Four layers: a directory that leads elsewhere, an opaque one, one that goes by another name, and a whiteout between.
+const MARKED: &str = "[[layer]]
+[[layer.entry]]
+path = \"/a\"
+kind = \"dir\"
+mode = 0o700
+redirect = \"/c\"
+[[layer]]
+[[layer.entry]]
+path = \"/b\"
+kind = \"whiteout\"
+[[layer.entry]]
+path = \"/c\"
+kind = \"dir\"
+[[layer.entry]]
+path = \"/c/a\"
+kind = \"dir\"
+opaque = true
+[[layer.entry]]
+path = \"/c/a/b\"
+kind = \"file\"
+text = \"m\"
+[[layer]]
+[[layer.entry]]
+path = \"/b\"
+kind = \"dir\"
+[[layer.entry]]
+path = \"/b/a\"
+kind = \"file\"
+[[layer.entry]]
+path = \"/c\"
+kind = \"dir\"
+[[layer.entry]]
+path = \"/c/a\"
+kind = \"dir\"
+[[layer.entry]]
+path = \"/c/a/c\"
+kind = \"file\"
+[[layer.entry]]
+path = \"/c/b\"
+kind = \"dir\"
+redirect = \"a\"
+[[layer.entry]]
+path = \"/c/c\"
+kind = \"symlink\"
+target = \"z\"
+[[layer]]
+[[layer.entry]]
+path = \"/c\"
+kind = \"dir\"
+[[layer.entry]]
+path = \"/c/a\"
+kind = \"dir\"
+[[layer.entry]]
+path = \"/c/a/a\"
+kind = \"file\"
+text = \"q\"
+";
+
+// What MARKED shows: `/a` is another sight of `/c`; in that `a` hides what is below it, and `b` has what the last layer has in `a`.
+const MARKED_SEEDS: [Seed; 12] = [
+    Seed::Directory("/a", 0o700),
+    Seed::Directory("/a/a", 0o755),
+    Seed::File("/a/a/b", "m"),
+    Seed::Directory("/a/b", 0o755),
+    Seed::File("/a/b/a", "q"),
+    Seed::Link("/a/c", "z"),
+    Seed::Directory("/c", 0o755),
+    Seed::Directory("/c/a", 0o755),
+    Seed::File("/c/a/b", "m"),
+    Seed::Directory("/c/b", 0o755),
+    Seed::File("/c/b/a", "q"),
+    Seed::Link("/c/c", "z"),
+];
+
 // Numbers that look random and are the same for each seed: a linear congruential generator with Knuth's multiplier.
 #[derive(Drop)]
 struct Dice {
@@ -91,7 +167,7 @@ fn push_path(dice: &mut Dice, script: &mut String) -> Result<(), Fail> {
 fn push_call(alloc: Global, dice: &mut Dice, script: &mut String) -> Result<(), Fail> {
     let client = dice.roll(2);
     let small = dice.roll(4);
-    let call = match dice.roll(11) {
+    let call = match dice.roll(13) {
         0 => format!(in alloc; "{client} stat ")?,
         1 | 2 => format!(in alloc; "{client} mkdir 7{small}0 ")?,
         3 => format!(in alloc; "{client} open rd ")?,
@@ -100,6 +176,8 @@ fn push_call(alloc: Global, dice: &mut Dice, script: &mut String) -> Result<(), 
         6 => format!(in alloc; "{client} readlink ")?,
         7 => format!(in alloc; "{client} symlink t{small} ")?,
         8 | 9 => format!(in alloc; "{client} unlink ")?,
+        10 => format!(in alloc; "{client} seek {small} 0 set")?,
+        11 => format!(in alloc; "{client} seek 0 {small} cur")?,
         _ => format!(in alloc; "{client} rmdir ")?,
     };
     let takes_path = call.ends_with(' ');
@@ -111,9 +189,13 @@ fn push_call(alloc: Global, dice: &mut Dice, script: &mut String) -> Result<(), 
     Ok(())
 }
 
-#[test]
-fn generated_scripts(rt: HostRuntime) -> Result<(), Fail> {
-    let alloc = rt.alloc();
+// Plays as many scripts over what the manifest and the seeds both describe.
+fn play_scripts(
+    rt: &impl Abort,
+    alloc: Global,
+    manifest: &str,
+    seeds: &[Seed],
+) -> Result<(), Fail> {
     for seed in 0..SCRIPTS {
         let mut dice = Dice { state: seed };
         let mut script = String::from_str(alloc, "attach\nattach\n")?;
@@ -121,7 +203,17 @@ fn generated_scripts(rt: HostRuntime) -> Result<(), Fail> {
             push_call(alloc, &mut dice, &mut script)?;
         }
         script.push_str("1 detach\n")?;
-        assert_same(&rt, alloc, (MANIFEST, &SEEDS), script.as_str(), None)?;
+        assert_same(rt, alloc, (manifest, seeds), script.as_str(), None)?;
     }
     Ok(())
+}
+
+#[test]
+fn generated_scripts(rt: HostRuntime) -> Result<(), Fail> {
+    play_scripts(&rt, rt.alloc(), MANIFEST, &SEEDS)
+}
+
+#[test]
+fn generated_scripts_over_marks(rt: HostRuntime) -> Result<(), Fail> {
+    play_scripts(&rt, rt.alloc(), MARKED, &MARKED_SEEDS)
 }

@@ -4,6 +4,8 @@
 #[cfg(test)]
 mod generated;
 #[cfg(test)]
+mod marks;
+#[cfg(test)]
 mod playing;
 #[cfg(test)]
 mod rows;

@@ -184,3 +184,65 @@ kind = \"dir\"
     let seeds = [Seed::Directory("/d", 0o755)];
     assert_same(&rt, rt.alloc(), (manifest, &seeds), script, Some(wanted))
 }
+
+#[test]
+fn a_listing_is_made_anew(rt: HostRuntime) -> Result<(), Fail> {
+    let manifest = "[[layer]]
+[[layer]]
+[[layer.entry]]
+path = \"/d\"
+kind = \"dir\"
+[[layer.entry]]
+path = \"/d/a\"
+kind = \"file\"
+[[layer.entry]]
+path = \"/d/b\"
+kind = \"file\"
+[[layer.entry]]
+path = \"/d/c\"
+kind = \"file\"
+";
+    let script = "attach
+attach
+0 open rd /d
+0 list 0 1
+1 mkdir 755 /d/aa
+1 unlink /d/c
+0 list 0 9
+0 seek 0 0 set
+0 list 0 9
+1 unlink /d/a
+1 rmdir /d/aa
+1 unlink /d/b
+1 rmdir /d
+0 seek 0 0 set
+0 list 0 9
+0 seek 0 0 cur
+0 seek 1 7 end
+";
+    let wanted = "client 0
+client 1
+0 ok 0
+0 ok a
+1 ok
+1 ok
+0 ok b c
+0 ok 0
+0 ok a aa b
+1 ok
+1 ok
+1 ok
+1 ok
+0 ok 0
+0 ok
+0 EINVAL
+0 EBADF
+";
+    let seeds = [
+        Seed::Directory("/d", 0o755),
+        Seed::File("/d/a", ""),
+        Seed::File("/d/b", ""),
+        Seed::File("/d/c", ""),
+    ];
+    assert_same(&rt, rt.alloc(), (manifest, &seeds), script, Some(wanted))
+}

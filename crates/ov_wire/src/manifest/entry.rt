@@ -1,15 +1,16 @@
 // One entry of a layer: its kind, its path and what it puts there.
-ghost use Rattle.std.specs.Prelude.{◌≡◌, [], ◌≤◌, IfOk, option_map, option_copied, string_bytes};
+ghost use Rattle.std.specs.Prelude.{◌≡◌, [], ◌≤◌, codes, IfOk, IsTrue, option_map, option_copied, string_bytes};
 ghost use Rattle.std.specs.List.{list_all};
 ghost use Rattle.std.specs.Option.{option_and_then};
 ghost use Rattle.toml.specs.Data.{as_integer, as_str, get_member};
 ghost use Rattle.toml.specs.View.{view, table_view};
+ghost use Rattle.layer_tree.specs.Tree.{leads};
 ghost use Rattle.ov_wire.specs.ManifestEntries.{Answers, IsPlaceable};
 ghost use Rattle.ov_wire.specs.ManifestEntries as spec;
 
 use super::fault::{EntryError, EntryFault};
 use layer_tree::{Marks, Object};
-use ov_base::{Attributes, Bytes, Content, Path, UserAttributes};
+use ov_base::{Attributes, BoxedName, Bytes, Content, Name, Path, Redirect, UserAttributes};
 use std::alloc::Global;
 use toml::{Table, Value};
 
@@ -54,7 +55,7 @@ pub(super) fn read(alloc: Global, entry: &Table) -> Result<(Path, Item), EntryEr
 {
     let kind = kind_of(entry)?;
     let path = path_of(alloc, entry)?;
-    check_keys(kind, entry)?;
+    check_keys(kind, &path, entry)?;
     let item = item_of(alloc, kind, entry)?;
     Ok((path, item))
 }
@@ -93,11 +94,11 @@ fn path_of(alloc: Global, entry: &Table) -> Result<Path, EntryError>
     }
 }
 
-// Each key has to be one that this kind takes, with a value of its type, and none that it needs may be missing.
-fn check_keys(kind: EntryKind, entry: &Table) -> Result<(), EntryFault>
-    ensures { result ≡ spec.checked kind (table_view entry.now) }
+// Each key has to be one that this kind takes at the path, with a value of its type, and none that it needs may be missing.
+fn check_keys(kind: EntryKind, path: &Path, entry: &Table) -> Result<(), EntryFault>
+    ensures { result ≡ spec.checked kind path.now (table_view entry.now) }
 {
-    if !takes_all(kind, entry) {
+    if !takes_all(kind, path, entry) {
         return Err(EntryFault::Key);
     }
     if has_required(kind, entry) {
@@ -107,17 +108,17 @@ fn check_keys(kind: EntryKind, entry: &Table) -> Result<(), EntryFault>
     }
 }
 
-fn takes_all(kind: EntryKind, entry: &Table) -> bool
-    ensures { result ≡ list_all (λ e. spec.takes kind (string_bytes e.0) (view e.1)) entry.now.entries }
+fn takes_all(kind: EntryKind, path: &Path, entry: &Table) -> bool
+    ensures { result ≡ list_all (λ e. spec.takes kind path.now (string_bytes e.0) (view e.1)) entry.now.entries }
 {
     entry
         .iter()
-        .all(|(key, value)| takes(kind, key.as_str(), value))
+        .all(|(key, value)| takes(kind, path, key.as_str(), value))
 }
 
-// Whether an entry of this kind may have this key, with such a value.
-fn takes(kind: EntryKind, key: &str, value: &Value) -> bool
-    ensures { result ≡ spec.takes kind key.now (view value.now) }
+// Whether an entry of this kind at the path may have this key, with such a value.
+fn takes(kind: EntryKind, path: &Path, key: &str, value: &Value) -> bool
+    ensures { result ≡ spec.takes kind path.now key.now (view value.now) }
 {
     match key {
         "path" | "kind" => value.is_str(),
@@ -125,6 +126,8 @@ fn takes(kind: EntryKind, key: &str, value: &Value) -> bool
         "uid" | "gid" => has_owner(kind) && value.is_integer(),
         "text" => is_file(kind) && value.is_str(),
         "target" => is_link(kind) && value.is_str(),
+        "opaque" => has_marks(kind, path) && value.is_bool(),
+        "redirect" => has_marks(kind, path) && value.is_str(),
         _ => false,
     }
 }
@@ -153,6 +156,13 @@ fn has_owner(kind: EntryKind) -> bool
     !matches!(kind, EntryKind::Whiteout)
 }
 
+// Whether there may be marks: at a directory that isn't the root.
+fn has_marks(kind: EntryKind, path: &Path) -> bool
+    ensures { result ≡ spec.has_marks kind path.now }
+{
+    matches!(kind, EntryKind::Directory) && !path.names().is_empty()
+}
+
 // Whether an entry has the keys that its kind can't do without.
 fn has_required(kind: EntryKind, entry: &Table) -> bool
     ensures { result ≡ spec.has_required kind (table_view entry.now) }
@@ -169,7 +179,11 @@ fn item_of(alloc: Global, kind: EntryKind, entry: &Table) -> Result<Item, EntryE
     ensures placeable { IfOk result IsPlaceable }
 {
     match kind {
-        EntryKind::Directory => Ok(directory(directory_attributes(alloc, entry)?)),
+        EntryKind::Directory => {
+            let attributes = directory_attributes(alloc, entry)?;
+            let marks = marks_of(alloc, entry)?;
+            Ok(Item::Object(Object::Directory(attributes, marks)))
+        }
         EntryKind::File => {
             let attributes = attributes_of(alloc, entry, FILE_MODE)?;
             let content = Content::File(bytes_of(alloc, entry)?);
@@ -184,15 +198,48 @@ fn item_of(alloc: Global, kind: EntryKind, entry: &Table) -> Result<Item, EntryE
     }
 }
 
-// A directory without marks.
-fn directory(attributes: Attributes) -> Item
-    ensures { result ≡ spec.plain_directory attributes }
+// The marks that an entry of kind `dir` gives.
+fn marks_of(alloc: Global, entry: &Table) -> Result<Marks, EntryError>
+    ensures answer { Answers result (spec.marks_of (table_view entry.now)) }
+    ensures leads { IfOk result (λ marks. IsTrue (leads marks.redirect)) }
 {
-    let marks = Marks {
-        opaque: false,
-        redirect: None,
-    };
-    Item::Object(Object::Directory(attributes, marks))
+    let redirect = redirect_of(alloc, entry)?;
+    let opaque = is_opaque(entry);
+    Ok(Marks { opaque, redirect })
+}
+
+// Whether an entry of kind `dir` makes it opaque; without the key it doesn't.
+fn is_opaque(entry: &Table) -> bool
+    ensures { result ≡ spec.opaque_of (table_view entry.now) }
+{
+    value_at(entry, "opaque")
+        .and_then(Value::as_bool)
+        .unwrap_or(false)
+}
+
+// The redirect of an entry of kind `dir`, where it has one.
+fn redirect_of(alloc: Global, entry: &Table) -> Result<Option<Redirect>, EntryError>
+    ensures answer { Answers result (spec.redirect_in (spec.text_at (codes "redirect") (table_view entry.now))) }
+    ensures leads { IfOk result (λ redirect. IsTrue (leads redirect)) }
+{
+    match text_at(entry, "redirect") {
+        Some(text) => Ok(Some(redirect_spelled(alloc, text.as_bytes())?)),
+        None => Ok(None),
+    }
+}
+
+// The redirect that a text spells: one name, or a path of at least one name.
+fn redirect_spelled(alloc: Global, text: &[u8]) -> Result<Redirect, EntryError>
+    ensures answer { Answers result (spec.redirect_spelled text.now) }
+    ensures leads { IfOk result (λ redirect. IsTrue (leads (Some redirect))) }
+{
+    if let Ok(name) = Name::parse(text) {
+        return Ok(Redirect::Single(BoxedName::new(alloc, name)?));
+    }
+    match Path::parse(alloc, text)? {
+        Ok(path) if !path.names().is_empty() => Ok(Redirect::Absolute(path)),
+        _ => Err(EntryError::Fault(EntryFault::Value)),
+    }
 }
 
 // The mode and owner that an entry of kind `dir` gives.

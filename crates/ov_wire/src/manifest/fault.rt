@@ -111,11 +111,11 @@ impl<T: Drop> From<AllocFailed<T>> for EntryError {
 }
 
 impl EntryError {
-    ghost use Rattle.ov_wire.specs.Manifests.{IsOfEntry};
+    ghost use Rattle.ov_wire.specs.ManifestLayers.{fault_at};
 
     // The fault of the whole, for the entry at this place.
     pub(super) fn at(self, layer: usize, entry: usize) -> ManifestFault
-        ensures { IsOfEntry result }
+        ensures { result ≡ fault_at layer entry self }
     {
         match self {
             EntryError::Fault(fault) => ManifestFault::Entry {

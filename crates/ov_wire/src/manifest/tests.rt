@@ -1,7 +1,7 @@
 // Manifests, each with what is wrong with it, and what the good ones say.
 use super::manifest_of;
-use layer_tree::{Entry, Layer, Node};
-use ov_base::{Content, Path};
+use layer_tree::{Entry, Layer, Marks, Node};
+use ov_base::{Content, Path, Redirect};
 use std::alloc::Global;
 use std::test::Fail;
 
@@ -28,7 +28,15 @@ fn faults_of_the_whole(rt: HostRuntime) -> Result<(), Fail> {
         ("", "manifest: layers"),
         ("layer = []", "manifest: layers"),
         ("[[layer]]", "manifest: layers"),
-        ("layer = [{}, {}, {}]", "manifest: layers"),
+        ("layer = [{}, {}, {}]", ""),
+        (
+            "layer = [{}, {}, {}, {}, {}, {}, {}, {}, {}, {}, {}, {}, {}, {}, {}, {}, {}]",
+            "",
+        ),
+        (
+            "layer = [{}, {}, {}, {}, {}, {}, {}, {}, {}, {}, {}, {}, {}, {}, {}, {}, {}, {}]",
+            "manifest: layers",
+        ),
         ("layer = [{}, {}", "manifest: not TOML"),
         ("layer = [{}, {}]\nlayer = []", "manifest: not TOML"),
         (
@@ -98,6 +106,11 @@ fn order_of_the_faults_of_the_whole(rt: HostRuntime) -> Result<(), Fail> {
             "layer 0 entry 0: kind",
         ),
         ("layer = [{}, {entry = [{}]}]", "layer 1 entry 0: kind"),
+        ("layer = [{}, {}, {entry = [{}]}]", "layer 2 entry 0: kind"),
+        (
+            "layer = [{}, {entry = [{}]}, {entry = [{}]}]",
+            "layer 1 entry 0: kind",
+        ),
     ] {
         let found = fault_of(rt.alloc(), manifest.as_bytes())?;
         assert_eq!(rt; found.as_str(), fault, "{manifest}");
@@ -129,8 +142,17 @@ fn faults_of_an_entry(rt: HostRuntime) -> Result<(), Fail> {
         ("kind = \"dir\"\npath = \"/a/..\"", "path"),
         ("kind = \"dir\"\npath = \"/\\u0000\"", "path"),
         ("kind = \"dir\"\npath = \"/a\"\nname = \"a\"", "key"),
-        ("kind = \"dir\"\npath = \"/a\"\nopaque = true", "key"),
-        ("kind = \"dir\"\npath = \"/a\"\nredirect = \"/b\"", "key"),
+        ("kind = \"file\"\npath = \"/a\"\nopaque = true", "key"),
+        ("kind = \"file\"\npath = \"/a\"\nredirect = \"/b\"", "key"),
+        ("kind = \"whiteout\"\npath = \"/a\"\nopaque = false", "key"),
+        (
+            "kind = \"symlink\"\npath = \"/a\"\ntarget = \"b\"\nredirect = \"b\"",
+            "key",
+        ),
+        ("kind = \"dir\"\npath = \"/a\"\nopaque = \"true\"", "key"),
+        ("kind = \"dir\"\npath = \"/a\"\nopaque = 1", "key"),
+        ("kind = \"dir\"\npath = \"/a\"\nredirect = true", "key"),
+        ("kind = \"dir\"\npath = \"/a\"\nmetacopy = true", "key"),
         ("kind = \"dir\"\npath = \"/a\"\nattrs = []", "key"),
         ("kind = \"dir\"\npath = \"/a\"\ntext = \"a\"", "key"),
         ("kind = \"file\"\npath = \"/a\"\ntext = 1", "key"),
@@ -190,6 +212,51 @@ fn ranges_of_values(rt: HostRuntime) -> Result<(), Fail> {
 }
 
 #[test]
+fn forms_of_a_redirect(rt: HostRuntime) -> Result<(), Fail> {
+    for (redirect, fault) in [
+        ("/b", ""),
+        ("/b/c", ""),
+        ("b", ""),
+        ("...", ""),
+        ("a b", ""),
+        ("", "layer 1 entry 0: value"),
+        ("/", "layer 1 entry 0: value"),
+        ("//b", "layer 1 entry 0: value"),
+        ("/b/", "layer 1 entry 0: value"),
+        ("/b/..", "layer 1 entry 0: value"),
+        ("b/c", "layer 1 entry 0: value"),
+        ("b/", "layer 1 entry 0: value"),
+        (".", "layer 1 entry 0: value"),
+        ("..", "layer 1 entry 0: value"),
+        ("\\u0000", "layer 1 entry 0: value"),
+        ("/\\u0000", "layer 1 entry 0: value"),
+    ] {
+        let entries = format!(in rt.alloc();
+            "[[layer.entry]]\nkind = \"dir\"\npath = \"/a\"\nredirect = \"{redirect}\"\n"
+        )?;
+        let found = fault_in_lower(rt.alloc(), entries.as_str())?;
+        assert_eq!(rt; found.as_str(), fault, "{redirect}");
+    }
+    Ok(())
+}
+
+#[test]
+fn lengths_of_a_redirect(rt: HostRuntime) -> Result<(), Fail> {
+    for (length, fault) in [(255, ""), (256, "layer 1 entry 0: value")] {
+        let bytes = vec![in rt.alloc(); b'a'; length]?;
+        let name = std::str::from_utf8(&bytes).unwrap_or("");
+        for slash in ["", "/"] {
+            let entries = format!(in rt.alloc();
+                "[[layer.entry]]\nkind = \"dir\"\npath = \"/a\"\nredirect = \"{slash}{name}\"\n"
+            )?;
+            let found = fault_in_lower(rt.alloc(), entries.as_str())?;
+            assert_eq!(rt; found.as_str(), fault, "{slash}{length}");
+        }
+    }
+    Ok(())
+}
+
+#[test]
 fn order_of_the_faults_of_an_entry(rt: HostRuntime) -> Result<(), Fail> {
     for (entry, fault) in [
         ("kind = \"fifo\"\npath = \"\"\nmode = \"\"", "kind"),
@@ -209,6 +276,17 @@ fn order_of_the_faults_of_an_entry(rt: HostRuntime) -> Result<(), Fail> {
         ("kind = \"file\"\npath = \"/\"", "exists"),
         ("kind = \"whiteout\"\npath = \"/\"", "exists"),
         ("kind = \"dir\"\npath = \"/\"\nopaque = false", "key"),
+        ("kind = \"dir\"\npath = \"/\"\nredirect = \"/\"", "key"),
+        ("kind = \"file\"\npath = \"/\"\nopaque = true", "key"),
+        (
+            "kind = \"dir\"\npath = \"/d/n\"\nredirect = \"/\"\nattrs = []",
+            "key",
+        ),
+        ("kind = \"dir\"\npath = \"/a/b\"\nredirect = \"/\"", "value"),
+        (
+            "kind = \"dir\"\npath = \"/a/b\"\nredirect = \"/c\"",
+            "parent",
+        ),
         ("kind = \"dir\"\npath = \"/\"\nmode = -1", "value"),
         ("kind = \"dir\"\npath = \"/\"", "exists"),
     ] {
@@ -244,7 +322,8 @@ fn shown(alloc: Global, layer: &Layer, path: &str) -> Result<String, Fail> {
         Some(Node::Directory(directory)) => {
             let attributes = &directory.attributes;
             let (mode, uid, gid) = (attributes.mode, attributes.uid, attributes.gid);
-            Ok(format!(in alloc; "dir {mode:o} {uid} {gid}")?)
+            let marks = marks_shown(alloc, &directory.marks)?;
+            Ok(format!(in alloc; "dir {mode:o} {uid} {gid}{marks}")?)
         }
         Some(Node::Inode(inode)) => {
             let attributes = &inode.attributes;
@@ -258,6 +337,49 @@ fn shown(alloc: Global, layer: &Layer, path: &str) -> Result<String, Fail> {
         }
         None => Ok(String::from_str(alloc, "nothing")?),
     }
+}
+
+// The marks of a directory, as ` opaque`, ` redirect /b/c` and ` redirect b`.
+fn marks_shown(alloc: Global, marks: &Marks) -> Result<String, Fail> {
+    let mut text = String::from_str(alloc, if marks.opaque { " opaque" } else { "" })?;
+    match &marks.redirect {
+        Some(Redirect::Absolute(path)) => {
+            text.push_str(" redirect ")?;
+            for name in path.names() {
+                text.push_str("/")?;
+                text.push_str(std::str::from_utf8(name.as_slice()).unwrap_or("?"))?;
+            }
+        }
+        Some(Redirect::Single(name)) => {
+            text.push_str(" redirect ")?;
+            text.push_str(std::str::from_utf8(name.get().as_slice()).unwrap_or("?"))?;
+        }
+        None => {}
+    }
+    Ok(text)
+}
+
+#[test]
+fn what_marks_a_manifest_says(rt: HostRuntime) -> Result<(), Fail> {
+    let alloc = rt.alloc();
+    let manifest = "[[layer]]\n[[layer]]\n[[layer]]
+[[layer.entry]]\npath = \"/a\"\nkind = \"dir\"\nopaque = true
+[[layer.entry]]\npath = \"/b\"\nkind = \"dir\"\nopaque = false
+[[layer.entry]]\npath = \"/c\"\nkind = \"dir\"\nredirect = \"/x/y\"
+[[layer.entry]]\npath = \"/d\"\nkind = \"dir\"\nredirect = \"x\"\nopaque = true\n";
+    let (_, lowers, _) = manifest_of(alloc, manifest.as_bytes())?;
+    assert_eq!(rt; lowers.len(), 2);
+    for (path, wanted) in [
+        ("/", "dir 755 0 0"),
+        ("/a", "dir 755 0 0 opaque"),
+        ("/b", "dir 755 0 0"),
+        ("/c", "dir 755 0 0 redirect /x/y"),
+        ("/d", "dir 755 0 0 opaque redirect x"),
+    ] {
+        let found = shown(alloc, &lowers[1], path)?;
+        assert_eq!(rt; found.as_str(), wanted, "{path}");
+    }
+    Ok(())
 }
 
 #[test]

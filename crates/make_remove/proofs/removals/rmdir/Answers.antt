@@ -1,8 +1,8 @@
-use Rattle.std.proofs.Common.{◌≡◌, reverse, refl, subst, length, arith}
+use Rattle.std.proofs.Common.{reverse, refl, subst}
 use Rattle.plain_model.specs.Layers.{Path}
 use Rattle.merged_lookup.specs.Merged.{layers_of}
 use Rattle.make_remove.specs.Removing.{ShowsNoName}
-use Rattle.make_remove.proofs.Removing.{found-inode, listed-directory, listed-none, listed-some, rmdir-walk, rmdir-file, rmdir-full, rmdir-names, rmdir-step}
+use Rattle.make_remove.proofs.Removing.{found-inode, found-stack, found-folder, rmdir-walk, rmdir-file, rmdir-full, rmdir-names, rmdir-step}
 use Rattle.make_remove.proofs.removals.rmdir.Goals as goal
 
 pub returns-in-Ok-Inode-clause-refuses : goal.returns-in-Ok-Inode-clause-refuses
@@ -13,24 +13,27 @@ returns-in-Ok-Inode-clause-refuses c =
 pub returns-in-Err-clause-refuses : goal.returns-in-Err-clause-refuses
 returns-in-Err-clause-refuses c = rmdir-walk c.args.layers.now c.args.path.now (reverse c.in-Some.parents.now) c.in-Some.name.now c.in-Err.errno c.in-Some.ensures c.in-Err.ensures.refused
 
-pub returns-then-not-is_empty-clause-refused : goal.returns-then-not-is_empty-clause-refused
-returns-then-not-is_empty-clause-refused c =
-    let some : length c.in_ok-names.field-0.items ≡ 0 → ⊥ = λ e. grind arith in
-    rmdir-names c.args.layers.now c.args.path.now (reverse c.in-Some.parents.now) c.in-Some.name.now c.in-Some.ensures (listed-directory c.args.layers.now c.args.path.now c.in-Ok-Directory.field-0 c.in-Ok-Directory.stack c.in-Ok-Directory.field-0-is c.in-Ok-Directory.ensures.found c.in_ok-names.field-0.items c.in_ok-names.ensures.names) (listed-some c.args.layers.now c.args.path.now c.in-Ok-Directory.field-0 c.in-Ok-Directory.stack c.in-Ok-Directory.field-0-is c.in-Ok-Directory.ensures.found c.in_ok-names.field-0.items c.in_ok-names.ensures.names some)
+pub returns-then-shows_names-clause-refused : goal.returns-then-shows_names-clause-refused
+returns-then-shows_names-clause-refused c =
+    let stack = found-stack c.args.layers.now c.args.path.now c.in-Ok-Directory.field-0 c.in-Ok-Directory.stack c.in-Ok-Directory.field-0-is c.in-Ok-Directory.ensures.found in
+    let folder = found-folder c.args.layers.now c.args.path.now c.in-Ok-Directory.field-0 c.in-Ok-Directory.stack c.in-Ok-Directory.field-0-is c.in-Ok-Directory.ensures.found in
+    rmdir-names c.args.layers.now c.args.path.now (reverse c.in-Some.parents.now) c.in-Some.name.now c.in-Some.ensures folder (c.if-shows_names.ensures c.args.path.now stack)
 
-pub returns-then-not-is_empty-clause-refuses : goal.returns-then-not-is_empty-clause-refuses
-returns-then-not-is_empty-clause-refuses c =
-    let some : length c.in_ok-names.field-0.items ≡ 0 → ⊥ = λ e. grind arith in
-    let name = listed-some c.args.layers.now c.args.path.now c.in-Ok-Directory.field-0 c.in-Ok-Directory.stack c.in-Ok-Directory.field-0-is c.in-Ok-Directory.ensures.found c.in_ok-names.field-0.items c.in_ok-names.ensures.names some in
-    rmdir-full c.args.layers.now c.args.path.now (reverse c.in-Some.parents.now) c.in-Some.name.now name.0 c.in-Some.ensures (listed-directory c.args.layers.now c.args.path.now c.in-Ok-Directory.field-0 c.in-Ok-Directory.stack c.in-Ok-Directory.field-0-is c.in-Ok-Directory.ensures.found c.in_ok-names.field-0.items c.in_ok-names.ensures.names) name.1
+pub returns-then-shows_names-clause-refuses : goal.returns-then-shows_names-clause-refuses
+returns-then-shows_names-clause-refuses c =
+    let stack = found-stack c.args.layers.now c.args.path.now c.in-Ok-Directory.field-0 c.in-Ok-Directory.stack c.in-Ok-Directory.field-0-is c.in-Ok-Directory.ensures.found in
+    let folder = found-folder c.args.layers.now c.args.path.now c.in-Ok-Directory.field-0 c.in-Ok-Directory.stack c.in-Ok-Directory.field-0-is c.in-Ok-Directory.ensures.found in
+    let name = c.if-shows_names.ensures c.args.path.now stack in
+    rmdir-full c.args.layers.now c.args.path.now (reverse c.in-Some.parents.now) c.in-Some.name.now name.0 c.in-Some.ensures folder name.1
 
 pub take_away-requires-clause-bare : goal.take_away-requires-clause-bare
 take_away-requires-clause-bare c =
-    let none : length c.in_ok-names.field-0.items ≡ 0 = grind arith in
+    let stack = found-stack c.args.layers.now c.args.path.now c.in-Ok-Directory.field-0 c.in-Ok-Directory.stack c.in-Ok-Directory.field-0-is c.in-Ok-Directory.ensures.found in
     let P : Path → Type 0 = λ p. ShowsNoName (layers_of c.args.layers.now) p in
-    subst P c.in-Some.ensures (listed-none c.args.layers.now c.args.path.now c.in-Ok-Directory.field-0 c.in-Ok-Directory.stack c.in-Ok-Directory.field-0-is c.in-Ok-Directory.ensures.found c.in_ok-names.field-0.items c.in_ok-names.ensures.names none)
+    subst P c.in-Some.ensures (c.if-shows_names.ensures c.args.path.now stack)
 
 pub returns-clause-steps : goal.returns-clause-steps
 returns-clause-steps c =
-    let none : length c.in_ok-names.field-0.items ≡ 0 = grind arith in
-    rmdir-step c.args.layers.now c.take_away.new.layers c.args.path.now (reverse c.in-Some.parents.now) c.in-Some.name.now c.in-Some.ensures (listed-directory c.args.layers.now c.args.path.now c.in-Ok-Directory.field-0 c.in-Ok-Directory.stack c.in-Ok-Directory.field-0-is c.in-Ok-Directory.ensures.found c.in_ok-names.field-0.items c.in_ok-names.ensures.names) (listed-none c.args.layers.now c.args.path.now c.in-Ok-Directory.field-0 c.in-Ok-Directory.stack c.in-Ok-Directory.field-0-is c.in-Ok-Directory.ensures.found c.in_ok-names.field-0.items c.in_ok-names.ensures.names none) c.in_ok-take_away.ensures.takes
+    let stack = found-stack c.args.layers.now c.args.path.now c.in-Ok-Directory.field-0 c.in-Ok-Directory.stack c.in-Ok-Directory.field-0-is c.in-Ok-Directory.ensures.found in
+    let folder = found-folder c.args.layers.now c.args.path.now c.in-Ok-Directory.field-0 c.in-Ok-Directory.stack c.in-Ok-Directory.field-0-is c.in-Ok-Directory.ensures.found in
+    rmdir-step c.args.layers.now c.take_away.new.layers c.args.path.now (reverse c.in-Some.parents.now) c.in-Some.name.now c.in-Some.ensures folder (c.if-shows_names.ensures c.args.path.now stack) c.in_ok-take_away.ensures.takes

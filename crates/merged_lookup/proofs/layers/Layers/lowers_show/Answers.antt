@@ -1,4 +1,4 @@
-use Rattle.std.proofs.Common.{◌≡◌, ◌∷◌, ◌∙◌, ap, is_some}
+use Rattle.std.proofs.Common.{◌∙◌, ap, is_some}
 use Rattle.merged_lookup.specs.Merged.{trees}
 use Rattle.merged_lookup.specs.Descent.{first, without_upper}
 use Rattle.merged_lookup.proofs.Looking.{under-some}

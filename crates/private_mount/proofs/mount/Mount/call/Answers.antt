@@ -1,6 +1,8 @@
 use Rattle.ov_base.specs.declared.call.Call.TheVariants as call
 use Rattle.std.proofs.Common.{Ok}
-use Rattle.private_mount.proofs.Replying.{if-refused, open-layers, list-layers, close-layers, keeps-same, thin-same}
+use mir.Syntax.{w64}
+use mir.Val.{to_z, of_z}
+use Rattle.private_mount.proofs.Replying.{if-refused, open-layers, list-layers, seek-layers, close-layers, keeps-same, thin-same}
 use Rattle.private_mount.proofs.mount.Mount.call.Goals as goal
 
 pub returns-in-Open-clause-refused : goal.returns-in-Open-clause-refused
@@ -23,6 +25,12 @@ returns-in-ListNames-clause-keeps c = keeps-same c.args.self.now.layers c.list.n
 
 pub returns-in-ListNames-clause-thin : goal.returns-in-ListNames-clause-thin
 returns-in-ListNames-clause-thin c = thin-same c.args.self.now.layers c.list.new.self.layers (list-layers c.args.self.now c.list.new.self c.args.client c.in-ListNames.descriptor c.in-ListNames.count c.list.result c.list.ensures.answers)
+
+pub returns-in-Seek-clause-keeps : goal.returns-in-Seek-clause-keeps
+returns-in-Seek-clause-keeps c = keeps-same c.args.self.now.layers c.seek.new.self.layers (seek-layers c.args.self.now c.seek.new.self c.args.client c.in-Seek.descriptor (to_z w64 (of_z w64 c.in-Seek.offset)) c.in-Seek.whence (Ok c.seek.result) c.seek.ensures.answers)
+
+pub returns-in-Seek-clause-thin : goal.returns-in-Seek-clause-thin
+returns-in-Seek-clause-thin c = thin-same c.args.self.now.layers c.seek.new.self.layers (seek-layers c.args.self.now c.seek.new.self c.args.client c.in-Seek.descriptor (to_z w64 (of_z w64 c.in-Seek.offset)) c.in-Seek.whence (Ok c.seek.result) c.seek.ensures.answers)
 
 pub returns-in-Close-clause-keeps : goal.returns-in-Close-clause-keeps
 returns-in-Close-clause-keeps c = keeps-same c.args.self.now.layers c.close.new.self.layers (close-layers c.args.self.now c.close.new.self c.args.client c.in-Close.descriptor (Ok c.close.result) c.close.ensures.answers)

@@ -3,13 +3,13 @@ use Rattle.private_mount.specs.Attaching.{opened_by}
 use Rattle.private_mount.proofs.Paging.{page-kept, page-fresh}
 use Rattle.private_mount.proofs.mount.Mount.page.Goals as goal
 
-pub returns-then-is_some-clause-pages : goal.returns-then-is_some-clause-pages
-returns-then-is_some-clause-pages c =
+pub returns-then-is_listed-clause-pages : goal.returns-then-is_listed-clause-pages
+returns-then-is_listed-clause-pages c =
     let was : Some c.unwrap-directory.result.now ≡ opened_by c.args.self.now.clients c.args.client c.args.descriptor = rw c.unwrap-directory.ensures at c.opened.ensures in
-    page-kept c.args.self.now c.next_names.new.self c.args.client c.args.descriptor c.args.count c.unwrap-directory.result.now (sym was) c.next_names.result (sym c.if-is_some.ensures) c.next_names.ensures
+    page-kept c.args.self.now c.next_names.new.self c.args.client c.args.descriptor c.unwrap-directory.result.now (sym was) c.args.count c.next_names.result (sym c.if-is_listed.ensures) c.next_names.ensures
 
 pub returns-clause-pages : goal.returns-clause-pages
 returns-clause-pages c =
     let was : Some c.unwrap-directory.result.now ≡ opened_by c.args.self.now.clients c.args.client c.args.descriptor = rw c.unwrap-directory.ensures at c.opened.ensures in
-    page-fresh c.args.self.now c.keep_listing.new.self c.args.client c.args.descriptor c.args.count c.unwrap-directory.result.now (sym was) c.in_ok-listing.listing c.in_ok-names.names (sym c.if-is_some.ensures) c.in_ok-listing.ensures c.in_ok-names.ensures.names
+    page-fresh c.args.self.now c.keep_listing.new.self c.args.client c.args.descriptor c.unwrap-directory.result.now (sym was) c.args.count c.in_ok-listing.listing c.in_ok-names.names (sym c.if-is_listed.ensures) c.in_ok-listing.ensures c.in_ok-names.ensures.names
     (rw c.in_ok-names.ensures.left at c.keep_listing.ensures)

@@ -1,0 +1,134 @@
+-- Entries and layers one after the other, as they are read.
+use Rattle.std.proofs.Common.{◌≡◌, ℕ, Bool, suc, ◌+◌, ◌<◌, ◌≤◌, List, [], ◌∷◌, ◌++◌, length, get_or, drop, take, map, true, Option, Some, None, Result, Ok, Err, IfOk, IfErr, is_ok, true≢false, refl, sym, ap, subst, ◌∙◌, add-one}
+use Rattle.std.proofs.lemmas.List.{drop_more, drop_all, take_more, map-append}
+use Rattle.toml.specs.Data.{Items, no_items, item, Members}
+use Rattle.toml.specs.View.{view, items_view}
+use Rattle.toml.specs.declared.value.Value.{Value}
+use Rattle.plain_model.specs.Layers.{Layer, IsLayer, AreLayers}
+use Rattle.ov_wire.specs.ManifestEntries.{and_then}
+use Rattle.ov_wire.specs.Manifests.{entries_in, whole_of, Refuses}
+use Rattle.ov_base.specs.declared.attributes.Attributes.{Attributes}
+use Rattle.ov_base.specs.declared.options.Options.{Options}
+use Rattle.layer_tree.specs.Tree.{Tree, layer_of}
+use Rattle.ov_wire.specs.Drafts.{Places}
+use Rattle.ov_wire.specs.ManifestLayers.{layer_items, unless_fault, manifest_of, IsTold, fault_of, ReadsLayer, fault_at, Entry, with_spelled, numbered, entries_from, entries_of, IsSpelled, AreSpelled, fault_or, layers_fault}
+use Rattle.ov_wire.specs.declared.manifest.fault.EntryFault.{EntryFault}
+use Rattle.ov_wire.specs.declared.manifest.fault.EntryError.{EntryError}
+use Rattle.ov_wire.specs.declared.manifest.fault.EntryError.TheVariants as error
+use Rattle.ov_wire.specs.declared.manifest.fault.ManifestFault.{ManifestFault}
+use Rattle.ov_wire.specs.declared.manifest.fault.ManifestFault.TheVariants as whole
+
+-- what is left begins with the value at hand
+left : (xs : List Value) (i : ℕ) (x : Value) → i < length xs → x ≡ get_or xs i x → drop i xs ≡ x ∷ drop (i + 1) xs
+left xs i x within is = drop_more xs i x within ∙ ap (λ y. y ∷ drop (i + 1) xs) (sym is)
+
+module _ (xs : List Value) (i : ℕ) (before : List Entry) where
+  -- one entry on
+  pub entry-on : (x : Value) (after : List Entry) → i < length xs → x ≡ get_or xs i x → with_spelled before (view x) ≡ Ok after → entries_from i before (items_view (drop i xs)) ≡ entries_from (i + 1) after (items_view (drop (i + 1) xs))
+  entry-on x after within is w =
+      ap (λ ys. entries_from i before (items_view ys)) (left xs i x within is)
+      ∙ ap (λ r. and_then (numbered i r) (λ more. entries_from (suc i) more (items_view (drop (i + 1) xs)))) w
+      ∙ ap (λ j. entries_from j after (items_view (drop (i + 1) xs))) (sym (add-one i))
+
+  -- an entry at fault
+  pub entry-fault : (x : Value) (f : EntryFault) → i < length xs → x ≡ get_or xs i x → with_spelled before (view x) ≡ Err f → entries_from i before (items_view (drop i xs)) ≡ Err (i, f)
+  entry-fault x f within is w =
+      ap (λ ys. entries_from i before (items_view ys)) (left xs i x within is)
+      ∙ ap (λ r. and_then (numbered i r) (λ more. entries_from (suc i) more (items_view (drop (i + 1) xs)))) w
+
+  -- no entry is left
+  pub entries-end : length xs ≤ i → entries_from i before (items_view (drop i xs)) ≡ Ok before
+  entries-end past = ap (λ ys. entries_from i before (items_view ys)) (drop_all i xs past)
+
+-- one more layer
+pub AreSpelled-push : (Ls : List Layer) (xs : List Value) (L : Layer) (x : Value) → AreSpelled Ls (items_view xs) → IsSpelled L (entries_in (view x)) → AreSpelled (Ls ++ L ∷ []) (items_view (xs ++ x ∷ []))
+AreSpelled-push [] [] L x h s = (s, tt)
+AreSpelled-push [] (y ∷ ys) L x h s = absurd h
+AreSpelled-push (M ∷ Ls) [] L x h s = absurd h
+AreSpelled-push (M ∷ Ls) (y ∷ ys) L x h s = (h.0, AreSpelled-push Ls ys L x h.1 s)
+
+pub AreLayers-push : (Ls : List Layer) (L : Layer) → AreLayers Ls → IsLayer L → AreLayers (Ls ++ L ∷ [])
+AreLayers-push [] L h s = (s, tt)
+AreLayers-push (M ∷ Ls) L h s = (h.0, AreLayers-push Ls L h.1 s)
+
+module _ (xs : List Value) (i j : ℕ) where
+  -- a layer without a fault
+  pub layer-on : (x : Value) (entries : List Entry) → i < length xs → x ≡ get_or xs i x → entries_of (entries_in (view x)) ≡ Ok entries → layers_fault j (items_view (drop i xs)) ≡ layers_fault (j + 1) (items_view (drop (i + 1) xs))
+  layer-on x entries within is e =
+      ap (λ ys. layers_fault j (items_view ys)) (left xs i x within is)
+      ∙ ap (λ r. fault_or j r (layers_fault (suc j) (items_view (drop (i + 1) xs)))) e
+      ∙ ap (λ k. layers_fault k (items_view (drop (i + 1) xs))) (sym (add-one j))
+
+  -- a layer at fault
+  pub layer-fault : (x : Value) (number : ℕ) (f : EntryFault) → i < length xs → x ≡ get_or xs i x → entries_of (entries_in (view x)) ≡ Err (number, f) → layers_fault j (items_view (drop i xs)) ≡ Some (whole.Entry j number f)
+  layer-fault x number f within is e =
+      ap (λ ys. layers_fault j (items_view ys)) (left xs i x within is)
+      ∙ ap (λ r. fault_or j r (layers_fault (suc j) (items_view (drop (i + 1) xs)))) e
+
+-- an entry at fault is told with its number
+pub told : (xs : List Value) (i : ℕ) (before : List Entry) (x : Value) (index : ℕ) (L : Layer) (a : Attributes) (e : EntryError) (r : ManifestFault) → r ≡ fault_at index i e → i < length xs → x ≡ get_or xs i x → entries_of (items_view xs) ≡ entries_from i before (items_view (drop i xs)) → Places {T = Bool} (λ s. s) L a (with_spelled before (view x)) (Err e) → ReadsLayer index (items_view xs) (Err r)
+told xs i before x index L a (error.Fault f) r is within at so_far p =
+    subst (λ (r : ManifestFault). ReadsLayer index (items_view xs) (Err r)) (sym is) (refl, so_far ∙ entry-fault xs i before x f within at p)
+told xs i before x index L a (error.Memory m) r is within at so_far p =
+    subst (λ (r : ManifestFault). ReadsLayer index (items_view xs) (Err r)) (sym is) tt
+
+module _ (old new : List Tree) (t : Tree) (xs : List Value) (i : ℕ) (x : Value) (grown : new ≡ old ++ t ∷ []) where
+  -- the layers with one more are as they are spelled
+  pub spelled-on : i < length xs → x ≡ get_or xs i x → AreSpelled (map layer_of old) (items_view (take i xs)) → IsSpelled (layer_of t) (entries_in (view x)) → AreSpelled (map layer_of new) (items_view (take (i + 1) xs))
+  spelled-on within is h s =
+      let more : take (i + 1) xs ≡ take i xs ++ x ∷ [] = take_more xs i x within ∙ ap (λ y. take i xs ++ y ∷ []) (sym is) in
+      subst (λ ts. AreSpelled (map layer_of ts) (items_view (take (i + 1) xs))) (sym grown)
+      (subst (λ Ls. AreSpelled Ls (items_view (take (i + 1) xs))) (sym (map-append layer_of old (t ∷ [])))
+      (subst (λ ys. AreSpelled (map layer_of old ++ layer_of t ∷ []) (items_view ys)) (sym more)
+      (AreSpelled-push (map layer_of old) (take i xs) (layer_of t) x h s)))
+
+  -- the layers with one more are layers
+  pub layers-on : AreLayers (map layer_of old) → IsLayer (layer_of t) → AreLayers (map layer_of new)
+  layers-on h s =
+      subst (λ ts. AreLayers (map layer_of ts)) (sym grown)
+      (subst AreLayers (sym (map-append layer_of old (t ∷ []))) (AreLayers-push (map layer_of old) (layer_of t) h s))
+
+-- a layer's fault is the first, where none was before
+pub first-told : (i : ℕ) (items : Items) (later : Option ManifestFault) (e : ManifestFault) → ReadsLayer i items (Err e) → IsTold (fault_or i (entries_of items) later) e
+first-told i items later (whole.Entry layer number f) h = ap (λ r. fault_or i r later) h.1 ∙ ap (λ (l : ℕ). Some (whole.Entry l number f)) (sym h.0)
+first-told i items later (whole.Memory m) h = tt
+first-told i items later whole.NotToml h = absurd h
+first-told i items later whole.Key h = absurd h
+first-told i items later whole.RedirectDir h = absurd h
+first-told i items later whole.History h = absurd h
+first-told i items later whole.Layers h = absurd h
+
+-- after a layer without a fault the first one is that of the others
+pub later-told : (i : ℕ) (L : Layer) (items : Items) (later : Option ManifestFault) (e : ManifestFault) → IsSpelled L items → IsTold later e → IsTold (fault_or i (entries_of items) later) e
+later-told i L items later e s h = subst (λ w. IsTold w e) (sym (ap (λ r. fault_or i r later) s.1)) h
+
+-- layers that are as they are spelled have no fault
+pub spelled-faultless : (i : ℕ) (Ls : List Layer) (items : Items) → AreSpelled Ls items → layers_fault i items ≡ None
+spelled-faultless i [] no_items h = refl
+spelled-faultless i [] (item d rest) h = absurd h
+spelled-faultless i (L ∷ Ls) no_items h = absurd h
+spelled-faultless i (L ∷ Ls) (item d rest) h = ap (λ r. fault_or i r (layers_fault (suc i) rest)) (h.0).1 ∙ spelled-faultless (suc i) Ls rest h.1
+
+-- a fault of the entries is that of the manifest, whose whole has none
+pub told-of-entries : (m : Members) (options : Options) (e : ManifestFault) → whole_of m ≡ Ok options → IsTold (layers_fault 0 (layer_items m)) e → IsTold (fault_of (manifest_of m)) e
+told-of-entries m options e w h = subst (λ o. IsTold o e) (sym (ap (λ r. fault_of (and_then r (λ o. unless_fault (layers_fault 0 (layer_items m)) o))) w ∙ of (layers_fault 0 (layer_items m)))) h
+  where
+    of : (o : Option ManifestFault) → fault_of (unless_fault o options) ≡ o
+    of None = refl
+    of (Some f) = refl
+
+-- a manifest without a fault is its options
+pub options-of-entries : (m : Members) (options : Options) → whole_of m ≡ Ok options → layers_fault 0 (layer_items m) ≡ None → manifest_of m ≡ Ok options
+options-of-entries m options w none = ap (λ r. and_then r (λ o. unless_fault (layers_fault 0 (layer_items m)) o)) w ∙ ap (λ f. unless_fault f options) none
+
+-- what tells each fault refuses by it
+pub refuses-told : {T : Type 0} (r : Result T ManifestFault) (wanted : Result Options ManifestFault) → IfErr r (IsTold (fault_of wanted)) → IfOk r (λ _. is_ok wanted ≡ true) → IfErr wanted (Refuses r)
+refuses-told r (Ok options) told ok = tt
+refuses-told (Ok x) (Err f) told ok = absurd (true≢false (sym ok))
+refuses-told (Err (whole.Memory m)) (Err f) told ok = tt
+refuses-told (Err (whole.Entry layer number g)) (Err f) told ok = cc
+refuses-told (Err whole.NotToml) (Err f) told ok = cc
+refuses-told (Err whole.Key) (Err f) told ok = cc
+refuses-told (Err whole.RedirectDir) (Err f) told ok = cc
+refuses-told (Err whole.History) (Err f) told ok = cc
+refuses-told (Err whole.Layers) (Err f) told ok = cc

@@ -1,0 +1,15 @@
+use Rattle.std.proofs.Common.{◌∷◌, sym, subst}
+use Rattle.layer_tree.specs.Tree.{layer_of}
+use Rattle.ov_wire.specs.Drafts.{Puts}
+use Rattle.ov_wire.proofs.Planting.{no-objects, puts-whiteout}
+use Rattle.ov_wire.proofs.manifest.place.plant.Goals as goal
+
+pub returns-in_ok-insert_whiteout-in-Whiteout-clause-keeps : goal.returns-in_ok-insert_whiteout-in-Whiteout-clause-keeps
+returns-in_ok-insert_whiteout-in-Whiteout-clause-keeps c = λ path at layer.
+    c.insert_whiteout.ensures.keeps path at (no-objects c.args.layer.now c.args.parent c.args.name c.requires.free) layer
+
+pub returns-in_ok-insert_whiteout-in-Whiteout-clause-puts : goal.returns-in_ok-insert_whiteout-in-Whiteout-clause-puts
+returns-in_ok-insert_whiteout-in-Whiteout-clause-puts c = λ path at layer.
+    subst (λ i. Puts (layer_of c.args.layer.now) (layer_of c.insert_whiteout.new.self) (c.args.name ∷ path) i) (sym c.in-Whiteout.is)
+    (puts-whiteout c.args.layer.now c.insert_whiteout.new.self c.args.parent c.args.name path layer at c.requires.free
+    (c.in_ok-insert_whiteout-in-Whiteout.ensures.covers path at) c.in_ok-insert_whiteout-in-Whiteout.ensures.unbinds)

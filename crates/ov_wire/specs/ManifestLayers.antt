@@ -1,0 +1,140 @@
+-- What the entries of a layer make of it, or the first fault among them.
+use Rattle.std.specs.Prelude.{◌≡◌, codes, ℕ, suc, Bool, true, false, ◌&&◌, not, List, [], ◌∷◌, Option, Some, None, is_some, Result, Ok, Err, if◌then◌else◌}
+use Rattle.std.specs.Option.{ok_or}
+use Rattle.toml.specs.Data.{Data, Items, no_items, item, Members, as_table}
+use Rattle.ov_base.specs.declared.attributes.Attributes.{Attributes}
+use Rattle.ov_base.specs.declared.options.Options.{Options}
+use Rattle.plain_model.specs.Layers.{Name, Path, Object, Directory, Named, Whiteout, Layer, held, same_path}
+use Rattle.layer_tree.specs.Tree.{Tree, layer_of}
+use Rattle.layer_tree.specs.declared.node.Object.TheVariants as object
+use Rattle.ov_wire.specs.ManifestEntries.{and_then, read}
+use Rattle.ov_wire.specs.Manifests.{items_at, entries_in, whole_of}
+use Rattle.ov_wire.specs.declared.manifest.entry.Item.{Item}
+use Rattle.ov_wire.specs.declared.manifest.entry.Item.TheVariants as put
+use Rattle.ov_wire.specs.declared.manifest.fault.EntryFault.{EntryFault}
+use Rattle.ov_wire.specs.declared.manifest.fault.EntryFault.TheVariants as fault
+use Rattle.ov_wire.specs.declared.manifest.fault.EntryError.{EntryError}
+use Rattle.ov_wire.specs.declared.manifest.fault.EntryError.TheVariants as error
+use Rattle.ov_wire.specs.declared.manifest.fault.ManifestFault.{ManifestFault}
+use Rattle.ov_wire.specs.declared.manifest.fault.ManifestFault.TheVariants as whole
+
+-- an entry: a path and what is put there
+abbrev pub Entry : Type 0
+Entry = Path × Item
+
+-- what entries put at a path
+abbrev pub put_at : List Entry → Path → Option Item
+put_at [] p = None
+put_at (e ∷ before) p = if same_path e.0 p then Some e.1 else put_at before p
+
+abbrev pub is_directory : Option Item → Bool
+is_directory (Some (put.Object (object.Directory a m))) = true
+is_directory _ = false
+
+-- whether there is a directory at a path: the root, or what an entry put there
+abbrev pub has_directory : List Entry → Path → Bool
+has_directory before [] = true
+has_directory before (name ∷ path) = is_directory (put_at before (name ∷ path))
+
+-- The entries with one more. Only one directory may be put at `/`. Elsewhere the parent is to be a directory, and nothing may be put
+-- there before.
+abbrev pub with_entry : List Entry → Path → Item → Result (List Entry) EntryFault
+with_entry before [] i = if is_directory (Some i) && not (is_some (put_at before [])) then Ok (([], i) ∷ before) else Err fault.Exists
+with_entry before (name ∷ path) i =
+    if not (has_directory before path) then Err fault.Parent
+    else (if is_some (put_at before (name ∷ path)) then Err fault.Exists
+    else Ok ((name ∷ path, i) ∷ before))
+
+-- the entries with one more as a manifest spells it
+abbrev pub with_spelled : List Entry → Data → Result (List Entry) EntryFault
+with_spelled before d = and_then (ok_or (as_table d) fault.Kind) (λ m. and_then (read m) (λ e. with_entry before e.0 e.1))
+
+-- a fault beside the number of its entry
+abbrev pub numbered : {T : Type 0} → ℕ → Result T EntryFault → Result T (ℕ × EntryFault)
+numbered number (Ok x) = Ok x
+numbered number (Err f) = Err (number, f)
+
+-- the entries with those that follow, from this number on
+abbrev pub entries_from : ℕ → List Entry → Items → Result (List Entry) (ℕ × EntryFault)
+entries_from number before no_items = Ok before
+entries_from number before (item d rest) = and_then (numbered number (with_spelled before d)) (λ more. entries_from (suc number) more rest)
+
+-- THE ENTRIES OF A LAYER, or the first fault with the number of its entry
+abbrev pub entries_of : Items → Result (List Entry) (ℕ × EntryFault)
+entries_of items = entries_from 0 [] items
+
+-- the attributes of a root: those of the directory that was put at `/`, else 0o755 and 0
+abbrev pub root_of : Option Item → Attributes
+root_of (Some (put.Object (object.Directory a m))) = a
+root_of _ = record { mode = 493; uid = 0; gid = 0; user = [] }
+
+-- what a layer holds where this was put; a file or symbolic link has one name
+abbrev pub Stands : Layer → Option Object → Option Item → Type 0
+Stands L o None = o ≡ None
+Stands L o (Some put.Whiteout) = o ≡ Some Whiteout
+Stands L o (Some (put.Object (object.Directory a m))) = (key : ℕ) × (o ≡ Some (Directory key a m.opaque m.redirect))
+Stands L o (Some (put.Object (object.Inode c a))) = (key : ℕ) × (o ≡ Some (Named key)) × (L.inodes key ≡ Some (record { content = c; attributes = a; links = 1 }))
+
+-- below its root the layer holds at each path what was put there
+abbrev pub HoldsEntries : Layer → List Entry → Type 0
+HoldsEntries L entries = (name : Name) (path : Path) → Stands L (held L (name ∷ path)) (put_at entries (name ∷ path))
+
+-- THE LAYER IS AS THESE ENTRIES SAY
+pub record IsAsSaid (L : Layer) (entries : List Entry) : Type 0 where
+  pub root : L.root ≡ root_of (put_at entries [])
+  pub below : HoldsEntries L entries
+
+-- the layer is as its entries say, none of which is at fault
+abbrev pub IsSpelled : Layer → Items → Type 0
+IsSpelled L items = (entries : List Entry) × (entries_of items ≡ Ok entries) × IsAsSaid L entries
+
+-- the fault of this entry, or want of memory
+abbrev pub fault_at : ℕ → ℕ → EntryError → ManifestFault
+fault_at layer number (error.Fault f) = whole.Entry layer number f
+fault_at layer number (error.Memory e) = whole.Memory e
+
+-- a layer of this number as its entries say, or the first fault among them, unless memory ran out
+abbrev pub ReadsLayer : ℕ → Items → Result Tree ManifestFault → Type 0
+ReadsLayer index items (Ok t) = IsSpelled (layer_of t) items
+ReadsLayer index items (Err (whole.Entry layer number f)) = (layer ≡ index) × (entries_of items ≡ Err (number, f))
+ReadsLayer index items (Err (whole.Memory e)) = Unit {0}
+ReadsLayer index items (Err _) = ⊥
+
+-- the first fault of a layer, or else what follows
+abbrev pub fault_or : ℕ → Result (List Entry) (ℕ × EntryFault) → Option ManifestFault → Option ManifestFault
+fault_or index (Ok entries) later = later
+fault_or index (Err e) later = Some (whole.Entry index e.0 e.1)
+
+-- THE FIRST FAULT OF THE ENTRIES of layers that are numbered from here
+abbrev pub layers_fault : ℕ → Items → Option ManifestFault
+layers_fault index no_items = None
+layers_fault index (item d rest) = fault_or index (entries_of (entries_in d)) (layers_fault (suc index) rest)
+
+-- THE LAYERS ARE AS THEIR ENTRIES SAY, each in its place
+abbrev pub AreSpelled : List Layer → Items → Type 0
+AreSpelled [] no_items = Unit {0}
+AreSpelled (L ∷ Ls) (item d rest) = IsSpelled L (entries_in d) × AreSpelled Ls rest
+AreSpelled _ _ = ⊥
+
+-- the layers that a manifest spells
+abbrev pub layer_items : Members → Items
+layer_items m = items_at (codes "layer") m
+
+-- a value, unless there is a fault
+abbrev pub unless_fault : {T : Type 0} → Option ManifestFault → T → Result T ManifestFault
+unless_fault (Some f) x = Err f
+unless_fault None x = Ok x
+
+-- THE OPTIONS OF A MANIFEST, or its first fault: of the whole, or else of an entry
+abbrev pub manifest_of : Members → Result Options ManifestFault
+manifest_of m = and_then (whole_of m) (λ options. unless_fault (layers_fault 0 (layer_items m)) options)
+
+-- this fault is told, unless memory ran out
+abbrev pub IsTold : Option ManifestFault → ManifestFault → Type 0
+IsTold wanted (whole.Memory e) = Unit {0}
+IsTold wanted f = wanted ≡ Some f
+
+-- the fault of what has one
+abbrev pub fault_of : {T : Type 0} → Result T ManifestFault → Option ManifestFault
+fault_of (Ok x) = None
+fault_of (Err f) = Some f
