@@ -22,16 +22,18 @@ use crate::node::{Directory, Inode, Marks, Node, Object};
 use ov_base::{Attributes, Content, Name, Path};
 use slab::Slab;
 use std::alloc::{AllocError, AllocFailed, Global};
+use std::hash::RandomState;
 use std::marker::Model;
 
 /// The key of the root directory.
 pub const ROOT: usize = 0;
 
-/// A layer: a tree of objects, each under a key of its own.
+/// A layer: a tree of objects, each under a key of its own. Its directories hash names with `keys`.
 #[derive(Drop)]
 pub struct Layer {
     nodes: Slab<Node>,
     alloc: Global,
+    keys: RandomState,
 }
 
 impl Model for Layer {
@@ -54,7 +56,11 @@ impl Model for Layer {
 
 impl Layer {
     /// A layer of one directory, the root, which has no marks.
-    pub fn new(alloc: Global, attributes: Attributes) -> Result<Layer, AllocError>
+    pub fn new(
+        alloc: Global,
+        keys: RandomState,
+        attributes: Attributes,
+    ) -> Result<Layer, AllocError>
         ensures root { IfOk result (λ l. held (layer_of l) [] ≡ Some (layers.Directory 0 attributes false None)) }
         ensures nothing_else { IfOk result (λ l. (name : List ℕ) (path : List (List ℕ)) → held (layer_of l) (name ∷ path) ≡ None) }
         ensures no_inodes { IfOk result (λ l. (key : ℕ) → inode_at l key ≡ None) }
@@ -62,14 +68,14 @@ impl Layer {
     {
         let mut nodes = Slab::with_capacity(alloc, 1)?;
         nodes.insert_reserved(Node::Directory(Directory {
-            names: NameTable::new(alloc),
+            names: NameTable::new(alloc, keys),
             attributes,
             marks: Marks {
                 opaque: false,
                 redirect: None,
             },
         }));
-        Ok(Layer { nodes, alloc })
+        Ok(Layer { nodes, alloc, keys })
     }
 
     /// What stands under a key.
@@ -264,7 +270,7 @@ impl Layer {
         ensures objects { UsesObjects self.old self.new 1 }
         ensures keeps { (path : List (List ℕ)) → key_at self.old path ≡ Some dir → IsLayer (layer_of self.old) → IsLayer (layer_of self.new) }
     {
-        let node = planted(self.alloc, object);
+        let node = planted(self.alloc, self.keys, object);
         let key = self.nodes.insert_reserved(node);
         bind_name(&mut self.nodes, dir, name, Entry::Object(key));
         key
@@ -349,12 +355,12 @@ impl Layer {
 }
 
 // The node of a new object.
-fn planted(alloc: Global, object: Object) -> Node
+fn planted(alloc: Global, keys: RandomState, object: Object) -> Node
     ensures { IsPlanted object result }
 {
     match object {
         Object::Directory(attributes, marks) => Node::Directory(Directory {
-            names: NameTable::new(alloc),
+            names: NameTable::new(alloc, keys),
             attributes,
             marks,
         }),

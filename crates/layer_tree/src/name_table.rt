@@ -11,6 +11,7 @@ ghost use Rattle.layer_tree.specs.Table.{Table, entry_in};
 use indexmap::IndexMap;
 use ov_base::Name;
 use std::alloc::{AllocError, Global};
+use std::hash::RandomState;
 use std::marker::Model;
 
 /// What a directory has at a name: the key of an object, or a whiteout.
@@ -20,10 +21,10 @@ pub enum Entry {
     Whiteout,
 }
 
-/// The names of a directory, each with its entry.
+/// The names of a directory, each with its entry. The keys of the hash are random, so no one can pick names that collide.
 #[derive(Drop)]
 pub struct NameTable {
-    table: IndexMap<Name, Entry>,
+    table: IndexMap<Name, Entry, RandomState>,
 }
 
 impl Model for NameTable {
@@ -39,12 +40,12 @@ impl Model for NameTable {
 }
 
 impl NameTable {
-    /// A table of no names.
-    pub fn new(alloc: Global) -> Self
+    /// A table of no names, which hashes with these keys.
+    pub fn new(alloc: Global, keys: RandomState) -> Self
         ensures { result.entries ≡ map.empty }
     {
         NameTable {
-            table: IndexMap::new(alloc),
+            table: IndexMap::with_hasher(alloc, keys),
         }
     }
 

@@ -1,5 +1,5 @@
 -- A name's bytes at the head of a buffer of zeros.
-use Rattle.std.proofs.Common.{◌≡◌, ℕ, ◌-◌, List, ◌++◌, length, IsTrue, take, drop, replicate, refl}
+use Rattle.std.proofs.Common.{◌≡◌, ℕ, List, ◌++◌, length, IsTrue, take, drop, replicate, refl}
 use Rattle.std.proofs.Math.Seq.{take-append_seam}
 use Rattle.std.proofs.lemmas.List.{drop-replicate}
 use Rattle.ov_base.specs.Names.{is_name, padded}

@@ -1,6 +1,6 @@
 -- The fields of a name from its bytes.
-use Rattle.std.specs.Prelude.{◌≡◌, List, ℕ, take, length, IsTrue}
-use Rattle.std.proofs.Common.{sym, ap, refl}
+use Rattle.std.specs.Prelude.{◌≡◌, take, length, IsTrue}
+use Rattle.std.proofs.Common.{sym}
 use Rattle.ov_base.specs.Names.{is_name, padded}
 use Rattle.ov_base.specs.declared.name.Name.TheInside.{Inside}
 

@@ -24,7 +24,7 @@ pub enum Fault {
     /// The manifest is at fault.
     #[error("{0}")]
     Manifest(ManifestFault),
-    /// Standard input or standard output failed.
+    /// Standard input, standard output or the system's source of randomness failed.
     #[error("stream")]
     Stream,
     /// A line of the script, counted from 1, is no command.

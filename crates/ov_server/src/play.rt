@@ -11,6 +11,7 @@ use crate::fault::Fault;
 use crate::show::layers_in;
 use private_mount::Mount;
 use std::alloc::Global;
+use std::hash::RandomState;
 use std::io;
 use std::io::{Read, Write};
 
@@ -18,9 +19,10 @@ use std::io::{Read, Write};
 const PIECE: usize = 65_536;
 
 /// Plays the script that a reader gives on the mount of the layers that the bytes of a manifest spell, and writes a line for each
-/// command. It reads at most 4,294,967,295 times; one read more counts as one that failed.
+/// command. It reads at most 4,294,967,295 times; one read more counts as one that failed. The layers hash names with `keys`.
 pub fn play_run<R: Read, W: Write>(
     alloc: Global,
+    keys: RandomState,
     manifest: &[u8],
     reader: &mut R,
     writer: &mut W,
@@ -29,7 +31,7 @@ pub fn play_run<R: Read, W: Write>(
     ensures err { IfErr result (λ fault. IfSome (R.remaining reader.old) (λ script. scripts.IsRunFault script fault)) }
     ensures manifest { RefusesManifest manifest.now result }
 {
-    let layers = layers_in(alloc, manifest)?;
+    let layers = layers_in(alloc, keys, manifest)?;
     let mut script = Script {
         mount: Mount::new(alloc, layers),
         pending: Vec::new(alloc),

@@ -8,24 +8,30 @@ use crate::print_tree::write_merge;
 use merged_lookup::Layers;
 use ov_wire::manifest_of;
 use std::alloc::Global;
+use std::hash::RandomState;
 use std::io::Write;
 
-/// Writes the merged tree of the layers that the bytes of a manifest spell.
-pub fn show_run<W: Write>(alloc: Global, manifest: &[u8], writer: &mut W) -> Result<(), Fault>
+/// Writes the merged tree of the layers that the bytes of a manifest spell. The layers hash names with `keys`.
+pub fn show_run<W: Write>(
+    alloc: Global,
+    keys: RandomState,
+    manifest: &[u8],
+    writer: &mut W,
+) -> Result<(), Fault>
     ensures manifest { RefusesManifest manifest.now result }
     ensures err { IfErr result IsManifestOrDeviceFault }
 {
-    let layers = layers_in(alloc, manifest)?;
+    let layers = layers_in(alloc, keys, manifest)?;
     write_merge(alloc, &layers, writer)?;
     writer.flush()?;
     Ok(())
 }
 
 /// The layers that the bytes of a manifest spell.
-pub fn layers_in(alloc: Global, manifest: &[u8]) -> Result<Layers, Fault>
+pub fn layers_in(alloc: Global, keys: RandomState, manifest: &[u8]) -> Result<Layers, Fault>
     ensures manifest { RefusesManifest manifest.now result }
     ensures err { IfErr result IsManifestOrDeviceFault }
 {
-    let (upper, lowers, _) = manifest_of(alloc, manifest)?;
+    let (upper, lowers, _) = manifest_of(alloc, keys, manifest)?;
     Ok(Layers::new(upper, lowers))
 }

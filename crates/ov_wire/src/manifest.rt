@@ -22,6 +22,7 @@ use layer_tree::Layer;
 use ov_base::Options;
 use place::read_layer;
 use std::alloc::{AllocError, Global};
+use std::hash::RandomState;
 use toml::{Table, Value};
 
 /// The most lower layers of a mount.
@@ -34,9 +35,11 @@ const HISTORY_MOST: i64 = 1_000_000;
 
 const HISTORY_DEFAULT: i64 = 100_000;
 
-/// The layers and options that the bytes of a manifest spell: the upper, then the lowers from the top.
+/// The layers and options that the bytes of a manifest spell: the upper, then the lowers from the top. The layers hash names with
+/// `keys`.
 pub fn manifest_of(
     alloc: Global,
+    keys: RandomState,
     bytes: &[u8],
 ) -> Result<(Layer, Vec<Layer>, Options), ManifestFault>
     ensures not_utf8 { (IsUtf8 bytes.now → ⊥) → Refuses result ManifestFault.NotToml }
@@ -52,7 +55,7 @@ pub fn manifest_of(
     ensures few_lowers { IfOk result (λ r. vec_len r.1 ≤ 16) }
 {
     match toml::table_from_slice(alloc, bytes) {
-        Ok(manifest) => layers_of(alloc, &manifest),
+        Ok(manifest) => layers_of(alloc, keys, &manifest),
         Err(fault) => {
             if fault.is_memory() {
                 Err(ManifestFault::Memory(AllocError))
@@ -67,6 +70,7 @@ pub fn manifest_of(
 /// those of the layers and of their entries in their order.
 pub fn layers_of(
     alloc: Global,
+    keys: RandomState,
     manifest: &Table,
 ) -> Result<(Layer, Vec<Layer>, Options), ManifestFault>
     ensures told { IfErr result (IsTold (layers.fault_of (layers.manifest_of (table_view manifest.now)))) }
@@ -86,13 +90,14 @@ pub fn layers_of(
     if lowers.is_empty() || lowers.len() > LOWERS_MOST {
         return Err(ManifestFault::Layers);
     }
-    let (upper, lowers) = read_layers(alloc, upper, lowers)?;
+    let (upper, lowers) = read_layers(alloc, keys, upper, lowers)?;
     Ok((upper, lowers, options))
 }
 
 // The layers in their order, each from its entries.
 fn read_layers(
     alloc: Global,
+    keys: RandomState,
     upper: &Value,
     lowers: &[Value],
 ) -> Result<(Layer, Vec<Layer>), ManifestFault>
@@ -103,13 +108,17 @@ fn read_layers(
     ensures spelled { IfOk result (λ r. AreSpelled (layer_of r.0 ∷ map layer_of r.1.items) (item (view upper.now) (items_view lowers.now))) }
     ensures layers { IfOk result (λ r. AreLayers (layer_of r.0 ∷ map layer_of r.1.items)) }
 {
-    let upper = read_layer(alloc, 0, entries_in(upper))?;
-    let lowers = read_lowers(alloc, lowers)?;
+    let upper = read_layer(alloc, keys, 0, entries_in(upper))?;
+    let lowers = read_lowers(alloc, keys, lowers)?;
     Ok((upper, lowers))
 }
 
 // The lower layers from the top, which are numbered from 1.
-fn read_lowers(alloc: Global, layers: &[Value]) -> Result<Vec<Layer>, ManifestFault>
+fn read_lowers(
+    alloc: Global,
+    keys: RandomState,
+    layers: &[Value],
+) -> Result<Vec<Layer>, ManifestFault>
     requires { length layers.now ≤ 16 }
     ensures count { IfOk result (λ lowers. vec_len lowers ≡ length layers.now) }
     ensures err { IfErr result IsOfEntry }
@@ -119,7 +128,7 @@ fn read_lowers(alloc: Global, layers: &[Value]) -> Result<Vec<Layer>, ManifestFa
 {
     let mut lowers = Vec::with_capacity(alloc, layers.len())?;
     for (index, layer) in layers.iter().enumerate() {
-        lowers.push(read_layer(alloc, index + 1, entries_in(layer))?)?;
+        lowers.push(read_layer(alloc, keys, index + 1, entries_in(layer))?)?;
     }
     Ok(lowers)
 }

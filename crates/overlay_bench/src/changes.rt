@@ -6,6 +6,7 @@ use make_remove::{create, mkdir, unlink};
 use merged_lookup::Layers;
 use ov_base::Path;
 use std::alloc::{AllocError, Global};
+use std::hash::RandomState;
 use std::io;
 use std::rt::Clock;
 use std::time::Instant;
@@ -14,10 +15,15 @@ use std::time::Instant;
 pub fn measure_create<C: Clock>(
     clock: &C,
     alloc: Global,
+    keys: RandomState,
     names: usize,
     count: u32,
 ) -> io::Result<(u64, u32)> {
-    let mut layers = over(alloc, flat_layer(alloc, names)?, bare_layer(alloc)?)?;
+    let mut layers = over(
+        alloc,
+        flat_layer(alloc, keys, names)?,
+        bare_layer(alloc, keys)?,
+    )?;
     let mut path = Path::root(alloc);
     path.push(name_of(alloc, names)?)?;
     let start = Instant::now(clock)?;
@@ -44,10 +50,15 @@ fn create_often(
 pub fn measure_whiteout<C: Clock>(
     clock: &C,
     alloc: Global,
+    keys: RandomState,
     names: usize,
     count: u32,
 ) -> io::Result<(u64, u32)> {
-    let mut layers = over(alloc, bare_layer(alloc)?, flat_layer(alloc, names)?)?;
+    let mut layers = over(
+        alloc,
+        bare_layer(alloc, keys)?,
+        flat_layer(alloc, keys, names)?,
+    )?;
     let mut paths = Vec::new(alloc);
     for number in 0..(count as usize).min(names) {
         let mut path = Path::root(alloc);
@@ -70,11 +81,16 @@ fn unlink_all(layers: &mut Layers, paths: &[Path]) -> Result<u32, AllocError> {
 }
 
 /// Making a directory below four that only a lower layer has, so often, each time below others.
-pub fn measure_parents<C: Clock>(clock: &C, alloc: Global, count: u32) -> io::Result<(u64, u32)> {
+pub fn measure_parents<C: Clock>(
+    clock: &C,
+    alloc: Global,
+    keys: RandomState,
+    count: u32,
+) -> io::Result<(u64, u32)> {
     let mut layers = over(
         alloc,
-        bare_layer(alloc)?,
-        chained_layer(alloc, count as usize)?,
+        bare_layer(alloc, keys)?,
+        chained_layer(alloc, keys, count as usize)?,
     )?;
     let mut paths = Vec::new(alloc);
     for number in 0..count as usize {

@@ -1,11 +1,13 @@
 // The loads, each timed by the monotonic clock.
 use crate::changes::{measure_create, measure_parents, measure_whiteout};
+use crate::colliding::{colliding_names, measure_directory, measure_fixed, other_names};
 use crate::trees::{OBJECTS, bare_layer, deep_layer, deep_path, flat_layer, name_of, put_file};
 use dir_listing::names;
 use layer_tree::{Layer, ROOT};
 use merged_lookup::{LAYERS_MAX, Layers};
 use ov_base::{Name, Path};
 use std::alloc::{AllocError, Global};
+use std::hash::RandomState;
 use std::io;
 use std::rt::Clock;
 use std::time::Instant;
@@ -27,6 +29,14 @@ pub enum Load {
     Whiteout(usize),
     /// A directory made below four that only a lower layer has.
     Parents,
+    /// So many names into one directory that would collide under fixed keys.
+    Collide,
+    /// As many other names of the same lengths.
+    Others,
+    /// The names of `Collide` into a table of fixed keys.
+    CollideFixed,
+    /// The names of `Others` into a table of fixed keys.
+    OthersFixed,
 }
 
 impl Load {
@@ -45,6 +55,10 @@ impl Load {
             "whiteout" => Some(Load::Whiteout(OBJECTS)),
             "whiteout100k" => Some(Load::Whiteout(100_000)),
             "parents" => Some(Load::Parents),
+            "collide" => Some(Load::Collide),
+            "others" => Some(Load::Others),
+            "collide_fixed" => Some(Load::CollideFixed),
+            "others_fixed" => Some(Load::OthersFixed),
             _ => None,
         }
     }
@@ -54,40 +68,39 @@ impl Load {
 pub fn measure<C: Clock>(
     clock: &C,
     alloc: Global,
+    keys: RandomState,
     load: Load,
     count: u32,
 ) -> io::Result<(u64, u32)> {
     match load {
         Load::Find => {
-            let layer = deep_layer(alloc)?;
+            let layer = deep_layer(alloc, keys)?;
             let path = deep_path(alloc)?;
             let start = Instant::now(clock)?;
             let found = find_often(&layer, &path, count);
             Ok((since(clock, start)?, found))
         }
         Load::Walk(layers) => {
-            let layers = stacked(alloc, layers)?;
+            let layers = stacked(alloc, keys, layers)?;
             let path = deep_path(alloc)?;
             let start = Instant::now(clock)?;
             let found = walk_often(&layers, &path, count);
             Ok((since(clock, start)?, found))
         }
-        Load::Insert => {
-            let mut layer = bare_layer(alloc)?;
-            let all = numbered(alloc, count)?;
-            let start = Instant::now(clock)?;
-            let done = insert_all(alloc, &mut layer, &all)?;
-            Ok((since(clock, start)?, done))
-        }
+        Load::Insert => measure_directory(clock, alloc, keys, &numbered(alloc, count)?),
         Load::List => {
-            let layers = pair(alloc, flat_layer(alloc, OBJECTS)?)?;
+            let layers = pair(alloc, keys, flat_layer(alloc, keys, OBJECTS)?)?;
             let start = Instant::now(clock)?;
             let listed = list_often(alloc, &layers, count)?;
             Ok((since(clock, start)?, listed))
         }
-        Load::Create(names) => measure_create(clock, alloc, names, count),
-        Load::Whiteout(names) => measure_whiteout(clock, alloc, names, count),
-        Load::Parents => measure_parents(clock, alloc, count),
+        Load::Create(names) => measure_create(clock, alloc, keys, names, count),
+        Load::Whiteout(names) => measure_whiteout(clock, alloc, keys, names, count),
+        Load::Parents => measure_parents(clock, alloc, keys, count),
+        Load::Collide => measure_directory(clock, alloc, keys, &colliding_names(alloc, count)?),
+        Load::Others => measure_directory(clock, alloc, keys, &other_names(alloc, count)?),
+        Load::CollideFixed => measure_fixed(clock, alloc, &colliding_names(alloc, count)?),
+        Load::OthersFixed => measure_fixed(clock, alloc, &other_names(alloc, count)?),
     }
 }
 
@@ -124,7 +137,8 @@ fn numbered(alloc: Global, count: u32) -> Result<Vec<Name>, AllocError> {
     Ok(all)
 }
 
-fn insert_all(alloc: Global, layer: &mut Layer, all: &[Name]) -> Result<u32, AllocError> {
+/// Puts empty files at these names of the root.
+pub fn insert_all(alloc: Global, layer: &mut Layer, all: &[Name]) -> Result<u32, AllocError> {
     let mut done = 0u32;
     for name in all {
         put_file(alloc, layer, ROOT, *name)?;
@@ -144,19 +158,19 @@ fn list_often(alloc: Global, layers: &Layers, count: u32) -> Result<u32, AllocEr
 }
 
 // An empty upper over one lower layer.
-fn pair(alloc: Global, lower: Layer) -> Result<Layers, AllocError> {
+fn pair(alloc: Global, keys: RandomState, lower: Layer) -> Result<Layers, AllocError> {
     let mut lowers = Vec::with_capacity(alloc, 1)?;
     lowers.push(lower)?;
-    layered(bare_layer(alloc)?, lowers)
+    layered(bare_layer(alloc, keys)?, lowers)
 }
 
 // So many layers, each with the deep path.
-fn stacked(alloc: Global, count: usize) -> Result<Layers, AllocError> {
+fn stacked(alloc: Global, keys: RandomState, count: usize) -> Result<Layers, AllocError> {
     let mut lowers = Vec::new(alloc);
     for _ in 1..count {
-        lowers.push(deep_layer(alloc)?)?;
+        lowers.push(deep_layer(alloc, keys)?)?;
     }
-    layered(deep_layer(alloc)?, lowers)
+    layered(deep_layer(alloc, keys)?, lowers)
 }
 
 /// An upper layer over 1 to 16 lower ones; other numbers are answered as want of memory is.

@@ -2,16 +2,19 @@
 #![tactic(auto)]
 
 mod changes;
+mod colliding;
 mod loads;
 mod trees;
 
 use crate::loads::{Load, measure};
 use std::alloc::Global;
+use std::hash::RandomState;
 use std::rt::{Clock, Env};
 use std::{env, io};
 
 const USAGE: &str =
-    "usage: overlay_bench find|walk|walk16|insert|list|create|create1k|create100k|whiteout|whiteout1k|whiteout100k|parents COUNT";
+    "usage: overlay_bench find|walk|walk16|insert|list|create|create1k|create100k|whiteout|whiteout1k|whiteout100k|parents\
+    |collide|others|collide_fixed|others_fixed COUNT";
 
 // What the command line asks for.
 fn asked<R: Env + AllocGlobal>(rt: &R) -> io::Result<Option<(Load, u32)>> {
@@ -32,16 +35,16 @@ fn asked<R: Env + AllocGlobal>(rt: &R) -> io::Result<Option<(Load, u32)>> {
     }
 }
 
-fn run<R: Env + AllocGlobal + Clock + Print>(rt: &R) -> io::Result<()> {
+fn run<R: Env + AllocGlobal + Clock + Print>(rt: &R, keys: RandomState) -> io::Result<()> {
     let Some((load, count)) = asked(rt)? else {
         return println!(rt; "{USAGE}");
     };
     let alloc: Global = rt.alloc();
-    let (nanos, operations) = measure(rt, alloc, load, count)?;
+    let (nanos, operations) = measure(rt, alloc, keys, load, count)?;
     let each = nanos / u64::from(operations.max(1));
     println!(rt; "{each} ns an operation, {operations} operations")
 }
 
 fn main(rt: HostRuntime) -> io::Result<()> {
-    run(&rt)
+    run(&rt, RandomState::new(&rt)?)
 }

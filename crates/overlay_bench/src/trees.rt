@@ -2,6 +2,7 @@
 use layer_tree::{Layer, Marks, Object, ROOT};
 use ov_base::{Attributes, Bytes, Content, Name, Path, UserAttributes};
 use std::alloc::{AllocError, Global};
+use std::hash::RandomState;
 
 /// How many objects a measured layer holds, or how many names a measured directory has.
 pub const OBJECTS: usize = 10_000;
@@ -24,9 +25,9 @@ pub fn name_of(alloc: Global, number: usize) -> Result<Name, AllocError> {
     }
 }
 
-/// A layer of only the root.
-pub fn bare_layer(alloc: Global) -> Result<Layer, AllocError> {
-    Layer::new(alloc, attributes(alloc, 0o755))
+/// A layer of only the root, which hashes names with these keys, as do all that are made of it.
+pub fn bare_layer(alloc: Global, keys: RandomState) -> Result<Layer, AllocError> {
+    Layer::new(alloc, keys, attributes(alloc, 0o755))
 }
 
 /// Puts an empty file at a name of the root, unless the name is taken.
@@ -71,8 +72,8 @@ fn put_directory(
 }
 
 /// A layer with one directory of so many empty files, `/n0` to the last number.
-pub fn flat_layer(alloc: Global, files: usize) -> Result<Layer, AllocError> {
-    let mut layer = bare_layer(alloc)?;
+pub fn flat_layer(alloc: Global, keys: RandomState, files: usize) -> Result<Layer, AllocError> {
+    let mut layer = bare_layer(alloc, keys)?;
     for number in 0..files {
         put_file(alloc, &mut layer, ROOT, name_of(alloc, number)?)?;
     }
@@ -80,8 +81,8 @@ pub fn flat_layer(alloc: Global, files: usize) -> Result<Layer, AllocError> {
 }
 
 /// A layer of `OBJECTS` objects whose last three directories lead to `/n1/n2/n3/n4`.
-pub fn deep_layer(alloc: Global) -> Result<Layer, AllocError> {
-    let mut layer = bare_layer(alloc)?;
+pub fn deep_layer(alloc: Global, keys: RandomState) -> Result<Layer, AllocError> {
+    let mut layer = bare_layer(alloc, keys)?;
     let mut dir = ROOT;
     for depth in 1..4 {
         dir = put_directory(alloc, &mut layer, dir, name_of(alloc, depth)?)?;
@@ -93,8 +94,8 @@ pub fn deep_layer(alloc: Global) -> Result<Layer, AllocError> {
 }
 
 /// A layer of so many chains of four directories, `/n0/n1/n2/n3` and on.
-pub fn chained_layer(alloc: Global, chains: usize) -> Result<Layer, AllocError> {
-    let mut layer = bare_layer(alloc)?;
+pub fn chained_layer(alloc: Global, keys: RandomState, chains: usize) -> Result<Layer, AllocError> {
+    let mut layer = bare_layer(alloc, keys)?;
     for number in 0..chains {
         let mut dir = put_directory(alloc, &mut layer, ROOT, name_of(alloc, number)?)?;
         dir = put_directory(alloc, &mut layer, dir, name_of(alloc, 1)?)?;

@@ -2,6 +2,7 @@
 #![tactic(auto)]
 
 use ov_server::{Fault, Invocation, command_line, play_run, show_run};
+use std::hash::RandomState;
 use std::io::{self, BufWriter};
 use std::process::ExitCode;
 use std::{env, fs};
@@ -15,9 +16,11 @@ fn main(rt: HostRuntime) -> ExitCode {
 
 fn run(rt: &HostRuntime) -> Result<(), Fault> {
     let words = words(rt)?;
-    match command_line(rt.alloc(), words.as_slice())? {
-        Invocation::Show { manifest } => show(rt, manifest),
-        Invocation::Play { manifest } => play(rt, manifest),
+    let invocation = command_line(rt.alloc(), words.as_slice())?;
+    let keys = RandomState::new(rt)?;
+    match invocation {
+        Invocation::Show { manifest } => show(rt, keys, manifest),
+        Invocation::Play { manifest } => play(rt, keys, manifest),
     }
 }
 
@@ -30,17 +33,18 @@ fn words(rt: &HostRuntime) -> Result<Vec<String>, Fault> {
     }
 }
 
-fn show(rt: &HostRuntime, manifest: &str) -> Result<(), Fault> {
+fn show(rt: &HostRuntime, keys: RandomState, manifest: &str) -> Result<(), Fault> {
     let manifest = bytes_of(rt, manifest)?;
     let mut writer = BufWriter::new(rt.alloc(), io::writer(rt))?;
-    show_run(rt.alloc(), manifest.as_slice(), &mut writer)
+    show_run(rt.alloc(), keys, manifest.as_slice(), &mut writer)
 }
 
-fn play(rt: &HostRuntime, manifest: &str) -> Result<(), Fault> {
+fn play(rt: &HostRuntime, keys: RandomState, manifest: &str) -> Result<(), Fault> {
     let manifest = bytes_of(rt, manifest)?;
     let mut writer = BufWriter::new(rt.alloc(), io::writer(rt))?;
     play_run(
         rt.alloc(),
+        keys,
         manifest.as_slice(),
         &mut rt.reader(),
         &mut writer,

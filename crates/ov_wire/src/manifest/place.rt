@@ -16,11 +16,13 @@ use super::fault::{EntryError, EntryFault, ManifestFault};
 use layer_tree::{Entry, Layer, Object, ROOT};
 use ov_base::{Attributes, Name, Path};
 use std::alloc::{AllocError, Global};
+use std::hash::RandomState;
 use toml::{Table, Value};
 
 // The layer of these entries. `index` is its place among the layers, for the fault.
 pub(super) fn read_layer(
     alloc: Global,
+    keys: RandomState,
     index: usize,
     entries: &[Value],
 ) -> Result<Layer, ManifestFault>
@@ -28,7 +30,7 @@ pub(super) fn read_layer(
     ensures layer { IfOk result (λ layer. IsLayer (layer_of layer)) }
     ensures reads { ReadsLayer index (items_view entries.now) result }
 {
-    let mut layer = Layer::new(alloc, root_attributes(alloc, entries))?;
+    let mut layer = Layer::new(alloc, keys, root_attributes(alloc, entries))?;
     let mut root_is_set = false;
     for (number, entry) in entries.iter().enumerate() {
         match read_entry(alloc, &mut layer, root_is_set, entry) {

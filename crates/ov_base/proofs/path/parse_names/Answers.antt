@@ -1,4 +1,4 @@
-use Rattle.std.proofs.Common.{◌≡◌, ◌+◌, ◌∷◌, [], List, ℕ, take, drop, Ok, sym, ap, ◌∙◌, refl}
+use Rattle.std.proofs.Common.{◌+◌, [], List, ℕ, take, drop, sym, ap, ◌∙◌}
 use Rattle.ov_base.specs.Paths.{pieces, path_below}
 use Rattle.ov_base.proofs.PathLemmas.{pieces-none, pieces-first, below-next, below-Err}
 use Rattle.std.proofs.lemmas.List.{take_rest}

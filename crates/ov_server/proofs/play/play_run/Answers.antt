@@ -10,3 +10,7 @@ returns-in_err-layers-clause-manifest g c =
 pub returns-in_err-flush-clause-manifest : goal.returns-in_err-flush-clause-manifest
 returns-in_err-flush-clause-manifest g c =
     refuses_nothing c.args.manifest.now c.in_ok-layers.layers _ c.in_ok-layers.ensures.manifest
+
+pub returns-clause-manifest : goal.returns-clause-manifest
+returns-clause-manifest g c =
+    refuses_nothing c.args.manifest.now c.in_ok-layers.layers c.play-outcome.result c.in_ok-layers.ensures.manifest
