@@ -1,5 +1,8 @@
 mod Tables
 mod Placing
 mod Planting
+mod Said
 mod RootEntries
+mod PathTexts
+mod WithinLimits
 mod Reading

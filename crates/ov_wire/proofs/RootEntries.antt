@@ -1,6 +1,6 @@
 -- The attributes that the entry at `/` gives, where no entry is at fault.
 use Rattle.std.proofs.Common.{◌≡◌, ◌≢◌, inl, inr, codes, ℕ, suc, ◌+◌, Bool, true, false, not, ◌&&◌, List, [], ◌∷◌, length, Option, Some, None, is_some, Result, Ok, Err, cond, nat_eq, nat_lt, position, drop, take, refl, sym, ap, subst, ◌∙◌, true≢false, eqb-true}
-use Rattle.std.specs.Option.{option_and_then, option_map_or, ok_or, unwrap_or}
+use Rattle.std.specs.Option.{option_and_then, option_map_or, unwrap_or}
 use Rattle.std.specs.Result.{result_ok}
 use Rattle.std.specs.Str.{bytes_eq}
 use Rattle.std.proofs.lemmas.Bool.{cases_Bool}
@@ -14,73 +14,17 @@ use Rattle.ov_base.proofs.PathLemmas.{pieces-whole, pieces-first}
 use Rattle.plain_model.specs.Layers.{Name, Path}
 use Rattle.plain_model.proofs.Paths.{names_tell}
 use Rattle.layer_tree.specs.declared.node.Object.TheVariants as object
-use Rattle.ov_wire.specs.ManifestEntries.{and_then, text_at, kind_named, kind_of, path_of, attributes_of, marks_of, bytes_of, target_of, item_of, checked, read}
+use Rattle.ov_wire.specs.ManifestEntries.{text_at, kind_named, kind_of, path_of, attributes_of, marks_of, bytes_of, target_of, item_of}
 use Rattle.ov_wire.specs.ManifestLayers.{Entry, put_at, is_directory, has_directory, with_entry, with_spelled, numbered, entries_from, root_of}
 use Rattle.ov_wire.specs.Drafts.{is_text_at, root_given, first_root}
 use Rattle.ov_wire.proofs.Placing.{none-of}
+use Rattle.ov_wire.proofs.Said.{ok, then-ok, ok_or-ok, result_ok-some, says, unnumbered}
 use Rattle.ov_wire.specs.declared.manifest.entry.EntryKind.{EntryKind}
 use Rattle.ov_wire.specs.declared.manifest.entry.EntryKind.TheVariants as kind
 use Rattle.ov_wire.specs.declared.manifest.entry.Item.{Item}
 use Rattle.ov_wire.specs.declared.manifest.entry.Item.TheVariants as put
 use Rattle.ov_wire.specs.declared.manifest.fault.EntryFault.{EntryFault}
 use Rattle.ov_wire.specs.declared.manifest.fault.EntryFault.TheVariants as fault
-
-abbrev ok : {T : Type 0} → T → Result T EntryFault
-ok x = Ok x
-
--- what a chain of two gave came through both
-then-ok : {T U E : Type 0} (r : Result T E) (f : T → Result U E) (y : U) → and_then r f ≡ Ok y → (x : T) × (r ≡ Ok x) × (f x ≡ Ok y)
-then-ok (Ok x) f y e = (x, refl, e)
-then-ok (Err e) f y h = absurd (cc)
-
--- a value in place of none
-ok_or-ok : {T E : Type 0} (o : Option T) (e : E) (x : T) → ok_or o e ≡ Ok x → o ≡ Some x
-ok_or-ok None e x h = absurd (cc)
-ok_or-ok (Some y) e x h = cc
-
-result_ok-some : {T E : Type 0} (r : Result T E) (x : T) → result_ok r ≡ Some x → r ≡ Ok x
-result_ok-some (Ok y) x h = cc
-result_ok-some (Err e) x h = absurd (cc)
-
-bound : {A B : Type 0} (f : A → Option B) (o : Option A) (y : B) → option_and_then f o ≡ Some y → (x : A) × (o ≡ Some x) × (f x ≡ Some y)
-bound f None y e = absurd (cc)
-bound f (Some x) y e = (x, refl, e)
-
--- an entry that is not at fault: its table, its kind, its path and what it puts there
-record Says (before : List Entry) (d : Data) (after : List Entry) : Type 0 where
-  table : Members
-  k : EntryKind
-  path : Path
-  puts : Item
-  is_table : as_table d ≡ Some table
-  is_kind : kind_of table ≡ Ok k
-  is_path : path_of table ≡ Ok path
-  is_item : item_of k table ≡ Ok puts
-  is_placed : with_entry before path puts ≡ Ok after
-
-says : (before : List Entry) (d : Data) (after : List Entry) → with_spelled before d ≡ Ok after → Says before d after
-says before d after h =
-    let m = then-ok (ok_or (as_table d) fault.Kind) _ after h in
-    let e = then-ok (read m.0) _ after m.2 in
-    let k = then-ok (kind_of m.0) _ e.0 e.1 in
-    let p = then-ok (path_of m.0) _ e.0 k.2 in
-    let c = then-ok (checked k.0 p.0 m.0) _ e.0 p.2 in
-    let i = then-ok (item_of k.0 m.0) _ e.0 c.2 in
-    let pair : (p.0, i.0) ≡ e.0 = unwrap _ _ i.2 in
-    record {
-      table = m.0;
-      k = k.0;
-      path = p.0;
-      puts = i.0;
-      is_table = ok_or-ok (as_table d) fault.Kind m.0 m.1;
-      is_kind = k.1;
-      is_path = p.1;
-      is_item = i.1;
-      is_placed = subst (λ (x : Path × Item). with_entry before x.0 x.1 ≡ Ok after) (sym pair) e.2;
-    }
-  where
-    unwrap : (x y : Path × Item) → ok x ≡ Ok y → x ≡ y
-    unwrap x y e = cc
 
 -- a path of names is not the root
 below-not-root : (n : Name) (p pieces : List Name) → path_below (n ∷ p) pieces ≢ Ok []
@@ -209,10 +153,6 @@ placed-below before n p i after h = of (has_directory before p) (is_some (put_at
     of true false h = let same : (n ∷ p, i) ∷ before ≡ after = cc in ap (λ (es : List Entry). put_at es []) (sym same)
     of true true h = absurd (cc)
     of false s h = absurd (cc)
-
-unnumbered : {T : Type 0} (number : ℕ) (r : Result T EntryFault) (x : T) → numbered number r ≡ Ok x → r ≡ Ok x
-unnumbered number (Ok y) x e = cc
-unnumbered number (Err f) x e = absurd (cc)
 
 -- what is put at `/` stays so
 keeps-root : (number : ℕ) (before : List Entry) (items : Items) (final : List Entry) → entries_from number before items ≡ Ok final → (i : Item) → put_at before [] ≡ Some i → put_at final [] ≡ Some i

@@ -1,11 +1,12 @@
 // Manifests: the layers and options of a mount, as TOML.
-ghost use Rattle.std.specs.Prelude.{◌≡◌, ◌≢◌, ◌<◌, ◌≤◌, Ok, Err, IsOk, IsSome, ◌∷◌, map, length, IfOk, IfErr, IfSome, Some, None, option_map, string_bytes, IsUtf8};
+ghost use Rattle.std.specs.Prelude.{◌≡◌, ◌≢◌, ◌<◌, ◌≤◌, Ok, Err, IsOk, IsSome, ◌∷◌, map, length, IfOk, IfErr, IfSome, Some, None, option_map, string_bytes, IsUtf8, All};
 ghost use Rattle.std.specs.List.{list_all};
 ghost use Rattle.std.specs.Vec.{vec_len};
 ghost use Rattle.toml.specs.Data.{Members, item};
 ghost use Rattle.toml.specs.Parse.{parse_document};
 ghost use Rattle.toml.specs.View.{view, table_view, items_view};
 ghost use Rattle.plain_model.specs.Layers.{AreLayers};
+ghost use Rattle.plain_model.specs.Limits.{IsWithinLimits, HasShortPaths};
 ghost use Rattle.layer_tree.specs.Tree.{layer_of};
 ghost use Rattle.ov_wire.specs.Manifests.{IsOfEntry, Refuses};
 ghost use Rattle.ov_wire.specs.ManifestLayers as layers;
@@ -51,6 +52,8 @@ pub fn manifest_of(
     ensures options { IfOk result (λ r. option_map layers.manifest_of (parse_document bytes.now) ≡ Some (Ok r.2)) }
     ensures spelled { IfOk result (λ r. IfSome (parse_document bytes.now) (λ m. AreSpelled (layer_of r.0 ∷ map layer_of r.1.items) (layer_items m))) }
     ensures layers { IfOk result (λ r. AreLayers (layer_of r.0 ∷ map layer_of r.1.items)) }
+    ensures limits { IfOk result (λ r. All IsWithinLimits (layer_of r.0 ∷ map layer_of r.1.items)) }
+    ensures short_paths { IfOk result (λ r. All HasShortPaths (layer_of r.0 ∷ map layer_of r.1.items)) }
     ensures some_lower { IfOk result (λ r. 0 < vec_len r.1) }
     ensures few_lowers { IfOk result (λ r. vec_len r.1 ≤ 16) }
 {
@@ -80,6 +83,8 @@ pub fn layers_of(
     ensures options { IfOk result (λ r. layers.manifest_of (table_view manifest.now) ≡ Ok r.2) }
     ensures spelled { IfOk result (λ r. AreSpelled (layer_of r.0 ∷ map layer_of r.1.items) (layer_items (table_view manifest.now))) }
     ensures layers { IfOk result (λ r. AreLayers (layer_of r.0 ∷ map layer_of r.1.items)) }
+    ensures limits { IfOk result (λ r. All IsWithinLimits (layer_of r.0 ∷ map layer_of r.1.items)) }
+    ensures short_paths { IfOk result (λ r. All HasShortPaths (layer_of r.0 ∷ map layer_of r.1.items)) }
     ensures some_lower { IfOk result (λ r. 0 < vec_len r.1) }
     ensures few_lowers { IfOk result (λ r. vec_len r.1 ≤ 16) }
 {

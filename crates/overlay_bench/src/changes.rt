@@ -1,7 +1,8 @@
-// The loads that change layers.
-use crate::loads::{layered, since};
-use crate::trees::{bare_layer, chained_layer, flat_layer, name_of};
-use layer_tree::Layer;
+// Loads of changes, each with its walk.
+use crate::loads::since;
+use crate::manifests::child;
+use crate::mounts::{layers_of, path_of};
+use crate::trees::{chained, flat};
 use make_remove::{create, mkdir, unlink};
 use merged_lookup::Layers;
 use ov_base::Path;
@@ -16,16 +17,11 @@ pub fn measure_create<C: Clock>(
     clock: &C,
     alloc: Global,
     keys: RandomState,
-    names: usize,
+    names: u32,
     count: u32,
 ) -> io::Result<(u64, u32)> {
-    let mut layers = over(
-        alloc,
-        flat_layer(alloc, keys, names)?,
-        bare_layer(alloc, keys)?,
-    )?;
-    let mut path = Path::root(alloc);
-    path.push(name_of(alloc, names)?)?;
+    let mut layers = layers_of(alloc, keys, &flat(alloc, names, true)?)?;
+    let path = path_of(alloc, child(alloc, "", "none-", 0)?.as_str())?;
     let start = Instant::now(clock)?;
     let done = create_often(alloc, &mut layers, &path, count)?;
     Ok((since(clock, start)?, done))
@@ -51,23 +47,24 @@ pub fn measure_whiteout<C: Clock>(
     clock: &C,
     alloc: Global,
     keys: RandomState,
-    names: usize,
+    names: u32,
     count: u32,
 ) -> io::Result<(u64, u32)> {
-    let mut layers = over(
-        alloc,
-        bare_layer(alloc, keys)?,
-        flat_layer(alloc, keys, names)?,
-    )?;
-    let mut paths = Vec::new(alloc);
-    for number in 0..(count as usize).min(names) {
-        let mut path = Path::root(alloc);
-        path.push(name_of(alloc, number)?)?;
-        paths.push(path)?;
-    }
+    let mut layers = layers_of(alloc, keys, &flat(alloc, names, false)?)?;
+    let paths = paths_in(alloc, "", "name-", count.min(names))?;
     let start = Instant::now(clock)?;
     let done = unlink_all(&mut layers, &paths)?;
     Ok((since(clock, start)?, done))
+}
+
+// So many paths in a directory.
+fn paths_in(alloc: Global, parent: &str, first: &str, count: u32) -> Result<Vec<Path>, AllocError> {
+    let mut paths = Vec::new(alloc);
+    for number in 0..count {
+        let text = child(alloc, parent, first, number)?;
+        paths.push(path_of(alloc, text.as_str())?)?;
+    }
+    Ok(paths)
 }
 
 fn unlink_all(layers: &mut Layers, paths: &[Path]) -> Result<u32, AllocError> {
@@ -87,28 +84,24 @@ pub fn measure_parents<C: Clock>(
     keys: RandomState,
     count: u32,
 ) -> io::Result<(u64, u32)> {
-    let mut layers = over(
-        alloc,
-        bare_layer(alloc, keys)?,
-        chained_layer(alloc, keys, count as usize)?,
-    )?;
-    let mut paths = Vec::new(alloc);
-    for number in 0..count as usize {
-        paths.push(chain_path(alloc, number)?)?;
-    }
+    let mut layers = layers_of(alloc, keys, &chained(alloc, count)?)?;
+    let paths = chain_paths(alloc, count)?;
     let start = Instant::now(clock)?;
     let done = make_all(alloc, &mut layers, &paths)?;
     Ok((since(clock, start)?, done))
 }
 
-// The path of a new directory below the four of a chain.
-fn chain_path(alloc: Global, number: usize) -> Result<Path, AllocError> {
-    let mut path = Path::root(alloc);
-    path.push(name_of(alloc, number)?)?;
-    for depth in 1..5 {
-        path.push(name_of(alloc, depth)?)?;
+// The paths of new directories below the four of each chain.
+fn chain_paths(alloc: Global, chains: u32) -> Result<Vec<Path>, AllocError> {
+    let mut paths = Vec::new(alloc);
+    for number in 0..chains {
+        let first = child(alloc, "", "dirs-", number)?;
+        let text = format!(in alloc;
+            "{first}/dirs-0000001/dirs-0000002/dirs-0000003/none-0000000"
+        )?;
+        paths.push(path_of(alloc, text.as_str())?)?;
     }
-    Ok(path)
+    Ok(paths)
 }
 
 fn make_all(alloc: Global, layers: &mut Layers, paths: &[Path]) -> Result<u32, AllocError> {
@@ -119,11 +112,4 @@ fn make_all(alloc: Global, layers: &mut Layers, paths: &[Path]) -> Result<u32, A
         }
     }
     Ok(done)
-}
-
-// One layer over another.
-fn over(alloc: Global, upper: Layer, lower: Layer) -> Result<Layers, AllocError> {
-    let mut lowers = Vec::with_capacity(alloc, 1)?;
-    lowers.push(lower)?;
-    layered(upper, lowers)
 }

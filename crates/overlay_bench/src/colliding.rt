@@ -1,6 +1,8 @@
 // Names that collide under a hash of fixed keys, and others.
-use crate::loads::{insert_all, since};
-use crate::trees::bare_layer;
+use crate::loads::since;
+use crate::mounts::layers_of;
+use crate::parts::insert_all;
+use crate::trees::bare;
 use indexmap::IndexMap;
 use ov_base::Name;
 use std::alloc::{AllocError, Global};
@@ -16,14 +18,20 @@ const COLLIDING_END: [u8; 8] = [0x15, 0x7c, 0x4a, 0x7f, 0xb9, 0x79, 0x37, 0x9e];
 /// The last bytes of names that nothing makes collide.
 const OTHER_END: [u8; 8] = *b".regular";
 
-/// So many names of 16 bytes that all have the same hash under `FoldHasher`, whose keys are fixed.
-pub fn colliding_names(alloc: Global, count: u32) -> Result<Vec<Name>, AllocError> {
-    names_with(alloc, count, &COLLIDING_END)
+/// So many names of 16 bytes.
+#[derive(Clone, Copy)]
+pub enum Names {
+    /// All have the same hash under `FoldHasher`, whose keys are fixed.
+    Colliding,
+    /// Nothing makes them collide.
+    Others,
 }
 
-/// So many names of 16 bytes that nothing makes collide.
-pub fn other_names(alloc: Global, count: u32) -> Result<Vec<Name>, AllocError> {
-    names_with(alloc, count, &OTHER_END)
+fn all_of(alloc: Global, names: Names, count: u32) -> Result<Vec<Name>, AllocError> {
+    match names {
+        Names::Colliding => names_with(alloc, count, &COLLIDING_END),
+        Names::Others => names_with(alloc, count, &OTHER_END),
+    }
 }
 
 // So many names, each the digits of its number and these bytes.
@@ -42,24 +50,32 @@ fn name_with(alloc: Global, number: u32, end: &[u8; 8]) -> Result<Name, AllocErr
     Name::parse(bytes.as_slice()).map_err(|_| AllocError)
 }
 
-/// The nanoseconds that these names took into one directory of a layer, and how many they were.
+/// The nanoseconds that so many names took into one directory of a layer, and how many they were.
 pub fn measure_directory<C: Clock>(
     clock: &C,
     alloc: Global,
     keys: RandomState,
-    names: &[Name],
+    names: Names,
+    count: u32,
 ) -> io::Result<(u64, u32)> {
-    let mut layer = bare_layer(alloc, keys)?;
+    let all = all_of(alloc, names, count)?;
+    let mut layers = layers_of(alloc, keys, &bare(alloc)?)?;
     let start = Instant::now(clock)?;
-    let done = insert_all(alloc, &mut layer, names)?;
+    let done = insert_all(alloc, &mut layers.upper, &all)?;
     Ok((since(clock, start)?, done))
 }
 
 /// The same for a table of fixed keys alone, in which colliding names are sought among one another.
-pub fn measure_fixed<C: Clock>(clock: &C, alloc: Global, names: &[Name]) -> io::Result<(u64, u32)> {
+pub fn measure_fixed<C: Clock>(
+    clock: &C,
+    alloc: Global,
+    names: Names,
+    count: u32,
+) -> io::Result<(u64, u32)> {
+    let all = all_of(alloc, names, count)?;
     let mut table = IndexMap::new(alloc);
     let start = Instant::now(clock)?;
-    let done = insert_fixed(&mut table, names)?;
+    let done = insert_fixed(&mut table, &all)?;
     Ok((since(clock, start)?, done))
 }
 

@@ -1,12 +1,12 @@
-// The loads, each timed by the monotonic clock.
+// The loads by their names, each timed by the monotonic clock.
+use crate::calls::{Series, measure_list, measure_stat, measure_symlink};
 use crate::changes::{measure_create, measure_parents, measure_whiteout};
-use crate::colliding::{colliding_names, measure_directory, measure_fixed, other_names};
-use crate::trees::{OBJECTS, bare_layer, deep_layer, deep_path, flat_layer, name_of, put_file};
-use dir_listing::names;
-use layer_tree::{Layer, ROOT};
-use merged_lookup::{LAYERS_MAX, Layers};
-use ov_base::{Name, Path};
-use std::alloc::{AllocError, Global};
+use crate::colliding::{Names, measure_directory, measure_fixed};
+use crate::manifests::nested;
+use crate::parts::{measure_find, measure_insert, measure_names, measure_walk};
+use crate::redirects::{DEPTH, Shape, redirected};
+use crate::trees::{DIRECTORIES, FILES, MERGED, OBJECTS, WIDE, served};
+use std::alloc::Global;
 use std::hash::RandomState;
 use std::io;
 use std::rt::Clock;
@@ -18,36 +18,55 @@ pub enum Load {
     /// A path of four names in one layer of 10,000 objects.
     Find,
     /// The same path over so many layers.
-    Walk(usize),
+    Walk(u32),
     /// So many names into one directory.
     Insert,
     /// The names of a directory of 10,000, over two layers.
-    List,
+    Names,
     /// A name made and removed in a directory of so many names.
-    Create(usize),
+    Create(u32),
     /// A lower name removed in a directory of so many names.
-    Whiteout(usize),
+    Whiteout(u32),
     /// A directory made below four that only a lower layer has.
     Parents,
-    /// So many names into one directory that would collide under fixed keys.
-    Collide,
-    /// As many other names of the same lengths.
-    Others,
-    /// The names of `Collide` into a table of fixed keys.
-    CollideFixed,
-    /// The names of `Others` into a table of fixed keys.
-    OthersFixed,
+    /// So many names into one directory, by the system's keys.
+    Directory(Names),
+    /// The same names into a table of fixed keys.
+    Fixed(Names),
+    /// A call of a client on a mount of so many lower layers.
+    Called(Called, u32),
+    /// `stat` below nested directories with redirects, of the file there or of a name that isn't.
+    Redirected(Shape, bool),
+}
+
+/// What a client calls.
+#[derive(Clone, Copy)]
+pub enum Called {
+    /// `stat` of one file at depth 4.
+    Stat,
+    /// `stat` of 256 files in turn.
+    StatMany,
+    /// `stat` of one name that isn't there.
+    Absent,
+    /// `stat` of names that aren't there, each another one.
+    AbsentNew,
+    /// Opening, listing and closing a directory of 256 names, part of them from each lower layer.
+    List,
+    /// The same of 10,000 names of the lowest layer.
+    ListWide,
+    /// A symbolic link made and removed at depth 4.
+    Symlink,
 }
 
 impl Load {
-    /// The load of a word of the command line.
-    pub fn named(word: &str) -> Option<Load> {
+    /// The load of a word of the command line, for calls over so many lower layers.
+    pub fn named(word: &str, lowers: u32) -> Option<Load> {
         match word {
             "find" => Some(Load::Find),
             "walk" => Some(Load::Walk(2)),
             "walk16" => Some(Load::Walk(16)),
             "insert" => Some(Load::Insert),
-            "list" => Some(Load::List),
+            "names" => Some(Load::Names),
             "create1k" => Some(Load::Create(1_000)),
             "create" => Some(Load::Create(OBJECTS)),
             "create100k" => Some(Load::Create(100_000)),
@@ -55,12 +74,39 @@ impl Load {
             "whiteout" => Some(Load::Whiteout(OBJECTS)),
             "whiteout100k" => Some(Load::Whiteout(100_000)),
             "parents" => Some(Load::Parents),
-            "collide" => Some(Load::Collide),
-            "others" => Some(Load::Others),
-            "collide_fixed" => Some(Load::CollideFixed),
-            "others_fixed" => Some(Load::OthersFixed),
-            _ => None,
+            "collide" => Some(Load::Directory(Names::Colliding)),
+            "others" => Some(Load::Directory(Names::Others)),
+            "collide_fixed" => Some(Load::Fixed(Names::Colliding)),
+            "others_fixed" => Some(Load::Fixed(Names::Others)),
+            _ => match redirect_named(word) {
+                Some(load) => Some(load),
+                None => Some(Load::Called(call_named(word)?, lowers)),
+            },
         }
+    }
+}
+
+fn call_named(word: &str) -> Option<Called> {
+    match word {
+        "stat" => Some(Called::Stat),
+        "stat_many" => Some(Called::StatMany),
+        "absent" => Some(Called::Absent),
+        "absent_new" => Some(Called::AbsentNew),
+        "list" => Some(Called::List),
+        "list_10k" => Some(Called::ListWide),
+        "symlink" => Some(Called::Symlink),
+        _ => None,
+    }
+}
+
+fn redirect_named(word: &str) -> Option<Load> {
+    match word {
+        "chains" => Some(Load::Redirected(Shape::Through, true)),
+        "chains_absent" => Some(Load::Redirected(Shape::Through, false)),
+        "chains_past" => Some(Load::Redirected(Shape::Past, true)),
+        "chains_single" => Some(Load::Redirected(Shape::Single, true)),
+        "chains_longer" => Some(Load::Redirected(Shape::Longer, true)),
+        _ => None,
     }
 }
 
@@ -73,110 +119,77 @@ pub fn measure<C: Clock>(
     count: u32,
 ) -> io::Result<(u64, u32)> {
     match load {
-        Load::Find => {
-            let layer = deep_layer(alloc, keys)?;
-            let path = deep_path(alloc)?;
-            let start = Instant::now(clock)?;
-            let found = find_often(&layer, &path, count);
-            Ok((since(clock, start)?, found))
-        }
-        Load::Walk(layers) => {
-            let layers = stacked(alloc, keys, layers)?;
-            let path = deep_path(alloc)?;
-            let start = Instant::now(clock)?;
-            let found = walk_often(&layers, &path, count);
-            Ok((since(clock, start)?, found))
-        }
-        Load::Insert => measure_directory(clock, alloc, keys, &numbered(alloc, count)?),
-        Load::List => {
-            let layers = pair(alloc, keys, flat_layer(alloc, keys, OBJECTS)?)?;
-            let start = Instant::now(clock)?;
-            let listed = list_often(alloc, &layers, count)?;
-            Ok((since(clock, start)?, listed))
-        }
+        Load::Find => measure_find(clock, alloc, keys, count),
+        Load::Walk(layers) => measure_walk(clock, alloc, keys, layers, count),
+        Load::Insert => measure_insert(clock, alloc, keys, count),
+        Load::Names => measure_names(clock, alloc, keys, OBJECTS, count),
         Load::Create(names) => measure_create(clock, alloc, keys, names, count),
         Load::Whiteout(names) => measure_whiteout(clock, alloc, keys, names, count),
         Load::Parents => measure_parents(clock, alloc, keys, count),
-        Load::Collide => measure_directory(clock, alloc, keys, &colliding_names(alloc, count)?),
-        Load::Others => measure_directory(clock, alloc, keys, &other_names(alloc, count)?),
-        Load::CollideFixed => measure_fixed(clock, alloc, &colliding_names(alloc, count)?),
-        Load::OthersFixed => measure_fixed(clock, alloc, &other_names(alloc, count)?),
+        Load::Directory(names) => measure_directory(clock, alloc, keys, names, count),
+        Load::Fixed(names) => measure_fixed(clock, alloc, names, count),
+        Load::Called(called, lowers) => measure_call(clock, alloc, keys, called, lowers, count),
+        Load::Redirected(shape, found) => measure_redirected(
+            clock, alloc, keys, shape, found, count,
+        ),
     }
+}
+
+// A call of a client on a mount of so many lower layers.
+fn measure_call<C: Clock>(
+    clock: &C,
+    alloc: Global,
+    keys: RandomState,
+    called: Called,
+    lowers: u32,
+    count: u32,
+) -> io::Result<(u64, u32)> {
+    let manifest = served(alloc, lowers)?;
+    let parent = nested(alloc, DIRECTORIES)?;
+    let (first, names) = match called {
+        Called::List => return measure_list(clock, alloc, keys, &manifest, MERGED, count),
+        Called::ListWide => return measure_list(clock, alloc, keys, &manifest, WIDE, count),
+        Called::Symlink => return measure_symlink(
+            clock,
+            alloc,
+            keys,
+            &manifest,
+            parent.as_str(),
+            count,
+        ),
+        Called::Stat => ("name-", 1),
+        Called::StatMany => ("name-", FILES),
+        Called::Absent => ("none-", 1),
+        Called::AbsentNew => ("none-", u32::MAX),
+    };
+    let series = Series {
+        parent: parent.as_str(),
+        first,
+        names,
+    };
+    measure_stat(clock, alloc, keys, &manifest, series, count)
+}
+
+// `stat` below nested directories with redirects.
+fn measure_redirected<C: Clock>(
+    clock: &C,
+    alloc: Global,
+    keys: RandomState,
+    shape: Shape,
+    found: bool,
+    count: u32,
+) -> io::Result<(u64, u32)> {
+    let manifest = redirected(alloc, shape)?;
+    let parent = nested(alloc, DEPTH)?;
+    let series = Series {
+        parent: parent.as_str(),
+        first: if found { "name-" } else { "none-" },
+        names: 1,
+    };
+    measure_stat(clock, alloc, keys, &manifest, series, count)
 }
 
 /// The nanoseconds since a moment.
 pub fn since<C: Clock>(clock: &C, start: Instant) -> io::Result<u64> {
     Ok(u64::try_from(start.elapsed(clock)?.as_nanos()).unwrap_or(u64::MAX))
-}
-
-fn find_often(layer: &Layer, path: &Path, count: u32) -> u32 {
-    let mut found = 0u32;
-    for _ in 0..count {
-        if layer.find(path).is_some() {
-            found = found.saturating_add(1);
-        }
-    }
-    found
-}
-
-fn walk_often(layers: &Layers, path: &Path, count: u32) -> u32 {
-    let mut found = 0u32;
-    for _ in 0..count {
-        if layers.walk(path).is_ok() {
-            found = found.saturating_add(1);
-        }
-    }
-    found
-}
-
-fn numbered(alloc: Global, count: u32) -> Result<Vec<Name>, AllocError> {
-    let mut all = Vec::new(alloc);
-    for number in 0..count as usize {
-        all.push(name_of(alloc, number)?)?;
-    }
-    Ok(all)
-}
-
-/// Puts empty files at these names of the root.
-pub fn insert_all(alloc: Global, layer: &mut Layer, all: &[Name]) -> Result<u32, AllocError> {
-    let mut done = 0u32;
-    for name in all {
-        put_file(alloc, layer, ROOT, *name)?;
-        done = done.saturating_add(1);
-    }
-    Ok(done)
-}
-
-fn list_often(alloc: Global, layers: &Layers, count: u32) -> Result<u32, AllocError> {
-    let mut listed = 0u32;
-    for _ in 0..count {
-        if !names(alloc, layers, &layers.root())?.is_empty() {
-            listed = listed.saturating_add(1);
-        }
-    }
-    Ok(listed)
-}
-
-// An empty upper over one lower layer.
-fn pair(alloc: Global, keys: RandomState, lower: Layer) -> Result<Layers, AllocError> {
-    let mut lowers = Vec::with_capacity(alloc, 1)?;
-    lowers.push(lower)?;
-    layered(bare_layer(alloc, keys)?, lowers)
-}
-
-// So many layers, each with the deep path.
-fn stacked(alloc: Global, keys: RandomState, count: usize) -> Result<Layers, AllocError> {
-    let mut lowers = Vec::new(alloc);
-    for _ in 1..count {
-        lowers.push(deep_layer(alloc, keys)?)?;
-    }
-    layered(deep_layer(alloc, keys)?, lowers)
-}
-
-/// An upper layer over 1 to 16 lower ones; other numbers are answered as want of memory is.
-pub fn layered(upper: Layer, lowers: Vec<Layer>) -> Result<Layers, AllocError> {
-    if lowers.is_empty() || lowers.len() >= LAYERS_MAX {
-        return Err(AllocError);
-    }
-    Ok(Layers::new(upper, lowers))
 }

@@ -1,9 +1,14 @@
-//! Measures look-up, insertion and listing, in nanoseconds an operation.
+//! Measures whole calls and their parts, in nanoseconds an operation.
 #![tactic(auto)]
 
+mod calls;
 mod changes;
 mod colliding;
 mod loads;
+mod manifests;
+mod mounts;
+mod parts;
+mod redirects;
 mod trees;
 
 use crate::loads::{Load, measure};
@@ -12,25 +17,31 @@ use std::hash::RandomState;
 use std::rt::{Clock, Env};
 use std::{env, io};
 
-const USAGE: &str =
-    "usage: overlay_bench find|walk|walk16|insert|list|create|create1k|create100k|whiteout|whiteout1k|whiteout100k|parents\
-    |collide|others|collide_fixed|others_fixed COUNT";
+const USAGE: &str = "usage: overlay_bench LOAD COUNT [LOWERS]
+calls of a client over LOWERS lower layers, 16 if not given: stat stat_many absent absent_new list list_10k symlink
+stat below redirects in 17 layers: chains chains_absent chains_past chains_single chains_longer
+names of one directory that collide under fixed keys, others, and the same under fixed keys: collide others collide_fixed others_fixed
+parts of calls: find walk walk16 insert names create1k create create100k whiteout1k whiteout whiteout100k parents";
+
+/// The lower layers of a call where the command line says nothing of them, as many as a mount takes.
+const LOWERS: u32 = 16;
 
 // What the command line asks for.
 fn asked<R: Env + AllocGlobal>(rt: &R) -> io::Result<Option<(Load, u32)>> {
     let mut words = env::args(rt)?;
     let _program = words.next();
-    let Some(word) = words.next() else {
-        return Ok(None);
-    };
-    let Some(load) = Load::named(word.as_str()) else {
+    let Some(load) = words.next() else {
         return Ok(None);
     };
     let Some(count) = words.next() else {
         return Ok(None);
     };
+    let lowers = match words.next() {
+        Some(lowers) => lowers.as_str().parse::<u32>().unwrap_or(0),
+        None => LOWERS,
+    };
     match count.as_str().parse::<u32>() {
-        Ok(count) if count > 0 => Ok(Some((load, count))),
+        Ok(count) if count > 0 => Ok(Load::named(load.as_str(), lowers).map(|load| (load, count))),
         _ => Ok(None),
     }
 }

@@ -1,115 +1,122 @@
-// The layers that are measured.
-use layer_tree::{Layer, Marks, Object, ROOT};
-use ov_base::{Attributes, Bytes, Content, Name, Path, UserAttributes};
+// The layers that are measured, as manifests.
+use crate::manifests::{ManifestText, child, nested};
 use std::alloc::{AllocError, Global};
-use std::hash::RandomState;
 
 /// How many objects a measured layer holds, or how many names a measured directory has.
-pub const OBJECTS: usize = 10_000;
+pub const OBJECTS: u32 = 10_000;
 
-fn attributes(alloc: Global, mode: u32) -> Attributes {
-    Attributes {
-        mode,
-        uid: 0,
-        gid: 0,
-        user: UserAttributes::new(alloc),
-    }
+/// How deep the file stands that is looked up: three directories are above it.
+pub const DIRECTORIES: u32 = 3;
+
+/// How many files are looked up one after the other, and how many names the directory of all lower layers has.
+pub const FILES: u32 = 256;
+
+/// The directory that has `FILES` names, of all lower layers.
+pub const MERGED: &str = "/list-256-all";
+
+/// The directory that has `OBJECTS` names, of the lowest layer.
+pub const WIDE: &str = "/list-10k-all";
+
+/// An upper layer and a lower one without entries.
+pub fn bare(alloc: Global) -> Result<ManifestText, AllocError> {
+    let mut manifest = ManifestText::new(alloc);
+    manifest.layer()?;
+    manifest.layer()?;
+    Ok(manifest)
 }
 
-/// The name of a number: `n` and its digits.
-pub fn name_of(alloc: Global, number: usize) -> Result<Name, AllocError> {
-    let text = format!(in alloc; "n{number}")?;
-    match Name::parse(text.as_bytes()) {
-        Ok(name) => Ok(name),
-        Err(_) => Err(AllocError),
+/// Two layers, of which the upper or the lower one has so many empty files at its root.
+pub fn flat(alloc: Global, files: u32, in_upper: bool) -> Result<ManifestText, AllocError> {
+    let mut manifest = ManifestText::new(alloc);
+    manifest.layer()?;
+    if in_upper {
+        files_in(alloc, &mut manifest, "", files)?;
     }
+    manifest.layer()?;
+    if !in_upper {
+        files_in(alloc, &mut manifest, "", files)?;
+    }
+    Ok(manifest)
 }
 
-/// A layer of only the root, which hashes names with these keys, as do all that are made of it.
-pub fn bare_layer(alloc: Global, keys: RandomState) -> Result<Layer, AllocError> {
-    Layer::new(alloc, keys, attributes(alloc, 0o755))
+/// So many layers, each of `OBJECTS` objects: three directories, and the files in the last.
+pub fn deep(alloc: Global, layers: u32) -> Result<ManifestText, AllocError> {
+    let mut manifest = ManifestText::new(alloc);
+    for _ in 0..layers {
+        manifest.layer()?;
+        nested_in(alloc, &mut manifest, DIRECTORIES)?;
+        let last = nested(alloc, DIRECTORIES)?;
+        files_in(alloc, &mut manifest, last.as_str(), OBJECTS - DIRECTORIES)?;
+    }
+    Ok(manifest)
 }
 
-/// Puts an empty file at a name of the root, unless the name is taken.
-pub fn put_file(
-    alloc: Global,
-    layer: &mut Layer,
-    dir: usize,
-    name: Name,
-) -> Result<(), AllocError> {
-    if !layer.is_directory(dir) || layer.entry(dir, &name).is_some() {
-        return Ok(());
-    }
-    let content = Content::File(Bytes::new(alloc));
-    match layer.insert(dir, name, Object::Inode(content, attributes(alloc, 0o644))) {
-        Ok(_) => Ok(()),
-        Err(_) => Err(AllocError),
-    }
-}
-
-// Puts a directory at a name and gives its key; where the name is taken, that of the directory that has it.
-fn put_directory(
-    alloc: Global,
-    layer: &mut Layer,
-    dir: usize,
-    name: Name,
-) -> Result<usize, AllocError> {
-    if !layer.is_directory(dir) || layer.entry(dir, &name).is_some() {
-        return Ok(dir);
-    }
-    let marks = Marks {
-        opaque: false,
-        redirect: None,
-    };
-    match layer.insert(
-        dir,
-        name,
-        Object::Directory(attributes(alloc, 0o755), marks),
-    ) {
-        Ok(key) => Ok(key),
-        Err(_) => Err(AllocError),
-    }
-}
-
-/// A layer with one directory of so many empty files, `/n0` to the last number.
-pub fn flat_layer(alloc: Global, keys: RandomState, files: usize) -> Result<Layer, AllocError> {
-    let mut layer = bare_layer(alloc, keys)?;
-    for number in 0..files {
-        put_file(alloc, &mut layer, ROOT, name_of(alloc, number)?)?;
-    }
-    Ok(layer)
-}
-
-/// A layer of `OBJECTS` objects whose last three directories lead to `/n1/n2/n3/n4`.
-pub fn deep_layer(alloc: Global, keys: RandomState) -> Result<Layer, AllocError> {
-    let mut layer = bare_layer(alloc, keys)?;
-    let mut dir = ROOT;
-    for depth in 1..4 {
-        dir = put_directory(alloc, &mut layer, dir, name_of(alloc, depth)?)?;
-    }
-    for number in 4..OBJECTS {
-        put_file(alloc, &mut layer, dir, name_of(alloc, number)?)?;
-    }
-    Ok(layer)
-}
-
-/// A layer of so many chains of four directories, `/n0/n1/n2/n3` and on.
-pub fn chained_layer(alloc: Global, keys: RandomState, chains: usize) -> Result<Layer, AllocError> {
-    let mut layer = bare_layer(alloc, keys)?;
+/// An empty upper over a layer of so many chains of four directories.
+pub fn chained(alloc: Global, chains: u32) -> Result<ManifestText, AllocError> {
+    let mut manifest = bare(alloc)?;
     for number in 0..chains {
-        let mut dir = put_directory(alloc, &mut layer, ROOT, name_of(alloc, number)?)?;
-        dir = put_directory(alloc, &mut layer, dir, name_of(alloc, 1)?)?;
-        dir = put_directory(alloc, &mut layer, dir, name_of(alloc, 2)?)?;
-        put_directory(alloc, &mut layer, dir, name_of(alloc, 3)?)?;
+        let mut path = child(alloc, "", "dirs-", number)?;
+        manifest.directory(path.as_str())?;
+        for depth in 1..4 {
+            path = child(alloc, path.as_str(), "dirs-", depth)?;
+            manifest.directory(path.as_str())?;
+        }
     }
-    Ok(layer)
+    Ok(manifest)
 }
 
-/// The path `/n1/n2/n3/n4`.
-pub fn deep_path(alloc: Global) -> Result<Path, AllocError> {
-    let mut path = Path::root(alloc);
-    for depth in 1..5 {
-        path.push(name_of(alloc, depth)?)?;
+/// An empty upper over so many lower layers, for whole calls: all have the directories and part of the names of `MERGED`, the lowest has
+/// the files that are looked up and those of `WIDE`.
+pub fn served(alloc: Global, lowers: u32) -> Result<ManifestText, AllocError> {
+    let mut manifest = ManifestText::new(alloc);
+    manifest.layer()?;
+    for lower in 0..lowers {
+        manifest.layer()?;
+        nested_in(alloc, &mut manifest, DIRECTORIES)?;
+        manifest.directory(MERGED)?;
+        share_in(alloc, &mut manifest, lower, lowers)?;
     }
-    Ok(path)
+    let last = nested(alloc, DIRECTORIES)?;
+    files_in(alloc, &mut manifest, last.as_str(), FILES)?;
+    manifest.directory(WIDE)?;
+    files_in(alloc, &mut manifest, WIDE, OBJECTS)?;
+    Ok(manifest)
+}
+
+// The names of `MERGED` that one of so many lower layers has: every so many.
+fn share_in(
+    alloc: Global,
+    manifest: &mut ManifestText,
+    lower: u32,
+    lowers: u32,
+) -> Result<(), AllocError> {
+    for number in 0..FILES {
+        if number.checked_rem(lowers) == Some(lower) {
+            manifest.file(child(alloc, MERGED, "name-", number)?.as_str())?;
+        }
+    }
+    Ok(())
+}
+
+/// So many empty files in a directory.
+pub fn files_in(
+    alloc: Global,
+    manifest: &mut ManifestText,
+    parent: &str,
+    files: u32,
+) -> Result<(), AllocError> {
+    for number in 0..files {
+        manifest.file(child(alloc, parent, "name-", number)?.as_str())?;
+    }
+    Ok(())
+}
+
+// So many directories one below the other.
+fn nested_in(alloc: Global, manifest: &mut ManifestText, depth: u32) -> Result<(), AllocError> {
+    let mut path = String::new(alloc);
+    for number in 0..depth {
+        path = child(alloc, path.as_str(), "dirs-", number)?;
+        manifest.directory(path.as_str())?;
+    }
+    Ok(())
 }

@@ -6,6 +6,7 @@ pub mod Merging
 pub mod Watching
 pub mod Machine
 pub mod Refusals
+pub mod Limits
 pub mod Changes
 pub mod Replies
 pub mod Subjects

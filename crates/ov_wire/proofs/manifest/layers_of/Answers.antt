@@ -1,10 +1,12 @@
 use Rattle.std.proofs.Common.{◌≡◌, ◌∷◌, Ok, map, sym, ap, subst, ◌∙◌, rules, arith}
 use Rattle.std.proofs.lemmas.Grind.{common_steps}
-use Rattle.toml.specs.View.{table_view, items_view}
+use Rattle.toml.specs.Data.{item}
+use Rattle.toml.specs.View.{view, table_view, items_view}
 use Rattle.layer_tree.specs.Tree.{layer_of}
 use Rattle.ov_wire.specs.Manifests.{whole_of}
 use Rattle.ov_wire.specs.ManifestLayers.{AreSpelled, layer_items}
 use Rattle.ov_wire.proofs.Reading.{options-of-entries, spelled-faultless}
+use Rattle.ov_wire.proofs.WithinLimits.{spelled-within, spelled-short}
 use Rattle.ov_wire.proofs.manifest.layers_of.Goals as goal
 
 pub returns-clause-options : goal.returns-clause-options
@@ -14,3 +16,9 @@ returns-clause-options c =
     let spelled = subst (λ all. AreSpelled (layer_of c.in_ok-upper.upper ∷ map layer_of c.in_ok-upper.lowers.items) all) (sym (ap items_view (c.in-Some.ensures.cases).0) ∙ items) c.in_ok-upper.ensures.spelled in
     options-of-entries (table_view c.args.manifest.now) c.in_ok-options.options whole
     (spelled-faultless 0 (layer_of c.in_ok-upper.upper ∷ map layer_of c.in_ok-upper.lowers.items) (layer_items (table_view c.args.manifest.now)) spelled)
+
+pub returns-clause-limits : goal.returns-clause-limits
+returns-clause-limits c = spelled-within (layer_of c.in_ok-upper.upper ∷ map layer_of c.in_ok-upper.lowers.items) (item (view c.in-Some.upper.now) (items_view c.in-Some.lowers.now)) c.in_ok-upper.ensures.spelled
+
+pub returns-clause-short_paths : goal.returns-clause-short_paths
+returns-clause-short_paths c = spelled-short (layer_of c.in_ok-upper.upper ∷ map layer_of c.in_ok-upper.lowers.items) (item (view c.in-Some.upper.now) (items_view c.in-Some.lowers.now)) c.in_ok-upper.ensures.spelled

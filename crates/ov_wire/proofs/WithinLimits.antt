@@ -1,0 +1,317 @@
+-- Layers that are as their entries say are within the limits.
+use Rattle.std.proofs.Common.{◌≡◌, ℕ, ℤ, pos, negsuc, suc, ◌≤◌, Bool, true, false, not, ◌&&◌, List, [], ◌∷◌, length, All, Option, Some, None, is_some, Result, Ok, Err, cond, codes, nat_le, nat_lt, refl, sym, ap, subst, ◌∙◌, arith, true≢false}
+use Rattle.std.specs.Option.{option_and_then, unwrap_or}
+use Rattle.std.specs.Result.{result_ok}
+use Rattle.std.specs.List.{IsDistinct}
+use Rattle.std.proofs.lemmas.Bool.{leb-true, ltb-true, ltb-false}
+use Rattle.std.proofs.lemmas.List.Elements.{All-nil, All-cons}
+use Rattle.toml.specs.Data.{Items, no_items, item, Members, get_member, as_integer}
+use Rattle.ov_base.specs.declared.attributes.Attributes.{Attributes}
+use Rattle.ov_base.specs.declared.errno.Errno.{Errno}
+use Rattle.ov_base.specs.declared.redirect.Redirect.{Redirect}
+use Rattle.ov_base.specs.declared.redirect.Redirect.TheVariants as redirect
+use Rattle.ov_base.specs.Names.{is_name}
+use Rattle.ov_base.specs.Paths.{path_of_text}
+use Rattle.plain_model.specs.Layers.{Name, Path, Object, Directory, Named, Inode, Layer, held, same_path}
+use Rattle.plain_model.specs.Limits.{AreAttributesWithin, IsTargetWithin, IsContentWithin, IsRedirectWithin, IsWithinLimits, text_length, HasShortPaths}
+use Rattle.plain_model.specs.Refusals.{has_nul, bad_attribute}
+use Rattle.plain_model.proofs.Paths.{paths_tell}
+use Rattle.layer_tree.specs.declared.node.Marks.{Marks}
+use Rattle.layer_tree.specs.declared.node.Object.TheVariants as object
+use Rattle.ov_wire.specs.ManifestEntries.{text_at, within, number_in, number_at, path_of, attributes_of, bytes_of, is_target, target_of, redirect_to, redirect_spelled, redirect_in, opaque_of, marks_of, item_of}
+use Rattle.ov_wire.specs.Manifests.{entries_in}
+use Rattle.ov_wire.specs.ManifestLayers.{Entry, put_at, is_directory, has_directory, with_entry, with_spelled, numbered, entries_from, root_of, Stands, IsAsSaid, AreSpelled}
+use Rattle.ov_wire.specs.declared.manifest.entry.EntryKind.{EntryKind}
+use Rattle.ov_wire.specs.declared.manifest.entry.EntryKind.TheVariants as kind
+use Rattle.ov_wire.specs.declared.manifest.entry.Item.{Item}
+use Rattle.ov_wire.specs.declared.manifest.entry.Item.TheVariants as put
+use Rattle.ov_wire.specs.declared.manifest.fault.EntryFault.TheVariants as fault
+use Rattle.ov_wire.proofs.PathTexts.{IsSpelledPath, spelled-path}
+use Rattle.ov_wire.proofs.Said.{ok, then-ok, ok_or-ok, result_ok-some, bound, says, unnumbered}
+
+-- what an answer says of its value
+said : {T : Type 0} (P : T → Type 0) (x y : T) → ok x ≡ Ok y → P x → P y
+said P x y e h = let same : x ≡ y = cc in subst P same h
+
+-- a number that is given is at most the most
+within-most : (most : ℕ) (z : ℤ) (n : ℕ) → within most z ≡ Ok n → n ≤ most
+within-most most (pos m) n e = at (nat_le m most) refl e
+  where
+    at : (b : Bool) → nat_le m most ≡ b → cond b (Ok m) (Err fault.Value) ≡ Ok n → n ≤ most
+    at true is e = let same : m ≡ n = cc in subst (λ k. k ≤ most) same (leb-true m most is)
+    at false is e = absurd (cc)
+within-most most (negsuc m) n e = absurd (cc)
+
+number-most : (key : List ℕ) (most default : ℕ) (m : Members) (n : ℕ) → default ≤ most → number_at key most default m ≡ Ok n → n ≤ most
+number-most key most default m n small e = of (option_and_then as_integer (get_member key m)) e
+  where
+    of : (o : Option ℤ) → number_in most default o ≡ Ok n → n ≤ most
+    of (Some z) e = within-most most z n e
+    of None e = said (λ (k : ℕ). k ≤ most) default n e small
+
+-- the attributes that an entry gives, none of them of the user
+pub attributes-within : (default : ℕ) (m : Members) (a : Attributes) → default ≤ 4095 → attributes_of default m ≡ Ok a → AreAttributesWithin a
+unfolding IsDistinct
+attributes-within default m a small e =
+    let mode = then-ok (number_at (codes "mode") 4095 default m) _ a e in
+    let uid = then-ok (number_at (codes "uid") 4294967295 0 m) _ a mode.2 in
+    let gid = then-ok (number_at (codes "gid") 4294967295 0 m) _ a uid.2 in
+    said AreAttributesWithin (record { mode = mode.0; uid = uid.0; gid = gid.0; user = [] }) a gid.2 (record {
+      mode = number-most (codes "mode") 4095 default m mode.0 small mode.1;
+      uid = number-most (codes "uid") 4294967295 0 m uid.0 (omega arith) uid.1;
+      gid = number-most (codes "gid") 4294967295 0 m gid.0 (omega arith) gid.1;
+      few = omega arith;
+      names = All-nil (λ (x : List ℕ × List ℕ). bad_attribute x.0 ≡ None);
+      values = All-nil (λ (x : List ℕ × List ℕ). length x.1 ≤ 1024);
+      once = tt;
+    })
+
+-- the bytes that an entry gives
+bytes-within : (m : Members) (bytes : List ℕ) → bytes_of m ≡ Ok bytes → length bytes ≤ 1048576
+bytes-within m bytes e = at (unwrap_or (text_at (codes "text") m) []) e
+  where
+    at : (text : List ℕ) → cond (nat_lt 1048576 (length text)) (Err fault.Value) (Ok text) ≡ Ok bytes → length bytes ≤ 1048576
+    at text e = of (nat_lt 1048576 (length text)) refl e
+      where
+        of : (b : Bool) → nat_lt 1048576 (length text) ≡ b → cond b (Err fault.Value) (Ok text) ≡ Ok bytes → length bytes ≤ 1048576
+        of true is e = absurd (cc)
+        of false is e = said (λ (bs : List ℕ). length bs ≤ 1048576) text bytes e (ltb-false 1048576 (length text) is)
+
+-- what is a target
+is-target-within : (target : List ℕ) → is_target target ≡ true → IsTargetWithin target
+is-target-within target e = of (nat_lt 0 (length target)) (nat_le (length target) 4095) (has_nul target) refl refl refl e
+  where
+    of : (a b c : Bool) → nat_lt 0 (length target) ≡ a → nat_le (length target) 4095 ≡ b → has_nul target ≡ c → (a && b && not c) ≡ true → IsTargetWithin target
+    of true true false some short plain e = record { some = ltb-true 0 (length target) some; short = leb-true (length target) 4095 short; plain = plain }
+    of true true true some short plain e = absurd (true≢false (sym e))
+    of true false c some short plain e = absurd (true≢false (sym e))
+    of false b c some short plain e = absurd (true≢false (sym e))
+
+-- the target that an entry gives
+target-within : (m : Members) (target : List ℕ) → target_of m ≡ Ok target → IsTargetWithin target
+target-within m target e = at (unwrap_or (text_at (codes "target") m) []) e
+  where
+    at : (text : List ℕ) → cond (is_target text) (Ok text) (Err fault.Value) ≡ Ok target → IsTargetWithin target
+    at text e = of (is_target text) refl e
+      where
+        of : (b : Bool) → is_target text ≡ b → cond b (Ok text) (Err fault.Value) ≡ Ok target → IsTargetWithin target
+        of true is e = said IsTargetWithin text target e (is-target-within text is)
+        of false is e = absurd (cc)
+
+-- a path to which a redirect leads is short
+abbrev LeadsShort : Redirect → Type 0
+LeadsShort (redirect.Single n) = Unit {0}
+LeadsShort (redirect.Absolute q) = text_length q ≤ 4095
+
+-- a redirect that a text spells
+record IsSpelledRedirect (r : Redirect) : Type 0 where
+  within : IsRedirectWithin r
+  short : LeadsShort r
+
+spelled-redirect : (text : List ℕ) (r : Redirect) → redirect_spelled text ≡ Ok r → IsSpelledRedirect r
+spelled-redirect text r e = of (is_name text) refl e
+  where
+    to : (o : Result Path Errno) → path_of_text text ≡ o → redirect_to o ≡ Ok r → IsSpelledRedirect r
+    to (Ok (n ∷ p)) is e =
+        let q = spelled-path text (n ∷ p) is in
+        said IsSpelledRedirect (redirect.Absolute (n ∷ p)) r e (record { within = (λ none. cc, q.names); short = q.short })
+    to (Ok []) is e = absurd (cc)
+    to (Err f) is e = absurd (cc)
+
+    of : (b : Bool) → is_name text ≡ b → cond b (Ok (redirect.Single text)) (redirect_to (path_of_text text)) ≡ Ok r → IsSpelledRedirect r
+    of true is e = said IsSpelledRedirect (redirect.Single text) r e (record { within = is; short = tt })
+    of false is e = to (path_of_text text) refl e
+
+-- the redirect that an entry gives
+redirect-within : (o : Option (List ℕ)) (s : Option Redirect) → redirect_in o ≡ Ok s → (r : Redirect) → s ≡ Some r → IsSpelledRedirect r
+redirect-within None s e r is = let none : None ≡ s = cc in absurd (cc)
+redirect-within (Some text) s e r is =
+    let x = then-ok (redirect_spelled text) _ s e in
+    let some : Some x.0 ≡ s = cc in
+    let same : x.0 ≡ r = cc in
+    subst IsSpelledRedirect same (spelled-redirect text x.0 x.1)
+
+-- what an entry puts somewhere is within the limits
+abbrev IsItemWithin : Item → Type 0
+IsItemWithin (put.Object (object.Directory a m)) = AreAttributesWithin a × ((r : Redirect) → m.redirect ≡ Some r → IsSpelledRedirect r)
+IsItemWithin (put.Object (object.Inode c a)) = AreAttributesWithin a × IsContentWithin c
+IsItemWithin put.Whiteout = Unit {0}
+
+marks-within : (m : Members) (x : Marks) → marks_of m ≡ Ok x → (r : Redirect) → x.redirect ≡ Some r → IsSpelledRedirect r
+marks-within m x e =
+    let s = then-ok (redirect_in (text_at (codes "redirect") m)) _ x e in
+    said (λ (y : Marks). (r : Redirect) → y.redirect ≡ Some r → IsSpelledRedirect r) (record { opaque = opaque_of m; redirect = s.0 }) x s.2
+    (redirect-within (text_at (codes "redirect") m) s.0 s.1)
+
+item-within : (k : EntryKind) (m : Members) (i : Item) → item_of k m ≡ Ok i → IsItemWithin i
+item-within kind.Directory m i e =
+    let a = then-ok (attributes_of 493 m) _ i e in
+    let b = then-ok (marks_of m) _ i a.2 in
+    said IsItemWithin (put.Object (object.Directory a.0 b.0)) i b.2 (attributes-within 493 m a.0 (omega arith) a.1, marks-within m b.0 b.1)
+item-within kind.File m i e =
+    let a = then-ok (attributes_of 420 m) _ i e in
+    let b = then-ok (bytes_of m) _ i a.2 in
+    said IsItemWithin _ i b.2 (attributes-within 420 m a.0 (omega arith) a.1, bytes-within m b.0 b.1)
+item-within kind.SymbolicLink m i e =
+    let a = then-ok (attributes_of 511 m) _ i e in
+    let b = then-ok (target_of m) _ i a.2 in
+    said IsItemWithin _ i b.2 (attributes-within 511 m a.0 (omega arith) a.1, target-within m b.0 b.1)
+item-within kind.Whiteout m i e = said IsItemWithin put.Whiteout i e tt
+
+path-within : (m : Members) (p : Path) → path_of m ≡ Ok p → IsSpelledPath p
+path-within m p e =
+    let text = bound (λ text. result_ok (path_of_text text)) (text_at (codes "path") m) p (ok_or-ok _ fault.Path p e) in
+    spelled-path text.0 p (result_ok-some (path_of_text text.0) p text.2)
+
+-- each of these entries is within the limits
+abbrev AreEntriesWithin : List Entry → Type 0
+AreEntriesWithin [] = Unit {0}
+AreEntriesWithin (e ∷ es) = IsSpelledPath e.0 × IsItemWithin e.1 × AreEntriesWithin es
+
+-- one more entry, where it is not at fault
+placed-is : (before : List Entry) (p : Path) (i : Item) (after : List Entry) → with_entry before p i ≡ Ok after → (p, i) ∷ before ≡ after
+placed-is before [] i after e = of (is_directory (Some i)) (is_some (put_at before [])) e
+  where
+    of : (d s : Bool) → cond (d && not s) (Ok (([], i) ∷ before)) (Err fault.Exists) ≡ Ok after → ([], i) ∷ before ≡ after
+    of true false e = cc
+    of true true e = absurd (cc)
+    of false s e = absurd (cc)
+placed-is before (n ∷ p) i after e = of (has_directory before p) (is_some (put_at before (n ∷ p))) e
+  where
+    of : (d s : Bool) → cond (not d) (Err fault.Parent) (cond s (Err fault.Exists) (Ok ((n ∷ p, i) ∷ before))) ≡ Ok after → (n ∷ p, i) ∷ before ≡ after
+    of true false e = cc
+    of true true e = absurd (cc)
+    of false s e = absurd (cc)
+
+-- entries none of which is at fault are within the limits
+entries-within : (number : ℕ) (before : List Entry) (items : Items) (final : List Entry) → AreEntriesWithin before → entries_from number before items ≡ Ok final → AreEntriesWithin final
+entries-within number before no_items final h e = let same : before ≡ final = cc in subst AreEntriesWithin same h
+entries-within number before (item d rest) final h e =
+    let step = then-ok (numbered number (with_spelled before d)) _ final e in
+    let s = says before d step.0 (unnumbered number (with_spelled before d) step.0 step.1) in
+    let more : AreEntriesWithin ((s.path, s.puts) ∷ before) = (path-within s.table s.path s.is_path, item-within s.k s.table s.puts s.is_item, h) in
+    entries-within (suc number) step.0 rest final (subst AreEntriesWithin (placed-is before s.path s.puts step.0 s.is_placed) more) step.2
+
+-- what entries put at a path
+put-within : (entries : List Entry) (p : Path) (i : Item) → AreEntriesWithin entries → put_at entries p ≡ Some i → IsSpelledPath p × IsItemWithin i
+put-within [] p i h e = absurd (cc)
+put-within (x ∷ xs) p i h e = of (same_path x.0 p) refl (put-within xs p i h.2) e
+  where
+    of : (b : Bool) → same_path x.0 p ≡ b → (put_at xs p ≡ Some i → IsSpelledPath p × IsItemWithin i) → cond b (Some x.1) (put_at xs p) ≡ Some i → IsSpelledPath p × IsItemWithin i
+    of true is onward e =
+        let path : x.0 ≡ p = (paths_tell x.0 p).0 is in
+        let item : x.1 ≡ i = cc in
+        (subst IsSpelledPath path h.0, subst IsItemWithin item h.1)
+    of false is onward e = onward e
+
+-- what a layer holds where something was put
+stands-put : (L : Layer) (o : Option Object) (i : Option Item) → Stands L o i → is_some o ≡ true → (j : Item) × (i ≡ Some j)
+stands-put L o None h some = absurd (true≢false (sym some ∙ ap (λ (x : Option Object). is_some x) h))
+stands-put L o (Some j) h some = (j, refl)
+
+-- a directory that a layer holds where this was put
+directory-put : (L : Layer) (k : ℕ) (a : Attributes) (o : Bool) (r : Option Redirect) (i : Item) → Stands L (Some (Directory k a o r)) (Some i) → IsItemWithin i → AreAttributesWithin a × ((s : Redirect) → r ≡ Some s → IsSpelledRedirect s)
+directory-put L k a o r put.Whiteout h w = absurd (cc)
+directory-put L k a o r (put.Object (object.Inode c b)) h w = let no = h.1 in absurd (cc)
+directory-put L k a o r (put.Object (object.Directory b m)) h w =
+    let is = h.1 in
+    let attributes : b ≡ a = cc in
+    let mark : m.redirect ≡ r = cc in
+    (subst AreAttributesWithin attributes w.0, λ s e. w.1 s (mark ∙ e))
+
+-- an inode to which a layer leads where this was put
+inode-put : (L : Layer) (k : ℕ) (x : Inode) (i : Item) → Stands L (Some (Named k)) (Some i) → L.inodes k ≡ Some x → IsItemWithin i → AreAttributesWithin x.attributes × IsContentWithin x.content
+inode-put L k x put.Whiteout h there w = absurd (cc)
+inode-put L k x (put.Object (object.Directory b m)) h there w = let no = h.1 in absurd (cc)
+inode-put L k x (put.Object (object.Inode c a)) h there w =
+    let key : h.0 ≡ k = let is = h.1 in cc in
+    let made : Some (record { content = c; attributes = a; links = 1 }) ≡ L.inodes k = sym h.2 ∙ ap L.inodes key in
+    let attributes : a ≡ x.attributes = cc in
+    let content : c ≡ x.content = cc in
+    (subst AreAttributesWithin attributes w.0, subst IsContentWithin content w.1)
+
+-- attributes that no entry sets
+unset-within : AreAttributesWithin (root_of None)
+unfolding IsDistinct
+unset-within = record {
+  mode = omega arith;
+  uid = omega arith;
+  gid = omega arith;
+  few = omega arith;
+  names = All-nil (λ (x : List ℕ × List ℕ). bad_attribute x.0 ≡ None);
+  values = All-nil (λ (x : List ℕ × List ℕ). length x.1 ≤ 1024);
+  once = tt;
+}
+
+-- the attributes of the root
+root-within : (entries : List Entry) → AreEntriesWithin entries → AreAttributesWithin (root_of (put_at entries []))
+root-within entries h = of (put_at entries []) refl
+  where
+    of : (o : Option Item) → put_at entries [] ≡ o → AreAttributesWithin (root_of o)
+    of None e = unset-within
+    of (Some put.Whiteout) e = unset-within
+    of (Some (put.Object (object.Directory a m))) e = ((put-within entries [] (put.Object (object.Directory a m)) h e).1).0
+    of (Some (put.Object (object.Inode c a))) e = unset-within
+
+module _ (L : Layer) (entries : List Entry) (s : IsAsSaid L entries) (all : AreEntriesWithin entries) where
+  -- what stands below the root was put there, within the limits
+  record WasPut (n : Name) (p : Path) (o : Option Object) : Type 0 where
+    puts : Item
+    stands : Stands L o (Some puts)
+    spelled : IsSpelledPath (n ∷ p)
+    within : IsItemWithin puts
+
+  was-put : (n : Name) (p : Path) (o : Option Object) → held L (n ∷ p) ≡ o → is_some o ≡ true → WasPut n p o
+  was-put n p o e some =
+      let below : Stands L o (put_at entries (n ∷ p)) = subst (λ x. Stands L x (put_at entries (n ∷ p))) e (s.below n p) in
+      let j = stands-put L o (put_at entries (n ∷ p)) below some in
+      let w = put-within entries (n ∷ p) j.0 all j.1 in
+      record { puts = j.0; stands = subst (λ i. Stands L o i) j.1 below; spelled = w.0; within = w.1 }
+
+  path-spelled : (p : Path) → is_some (held L p) ≡ true → IsSpelledPath p
+  path-spelled [] some = spelled-path (47 ∷ []) [] refl
+  path-spelled (n ∷ p) some = (was-put n p (held L (n ∷ p)) refl some).spelled
+
+  root-held : (k : ℕ) (a : Attributes) (o : Bool) (r : Option Redirect) → held L [] ≡ Some (Directory k a o r) → (L.root ≡ a) × (r ≡ None)
+  root-held k a o r e = (cc, cc)
+
+  directory-held : (p : Path) (k : ℕ) (a : Attributes) (o : Bool) (r : Option Redirect) → held L p ≡ Some (Directory k a o r) → AreAttributesWithin a × ((t : Redirect) → r ≡ Some t → IsSpelledRedirect t)
+  directory-held [] k a o r e =
+      let root = root-held k a o r e in
+      (subst AreAttributesWithin (sym s.root ∙ root.0) (root-within entries all), λ t is. absurd (cc (root.1)))
+  directory-held (n ∷ p) k a o r e =
+      let w = was-put n p (Some (Directory k a o r)) e refl in
+      directory-put L k a o r w.puts w.stands w.within
+
+  inode-held : (p : Path) (k : ℕ) (i : Inode) → held L p ≡ Some (Named k) → L.inodes k ≡ Some i → AreAttributesWithin i.attributes × IsContentWithin i.content
+  inode-held [] k i e there = absurd (cc)
+  inode-held (n ∷ p) k i e there =
+      let w = was-put n p (Some (Named k)) e refl in
+      inode-put L k i w.puts w.stands there w.within
+
+  layer-within : IsWithinLimits L
+  layer-within = record {
+    names = λ p some. (path-spelled p some).names;
+    directories = λ p k a o r e. (directory-held p k a o r e).0;
+    redirects = λ p k a o r e. ((directory-held p k a o (Some r) e).1 r refl).within;
+    attributes = λ p k i e there. (inode-held p k i e there).0;
+    contents = λ p k i e there. (inode-held p k i e there).1;
+  }
+
+  layer-short : HasShortPaths L
+  layer-short = record {
+    paths = λ p some. (path-spelled p some).short;
+    redirects = λ p k a o q e. ((directory-held p k a o (Some (redirect.Absolute q)) e).1 (redirect.Absolute q) refl).short;
+  }
+
+-- layers that are as their entries say are within the limits
+pub spelled-within : (Ls : List Layer) (items : Items) → AreSpelled Ls items → All IsWithinLimits Ls
+spelled-within [] items h = All-nil IsWithinLimits
+spelled-within (L ∷ Ls) no_items h = absurd h
+spelled-within (L ∷ Ls) (item d rest) h = All-cons IsWithinLimits L Ls (layer-within L (h.0).0 (h.0).2 (entries-within 0 [] (entries_in d) (h.0).0 tt (h.0).1)) (spelled-within Ls rest h.1)
+
+-- and their paths are short
+pub spelled-short : (Ls : List Layer) (items : Items) → AreSpelled Ls items → All HasShortPaths Ls
+spelled-short [] items h = All-nil HasShortPaths
+spelled-short (L ∷ Ls) no_items h = absurd h
+spelled-short (L ∷ Ls) (item d rest) h = All-cons HasShortPaths L Ls (layer-short L (h.0).0 (h.0).2 (entries-within 0 [] (entries_in d) (h.0).0 tt (h.0).1)) (spelled-short Ls rest h.1)

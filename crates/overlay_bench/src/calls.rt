@@ -1,0 +1,197 @@
+// Loads of whole calls, of a client on a mount.
+use crate::loads::since;
+use crate::manifests::{ManifestText, child};
+use crate::mounts::{mounted, path_of};
+use ov_base::{Bytes, Call, Errno, OpenFlags, Reply};
+use private_mount::Mount;
+use std::alloc::{AllocError, Global};
+use std::hash::RandomState;
+use std::io;
+use std::rt::Clock;
+use std::time::Instant;
+
+/// How many calls are made ready at a time.
+const BATCH: u32 = 64;
+
+/// The most names that one call lists.
+const PAGE: u32 = 256;
+
+/// Names of a directory that are looked up one after the other.
+#[derive(Clone, Copy)]
+pub struct Series<'a> {
+    pub parent: &'a str,
+    /// The first five bytes of the names.
+    pub first: &'a str,
+    /// How many there are.
+    pub names: u32,
+}
+
+/// Looking up names of a series by `stat`, so often.
+pub fn measure_stat<C: Clock>(
+    clock: &C,
+    alloc: Global,
+    keys: RandomState,
+    manifest: &ManifestText,
+    series: Series<'_>,
+    count: u32,
+) -> io::Result<(u64, u32)> {
+    let (mut mount, client) = mounted(alloc, keys, manifest)?;
+    let mut nanos = 0u64;
+    let mut done = 0u32;
+    for batch in 0..count.div_ceil(BATCH) {
+        let calls = stats(alloc, series, batch.saturating_mul(BATCH))?;
+        let start = Instant::now(clock)?;
+        done = done.saturating_add(make_all(&mut mount, client, calls)?);
+        nanos = nanos.saturating_add(since(clock, start)?);
+    }
+    Ok((nanos, done))
+}
+
+// The calls of one batch.
+fn stats(alloc: Global, series: Series<'_>, first: u32) -> Result<Vec<Call>, AllocError> {
+    let mut calls = Vec::with_capacity(alloc, BATCH as usize)?;
+    for number in 0..BATCH {
+        let number = first
+            .saturating_add(number)
+            .checked_rem(series.names)
+            .unwrap_or(0);
+        let text = child(alloc, series.parent, series.first, number)?;
+        calls.push(Call::Stat {
+            path: path_of(alloc, text.as_str())?,
+        })?;
+    }
+    Ok(calls)
+}
+
+// How many of the calls were answered by a status or, for a name that isn't there, ENOENT.
+fn make_all(mount: &mut Mount, client: u32, calls: Vec<Call>) -> Result<u32, AllocError> {
+    let mut done = 0u32;
+    for call in calls {
+        match mount.call(client, call)? {
+            Reply::Status(_) | Reply::Refused(Errno::ENOENT) => done = done.saturating_add(1),
+            _ => {}
+        }
+    }
+    Ok(done)
+}
+
+/// Opening a directory, listing all its names and closing it, so often.
+pub fn measure_list<C: Clock>(
+    clock: &C,
+    alloc: Global,
+    keys: RandomState,
+    manifest: &ManifestText,
+    directory: &str,
+    count: u32,
+) -> io::Result<(u64, u32)> {
+    let (mut mount, client) = mounted(alloc, keys, manifest)?;
+    let mut nanos = 0u64;
+    let mut done = 0u32;
+    for _ in 0..count {
+        let open = opening(alloc, directory)?;
+        let start = Instant::now(clock)?;
+        if list(&mut mount, client, open)? {
+            done = done.saturating_add(1);
+        }
+        nanos = nanos.saturating_add(since(clock, start)?);
+    }
+    Ok((nanos, done))
+}
+
+// The call that opens a directory.
+fn opening(alloc: Global, directory: &str) -> Result<Call, AllocError> {
+    let flags = OpenFlags {
+        reads: true,
+        writes: false,
+        create: false,
+        exclusive: false,
+        truncate: false,
+        append: false,
+        directory: true,
+        unknown: false,
+    };
+    Ok(Call::Open {
+        path: path_of(alloc, directory)?,
+        flags,
+        mode: 0,
+    })
+}
+
+// Whether a directory could be opened, listed and closed.
+fn list(mount: &mut Mount, client: u32, open: Call) -> Result<bool, AllocError> {
+    let Reply::Descriptor(descriptor) = mount.call(client, open)? else {
+        return Ok(false);
+    };
+    read_names(mount, client, descriptor)?;
+    Ok(matches!(mount.call(client, Call::Close { descriptor })?, Reply::Done))
+}
+
+// Reads names until there are none.
+fn read_names(mount: &mut Mount, client: u32, descriptor: u32) -> Result<(), AllocError> {
+    for _ in 0..u32::MAX {
+        let page = Call::ListNames {
+            descriptor,
+            count: PAGE,
+        };
+        let reply = mount.call(client, page)?;
+        if !has_names(&reply) {
+            return Ok(());
+        }
+    }
+    Ok(())
+}
+
+fn has_names(reply: &Reply) -> bool {
+    match reply {
+        Reply::Names(names) => !names.as_slice().is_empty(),
+        _ => false,
+    }
+}
+
+/// Making a symbolic link in a directory of the upper layer and removing it again, so often.
+pub fn measure_symlink<C: Clock>(
+    clock: &C,
+    alloc: Global,
+    keys: RandomState,
+    manifest: &ManifestText,
+    parent: &str,
+    count: u32,
+) -> io::Result<(u64, u32)> {
+    let (mut mount, client) = mounted(alloc, keys, manifest)?;
+    let link = child(alloc, parent, "link-", 0)?;
+    let mut nanos = 0u64;
+    let mut done = 0u32;
+    for _ in 0..count.div_ceil(BATCH) {
+        let calls = links(alloc, link.as_str())?;
+        let start = Instant::now(clock)?;
+        done = done.saturating_add(link_all(&mut mount, client, calls)?);
+        nanos = nanos.saturating_add(since(clock, start)?);
+    }
+    Ok((nanos, done))
+}
+
+// Calls that make a symbolic link and remove it, in turn.
+fn links(alloc: Global, link: &str) -> Result<Vec<Call>, AllocError> {
+    let mut calls = Vec::new(alloc);
+    for _ in 0..BATCH {
+        let target = Bytes::from_slice(alloc, b"target")?;
+        let path = path_of(alloc, link)?;
+        calls.push(Call::Symlink { target, path })?;
+        let path = path_of(alloc, link)?;
+        calls.push(Call::Unlink { path })?;
+    }
+    Ok(calls)
+}
+
+// How many links were removed.
+fn link_all(mount: &mut Mount, client: u32, calls: Vec<Call>) -> Result<u32, AllocError> {
+    let mut done = 0u32;
+    for call in calls {
+        let removes = matches!(&call, Call::Unlink { .. });
+        match mount.call(client, call)? {
+            Reply::Done if removes => done = done.saturating_add(1),
+            _ => {}
+        }
+    }
+    Ok(done)
+}

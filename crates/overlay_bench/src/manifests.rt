@@ -1,0 +1,70 @@
+// Manifests, written entry by entry.
+use std::alloc::{AllocError, Global};
+
+/// The text of a manifest, which grows.
+#[derive(Drop)]
+pub struct ManifestText {
+    text: String,
+}
+
+impl ManifestText {
+    /// No layer yet.
+    pub fn new(alloc: Global) -> ManifestText {
+        ManifestText {
+            text: String::new(alloc),
+        }
+    }
+
+    /// The text so far.
+    pub fn as_bytes(&self) -> &[u8] {
+        self.text.as_bytes()
+    }
+
+    /// Begins the next layer, the upper first.
+    pub fn layer(&mut self) -> Result<(), AllocError> {
+        self.text.push_str("[[layer]]\n")
+    }
+
+    /// An empty file.
+    pub fn file(&mut self, path: &str) -> Result<(), AllocError> {
+        self.entry("file", path)
+    }
+
+    /// A directory without marks.
+    pub fn directory(&mut self, path: &str) -> Result<(), AllocError> {
+        self.entry("dir", path)
+    }
+
+    /// A directory with a redirect.
+    pub fn redirected(&mut self, path: &str, redirect: &str) -> Result<(), AllocError> {
+        self.entry("dir", path)?;
+        self.key("redirect", redirect)
+    }
+
+    fn entry(&mut self, kind: &str, path: &str) -> Result<(), AllocError> {
+        self.text.push_str("[[layer.entry]]\n")?;
+        self.key("kind", kind)?;
+        self.key("path", path)
+    }
+
+    fn key(&mut self, key: &str, value: &str) -> Result<(), AllocError> {
+        self.text.push_str(key)?;
+        self.text.push_str(" = \"")?;
+        self.text.push_str(value)?;
+        self.text.push_str("\"\n")
+    }
+}
+
+/// A path with one name of 12 bytes more: these first five bytes and a number.
+pub fn child(alloc: Global, parent: &str, first: &str, number: u32) -> Result<String, AllocError> {
+    format!(in alloc; "{parent}/{first}{number:07}")
+}
+
+/// The path of so many directories one below the other.
+pub fn nested(alloc: Global, depth: u32) -> Result<String, AllocError> {
+    let mut path = String::new(alloc);
+    for number in 0..depth {
+        path = child(alloc, path.as_str(), "dirs-", number)?;
+    }
+    Ok(path)
+}
