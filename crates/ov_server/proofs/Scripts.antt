@@ -1,5 +1,5 @@
 -- How the play of a script goes on from line to line.
-use Rattle.std.proofs.Common.{◌≡◌, ◌+◌, ◌<◌, ◌≤◌, ◌&&◌, ℕ, List, [], ◌∷◌, ◌++◌, Option, Some, None, Bool, true, false, cond, nat_eq, nat_lt, position, get_or, take, drop, length, refl, sym, ap, ◌∙◌, arith, append_assoc, append-nil, length-append, subst, IfSome, MatchOption}
+use Rattle.std.proofs.Common.{◌≡◌, ◌+◌, ◌<◌, ◌≤◌, ◌&&◌, ℕ, List, [], ◌∷◌, ◌++◌, Option, Some, None, Bool, true, false, cond, nat_eq, nat_lt, position, get_or, take, drop, length, refl, sym, ap, ◌∙◌, arith, append_assoc, append-nil, length-append, subst, IfErr, IfSome, MatchOption, OnOk, Result, Ok, Err, ◌⊎◌, inl, inr}
 use Rattle.std.specs.List.{All, list_all, position_or_len}
 use Rattle.std.specs.Io.KnownBytes.{Consumes, IsAtEnd, Keeps}
 use Rattle.std.proofs.lemmas.Bool.{ltb-true, ltb-false}
@@ -8,12 +8,15 @@ use Rattle.std.proofs.lemmas.List.Elements.{All-append, All-nil}
 use Rattle.std.proofs.lemmas.List.Folds.{list_all-append}
 use Rattle.std.proofs.lemmas.List.Sums.{fails_before_first, passes_at_first, split_at_first}
 use Rattle.std.proofs.lemmas.List.Splits.{slice_split_none, slice_split_at}
-use Rattle.ov_server.specs.declared.fault.Fault.{Fault}
-use Rattle.ov_server.specs.declared.fault.Fault.TheVariants.{CommandLine, NotText, CannotReadManifest, Manifest, Stream, BadCommand, Memory}
-use Rattle.std.specs.declared.io.ErrorKind.{ErrorKind}
-use Rattle.std.specs.declared.io.ErrorKind.TheVariants.{OutOfMemory}
-use Rattle.ov_server.specs.Faults.{stream_fault}
-use Rattle.ov_server.specs.Scripts.{EndsBy, GoesOn, IsBadLine, IsDeviceFault, IsLineFault, IsPlayFault, IsPlayed, Reads, is_playable, is_skipped, script_lines}
+use Rattle.private_mount.specs.declared.mount.Mount.{Mount}
+use Rattle.ov_server.specs.declared.fault.DeviceFault.{DeviceFault}
+use Rattle.ov_server.specs.declared.fault.DeviceFault.TheVariants.{Stream, Memory}
+use Rattle.ov_server.specs.declared.play.PlayFault.{PlayFault}
+use Rattle.ov_server.specs.declared.play.PlayFault.TheVariants.{BadLine, Device}
+use Rattle.ov_server.specs.Devices.{IsInputFault, IsToldBy, Notes, Reads}
+use Rattle.ov_server.specs.Plays.{BeginsOn, EndsBy, GoesOn, IsBadOn, IsLineFault, IsPlayFault, IsPlayed, IsRosterOf, IsStreamFault, PlaysLine, TellsPlay, layers_in}
+use Rattle.ov_server.specs.Rosters.{ArePlayed, LineLeaves, Roster, is_good, nobody}
+use Rattle.ov_server.specs.Scripts.{IsBadLine, IsGoodScript, script_lines}
 
 -- no byte of a list is a line break
 abbrev pub NoBreak : List ℕ → Type 0
@@ -72,27 +75,36 @@ line_cut begun front after more b unbroken front_unbroken is =
     ap script_lines (ap (λ (rest : List ℕ). begun ++ rest) (append_assoc front (b ∷ after) more) ∙ sym (append_assoc begun front (b ∷ (after ++ more))))
     ∙ slice_split_at (λ x. nat_eq x 10) (begun ++ front) b (after ++ more) (All-append (λ x. nat_eq x 10 ≡ false) begun front unbroken front_unbroken) is
 
--- two tests that hold
-both_true : (a b : Bool) → a ≡ true → b ≡ true → (a && (b && true)) ≡ true
-both_true a b e f = rw (e, f) refl
+-- at the end of the script the begun line is its last
+last_cut : (begun : List ℕ) → NoBreak begun → script_lines (begun ++ []) ≡ begun ∷ []
+last_cut begun unbroken = rw append-nil (slice_split_none _ begun unbroken)
 
 -- one more line was played
-pub line_played : (text front after begun : List ℕ) (count : ℕ) → AtBreak text front after → is_playable (begun ++ front) ≡ true → GoesOn text begun count after [] (count + 1)
-line_played text front after begun count at playable script more p = record {
-  ended = p.ended ++ (begun ++ front) ∷ [];
-  lines =
-      p.lines
-      ∙ ap (λ (t : List ℕ). p.ended ++ script_lines (begun ++ (t ++ more))) at.cut
-      ∙ ap (λ (ls : List (List ℕ)). p.ended ++ ls) (line_cut begun front after more at.break p.unbroken at.front_unbroken at.is_break)
-      ∙ sym (append_assoc p.ended ((begun ++ front) ∷ []) (script_lines (after ++ more)));
-  counted = length-append p.ended ((begun ++ front) ∷ []) ∙ ap (λ n. n + 1) p.counted;
-  playable = list_all-append is_playable p.ended ((begun ++ front) ∷ []) ∙ both_true (list_all is_playable p.ended) (is_playable (begun ++ front)) p.playable playable;
-  unbroken = All-nil _;
-}
+more_played : (layers : ℕ) (lines : List (List ℕ)) (line : List ℕ) (r s t : Roster) → ArePlayed layers r lines s → is_good layers s line ≡ true → LineLeaves s line t → ArePlayed layers r (lines ++ line ∷ []) t
+more_played layers [] line r s t p good leaves = rw (← p) (good, (t, (leaves, refl)))
+more_played layers (first ∷ lines) line r s t p good leaves = (p.0, (p.1.0, (p.1.1.0, more_played layers lines line p.1.0 s t p.1.1.1 good leaves)))
+
+-- the line that ends at a line break was played
+pub line_played : (text front after begun : List ℕ) (count : ℕ) (m n : Mount) → AtBreak text front after → PlaysLine m (begun ++ front) n → GoesOn text begun count m after [] (count + 1) n
+line_played text front after begun count m n at plays layers script more p =
+    let went = plays.leaves p.roster p.stands in record {
+      ended = p.ended ++ (begun ++ front) ∷ [];
+      lines =
+          p.lines
+          ∙ ap (λ (t : List ℕ). p.ended ++ script_lines (begun ++ (t ++ more))) at.cut
+          ∙ ap (λ (ls : List (List ℕ)). p.ended ++ ls) (line_cut begun front after more at.break p.unbroken at.front_unbroken at.is_break)
+          ∙ sym (append_assoc p.ended ((begun ++ front) ∷ []) (script_lines (after ++ more)));
+      counted = length-append p.ended ((begun ++ front) ∷ []) ∙ ap (λ n. n + 1) p.counted;
+      roster = went.0;
+      played = more_played layers p.ended (begun ++ front) nobody p.roster went.0 p.played (rw p.layered at (plays.good p.roster p.stands)) went.1.0;
+      stands = went.1.1;
+      layered = plays.layers ∙ p.layered;
+      unbroken = All-nil _;
+    }
 
 -- the line that ends at a line break is bad
-pub line_bad : (text front after begun : List ℕ) (count : ℕ) → AtBreak text front after → is_skipped (begun ++ front) ≡ false → (script more : List ℕ) → IsPlayed script (text ++ more) begun count → IsBadLine script (count + 1)
-line_bad text front after begun count at bad script more p = record {
+pub line_bad : (text front after begun : List ℕ) (count : ℕ) (m : Mount) → AtBreak text front after → IsBadOn m (begun ++ front) → (layers : ℕ) (script more : List ℕ) → IsPlayed layers script (text ++ more) begun count m → IsBadLine layers script (count + 1)
+line_bad text front after begun count m at bad layers script more p = record {
   before = p.ended;
   line = begun ++ front;
   after = script_lines (after ++ more);
@@ -101,157 +113,167 @@ line_bad text front after begun count at bad script more p = record {
       ∙ ap (λ (t : List ℕ). p.ended ++ script_lines (begun ++ (t ++ more))) at.cut
       ∙ ap (λ (ls : List (List ℕ)). p.ended ++ ls) (line_cut begun front after more at.break p.unbroken at.front_unbroken at.is_break);
   count = ap (λ n. n + 1) (sym p.counted);
-  playable = p.playable;
-  not_skipped = bad;
+  roster = p.roster;
+  played = p.played;
+  bad = rw p.layered at (bad p.roster p.stands);
 }
 
 -- the play ends by the fault of a line
-pub line_fault : (text front after begun : List ℕ) (count : ℕ) (fault : Fault) → AtBreak text front after → IsLineFault (begun ++ front) (count + 1) fault → EndsBy text begun count fault
-line_fault text front after begun count Memory at h = λ script more p. tt
-line_fault text front after begun count Stream at h = λ script more p. tt
-line_fault text front after begun count (BadCommand told) at h = λ script more p. rw h.0 (line_bad text front after begun count at h.1 script more p)
-line_fault text front after begun count (CommandLine e) at h = absurd h
-line_fault text front after begun count NotText at h = absurd h
-line_fault text front after begun count CannotReadManifest at h = absurd h
-line_fault text front after begun count (Manifest e) at h = absurd h
+pub line_fault : (text front after begun : List ℕ) (count : ℕ) (m : Mount) (fault : PlayFault) → AtBreak text front after → IsLineFault m (begun ++ front) (count + 1) fault → EndsBy text begun count m fault
+line_fault text front after begun count m (Device f) at h = λ layers script more p. tt
+line_fault text front after begun count m (BadLine told) at h = λ layers script more p. rw h.0 (line_bad text front after begun count m at h.1 layers script more p)
 
 -- a text without a line break goes on with the begun line
-pub line_begun : (text begun : List ℕ) (count : ℕ) → NoBreak text → GoesOn text begun count [] (begun ++ text) count
-line_begun text begun count unbroken script more p = record {
+pub line_begun : (text begun : List ℕ) (count : ℕ) (m : Mount) → NoBreak text → GoesOn text begun count m [] (begun ++ text) count m
+line_begun text begun count m unbroken layers script more p = record {
   ended = p.ended;
   lines = p.lines ∙ ap (λ (t : List ℕ). p.ended ++ script_lines t) (sym (append_assoc begun text more));
   counted = p.counted;
-  playable = p.playable;
+  roster = p.roster;
+  played = p.played;
+  stands = p.stands;
+  layered = p.layered;
   unbroken = All-append (λ x. nat_eq x 10 ≡ false) begun text p.unbroken unbroken;
 }
 
--- what goes on and then goes on
-pub goes_on : (a b c begun_a begun_b begun_c : List ℕ) (i j k : ℕ) → GoesOn a begun_a i b begun_b j → GoesOn b begun_b j c begun_c k → GoesOn a begun_a i c begun_c k
-goes_on a b c begun_a begun_b begun_c i j k f g script more p = g script more (f script more p)
-
--- what goes on and then ends
-pub then_ends : (a b begun_a begun_b : List ℕ) (i j : ℕ) (fault : Fault) → GoesOn a begun_a i b begun_b j → EndsBy b begun_b j fault → EndsBy a begun_a i fault
-then_ends a b begun_a begun_b i j fault f g script more p = g script more (f script more p)
-
 -- one more line of a text was played
-pub next_line : (from begun_from text begun line after begun_then : List ℕ) (count_from count count_then place : ℕ) → GoesOn from begun_from count_from text begun count → Some place ≡ position (λ b. nat_eq b 10) text → line ≡ begun ++ take place text → is_playable line ≡ true → after ≡ drop (place + 1) text → begun_then ≡ [] → count_then ≡ count + 1 → GoesOn from begun_from count_from after begun_then count_then
-next_line from begun_from text begun line after begun_then count_from count count_then place so_far found is playable rest none next script more p =
-    rw (rest, none, next) (line_played text (take place text) (drop (place + 1) text) begun count (at_break text place found) (rw is at playable) script more (so_far script more p))
+pub next_line : (from begun_from text begun line after begun_then : List ℕ) (count_from count count_then place : ℕ) (m_from m n : Mount) → GoesOn from begun_from count_from m_from text begun count m → Some place ≡ position (λ b. nat_eq b 10) text → line ≡ begun ++ take place text → PlaysLine m line n → after ≡ drop (place + 1) text → begun_then ≡ [] → count_then ≡ count + 1 → GoesOn from begun_from count_from m_from after begun_then count_then n
+next_line from begun_from text begun line after begun_then count_from count count_then place m_from m n so_far found is plays rest none next layers script more p =
+    rw (rest, none, next) (line_played text (take place text) (drop (place + 1) text) begun count m n (at_break text place found) (rw is at plays) layers script more (so_far layers script more p))
 
 -- a line of a text ended the play
-pub last_line : (from begun_from text begun line : List ℕ) (count_from count place : ℕ) (fault : Fault) → GoesOn from begun_from count_from text begun count → Some place ≡ position (λ b. nat_eq b 10) text → line ≡ begun ++ take place text → IsLineFault line (count + 1) fault → EndsBy from begun_from count_from fault
-last_line from begun_from text begun line count_from count place fault so_far found is ends =
-    then_ends from text begun_from begun count_from count fault so_far (line_fault text (take place text) (drop (place + 1) text) begun count fault (at_break text place found) (rw is at ends))
+pub last_line : (from begun_from text begun line : List ℕ) (count_from count place : ℕ) (m_from m : Mount) (fault : PlayFault) → GoesOn from begun_from count_from m_from text begun count m → Some place ≡ position (λ b. nat_eq b 10) text → line ≡ begun ++ take place text → IsLineFault m line (count + 1) fault → EndsBy from begun_from count_from m_from fault
+last_line from begun_from text begun line count_from count place m_from m fault so_far found is ends layers script more p =
+    line_fault text (take place text) (drop (place + 1) text) begun count m fault (at_break text place found) (rw is at ends) layers script more (so_far layers script more p)
 
 -- what follows the last line break of a text is begun
-pub rest_begun : (from begun_from text begun begun_then : List ℕ) (count_from count : ℕ) → GoesOn from begun_from count_from text begun count → None ≡ position (λ b. nat_eq b 10) text → begun_then ≡ begun ++ text → GoesOn from begun_from count_from [] begun_then count
-rest_begun from begun_from text begun begun_then count_from count so_far none is script more p =
-    rw is (line_begun text begun count (no_break text none) script more (so_far script more p))
+pub rest_begun : (from begun_from text begun begun_then : List ℕ) (count_from count : ℕ) (m_from m : Mount) → GoesOn from begun_from count_from m_from text begun count m → None ≡ position (λ b. nat_eq b 10) text → begun_then ≡ begun ++ text → GoesOn from begun_from count_from m_from [] begun_then count m
+rest_begun from begun_from text begun begun_then count_from count m_from m so_far none is layers script more p =
+    rw is (line_begun text begun count m (no_break text none) layers script more (so_far layers script more p))
 
 -- of a script that is known, what was read is played as far as its lines have ended
-abbrev pub Plays : Option (List ℕ) → Option (List ℕ) → List ℕ → ℕ → Type 0
-Plays None left begun count = Unit {0}
-Plays (Some script) None begun count = ⊥
-Plays (Some script) (Some left) begun count = IsPlayed script left begun count
+abbrev pub Plays : ℕ → Option (List ℕ) → Option (List ℕ) → List ℕ → ℕ → Mount → Type 0
+Plays layers None left begun count m = Unit {0}
+Plays layers (Some script) None begun count m = ⊥
+Plays layers (Some script) (Some left) begun count m = IsPlayed layers script left begun count m
 
 -- at the beginning nothing was read
-pub plays_none : (script : Option (List ℕ)) (begun : List ℕ) (count : ℕ) → begun ≡ [] → count ≡ 0 → Plays script script begun count
-plays_none None begun count none zero = tt
-plays_none (Some script) begun count none zero = record {
+pub plays_none : (script : Option (List ℕ)) (begun : List ℕ) (count : ℕ) (m : Mount) → begun ≡ [] → count ≡ 0 → BeginsOn m → Plays (layers_in m) script script begun count m
+plays_none None begun count m none zero begins = tt
+plays_none (Some script) begun count m none zero begins = record {
   ended = [];
   lines = ap (λ (b : List ℕ). script_lines (b ++ script)) (sym none);
   counted = sym zero;
-  playable = refl;
+  roster = nobody;
+  played = refl;
+  stands = begins;
+  layered = refl;
   unbroken = rw none (All-nil _);
 }
 
--- a read that fails leaves all as it was
-pub plays_kept : (script before after : Option (List ℕ)) (begun : List ℕ) (count : ℕ) → Keeps before after → Plays script before begun count → Plays script after begun count
-plays_kept None before after begun count kept p = tt
-plays_kept (Some script) None after begun count kept p = absurd p
-plays_kept (Some script) (Some left) None begun count kept p = absurd kept
-plays_kept (Some script) (Some left) (Some right) begun count kept p = rw kept p
+module _ (layers : ℕ) where
+  -- a read that fails leaves all as it was
+  plays_kept : (script before after : Option (List ℕ)) (begun : List ℕ) (count : ℕ) (m : Mount) → Keeps before after → Plays layers script before begun count m → Plays layers script after begun count m
+  plays_kept None before after begun count m kept p = tt
+  plays_kept (Some script) None after begun count m kept p = absurd p
+  plays_kept (Some script) (Some left) None begun count m kept p = absurd kept
+  plays_kept (Some script) (Some left) (Some right) begun count m kept p = rw kept p
 
--- a piece that was read is played
-pub plays_on : (script before after : Option (List ℕ)) (piece begun begun_then : List ℕ) (count count_then : ℕ) → Consumes before after piece → GoesOn piece begun count [] begun_then count_then → Plays script before begun count → Plays script after begun_then count_then
-plays_on None before after piece begun begun_then count count_then read on p = tt
-plays_on (Some script) None after piece begun begun_then count count_then read on p = absurd p
-plays_on (Some script) (Some left) None piece begun begun_then count count_then read on p = absurd read
-plays_on (Some script) (Some left) (Some right) piece begun begun_then count count_then read on p = on script right (rw read at p)
+  -- a piece that was read is played
+  plays_on : (script before after : Option (List ℕ)) (piece begun begun_then : List ℕ) (count count_then : ℕ) (m n : Mount) → Consumes before after piece → GoesOn piece begun count m [] begun_then count_then n → Plays layers script before begun count m → Plays layers script after begun_then count_then n
+  plays_on None before after piece begun begun_then count count_then m n read on p = tt
+  plays_on (Some script) None after piece begun begun_then count count_then m n read on p = absurd p
+  plays_on (Some script) (Some left) None piece begun begun_then count count_then m n read on p = absurd read
+  plays_on (Some script) (Some left) (Some right) piece begun begun_then count count_then m n read on p = on layers script right (rw read at p)
 
--- a piece that was read ends the play
-pub plays_until : (script before after : Option (List ℕ)) (piece begun : List ℕ) (count : ℕ) (fault : Fault) → Consumes before after piece → EndsBy piece begun count fault → Plays script before begun count → IfSome script (λ s. IsPlayFault s fault)
-plays_until None before after piece begun count fault read ends p = tt
-plays_until (Some script) None after piece begun count fault read ends p = absurd p
-plays_until (Some script) (Some left) None piece begun count fault read ends p = absurd read
-plays_until (Some script) (Some left) (Some right) piece begun count fault read ends p = ends script right (rw read at p)
+  -- a piece that was read ends the play
+  plays_until : (script before after : Option (List ℕ)) (piece begun : List ℕ) (count : ℕ) (m : Mount) (fault : PlayFault) → Consumes before after piece → EndsBy piece begun count m fault → Plays layers script before begun count m → IfSome script (λ s. IsPlayFault layers s fault)
+  plays_until None before after piece begun count m fault read ends p = tt
+  plays_until (Some script) None after piece begun count m fault read ends p = absurd p
+  plays_until (Some script) (Some left) None piece begun count m fault read ends p = absurd read
+  plays_until (Some script) (Some left) (Some right) piece begun count m fault read ends p = ends layers script right (rw read at p)
 
--- at the end of the script the begun line is its last
-last_cut : (begun : List ℕ) → NoBreak begun → script_lines (begun ++ []) ≡ begun ∷ []
-last_cut begun unbroken = rw append-nil (slice_split_none _ begun unbroken)
+  -- nothing is left after a read that gives no byte
+  plays_at_end : (script before after : Option (List ℕ)) (begun : List ℕ) (count : ℕ) (m : Mount) → Consumes before after [] → IsAtEnd after → Plays layers script before begun count m → Plays layers script (Some []) begun count m
+  plays_at_end None before after begun count m read at_end p = tt
+  plays_at_end (Some script) None after begun count m read at_end p = absurd p
+  plays_at_end (Some script) (Some left) None begun count m read at_end p = absurd read
+  plays_at_end (Some script) (Some left) (Some right) begun count m read at_end p = rw (read, at_end) at p
 
--- nothing is left after a read that gives no byte
-pub plays_at_end : (script before after : Option (List ℕ)) (begun : List ℕ) (count : ℕ) → Consumes before after [] → IsAtEnd after → Plays script before begun count → Plays script (Some []) begun count
-plays_at_end None before after begun count read at_end p = tt
-plays_at_end (Some script) None after begun count read at_end p = absurd p
-plays_at_end (Some script) (Some left) None begun count read at_end p = absurd read
-plays_at_end (Some script) (Some left) (Some right) begun count read at_end p = rw (read, at_end) at p
+  -- the whole script was played
+  pub plays_whole : (script : Option (List ℕ)) (begun : List ℕ) (count : ℕ) (m n : Mount) → PlaysLine m begun n → Plays layers script (Some []) begun count m → IfSome script (IsGoodScript layers)
+  plays_whole None begun count m n plays p = tt
+  plays_whole (Some script) begun count m n plays p =
+      let went = plays.leaves p.roster p.stands in
+      let lines : script_lines script ≡ p.ended ++ begun ∷ [] = p.lines ∙ ap (λ (ls : List (List ℕ)). p.ended ++ ls) (last_cut begun p.unbroken) in
+      (went.0, rw lines (more_played layers p.ended begun nobody p.roster went.0 p.played (rw p.layered at (plays.good p.roster p.stands)) went.1.0))
 
--- the whole script was played
-pub plays_whole : (script : Option (List ℕ)) (begun : List ℕ) (count : ℕ) → is_playable begun ≡ true → Plays script (Some []) begun count → IfSome script (λ s. list_all is_playable (script_lines s) ≡ true)
-plays_whole None begun count playable p = tt
-plays_whole (Some script) begun count playable p =
-    ap (list_all is_playable) (p.lines ∙ ap (λ (ls : List (List ℕ)). p.ended ++ ls) (last_cut begun p.unbroken))
-    ∙ list_all-append is_playable p.ended (begun ∷ []) ∙ both_true (list_all is_playable p.ended) (is_playable begun) p.playable playable
+  -- the last line ended the play
+  pub plays_until_end : (script : Option (List ℕ)) (begun : List ℕ) (count : ℕ) (m : Mount) (fault : PlayFault) → IsLineFault m begun (count + 1) fault → Plays layers script (Some []) begun count m → IfSome script (λ s. IsPlayFault layers s fault)
+  plays_until_end None begun count m fault h p = tt
+  plays_until_end (Some script) begun count m (Device f) h p = tt
+  plays_until_end (Some script) begun count m (BadLine told) h p = record {
+    before = p.ended;
+    line = begun;
+    after = [];
+    lines = p.lines ∙ ap (λ (ls : List (List ℕ)). p.ended ++ ls) (last_cut begun p.unbroken);
+    count = h.0 ∙ ap (λ n. n + 1) (sym p.counted);
+    roster = p.roster;
+    played = p.played;
+    bad = rw p.layered at (h.1 p.roster p.stands);
+  }
 
--- the last line ended the play
-pub plays_until_end : (script : Option (List ℕ)) (begun : List ℕ) (count : ℕ) (fault : Fault) → IsLineFault begun (count + 1) fault → Plays script (Some []) begun count → IfSome script (λ s. IsPlayFault s fault)
-plays_until_end None begun count fault h p = tt
-plays_until_end (Some script) begun count Memory h p = tt
-plays_until_end (Some script) begun count Stream h p = tt
-plays_until_end (Some script) begun count (BadCommand told) h p = record {
-  before = p.ended;
-  line = begun;
-  after = [];
-  lines = p.lines ∙ ap (λ (ls : List (List ℕ)). p.ended ++ ls) (last_cut begun p.unbroken);
-  count = h.0 ∙ ap (λ n. n + 1) (sym p.counted);
-  playable = p.playable;
-  not_skipped = h.1;
-}
-plays_until_end (Some script) begun count (CommandLine e) h p = absurd h
-plays_until_end (Some script) begun count NotText h p = absurd h
-plays_until_end (Some script) begun count CannotReadManifest h p = absurd h
-plays_until_end (Some script) begun count (Manifest e) h p = absurd h
+  -- a device that fails ends the play of any script
+  pub device_ends : (script : Option (List ℕ)) (fault : DeviceFault) → IfSome script (λ s. IsPlayFault layers s (Device fault))
+  device_ends None fault = tt
+  device_ends (Some script) fault = tt
 
--- a device that fails ends the play of any script
-pub device_ends : (script : Option (List ℕ)) (fault : Fault) → IsDeviceFault fault → IfSome script (λ s. IsPlayFault s fault)
-device_ends None fault h = tt
-device_ends (Some script) Memory h = tt
-device_ends (Some script) Stream h = tt
-device_ends (Some script) (BadCommand told) h = absurd h
-device_ends (Some script) (CommandLine e) h = absurd h
-device_ends (Some script) NotText h = absurd h
-device_ends (Some script) CannotReadManifest h = absurd h
-device_ends (Some script) (Manifest e) h = absurd h
+  -- what was read is played
+  pub read_on : (script before after : Option (List ℕ)) (piece fed begun begun_then : List ℕ) (read count count_then : ℕ) (m n : Mount) → Reads before after read piece → fed ≡ take read piece → GoesOn fed begun count m [] begun_then count_then n → Plays layers script before begun count m → Plays layers script after begun_then count_then n
+  read_on script before after piece fed begun begun_then read count count_then m n reads is on p = plays_on script before after fed begun begun_then count count_then m n (rw is reads.1) on p
 
--- a stream's fault is a device's
-pub stream_is_device : (k : ErrorKind) → IsDeviceFault (stream_fault k)
-stream_is_device k = elim k as (λ x. IsDeviceFault (stream_fault x)) [ OutOfMemory ↦ tt | _ ↦ tt ]
+  -- what was read ends the play
+  pub read_until : (script before after : Option (List ℕ)) (piece fed begun : List ℕ) (read count : ℕ) (m : Mount) (fault : PlayFault) → Reads before after read piece → fed ≡ take read piece → EndsBy fed begun count m fault → Plays layers script before begun count m → IfSome script (λ s. IsPlayFault layers s fault)
+  read_until script before after piece fed begun read count m fault reads is ends p = plays_until script before after fed begun count m fault (rw is reads.1) ends p
 
--- what was read is played
-pub read_on : (script before after : Option (List ℕ)) (piece fed begun begun_then : List ℕ) (read count count_then : ℕ) → Reads before after read piece → fed ≡ take read piece → GoesOn fed begun count [] begun_then count_then → Plays script before begun count → Plays script after begun_then count_then
-read_on script before after piece fed begun begun_then read count count_then reads is on p = plays_on script before after fed begun begun_then count count_then (rw is reads.1) on p
+  -- a read that gives no byte leaves nothing
+  pub read_end : (script before after : Option (List ℕ)) (piece begun : List ℕ) (read count : ℕ) (m : Mount) → Reads before after read piece → read ≡ 0 → Plays layers script before begun count m → Plays layers script (Some []) begun count m
+  read_end script before after piece begun read count m reads none p =
+      plays_at_end script before after begun count m (rw none at reads.1) (reads.2 none) p
 
--- what was read ends the play
-pub read_until : (script before after : Option (List ℕ)) (piece fed begun : List ℕ) (read count : ℕ) (fault : Fault) → Reads before after read piece → fed ≡ take read piece → EndsBy fed begun count fault → Plays script before begun count → IfSome script (λ s. IsPlayFault s fault)
-read_until script before after piece fed begun read count fault reads is ends p = plays_until script before after fed begun count fault (rw is reads.1) ends p
+  -- a read that was interrupted leaves all as it was
+  pub read_kept : (read : Option ℕ) (script before after : Option (List ℕ)) (piece begun : List ℕ) (count : ℕ) (m : Mount) → MatchOption read (Keeps before after) (λ n. Reads before after n piece) → ((n : ℕ) → read ≡ Some n → ⊥) → Plays layers script before begun count m → Plays layers script after begun count m
+  read_kept None script before after piece begun count m kept never p = plays_kept script before after begun count m kept p
+  read_kept (Some n) script before after piece begun count m kept never p = absurd (never n refl)
 
--- a read that gives no byte leaves nothing
-pub read_end : (script before after : Option (List ℕ)) (piece begun : List ℕ) (read count : ℕ) → Reads before after read piece → read ≡ 0 → Plays script before begun count → Plays script (Some []) begun count
-read_end script before after piece begun read count reads none p =
-    plays_at_end script before after begun count (rw none at reads.1) (reads.2 none) p
+-- ---- the marks of failures
 
--- a read that was interrupted leaves all as it was
-pub read_kept : (read : Option ℕ) (script before after : Option (List ℕ)) (piece begun : List ℕ) (count : ℕ) → MatchOption read (Keeps before after) (λ n. Reads before after n piece) → ((n : ℕ) → read ≡ Some n → ⊥) → Plays script before begun count → Plays script after begun count
-read_kept None script before after piece begun count kept never p = plays_kept script before after begun count kept p
-read_kept (Some n) script before after piece begun count kept never p = absurd (never n refl)
+-- an input that fails
+pub input_stream : (failed output : Bool) (left : ℕ) (fault : DeviceFault) → IsInputFault failed left fault → IsStreamFault failed left output (Device fault)
+input_stream failed output left fault = elim fault as (λ x. IsInputFault failed left x → IsStreamFault failed left output (Device x)) [
+  | Stream ↦ λ h. elim h [ | inl e ↦ inl e | inr e ↦ inr (inl e) ]
+  | Memory ↦ λ h. tt
+]
+
+-- an output that fails
+device_stream : (failed output : Bool) (left : ℕ) (fault : DeviceFault) → IsToldBy output fault → IsStreamFault failed left output (Device fault)
+device_stream failed output left fault = elim fault as (λ x. IsToldBy output x → IsStreamFault failed left output (Device x)) [ Stream ↦ λ h. inr (inr h) | Memory ↦ λ h. tt ]
+
+pub output_stream : {T : Type 0} (failed before after : Bool) (left : ℕ) (r : Result T PlayFault) → TellsPlay before after r → IfErr r (IsStreamFault failed left after)
+output_stream failed before after left (Ok x) h = tt
+output_stream failed before after left (Err (BadLine n)) h = tt
+output_stream failed before after left (Err (Device f)) h = device_stream failed after left f h
+
+pub error_stream : (T : Type 0) (failed before after : Bool) (left : ℕ) (fault : PlayFault) → TellsPlay {T = T} before after (Err fault) → IsStreamFault failed left after fault
+error_stream T failed before after left (BadLine n) h = tt
+error_stream T failed before after left (Device f) h = device_stream failed after left f h
+
+-- an output that fails as it hands on
+pub mark_stream : (failed before after : Bool) (left : ℕ) (fault : DeviceFault) → Notes before after fault → IsStreamFault failed left after (Device fault)
+mark_stream failed before after left fault = elim fault as (λ x. Notes before after x → IsStreamFault failed left after (Device x)) [ Stream ↦ λ h. inr (inr h) | Memory ↦ λ h. tt ]
+
+-- an output that goes well
+pub output_well : {T : Type 0} (first before after : Bool) (P : Type 0) (r : Result T PlayFault) → P → before ≡ first → TellsPlay before after r → OnOk r (P × (after ≡ first))
+output_well first before after P (Ok x) p same h = (p, h ∙ same)
+output_well first before after P (Err (BadLine n)) p same h = tt
+output_well first before after P (Err (Device f)) p same h = tt

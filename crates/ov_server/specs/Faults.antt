@@ -1,16 +1,18 @@
 -- The faults of the program.
-use Rattle.std.specs.Prelude.{◌≡◌, ℕ, List, Some, None, Result, Ok, Err, IfErr, IsUtf8}
+use Rattle.std.specs.Prelude.{◌≡◌, ℕ, Bool, true, List, Some, None, Result, Ok, Err, IsUtf8}
+use Rattle.std.specs.Option.{option_map_or}
 use Rattle.toml.specs.Data.{Members}
 use Rattle.toml.specs.Parse.{parse_document}
-use Rattle.ov_wire.specs.Manifests.{whole_of}
-use Rattle.std.specs.declared.io.ErrorKind.{ErrorKind}
-use Rattle.std.specs.declared.io.ErrorKind.TheVariants.{OutOfMemory}
+use Rattle.ov_wire.specs.Manifests.{layer_count}
+use Rattle.ov_wire.specs.ManifestLayers.{manifest_of}
 use Rattle.clap.specs.Values.{kind_of}
 use Rattle.clap.specs.declared.error.kind.ErrorKind.{ErrorKind as LineErrorKind}
 use Rattle.clap.specs.declared.error.kind.ErrorKind.TheVariants as kind
 use Rattle.clap.specs.declared.error.Error.{Error}
 use Rattle.ov_wire.specs.declared.manifest.fault.ManifestFault.{ManifestFault}
 use Rattle.ov_wire.specs.declared.manifest.fault.ManifestFault.TheVariants as manifest
+use Rattle.ov_server.specs.declared.fault.DeviceFault.{DeviceFault}
+use Rattle.ov_server.specs.declared.fault.DeviceFault.TheVariants as device
 use Rattle.ov_server.specs.declared.fault.Fault.{Fault}
 use Rattle.ov_server.specs.declared.fault.Fault.TheVariants.{CommandLine, NotText, CannotReadManifest, Manifest, Stream, BadCommand, Memory}
 
@@ -30,10 +32,10 @@ status_of Stream = 1
 status_of (BadCommand line) = 2
 status_of Memory = 3
 
--- a stream that wants memory is no failing device
-abbrev pub stream_fault : ErrorKind → Fault
-stream_fault OutOfMemory = Memory
-stream_fault _ = Stream
+-- the fault of a device
+abbrev pub device_fault : DeviceFault → Fault
+device_fault device.Stream = Stream
+device_fault device.Memory = Memory
 
 -- the fault of a manifest
 abbrev pub manifest_fault : ManifestFault → Fault
@@ -49,14 +51,37 @@ line_fault error _ = CommandLine error
 abbrev pub memory : Fault
 memory = Memory
 
+abbrev pub no_memory : DeviceFault
+no_memory = device.Memory
+
+-- how many layers the bytes of a manifest have, none where they are no TOML
+abbrev pub layers_told : List ℕ → ℕ
+layers_told bytes = option_map_or layer_count (parse_document bytes) 0
+
+-- THE FIRST FAULT of the bytes of a manifest: that they are no text or no TOML, or else that of the document
+pub record IsFaultOf (bytes : List ℕ) (f : ManifestFault) : Type 0 where
+  pub not_utf8 : (IsUtf8 bytes → ⊥) → f ≡ manifest.NotToml
+  pub not_toml : parse_document bytes ≡ None → f ≡ manifest.NotToml
+  pub document : (m : Members) → IsUtf8 bytes → parse_document bytes ≡ Some m → manifest_of m ≡ Err f
+
 -- a run ends by this fault of its manifest, unless memory ran out
 abbrev pub EndsByManifest : {T : Type 0} → Result T Fault → ManifestFault → Type 0
 EndsByManifest (Ok x) wanted = ⊥
 EndsByManifest (Err Memory) wanted = Unit {0}
 EndsByManifest (Err fault) wanted = fault ≡ Manifest wanted
 
--- a manifest that is no text, no TOML, or at fault above its entries ends the run
-pub record RefusesManifest {T : Type 0} (bytes : List ℕ) (result : Result T Fault) : Type 0 where
-  pub not_utf8 : (IsUtf8 bytes → ⊥) → EndsByManifest result manifest.NotToml
-  pub not_toml : parse_document bytes ≡ None → EndsByManifest result manifest.NotToml
-  pub whole : (m : Members) → IsUtf8 bytes → parse_document bytes ≡ Some m → IfErr (whole_of m) (EndsByManifest result)
+-- a run tells no fault of its manifest but the first, and ends by it where there is one, unless memory ran out
+pub record AnswersManifest {T : Type 0} (bytes : List ℕ) (result : Result T Fault) : Type 0 where
+  pub told : (f : ManifestFault) → result ≡ Err (Manifest f) → IsFaultOf bytes f
+  pub ends : (f : ManifestFault) → IsFaultOf bytes f → EndsByManifest result f
+
+-- how the reading of a manifest ends early
+abbrev pub IsManifestFault : Fault → Type 0
+IsManifestFault (Manifest fault) = Unit {0}
+IsManifestFault Memory = Unit {0}
+IsManifestFault _ = ⊥
+
+-- how `show` ends early: also by its output, where that failed
+abbrev pub IsShowFault : Bool → Fault → Type 0
+IsShowFault failed Stream = failed ≡ true
+IsShowFault failed fault = IsManifestFault fault

@@ -1,12 +1,11 @@
 // The lines that answer commands.
-ghost use Rattle.std.specs.Prelude.{◌∷◌, ◌++◌, [], Some, OnOk};
-ghost use Rattle.std.specs.Io.KnownBytes.{Appends};
+ghost use Rattle.std.specs.Prelude.{◌≡◌, ◌∷◌, ◌++◌, [], Some, OnOk, string_bytes};
 ghost use Rattle.ov_server.specs.Answers.{answer_line};
 
 use ov_base::{Errno, Reply};
 use ov_script::ReplyLine;
-use std::io::Write;
-use std::{fmt, io};
+use std::alloc::AllocError;
+use std::fmt;
 
 /// What a command comes to, but for the trees that `layer` and `merge` print.
 #[derive(Drop)]
@@ -47,10 +46,10 @@ impl fmt::Display for AnswerLine<'_> {
     }
 }
 
-/// Writes the line of an answer.
-pub fn write_answer<W: Write>(answer: &Answer, writer: &mut W) -> io::Result<()>
-    ensures { OnOk result (Appends (W.contents writer.old) (W.contents writer.new) (answer_line answer.now ++ 10 ∷ [])) }
+/// Adds the line of an answer to a text.
+pub fn write_answer(answer: &Answer, text: &mut String) -> Result<(), AllocError>
+    ensures { OnOk result (string_bytes text.new ≡ string_bytes text.old ++ answer_line answer.now ++ 10 ∷ []) }
 {
     let line = AnswerLine(answer);
-    writeln!(writer, "{line}")
+    writeln!(text, "{line}")
 }

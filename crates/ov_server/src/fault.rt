@@ -1,12 +1,10 @@
 // The faults of the program.
 ghost use Rattle.std.specs.Prelude.{◌≡◌};
-ghost use Rattle.std.specs.IoError.{error_kind};
 ghost use Rattle.clap.specs.Values.{kind_of};
 ghost use Rattle.ov_server.specs.Faults as faults;
 
 use ov_wire::ManifestFault;
 use std::alloc::{AllocError, AllocFailed};
-use std::io;
 use thiserror::Error;
 
 /// Why a run ended before all was done. Its text is what standard error tells after the program's name.
@@ -89,14 +87,38 @@ impl<T: Drop> From<AllocFailed<T>> for Fault {
     }
 }
 
-// A reader or a writer that wants memory is no failing device.
-impl From<io::Error> for Fault {
-    ghost from_gives = { λ error fault. fault ≡ faults.stream_fault (error_kind error) };
+/// Why a device gave nothing, or took nothing.
+#[derive(Debug, Drop)]
+pub enum DeviceFault {
+    /// It failed.
+    Stream,
+    /// Memory ran out.
+    Memory,
+}
 
-    fn from(fault: io::Error) -> Fault {
-        match fault.kind() {
-            io::ErrorKind::OutOfMemory => Fault::Memory,
-            _ => Fault::Stream,
+impl From<DeviceFault> for Fault {
+    ghost from_gives = { λ error fault. fault ≡ faults.device_fault error };
+
+    fn from(fault: DeviceFault) -> Fault {
+        match fault {
+            DeviceFault::Stream => Fault::Stream,
+            DeviceFault::Memory => Fault::Memory,
         }
+    }
+}
+
+impl From<AllocError> for DeviceFault {
+    ghost from_gives = { λ _ fault. fault ≡ faults.no_memory };
+
+    fn from(_fault: AllocError) -> DeviceFault {
+        DeviceFault::Memory
+    }
+}
+
+impl<T: Drop> From<AllocFailed<T>> for DeviceFault {
+    ghost from_gives = { λ _ fault. fault ≡ faults.no_memory };
+
+    fn from(_fault: AllocFailed<T>) -> DeviceFault {
+        DeviceFault::Memory
     }
 }

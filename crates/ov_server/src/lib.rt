@@ -4,6 +4,7 @@
 mod answers;
 mod arguments;
 mod commands;
+mod devices;
 mod fault;
 mod object_lines;
 mod play;
@@ -13,6 +14,7 @@ mod show;
 mod tests;
 
 pub use arguments::{Invocation, command_line};
-pub use fault::Fault;
+pub use devices::{Input, Output};
+pub use fault::{DeviceFault, Fault};
 pub use play::play_run;
 pub use show::show_run;

@@ -1,46 +1,58 @@
 // `play`: a script on a mount.
-ghost use Rattle.std.specs.Prelude.{◌≡◌, ◌+◌, ◌<◌, ◌≤◌, ◌^◌, [], true, length, nat_eq, position, IfErr, IfOk, IfSome, MatchOption, OnOk};
-ghost use Rattle.std.specs.Io.KnownBytes.{Keeps};
-ghost use Rattle.std.specs.List.{list_all};
-ghost use Rattle.ov_server.specs.Faults.{RefusesManifest};
-ghost use Rattle.ov_server.specs.Scripts as scripts;
-ghost use Rattle.ov_server.specs.Scripts.{EndsBy, GoesOn, IsDeviceFault, IsLineFault, IsPlayFault, is_playable, script_lines};
+ghost use Rattle.std.specs.Prelude.{◌≡◌, ℕ, ◌+◌, ◌*◌, ◌<◌, ◌≤◌, ◌^◌, [], length, nat_eq, position, IfErr, IfOk, IfSome, OnOk};
+ghost use Rattle.ov_server.specs.Faults.{AnswersManifest, layers_told};
+ghost use Rattle.ov_server.specs.Plays as plays;
+ghost use Rattle.ov_server.specs.Plays.{BeginsOn, EndsBy, GoesOn, IsLineFault, IsPlayFault, PlaysLine, TellsPlay, layers_in};
+ghost use Rattle.ov_server.specs.Scripts.{IsGoodScript, IsRunFault, IsStreamFault};
 
 use crate::commands::{LineFault, play_line};
-use crate::fault::Fault;
-use crate::show::layers_in;
+use crate::devices::{Input, Output};
+use crate::fault::{DeviceFault, Fault};
+use crate::show;
 use private_mount::Mount;
-use std::alloc::Global;
+use std::alloc::{AllocError, Global};
 use std::hash::RandomState;
-use std::io;
 use std::io::{Read, Write};
 
 /// How many bytes one read asks for.
 const PIECE: usize = 65_536;
 
-/// Plays the script that a reader gives on the mount of the layers that the bytes of a manifest spell, and writes a line for each
-/// command. It reads at most 4,294,967,295 times; one read more counts as one that failed. The layers hash names with `keys`.
+/// Plays the script that an input gives on the mount of the layers that the bytes of a manifest spell, and puts a line out for each
+/// command. The layers hash names with `keys`.
 pub fn play_run<R: Read, W: Write>(
     alloc: Global,
     keys: RandomState,
     manifest: &[u8],
-    reader: &mut R,
-    writer: &mut W,
+    input: &mut Input<R>,
+    output: &mut Output<W>,
 ) -> Result<(), Fault>
-    ensures ok { OnOk result (IfSome (R.remaining reader.old) (λ script. list_all is_playable (script_lines script) ≡ true)) }
-    ensures err { IfErr result (λ fault. IfSome (R.remaining reader.old) (λ script. scripts.IsRunFault script fault)) }
-    ensures manifest { RefusesManifest manifest.now result }
+    ensures ok { OnOk result (IfSome (R.remaining input.old.reader) (IsGoodScript (layers_told manifest.now))) }
+    ensures err { IfErr result (IsRunFault (R.remaining input.old.reader) (layers_told manifest.now)) }
+    ensures stream { IfErr result (IsStreamFault input.new.failed input.new.reads_left output.new.failed) }
+    ensures well { OnOk result ((input.new.failed ≡ input.old.failed) × (output.new.failed ≡ output.old.failed)) }
+    ensures manifest { AnswersManifest manifest.now result }
 {
-    let layers = layers_in(alloc, keys, manifest)?;
+    let layers = show::layers_in(alloc, keys, manifest)?;
     let mut script = Script {
         mount: Mount::new(alloc, layers),
         pending: Vec::new(alloc),
         lines: 0,
         alloc,
     };
-    let outcome = script.play(reader, writer);
-    writer.flush()?;
-    outcome
+    let outcome = script.play(input, output);
+    output.flush()?;
+    outcome?;
+    Ok(())
+}
+
+/// Why a play ended before its script did.
+#[derive(Drop)]
+pub enum PlayFault {
+    /// A line, counted from 1, is bad.
+    BadLine {
+        line: u64,
+    },
+    Device(DeviceFault),
 }
 
 // A script on its way: the mount as the lines before left it, how many they were, and the begun line.
@@ -53,38 +65,46 @@ struct Script {
 }
 
 impl Script {
-    fn play<R: Read, W: Write>(&mut self, reader: &mut R, writer: &mut W) -> Result<(), Fault>
+    fn play<R: Read, W: Write>(
+        &mut self,
+        input: &mut Input<R>,
+        output: &mut Output<W>,
+    ) -> Result<(), PlayFault>
         requires pending { self.old.pending.items ≡ [] }
         requires lines { self.old.lines ≡ 0 }
-        ensures ok { OnOk result (IfSome (R.remaining reader.old) (λ script. list_all is_playable (script_lines script) ≡ true)) }
-        ensures err { IfErr result (λ fault. IfSome (R.remaining reader.old) (λ script. IsPlayFault script fault)) }
+        requires mount { BeginsOn self.old.mount }
+        ensures ok { OnOk result (IfSome (R.remaining input.old.reader) (IsGoodScript (layers_in self.old.mount))) }
+        ensures err { IfErr result (λ fault. IfSome (R.remaining input.old.reader) (λ script. IsPlayFault (layers_in self.old.mount) script fault)) }
+        ensures stream { IfErr result (plays.IsStreamFault input.new.failed input.new.reads_left output.new.failed) }
+        ensures well { OnOk result ((input.new.failed ≡ input.old.failed) × (output.new.failed ≡ output.old.failed)) }
     {
         let mut buffer = vec![in self.alloc; 0u8; PIECE]?;
         let piece = buffer.as_mut_slice();
-        for _read in 0..u32::MAX {
-            let Some(count) = read_some(reader, piece)? else {
+        for _read in 0..input.reads_left() {
+            let Some(count) = input.read(piece)? else {
                 continue;
             };
             if count == 0 {
-                return self.end(writer);
+                return self.end(output);
             }
-            self.feed(&piece[..count], writer)?;
-            writer.flush()?;
+            self.feed(&piece[..count], output)?;
+            output.flush()?;
         }
-        Err(Fault::Stream)
+        Err(PlayFault::Device(DeviceFault::Stream))
     }
 
     // Plays the lines that end in a piece and keeps what begins a further one.
-    fn feed<W: Write>(&mut self, piece: &[u8], writer: &mut W) -> Result<(), Fault>
+    fn feed<W: Write>(&mut self, piece: &[u8], output: &mut Output<W>) -> Result<(), PlayFault>
         requires { self.old.lines + length piece.now < 2 ^ 64 }
-        ensures ok { OnOk result (GoesOn piece.now self.old.pending.items self.old.lines [] self.new.pending.items self.new.lines) }
-        ensures err { IfErr result (EndsBy piece.now self.old.pending.items self.old.lines) }
+        ensures ok { OnOk result (GoesOn piece.now self.old.pending.items self.old.lines self.old.mount [] self.new.pending.items self.new.lines self.new.mount) }
+        ensures err { IfErr result (EndsBy piece.now self.old.pending.items self.old.lines self.old.mount) }
         ensures lines { self.new.lines ≤ self.old.lines + length piece.now }
+        ensures stream { TellsPlay output.old.failed output.new.failed result }
     {
         let mut rest = piece;
         'lines: while let Some(end) = line_break(rest) {
             self.pending.extend_from_slice(&rest[..end])?;
-            self.line(writer)?;
+            self.line(output)?;
             rest = &rest[end + 1..];
         }
         self.pending.extend_from_slice(rest)?;
@@ -92,47 +112,36 @@ impl Script {
     }
 
     // Plays the line that the end of the input ends.
-    fn end<W: Write>(&mut self, writer: &mut W) -> Result<(), Fault>
+    fn end<W: Write>(&mut self, output: &mut Output<W>) -> Result<(), PlayFault>
         requires { self.old.lines + 1 < 2 ^ 64 }
-        ensures ok { OnOk result (is_playable self.old.pending.items ≡ true) }
-        ensures err { IfErr result (IsLineFault self.old.pending.items (self.old.lines + 1)) }
+        ensures ok { OnOk result (PlaysLine self.old.mount self.old.pending.items self.new.mount) }
+        ensures err { IfErr result (IsLineFault self.old.mount self.old.pending.items (self.old.lines + 1)) }
+        ensures stream { TellsPlay output.old.failed output.new.failed result }
     {
         if self.pending.is_empty() {
             Ok(())
         } else {
-            self.line(writer)
+            self.line(output)
         }
     }
 
     // Plays the pending line.
-    fn line<W: Write>(&mut self, writer: &mut W) -> Result<(), Fault>
+    fn line<W: Write>(&mut self, output: &mut Output<W>) -> Result<(), PlayFault>
         requires { self.old.lines + 1 < 2 ^ 64 }
-        ensures ok { OnOk result (is_playable self.old.pending.items ≡ true) }
-        ensures err { IfErr result (IsLineFault self.old.pending.items (self.old.lines + 1)) }
+        ensures ok { OnOk result (PlaysLine self.old.mount self.old.pending.items self.new.mount) }
+        ensures err { IfErr result (IsLineFault self.old.mount self.old.pending.items (self.old.lines + 1)) }
+        ensures stream { TellsPlay output.old.failed output.new.failed result }
         ensures pending { self.new.pending.items ≡ [] }
         ensures lines { self.new.lines ≡ self.old.lines + 1 }
     {
         self.lines += 1;
-        let outcome = play_line(self.alloc, &mut self.mount, self.pending.as_slice(), writer);
+        let outcome = play_line(self.alloc, &mut self.mount, self.pending.as_slice(), output);
         self.pending.clear();
         match outcome {
             Ok(()) => Ok(()),
-            Err(LineFault::BadCommand) => Err(Fault::BadCommand { line: self.lines }),
-            Err(LineFault::Run(fault)) => Err(fault),
+            Err(LineFault::BadCommand) => Err(PlayFault::BadLine { line: self.lines }),
+            Err(LineFault::Device(fault)) => Err(PlayFault::Device(fault)),
         }
-    }
-}
-
-// How many bytes one read gives, 0 at the end; none where it was interrupted.
-fn read_some<R: Read>(reader: &mut R, piece: &mut [u8]) -> Result<Option<usize>, Fault>
-    requires { 0 < length piece.old }
-    ensures ok { IfOk result (λ read. MatchOption read (Keeps (R.remaining reader.old) (R.remaining reader.new)) (λ count. scripts.Reads (R.remaining reader.old) (R.remaining reader.new) count piece.new)) }
-    ensures err { IfErr result IsDeviceFault }
-{
-    match reader.read(piece) {
-        Ok(count) => Ok(Some(count)),
-        Err(fault) if fault.kind() == io::ErrorKind::Interrupted => Ok(None),
-        Err(fault) => Err(Fault::from(fault)),
     }
 }
 
@@ -142,4 +151,31 @@ fn line_break(text: &[u8]) -> Option<usize>
     ensures within { IfSome result (λ place. place < length text.now) }
 {
     text.iter().position(|byte| *byte == b'\n')
+}
+
+impl From<PlayFault> for Fault {
+    ghost from_gives = { λ fault gave. gave ≡ plays.play_fault fault };
+
+    fn from(fault: PlayFault) -> Fault {
+        match fault {
+            PlayFault::BadLine { line } => Fault::BadCommand { line },
+            PlayFault::Device(fault) => Fault::from(fault),
+        }
+    }
+}
+
+impl From<DeviceFault> for PlayFault {
+    ghost from_gives = { λ fault gave. gave ≡ plays.play_device fault };
+
+    fn from(fault: DeviceFault) -> PlayFault {
+        PlayFault::Device(fault)
+    }
+}
+
+impl From<AllocError> for PlayFault {
+    ghost from_gives = { λ _ gave. gave ≡ plays.play_memory };
+
+    fn from(_fault: AllocError) -> PlayFault {
+        PlayFault::Device(DeviceFault::Memory)
+    }
 }

@@ -1,15 +1,16 @@
 // Trees as object lines, each directory before what is in it, names by their bytes.
-ghost use Rattle.std.specs.Prelude.{IfErr};
-ghost use Rattle.ov_server.specs.Scripts.{IsDeviceFault};
+ghost use Rattle.std.specs.Prelude.{◌≡◌, ◌∷◌, ◌++◌, [], OnOk, string_bytes};
+ghost use Rattle.ov_server.specs.Devices.{Marks};
+ghost use Rattle.ov_server.specs.Objects.{object_line, whiteout_line};
 
-use crate::fault::Fault;
+use crate::devices::Output;
+use crate::fault::DeviceFault;
 use crate::object_lines::{ObjectLine, WhiteoutLine};
 use dir_listing::names;
 use layer_tree::{Entry, Layer, Node, ROOT};
 use merged_lookup::{Found, Layers, Stack};
 use ov_base::Name;
 use std::alloc::{AllocError, Global};
-use std::io;
 use std::io::Write;
 
 // A tree that can be printed: one layer, or the merge of all.
@@ -110,103 +111,148 @@ struct Level<D> {
     left: Vec<Name>,
 }
 
-/// Writes the tree of a layer.
-pub fn write_layer<W: Write>(alloc: Global, layer: &Layer, writer: &mut W) -> Result<(), Fault>
-    ensures { IfErr result IsDeviceFault }
-{
-    write_tree(alloc, &LayerTree(layer), writer)
+// A walk over a tree: the path that it has come to, and the directories on the way.
+#[derive(Drop)]
+struct Walk<D> {
+    path: Vec<Name>,
+    levels: Vec<Level<D>>,
 }
 
-/// Writes the merged tree.
-pub fn write_merge<W: Write>(alloc: Global, layers: &Layers, writer: &mut W) -> Result<(), Fault>
-    ensures { IfErr result IsDeviceFault }
+/// Puts the tree of a layer out.
+pub fn write_layer<W: Write>(
+    alloc: Global,
+    layer: &Layer,
+    output: &mut Output<W>,
+) -> Result<(), DeviceFault>
+    ensures { Marks output.old.failed output.new.failed result }
 {
-    write_tree(alloc, &MergedTree(layers), writer)
+    write_tree(alloc, &LayerTree(layer), output)
 }
 
-fn write_tree<T: Tree, W: Write>(alloc: Global, tree: &T, writer: &mut W) -> Result<(), Fault>
-    ensures { IfErr result IsDeviceFault }
+/// Puts the merged tree out.
+pub fn write_merge<W: Write>(
+    alloc: Global,
+    layers: &Layers,
+    output: &mut Output<W>,
+) -> Result<(), DeviceFault>
+    ensures { Marks output.old.failed output.new.failed result }
 {
-    let mut path = Vec::new(alloc);
-    let mut levels = Vec::new(alloc);
-    levels.push(entered(alloc, tree, tree.root(), path.as_slice(), writer)?)?;
+    write_tree(alloc, &MergedTree(layers), output)
+}
+
+fn write_tree<T: Tree, W: Write>(
+    alloc: Global,
+    tree: &T,
+    output: &mut Output<W>,
+) -> Result<(), DeviceFault>
+    ensures { Marks output.old.failed output.new.failed result }
+{
+    let mut walk = begun(alloc, tree, &mut output.text)?;
     for _ in 0..u64::MAX {
-        let Some(mut level) = levels.pop() else {
+        if !go_on(alloc, tree, &mut walk, &mut output.text)? {
             return Ok(());
-        };
-        match level.left.pop() {
-            None => {
-                let _ = path.pop();
-            }
-            Some(name) => {
-                path.push(name)?;
-                let child = tree.child(&level.directory, &name);
-                levels.push(level)?;
-                match written(alloc, tree, child, path.as_slice(), writer)? {
-                    Some(below) => levels.push(below)?,
-                    None => {
-                        let _ = path.pop();
-                    }
-                }
-            }
+        }
+        output.relieve()?;
+    }
+    // No memory holds a tree of so many objects.
+    Err(DeviceFault::Memory)
+}
+
+// A walk at the root of a tree, of which it adds the line.
+fn begun<T: Tree>(
+    alloc: Global,
+    tree: &T,
+    text: &mut String,
+) -> Result<Walk<T::Directory>, AllocError> {
+    let path = Vec::new(alloc);
+    let mut levels = Vec::new(alloc);
+    levels.push(entered(alloc, tree, tree.root(), path.as_slice(), text)?)?;
+    Ok(Walk { path, levels })
+}
+
+// Goes on to the next name and adds its line, or goes back out of a directory; false where all was printed.
+fn go_on<T: Tree>(
+    alloc: Global,
+    tree: &T,
+    walk: &mut Walk<T::Directory>,
+    text: &mut String,
+) -> Result<bool, AllocError> {
+    let Some(mut level) = walk.levels.pop() else {
+        return Ok(false);
+    };
+    let Some(name) = level.left.pop() else {
+        let _ = walk.path.pop();
+        return Ok(true);
+    };
+    walk.path.push(name)?;
+    let child = tree.child(&level.directory, &name);
+    walk.levels.push(level)?;
+    match written(alloc, tree, child, walk.path.as_slice(), text)? {
+        Some(below) => walk.levels.push(below)?,
+        None => {
+            let _ = walk.path.pop();
         }
     }
-    Err(Fault::Stream)
+    Ok(true)
 }
 
-// Writes the line of what stands at a path, and lists it where it is a directory.
-fn written<T: Tree, W: Write>(
+// Adds the line of what stands at a path, and lists it where it is a directory.
+fn written<T: Tree>(
     alloc: Global,
     tree: &T,
     child: Child<'_, T::Directory>,
     path: &[Name],
-    writer: &mut W,
-) -> Result<Option<Level<T::Directory>>, Fault>
-    ensures { IfErr result IsDeviceFault }
-{
+    text: &mut String,
+) -> Result<Option<Level<T::Directory>>, AllocError> {
     match child {
-        Child::Directory(directory) => Ok(Some(entered(alloc, tree, directory, path, writer)?)),
+        Child::Directory(directory) => Ok(Some(entered(alloc, tree, directory, path, text)?)),
         Child::Inode(node) => {
-            write_object(node, path, T::WITH_MARKS, writer)?;
+            write_object(node, path, T::WITH_MARKS, text)?;
             Ok(None)
         }
         Child::Whiteout => {
-            let line = WhiteoutLine(path);
-            writeln!(writer, "{line}")?;
+            write_whiteout(path, text)?;
             Ok(None)
         }
         Child::Nothing => Ok(None),
     }
 }
 
-// Writes the line of a directory and lists it.
-fn entered<T: Tree, W: Write>(
+// Adds the line of a directory and lists it.
+fn entered<T: Tree>(
     alloc: Global,
     tree: &T,
     directory: T::Directory,
     path: &[Name],
-    writer: &mut W,
-) -> Result<Level<T::Directory>, Fault>
-    ensures { IfErr result IsDeviceFault }
-{
+    text: &mut String,
+) -> Result<Level<T::Directory>, AllocError> {
     if let Some(node) = tree.node(&directory) {
-        write_object(node, path, T::WITH_MARKS, writer)?;
+        write_object(node, path, T::WITH_MARKS, text)?;
     }
     let mut left = tree.names(alloc, &directory)?;
     left.reverse();
     Ok(Level { directory, left })
 }
 
-fn write_object<W: Write>(
+fn write_object(
     node: &Node,
     path: &[Name],
     with_marks: bool,
-    writer: &mut W,
-) -> io::Result<()> {
+    text: &mut String,
+) -> Result<(), AllocError>
+    ensures { OnOk result (string_bytes text.new ≡ string_bytes text.old ++ object_line with_marks node.now path.now ++ 10 ∷ []) }
+{
     let line = ObjectLine {
         node,
         path,
         with_marks,
     };
-    writeln!(writer, "{line}")
+    writeln!(text, "{line}")
+}
+
+fn write_whiteout(path: &[Name], text: &mut String) -> Result<(), AllocError>
+    ensures { OnOk result (string_bytes text.new ≡ string_bytes text.old ++ whiteout_line path.now ++ 10 ∷ []) }
+{
+    let line = WhiteoutLine(path);
+    writeln!(text, "{line}")
 }

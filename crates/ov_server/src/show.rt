@@ -1,8 +1,9 @@
 // `show`: the merged tree of a manifest.
-ghost use Rattle.std.specs.Prelude.{IfErr};
-ghost use Rattle.ov_server.specs.Faults.{RefusesManifest};
-ghost use Rattle.ov_server.specs.Scripts.{IsManifestOrDeviceFault};
+ghost use Rattle.std.specs.Prelude.{◌≡◌, length, IfErr, IfOk, OnOk};
+ghost use Rattle.merged_lookup.specs.Merged.{trees};
+ghost use Rattle.ov_server.specs.Faults.{AnswersManifest, IsManifestFault, IsShowFault, layers_told};
 
+use crate::devices::Output;
 use crate::fault::Fault;
 use crate::print_tree::write_merge;
 use merged_lookup::Layers;
@@ -11,26 +12,29 @@ use std::alloc::Global;
 use std::hash::RandomState;
 use std::io::Write;
 
-/// Writes the merged tree of the layers that the bytes of a manifest spell. The layers hash names with `keys`.
+/// Puts out the merged tree of the layers that the bytes of a manifest spell. The layers hash names with `keys`.
 pub fn show_run<W: Write>(
     alloc: Global,
     keys: RandomState,
     manifest: &[u8],
-    writer: &mut W,
+    output: &mut Output<W>,
 ) -> Result<(), Fault>
-    ensures manifest { RefusesManifest manifest.now result }
-    ensures err { IfErr result IsManifestOrDeviceFault }
+    ensures manifest { AnswersManifest manifest.now result }
+    ensures err { IfErr result (IsShowFault output.new.failed) }
+    ensures well { OnOk result (output.new.failed ≡ output.old.failed) }
 {
     let layers = layers_in(alloc, keys, manifest)?;
-    write_merge(alloc, &layers, writer)?;
-    writer.flush()?;
+    let outcome = write_merge(alloc, &layers, output);
+    output.flush()?;
+    outcome?;
     Ok(())
 }
 
 /// The layers that the bytes of a manifest spell.
 pub fn layers_in(alloc: Global, keys: RandomState, manifest: &[u8]) -> Result<Layers, Fault>
-    ensures manifest { RefusesManifest manifest.now result }
-    ensures err { IfErr result IsManifestOrDeviceFault }
+    ensures manifest { AnswersManifest manifest.now result }
+    ensures count { IfOk result (λ layers. length (trees layers) ≡ layers_told manifest.now) }
+    ensures err { IfErr result IsManifestFault }
 {
     let (upper, lowers, _) = manifest_of(alloc, keys, manifest)?;
     Ok(Layers::new(upper, lowers))

@@ -1,70 +1,123 @@
-use Rattle.std.proofs.Common.{take, refl, arith}
+use Rattle.std.proofs.Common.{◌≡◌, ◌∙◌, ◌+◌, ◌*◌, ◌<◌, ◌≤◌, ◌^◌, ℕ, add-zero, take, refl, arith, length, min, inl, inr}
 use Rattle.std.proofs.lemmas.List.{length-take}
 use Rattle.std.proofs.lemmas.Result.{err_from_is_err_and, IfErr-weaker, on_ok_weaker}
-use Rattle.ov_server.specs.declared.fault.Fault.TheVariants.{Stream, Memory}
-use Rattle.ov_server.proofs.Scripts.{device_ends, plays_none, plays_until_end, plays_whole, read_end, read_kept, read_on, read_until, stream_is_device}
+use Rattle.ov_server.specs.Plays.{layers_in}
+use Rattle.ov_server.specs.declared.fault.DeviceFault.TheVariants.{Stream}
+use Rattle.ov_server.proofs.Scripts.{device_ends, error_stream, input_stream, mark_stream, output_stream, output_well, plays_none, plays_until_end, plays_whole, read_end, read_kept, read_on, read_until}
 use Rattle.ov_server.proofs.play.Script.play.Goals as goal
 
-pub loop-read-init : goal.loop-read-init
-loop-read-init g c = (
-  plays_none (g.R.Read.remaining c.args.reader.now) c.args.self.now.pending.items c.args.self.now.lines c.requires.pending c.requires.lines,
-  omega (arith, c.requires.lines),
-  omega (arith, c.as_mut_slice-piece.ensures.len, c.in_ok-buffer.ensures.len),
-)
+-- how many lines there are at most, and how many reads are left
+no_lines : (lines : ℕ) → lines ≡ 0 → lines ≤ 65536 * 0
+no_lines lines e = omega arith
 
-pub loop-read-preserved : goal.loop-read-preserved
-loop-read-preserved g c =
-    let reads = rw c.in-Some.is at c.in_ok-count.ensures.ok in
-    let invariant = c.loop-read.invariant in
-    let same = c.read_some.auto.piece in
-    let more = c.in_ok-feed.ensures.lines in
-    let taken = length-take c.in-Some.count c.read_some.new.piece in (
-      read_on (g.R.Read.remaining c.args.reader.now) (g.R.Read.remaining c.loop-read.reader) (g.R.Read.remaining c.read_some.new.reader) c.read_some.new.piece (take c.in-Some.count c.read_some.new.piece) c.loop-read.self.pending.items c.feed.new.self.pending.items c.in-Some.count c.loop-read.self.lines c.feed.new.self.lines reads refl c.in_ok-feed.ensures.ok invariant.0,
-      omega (arith, more, same, invariant.1, invariant.2, taken),
-      omega (arith, same, invariant.2),
-    )
+more_reads : (lines read : ℕ) → lines ≤ 65536 * read → lines ≤ 65536 * (read + 1)
+more_reads lines read h = omega arith
+
+one_read : (left was read first : ℕ) → left + 1 ≡ was → was + read ≡ first → left + (read + 1) ≡ first
+one_read left was read first e h = omega arith
+
+more_lines : (lines before taken count piece_then piece read : ℕ) → lines ≤ before + taken → taken ≡ min count piece_then → piece_then ≡ piece → piece ≡ 65536 → before ≤ 65536 * read → lines ≤ 65536 * (read + 1)
+more_lines lines before taken count piece_then piece read fed is same long h = omega arith
+
+room : (lines read stop : ℕ) → lines ≤ 65536 * read → read < stop → stop < 2 ^ 32 → lines + 1 < 2 ^ 64
+room lines read stop few within fits = omega arith
+
+room_for : (before taken count piece_then piece read stop : ℕ) → taken ≡ min count piece_then → piece_then ≡ piece → piece ≡ 65536 → before ≤ 65536 * read → read < stop → stop < 2 ^ 32 → before + taken < 2 ^ 64
+room_for before taken count piece_then piece read stop is same long few within fits = omega arith
+
+none_left : (left read stop first : ℕ) → left + read ≡ first → stop ≤ read → stop ≡ first → left ≡ 0
+none_left left read stop first all past is = omega arith
+
+pub loop-read-init : goal.loop-read-init
+loop-read-init g c = record {
+  played = plays_none (g.R.Read.remaining c.args.input.now.reader) c.args.self.now.pending.items c.args.self.now.lines c.args.self.now.mount c.requires.pending c.requires.lines c.requires.mount;
+  few = no_lines _ c.requires.lines;
+  left = add-zero _;
+  piece = c.as_mut_slice-piece.ensures.len ∙ c.in_ok-buffer.ensures.len;
+  input = refl;
+  output = refl;
+}
+
+pub returns-in_err-count-clause-err : goal.returns-in_err-count-clause-err
+returns-in_err-count-clause-err g c =
+    let p = err_from_is_err_and c.from_residual-in_err-count.result c.from_residual-in_err-count.ensures.1 in
+    rw (p.1, p.2) (device_ends (layers_in c.args.self.now.mount) (g.R.Read.remaining c.args.input.now.reader) c.in_err-count.field-0.0)
+
+pub returns-in_err-count-clause-stream : goal.returns-in_err-count-clause-stream
+returns-in_err-count-clause-stream g c =
+    let p = err_from_is_err_and c.from_residual-in_err-count.result c.from_residual-in_err-count.ensures.1 in
+    rw (p.1, p.2) (input_stream c.read.new.self.failed c.loop-read.output.failed c.read.new.self.reads_left c.in_err-count.field-0.0 c.in_err-count.ensures.err)
+
+pub loop-read-preserved-in_default : goal.loop-read-preserved-in_default
+loop-read-preserved-in_default g c =
+    let invariant = c.loop-read.invariant in record {
+      played = read_kept (layers_in c.args.self.now.mount) c.in_ok-count.field-0 (g.R.Read.remaining c.args.input.now.reader) (g.R.Read.remaining c.loop-read.input.reader) (g.R.Read.remaining c.read.new.self.reader) c.read.new.piece c.loop-read.self.pending.items c.loop-read.self.lines c.loop-read.self.mount c.in_ok-count.ensures.ok c.in_default.not-Some invariant.played;
+      few = more_reads _ _ invariant.few;
+      left = one_read _ _ _ _ c.in_ok-count.ensures.reads invariant.left;
+      piece = c.read.auto.piece ∙ invariant.piece;
+      input = c.in_ok-count.ensures.well ∙ invariant.input;
+      output = invariant.output;
+    }
+
+pub end-requires : goal.end-requires
+end-requires g c = room _ _ _ c.loop-read.invariant.few c.loop-read-test.true c.reads_left-read-end.type_inv
 
 pub returns-then-count-eq0-clause-ok : goal.returns-then-count-eq0-clause-ok
 returns-then-count-eq0-clause-ok g c =
     let reads = rw c.in-Some.is at c.in_ok-count.ensures.ok in
-    let whole = read_end (g.R.Read.remaining c.args.reader.now) (g.R.Read.remaining c.loop-read.reader) (g.R.Read.remaining c.read_some.new.reader) c.read_some.new.piece c.loop-read.self.pending.items c.in-Some.count c.loop-read.self.lines reads c.if-count-eq0.true c.loop-read.invariant.0 in
-    on_ok_weaker c.end.result (λ (playable : _). plays_whole (g.R.Read.remaining c.args.reader.now) c.loop-read.self.pending.items c.loop-read.self.lines playable whole) c.end.ensures.ok
+    let whole = read_end (layers_in c.args.self.now.mount) (g.R.Read.remaining c.args.input.now.reader) (g.R.Read.remaining c.loop-read.input.reader) (g.R.Read.remaining c.read.new.self.reader) c.read.new.piece c.loop-read.self.pending.items c.in-Some.count c.loop-read.self.lines c.loop-read.self.mount reads c.if-count-eq0.true c.loop-read.invariant.played in
+    on_ok_weaker c.end.result (λ (plays : _). plays_whole (layers_in c.args.self.now.mount) (g.R.Read.remaining c.args.input.now.reader) c.loop-read.self.pending.items c.loop-read.self.lines c.loop-read.self.mount c.end.new.self.mount plays whole) c.end.ensures.ok
 
 pub returns-then-count-eq0-clause-err : goal.returns-then-count-eq0-clause-err
 returns-then-count-eq0-clause-err g c =
     let reads = rw c.in-Some.is at c.in_ok-count.ensures.ok in
-    let whole = read_end (g.R.Read.remaining c.args.reader.now) (g.R.Read.remaining c.loop-read.reader) (g.R.Read.remaining c.read_some.new.reader) c.read_some.new.piece c.loop-read.self.pending.items c.in-Some.count c.loop-read.self.lines reads c.if-count-eq0.true c.loop-read.invariant.0 in
-    IfErr-weaker c.end.result _ _ (λ fault h. plays_until_end (g.R.Read.remaining c.args.reader.now) c.loop-read.self.pending.items c.loop-read.self.lines fault h whole) c.end.ensures.err
+    let whole = read_end (layers_in c.args.self.now.mount) (g.R.Read.remaining c.args.input.now.reader) (g.R.Read.remaining c.loop-read.input.reader) (g.R.Read.remaining c.read.new.self.reader) c.read.new.piece c.loop-read.self.pending.items c.in-Some.count c.loop-read.self.lines c.loop-read.self.mount reads c.if-count-eq0.true c.loop-read.invariant.played in
+    IfErr-weaker c.end.result _ _ (λ fault h. plays_until_end (layers_in c.args.self.now.mount) (g.R.Read.remaining c.args.input.now.reader) c.loop-read.self.pending.items c.loop-read.self.lines c.loop-read.self.mount fault h whole) c.end.ensures.err
+
+pub returns-then-count-eq0-clause-stream : goal.returns-then-count-eq0-clause-stream
+returns-then-count-eq0-clause-stream g c = output_stream c.read.new.self.failed c.loop-read.output.failed c.end.new.output.failed c.read.new.self.reads_left c.end.result c.end.ensures.stream
+
+pub returns-then-count-eq0-clause-well : goal.returns-then-count-eq0-clause-well
+returns-then-count-eq0-clause-well g c = output_well c.args.output.now.failed c.loop-read.output.failed c.end.new.output.failed _ c.end.result (c.in_ok-count.ensures.well ∙ c.loop-read.invariant.input) c.loop-read.invariant.output c.end.ensures.stream
+
+pub feed-requires : goal.feed-requires
+feed-requires g c = room_for _ _ c.in-Some.count _ _ _ _ (length-take c.in-Some.count c.read.new.piece) c.read.auto.piece c.loop-read.invariant.piece c.loop-read.invariant.few c.loop-read-test.true c.reads_left-read-end.type_inv
 
 pub returns-in_err-feed-clause-err : goal.returns-in_err-feed-clause-err
 returns-in_err-feed-clause-err g c =
     let reads = rw c.in-Some.is at c.in_ok-count.ensures.ok in
     let p = err_from_is_err_and c.from_residual-in_err-feed.result c.from_residual-in_err-feed.ensures.1 in
-    rw (p.1, p.2) (read_until (g.R.Read.remaining c.args.reader.now) (g.R.Read.remaining c.loop-read.reader) (g.R.Read.remaining c.read_some.new.reader) c.read_some.new.piece (take c.in-Some.count c.read_some.new.piece) c.loop-read.self.pending.items c.in-Some.count c.loop-read.self.lines c.in_err-feed.field-0.0 reads refl c.in_err-feed.ensures.err c.loop-read.invariant.0)
+    rw (p.1, p.2) (read_until (layers_in c.args.self.now.mount) (g.R.Read.remaining c.args.input.now.reader) (g.R.Read.remaining c.loop-read.input.reader) (g.R.Read.remaining c.read.new.self.reader) c.read.new.piece (take c.in-Some.count c.read.new.piece) c.loop-read.self.pending.items c.in-Some.count c.loop-read.self.lines c.loop-read.self.mount c.in_err-feed.field-0.0 reads refl c.in_err-feed.ensures.err c.loop-read.invariant.played)
+
+pub returns-in_err-feed-clause-stream : goal.returns-in_err-feed-clause-stream
+returns-in_err-feed-clause-stream g c =
+    let p = err_from_is_err_and c.from_residual-in_err-feed.result c.from_residual-in_err-feed.ensures.1 in
+    rw (p.1, p.2) (error_stream (Unit {0}) c.read.new.self.failed c.loop-read.output.failed c.feed.new.output.failed c.read.new.self.reads_left c.in_err-feed.field-0.0 c.in_err-feed.ensures.stream)
 
 pub returns-in_err-flush-clause-err : goal.returns-in_err-flush-clause-err
 returns-in_err-flush-clause-err g c =
     let p = err_from_is_err_and c.from_residual-in_err-flush.result c.from_residual-in_err-flush.ensures.1 in
-    rw (p.1, p.2) (device_ends (g.R.Read.remaining c.args.reader.now) _ (stream_is_device _))
+    rw (p.1, p.2) (device_ends (layers_in c.args.self.now.mount) (g.R.Read.remaining c.args.input.now.reader) c.in_err-flush.field-0.0)
+
+pub returns-in_err-flush-clause-stream : goal.returns-in_err-flush-clause-stream
+returns-in_err-flush-clause-stream g c =
+    let p = err_from_is_err_and c.from_residual-in_err-flush.result c.from_residual-in_err-flush.ensures.1 in
+    rw (p.1, p.2) (mark_stream c.read.new.self.failed c.feed.new.output.failed c.flush.new.self.failed c.read.new.self.reads_left c.in_err-flush.field-0.0 c.in_err-flush.ensures.mark)
+
+pub loop-read-preserved : goal.loop-read-preserved
+loop-read-preserved g c =
+    let reads = rw c.in-Some.is at c.in_ok-count.ensures.ok in
+    let invariant = c.loop-read.invariant in record {
+      played = read_on (layers_in c.args.self.now.mount) (g.R.Read.remaining c.args.input.now.reader) (g.R.Read.remaining c.loop-read.input.reader) (g.R.Read.remaining c.read.new.self.reader) c.read.new.piece (take c.in-Some.count c.read.new.piece) c.loop-read.self.pending.items c.feed.new.self.pending.items c.in-Some.count c.loop-read.self.lines c.feed.new.self.lines c.loop-read.self.mount c.feed.new.self.mount reads refl c.in_ok-feed.ensures.ok invariant.played;
+      few = more_lines _ _ _ c.in-Some.count _ _ _ c.in_ok-feed.ensures.lines (length-take c.in-Some.count c.read.new.piece) c.read.auto.piece invariant.piece invariant.few;
+      left = one_read _ _ _ _ c.in_ok-count.ensures.reads invariant.left;
+      piece = c.read.auto.piece ∙ invariant.piece;
+      input = c.in_ok-count.ensures.well ∙ invariant.input;
+      output = c.in_ok-flush.ensures.mark ∙ c.in_ok-feed.ensures.stream ∙ invariant.output;
+    }
 
 pub returns-clause-err : goal.returns-clause-err
-returns-clause-err g c = device_ends (g.R.Read.remaining c.args.reader.now) Stream tt
+returns-clause-err g c = device_ends (layers_in c.args.self.now.mount) (g.R.Read.remaining c.args.input.now.reader) Stream
 
-pub returns-in_err-buffer-clause-err : goal.returns-in_err-buffer-clause-err
-returns-in_err-buffer-clause-err g c =
-    let p = err_from_is_err_and c.from_residual.result c.from_residual.ensures.1 in
-    rw (p.1, p.2) (device_ends (g.R.Read.remaining c.args.reader.now) Memory tt)
-
-pub returns-in_err-count-clause-err : goal.returns-in_err-count-clause-err
-returns-in_err-count-clause-err g c =
-    let p = err_from_is_err_and c.from_residual-in_err-count.result c.from_residual-in_err-count.ensures.1 in
-    rw (p.1, p.2) (device_ends (g.R.Read.remaining c.args.reader.now) c.in_err-count.field-0.0 c.in_err-count.ensures.err)
-
-pub loop-read-preserved-in_default : goal.loop-read-preserved-in_default
-loop-read-preserved-in_default g c =
-    let invariant = c.loop-read.invariant in
-    let same = c.read_some.auto.piece in (
-      read_kept c.in_ok-count.field-0 (g.R.Read.remaining c.args.reader.now) (g.R.Read.remaining c.loop-read.reader) (g.R.Read.remaining c.read_some.new.reader) c.read_some.new.piece c.loop-read.self.pending.items c.loop-read.self.lines c.in_ok-count.ensures.ok c.in_default.not-Some invariant.0,
-      omega (arith, invariant.1),
-      omega (arith, same, invariant.2),
-    )
+pub returns-clause-stream : goal.returns-clause-stream
+returns-clause-stream g c = inr (inl (none_left _ _ _ _ c.loop-read.invariant.left c.loop-read-test.false c.reads_left-read-end.ensures))

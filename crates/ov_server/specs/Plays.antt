@@ -1,0 +1,137 @@
+-- The place that a play of a script has come to.
+use Rattle.std.specs.Prelude.{◌≡◌, ℕ, Bool, true, false, List, ◌++◌, length, nat_eq, is_some, IfSome, Result, Ok, Err, ◌⊎◌}
+use Rattle.std.specs.BTreeMap.{get}
+use Rattle.std.specs.List.{All}
+use Rattle.std.specs.Ordering.{nat_cmp}
+use Rattle.merged_lookup.specs.Merged.{trees}
+use Rattle.ov_script.specs.declared.script.Command.{Command}
+use Rattle.private_mount.specs.declared.mount.Mount.{Mount}
+use Rattle.ov_server.specs.Devices.{IsToldBy}
+use Rattle.ov_server.specs.Faults.{device_fault}
+use Rattle.ov_server.specs.declared.commands.LineFault.{LineFault}
+use Rattle.ov_server.specs.declared.commands.LineFault.TheVariants as line
+use Rattle.ov_server.specs.declared.fault.DeviceFault.{DeviceFault}
+use Rattle.ov_server.specs.declared.fault.DeviceFault.TheVariants.{Stream, Memory}
+use Rattle.ov_server.specs.declared.fault.Fault.{Fault}
+use Rattle.ov_server.specs.declared.fault.Fault.TheVariants as fault
+use Rattle.ov_server.specs.declared.play.PlayFault.{PlayFault}
+use Rattle.ov_server.specs.declared.play.PlayFault.TheVariants as play
+use Rattle.ov_server.specs.Rosters.{ArePlayed, CommandLeaves, LineLeaves, Roster, is_attached, is_good, is_good_command, nobody}
+use Rattle.ov_server.specs.Scripts.{IsBadLine, script_lines}
+
+-- how many layers a mount has
+abbrev pub layers_in : Mount → ℕ
+layers_in m = length (trees m.layers)
+
+-- the clients of a mount are those of a roster, and its next number is the same, unless all were given
+pub record IsRosterOf (m : Mount) (r : Roster) : Type 0 where
+  pub attached : (client : ℕ) → is_attached r client ≡ is_some (get nat_cmp m.clients.attached client)
+  pub next : IfSome m.clients.next (λ n. n ≡ r.next)
+
+-- at the beginning nobody is attached
+abbrev pub BeginsOn : Mount → Type 0
+BeginsOn m = IsRosterOf m nobody
+
+-- a call leaves who is attached, and how many layers there are
+pub record KeepsClients (old new : Mount) : Type 0 where
+  pub attached : (client : ℕ) → is_some (get nat_cmp new.clients.attached client) ≡ is_some (get nat_cmp old.clients.attached client)
+  pub next : new.clients.next ≡ old.clients.next
+  pub layers : layers_in new ≡ layers_in old
+
+-- a command was played: it is good, and the mount goes on as it says
+pub record PlaysCommand (old : Mount) (command : Command) (new : Mount) : Type 0 where
+  pub good : (r : Roster) → IsRosterOf old r → is_good_command (layers_in old) r command ≡ true
+  pub leaves : (r : Roster) → IsRosterOf old r → (s : Roster) × (CommandLeaves r command s × IsRosterOf new s)
+  pub layers : layers_in new ≡ layers_in old
+
+-- the same of a line
+pub record PlaysLine (old : Mount) (text : List ℕ) (new : Mount) : Type 0 where
+  pub good : (r : Roster) → IsRosterOf old r → is_good (layers_in old) r text ≡ true
+  pub leaves : (r : Roster) → IsRosterOf old r → (s : Roster) × (LineLeaves r text s × IsRosterOf new s)
+  pub layers : layers_in new ≡ layers_in old
+
+-- a command cannot be played on a mount, nor a line
+abbrev pub CannotPlay : Mount → Command → Type 0
+CannotPlay m command = (r : Roster) → IsRosterOf m r → is_good_command (layers_in m) r command ≡ false
+
+abbrev pub IsBadOn : Mount → List ℕ → Type 0
+IsBadOn m text = (r : Roster) → IsRosterOf m r → is_good (layers_in m) r text ≡ false
+
+-- how the play of a command, of a line, and of a line with a number ends early
+abbrev pub IsCommandRefusal : Mount → Command → LineFault → Type 0
+IsCommandRefusal m command line.BadCommand = CannotPlay m command
+IsCommandRefusal m command (line.Device fault) = Unit {0}
+
+abbrev pub IsRefusal : Mount → List ℕ → LineFault → Type 0
+IsRefusal m text line.BadCommand = IsBadOn m text
+IsRefusal m text (line.Device fault) = Unit {0}
+
+abbrev pub IsLineFault : Mount → List ℕ → ℕ → PlayFault → Type 0
+IsLineFault m text number (play.BadLine told) = (told ≡ number) × IsBadOn m text
+IsLineFault m text number (play.Device fault) = Unit {0}
+
+-- how the play of a script ends early
+abbrev pub IsPlayFault : ℕ → List ℕ → PlayFault → Type 0
+IsPlayFault layers script (play.BadLine number) = IsBadLine layers script number
+IsPlayFault layers script (play.Device fault) = Unit {0}
+
+abbrev pub IsOfDevice : LineFault → Type 0
+IsOfDevice line.BadCommand = ⊥
+IsOfDevice (line.Device fault) = Unit {0}
+
+-- what faults are told as
+abbrev pub bad_line : LineFault
+bad_line = line.BadCommand
+
+abbrev pub device : DeviceFault → LineFault
+device fault = line.Device fault
+
+abbrev pub line_memory : LineFault
+line_memory = line.Device Memory
+
+abbrev pub play_device : DeviceFault → PlayFault
+play_device fault = play.Device fault
+
+abbrev pub play_memory : PlayFault
+play_memory = play.Device Memory
+
+abbrev pub play_fault : PlayFault → Fault
+play_fault (play.BadLine number) = fault.BadCommand number
+play_fault (play.Device f) = device_fault f
+
+-- the mark of the output after a line, and after lines: as it was where all went well, and set where a stream is told at fault
+abbrev pub TellsLine : {T : Type 0} → Bool → Bool → Result T LineFault → Type 0
+TellsLine before after (Ok x) = after ≡ before
+TellsLine before after (Err line.BadCommand) = Unit {0}
+TellsLine before after (Err (line.Device f)) = IsToldBy after f
+
+abbrev pub TellsPlay : {T : Type 0} → Bool → Bool → Result T PlayFault → Type 0
+TellsPlay before after (Ok x) = after ≡ before
+TellsPlay before after (Err (play.BadLine number)) = Unit {0}
+TellsPlay before after (Err (play.Device f)) = IsToldBy after f
+
+-- the play tells a stream at fault only where a mark is set, or no read is left
+abbrev pub IsStreamFault : Bool → ℕ → Bool → PlayFault → Type 0
+IsStreamFault input_failed reads_left output_failed (play.Device Stream) = (input_failed ≡ true) ⊎ ((reads_left ≡ 0) ⊎ (output_failed ≡ true))
+IsStreamFault input_failed reads_left output_failed _ = Unit {0}
+
+-- The lines of a script that have ended were played, and left this mount. `begun` is what there is of the next one, and `rest` follows.
+pub record IsPlayed (layers : ℕ) (script rest begun : List ℕ) (count : ℕ) (m : Mount) : Type 0 where
+  pub ended : List (List ℕ)
+  pub lines : script_lines script ≡ ended ++ script_lines (begun ++ rest)
+  pub counted : length ended ≡ count
+  pub roster : Roster
+  pub played : ArePlayed layers nobody ended roster
+  pub stands : IsRosterOf m roster
+  pub layered : layers_in m ≡ layers
+  pub unbroken : All (λ b. nat_eq b 10 ≡ false) begun
+
+-- From one place in a script, told by what is begun, the lines before, the mount and what follows, the play goes on to another.
+abbrev pub GoesOn : List ℕ → List ℕ → ℕ → Mount → List ℕ → List ℕ → ℕ → Mount → Type 0
+GoesOn from begun count m to begun_then count_then m_then =
+    (layers : ℕ) (script more : List ℕ) → IsPlayed layers script (from ++ more) begun count m → IsPlayed layers script (to ++ more) begun_then count_then m_then
+
+-- from a place in a script the play ends by a fault
+abbrev pub EndsBy : List ℕ → List ℕ → ℕ → Mount → PlayFault → Type 0
+EndsBy from begun count m fault =
+    (layers : ℕ) (script more : List ℕ) → IsPlayed layers script (from ++ more) begun count m → IsPlayFault layers script fault
