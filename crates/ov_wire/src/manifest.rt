@@ -284,6 +284,3 @@ fn array_at<'a>(table: &'a Table, key: &str) -> &'a [Value]
         None => &[],
     }
 }
-
-#[cfg(test)]
-mod tests;
