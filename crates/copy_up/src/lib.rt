@@ -6,6 +6,3 @@ mod parents;
 
 pub use needs::{Need, need_at, place_dir};
 pub use parents::{insert_directory, place_parents};
-
-#[cfg(test)]
-mod tests;

@@ -70,6 +70,3 @@ fn copies(alloc: Global, names: &[&Name]) -> Result<Vec<Name>, AllocError>
 {
     names.iter().map(|name| **name).collect(alloc)
 }
-
-#[cfg(test)]
-mod tests;

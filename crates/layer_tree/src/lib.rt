@@ -9,6 +9,3 @@ mod node;
 pub use layer::{Layer, ROOT};
 pub use name_table::{Entry, NameTable};
 pub use node::{Directory, Inode, Marks, Node, Object};
-
-#[cfg(test)]
-mod tests;

@@ -9,6 +9,3 @@ mod removals;
 pub use directories::mkdir;
 pub use leaves::{create, symlink};
 pub use removals::{rmdir, unlink};
-
-#[cfg(test)]
-mod tests;

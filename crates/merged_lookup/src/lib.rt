@@ -14,6 +14,3 @@ mod stack;
 pub use found::{Found, Look};
 pub use layers::{LAYERS_MAX, Layers, split_last};
 pub use stack::{Place, Stack};
-
-#[cfg(test)]
-mod tests;

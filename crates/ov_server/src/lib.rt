@@ -10,8 +10,6 @@ mod object_lines;
 mod play;
 mod print_tree;
 mod show;
-#[cfg(test)]
-mod tests;
 
 pub use arguments::{Invocation, command_line};
 pub use devices::{Input, Output};

@@ -298,6 +298,3 @@ fn array_at<'a>(table: &'a Table, key: &str) -> &'a [Value]
         None => &[],
     }
 }
-
-#[cfg(test)]
-mod tests;

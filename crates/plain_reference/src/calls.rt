@@ -15,7 +15,7 @@ use std::alloc::AllocError;
 
 impl Reference {
     // The node at a path.
-    fn node(&self, path: &Path) -> Result<Option<&Node>, AllocError>
+    pub(crate) fn node(&self, path: &Path) -> Result<Option<&Node>, AllocError>
         ensures { IfOk result (λ node. shown (option_copied node) ≡ node_of (tree_of self.now.tree.slots.items) (node_at (tree_of self.now.tree.slots.items) path.now)) }
     {
         let look = self.look(path)?;

@@ -13,12 +13,10 @@ mod node;
 mod reference;
 mod refusals;
 mod runs;
+mod sights;
 mod tree;
 mod walk;
 
 pub use builder::Builder;
 pub use node::Origin;
 pub use reference::Reference;
-
-#[cfg(test)]
-mod tests;

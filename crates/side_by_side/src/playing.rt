@@ -1,162 +1,212 @@
-// A script on the engine and on the slow reference, line by line.
-use ov_base::{Attributes, Bytes, Content, Path, UserAttributes};
-use ov_script::{Command, ReplyLine, command_of};
-use ov_server::play_run;
-use plain_reference::{Builder, Origin, Reference};
-use std::alloc::Global;
-use std::process::Abort;
-use std::test::Fail;
+// A row, or a script over a manifest, on the engine and on the slow reference.
+use crate::engine::run_of;
+use crate::mount::{PlainMount, mount_of};
+use crate::rows::Row;
+use crate::tree_lines::push_tree;
+use ov_base::{Errno, Reply};
+use ov_script::{CallText, Command, ReplyLine, command_of};
+use plain_reference::Reference;
+use std::alloc::{AllocError, Global};
+use std::io;
 
-// What a tree begins with at a path, after its parents.
+/// What the reference answers to a line.
 #[derive(Drop)]
-pub enum Seed {
-    // A directory that a lower layer has too, with this mode.
-    Directory(&'static str, u32),
-    // A file of a lower layer with these bytes.
-    File(&'static str, &'static str),
-    // A symbolic link of a lower layer with this target.
-    Link(&'static str, &'static str),
+enum Answer {
+    /// These lines.
+    Lines(String),
+    /// The lines of a layer, of which it has none.
+    Layer,
+    BadCommand,
 }
 
-fn attributes(alloc: Global, mode: u32) -> Attributes {
-    Attributes {
-        mode,
-        uid: 0,
-        gid: 0,
-        user: UserAttributes::new(alloc),
+/// How an answer to a row differs from what is wanted; None where both answer as wanted.
+pub fn difference(alloc: Global, row: &Row<'_>) -> io::Result<Option<String>> {
+    let script = row.script.as_ref().map(|script| script.as_slice());
+    let manifest = row.manifest.as_slice();
+    let engine = run_of(alloc, manifest, script)?;
+    if engine.text.as_slice() != row.wanted.as_slice() {
+        let found = String::from_utf8_lossy(alloc, engine.text.as_slice())?;
+        return Ok(Some(format!(in alloc; "the engine answers\n{found}")?));
     }
+    if engine.refuses_manifest {
+        return Ok(None);
+    }
+    let found = reference_difference(alloc, manifest, script, row.wanted.as_slice())?;
+    Ok(found)
 }
 
-fn path_of(alloc: Global, text: &str) -> Result<Path, Fail> {
-    Ok(Path::parse(alloc, text.as_bytes())?.ok().ok_or("a path")?)
-}
-
-// The plain machine at the tree of these seeds.
-pub fn reference_at(alloc: Global, seeds: &[Seed]) -> Result<Reference, Fail> {
-    let mut builder = Builder::new(alloc, attributes(alloc, 0o755), false)?;
-    for seed in seeds {
-        match seed {
-            Seed::Directory(path, mode) => {
-                let path = path_of(alloc, path)?;
-                builder.directory(&path, attributes(alloc, *mode), true)?;
-            }
-            Seed::File(path, text) => {
-                let path = path_of(alloc, path)?;
-                let content = Content::File(bytes_of(alloc, text)?);
-                builder.leaf(
-                    &path,
-                    content,
-                    attributes(alloc, 0o644),
-                    Origin::Untouched(1),
-                )?;
-            }
-            Seed::Link(path, target) => {
-                let path = path_of(alloc, path)?;
-                let content = Content::SymbolicLink(bytes_of(alloc, target)?);
-                builder.leaf(
-                    &path,
-                    content,
-                    attributes(alloc, 0o777),
-                    Origin::Untouched(1),
-                )?;
+/// How the answers of the reference differ from those that are wanted, but for the lines of layers.
+pub fn reference_difference(
+    alloc: Global,
+    manifest: &[u8],
+    script: Option<&[u8]>,
+    wanted: &[u8],
+) -> Result<Option<String>, AllocError> {
+    let Some(mut mount) = mount_of(alloc, manifest)? else {
+        return Ok(Some(String::from_str(alloc, "the reference has no mount")?));
+    };
+    match script {
+        Some(script) => played_difference(alloc, &mut mount, script, wanted),
+        None => {
+            let mut tree = String::new(alloc);
+            push_tree(alloc, &mount.reference, &mut tree)?;
+            if tree.as_bytes() == wanted {
+                Ok(None)
+            } else {
+                Ok(Some(differs(alloc, 0, tree.as_str())?))
             }
         }
     }
-    Ok(builder.finish())
 }
 
-fn bytes_of(alloc: Global, text: &str) -> Result<Bytes, Fail> {
-    let mut bytes = Vec::new(alloc);
-    bytes.extend_from_slice(text.as_bytes())?;
-    Ok(Bytes::from_vec(bytes))
+fn differs(alloc: Global, line: u64, found: &str) -> Result<String, AllocError> {
+    format!(in alloc; "the reference answers to line {line}\n{found}")
 }
 
-// What the reference answers to the lines of a script; it has no layers, and prints no tree.
-pub fn reference_lines(
+// Takes the answers to the lines of the script one by one from those that are wanted.
+fn played_difference(
+    alloc: Global,
+    mount: &mut PlainMount,
+    script: &[u8],
+    wanted: &[u8],
+) -> Result<Option<String>, AllocError> {
+    let mut left = wanted;
+    let mut number = 0u64;
+    for line in script.split(|byte| *byte == b'\n') {
+        number = number.saturating_add(1);
+        match answer_of(alloc, mount, line)? {
+            Answer::Layer => left = after_layer(left),
+            Answer::Lines(lines) => match left.strip_prefix(lines.as_bytes()) {
+                Some(rest) => left = rest,
+                None => return Ok(Some(differs(alloc, number, lines.as_str())?)),
+            },
+            Answer::BadCommand => return bad_line_difference(alloc, number, left),
+        }
+    }
+    if left.is_empty() {
+        Ok(None)
+    } else {
+        Ok(Some(differs(alloc, number, "nothing more")?))
+    }
+}
+
+fn bad_line_difference(
+    alloc: Global,
+    number: u64,
+    left: &[u8],
+) -> Result<Option<String>, AllocError> {
+    let fault = format!(in alloc; "line {number}: bad command\n")?;
+    if left == fault.as_bytes() {
+        Ok(None)
+    } else {
+        Ok(Some(differs(alloc, number, fault.as_str())?))
+    }
+}
+
+// What follows the lines of a layer: that of its root, and those of other objects after it.
+fn after_layer(lines: &[u8]) -> &[u8] {
+    let mut left = after_line(lines);
+    for _ in 0..lines.len() {
+        if !is_object_below_root(left) {
+            break;
+        }
+        left = after_line(left);
+    }
+    left
+}
+
+fn after_line(lines: &[u8]) -> &[u8] {
+    match lines.iter().position(|byte| *byte == b'\n') {
+        Some(end) => lines.get(end.saturating_add(1)..).unwrap_or(&[]),
+        None => &[],
+    }
+}
+
+fn first_line(lines: &[u8]) -> &[u8] {
+    match lines.iter().position(|byte| *byte == b'\n') {
+        Some(end) => lines.get(..end).unwrap_or(&[]),
+        None => lines,
+    }
+}
+
+// An object line begins with the letter of a kind, and the root's line is a directory's that ends with a lone slash.
+fn is_object_below_root(lines: &[u8]) -> bool {
+    let line = first_line(lines);
+    match line {
+        [b'd', b' ', ..] => !line.ends_with(b" /"),
+        [b'f' | b'l' | b'c', b' ', ..] => true,
+        _ => false,
+    }
+}
+
+fn answer_of(alloc: Global, mount: &mut PlainMount, line: &[u8]) -> Result<Answer, AllocError> {
+    if matches!(line, [] | [b'#', ..]) {
+        return Ok(Answer::Lines(String::new(alloc)));
+    }
+    let Ok(command) = command_of(line) else {
+        return Ok(Answer::BadCommand);
+    };
+    match command {
+        Command::Attach => attached(alloc, &mut mount.reference),
+        Command::Detach { client } => detached(alloc, &mut mount.reference, client),
+        Command::Call { client, call } => called(alloc, &mut mount.reference, client, &call),
+        Command::Layer { index } => Ok(layer_answer(index as usize, mount.layers)),
+        Command::Merge => {
+            let mut tree = String::new(alloc);
+            push_tree(alloc, &mount.reference, &mut tree)?;
+            Ok(Answer::Lines(tree))
+        }
+    }
+}
+
+fn layer_answer(index: usize, layers: usize) -> Answer {
+    if index < layers {
+        Answer::Layer
+    } else {
+        Answer::BadCommand
+    }
+}
+
+fn attached(alloc: Global, reference: &mut Reference) -> Result<Answer, AllocError> {
+    let line = match reference.attach()? {
+        Some(client) => format!(in alloc; "client {client}\n")?,
+        None => String::from_str(alloc, "not attached ENFILE\n")?,
+    };
+    Ok(Answer::Lines(line))
+}
+
+fn detached(alloc: Global, reference: &mut Reference, client: u32) -> Result<Answer, AllocError> {
+    if reference.detach(client) {
+        Ok(Answer::Lines(format!(in alloc; "{client} detached\n")?))
+    } else {
+        Ok(Answer::BadCommand)
+    }
+}
+
+fn called(
     alloc: Global,
     reference: &mut Reference,
-    script: &str,
-) -> Result<String, Fail> {
-    let mut output = String::new(alloc);
-    for line in script.lines() {
-        answer(alloc, reference, line, &mut output)?;
+    client: u32,
+    call: &CallText<'_>,
+) -> Result<Answer, AllocError> {
+    if !reference.is_attached(client) {
+        return Ok(Answer::BadCommand);
     }
-    Ok(output)
-}
-
-fn answer(
-    alloc: Global,
-    reference: &mut Reference,
-    line: &str,
-    output: &mut String,
-) -> Result<(), Fail> {
-    match command_of(line.as_bytes()).ok().ok_or("a command")? {
-        Command::Attach => {
-            let client = reference.attach()?.ok_or("room for a client")?;
-            output.push_str(format!(in alloc; "client {client}\n")?.as_str())?;
-        }
-        Command::Detach { client } => {
-            reference.detach(client);
-            output.push_str(format!(in alloc; "{client} detached\n")?.as_str())?;
-        }
-        Command::Call { client, call } => match call.call(alloc)? {
-            Ok(call) => {
-                let reply = reference
-                    .call(client, &call)?
-                    .ok_or("a call that is offered")?;
-                let reply = ReplyLine {
-                    client,
-                    reply: &reply,
-                };
-                output.push_str(format!(in alloc; "{reply}\n")?.as_str())?;
-            }
-            Err(errno) => {
-                let errno = errno.text();
-                output.push_str(format!(in alloc; "{client} not taken {errno}\n")?.as_str())?;
-            }
+    match call.call(alloc)? {
+        Err(errno) => not_taken(alloc, client, errno),
+        Ok(call) => match reference.call(client, &call)? {
+            Some(reply) => replied(alloc, client, &reply),
+            None => Ok(Answer::Lines(String::from_str(alloc, "not offered\n")?)),
         },
-        Command::Layer { .. } | Command::Merge => {}
     }
-    Ok(())
 }
 
-// What the engine answers to the lines of a script, without the trees that it prints.
-pub fn engine_lines(alloc: Global, manifest: &str, script: &str) -> Result<String, Fail> {
-    let mut written = Vec::new(alloc);
-    let mut reader = script.as_bytes();
-    play_run(alloc, manifest.as_bytes(), &mut reader, &mut written)
-        .ok()
-        .ok_or("a run")?;
-    let written = String::from_utf8(written).ok().ok_or("text")?;
-    let mut output = String::new(alloc);
-    for line in written.lines() {
-        if !is_object_line(line) {
-            output.push_str(line)?;
-            output.push_str("\n")?;
-        }
-    }
-    Ok(output)
+fn not_taken(alloc: Global, client: u32, errno: Errno) -> Result<Answer, AllocError> {
+    let errno = errno.text();
+    Ok(Answer::Lines(format!(in alloc; "{client} not taken {errno}\n")?))
 }
 
-// An object line begins with the letter of a kind.
-fn is_object_line(line: &str) -> bool {
-    matches!(line.as_bytes(), [b'd' | b'f' | b'l' | b'c', b' ', ..])
-}
-
-// Both answer the same, and where it's given, this.
-pub fn assert_same(
-    rt: &impl Abort,
-    alloc: Global,
-    (manifest, seeds): (&str, &[Seed]),
-    script: &str,
-    wanted: Option<&str>,
-) -> Result<(), Fail> {
-    let engine = engine_lines(alloc, manifest, script)?;
-    let mut reference = reference_at(alloc, seeds)?;
-    let plain = reference_lines(alloc, &mut reference, script)?;
-    assert!(rt; engine == plain, "{script}");
-    if let Some(wanted) = wanted {
-        assert!(rt; plain.as_str() == wanted, "{script}");
-    }
-    Ok(())
+fn replied(alloc: Global, client: u32, reply: &Reply) -> Result<Answer, AllocError> {
+    let line = ReplyLine { client, reply };
+    Ok(Answer::Lines(format!(in alloc; "{line}\n")?))
 }

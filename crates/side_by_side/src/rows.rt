@@ -1,248 +1,90 @@
-// Worked rows, whose expected lines come from outside.
-use crate::playing::{Seed, assert_same};
-use std::test::Fail;
+// Rows of a data file: a manifest, a script, and the lines that both have to answer.
+use crate::expanded::push_line;
+use std::alloc::{AllocError, Global};
 
-const FIRST: &str = "[[layer]]
-[[layer.entry]]
-path = \"/a\"
-kind = \"dir\"
-mode = 0o700
-[[layer]]
-[[layer.entry]]
-path = \"/a\"
-kind = \"dir\"
-[[layer.entry]]
-path = \"/a/x\"
-kind = \"file\"
-text = \"hi\"
-[[layer.entry]]
-path = \"/b\"
-kind = \"whiteout\"
-";
-
-const FIRST_SEEDS: [Seed; 2] = [Seed::Directory("/a", 0o700), Seed::File("/a/x", "hi")];
-
-#[test]
-fn the_first_script(rt: HostRuntime) -> Result<(), Fail> {
-    let script = "attach
-0 stat /a/x
-0 mkdir 750 /a/n
-0 open rd /a
-0 list 0 9
-0 mkdir 750 /a/n
-0 stat /zz/y
-0 stat a
-0 close 0
-layer 0
-0 detach
-";
-    let wanted = "client 0
-0 ok f 0644 0 0 2 1
-0 ok
-0 ok 0
-0 ok n x
-0 EEXIST
-0 ENOENT
-0 not taken EINVAL
-0 ok
-0 detached
-";
-    assert_same(&rt, rt.alloc(), (FIRST, &FIRST_SEEDS), script, Some(wanted))
+/// A row. Without a script it is a `show` of the manifest.
+#[derive(Drop)]
+pub struct Row<'a> {
+    pub name: &'a str,
+    pub manifest: Vec<u8>,
+    pub script: Option<Vec<u8>>,
+    pub wanted: Vec<u8>,
 }
 
-#[test]
-fn an_empty_mount(rt: HostRuntime) -> Result<(), Fail> {
-    let script = "attach
-0 open rd /
-0 list 0 256
-";
-    let wanted = "client 0
-0 ok 0
-0 ok
-";
-    let manifest = "[[layer]]\n[[layer]]\n";
-    assert_same(&rt, rt.alloc(), (manifest, &[]), script, Some(wanted))
+#[derive(Clone, Copy)]
+enum Section {
+    Name,
+    Manifest,
+    Script,
+    Wanted,
 }
 
-#[test]
-fn a_directory_over_a_removed_file(rt: HostRuntime) -> Result<(), Fail> {
-    let manifest = "[[layer]]
-[[layer]]
-[[layer.entry]]
-path = \"/f\"
-kind = \"file\"
-text = \"x\"
-";
-    let script = "attach
-0 unlink /f
-0 mkdir 755 /f
-layer 0
-";
-    let wanted = "client 0
-0 ok
-0 ok
-";
-    let seeds = [Seed::File("/f", "x")];
-    assert_same(&rt, rt.alloc(), (manifest, &seeds), script, Some(wanted))
+/// The rows of a text, each from its line `== NAME` to the next one, in sections `-- manifest`, `-- script` and `-- wanted`. Before the
+/// first row, and among the wanted lines, empty lines and those that begin with `#` say nothing.
+pub fn rows_in<'a>(alloc: Global, text: &'a str) -> Result<Vec<Row<'a>>, AllocError> {
+    let mut rows: Vec<Row<'a>> = Vec::new(alloc);
+    let mut section = Section::Name;
+    for line in text.lines() {
+        if let Some(name) = line.strip_prefix("== ") {
+            rows.push(empty_row(alloc, name))?;
+            section = Section::Name;
+        } else if let Some(heading) = line.strip_prefix("-- ") {
+            section = section_named(heading);
+        } else if let Some(row) = rows.last_mut() {
+            take_line(alloc, row, section, line)?;
+        }
+    }
+    Ok(rows)
 }
 
-#[test]
-fn a_link_comes_and_goes(rt: HostRuntime) -> Result<(), Fail> {
-    let script = "attach
-0 symlink t /s
-0 readlink /s
-0 unlink /s
-layer 0
-";
-    let wanted = "client 0
-0 ok
-0 ok t
-0 ok
-";
-    let manifest = "[[layer]]\n[[layer]]\n";
-    assert_same(&rt, rt.alloc(), (manifest, &[]), script, Some(wanted))
+fn empty_row(alloc: Global, name: &str) -> Row<'_> {
+    Row {
+        name,
+        manifest: Vec::new(alloc),
+        script: None,
+        wanted: Vec::new(alloc),
+    }
 }
 
-#[test]
-fn a_directory_with_a_name_stays(rt: HostRuntime) -> Result<(), Fail> {
-    let manifest = "[[layer]]
-[[layer]]
-[[layer.entry]]
-path = \"/a\"
-kind = \"dir\"
-[[layer.entry]]
-path = \"/a/x\"
-kind = \"file\"
-";
-    let seeds = [Seed::Directory("/a", 0o755), Seed::File("/a/x", "")];
-    let wanted = "client 0\n0 ENOTEMPTY\n";
-    let script = "attach\n0 rmdir /a\n";
-    assert_same(&rt, rt.alloc(), (manifest, &seeds), script, Some(wanted))
+fn section_named(heading: &str) -> Section {
+    match heading {
+        "manifest" => Section::Manifest,
+        "script" => Section::Script,
+        "wanted" => Section::Wanted,
+        _ => Section::Name,
+    }
 }
 
-#[test]
-fn a_directory_made_anew_is_empty(rt: HostRuntime) -> Result<(), Fail> {
-    let manifest = "[[layer]]
-[[layer]]
-[[layer.entry]]
-path = \"/a\"
-kind = \"dir\"
-[[layer.entry]]
-path = \"/a/x\"
-kind = \"file\"
-text = \"1\"
-";
-    let script = "attach
-0 unlink /a/x
-0 rmdir /a
-0 mkdir 755 /a
-0 open rd /a
-0 list 0 256
-0 stat /a/x
-layer 0
-";
-    let wanted = "client 0
-0 ok
-0 ok
-0 ok
-0 ok 0
-0 ok
-0 ENOENT
-";
-    let seeds = [Seed::Directory("/a", 0o755), Seed::File("/a/x", "1")];
-    assert_same(&rt, rt.alloc(), (manifest, &seeds), script, Some(wanted))
+// Adds a line to a section of a row.
+fn take_line(
+    alloc: Global,
+    row: &mut Row<'_>,
+    section: Section,
+    line: &str,
+) -> Result<(), AllocError> {
+    match section {
+        Section::Name => Ok(()),
+        Section::Manifest => push_line(alloc, &mut row.manifest, line),
+        Section::Script => take_script_line(alloc, &mut row.script, line),
+        Section::Wanted => {
+            if line.is_empty() || line.starts_with('#') {
+                return Ok(());
+            }
+            push_line(alloc, &mut row.wanted, line)
+        }
+    }
 }
 
-#[test]
-fn a_removed_directory_lists_nothing(rt: HostRuntime) -> Result<(), Fail> {
-    let manifest = "[[layer]]
-[[layer]]
-[[layer.entry]]
-path = \"/d\"
-kind = \"dir\"
-";
-    let script = "attach
-0 open rd /d
-0 rmdir /d
-0 mkdir 755 /d
-0 mkdir 755 /d/new
-0 list 0 9
-0 open rd /d
-0 list 1 9
-0 close 0
-";
-    let wanted = "client 0
-0 ok 0
-0 ok
-0 ok
-0 ok
-0 ok
-0 ok 1
-0 ok new
-0 ok
-";
-    let seeds = [Seed::Directory("/d", 0o755)];
-    assert_same(&rt, rt.alloc(), (manifest, &seeds), script, Some(wanted))
-}
-
-#[test]
-fn a_listing_is_made_anew(rt: HostRuntime) -> Result<(), Fail> {
-    let manifest = "[[layer]]
-[[layer]]
-[[layer.entry]]
-path = \"/d\"
-kind = \"dir\"
-[[layer.entry]]
-path = \"/d/a\"
-kind = \"file\"
-[[layer.entry]]
-path = \"/d/b\"
-kind = \"file\"
-[[layer.entry]]
-path = \"/d/c\"
-kind = \"file\"
-";
-    let script = "attach
-attach
-0 open rd /d
-0 list 0 1
-1 mkdir 755 /d/aa
-1 unlink /d/c
-0 list 0 9
-0 seek 0 0 set
-0 list 0 9
-1 unlink /d/a
-1 rmdir /d/aa
-1 unlink /d/b
-1 rmdir /d
-0 seek 0 0 set
-0 list 0 9
-0 seek 0 0 cur
-0 seek 1 7 end
-";
-    let wanted = "client 0
-client 1
-0 ok 0
-0 ok a
-1 ok
-1 ok
-0 ok b c
-0 ok 0
-0 ok a aa b
-1 ok
-1 ok
-1 ok
-1 ok
-0 ok 0
-0 ok
-0 EINVAL
-0 EBADF
-";
-    let seeds = [
-        Seed::Directory("/d", 0o755),
-        Seed::File("/d/a", ""),
-        Seed::File("/d/b", ""),
-        Seed::File("/d/c", ""),
-    ];
-    assert_same(&rt, rt.alloc(), (manifest, &seeds), script, Some(wanted))
+fn take_script_line(
+    alloc: Global,
+    script: &mut Option<Vec<u8>>,
+    line: &str,
+) -> Result<(), AllocError> {
+    if let Some(script) = script {
+        return push_line(alloc, script, line);
+    }
+    let mut first = Vec::new(alloc);
+    push_line(alloc, &mut first, line)?;
+    *script = Some(first);
+    Ok(())
 }

@@ -2,7 +2,7 @@ use Rattle.std.proofs.Common.{◌≡◌, Some, sym, ap, ◌∙◌, eqb-true}
 use Rattle.std.specs.Option.{option_copied, option_and_then}
 use Rattle.layer_tree.specs.Tree.{inode_at, inode_of}
 use Rattle.layer_tree.specs.declared.node.Node.TheVariants as node
-use Rattle.layer_tree.proofs.tests.is_nameless.Goals as goal
+use Rattle.surface_tests.proofs.files.is_nameless.Goals as goal
 
 pub returns-in-Some-Inode-clause-unnamed : goal.returns-in-Some-Inode-clause-unnamed
 returns-in-Some-Inode-clause-unnamed c none =

@@ -1,0 +1,39 @@
+// Runs of the engine over bytes in memory.
+use ov_server::{Fault, play_run, show_run};
+use std::alloc::Global;
+use std::io;
+use std::io::Write;
+
+/// What the engine writes, the fault by which it ends as the last line.
+#[derive(Drop)]
+pub struct Run {
+    pub text: Vec<u8>,
+    /// Whether the manifest was at fault, so that there was no mount.
+    pub refuses_manifest: bool,
+}
+
+/// Plays a script on the mount of a manifest; without one, shows the mount.
+pub fn run_of(alloc: Global, manifest: &[u8], script: Option<&[u8]>) -> io::Result<Run> {
+    let mut text = Vec::new(alloc);
+    let outcome = match script {
+        Some(script) => play(alloc, manifest, script, &mut text),
+        None => show(alloc, manifest, &mut text),
+    };
+    let refuses_manifest = matches!(&outcome, Err(Fault::Manifest(_)));
+    if let Err(fault) = outcome {
+        writeln!(text, "{fault}")?;
+    }
+    Ok(Run {
+        text,
+        refuses_manifest,
+    })
+}
+
+fn play(alloc: Global, manifest: &[u8], script: &[u8], text: &mut Vec<u8>) -> Result<(), Fault> {
+    let mut reader = script;
+    play_run(alloc, manifest, &mut reader, text)
+}
+
+fn show(alloc: Global, manifest: &[u8], text: &mut Vec<u8>) -> Result<(), Fault> {
+    show_run(alloc, manifest, text)
+}

@@ -1,0 +1,65 @@
+//! Plays the rows of its data folder, and scripts made by a generator, on the engine and on the slow reference, and tells of each row
+//! whether both answer what is wanted.
+#![tactic(auto)]
+
+mod engine;
+mod entries;
+mod expanded;
+mod generated;
+mod merged;
+mod mount;
+mod plain_layer;
+mod playing;
+mod rows;
+mod tree_lines;
+
+use crate::generated::play_generated;
+use crate::playing::difference;
+use crate::rows::rows_in;
+use std::rt::Files;
+use std::{fs, io};
+
+/// The files of the rows, each on one subject.
+const FILES: [&str; 9] = [
+    "look_up.rows",
+    "redirects.rows",
+    "listings.rows",
+    "making_and_removing.rows",
+    "refusals.rows",
+    "descriptors_and_clients.rows",
+    "script_forms.rows",
+    "manifest_faults.rows",
+    "entry_faults.rows",
+];
+
+/// The manifests over which generated scripts are played.
+const MANIFESTS: [&str; 2] = ["two_layers.toml", "four_layers.toml"];
+
+fn main(rt: HostRuntime) -> io::Result<()> {
+    let mut count = 0u64;
+    for file in FILES {
+        count = count.saturating_add(play_file(&rt, file)?);
+    }
+    println!(rt; "{count} rows agree")?;
+    for manifest in MANIFESTS {
+        play_generated(&rt, manifest)?;
+    }
+    Ok(())
+}
+
+// Plays the rows of a file, tells of each, and gives how many agree.
+fn play_file<R: Files + AllocGlobal + Print>(rt: &R, file: &str) -> io::Result<u64> {
+    let text = fs::read_to_string(rt, file)?;
+    let mut count = 0u64;
+    for row in rows_in(rt.alloc(), text.as_str())? {
+        let name = row.name;
+        match difference(rt.alloc(), &row)? {
+            None => {
+                count = count.saturating_add(1);
+                println!(rt; "{name}: agrees")?;
+            }
+            Some(found) => println!(rt; "{name}: differs: {found}")?,
+        }
+    }
+    Ok(count)
+}

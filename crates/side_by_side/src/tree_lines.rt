@@ -1,0 +1,95 @@
+// The object lines of the tree that the slow reference has.
+use ov_base::{NameList, ObjectKind, Path, Reply, Stat};
+use ov_script::{Escaped, StatWords};
+use plain_reference::Reference;
+use std::alloc::{AllocError, Global};
+
+/// The most objects of a tree that are printed.
+const OBJECTS_MOST: u32 = 1_000_000;
+
+/// Appends the lines of the tree, depth first, each directory before what is in it, names in the order of their bytes.
+pub fn push_tree(
+    alloc: Global,
+    reference: &Reference,
+    lines: &mut String,
+) -> Result<(), AllocError> {
+    let mut left = Vec::new(alloc);
+    left.push(Path::root(alloc))?;
+    for _ in 0..OBJECTS_MOST {
+        let Some(path) = left.pop() else {
+            break;
+        };
+        push_object(alloc, reference, &path, lines)?;
+        let names = reference.names(&path)?;
+        push_children(alloc, &path, &names, &mut left)?;
+    }
+    Ok(())
+}
+
+// Puts the paths of the names in a directory on the pile, the first name on top.
+fn push_children(
+    alloc: Global,
+    directory: &Path,
+    names: &NameList,
+    left: &mut Vec<Path>,
+) -> Result<(), AllocError> {
+    for name in names.as_slice().iter().rev() {
+        let mut path = copy_of(alloc, directory)?;
+        path.push(*name)?;
+        left.push(path)?;
+    }
+    Ok(())
+}
+
+fn copy_of(alloc: Global, path: &Path) -> Result<Path, AllocError> {
+    let mut copy = Path::root(alloc);
+    for name in path.names() {
+        copy.push(*name)?;
+    }
+    Ok(copy)
+}
+
+fn push_object(
+    alloc: Global,
+    reference: &Reference,
+    path: &Path,
+    lines: &mut String,
+) -> Result<(), AllocError> {
+    if let Reply::Status(stat) = reference.status(path)? {
+        push_words(alloc, stat, path, lines)?;
+        if stat.kind == ObjectKind::SymbolicLink {
+            push_target(alloc, reference, path, lines)?;
+        }
+        lines.push_str("\n")?;
+    }
+    Ok(())
+}
+
+fn push_words(
+    alloc: Global,
+    stat: Stat,
+    path: &Path,
+    lines: &mut String,
+) -> Result<(), AllocError> {
+    let words = StatWords(stat);
+    lines.push_str(format!(in alloc; "{words} ")?.as_str())?;
+    if path.names().is_empty() {
+        lines.push_str("/")?;
+    }
+    for name in path.names() {
+        let name = Escaped(name.as_slice());
+        lines.push_str(format!(in alloc; "/{name}")?.as_str())?;
+    }
+    Ok(())
+}
+
+fn push_target(
+    alloc: Global,
+    reference: &Reference,
+    path: &Path,
+    lines: &mut String,
+) -> Result<(), AllocError> {
+    let target = reference.content(path)?;
+    let target = Escaped(target.as_slice());
+    lines.push_str(format!(in alloc; " -> {target}")?.as_str())
+}

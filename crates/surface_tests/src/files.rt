@@ -1,0 +1,105 @@
+// A file of one layer is written, loses its name and is freed.
+ghost use Rattle.std.specs.Prelude.{◌≡◌, ◌≢◌, ℕ, List, Some, None, IsTrue};
+ghost use Rattle.layer_tree.specs.Tree.{child};
+
+use crate::fixtures::{name, path, read};
+use layer_tree::{Entry, Layer, Node, Object, ROOT};
+use ov_base::{Attributes, Bytes, Content, UserAttributes};
+use std::alloc::Global;
+use std::process::Abort;
+use std::test::Fail;
+
+// A layer with the file `/d/f` of the bytes `ab`, and the keys of the directory and the file.
+fn layer_of_one_file(rt: &impl Abort, alloc: Global) -> Result<(Layer, usize, usize), Fail> {
+    let manifest = "layer = [{entry = [
+  {path = '/d', kind = 'dir', opaque = true},
+  {path = '/d/f', kind = 'file', text = 'ab'},
+]}, {}]";
+    let (layer, _, _) = read(alloc, manifest)?;
+    let Some(Entry::Object(dir)) = layer.find(&path(rt, alloc, "/d")) else {
+        return Err(Fail::from("no directory"));
+    };
+    let Some(Entry::Object(file)) = layer.find(&path(rt, alloc, "/d/f")) else {
+        return Err(Fail::from("no file"));
+    };
+    Ok((layer, dir, file))
+}
+
+#[test]
+fn a_file_is_written(rt: HostRuntime) -> Result<(), Fail> {
+    let alloc = rt.alloc();
+    let (mut layer, dir, file) = layer_of_one_file(&rt, alloc)?;
+    assert!(rt; layer.read(file).is_some());
+    layer.write(file, 3, b"c".as_slice())?;
+    assert!(rt; layer.read(file) == Some(b"ab\0c".as_slice()));
+    assert!(rt; matches!(layer.marks(dir), Some(marks) if marks.opaque));
+    assert_eq!(rt; layer.names(alloc, dir)?.len(), 1);
+    Ok(())
+}
+
+#[test]
+fn names_go_and_whiteouts_stand(rt: HostRuntime) -> Result<(), Fail> {
+    let alloc = rt.alloc();
+    let (mut layer, dir, file) = layer_of_one_file(&rt, alloc)?;
+    let f = name(&rt, "f");
+    assert!(rt; layer.is_directory(dir));
+    let was = layer.insert_whiteout(dir, f)?;
+    assert!(rt; matches!(was, Some(Entry::Object(found)) if found == file));
+    assert!(rt; matches!(layer.entry(dir, &f), Some(Entry::Whiteout)));
+    assert!(rt; matches!(layer.node(file), Some(Node::Inode(inode)) if inode.links == 0));
+    let gone = layer.take_out(dir, &f);
+    assert!(rt; matches!(gone, Some(Entry::Whiteout)));
+    assert!(rt; layer.entry(dir, &f).is_none());
+    Ok(())
+}
+
+// Whether an inode stands under a key to which no name leads.
+fn is_nameless(layer: &Layer, key: usize) -> bool
+    ensures unnamed { IsTrue result → (dir : ℕ) (name : List ℕ) → child layer.now dir name ≢ Some key }
+    ensures bare { IsTrue result → (name : List ℕ) → child layer.now key name ≡ None }
+{
+    layer.lawful();
+    match layer.node(key) {
+        Some(Node::Inode(inode)) => inode.links == 0,
+        _ => false,
+    }
+}
+
+// Puts a symbolic link under the name of the file, and gives its key.
+fn insert_link(
+    rt: &impl Abort,
+    alloc: Global,
+    layer: &mut Layer,
+    dir: usize,
+) -> Result<usize, Fail> {
+    let f = name(rt, "f");
+    assert!(rt; layer.is_directory(dir));
+    assert!(rt; layer.entry(dir, &f).is_none());
+    let target = Bytes::from_slice(alloc, b"/d".as_slice())?;
+    let attributes = Attributes {
+        mode: 0o777,
+        uid: 0,
+        gid: 0,
+        user: UserAttributes::new(alloc),
+    };
+    let link = Object::Inode(Content::SymbolicLink(target), attributes);
+    Ok(layer.insert(dir, f, link)?)
+}
+
+// Its place is given to the next object.
+#[test]
+fn a_file_without_a_name_is_freed(rt: HostRuntime) -> Result<(), Fail> {
+    let alloc = rt.alloc();
+    let (mut layer, dir, file) = layer_of_one_file(&rt, alloc)?;
+    assert!(rt; layer.is_directory(dir));
+    let gone = layer.take_out(dir, &name(&rt, "f"));
+    assert!(rt; matches!(gone, Some(Entry::Object(found)) if found == file));
+    assert!(rt; file != ROOT);
+    assert!(rt; is_nameless(&layer, file));
+    layer.discard(file);
+    assert!(rt; layer.node(file).is_none());
+    assert!(rt; layer.read(file).is_none());
+    assert_eq!(rt; insert_link(&rt, alloc, &mut layer, dir)?, file);
+    assert!(rt; layer.read(file).is_none());
+    Ok(())
+}

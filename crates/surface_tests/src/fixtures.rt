@@ -1,0 +1,34 @@
+// Layers that manifests spell, and paths.
+ghost use Rattle.std.specs.Prelude.{◌<◌, ◌≤◌, IfOk};
+ghost use Rattle.std.specs.Vec.{vec_len};
+
+use layer_tree::Layer;
+use merged_lookup::Layers;
+use ov_base::{Name, Options, Path};
+use ov_wire::{ManifestFault, manifest_of};
+use std::alloc::Global;
+use std::process::Abort;
+use std::test::Fail;
+
+// The layers and options of a manifest.
+pub fn read(alloc: Global, manifest: &str) -> Result<(Layer, Vec<Layer>, Options), ManifestFault>
+    ensures some_lower { IfOk result (λ r. 0 < vec_len r.1) }
+    ensures few_lowers { IfOk result (λ r. vec_len r.1 ≤ 16) }
+{
+    manifest_of(alloc, manifest.as_bytes())
+}
+
+// The layers of a manifest as a mount has them.
+pub fn mount(alloc: Global, manifest: &str) -> Result<Layers, Fail> {
+    let (upper, lowers, _) = read(alloc, manifest)?;
+    Ok(Layers::new(upper, lowers))
+}
+
+pub fn path(rt: &impl Abort, alloc: Global, text: &str) -> Path {
+    let parsed = Path::parse(alloc, text.as_bytes()).expect(rt, "memory");
+    parsed.expect(rt, "a path")
+}
+
+pub fn name(rt: &impl Abort, text: &str) -> Name {
+    Name::parse(text.as_bytes()).expect(rt, "a name")
+}

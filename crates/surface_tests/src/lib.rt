@@ -1,0 +1,22 @@
+//! Tests of what no script reaches: streams that fail, command lines, options, and public functions that no command calls. Scripts and
+//! manifests with what they come to are rows of `side_by_side`.
+#![tactic(auto)]
+
+#[cfg(test)]
+mod command_lines;
+#[cfg(test)]
+mod files;
+#[cfg(test)]
+mod fixtures;
+#[cfg(test)]
+mod listings;
+#[cfg(test)]
+mod look_ups;
+#[cfg(test)]
+mod making;
+#[cfg(test)]
+mod manifests;
+#[cfg(test)]
+mod opening;
+#[cfg(test)]
+mod streams;

@@ -1,0 +1,55 @@
+// Chains of redirects in as many layers as there may be.
+use crate::fixtures::{mount, path};
+use merged_lookup::{Found, Layers};
+use ov_base::{Errno, Path};
+use std::alloc::Global;
+use std::test::Fail;
+
+// The layer of what a path shows, and of how many layers a directory is made, 0 for a file.
+fn seen(layers: &Layers, path: &Path) -> Result<(usize, usize), Errno> {
+    match layers.walk(path)? {
+        Found::Directory(stack) => Ok((stack.top().layer, stack.places().len())),
+        Found::Inode(place) => Ok((place.layer, 0)),
+    }
+}
+
+// 17 layers, in each a chain of eight directories in one another, each with a redirect to the last of them; and a file in that of the
+// last layer.
+fn chains(alloc: Global) -> Result<String, Fail> {
+    let mut manifest = String::new(alloc);
+    for _ in 0..17 {
+        manifest.push_str("[[layer]]\n")?;
+        let mut path = String::new(alloc);
+        for _ in 0..8 {
+            path.push_str("/a")?;
+            let entry = format!(in alloc;
+                "[[layer.entry]]\npath = \"{path}\"\nkind = \"dir\"\nredirect = \"/a/a/a/a/a/a/a/a\"\n"
+            )?;
+            manifest.push_str(entry.as_str())?;
+        }
+    }
+    manifest.push_str("[[layer.entry]]\npath = \"/a/a/a/a/a/a/a/a/note\"\nkind = \"file\"\n")?;
+    Ok(manifest)
+}
+
+// In each layer but the last a way of one to eight names is spelled as the chain's last directory for the next layer, so all 17 have one
+// there, and what is below that is spelled below it. A walk that began anew at each redirect would take 8 to the 16th steps.
+#[test]
+fn chains_of_redirects_answer_at_once(rt: HostRuntime) -> Result<(), Fail> {
+    let alloc = rt.alloc();
+    let layers = mount(alloc, chains(alloc)?.as_str())?;
+    assert_eq!(rt; layers.count(), 17);
+    for (text, wanted) in [
+        ("/a", Ok((0, 17))),
+        ("/a/a/a/a", Ok((0, 17))),
+        ("/a/a/a/a/a/a/a/a", Ok((0, 17))),
+        ("/a/a/a/a/a/a/a/a/a", Err(Errno::ENOENT)),
+        ("/a/a/a/a/a/a/a/a/note", Ok((16, 0))),
+        ("/a/note", Ok((16, 0))),
+        ("/a/a/a/note/x", Err(Errno::ENOTDIR)),
+    ] {
+        let found = seen(&layers, &path(&rt, alloc, text));
+        assert!(rt; found == wanted, "{text}");
+    }
+    Ok(())
+}

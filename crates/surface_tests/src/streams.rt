@@ -1,0 +1,127 @@
+// Streams that fail, in the middle too, or are interrupted.
+use ov_server::{Fault, play_run, show_run};
+use std::alloc::Global;
+use std::io;
+use std::io::{Read, Write};
+use std::process::Abort;
+
+const EMPTY: &str = "layer = [{}, {}]";
+
+const SCRIPT: &str = "attach\n0 stat /\n0 detach";
+
+const ANSWERS: &str = "client 0\n0 ok d 0755 0 0 0 1\n0 detached\n";
+
+fn play<R: Read, W: Write>(alloc: Global, script: &mut R, output: &mut W) -> Result<(), Fault> {
+    play_run(alloc, EMPTY.as_bytes(), script, output)
+}
+
+fn show<W: Write>(alloc: Global, output: &mut W) -> Result<(), Fault> {
+    show_run(alloc, EMPTY.as_bytes(), output)
+}
+
+// Gives or takes at most five bytes at a time, and after its bytes fails as it's told. It's interrupted before each time.
+#[derive(Drop)]
+struct Broken<'a> {
+    left: &'a [u8],
+    taken: Vec<u8>,
+    takes: usize,
+    end: Option<io::ErrorKind>,
+    interrupts: bool,
+}
+
+impl Broken<'_> {
+    fn is_interrupted(&mut self) -> bool {
+        self.interrupts = !self.interrupts;
+        self.interrupts
+    }
+}
+
+impl Read for Broken<'_> {
+    fn read(&mut self, buf: &mut [u8]) -> io::Result<usize> {
+        if self.is_interrupted() {
+            return Err(io::Error::from(io::ErrorKind::Interrupted));
+        }
+        match self.end {
+            Some(kind) if self.left.is_empty() => Err(io::Error::from(kind)),
+            _ => {
+                let most = buf.len().min(5);
+                self.left.read(&mut buf[..most])
+            }
+        }
+    }
+}
+
+impl Write for Broken<'_> {
+    fn write(&mut self, buf: &[u8]) -> io::Result<usize> {
+        if self.is_interrupted() {
+            return Err(io::Error::from(io::ErrorKind::Interrupted));
+        }
+        if self.taken.len() >= self.takes {
+            return Err(io::Error::from(io::ErrorKind::BrokenPipe));
+        }
+        let most = buf.len().min(5);
+        self.taken.extend_from_slice(&buf[..most])?;
+        Ok(most)
+    }
+
+    fn flush(&mut self) -> io::Result<()> {
+        Ok(())
+    }
+}
+
+fn stream<'a>(
+    alloc: Global,
+    bytes: &'a [u8],
+    end: Option<io::ErrorKind>,
+    takes: usize,
+) -> Broken<'a> {
+    Broken {
+        left: bytes,
+        taken: Vec::new(alloc),
+        takes,
+        end,
+        interrupts: false,
+    }
+}
+
+// The last line has no line break.
+#[test]
+fn goes_on_where_it_is_interrupted(rt: HostRuntime) {
+    let alloc = rt.alloc();
+    let mut reader = stream(alloc, SCRIPT.as_bytes(), None, 0);
+    let mut writer = stream(alloc, b"", None, 1000);
+    let outcome = play(alloc, &mut reader, &mut writer);
+    assert!(rt; outcome.is_ok());
+    assert!(rt; writer.taken.as_slice() == ANSWERS.as_bytes());
+}
+
+fn assert_reader(rt: &impl Abort, alloc: Global, end: io::ErrorKind, status: u8) {
+    let mut output = Vec::new(alloc);
+    let mut reader = stream(alloc, b"attach\n0 stat /", Some(end), 0);
+    match play(alloc, &mut reader, &mut output) {
+        Ok(()) => panic!(rt; "no fault"),
+        Err(fault) => assert_eq!(rt; fault.status(), status),
+    }
+    assert!(rt; output.as_slice() == b"client 0\n".as_slice());
+}
+
+// The begun line isn't played, and want of memory is no failing device.
+#[test]
+fn tells_failing_readers(rt: HostRuntime) {
+    assert_reader(&rt, rt.alloc(), io::ErrorKind::Other, 1);
+    assert_reader(&rt, rt.alloc(), io::ErrorKind::OutOfMemory, 3);
+}
+
+#[test]
+fn tells_failing_writers(rt: HostRuntime) {
+    let alloc = rt.alloc();
+    for takes in [0, 5, 15] {
+        let mut reader = SCRIPT.as_bytes();
+        let mut writer = stream(alloc, b"", None, takes);
+        let outcome = play(alloc, &mut reader, &mut writer);
+        assert!(rt; matches!(&outcome, Err(Fault::Stream)), "{takes}");
+        let mut writer = stream(alloc, b"", None, takes);
+        let outcome = show(alloc, &mut writer);
+        assert!(rt; matches!(&outcome, Err(Fault::Stream)), "{takes}");
+    }
+}
