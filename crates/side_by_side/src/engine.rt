@@ -1,6 +1,7 @@
 // Runs of the engine over bytes in memory.
-use ov_server::{Fault, play_run, show_run};
+use ov_server::{Fault, Input, Output, play_run, show_run};
 use std::alloc::Global;
+use std::hash::RandomState;
 use std::io;
 use std::io::Write;
 
@@ -13,11 +14,16 @@ pub struct Run {
 }
 
 /// Plays a script on the mount of a manifest; without one, shows the mount.
-pub fn run_of(alloc: Global, manifest: &[u8], script: Option<&[u8]>) -> io::Result<Run> {
+pub fn run_of(
+    alloc: Global,
+    keys: RandomState,
+    manifest: &[u8],
+    script: Option<&[u8]>,
+) -> io::Result<Run> {
     let mut text = Vec::new(alloc);
     let outcome = match script {
-        Some(script) => play(alloc, manifest, script, &mut text),
-        None => show(alloc, manifest, &mut text),
+        Some(script) => play(alloc, keys, manifest, script, &mut text),
+        None => show(alloc, keys, manifest, &mut text),
     };
     let refuses_manifest = matches!(&outcome, Err(Fault::Manifest(_)));
     if let Err(fault) = outcome {
@@ -29,11 +35,24 @@ pub fn run_of(alloc: Global, manifest: &[u8], script: Option<&[u8]>) -> io::Resu
     })
 }
 
-fn play(alloc: Global, manifest: &[u8], script: &[u8], text: &mut Vec<u8>) -> Result<(), Fault> {
-    let mut reader = script;
-    play_run(alloc, manifest, &mut reader, text)
+fn play(
+    alloc: Global,
+    keys: RandomState,
+    manifest: &[u8],
+    script: &[u8],
+    text: &mut Vec<u8>,
+) -> Result<(), Fault> {
+    let mut input = Input::new(script);
+    let mut output = Output::new(alloc, text);
+    play_run(alloc, keys, manifest, &mut input, &mut output)
 }
 
-fn show(alloc: Global, manifest: &[u8], text: &mut Vec<u8>) -> Result<(), Fault> {
-    show_run(alloc, manifest, text)
+fn show(
+    alloc: Global,
+    keys: RandomState,
+    manifest: &[u8],
+    text: &mut Vec<u8>,
+) -> Result<(), Fault> {
+    let mut output = Output::new(alloc, text);
+    show_run(alloc, keys, manifest, &mut output)
 }

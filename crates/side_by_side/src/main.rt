@@ -16,6 +16,7 @@ mod tree_lines;
 use crate::generated::play_generated;
 use crate::playing::difference;
 use crate::rows::rows_in;
+use std::hash::RandomState;
 use std::rt::Files;
 use std::{fs, io};
 
@@ -36,24 +37,25 @@ const FILES: [&str; 9] = [
 const MANIFESTS: [&str; 2] = ["two_layers.toml", "four_layers.toml"];
 
 fn main(rt: HostRuntime) -> io::Result<()> {
+    let keys = RandomState::new(&rt)?;
     let mut count = 0u64;
     for file in FILES {
-        count = count.saturating_add(play_file(&rt, file)?);
+        count = count.saturating_add(play_file(&rt, keys, file)?);
     }
     println!(rt; "{count} rows agree")?;
     for manifest in MANIFESTS {
-        play_generated(&rt, manifest)?;
+        play_generated(&rt, keys, manifest)?;
     }
     Ok(())
 }
 
 // Plays the rows of a file, tells of each, and gives how many agree.
-fn play_file<R: Files + AllocGlobal + Print>(rt: &R, file: &str) -> io::Result<u64> {
+fn play_file<R: Files + AllocGlobal + Print>(rt: &R, keys: RandomState, file: &str) -> io::Result<u64> {
     let text = fs::read_to_string(rt, file)?;
     let mut count = 0u64;
     for row in rows_in(rt.alloc(), text.as_str())? {
         let name = row.name;
-        match difference(rt.alloc(), &row)? {
+        match difference(rt.alloc(), keys, &row)? {
             None => {
                 count = count.saturating_add(1);
                 println!(rt; "{name}: agrees")?;

@@ -6,6 +6,7 @@ use crate::tree_lines::push_tree;
 use ov_base::{Errno, Reply};
 use ov_script::{CallText, Command, ReplyLine, command_of};
 use plain_reference::Reference;
+use std::hash::RandomState;
 use std::alloc::{AllocError, Global};
 use std::io;
 
@@ -20,10 +21,10 @@ enum Answer {
 }
 
 /// How an answer to a row differs from what is wanted; None where both answer as wanted.
-pub fn difference(alloc: Global, row: &Row<'_>) -> io::Result<Option<String>> {
+pub fn difference(alloc: Global, keys: RandomState, row: &Row<'_>) -> io::Result<Option<String>> {
     let script = row.script.as_ref().map(|script| script.as_slice());
     let manifest = row.manifest.as_slice();
-    let engine = run_of(alloc, manifest, script)?;
+    let engine = run_of(alloc, keys, manifest, script)?;
     if engine.text.as_slice() != row.wanted.as_slice() {
         let found = String::from_utf8_lossy(alloc, engine.text.as_slice())?;
         return Ok(Some(format!(in alloc; "the engine answers\n{found}")?));

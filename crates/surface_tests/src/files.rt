@@ -6,16 +6,21 @@ use crate::fixtures::{name, path, read};
 use layer_tree::{Entry, Layer, Node, Object, ROOT};
 use ov_base::{Attributes, Bytes, Content, UserAttributes};
 use std::alloc::Global;
+use std::hash::RandomState;
 use std::process::Abort;
 use std::test::Fail;
 
 // A layer with the file `/d/f` of the bytes `ab`, and the keys of the directory and the file.
-fn layer_of_one_file(rt: &impl Abort, alloc: Global) -> Result<(Layer, usize, usize), Fail> {
+fn layer_of_one_file(
+    rt: &impl Abort,
+    alloc: Global,
+    keys: RandomState,
+) -> Result<(Layer, usize, usize), Fail> {
     let manifest = "layer = [{entry = [
   {path = '/d', kind = 'dir', opaque = true},
   {path = '/d/f', kind = 'file', text = 'ab'},
 ]}, {}]";
-    let (layer, _, _) = read(alloc, manifest)?;
+    let (layer, _, _) = read(alloc, keys, manifest)?;
     let Some(Entry::Object(dir)) = layer.find(&path(rt, alloc, "/d")) else {
         return Err(Fail::from("no directory"));
     };
@@ -28,7 +33,7 @@ fn layer_of_one_file(rt: &impl Abort, alloc: Global) -> Result<(Layer, usize, us
 #[test]
 fn a_file_is_written(rt: HostRuntime) -> Result<(), Fail> {
     let alloc = rt.alloc();
-    let (mut layer, dir, file) = layer_of_one_file(&rt, alloc)?;
+    let (mut layer, dir, file) = layer_of_one_file(&rt, alloc, RandomState::new(&rt)?)?;
     assert!(rt; layer.read(file).is_some());
     layer.write(file, 3, b"c".as_slice())?;
     assert!(rt; layer.read(file) == Some(b"ab\0c".as_slice()));
@@ -40,7 +45,7 @@ fn a_file_is_written(rt: HostRuntime) -> Result<(), Fail> {
 #[test]
 fn names_go_and_whiteouts_stand(rt: HostRuntime) -> Result<(), Fail> {
     let alloc = rt.alloc();
-    let (mut layer, dir, file) = layer_of_one_file(&rt, alloc)?;
+    let (mut layer, dir, file) = layer_of_one_file(&rt, alloc, RandomState::new(&rt)?)?;
     let f = name(&rt, "f");
     assert!(rt; layer.is_directory(dir));
     let was = layer.insert_whiteout(dir, f)?;
@@ -90,7 +95,7 @@ fn insert_link(
 #[test]
 fn a_file_without_a_name_is_freed(rt: HostRuntime) -> Result<(), Fail> {
     let alloc = rt.alloc();
-    let (mut layer, dir, file) = layer_of_one_file(&rt, alloc)?;
+    let (mut layer, dir, file) = layer_of_one_file(&rt, alloc, RandomState::new(&rt)?)?;
     assert!(rt; layer.is_directory(dir));
     let gone = layer.take_out(dir, &name(&rt, "f"));
     assert!(rt; matches!(gone, Some(Entry::Object(found)) if found == file));

@@ -7,20 +7,21 @@ use merged_lookup::Layers;
 use ov_base::{Name, Options, Path};
 use ov_wire::{ManifestFault, manifest_of};
 use std::alloc::Global;
+use std::hash::RandomState;
 use std::process::Abort;
 use std::test::Fail;
 
 // The layers and options of a manifest.
-pub fn read(alloc: Global, manifest: &str) -> Result<(Layer, Vec<Layer>, Options), ManifestFault>
+pub fn read(alloc: Global, keys: RandomState, manifest: &str) -> Result<(Layer, Vec<Layer>, Options), ManifestFault>
     ensures some_lower { IfOk result (λ r. 0 < vec_len r.1) }
     ensures few_lowers { IfOk result (λ r. vec_len r.1 ≤ 16) }
 {
-    manifest_of(alloc, manifest.as_bytes())
+    manifest_of(alloc, keys, manifest.as_bytes())
 }
 
 // The layers of a manifest as a mount has them.
-pub fn mount(alloc: Global, manifest: &str) -> Result<Layers, Fail> {
-    let (upper, lowers, _) = read(alloc, manifest)?;
+pub fn mount(alloc: Global, keys: RandomState, manifest: &str) -> Result<Layers, Fail> {
+    let (upper, lowers, _) = read(alloc, keys, manifest)?;
     Ok(Layers::new(upper, lowers))
 }
 

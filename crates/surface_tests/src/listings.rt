@@ -1,6 +1,7 @@
 // A cursor, and whether a directory shows names.
 use crate::fixtures::{mount, name};
 use dir_listing::{Cursor, names, shows_names};
+use std::hash::RandomState;
 use std::test::Fail;
 
 #[test]
@@ -8,11 +9,12 @@ fn names_of_a_root(rt: HostRuntime) -> Result<(), Fail> {
     let alloc = rt.alloc();
     let hidden =
         "layer = [{entry = [{path = '/a', kind = 'whiteout'}]}, {entry = [{path = '/a', kind = 'dir'}]}]";
-    let layers = mount(alloc, hidden)?;
+    let layers = mount(alloc, RandomState::new(&rt)?, hidden)?;
     assert!(rt; !shows_names(&layers, &layers.root()));
     assert_eq!(rt; names(alloc, &layers, &layers.root())?.len(), 0);
     let layers = mount(
         alloc,
+        RandomState::new(&rt)?,
         "layer = [{}, {entry = [{path = '/a', kind = 'dir'}]}]",
     )?;
     assert!(rt; shows_names(&layers, &layers.root()));

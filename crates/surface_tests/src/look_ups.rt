@@ -3,6 +3,7 @@ use crate::fixtures::{mount, path};
 use merged_lookup::{Found, Layers};
 use ov_base::{Errno, Path};
 use std::alloc::Global;
+use std::hash::RandomState;
 use std::test::Fail;
 
 // The layer of what a path shows, and of how many layers a directory is made, 0 for a file.
@@ -37,7 +38,7 @@ fn chains(alloc: Global) -> Result<String, Fail> {
 #[test]
 fn chains_of_redirects_answer_at_once(rt: HostRuntime) -> Result<(), Fail> {
     let alloc = rt.alloc();
-    let layers = mount(alloc, chains(alloc)?.as_str())?;
+    let layers = mount(alloc, RandomState::new(&rt)?, chains(alloc)?.as_str())?;
     assert_eq!(rt; layers.count(), 17);
     for (text, wanted) in [
         ("/a", Ok((0, 17))),

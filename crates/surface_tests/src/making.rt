@@ -5,6 +5,7 @@ use layer_tree::Node;
 use make_remove::create;
 use merged_lookup::{Found, Layers, Look, split_last};
 use ov_base::{Errno, Path};
+use std::hash::RandomState;
 use std::process::Abort;
 use std::test::Fail;
 
@@ -31,7 +32,7 @@ fn seen(layers: &Layers, path: &Path) -> Option<(usize, u32)> {
 #[test]
 fn makes_files(rt: HostRuntime) -> Result<(), Fail> {
     let alloc = rt.alloc();
-    let mut layers = mount(alloc, NESTED)?;
+    let mut layers = mount(alloc, RandomState::new(&rt)?, NESTED)?;
     for (text, mode, wanted) in [
         ("/a/b/f", 0o640, Ok(())),
         ("/a/b/f", 0o640, Err(Errno::EEXIST)),
@@ -69,7 +70,7 @@ fn place_next(rt: &impl Abort, layers: &mut Layers, path: &Path) -> usize {
 #[test]
 fn places_one_parent_at_a_time(rt: HostRuntime) -> Result<(), Fail> {
     let alloc = rt.alloc();
-    let mut layers = mount(alloc, NESTED)?;
+    let mut layers = mount(alloc, RandomState::new(&rt)?, NESTED)?;
     let new = path(&rt, alloc, "/a/b/new");
     for (count, first, second) in [(1, 0, 1), (2, 0, 0), (0, 0, 0)] {
         assert_eq!(rt; place_next(&rt, &mut layers, &new), count);
@@ -94,7 +95,7 @@ fn place_all(layers: &mut Layers, path: &Path) -> Option<usize> {
 #[test]
 fn places_all_parents(rt: HostRuntime) -> Result<(), Fail> {
     let alloc = rt.alloc();
-    let mut layers = mount(alloc, NESTED)?;
+    let mut layers = mount(alloc, RandomState::new(&rt)?, NESTED)?;
     assert!(rt; place_all(&mut layers, &path(&rt, alloc, "/a/b/new")) == Some(0));
     assert!(rt; seen(&layers, &path(&rt, alloc, "/a/b")) == Some((0, 0o711)));
     Ok(())

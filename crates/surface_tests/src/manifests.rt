@@ -1,6 +1,7 @@
 // What no script shows of a manifest: its options, and that it may be long.
 use crate::fixtures::{path, read};
 use layer_tree::{Entry, Node};
+use std::hash::RandomState;
 use std::test::Fail;
 
 #[test]
@@ -15,7 +16,7 @@ fn options_of_manifests(rt: HostRuntime) -> Result<(), Fail> {
         ),
     ] {
         let manifest = format!(in rt.alloc(); "{top}layer = [{{}}, {{}}]")?;
-        let (_, lowers, options) = read(rt.alloc(), manifest.as_str())?;
+        let (_, lowers, options) = read(rt.alloc(), RandomState::new(&rt)?, manifest.as_str())?;
         assert_eq!(rt; options.redirects, redirects, "{top}");
         assert_eq!(rt; options.history, history, "{top}");
         assert_eq!(rt; lowers.len(), 1);
@@ -33,7 +34,7 @@ fn many_entries_in_one_directory(rt: HostRuntime) -> Result<(), Fail> {
         )?;
         manifest.push_str(entry.as_str())?;
     }
-    let (_, lowers, _) = read(alloc, manifest.as_str())?;
+    let (_, lowers, _) = read(alloc, RandomState::new(&rt)?, manifest.as_str())?;
     assert_eq!(rt; lowers.len(), 1);
     let last = lowers[0].find(&path(&rt, alloc, "/9999"));
     let Some(Entry::Object(key)) = last else {

@@ -1,9 +1,11 @@
 // Streams that fail, in the middle too, or are interrupted.
-use ov_server::{Fault, play_run, show_run};
+use ov_server::{Fault, Input, Output, play_run, show_run};
 use std::alloc::Global;
+use std::hash::RandomState;
 use std::io;
 use std::io::{Read, Write};
 use std::process::Abort;
+use std::test::Fail;
 
 const EMPTY: &str = "layer = [{}, {}]";
 
@@ -11,12 +13,20 @@ const SCRIPT: &str = "attach\n0 stat /\n0 detach";
 
 const ANSWERS: &str = "client 0\n0 ok d 0755 0 0 0 1\n0 detached\n";
 
-fn play<R: Read, W: Write>(alloc: Global, script: &mut R, output: &mut W) -> Result<(), Fault> {
-    play_run(alloc, EMPTY.as_bytes(), script, output)
+fn play<R: Read, W: Write>(
+    alloc: Global,
+    keys: RandomState,
+    script: &mut R,
+    writer: &mut W,
+) -> Result<(), Fault> {
+    let mut input = Input::new(script);
+    let mut output = Output::new(alloc, writer);
+    play_run(alloc, keys, EMPTY.as_bytes(), &mut input, &mut output)
 }
 
-fn show<W: Write>(alloc: Global, output: &mut W) -> Result<(), Fault> {
-    show_run(alloc, EMPTY.as_bytes(), output)
+fn show<W: Write>(alloc: Global, keys: RandomState, writer: &mut W) -> Result<(), Fault> {
+    let mut output = Output::new(alloc, writer);
+    show_run(alloc, keys, EMPTY.as_bytes(), &mut output)
 }
 
 // Gives or takes at most five bytes at a time, and after its bytes fails as it's told. It's interrupted before each time.
@@ -86,19 +96,26 @@ fn stream<'a>(
 
 // The last line has no line break.
 #[test]
-fn goes_on_where_it_is_interrupted(rt: HostRuntime) {
+fn goes_on_where_it_is_interrupted(rt: HostRuntime) -> Result<(), Fail> {
     let alloc = rt.alloc();
     let mut reader = stream(alloc, SCRIPT.as_bytes(), None, 0);
     let mut writer = stream(alloc, b"", None, 1000);
-    let outcome = play(alloc, &mut reader, &mut writer);
+    let outcome = play(alloc, RandomState::new(&rt)?, &mut reader, &mut writer);
     assert!(rt; outcome.is_ok());
     assert!(rt; writer.taken.as_slice() == ANSWERS.as_bytes());
+    Ok(())
 }
 
-fn assert_reader(rt: &impl Abort, alloc: Global, end: io::ErrorKind, status: u8) {
+fn assert_reader(
+    rt: &impl Abort,
+    alloc: Global,
+    keys: RandomState,
+    end: io::ErrorKind,
+    status: u8,
+) {
     let mut output = Vec::new(alloc);
     let mut reader = stream(alloc, b"attach\n0 stat /", Some(end), 0);
-    match play(alloc, &mut reader, &mut output) {
+    match play(alloc, keys, &mut reader, &mut output) {
         Ok(()) => panic!(rt; "no fault"),
         Err(fault) => assert_eq!(rt; fault.status(), status),
     }
@@ -107,21 +124,25 @@ fn assert_reader(rt: &impl Abort, alloc: Global, end: io::ErrorKind, status: u8)
 
 // The begun line isn't played, and want of memory is no failing device.
 #[test]
-fn tells_failing_readers(rt: HostRuntime) {
-    assert_reader(&rt, rt.alloc(), io::ErrorKind::Other, 1);
-    assert_reader(&rt, rt.alloc(), io::ErrorKind::OutOfMemory, 3);
+fn tells_failing_readers(rt: HostRuntime) -> Result<(), Fail> {
+    let keys = RandomState::new(&rt)?;
+    assert_reader(&rt, rt.alloc(), keys, io::ErrorKind::Other, 1);
+    assert_reader(&rt, rt.alloc(), keys, io::ErrorKind::OutOfMemory, 3);
+    Ok(())
 }
 
 #[test]
-fn tells_failing_writers(rt: HostRuntime) {
+fn tells_failing_writers(rt: HostRuntime) -> Result<(), Fail> {
     let alloc = rt.alloc();
+    let keys = RandomState::new(&rt)?;
     for takes in [0, 5, 15] {
         let mut reader = SCRIPT.as_bytes();
         let mut writer = stream(alloc, b"", None, takes);
-        let outcome = play(alloc, &mut reader, &mut writer);
+        let outcome = play(alloc, keys, &mut reader, &mut writer);
         assert!(rt; matches!(&outcome, Err(Fault::Stream)), "{takes}");
         let mut writer = stream(alloc, b"", None, takes);
-        let outcome = show(alloc, &mut writer);
+        let outcome = show(alloc, keys, &mut writer);
         assert!(rt; matches!(&outcome, Err(Fault::Stream)), "{takes}");
     }
+    Ok(())
 }
