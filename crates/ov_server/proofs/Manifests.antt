@@ -17,15 +17,7 @@ use Rattle.ov_wire.specs.declared.manifest.fault.ManifestFault.{ManifestFault}
 use Rattle.ov_wire.specs.declared.manifest.fault.ManifestFault.TheVariants as manifest
 use Rattle.ov_server.specs.declared.fault.Fault.{Fault}
 use Rattle.ov_server.specs.declared.fault.Fault.TheVariants.{CommandLine, NotText, CannotReadManifest, Manifest, Stream, BadCommand, Memory}
-use Rattle.ov_server.specs.declared.fault.DeviceFault.{DeviceFault}
-use Rattle.ov_server.specs.declared.fault.DeviceFault.TheVariants as device
-use Rattle.ov_server.specs.declared.play.PlayFault.{PlayFault}
-use Rattle.ov_server.specs.declared.play.PlayFault.TheVariants as play
-use Rattle.ov_server.specs.Devices.{Notes}
-use Rattle.ov_server.specs.Faults.{AnswersManifest, EndsByManifest, IsFaultOf, IsManifestFault, IsShowFault, device_fault, layers_told, manifest_fault}
-use Rattle.ov_server.specs.Plays as plays
-use Rattle.ov_server.specs.Plays.{IsPlayFault, play_fault}
-use Rattle.ov_server.specs.Scripts.{IsRunFault, IsStreamFault}
+use Rattle.ov_server.specs.Faults.{AnswersManifest, EndsByManifest, IsFaultOf, layers_told, manifest_fault}
 
 -- what holds of bytes that are text and of those that are none holds
 either_text : (bytes : List ℕ) (P : Type 0) → (IsUtf8 bytes → P) → ((IsUtf8 bytes → ⊥) → P) → P
@@ -84,27 +76,6 @@ refuses_told S T bytes f =
       | _ ↦ λ a b c. refuses_first {T = S} bytes _ a b c
     ]
 
--- the end by a fault
-abbrev err : (A : Type 0) → Fault → Result A Fault
-err A e = Err e
-
--- a fault that is handed on
-pub refuses_same : (A B : Type 0) (bytes : List ℕ) (e : Fault) → AnswersManifest {T = A} bytes (Err e) → AnswersManifest {T = B} bytes (Err e)
-refuses_same A B bytes e p = record {
-  told = λ f is. p.told f (let same : e ≡ Manifest f = cc in ap (err A) same);
-  ends = λ f q. same f (p.ends f q);
-}
-  where
-    same : (f : ManifestFault) → EndsByManifest {T = A} (Err e) f → EndsByManifest {T = B} (Err e) f
-    same f = elim e as (λ x. EndsByManifest {T = A} (Err x) f → EndsByManifest {T = B} (Err x) f) [ Memory ↦ λ h. tt | _ ↦ λ h. h ]
-
--- a manifest without a fault ends no run: not one that goes well, nor one that ends later by another fault
-pub refuses_nothing : {A B : Type 0} (bytes : List ℕ) (x : A) (r : Result B Fault) → ((f : ManifestFault) → r ≡ Err (Manifest f) → ⊥) → AnswersManifest {T = A} bytes (Ok x) → AnswersManifest {T = B} bytes r
-refuses_nothing bytes x r other p = record {
-  told = λ f is. absurd (other f is);
-  ends = λ f q. absurd (p.ends f q);
-}
-
 -- as many layers are spelled as there are
 spelled_count : (Ls : List Layer) (items : Items) → AreSpelled Ls items → length Ls ≡ items_len items
 spelled_count [] no_items p = refl
@@ -119,51 +90,3 @@ told_count (Some m) Ls o good p = spelled_count Ls (layer_items m) p
 
 pub counted : (bytes : List ℕ) (upper : Tree) (lowers : List Tree) (o : Options) → option_map manifest_of (parse_document bytes) ≡ Some (Ok o) → IfSome (parse_document bytes) (λ m. AreSpelled (layer_of upper ∷ map layer_of lowers) (layer_items m)) → length (upper ∷ lowers) ≡ layers_told bytes
 counted bytes upper lowers o good p = ap suc (sym (length-map lowers layer_of)) ∙ told_count (parse_document bytes) (layer_of upper ∷ map layer_of lowers) o good p
-
--- ---- the ends of runs
-
--- a device's fault is no manifest's
-device_apart : (d : DeviceFault) (f : ManifestFault) → device_fault d ≡ Manifest f → ⊥
-device_apart device.Stream f e = cc
-device_apart device.Memory f e = cc
-
--- a run that ends by a device, or by a line, tells no fault of its manifest
-pub device_other : {T : Type 0} (r : Result T Fault) (d : DeviceFault) (e : Fault) → r ≡ Err e → e ≡ device_fault d → (f : ManifestFault) → r ≡ Err (Manifest f) → ⊥
-device_other r d e is told f same = device_apart d f (let x : e ≡ Manifest f = cc in sym told ∙ x)
-
-pub play_other : {T : Type 0} (r : Result T Fault) (p : PlayFault) (e : Fault) → r ≡ Err e → e ≡ play_fault p → (f : ManifestFault) → r ≡ Err (Manifest f) → ⊥
-play_other r (play.BadLine n) e is told f same = cc
-play_other r (play.Device d) e is told f same = device_other r d e is told f same
-
--- how a run ends that ends by its manifest
-pub manifest_run : (script : Option (List ℕ)) (layers : ℕ) (e : Fault) → IsManifestFault e → IsRunFault script layers e
-manifest_run script layers e = elim e as (λ x. IsManifestFault x → IsRunFault script layers x) [ Memory ↦ λ h. tt | Manifest f ↦ λ h. tt | _ ↦ λ h. absurd h ]
-
-pub manifest_stream : (input output : Bool) (left : ℕ) (e : Fault) → IsManifestFault e → IsStreamFault input left output e
-manifest_stream input output left e = elim e as (λ x. IsManifestFault x → IsStreamFault input left output x) [ Stream ↦ λ h. absurd h | _ ↦ λ h. tt ]
-
-pub manifest_show : (output : Bool) (e : Fault) → IsManifestFault e → IsShowFault output e
-manifest_show output e = elim e as (λ x. IsManifestFault x → IsShowFault output x) [ Stream ↦ λ h. absurd h | _ ↦ λ h. h ]
-
--- how a run ends that ends by a device
-pub device_run : (script : Option (List ℕ)) (layers : ℕ) (d : DeviceFault) → IsRunFault script layers (device_fault d)
-device_run script layers device.Stream = tt
-device_run script layers device.Memory = tt
-
-pub mark_run : (input before after : Bool) (left : ℕ) (d : DeviceFault) → Notes before after d → IsStreamFault input left after (device_fault d)
-mark_run input before after left device.Stream h = inr (inr h)
-mark_run input before after left device.Memory h = tt
-
-pub mark_show : (before after : Bool) (d : DeviceFault) → Notes before after d → IsShowFault after (device_fault d)
-mark_show before after device.Stream h = h
-mark_show before after device.Memory h = tt
-
--- how a run ends that ends by its script
-pub play_run : (script : Option (List ℕ)) (layers : ℕ) (p : PlayFault) → IfSome script (λ s. IsPlayFault layers s p) → IsRunFault script layers (play_fault p)
-play_run script layers (play.BadLine n) h = h
-play_run script layers (play.Device d) h = device_run script layers d
-
-pub play_stream : (input before after : Bool) (left : ℕ) (p : PlayFault) → after ≡ before → plays.IsStreamFault input left before p → IsStreamFault input left after (play_fault p)
-play_stream input before after left (play.BadLine n) same h = tt
-play_stream input before after left (play.Device device.Stream) same h = rw same h
-play_stream input before after left (play.Device device.Memory) same h = tt

@@ -1,9 +1,9 @@
 //! The program: shows the merged tree of a manifest, or plays a script on its mount.
 #![tactic(auto)]
 
-use ov_server::{Fault, Invocation, command_line, play_run, show_run};
+use ov_server::{Fault, Input, Invocation, Output, command_line, play_run, show_run};
 use std::hash::RandomState;
-use std::io::{self, BufWriter};
+use std::io;
 use std::process::ExitCode;
 use std::{env, fs};
 
@@ -35,19 +35,20 @@ fn words(rt: &HostRuntime) -> Result<Vec<String>, Fault> {
 
 fn show(rt: &HostRuntime, keys: RandomState, manifest: &str) -> Result<(), Fault> {
     let manifest = bytes_of(rt, manifest)?;
-    let mut writer = BufWriter::new(rt.alloc(), io::writer(rt))?;
-    show_run(rt.alloc(), keys, manifest.as_slice(), &mut writer)
+    let mut output = Output::new(rt.alloc(), io::writer(rt));
+    show_run(rt.alloc(), keys, manifest.as_slice(), &mut output)
 }
 
 fn play(rt: &HostRuntime, keys: RandomState, manifest: &str) -> Result<(), Fault> {
     let manifest = bytes_of(rt, manifest)?;
-    let mut writer = BufWriter::new(rt.alloc(), io::writer(rt))?;
+    let mut input = Input::new(rt.reader());
+    let mut output = Output::new(rt.alloc(), io::writer(rt));
     play_run(
         rt.alloc(),
         keys,
         manifest.as_slice(),
-        &mut rt.reader(),
-        &mut writer,
+        &mut input,
+        &mut output,
     )
 }
 
