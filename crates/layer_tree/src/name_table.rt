@@ -21,7 +21,7 @@ pub enum Entry {
     Whiteout,
 }
 
-/// The names of a directory, each with its entry. The keys of the hash are random, so no one can pick names that collide.
+/// The names of a directory, each with its entry. The hash has random keys, against names that are picked to collide.
 #[derive(Drop)]
 pub struct NameTable {
     table: IndexMap<Name, Entry, RandomState>,
