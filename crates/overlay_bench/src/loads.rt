@@ -104,6 +104,7 @@ fn redirect_named(word: &str) -> Option<Load> {
         "chains" => Some(Load::Redirected(Shape::Through, true)),
         "chains_absent" => Some(Load::Redirected(Shape::Through, false)),
         "chains_past" => Some(Load::Redirected(Shape::Past, true)),
+        "chains_past_named" => Some(Load::Redirected(Shape::PastNamed, true)),
         "chains_single" => Some(Load::Redirected(Shape::Single, true)),
         "chains_longer" => Some(Load::Redirected(Shape::Longer, true)),
         _ => None,

@@ -16,6 +16,8 @@ pub enum Shape {
     Through,
     /// Each to the last of other directories of the next layer, which have no redirects.
     Past,
+    /// The same, where the other directories have redirects to their own names.
+    PastNamed,
     /// Each to its own name, as a redirect of one name.
     Single,
     /// The first to the last one of the next layer, and the others to their own names, deeper in each layer by what the redirects add.
@@ -30,7 +32,7 @@ pub fn redirected(alloc: Global, shape: Shape) -> Result<ManifestText, AllocErro
         layer_in(alloc, &mut manifest, shape, layer)?;
     }
     let last = match shape {
-        Shape::Past => spare(alloc)?,
+        Shape::Past | Shape::PastNamed => spare(alloc)?,
         Shape::Through | Shape::Single => nested(alloc, DEPTH)?,
         Shape::Longer => repeated(alloc, LAYERS - 1)?,
     };
@@ -52,6 +54,10 @@ fn layer_in(
         Shape::Past => {
             marked_in(alloc, manifest, "", 0, Some(spare(alloc)?.as_str()))?;
             spare_in(alloc, manifest)
+        }
+        Shape::PastNamed => {
+            marked_in(alloc, manifest, "", 0, Some(spare(alloc)?.as_str()))?;
+            named_in(alloc, manifest)
         }
         Shape::Longer => {
             manifest.redirected(nested(alloc, 1)?.as_str(), last.as_str())?;
@@ -92,6 +98,17 @@ fn spare_in(alloc: Global, manifest: &mut ManifestText) -> Result<(), AllocError
     for number in 0..DEPTH {
         path = child(alloc, path.as_str(), "more-", number)?;
         manifest.directory(path.as_str())?;
+    }
+    Ok(())
+}
+
+// The same directories, with redirects to their own names.
+fn named_in(alloc: Global, manifest: &mut ManifestText) -> Result<(), AllocError> {
+    let mut path = String::new(alloc);
+    for number in 0..DEPTH {
+        path = child(alloc, path.as_str(), "more-", number)?;
+        let own = format!(in alloc; "more-{number:07}")?;
+        manifest.redirected(path.as_str(), own.as_str())?;
     }
     Ok(())
 }
