@@ -17,7 +17,7 @@ use Rattle.plain_model.specs.Runs.{LawOfNames}
 use Rattle.plain_model.specs.Layers.{Name, Path}
 use Rattle.plain_model.specs.Tree.{same_id, Node, Branch, Leaf, Own, Tree, root, names_of, entry, node_at, node_of, lead, is_folder, count_of, IsKept}
 use Rattle.plain_model.specs.Machine.{MountOptions, Table, State, Look, Found, Absent, Fails, look, is_found, same_found, has_names, is_base, node_found, is_below, bytes_of_node, handle_of, write_place}
-use Rattle.plain_model.specs.Refusals.{refusal, path_of, path_refusal, walked, there, when, bad_mode, bad_flags, unless_same, has_nul, ◌or_else◌}
+use Rattle.plain_model.specs.Refusals.{refusal, path_of, path_refusal, walked, there, when, bad_mode, bad_flags, unless_same, has_nul, ◌or_else◌, writable_refusal}
 use Rattle.plain_model.specs.Changes.{change, on_way, way_of, lead_way, touched, meta_touched, one_fewer, one_more, with_bytes, with_attributes, with_mode, with_owner, set_value, drop_value, sized, written, fitting, node_of_handle, with_handle, wrote, opened, fresh, settled, made_way, dropped, renamed, tree_after, next_if}
 use Rattle.plain_model.proofs.Paths.{ids_tell}
 use Rattle.plain_model.proofs.Names.{names-some, root-some}
@@ -112,7 +112,7 @@ no-names (Some (Branch a b names c)) m h =
 
 -- a call by path that is not refused
 by-path : (s : State) (c : ℕ) (call : Call) → refusal s c call ≡ None → path_refusal s (look s.tree (path_of call)) (node_of s.tree (node_at s.tree (path_of call))) c call ≡ None
-by-path s c call r = or-first _ _ r
+by-path s c call r = or-first _ _ (or-first (writable_refusal s c call) _ r)
 
 mkdir-kept : (s : State) (c : ℕ) (p : Path) (mode : ℕ) → IsKept s.tree s.serial → refusal s c (Mkdir p mode) ≡ None → IsKept (tree_after s c (Mkdir p mode)) (suc s.serial)
 mkdir-kept s c [] mode k r = let z = when-not true EEXIST (or-second (bad_mode mode) _ (by-path s c (Mkdir [] mode) r)) in absurd (false≢true (sym z))

@@ -224,9 +224,12 @@ writes s (Hardlink old new) = true
 writes s (Rename old new) = not (same_found (look s.tree old) (look s.tree new))
 writes s _ = false
 
--- the refusal of a client's call in a state, or none; that nothing may be written is told last
-abbrev pub refusal : State → ℕ → Call → Option Errno
-refusal s c call =
+-- the refusal of a client's call in a state where all may be written, or none
+abbrev pub writable_refusal : State → ℕ → Call → Option Errno
+writable_refusal s c call =
     path_refusal s (look s.tree (path_of call)) (node_of s.tree (node_at s.tree (path_of call))) c call
     or_else descriptor_refusal s (handle_of s.tables c (descriptor_of call)) (handle_node s.tree (handle_of s.tables c (descriptor_of call))) c call
-    or_else when (writes s call && s.options.read_only) EROFS
+
+-- the refusal of a client's call in a state, or none; that nothing may be written is told last
+abbrev pub refusal : State → ℕ → Call → Option Errno
+refusal s c call = writable_refusal s c call or_else when (writes s call && s.options.read_only) EROFS
