@@ -126,5 +126,5 @@ law_of_readlink U lowers s m c p = record {
       refusal-reading s c (Readlink p) refl
       ∙ chain-two (there (look s.tree p)) (when (not (is_link (node_of s.tree (node_at s.tree p)))) EINVAL)
       ∙ ap₂ (λ e b. first e (when (not b) EINVAL)) (to-last U lowers s m p) (link-at U lowers s m p);
-  answer = λ target h. ap reply.Content (face-bytes (node_of s.tree (node_at s.tree p)) ∙ ap seen_bytes (m.shows.sights p) ∙ see-target _ (shows 0 (U ∷ lowers) p) target h);
+  answer = λ target h. ap reply.Target (face-bytes (node_of s.tree (node_at s.tree p)) ∙ ap seen_bytes (m.shows.sights p) ∙ see-target _ (shows 0 (U ∷ lowers) p) target h);
 }

@@ -344,7 +344,7 @@ fn read_link(node: Option<&Node>) -> Result<Reply, AllocError>
                     ..
                 },
             ),
-        ) => Ok(Reply::Content(target.clone()?)),
+        ) => Ok(Reply::Target(target.clone()?)),
         _ => Ok(Reply::Refused(Errno::EINVAL)),
     }
 }
