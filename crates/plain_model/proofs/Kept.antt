@@ -29,12 +29,12 @@ use Rattle.plain_model.proofs.Renaming.{renamed-kept}
 use Rattle.plain_model.proofs.Looking.{or-first, or-second, when-not, Reached, Tells, look-found, look-reached}
 
 -- mild changes of a node
-bytes-mild : (bytes : List ℕ) → IsMild (with_bytes bytes)
+pub bytes-mild : (bytes : List ℕ) → IsMild (with_bytes bytes)
 bytes-mild bytes (Branch a b names c) = like-refl (Some (Branch a b names c))
 bytes-mild bytes (Leaf (File old) a u c) = record { names = λ n. refl; counts = refl; folders = refl; stands = refl }
 bytes-mild bytes (Leaf (SymbolicLink target) a u c) = like-refl (Some (Leaf (SymbolicLink target) a u c))
 
-attributes-mild : (m : MountOptions) (f : Attributes → Attributes) → IsMild (with_attributes m f)
+pub attributes-mild : (m : MountOptions) (f : Attributes → Attributes) → IsMild (with_attributes m f)
 attributes-mild m f (Branch a b names c) = record { names = λ n. refl; counts = refl; folders = refl; stands = refl }
 attributes-mild m f (Leaf content a u c) = record { names = λ n. refl; counts = refl; folders = refl; stands = refl }
 
@@ -45,7 +45,7 @@ touched-mild (Leaf content a u c) = record { names = λ n. refl; counts = refl; 
 like-trans : (o p q : Option Node) → Like o p → Like p q → Like o q
 like-trans o p q a b = record { names = λ n. b.names n ∙ a.names n; counts = b.counts ∙ a.counts; folders = b.folders ∙ a.folders; stands = b.stands ∙ a.stands }
 
-opened-mild : (f : OpenFlags) → IsMild (opened f)
+pub opened-mild : (f : OpenFlags) → IsMild (opened f)
 opened-mild f x = by f.writes f.truncate
   where
     by : (b c : Bool) → Like (Some x) (Some (cond b (cond c (with_bytes [] (touched x)) (touched x)) x))
@@ -111,7 +111,7 @@ no-names (Some (Branch a b names c)) m h =
     ap (λ z. fin.get z m) (fin.empty_of_len names (let z : fin.len names ≡ 0 = grind (arith, nat_tests) in z)) ∙ fin.get-empty (slice_cmp nat_cmp) m
 
 -- a call by path that is not refused
-by-path : (s : State) (c : ℕ) (call : Call) → refusal s c call ≡ None → path_refusal s (look s.tree (path_of call)) (node_of s.tree (node_at s.tree (path_of call))) c call ≡ None
+pub by-path : (s : State) (c : ℕ) (call : Call) → refusal s c call ≡ None → path_refusal s (look s.tree (path_of call)) (node_of s.tree (node_at s.tree (path_of call))) c call ≡ None
 by-path s c call r = or-first _ _ (or-first (writable_refusal s c call) _ r)
 
 mkdir-kept : (s : State) (c : ℕ) (p : Path) (mode : ℕ) → IsKept s.tree s.serial → refusal s c (Mkdir p mode) ≡ None → IsKept (tree_after s c (Mkdir p mode)) (suc s.serial)
@@ -130,11 +130,9 @@ symlink-kept s c target p k r = by p (or-second (when (has_nul target) EINVAL) _
         make-kept s.tree s.serial n q (Leaf (SymbolicLink target) (fresh 0o777) Own 1) refl (λ m. refl) k
         (free-name s.tree n q (or-first (walked (look s.tree (n ∷ q))) _ w) (when-not (is_found (look s.tree (n ∷ q))) EEXIST (or-second (walked (look s.tree (n ∷ q))) _ w)))
 
-open-made : (s : State) (c : ℕ) (p : Path) (f : OpenFlags) (mode : ℕ) → IsKept s.tree s.serial → refusal s c (Open p f mode) ≡ None → is_none (node_at s.tree p) ≡ true → IsKept (made_way s.tree s.serial (way_of s.tree p) (Leaf (File []) (fresh mode) Own 1)) (suc s.serial)
-open-made s c [] f mode k r free = absurd (false≢true free)
-open-made s c (n ∷ q) f mode k r free =
-    make-kept s.tree s.serial n q (Leaf (File []) (fresh mode) Own 1) refl (λ m. refl) k
-    (free-name s.tree n q w (not-found (look s.tree (n ∷ q)) refl))
+-- an open that makes its file has a directory to make it in
+pub open-reached : (s : State) (c : ℕ) (n : Name) (q : Path) (f : OpenFlags) (mode : ℕ) → refusal s c (Open (n ∷ q) f mode) ≡ None → is_none (node_at s.tree (n ∷ q)) ≡ true → Reached s.tree n q None
+open-reached s c n q f mode r free = free-name s.tree n q w (not-found (look s.tree (n ∷ q)) refl)
   where
     w : walked (look s.tree (n ∷ q)) ≡ None
     w = or-first (walked (look s.tree (n ∷ q))) _ (or-second (bad_mode mode) _ (or-second (when (bad_flags f) EINVAL) _ (by-path s c (Open (n ∷ q) f mode) r)))
@@ -143,6 +141,10 @@ open-made s c (n ∷ q) f mode k r free =
     not-found (Found d) h = absurd (false≢true (ap is_none (sym (look-found s.tree (n ∷ q) d h)) ∙ free))
     not-found (Absent d) h = refl
     not-found (Fails x) h = refl
+
+open-made : (s : State) (c : ℕ) (p : Path) (f : OpenFlags) (mode : ℕ) → IsKept s.tree s.serial → refusal s c (Open p f mode) ≡ None → is_none (node_at s.tree p) ≡ true → IsKept (made_way s.tree s.serial (way_of s.tree p) (Leaf (File []) (fresh mode) Own 1)) (suc s.serial)
+open-made s c [] f mode k r free = absurd (false≢true free)
+open-made s c (n ∷ q) f mode k r free = make-kept s.tree s.serial n q (Leaf (File []) (fresh mode) Own 1) refl (λ m. refl) k (open-reached s c n q f mode r free)
 
 open-kept : (s : State) (c : ℕ) (p : Path) (f : OpenFlags) (mode : ℕ) → IsKept s.tree s.serial → refusal s c (Open p f mode) ≡ None → IsKept (tree_after s c (Open p f mode)) (next_if (is_none (node_at s.tree p)) s.serial)
 open-kept s c p f mode k r = by (is_none (node_at s.tree p)) (λ h. open-made s c p f mode k r h)

@@ -11,3 +11,4 @@ pub mod Replies
 pub mod Subjects
 pub mod Runs
 pub mod Bounds
+pub mod Settling
