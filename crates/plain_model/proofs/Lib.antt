@@ -26,3 +26,5 @@ pub mod RunsKept
 pub mod Held
 pub mod Lasting
 pub mod Calls
+pub mod Clients
+pub mod Settled
