@@ -13,8 +13,8 @@ use Rattle.ov_base.specs.declared.node_id.NodeId.{NodeId}
 use Rattle.ov_base.specs.declared.node_id.NodeId.TheVariants.{New}
 use Rattle.plain_model.specs.Layers.{Name, Path}
 use Rattle.plain_model.specs.Tree.{same_id, Node, Branch, Leaf, Own, Tree, node_at, node_of, is_folder, count_of, IsKept}
-use Rattle.plain_model.specs.Machine.{Handle, Table, State, DESCRIPTORS_MAX, Look, look, is_found, same_found, is_link, bytes_of_node, handle_of, handle_node, lowest_free, place_of, write_place}
-use Rattle.plain_model.specs.Refusals.{refusal, open_refusal, ◌or_else◌, walked, when, bad_mode, bad_flags}
+use Rattle.plain_model.specs.Machine.{Handle, State, DESCRIPTORS_MAX, Look, look, is_found, same_found, is_link, bytes_of_node, handle_of, handle_node, lowest_free, place_of, write_place}
+use Rattle.plain_model.specs.Refusals.{refusal, open_refusal, walked, when, bad_mode, bad_flags}
 use Rattle.plain_model.specs.Changes.{change, on_way, way_of, holds, is_held, with_attributes, with_mode, with_owner, set_value, drop_value, sized, written, fitting, node_of_handle, with_handle, wrote, opened, fresh, settled, made_way, new_handle, opens, re_ways, read_bytes, renamed, sought, moved_to, rewound, listed_on, tree_after, tables_after}
 use Rattle.plain_model.specs.Settling.{clients_of}
 use Rattle.plain_model.proofs.Paths.{ids_tell}
@@ -49,6 +49,7 @@ free-descriptor f mode l o free r =
     (or-second (when (not (is_found l) && not f.create) ENOENT) _
     (or-second (walked l) _ (or-second (bad_mode mode) _ (or-second (when (bad_flags f) EINVAL) _ r))))))))
 
+-- so has one by the client's table
 open-free : (s : State) (c : ℕ) (p : Path) (f : OpenFlags) (mode : ℕ) → refusal s c (Open p f mode) ≡ None → is_none (lowest_free s.tables c) ≡ false
 open-free s c p f mode r = free-descriptor f mode (look s.tree p) (node_of s.tree (node_at s.tree p)) (lowest_free s.tables c) (by-path s c (Open p f mode) r)
 
@@ -64,6 +65,7 @@ module _ (s : State) (c : ℕ) (k : IsKept s.tree s.serial) (apart : IsDistinct 
   stays : (fd : ℕ) (h : Option Handle) → ((x : NodeId) → holds x h ≡ holds x (handle_of s.tables c fd)) → (x : NodeId) → is_held (with_handle s.tables c fd h) x ≡ is_held s.tables x
   stays fd h e x = with-held s.tables c fd h x apart (e x)
 
+  -- so no node comes or goes
   handle-lasts : (fd : ℕ) (h : Option Handle) → ((x : NodeId) → holds x h ≡ holds x (handle_of s.tables c fd)) → AllLast s.tree (with_handle s.tables c fd h)
   handle-lasts fd h e d = subst (Lasts (s.tree d)) (sym (stays fd h e d)) (l d)
 
@@ -149,6 +151,7 @@ module _ (s : State) (c : ℕ) (k : IsKept s.tree s.serial) (apart : IsDistinct 
           (stays fd (moved_to (at + length (fitting at bytes)) (handle_of s.tables c fd)) (λ x. moved-holds x (at + length (fitting at bytes)) (handle_of s.tables c fd)))
           s.tree (node_of_handle (handle_of s.tables c fd)) l
 
+  -- a place moves
   seek-lasts : (fd : ℕ) (offset : ℤ) (whence : ℕ) → AllLast s.tree (tables_after s c (Seek fd offset whence))
   seek-lasts fd offset whence =
       let h = handle_of s.tables c fd in
@@ -176,6 +179,7 @@ module _ (s : State) (c : ℕ) (k : IsKept s.tree s.serial) (apart : IsDistinct 
   tree-lasts : (f : Node → Node) → IsMild f → (o : Option NodeId) → AllLast (change f s.tree o) s.tables
   tree-lasts f mild o = mild-lasts f mild s.tables s.tables (λ x. refl) s.tree o l
 
+  -- each call that is not refused
   pub call-lasts : (call : Call) → refusal s c call ≡ None → AllLast (tree_after s c call) (tables_after s c call)
   call-lasts (Stat p) r = l
   call-lasts (Readlink p) r = l

@@ -5,10 +5,10 @@ use Rattle.std.proofs.lemmas.Bool.{or_cases}
 use Rattle.std.proofs.lemmas.Map.Keys.{IsDistinct-head, IsDistinct-tail, IsDistinct-cons}
 use Rattle.std.proofs.lemmas.List.Elements.{All-from_recursion, recursion_from_All, All-map}
 use Rattle.ov_base.specs.declared.call.Call.{Call}
-use Rattle.ov_base.specs.declared.call.Call.TheVariants.{Stat, Readlink, Chmod, Chown, SetAttribute, GetAttribute, DeleteAttribute, ListAttributes, Mkdir, Symlink, Open, Unlink, Rmdir, Hardlink, Rename, Read, Write, Seek, Truncate, Fstat, ListNames, Close, Arm, Disarm, TakeNotices}
+use Rattle.ov_base.specs.declared.call.Call.TheVariants.{Open, Rename, Read, Write, Seek, ListNames, Close, Arm, TakeNotices}
 use Rattle.ov_base.specs.declared.node_id.NodeId.{NodeId}
 use Rattle.plain_model.specs.Tree.{same_id, node_at}
-use Rattle.plain_model.specs.Watching.{EVENTS, ONESHOT, has_bit, Watch, Instance, Subject, Rule, AllHear, passed, all_passed}
+use Rattle.plain_model.specs.Watching.{EVENTS, ONESHOT, has_bit, Instance, Subject, Rule, AllHear, passed, all_passed}
 use Rattle.plain_model.specs.Machine.{Table, State, DESCRIPTORS_MAX, look, same_found, watch_on}
 use Rattle.plain_model.specs.Changes.{way_of, tables_after, re_mask, armed_on, at_client, instances_after}
 use Rattle.plain_model.specs.Settling.{clients_of}
@@ -44,6 +44,7 @@ at-hearers c f same (e ∷ es) = λ i. by (nat_eq e.client c) i ∷ at-hearers c
     by true = same e
     by false = refl
 
+-- a watch is armed
 armed-client : (slot : ℕ) (o : Option NodeId) (mask : ℕ) (e : Instance) → (armed_on slot o mask e).client ≡ e.client
 armed-client slot None mask e = refl
 armed-client slot (Some d) mask e = by (is_some (watch_on e.watches (Some d)))
@@ -58,11 +59,12 @@ call-hearers s c (Arm slot p mask) = at-hearers c (armed_on slot (node_at s.tree
 call-hearers s c (TakeNotices n) = at-hearers c _ (λ e. refl) s.instances
 call-hearers s c _ = refl
 
--- so are those that heard
+-- an instance stays its client's
 passed-client : (ss : List Subject) (e : Instance) → (all_passed e ss).client ≡ e.client
 passed-client [] e = refl
 passed-client (s ∷ ss) e = passed-client ss (passed e s)
 
+-- after subjects were heard
 pub heard-hearers : (shows : Rule) (ss : List Subject) (es fs : List Instance) → AllHear shows ss es fs → hearers_of fs ≡ hearers_of es
 heard-hearers shows ss [] [] h = refl
 heard-hearers shows ss [] (f ∷ fs) h = absurd h
@@ -73,10 +75,12 @@ heard-hearers shows ss (e ∷ es) (f ∷ fs) h = λ i. (ap (λ x. x.client) h.0.
 abbrev pub size : Table → ℕ
 size k = length k.handles
 
+-- what is so of the numbers of descriptors is so of the tables
 unmapped : (P : ℕ → Type 0) (ks : List Table) → AllByRecursion P (map size ks) → AllByRecursion (λ k. P (size k)) ks
 unmapped P [] h = tt
 unmapped P (k ∷ ks) h = (h.0, unmapped P ks h.1)
 
+-- tables with as many descriptors as full ones are full
 pub same-sizes : (ks ls : List Table) → map size ls ≡ map size ks → All (λ k. size k ≡ DESCRIPTORS_MAX) ks → All (λ k. size k ≡ DESCRIPTORS_MAX) ls
 same-sizes ks ls e h =
     All-from_recursion (λ k. size k ≡ DESCRIPTORS_MAX) ls
@@ -88,6 +92,7 @@ same-sizes ks ls e h =
 abbrev pub but : ℕ → List ℕ → List ℕ
 but c xs = filter (λ x. not (nat_eq x c)) xs
 
+-- the numbers of all but some
 pub filter-map : {A : Type 0} (f : A → ℕ) (c : ℕ) (xs : List A) → map f (filter (λ x. not (nat_eq (f x) c)) xs) ≡ but c (map f xs)
 filter-map f c [] = refl
 filter-map f c (x ∷ xs) = by (nat_eq (f x) c) (filter-map f c xs)
@@ -96,7 +101,7 @@ filter-map f c (x ∷ xs) = by (nat_eq (f x) c) (filter-map f c xs)
     by true rest = rest
     by false rest = ap (λ z. f x ∷ z) rest
 
--- numbers that differ still do without some, and with one that none of them is
+-- what is so of numbers is so without one of them
 all-but : (P : ℕ → Type 0) (c : ℕ) (xs : List ℕ) → AllByRecursion P xs → AllByRecursion P (but c xs)
 all-but P c [] h = tt
 all-but P c (x ∷ xs) h = by (not (nat_eq x c)) (all-but P c xs h.1)
@@ -105,6 +110,7 @@ all-but P c (x ∷ xs) h = by (not (nat_eq x c)) (all-but P c xs h.1)
     by true rest = (h.0, rest)
     by false rest = rest
 
+-- numbers that differ still do
 pub but-apart : (c : ℕ) (xs : List ℕ) → IsDistinct nat_eq xs → IsDistinct nat_eq (but c xs)
 but-apart c [] h = h
 but-apart c (x ∷ xs) h = by (not (nat_eq x c)) (but-apart c xs (IsDistinct-tail nat_eq x xs h))
@@ -113,6 +119,7 @@ but-apart c (x ∷ xs) h = by (not (nat_eq x c)) (but-apart c xs (IsDistinct-tai
     by true rest = IsDistinct-cons nat_eq x (but c xs) (all-but (λ y. nat_eq x y ≡ false) c xs (IsDistinct-head nat_eq x xs h)) rest
     by false rest = rest
 
+-- one of them was one before
 pub but-member : (c y : ℕ) (xs : List ℕ) → list_any (λ x. nat_eq x y) (but c xs) ≡ true → list_any (λ x. nat_eq x y) xs ≡ true
 but-member c y [] h = h
 but-member c y (x ∷ xs) h = by (not (nat_eq x c)) (but-member c y xs) h
@@ -128,6 +135,7 @@ but-member c y (x ∷ xs) h = by (not (nat_eq x c)) (but-member c y xs) h
     ]
     by false rest h = or-true (nat_eq x y) (list_any (λ x. nat_eq x y) xs) (rest h)
 
+-- there are no more of them
 pub but-fewer : (c : ℕ) (xs : List ℕ) → length (but c xs) ≤ length xs
 but-fewer c [] = omega arith
 but-fewer c (x ∷ xs) = by (not (nat_eq x c)) (but-fewer c xs)
@@ -136,10 +144,12 @@ but-fewer c (x ∷ xs) = by (not (nat_eq x c)) (but-fewer c xs)
     by true rest = omega arith
     by false rest = omega arith
 
+-- what is so of numbers and of one more is so of all
 all-last : (P : ℕ → Type 0) (xs : List ℕ) (n : ℕ) → AllByRecursion P xs → P n → AllByRecursion P (xs ++ n ∷ [])
 all-last P [] n h p = (p, tt)
 all-last P (x ∷ xs) n h p = (h.0, all-last P xs n h.1 p)
 
+-- numbers that differ, and one that none of them is
 pub last-apart : (xs : List ℕ) (n : ℕ) → IsDistinct nat_eq xs → AllByRecursion (λ y. nat_eq y n ≡ false) xs → IsDistinct nat_eq (xs ++ n ∷ [])
 last-apart [] n h new = IsDistinct-cons nat_eq n [] tt h
 last-apart (x ∷ xs) n h new =

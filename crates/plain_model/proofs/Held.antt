@@ -23,6 +23,7 @@ is_on d hs = list_any (holds d) hs
 abbrev pub IsFixed : {B : Type 0} → (Table → B) → Type 0
 IsFixed f = (k : Table) (hs : List (Option Handle)) → length hs ≡ length k.handles → f (record k { handles = hs }) ≡ f k
 
+-- a change of one descriptor leaves such a fact
 pub fixed-with : {B : Type 0} (f : Table → B) → IsFixed f → (ks : List Table) (c fd : ℕ) (h : Option Handle) → map f (with_handle ks c fd h) ≡ map f ks
 fixed-with f fixed [] c fd h = refl
 fixed-with f fixed (k ∷ ks) c fd h = by (nat_eq k.client c) (fixed-with f fixed ks c fd h)
@@ -31,6 +32,7 @@ fixed-with f fixed (k ∷ ks) c fd h = by (nat_eq k.client c) (fixed-with f fixe
     by true rest = λ i. fixed k (slice_set k.handles fd h) (length-set k.handles fd h) i ∷ rest i
     by false rest = ap (λ z. f k ∷ z) rest
 
+-- and so does a rename of what handles are on
 length-ways : (d : Option NodeId) (old new : Option (NodeId × Name)) (hs : List (Option Handle)) → length (map (re_way d old new) hs) ≡ length hs
 length-ways d old new [] = refl
 length-ways d old new (h ∷ hs) = ap suc (length-ways d old new hs)
@@ -49,10 +51,12 @@ way-holds x (Some d) old new (Some h) = by _
     by true = refl
     by false = refl
 
+-- so the handles of a table are on the same nodes
 ways-on : (x : NodeId) (d : Option NodeId) (old new : Option (NodeId × Name)) (hs : List (Option Handle)) → is_on x (map (re_way d old new) hs) ≡ is_on x hs
 ways-on x d old new [] = refl
 ways-on x d old new (h ∷ hs) = λ i. way-holds x d old new h i || ways-on x d old new hs i
 
+-- and those of all tables
 pub ways-held : (ks : List Table) (d : Option NodeId) (old new : Option (NodeId × Name)) (x : NodeId) → is_held (re_ways ks d old new) x ≡ is_held ks x
 ways-held [] d old new x = refl
 ways-held (k ∷ ks) d old new x = λ i. ways-on x d old new k.handles i || ways-held ks d old new x i
@@ -64,10 +68,11 @@ set-on x (None ∷ hs) zero h e = ap (λ b. b || is_on x hs) e
 set-on x (Some g ∷ hs) zero h e = ap (λ b. b || is_on x hs) e
 set-on x (g ∷ hs) (suc fd) h e = ap (λ b. holds x g || b) (set-on x hs fd h e)
 
--- tables of other clients don't change
+-- numbers that differ do so from the other side
 flipped : (a b : ℕ) → nat_eq a b ≡ false → nat_eq b a ≡ false
 flipped a b e = ne_eqb b a (λ f. eqb-false a b e (sym f))
 
+-- tables of other clients don't change
 others-with : (c : ℕ) (ks : List Table) (fd : ℕ) (h : Option Handle) → AllByRecursion (λ y. nat_eq c y ≡ false) (clients_of ks) → with_handle ks c fd h ≡ ks
 others-with c [] fd h a = refl
 others-with c (k ∷ ks) fd h a = λ i. cond (flipped c k.client a.0 i) (record k { handles = slice_set k.handles fd h }) k ∷ others-with c ks fd h a.1 i
@@ -83,17 +88,19 @@ with-held (k ∷ ks) c fd h x apart e = by (nat_eq k.client c) refl e (with-held
         λ i. set-on x k.handles fd h e i || is_held (z i) x
     by false other e rest = ap (λ b. is_on x k.handles || b) (rest e)
 
--- a node with an open handle of a client is held
+-- a test of two, of which the second passes
 or-true : (b : Bool) → b || true ≡ true
 or-true true = refl
 or-true false = refl
 
+-- a node that a descriptor is on
 on-at : (x : NodeId) (hs : List (Option Handle)) (fd : ℕ) → holds x (held_in (slice_get hs fd)) ≡ true → is_on x hs ≡ true
 on-at x [] fd e = absurd (false≢true e)
 on-at x (None ∷ hs) zero e = absurd (false≢true e)
 on-at x (Some g ∷ hs) zero e = ap (λ b. b || is_on x hs) e
 on-at x (g ∷ hs) (suc fd) e = ap (λ b. holds x g || b) (on-at x hs fd e) ∙ or-true (holds x g)
 
+-- a node with an open handle of a client is held
 pub held-by : (ks : List Table) (c fd : ℕ) (x : NodeId) → holds x (handle_of ks c fd) ≡ true → is_held ks x ≡ true
 held-by [] c fd x e = absurd (false≢true e)
 held-by (k ∷ ks) c fd x e = by (nat_eq k.client c) e (held-by ks c fd x)
@@ -102,7 +109,7 @@ held-by (k ∷ ks) c fd x e = by (nat_eq k.client c) e (held-by ks c fd x)
     by true e rest = ap (λ b. b || is_held ks x) (on-at x k.handles fd e)
     by false e rest = ap (λ b. is_on x k.handles || b) (rest e) ∙ or-true (is_on x k.handles)
 
--- a free descriptor is found where one is
+-- the lowest free descriptor is free, where there is one
 pub lowest-none : (ks : List Table) (c : ℕ) → is_none (lowest_free ks c) ≡ false → handle_of ks c (unwrap_or (lowest_free ks c) DESCRIPTORS_MAX) ≡ None
 lowest-none ks c e = by (lowest_free ks c) refl e
   where
@@ -126,11 +133,12 @@ with-handles (k ∷ ks) c fd h = by (nat_eq k.client c) refl (with-handles ks c 
     by true e rest = ap (λ b. cond b (slice_set k.handles fd h) (handles_of (with_handle ks c fd h) c)) e
     by false e rest = ap (λ b. cond b k.handles (handles_of (with_handle ks c fd h) c)) e ∙ rest
 
--- a client comes: free descriptors are on no node
+-- free descriptors are on no node
 free-on : (x : NodeId) (n : ℕ) → is_on x (replicate n None) ≡ false
 free-on x zero = refl
 free-on x (suc n) = free-on x n
 
+-- a client comes
 pub joined-held : (ks : List Table) (c : ℕ) (x : NodeId) → is_held (ks ++ free_table c ∷ []) x ≡ is_held ks x
 joined-held ks c x = list_any-append (λ (k : Table). is_on x k.handles) ks (free_table c ∷ []) ∙ ap (λ b. is_held ks x || (b || false)) (free-on x DESCRIPTORS_MAX) ∙ or-false (is_held ks x)
   where
@@ -138,14 +146,16 @@ joined-held ks c x = list_any-append (λ (k : Table). is_on x k.handles) ks (fre
     or-false true = refl
     or-false false = refl
 
--- a client goes whose descriptors are on no node
+-- the tables but a client's
 abbrev pub left_by : ℕ → List Table → List Table
 left_by c ks = filter {X = Table} (λ k. not (nat_eq k.client c)) ks
 
+-- where it has none, they are all of them
 others-left : (c : ℕ) (ks : List Table) → AllByRecursion (λ y. nat_eq c y ≡ false) (clients_of ks) → left_by c ks ≡ ks
 others-left c [] a = refl
 others-left c (k ∷ ks) a = λ i. cond (not (flipped c k.client a.0 i)) (k ∷ others-left c ks a.1 i) (others-left c ks a.1 i)
 
+-- a client goes whose descriptors are on no node
 pub left-held : (ks : List Table) (c : ℕ) (x : NodeId) → IsDistinct nat_eq (clients_of ks) → is_on x (handles_of ks c) ≡ false → is_held (left_by c ks) x ≡ is_held ks x
 left-held [] c x apart e = refl
 left-held (k ∷ ks) c x apart e = by (nat_eq k.client c) refl e (left-held ks c x (IsDistinct-tail nat_eq k.client (clients_of ks) apart))

@@ -1,15 +1,15 @@
 -- A node is there exactly while it has a name or an open handle, after each change of the tree.
-use Rattle.std.proofs.Common.{◌≡◌, ℕ, ◌+◌, ◌-◌, Bool, true, false, cond, ◌||◌, List, Option, None, Some, refl, sym, ap, subst, ◌∙◌, arith, inl, inr, is_some, nat_lt}
+use Rattle.std.proofs.Common.{◌≡◌, ℕ, ◌-◌, Bool, true, false, cond, ◌||◌, List, Option, None, Some, refl, sym, ap, subst, ◌∙◌, arith, inl, inr, is_some, nat_lt}
 use Rattle.std.proofs.lemmas.Bool.{cases_Bool, false≢true, lt-ltb}
 use Rattle.std.proofs.lemmas.Bool.Decides.{nat_tests}
 use Rattle.ov_base.specs.declared.node_id.NodeId.{NodeId}
 use Rattle.ov_base.specs.declared.node_id.NodeId.TheVariants.{New}
 use Rattle.plain_model.specs.Layers.{Name}
-use Rattle.plain_model.specs.Tree.{same_id, Node, Branch, Leaf, Tree, put, lead, count_of}
+use Rattle.plain_model.specs.Tree.{same_id, Node, Branch, Leaf, Tree, put, count_of}
 use Rattle.plain_model.specs.Machine.{Table, MountOptions}
 use Rattle.plain_model.specs.Changes.{over_node, change, lead_way, meta_touched, one_fewer, one_more, made_way, is_named, is_held, settled}
 use Rattle.plain_model.proofs.Paths.{ids_tell}
-use Rattle.plain_model.proofs.Keeping.{Like, like-refl, IsMild, change-like, put-here, put-there, lead-counts, lead-stands}
+use Rattle.plain_model.proofs.Keeping.{like-refl, IsMild, change-like, put-here, put-there, lead-counts, lead-stands}
 use Rattle.plain_model.proofs.Flat.{lost, counts, fewer-counts}
 
 -- a node, and whether a handle is open on it: it is there exactly where it has a name or such a handle
@@ -27,16 +27,19 @@ named-count None = refl
 named-count (Some (Branch a b names c)) = refl
 named-count (Some (Leaf content a u c)) = refl
 
+-- a node with a name is there
 pub named-some : (o : Option Node) → is_named o ≡ true → is_some o ≡ true
 named-some None h = h
 named-some (Some x) h = refl
 
+-- a node that has one by its count has a name
 pub some-named : (o : Option Node) → (count_of o ≡ 0 → ⊥) → is_named o ≡ true
 some-named o h = named-count o ∙ positive (count_of o) h
   where
     positive : (c : ℕ) → (c ≡ 0 → ⊥) → nat_lt 0 c ≡ true
     positive c h = lt-ltb 0 c (omega arith)
 
+-- a test of two, of which one passes
 or-first : (a b : Bool) → a ≡ true → a || b ≡ true
 or-first a b h = ap (λ z. z || b) h
 
@@ -44,6 +47,7 @@ or-second : (a b : Bool) → b ≡ true → a || b ≡ true
 or-second true b h = refl
 or-second false b h = h
 
+-- a node with a name lasts, whatever handles there are
 pub named-lasts : (o : Option Node) (held : Bool) → is_named o ≡ true → Lasts o held
 named-lasts o held h = record { named = λ s. or-first (is_named o) held h; there = λ s. named-some o h }
 
@@ -52,6 +56,7 @@ pub record IsAsNamed (o p : Option Node) : Type 0 where
   pub stands : is_some p ≡ is_some o
   pub named : is_named o ≡ true → is_named p ≡ true
 
+-- such a node lasts on
 pub as-named-lasts : (o p : Option Node) (b c : Bool) → IsAsNamed o p → c ≡ b → Lasts o b → Lasts p c
 as-named-lasts o p b c a e l = record {
   named = λ s. by (is_named o) refl (l.named (sym a.stands ∙ s));
@@ -62,6 +67,7 @@ as-named-lasts o p b c a e l = record {
     by true n h = or-first (is_named p) c (a.named n)
     by false n h = or-second (is_named p) c (e ∙ h)
 
+-- as many names are names as before
 pub by-counts : (o p : Option Node) → is_some p ≡ is_some o → count_of p ≡ count_of o → IsAsNamed o p
 by-counts o p s c = record { stands = s; named = λ h. named-count p ∙ ap (nat_lt 0) c ∙ sym (named-count o) ∙ h }
 
@@ -73,6 +79,7 @@ settled-lasts o held there = record { named = by (is_named o || held) refl; ther
     by true e s = e
     by false e s = absurd (false≢true s)
 
+-- so the tree is settled at a node where it may have neither
 pub settled-last : (ks : List Table) (t : Tree) (o : Option NodeId) → ((d : NodeId) → is_held ks d ≡ true → is_some (t d) ≡ true) → ((d : NodeId) → (o ≡ Some d → ⊥) → Lasts (t d) (is_held ks d)) → AllLast (settled ks t o) ks
 settled-last ks t None there other d = other d (λ h. cc)
 settled-last ks t (Some e) there other d = elim (cases_Bool (same_id e d)) [
@@ -91,7 +98,7 @@ mild-lasts f mild ks hs same t o l d =
     let a = change-like f mild t o d in
     as-named-lasts (t d) (change f t o d) (is_held ks d) (is_held hs d) (by-counts (t d) (change f t o d) a.stands a.counts) (same d) (l d)
 
--- a change of names leaves the nodes
+-- a name that is led elsewhere leaves counts, and what is there
 pub way-counts : (t : Tree) (w : Option (NodeId × Name)) (e : Option NodeId) (x : NodeId) → count_of (lead_way t w e x) ≡ count_of (t x)
 way-counts t None e x = refl
 way-counts t (Some w) e x = lead-counts t w.0 w.1 e x
@@ -151,11 +158,12 @@ renamed-lasts m ks t e o old new =
     t2 : Tree
     t2 = change (meta_touched m) t1 e
 
--- a name more
+-- a node with a name has one after it gets one more
 more-named : (m : MountOptions) (x : Node) → is_named (Some x) ≡ true → is_named (Some (one_more m x)) ≡ true
 more-named m (Branch a b names c) h = h
 more-named m (Leaf content a u c) h = grind (arith, nat_tests)
 
+-- a file or link took one more name
 pub linked-lasts : (m : MountOptions) (ks : List Table) (t : Tree) (o : Option NodeId) (w : Option (NodeId × Name)) → AllLast t ks → AllLast (lead_way (change (one_more m) t o) w o) ks
 linked-lasts m ks t o w l d = as-named-lasts (t d) (lead_way (change (one_more m) t o) w o d) (is_held ks d) (is_held ks d) as-named refl (l d)
   where

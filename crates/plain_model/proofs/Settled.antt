@@ -1,8 +1,8 @@
--- Every state of a mount is settled.
-use Rattle.std.proofs.Common.{◌≡◌, ℕ, zero, suc, ◌+◌, ◌<◌, ◌≤◌, Bool, true, false, not, ◌||◌, List, [], ◌∷◌, ◌++◌, Option, None, Some, refl, sym, ap, subst, ◌∙◌, map, filter, nat_eq, length, is_some, is_none, ◌⊎◌, inl, inr, arith, length-append}
+-- Every state of a mount is settled, whatever callbacks answer.
+use Rattle.std.proofs.Common.{◌≡◌, ℕ, zero, suc, ◌<◌, ◌≤◌, true, false, not, ◌||◌, List, [], ◌∷◌, ◌++◌, Option, None, Some, refl, sym, ap, subst, ◌∙◌, nat_eq, length, is_some, is_none, ◌⊎◌, inl, inr, arith, length-append}
 use Rattle.std.specs.Prelude.{slice_get, slice_set}
-use Rattle.std.specs.List.{All, AllByRecursion, IsDistinct, list_any}
-use Rattle.std.proofs.lemmas.Bool.{cases_Bool, false≢true, or_cases, eqb-true}
+use Rattle.std.specs.List.{All, IsDistinct, list_any}
+use Rattle.std.proofs.lemmas.Bool.{false≢true, or_cases, eqb-true}
 use Rattle.std.proofs.lemmas.List.{map-append, length-map, length-replicate}
 use Rattle.std.proofs.lemmas.List.Folds.{list_any-append}
 use Rattle.std.proofs.lemmas.List.Elements.{All-nil, All-push, All-filter}
@@ -13,14 +13,14 @@ use Rattle.ov_base.specs.declared.errno.Errno.TheVariants.{EBADF}
 use Rattle.ov_base.specs.declared.node_id.NodeId.{NodeId}
 use Rattle.ov_base.specs.declared.reply.Reply.{Reply}
 use Rattle.plain_model.specs.Layers.{Layer}
-use Rattle.plain_model.specs.Tree.{Tree, IsKept}
+use Rattle.plain_model.specs.Tree.{Tree}
 use Rattle.plain_model.specs.Merging.{IsMerge}
 use Rattle.plain_model.specs.Watching.{Rule, Instance, silent}
 use Rattle.plain_model.specs.Machine.{Handle, Table, State, MountOptions, DESCRIPTORS_MAX, free_table, opening, handles_of, held_in, handle_of}
 use Rattle.plain_model.specs.Refusals.{refusal, when, ◌or_else◌}
-use Rattle.plain_model.specs.Changes.{holds, is_named, is_held, after}
+use Rattle.plain_model.specs.Changes.{holds, is_named, after}
 use Rattle.plain_model.specs.Subjects.{subjects}
-use Rattle.plain_model.specs.Runs.{Answered, Step, Closes, CLIENTS_MAX, is_attached, joined, without_instance, without_table, Deed, Attached, Called, Detached, Entry, Does, Run}
+use Rattle.plain_model.specs.Runs.{Answered, Step, Closes, CLIENTS_MAX, joined, without_instance, without_table, Deed, Attached, Called, Detached, Entry, Does, Run, IsLegal}
 use Rattle.plain_model.specs.Settling.{clients_of, IsSettled, LawOfSettledOpening, LawOfSettling, LawOfSettledRuns, Anything}
 use Rattle.plain_model.proofs.Kept.{at-path}
 use Rattle.plain_model.proofs.RunsKept.{Keeps, step-keeps, does-keeps}
@@ -39,6 +39,7 @@ pub record Settles (s : State) (cs hs : List ℕ) : Type 0 where
   pub full : All (λ (k : Table). size k ≡ DESCRIPTORS_MAX) s.tables
   pub few : length cs ≤ CLIENTS_MAX
 
+-- the two ways between them
 opens : (s : State) → IsSettled s → Settles s (clients_of s.tables) (clients_of s.tables)
 opens s x = record {
   lasts = λ d. record { named = x.named d; there = x.there d };
@@ -61,7 +62,7 @@ shuts s cs x = record {
   few = let e = length-map s.tables (λ (k : Table). k.client) in let f = x.few in let g = ap length x.clients in omega arith;
 }
 
--- a call
+-- a call keeps what a settled state is
 pub step-settles : (shows : Rule) (old : State) (c : ℕ) (call : Call) (reply : Reply) (new : State) (cs hs : List ℕ) → Step shows old c call reply new → Keeps old → Settles old cs hs → Settles new cs hs
 step-settles shows old c call reply new cs hs step k x = by (refusal old c call) refl step
   where
@@ -83,23 +84,27 @@ IsLeft zero all rest = all ≡ rest
 IsLeft (suc i) [] rest = ⊥
 IsLeft (suc i) (h ∷ all) rest = (h ≡ None) × IsLeft i all rest
 
+-- the next descriptor is free
 left-free : (i : ℕ) (all rest : List (Option Handle)) → IsLeft i all (None ∷ rest) → IsLeft (suc i) all rest
 left-free zero [] rest l = absurd (cc)
 left-free zero (h ∷ all) rest l = (cc, cc)
 left-free (suc i) [] rest l = absurd l
 left-free (suc i) (h ∷ all) rest l = (l.0, left-free i all rest l.1)
 
+-- the next descriptor is open
 left-open : (i : ℕ) (all rest : List (Option Handle)) (x : Handle) → IsLeft i all (Some x ∷ rest) → held_in (slice_get all i) ≡ Some x
 left-open zero all rest x l = ap (λ hs. held_in (slice_get hs 0)) l
 left-open (suc i) [] rest x l = absurd l
 left-open (suc i) (h ∷ all) rest x l = left-open i all rest x l.1
 
+-- the next descriptor is closed
 left-closed : (i : ℕ) (all rest : List (Option Handle)) (x : Handle) → IsLeft i all (Some x ∷ rest) → IsLeft (suc i) (slice_set all i None) rest
 left-closed zero [] rest x l = absurd (cc)
 left-closed zero (h ∷ all) rest x l = (refl, cc)
 left-closed (suc i) [] rest x l = absurd l
 left-closed (suc i) (h ∷ all) rest x l = (l.0, left-closed i all rest x l.1)
 
+-- none is left
 left-none : (i : ℕ) (all : List (Option Handle)) (d : NodeId) → IsLeft i all [] → is_on d all ≡ false
 left-none zero all d l = ap (is_on d) l
 left-none (suc i) [] d l = absurd l
@@ -169,7 +174,7 @@ joins-settles old tags room x =
       | inr f ↦ absurd (false≢true f)
     ]
 
--- what a client does
+-- whatever a client does, by any rule
 pub does-settles : (shows : Rule) (old : State) (c : ℕ) (deed : Deed) (new : State) → Does shows old c deed new → Keeps old → IsSettled old → IsSettled new
 does-settles shows old c (Attached tags) new h k x = subst IsSettled (sym h.3) (joins-settles old tags h.2 x)
 does-settles shows old c (Called call reply) new h k x = shuts new (clients_of old.tables) (step-settles shows old c call reply new (clients_of old.tables) (clients_of old.tables) h.1 k (opens old x))
@@ -180,6 +185,7 @@ pub run-settles : (shows : Rule) (es : List Entry) (old new : State) → Run sho
 run-settles shows [] old new h k x = subst IsSettled (sym h) x
 run-settles shows (e ∷ es) old new h k x = run-settles shows es h.0 new h.2 (does-keeps shows old e.client e.deed h.0 h.1 k) (does-settles shows old e.client e.deed h.0 h.1 k x)
 
+-- no numbers are apart
 none-apart : IsDistinct nat_eq []
 unfolding IsDistinct
 none-apart = tt
@@ -201,6 +207,11 @@ law_of_settled_opening U lowers t options m = record {
         let p = m.no_more d s in
         some-named (t d) (at-path t 0 m.kept p.0 d p.1)
 
+-- the last state of a history of a mount is settled
+pub history-settles : (shows : Rule) (U : Layer) (lowers : List Layer) (t : Tree) (options : MountOptions) (es : List Entry) (last : State) → IsMerge U lowers t → IsLegal shows (opening t options) es last → IsSettled last
+history-settles shows U lowers t options es last m l = run-settles shows es (opening t options) last l.run m.kept (law_of_settled_opening U lowers t options m)
+
+-- the laws, by the widest rule
 pub law_of_settling : LawOfSettling
 law_of_settling old new c deed k x h = does-settles Anything old c deed new h k x
 

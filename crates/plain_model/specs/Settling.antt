@@ -16,7 +16,7 @@ abbrev pub clients_of : List Table → List ℕ
 clients_of ks = map {A = Table} (λ k. k.client) ks
 
 -- What a state keeps beside what its tree keeps: a node is there exactly while it has a name or an open handle; the attached clients are
--- at most 64, no two of one number, each number one that was given; each has all its descriptors, and instances are in the same order.
+-- at most 64, no two have one number, and each number was given; each client has all its descriptors and, in the same order, its instance.
 pub record IsSettled (s : State) : Type 0 where
   pub named : (d : NodeId) → is_some (s.tree d) ≡ true → is_named (s.tree d) || is_held s.tables d ≡ true
   pub there : (d : NodeId) → is_held s.tables d ≡ true → is_some (s.tree d) ≡ true
@@ -32,12 +32,17 @@ Anything tag event answer = Unit {0}
 
 -- a mount begins settled
 abbrev pub LawOfSettledOpening : Type 0
-LawOfSettledOpening = (U : Layer) (lowers : List Layer) (t : Tree) (options : MountOptions) → IsMerge U lowers t → IsSettled (opening t options)
+LawOfSettledOpening =
+    (U : Layer) (lowers : List Layer) (t : Tree) (options : MountOptions) → IsMerge U lowers t → IsSettled (opening t options)
 
 -- whatever a client does, and whatever callbacks answer, a settled state stays one
 abbrev pub LawOfSettling : Type 0
-LawOfSettling = (old new : State) (c : ℕ) (deed : Deed) → IsKept old.tree old.serial → IsSettled old → Does Anything old c deed new → IsSettled new
+LawOfSettling =
+    (old new : State) (c : ℕ) (deed : Deed) →
+    IsKept old.tree old.serial → IsSettled old → Does Anything old c deed new → IsSettled new
 
--- and so does each state of a run
+-- so a run from a settled state ends in one
 abbrev pub LawOfSettledRuns : Type 0
-LawOfSettledRuns = (es : List Entry) (old new : State) → IsKept old.tree old.serial → IsSettled old → Run Anything old es new → IsSettled new
+LawOfSettledRuns =
+    (es : List Entry) (old new : State) →
+    IsKept old.tree old.serial → IsSettled old → Run Anything old es new → IsSettled new
