@@ -100,6 +100,7 @@ stays-unchanged old new low same inodes keep =
         apart = λ p q d e g. lift (linked-by U V more p q) (h.shows.apart p q d e g);
       };
       kept = h.kept;
+      writable = h.writable;
     } in
     let thin : IsThin U (lowers_of old) → IsThin V (lowers_of old) = λ h n p is. ap is_some (under-agree U V (lowers_of old) n p (agree p)) ∙ h n p (sym (same (n ∷ p)) ∙ is) in
     record {

@@ -88,6 +88,7 @@ module _ (U V : Layer) (lowers : List Layer) (s : State) (m : IsMountOf U lowers
       layers = g.layers;
       shows = way-shows U V lowers s m p spot x bare g.sights before later;
       kept = law_of_names s c (Symlink target p) m.kept (law_of_symlink U lowers s m c target p ∙ fine);
+      writable = m.writable;
     };
     tables = refl;
     stays = way-stays U V lowers s m p spot x bare g.sights before later;

@@ -11,6 +11,7 @@ use Rattle.std.specs.List.Sorted.{IsStrictlySortedBy}
 use Rattle.std.specs.Ordering.{nat_cmp, is_lt, eq_by_cmp}
 use Rattle.std.specs.declared.cmp.Ordering.{Ordering}
 use Rattle.std.specs.declared.cmp.Ordering.TheVariants.{Less, Equal, Greater}
+use Rattle.ov_base.specs.declared.call.Call.TheVariants.{ListNames, Seek, Close}
 use Rattle.ov_base.specs.declared.errno.Errno.TheVariants.{EBADF, EINVAL, ENOTDIR}
 use Rattle.ov_base.specs.declared.reply.Reply.TheVariants as reply
 use Rattle.plain_model.specs.Layers.{Name, shows, same_name}
@@ -20,6 +21,7 @@ use Rattle.plain_model.specs.Refusals.{◌or_else◌, when}
 use Rattle.plain_model.specs.Replies.{page}
 use Rattle.plain_model.specs.Changes.{is_named, is_held, settled, node_of_handle, names_in, listing, listed_on, with_handle}
 use Rattle.plain_model.proofs.Kept.{at-path}
+use Rattle.plain_model.proofs.Looking.{refusal-writable, refusal-reading}
 use Rattle.mount_laws.specs.Looks.{AreShown, LawOfList, LawOfClose, LawOfBadDescriptors}
 use Rattle.mount_laws.proofs.Looks.{at-some}
 use Rattle.mount_laws.proofs.Opens.{folder-at, put-same}
@@ -119,7 +121,8 @@ law_of_list U lowers s m c fd p dir h o = record {
   shown = shown;
   alone = λ new names a. same-sorted names (listing s.tree h) a.sorted (shown new).sorted (λ n. a.exact n ∙ sym ((shown new).exact n));
   refused = λ n.
-      ap (λ x. when (is_none x) EBADF or_else when (not (is_folder (handle_node s.tree x))) ENOTDIR or_else when (nat_eq n 0 || nat_lt 256 n) EINVAL) o.handle
+      refusal-reading s c (ListNames fd n) refl
+      ∙ ap (λ x. when (is_none x) EBADF or_else when (not (is_folder (handle_node s.tree x))) ENOTDIR or_else when (nat_eq n 0 || nat_lt 256 n) EINVAL) o.handle
       ∙ list-chain (nat_eq n 0 || nat_lt 256 n) (is_folder (s.tree h.node)) (ap (λ x. is_folder (node_of s.tree x)) (sym o.at) ∙ folder-at U lowers s m p ∙ dir);
   answer = λ n. ap (λ x. reply.Names (page s.tree x n)) o.handle;
   state = λ n i. record s { tables = with_handle s.tables c fd (listed_on s.tree n (o.handle i)) };
@@ -134,7 +137,7 @@ law_of_list U lowers s m c fd p dir h o = record {
 -- a handle on a node with a name closes
 pub law_of_close : LawOfClose
 law_of_close U lowers s m c fd p h o = record {
-  refused = ap (λ x. when (is_none x) EBADF) o.handle;
+  refused = refusal-reading s c (Close fd) refl ∙ ap (λ x. when (is_none x) EBADF) o.handle;
   answer = refl;
   state = λ i. record s { tree = kept i; tables = with_handle s.tables c fd None };
 }
@@ -156,7 +159,7 @@ law_of_close U lowers s m c fd p h o = record {
 -- a descriptor that is not open is refused
 pub law_of_bad_descriptors : LawOfBadDescriptors
 law_of_bad_descriptors s c fd none = record {
-  listing = λ n. ap (λ x. when (is_none x) EBADF or_else when (not (is_folder (handle_node s.tree x))) ENOTDIR or_else when (nat_eq n 0 || nat_lt 256 n) EINVAL) none;
-  seeking = λ offset whence. ap (λ x. seek_chain s.tree x offset whence) none;
-  closing = ap (λ x. when (is_none x) EBADF) none;
+  listing = λ n. refusal-reading s c (ListNames fd n) refl ∙ ap (λ x. when (is_none x) EBADF or_else when (not (is_folder (handle_node s.tree x))) ENOTDIR or_else when (nat_eq n 0 || nat_lt 256 n) EINVAL) none;
+  seeking = λ offset whence. refusal-reading s c (Seek fd offset whence) refl ∙ ap (λ x. seek_chain s.tree x offset whence) none;
+  closing = refusal-reading s c (Close fd) refl ∙ ap (λ x. when (is_none x) EBADF) none;
 }

@@ -2,6 +2,7 @@
 use Rattle.std.proofs.Common.{◌≡◌, ℕ, zero, suc, Bool, true, false, List, [], ◌∷◌, Option, None, Some, refl, sym, ap, ap₂, ◌∙◌, is_some, is_none, length}
 use Rattle.std.proofs.lemmas.Bool.{false≢true}
 use Rattle.ov_base.specs.declared.bytes.Content.{Content}
+use Rattle.ov_base.specs.declared.call.Call.TheVariants.{Stat, Mkdir}
 use Rattle.ov_base.specs.declared.bytes.Content.TheVariants.{File, SymbolicLink}
 use Rattle.ov_base.specs.declared.errno.Errno.{Errno}
 use Rattle.ov_base.specs.declared.errno.Errno.TheVariants.{ENOENT, ENOTDIR, ELOOP, EEXIST}
@@ -15,6 +16,7 @@ use Rattle.plain_model.specs.Machine.{State, Look, Found, Absent, Fails, within,
 use Rattle.plain_model.specs.Refusals.{◌or_else◌, when, walked, there, bad_mode}
 use Rattle.plain_model.specs.Replies.{capped, stat_by, stat_of}
 use Rattle.plain_model.proofs.Kept.{at-path}
+use Rattle.plain_model.proofs.Looking.{refusal-writable, refusal-reading}
 use Rattle.plain_model.proofs.Opening.{merge-remounts}
 use Rattle.mount_laws.specs.Looks.{fault, or_else as first, way_fault, parents_fault, absent, walk_fault, IsMountOf, LawOfBeginning, LawOfWalks, inode_status, shown_status, LawOfStat, LawOfMkdir}
 
@@ -247,7 +249,7 @@ shown-there (Some e) s h = cc
 -- stat is told by the layers
 pub law_of_stat : LawOfStat
 law_of_stat U lowers s m c p = record {
-  refused = none (there (look s.tree p)) ∙ to-last U lowers s m p;
+  refused = refusal-reading s c (Stat p) refl ∙ none (there (look s.tree p)) ∙ to-last U lowers s m p;
   answer = λ h.
       face-stat (node_of s.tree (node_at s.tree p))
       ∙ ap sight_stat (m.shows.sights p)
@@ -257,9 +259,10 @@ law_of_stat U lowers s m c p = record {
 -- mkdir's refusals are told by the layers
 pub law_of_mkdir : LawOfMkdir
 law_of_mkdir U lowers s m c p mode =
-    chain-three (bad_mode mode) (walked (look s.tree p)) (when (is_found (look s.tree p)) EEXIST)
+    refusal-writable s c (Mkdir p mode) m.writable
+    ∙ chain-three (bad_mode mode) (walked (look s.tree p)) (when (is_found (look s.tree p)) EEXIST)
     ∙ ap₂ (λ e b. first (bad_mode mode) (first e (when b EEXIST))) (to-parents U lowers s m p) (finds U lowers s m p)
 
 -- a mount begins as one of its layers
 pub law_of_beginning : LawOfBeginning
-law_of_beginning U lowers t redirects a m = record { layers = a; shows = merge-remounts U lowers t m; kept = m.kept }
+law_of_beginning U lowers t redirects a m = record { layers = a; shows = merge-remounts U lowers t m; kept = m.kept; writable = refl }

@@ -268,6 +268,7 @@ law_of_made U V lowers s m c p mode fine g = record {
     layers = g.layers;
     shows = way-shows U V lowers s m p spot x bare g.sights before later;
     kept = law_of_names s c (Mkdir p mode) m.kept (law_of_mkdir U lowers s m c p mode ∙ fine);
+    writable = m.writable;
   };
   tables = refl;
   stays = way-stays U V lowers s m p spot x bare g.sights before later;

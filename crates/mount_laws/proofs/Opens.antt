@@ -2,6 +2,7 @@
 use Rattle.std.proofs.Common.{◌≡◌, ℕ, Bool, true, false, not, cond, ◌&&◌, ◌||◌, List, [], ◌∷◌, Option, None, Some, refl, sym, ap, ◌∙◌, ◌⊎◌, inl, inr, is_some, is_none}
 use Rattle.std.specs.Option.{unwrap_or}
 use Rattle.std.proofs.lemmas.Bool.{false≢true, cases_Bool}
+use Rattle.ov_base.specs.declared.call.Call.TheVariants.{Open}
 use Rattle.ov_base.specs.declared.bytes.Content.{Content}
 use Rattle.ov_base.specs.declared.bytes.Content.TheVariants.{File, SymbolicLink}
 use Rattle.ov_base.specs.declared.errno.Errno.{Errno}
@@ -15,6 +16,7 @@ use Rattle.plain_model.specs.Machine.{Live, State, opening, Look, Found, Absent,
 use Rattle.plain_model.specs.Refusals.{◌or_else◌, when, walked, there, bad_mode}
 use Rattle.plain_model.specs.Changes.{change, opened, over_node, made_way, fresh, view_of, opens, way_of, with_handle, next_if}
 use Rattle.plain_model.proofs.Paths.{ids_tell}
+use Rattle.plain_model.proofs.Looking.{refusal-writable, refusal-reading}
 use Rattle.mount_laws.specs.Looks.{or_else as first, absent, parents_fault, walk_fault, IsMountOf, LawOfDirectories, FOR_LISTING, shows_link, shows_file, OpensAs, LawOfOpen}
 use Rattle.mount_laws.proofs.Looks.{is_present, here, at-some, to-last, finds, law_of_beginning}
 
@@ -158,7 +160,8 @@ opens-as U lowers s m c p mode fd h free = by (node_at s.tree p) refl (folder-at
 pub law_of_open : LawOfOpen
 law_of_open U lowers s m c p mode = record {
   refused =
-      chain (bad_mode mode) (look s.tree p) (is_link (node_of s.tree (node_at s.tree p))) (is_folder (node_of s.tree (node_at s.tree p))) (is_none (lowest_free s.tables c))
+      refusal-writable s c (Open p FOR_LISTING mode) m.writable
+      ∙ chain (bad_mode mode) (look s.tree p) (is_link (node_of s.tree (node_at s.tree p))) (is_folder (node_of s.tree (node_at s.tree p))) (is_none (lowest_free s.tables c))
       ∙ (λ i. first (bad_mode mode) (first (to-last U lowers s m p i) (first (when (link-at U lowers s m p i) ELOOP) (first (when (finds U lowers s m p i && not (folder-at U lowers s m p i)) ENOTDIR) (when (is_none (lowest_free s.tables c)) EMFILE)))))
       ∙ ap (λ r. first (bad_mode mode) (first (walk_fault (U ∷ lowers) p) r)) (is-file (shows 0 (U ∷ lowers) p) (when (is_none (lowest_free s.tables c)) EMFILE) (here U lowers s m p));
   opened = λ h.
@@ -168,7 +171,7 @@ law_of_open U lowers s m c p mode = record {
 
 -- a directory of a merge is named by its own path
 pub law_of_directories : LawOfDirectories
-law_of_directories U lowers t a m p h = by (node_at t p) refl (at-some U lowers (opening t false) (law_of_beginning U lowers t false a m) p ∙ is-shown (shows 0 (U ∷ lowers) p) h)
+law_of_directories U lowers t a m p h = by (node_at t p) refl (at-some U lowers (opening t (record { redirects = false; read_only = false })) (law_of_beginning U lowers t false a m) p ∙ is-shown (shows 0 (U ∷ lowers) p) h)
   where
     is-shown : (s : Option Shown) → is_directory s ≡ true → is_some s ≡ true
     is-shown None h = h

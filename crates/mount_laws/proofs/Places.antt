@@ -171,6 +171,7 @@ module _ (U V : Layer) (lowers : List Layer) (a : AreLayers (U ∷ lowers)) (n :
 pub law_of_placed_parent : LawOfPlacedParent
 law_of_placed_parent U V lowers s h b n p i j k x missing dir m = record {
   layers = b;
+  writable = h.writable;
   shows = record {
     sights = λ q. h.shows.sights q ∙ sym (same-sights U V lowers h.layers n p i j k x missing dir m q);
     linked = λ q r l. h.shows.linked q r (record { number = l.number; first = same q l.number l.first; second = same r l.number l.second });

@@ -8,7 +8,7 @@ use Rattle.std.specs.FinMap as fin
 use Rattle.std.specs.List.{list_any}
 use Rattle.ov_base.specs.declared.bytes.Content.{Content}
 use Rattle.ov_base.specs.declared.bytes.Content.TheVariants.{File, SymbolicLink}
-use Rattle.ov_base.specs.declared.call.Call.TheVariants.{Rmdir}
+use Rattle.ov_base.specs.declared.call.Call.TheVariants.{Rmdir, Unlink, Symlink, Readlink}
 use Rattle.ov_base.specs.declared.errno.Errno.TheVariants.{ENOENT, EBUSY, EEXIST, ENOTDIR, EISDIR, EINVAL, ENAMETOOLONG, ENOTEMPTY}
 use Rattle.ov_base.specs.declared.node_id.NodeId.{NodeId}
 use Rattle.ov_base.specs.declared.reply.Reply.TheVariants as reply
@@ -18,6 +18,7 @@ use Rattle.plain_model.specs.Machine.{State, look, is_found, is_link, is_root, h
 use Rattle.plain_model.specs.Refusals.{when, walked, there, has_nul, refusal}
 use Rattle.plain_model.specs.Changes.{names_in}
 use Rattle.plain_model.proofs.Paths.{names_tell}
+use Rattle.plain_model.proofs.Looking.{refusal-writable, refusal-reading}
 use Rattle.mount_laws.specs.Looks.{or_else as first, IsMountOf}
 use Rattle.mount_laws.specs.Leaves.{LawOfSymlink, shown_target, LawOfReadlink}
 use Rattle.mount_laws.specs.Removals.{LawOfUnlink, rmdir_fault, ShowsNoName, LawOfRmdir}
@@ -28,13 +29,15 @@ use Rattle.mount_laws.proofs.Lists.{node-names}
 -- unlink's refusals are told by the layers
 pub law_of_unlink : LawOfUnlink
 law_of_unlink U lowers s m c p =
-    chain-three (when (is_root p) EBUSY) (there (look s.tree p)) (when (is_folder (node_of s.tree (node_at s.tree p))) EISDIR)
+    refusal-writable s c (Unlink p) m.writable
+    ∙ chain-three (when (is_root p) EBUSY) (there (look s.tree p)) (when (is_folder (node_of s.tree (node_at s.tree p))) EISDIR)
     ∙ ap₂ (λ e b. first (when (is_root p) EBUSY) (first e (when b EISDIR))) (to-last U lowers s m p) (folder-at U lowers s m p)
 
 -- symlink's refusals are told by the layers
 pub law_of_symlink : LawOfSymlink
 law_of_symlink U lowers s m c target p =
-    chain-five (when (nat_lt 4095 (length target)) ENAMETOOLONG) (when (nat_eq (length target) 0) ENOENT) (when (has_nul target) EINVAL) (walked (look s.tree p)) (when (is_found (look s.tree p)) EEXIST)
+    refusal-writable s c (Symlink target p) m.writable
+    ∙ chain-five (when (nat_lt 4095 (length target)) ENAMETOOLONG) (when (nat_eq (length target) 0) ENOENT) (when (has_nul target) EINVAL) (walked (look s.tree p)) (when (is_found (look s.tree p)) EEXIST)
     ∙ ap₂ (λ e b. first (when (nat_lt 4095 (length target)) ENAMETOOLONG) (first (when (nat_eq (length target) 0) ENOENT) (first (when (has_nul target) EINVAL) (first e (when b EEXIST))))) (to-parents U lowers s m p) (finds U lowers s m p)
 
 -- whether a list is not empty
@@ -90,7 +93,8 @@ law_of_rmdir U lowers s m c p = record {
   where
     told : (names : Bool) → has_names (node_of s.tree (node_at s.tree p)) ≡ names → refusal s c (Rmdir p) ≡ rmdir_fault (U ∷ lowers) p names
     told names h =
-        chain-four (when (is_root p) EBUSY) (there (look s.tree p)) (when (not (is_folder (node_of s.tree (node_at s.tree p)))) ENOTDIR) (when (has_names (node_of s.tree (node_at s.tree p))) ENOTEMPTY)
+        refusal-writable s c (Rmdir p) m.writable
+        ∙ chain-four (when (is_root p) EBUSY) (there (look s.tree p)) (when (not (is_folder (node_of s.tree (node_at s.tree p)))) ENOTDIR) (when (has_names (node_of s.tree (node_at s.tree p))) ENOTEMPTY)
         ∙ (λ i. first (when (is_root p) EBUSY) (first (to-last U lowers s m p i) (first (when (not (folder-at U lowers s m p i)) ENOTDIR) (when (h i) ENOTEMPTY))))
 
 -- the target of a link, by what is seen
@@ -119,7 +123,8 @@ see-target b (Some (Contents i k (Some inode))) target h = by inode.content h
 pub law_of_readlink : LawOfReadlink
 law_of_readlink U lowers s m c p = record {
   refused =
-      chain-two (there (look s.tree p)) (when (not (is_link (node_of s.tree (node_at s.tree p)))) EINVAL)
+      refusal-reading s c (Readlink p) refl
+      ∙ chain-two (there (look s.tree p)) (when (not (is_link (node_of s.tree (node_at s.tree p)))) EINVAL)
       ∙ ap₂ (λ e b. first e (when (not b) EINVAL)) (to-last U lowers s m p) (link-at U lowers s m p);
-  answer = λ target h. ap reply.Content (face-bytes (node_of s.tree (node_at s.tree p)) ∙ ap seen_bytes (m.shows.sights p) ∙ see-target _ (shows 0 (U ∷ lowers) p) target h);
+  answer = λ target h. ap reply.Target (face-bytes (node_of s.tree (node_at s.tree p)) ∙ ap seen_bytes (m.shows.sights p) ∙ see-target _ (shows 0 (U ∷ lowers) p) target h);
 }

@@ -3,7 +3,7 @@ use Rattle.std.proofs.Common.{◌≡◌, ◌≢◌, ℕ, zero, suc, Bool, true, 
 use Rattle.std.specs.Option.{unwrap_or}
 use Rattle.std.specs.Prelude.{nat_eq, nat_lt}
 use Rattle.std.proofs.lemmas.Bool.{cases_Bool}
-use Rattle.ov_base.specs.declared.call.Call.TheVariants.{Close}
+use Rattle.ov_base.specs.declared.call.Call.TheVariants.{Close, ListNames}
 use Rattle.ov_base.specs.declared.errno.Errno.TheVariants.{EBADF, EINVAL, ENOTDIR}
 use Rattle.ov_base.specs.declared.node_id.NodeId.{NodeId}
 use Rattle.ov_base.specs.declared.reply.Reply.TheVariants as reply
@@ -14,6 +14,7 @@ use Rattle.plain_model.specs.Refusals.{◌or_else◌, when, refusal}
 use Rattle.plain_model.specs.Changes.{is_named, is_held, settled, node_of_handle, names_in, listing, listed_on, with_handle, tree_after}
 use Rattle.plain_model.specs.Replies.{page}
 use Rattle.plain_model.proofs.Keeping.{put-here, put-there}
+use Rattle.plain_model.proofs.Looking.{refusal-writable, refusal-reading}
 use Rattle.plain_model.proofs.Kept.{law_of_names}
 use Rattle.plain_model.proofs.Paths.{ids_tell}
 use Rattle.mount_laws.specs.Looks.{IsMountOf, IsHidden}
@@ -69,7 +70,7 @@ module _ (U : Layer) (lowers : List Layer) (s : State) (m : IsMountOf U lowers s
   is-rest = ap (λ o. settled tables s.tree (node_of_handle o)) on
 
   unrefused : refusal s c (Close fd) ≡ None
-  unrefused = ap (λ o. when (is_none o) EBADF) on
+  unrefused = refusal-reading s c (Close fd) refl ∙ ap (λ o. when (is_none o) EBADF) on
 
   others : (d : NodeId) → d ≢ h.node → rest d ≡ s.tree d
   others d apart = put-there s.tree h.node left d (not-same h.node d (λ e. apart (sym e)))
@@ -97,6 +98,7 @@ module _ (U : Layer) (lowers : List Layer) (s : State) (m : IsMountOf U lowers s
       layers = m.layers;
       shows = subst (Remounts U lowers) (sym is-rest) (same-mount s.tree h.node hid left U lowers m.shows);
       kept = law_of_names s c (Close fd) m.kept unrefused;
+      writable = m.writable;
     };
     paths = λ q. ap (λ t. node_at t q) is-rest ∙ same-paths s.tree h.node hid left q;
     others = λ d apart. ap (λ t. t d) is-rest ∙ others d apart;
@@ -112,7 +114,8 @@ pub law_of_list_removed : LawOfListRemoved
 law_of_list_removed s c fd h on folder bare = record {
   empty = empty;
   refused = λ n.
-      ap (λ x. when (is_none x) EBADF or_else when (not (is_folder (handle_node s.tree x))) ENOTDIR or_else when (nat_eq n 0 || nat_lt 256 n) EINVAL) on
+      refusal-reading s c (ListNames fd n) refl
+      ∙ ap (λ x. when (is_none x) EBADF or_else when (not (is_folder (handle_node s.tree x))) ENOTDIR or_else when (nat_eq n 0 || nat_lt 256 n) EINVAL) on
       ∙ list-chain (nat_eq n 0 || nat_lt 256 n) (is_folder (s.tree h.node)) folder;
   answer = answer;
   nothing = λ new n. answer n ∙ ap (λ ns. reply.Names (take n (drop h.place ns))) (empty new) ∙ ap reply.Names (none n h.place);

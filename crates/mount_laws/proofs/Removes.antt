@@ -341,7 +341,7 @@ pub law_of_unlinked : LawOfUnlinked
 law_of_unlinked U V lowers s m c [] fine g = let z : Some EBUSY ≡ None = fine in cc
 law_of_unlinked U V lowers s m c (n ∷ q) fine g = record {
   answer = refl;
-  mounts = record { layers = g.layers; shows = f.shows; kept = kept };
+  mounts = record { layers = g.layers; shows = f.shows; kept = kept; writable = m.writable };
   tables = refl;
   gone = f.gone;
   stays = f.stays;
@@ -367,7 +367,7 @@ pub law_of_removed_directory : LawOfRemovedDirectory
 law_of_removed_directory U V lowers s m c [] fine unshown g = let z : Some EBUSY ≡ None = fine in cc
 law_of_removed_directory U V lowers s m c (n ∷ q) fine unshown g = record {
   answer = refl;
-  mounts = record { layers = g.layers; shows = f.shows; kept = kept };
+  mounts = record { layers = g.layers; shows = f.shows; kept = kept; writable = m.writable };
   tables = refl;
   gone = f.gone;
   stays = f.stays;

@@ -2,11 +2,13 @@
 use Rattle.std.proofs.Common.{arith, ◌≡◌, ℕ, suc, ◌<◌, Bool, true, false, not, ◌&&◌, Option, None, Some, refl, sym, ap, ◌∙◌, is_none, nat_eq, nat_lt}
 use Rattle.std.specs.Prelude.{ℤ, pos, negsuc, ◌+ℤ◌, nat_abs, int_lt}
 use Rattle.std.proofs.lemmas.Bool.{false≢true, ltb-true, eqb-true, ne_eqb}
+use Rattle.ov_base.specs.declared.call.Call.TheVariants.{Seek}
 use Rattle.ov_base.specs.declared.errno.Errno.{Errno}
 use Rattle.ov_base.specs.declared.errno.Errno.TheVariants.{EBADF, EINVAL, EOVERFLOW}
 use Rattle.plain_model.specs.Tree.{Tree, is_folder}
 use Rattle.plain_model.specs.Machine.{Handle, handle_of, handle_node, seek_base}
 use Rattle.plain_model.specs.Refusals.{◌or_else◌, when, PLACE_MAX}
+use Rattle.plain_model.proofs.Looking.{refusal-writable, refusal-reading}
 use Rattle.plain_model.specs.Changes.{with_handle, moved_to, rewound}
 use Rattle.mount_laws.specs.Seeks.{LawOfSeek}
 
@@ -68,7 +70,8 @@ chosen true true r f g = absurd (false≢true (sym (f refl)))
 pub law_of_seek : LawOfSeek
 law_of_seek s c fd h on folder = record {
   refused = λ offset whence.
-      ap (λ o. seek_chain s.tree o offset whence) on
+      refusal-reading s c (Seek fd offset whence) refl
+      ∙ ap (λ o. seek_chain s.tree o offset whence) on
       ∙ ap (on_open s.tree (Some h) offset whence) folder
       ∙ chosen (nat_lt 2 whence) (is_start offset whence) (beyond s.tree (Some h) offset whence) (late offset whence) (start-within s.tree (Some h) offset whence);
   answer = refl;

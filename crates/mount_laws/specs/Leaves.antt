@@ -48,7 +48,7 @@ readlink_fault Ls p = or_else (walk_fault Ls p) (when (not (shows_link (shows 0 
 -- readlink is refused as the layers say, and answers the target of the link that is shown
 pub record Reads (Ls : List Layer) (s : State) (c : ℕ) (p : Path) : Type 0 where
   pub refused : refusal s c (call.Readlink p) ≡ readlink_fault Ls p
-  pub answer : (target : List ℕ) → shown_target (shows 0 Ls p) ≡ Some target → reply_of s c (call.Readlink p) ≡ reply.Content target
+  pub answer : (target : List ℕ) → shown_target (shows 0 Ls p) ≡ Some target → reply_of s c (call.Readlink p) ≡ reply.Target target
 
 abbrev pub LawOfReadlink : Type 0
 LawOfReadlink = (U : Layer) (lowers : List Layer) (s : State) → IsMountOf U lowers s → (c : ℕ) (p : Path) → Reads (U ∷ lowers) s c p

@@ -61,15 +61,16 @@ absent (Some s) = None
 abbrev pub walk_fault : List Layer → Path → Option Errno
 walk_fault Ls p = or_else (parents_fault Ls p) (absent (shows 0 Ls p))
 
--- The layers are those of the mount in a state: they show its tree, and the tree is one that calls keep.
+-- The layers are those of the mount in a state: they show its tree, the tree is one that calls keep, and all may be written.
 pub record IsMountOf (U : Layer) (lowers : List Layer) (s : State) : Type 0 where
   pub layers : AreLayers (U ∷ lowers)
   pub shows : Remounts U lowers s.tree
   pub kept : IsKept s.tree s.serial
+  pub writable : s.options.read_only ≡ false
 
 -- a mount begins so, with the merge of its layers
 abbrev pub LawOfBeginning : Type 0
-LawOfBeginning = (U : Layer) (lowers : List Layer) (t : Tree) (redirects : Bool) → AreLayers (U ∷ lowers) → IsMerge U lowers t → IsMountOf U lowers (opening t redirects)
+LawOfBeginning = (U : Layer) (lowers : List Layer) (t : Tree) (redirects : Bool) → AreLayers (U ∷ lowers) → IsMerge U lowers t → IsMountOf U lowers (opening t (record { redirects = redirects; read_only = false }))
 
 -- a directory of a merge is named by its own path
 abbrev pub LawOfDirectories : Type 0

@@ -31,7 +31,12 @@ pub enum Reply {
     Refused(Errno),
     Done,
     Status(Stat),
-    Content(Bytes),
+    /// Where a symbolic link leads.
+    Target(Bytes),
+    /// The value of an attribute.
+    Value(Bytes),
+    /// The bytes that were read.
+    Read(Bytes),
     Names(NameList),
     AttributeNames(Texts),
     Descriptor(u32),

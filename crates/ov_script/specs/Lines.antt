@@ -8,7 +8,7 @@ use Rattle.ov_base.specs.declared.reply.ObjectKind.{ObjectKind}
 use Rattle.ov_base.specs.declared.reply.ObjectKind.TheVariants.{Directory, File, SymbolicLink}
 use Rattle.ov_base.specs.declared.reply.Stat.{Stat}
 use Rattle.ov_base.specs.declared.reply.Reply.{Reply}
-use Rattle.ov_base.specs.declared.reply.Reply.TheVariants.{Refused, Done, Status, Content, Names, AttributeNames, Descriptor, Written, Place, Watch, Unread}
+use Rattle.ov_base.specs.declared.reply.Reply.TheVariants.{Refused, Done, Status, Target, Value, Read, Names, AttributeNames, Descriptor, Written, Place, Watch, Unread}
 use Rattle.ov_script.specs.Escapes.{escaped_of}
 
 -- the letter of a kind
@@ -48,7 +48,9 @@ abbrev pub answer_words : Reply → List ℕ
 answer_words (Refused errno) = []
 answer_words Done = []
 answer_words (Status status) = 32 ∷ stat_words status
-answer_words (Content bytes) = word_after bytes
+answer_words (Target bytes) = word_after bytes
+answer_words (Value bytes) = word_after bytes
+answer_words (Read bytes) = word_after bytes
 answer_words (Names names) = flat_map word_after names
 answer_words (AttributeNames names) = flat_map word_after names
 answer_words (Descriptor number) = 32 ∷ decimal number

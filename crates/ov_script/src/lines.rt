@@ -75,7 +75,7 @@ impl fmt::Display for AnswerWords<'_> {
                 let status = StatWords(*status);
                 write!(f, " {status}")
             }
-            Reply::Content(bytes) => {
+            Reply::Target(bytes) | Reply::Value(bytes) | Reply::Read(bytes) => {
                 let word = Escaped(bytes.as_slice());
                 write!(f, " {word}")
             }

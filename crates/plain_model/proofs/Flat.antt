@@ -5,6 +5,7 @@ use Rattle.ov_base.specs.declared.node_id.NodeId.{NodeId}
 use Rattle.ov_base.specs.declared.node_id.NodeId.TheVariants.{New}
 use Rattle.plain_model.specs.Layers.{Name}
 use Rattle.plain_model.specs.Tree.{same_id, Node, Branch, Leaf, Tree, root, names_of, is_folder, count_of, IsKept}
+use Rattle.plain_model.specs.Machine.{MountOptions}
 use Rattle.plain_model.specs.Changes.{over_node, change, one_fewer, one_more}
 use Rattle.plain_model.proofs.Paths.{ids_tell}
 use Rattle.plain_model.proofs.Names.{names-same}
@@ -49,14 +50,14 @@ fewer-flat = record { names = alike; folders = folders }
     folders (Branch a b names c) = refl
     folders (Leaf content a u c) = refl
 
-pub more-flat : IsFlat one_more
-more-flat = record { names = alike; folders = folders }
+pub more-flat : (m : MountOptions) → IsFlat (one_more m)
+more-flat m = record { names = alike; folders = folders }
   where
-    alike : (x : Node) (n : Name) → names_of (Some (one_more x)) n ≡ names_of (Some x) n
+    alike : (x : Node) (n : Name) → names_of (Some (one_more m x)) n ≡ names_of (Some x) n
     alike (Branch a b names c) n = refl
     alike (Leaf content a u c) n = refl
 
-    folders : (x : Node) → is_folder (Some (one_more x)) ≡ is_folder (Some x)
+    folders : (x : Node) → is_folder (Some (one_more m x)) ≡ is_folder (Some x)
     folders (Branch a b names c) = refl
     folders (Leaf content a u c) = refl
 

@@ -16,8 +16,8 @@ use Rattle.ov_base.specs.declared.node_id.NodeId.{NodeId}
 use Rattle.plain_model.specs.Runs.{LawOfNames}
 use Rattle.plain_model.specs.Layers.{Name, Path}
 use Rattle.plain_model.specs.Tree.{same_id, Node, Branch, Leaf, Own, Tree, root, names_of, entry, node_at, node_of, lead, is_folder, count_of, IsKept}
-use Rattle.plain_model.specs.Machine.{Table, State, Look, Found, Absent, Fails, look, is_found, same_found, has_names, is_base, node_found, is_below, bytes_of_node, handle_of, write_place}
-use Rattle.plain_model.specs.Refusals.{refusal, path_of, path_refusal, walked, there, when, bad_mode, bad_flags, unless_same, has_nul, ◌or_else◌}
+use Rattle.plain_model.specs.Machine.{MountOptions, Table, State, Look, Found, Absent, Fails, look, is_found, same_found, has_names, is_base, node_found, is_below, bytes_of_node, handle_of, write_place}
+use Rattle.plain_model.specs.Refusals.{refusal, path_of, path_refusal, walked, there, when, bad_mode, bad_flags, unless_same, has_nul, ◌or_else◌, writable_refusal}
 use Rattle.plain_model.specs.Changes.{change, on_way, way_of, lead_way, touched, meta_touched, one_fewer, one_more, with_bytes, with_attributes, with_mode, with_owner, set_value, drop_value, sized, written, fitting, node_of_handle, with_handle, wrote, opened, fresh, settled, made_way, dropped, renamed, tree_after, next_if}
 use Rattle.plain_model.proofs.Paths.{ids_tell}
 use Rattle.plain_model.proofs.Names.{names-some, root-some}
@@ -29,14 +29,14 @@ use Rattle.plain_model.proofs.Renaming.{renamed-kept}
 use Rattle.plain_model.proofs.Looking.{or-first, or-second, when-not, Reached, Tells, look-found, look-reached}
 
 -- mild changes of a node
-bytes-mild : (bytes : List ℕ) → IsMild (with_bytes bytes)
+pub bytes-mild : (bytes : List ℕ) → IsMild (with_bytes bytes)
 bytes-mild bytes (Branch a b names c) = like-refl (Some (Branch a b names c))
 bytes-mild bytes (Leaf (File old) a u c) = record { names = λ n. refl; counts = refl; folders = refl; stands = refl }
 bytes-mild bytes (Leaf (SymbolicLink target) a u c) = like-refl (Some (Leaf (SymbolicLink target) a u c))
 
-attributes-mild : (f : Attributes → Attributes) → IsMild (with_attributes f)
-attributes-mild f (Branch a b names c) = record { names = λ n. refl; counts = refl; folders = refl; stands = refl }
-attributes-mild f (Leaf content a u c) = record { names = λ n. refl; counts = refl; folders = refl; stands = refl }
+pub attributes-mild : (m : MountOptions) (f : Attributes → Attributes) → IsMild (with_attributes m f)
+attributes-mild m f (Branch a b names c) = record { names = λ n. refl; counts = refl; folders = refl; stands = refl }
+attributes-mild m f (Leaf content a u c) = record { names = λ n. refl; counts = refl; folders = refl; stands = refl }
 
 touched-mild : IsMild touched
 touched-mild (Branch a b names c) = like-refl (Some (Branch a b names c))
@@ -45,7 +45,7 @@ touched-mild (Leaf content a u c) = record { names = λ n. refl; counts = refl; 
 like-trans : (o p q : Option Node) → Like o p → Like p q → Like o q
 like-trans o p q a b = record { names = λ n. b.names n ∙ a.names n; counts = b.counts ∙ a.counts; folders = b.folders ∙ a.folders; stands = b.stands ∙ a.stands }
 
-opened-mild : (f : OpenFlags) → IsMild (opened f)
+pub opened-mild : (f : OpenFlags) → IsMild (opened f)
 opened-mild f x = by f.writes f.truncate
   where
     by : (b c : Bool) → Like (Some x) (Some (cond b (cond c (with_bytes [] (touched x)) (touched x)) x))
@@ -111,8 +111,8 @@ no-names (Some (Branch a b names c)) m h =
     ap (λ z. fin.get z m) (fin.empty_of_len names (let z : fin.len names ≡ 0 = grind (arith, nat_tests) in z)) ∙ fin.get-empty (slice_cmp nat_cmp) m
 
 -- a call by path that is not refused
-by-path : (s : State) (c : ℕ) (call : Call) → refusal s c call ≡ None → path_refusal s (look s.tree (path_of call)) (node_of s.tree (node_at s.tree (path_of call))) c call ≡ None
-by-path s c call r = or-first _ _ r
+pub by-path : (s : State) (c : ℕ) (call : Call) → refusal s c call ≡ None → path_refusal s (look s.tree (path_of call)) (node_of s.tree (node_at s.tree (path_of call))) c call ≡ None
+by-path s c call r = or-first _ _ (or-first (writable_refusal s c call) _ r)
 
 mkdir-kept : (s : State) (c : ℕ) (p : Path) (mode : ℕ) → IsKept s.tree s.serial → refusal s c (Mkdir p mode) ≡ None → IsKept (tree_after s c (Mkdir p mode)) (suc s.serial)
 mkdir-kept s c [] mode k r = let z = when-not true EEXIST (or-second (bad_mode mode) _ (by-path s c (Mkdir [] mode) r)) in absurd (false≢true (sym z))
@@ -130,11 +130,9 @@ symlink-kept s c target p k r = by p (or-second (when (has_nul target) EINVAL) _
         make-kept s.tree s.serial n q (Leaf (SymbolicLink target) (fresh 0o777) Own 1) refl (λ m. refl) k
         (free-name s.tree n q (or-first (walked (look s.tree (n ∷ q))) _ w) (when-not (is_found (look s.tree (n ∷ q))) EEXIST (or-second (walked (look s.tree (n ∷ q))) _ w)))
 
-open-made : (s : State) (c : ℕ) (p : Path) (f : OpenFlags) (mode : ℕ) → IsKept s.tree s.serial → refusal s c (Open p f mode) ≡ None → is_none (node_at s.tree p) ≡ true → IsKept (made_way s.tree s.serial (way_of s.tree p) (Leaf (File []) (fresh mode) Own 1)) (suc s.serial)
-open-made s c [] f mode k r free = absurd (false≢true free)
-open-made s c (n ∷ q) f mode k r free =
-    make-kept s.tree s.serial n q (Leaf (File []) (fresh mode) Own 1) refl (λ m. refl) k
-    (free-name s.tree n q w (not-found (look s.tree (n ∷ q)) refl))
+-- an open that makes its file has a directory to make it in
+pub open-reached : (s : State) (c : ℕ) (n : Name) (q : Path) (f : OpenFlags) (mode : ℕ) → refusal s c (Open (n ∷ q) f mode) ≡ None → is_none (node_at s.tree (n ∷ q)) ≡ true → Reached s.tree n q None
+open-reached s c n q f mode r free = free-name s.tree n q w (not-found (look s.tree (n ∷ q)) refl)
   where
     w : walked (look s.tree (n ∷ q)) ≡ None
     w = or-first (walked (look s.tree (n ∷ q))) _ (or-second (bad_mode mode) _ (or-second (when (bad_flags f) EINVAL) _ (by-path s c (Open (n ∷ q) f mode) r)))
@@ -143,6 +141,10 @@ open-made s c (n ∷ q) f mode k r free =
     not-found (Found d) h = absurd (false≢true (ap is_none (sym (look-found s.tree (n ∷ q) d h)) ∙ free))
     not-found (Absent d) h = refl
     not-found (Fails x) h = refl
+
+open-made : (s : State) (c : ℕ) (p : Path) (f : OpenFlags) (mode : ℕ) → IsKept s.tree s.serial → refusal s c (Open p f mode) ≡ None → is_none (node_at s.tree p) ≡ true → IsKept (made_way s.tree s.serial (way_of s.tree p) (Leaf (File []) (fresh mode) Own 1)) (suc s.serial)
+open-made s c [] f mode k r free = absurd (false≢true free)
+open-made s c (n ∷ q) f mode k r free = make-kept s.tree s.serial n q (Leaf (File []) (fresh mode) Own 1) refl (λ m. refl) k (open-reached s c n q f mode r free)
 
 open-kept : (s : State) (c : ℕ) (p : Path) (f : OpenFlags) (mode : ℕ) → IsKept s.tree s.serial → refusal s c (Open p f mode) ≡ None → IsKept (tree_after s c (Open p f mode)) (next_if (is_none (node_at s.tree p)) s.serial)
 open-kept s c p f mode k r = by (is_none (node_at s.tree p)) (λ h. open-made s c p f mode k r h)
@@ -194,9 +196,9 @@ link-kept s c old (n ∷ q) k r = by (look s.tree old) refl (or-first (there (lo
         let at = look-found s.tree old e h in
         let free = free-name s.tree n q (or-first (walked (look s.tree (n ∷ q))) _ rest) (when-not (is_found (look s.tree (n ∷ q))) EEXIST (or-first (when (is_found (look s.tree (n ∷ q))) EEXIST) _ last)) in
         let file = when-not (is_folder (node_of s.tree (node_at s.tree old))) EPERM (or-second (when (is_found (look s.tree (n ∷ q))) EEXIST) _ last) in
-        subst (λ o. IsKept (lead_way (change one_more s.tree o) (on_way (node_at s.tree q) n) o) s.serial) (sym at)
-        (subst (λ o. IsKept (lead_way (change one_more s.tree (Some e)) (on_way o n) (Some e)) s.serial) (sym free.at)
-        (linked-kept s.tree s.serial free.dir n e free.folder (at-path s.tree s.serial k q free.dir free.at) free.leads
+        subst (λ o. IsKept (lead_way (change (one_more s.options) s.tree o) (on_way (node_at s.tree q) n) o) s.serial) (sym at)
+        (subst (λ o. IsKept (lead_way (change (one_more s.options) s.tree (Some e)) (on_way o n) (Some e)) s.serial) (sym free.at)
+        (linked-kept s.options s.tree s.serial free.dir n e free.folder (at-path s.tree s.serial k q free.dir free.at) free.leads
         (leaf-of (s.tree e) (ap (λ o. is_folder (node_of s.tree o)) (sym at) ∙ file) (at-path s.tree s.serial k old e at)) k))
 
 -- a rename that moves something
@@ -210,15 +212,15 @@ module _ (s : State) (c : ℕ) (n1 : Name) (q1 : Path) (n2 : Name) (q2 : Path) (
   abbrev new : Path
   new = n2 ∷ q2
 
-  shape : (e d1 d2 : NodeId) → node_at t old ≡ Some e → node_at t q1 ≡ Some d1 → node_at t q2 ≡ Some d2 → lead (lead (change meta_touched (change one_fewer t (node_at t new)) (Some e)) d2 n2 (Some e)) d1 n1 None ≡ renamed t old new
-  shape e d1 d2 he h1 h2 = λ i. lead_way (lead_way (change meta_touched (change one_fewer t (node_at t new)) (sym he i)) (on_way (sym h2 i) n2) (sym he i)) (on_way (sym h1 i) n1) None
+  shape : (e d1 d2 : NodeId) → node_at t old ≡ Some e → node_at t q1 ≡ Some d1 → node_at t q2 ≡ Some d2 → lead (lead (change (meta_touched s.options) (change one_fewer t (node_at t new)) (Some e)) d2 n2 (Some e)) d1 n1 None ≡ renamed s.options t old new
+  shape e d1 d2 he h1 h2 = λ i. lead_way (lead_way (change (meta_touched s.options) (change one_fewer t (node_at t new)) (sym he i)) (on_way (sym h2 i) n2) (sym he i)) (on_way (sym h1 i) n1) None
 
   -- what stands at the new place has no names
   abbrev Rest : Look → Look → Type 0
   Rest l m =
       when (is_folder (node_found t l) && is_found m && not (is_folder (node_found t m))) ENOTDIR
       or_else when (not (is_folder (node_found t l)) && is_folder (node_found t m)) EISDIR
-      or_else when (is_base (node_found t l) && not s.redirects) EXDEV
+      or_else when (is_base (node_found t l) && not s.options.redirects) EXDEV
       or_else when (is_folder (node_found t l) && has_names (node_found t m)) ENOTEMPTY
       ≡ None
 
@@ -228,14 +230,14 @@ module _ (s : State) (c : ℕ) (n1 : Name) (q1 : Path) (n2 : Name) (q2 : Path) (
     | inl y ↦ no-names (t x) m (second (is_folder (node_found t l)) (has_names (t x)) (first (is_folder (node_found t l)) y two) four)
   ]
     where
-      later : when (not (is_folder (node_found t l)) && is_folder (t x)) EISDIR or_else when (is_base (node_found t l) && not s.redirects) EXDEV or_else when (is_folder (node_found t l) && has_names (t x)) ENOTEMPTY ≡ None
+      later : when (not (is_folder (node_found t l)) && is_folder (t x)) EISDIR or_else when (is_base (node_found t l) && not s.options.redirects) EXDEV or_else when (is_folder (node_found t l) && has_names (t x)) ENOTEMPTY ≡ None
       later = or-second (when (is_folder (node_found t l) && true && not (is_folder (t x))) ENOTDIR) _ r
 
       two : not (is_folder (node_found t l)) && is_folder (t x) ≡ false
       two = when-not _ EISDIR (or-first (when (not (is_folder (node_found t l)) && is_folder (t x)) EISDIR) _ later)
 
       four : is_folder (node_found t l) && has_names (t x) ≡ false
-      four = when-not _ ENOTEMPTY (or-second (when (is_base (node_found t l) && not s.redirects) EXDEV) _ (or-second (when (not (is_folder (node_found t l)) && is_folder (t x)) EISDIR) _ later))
+      four = when-not _ ENOTEMPTY (or-second (when (is_base (node_found t l) && not s.options.redirects) EXDEV) _ (or-second (when (not (is_folder (node_found t l)) && is_folder (t x)) EISDIR) _ later))
 
       first : (a : Bool) {b : Bool} → b ≡ true → not a && b ≡ false → a ≡ true
       first true h g = refl
@@ -266,20 +268,20 @@ module _ (s : State) (c : ℕ) (n1 : Name) (q1 : Path) (n2 : Name) (q2 : Path) (
     empty = λ x h m. let z : Some y ≡ Some x = sym tells ∙ h in let s : y ≡ x = cc in empty-at (Found e) x (subst (λ y. Rest (Found e) (Found y)) s r) m;
   }
 
-  moved-kept : same_found (look t old) (look t new) ≡ false → there (look t old) ≡ None → walked (look t new) ≡ None → Rest (look t old) (look t new) → IsKept (renamed t old new) s.serial
+  moved-kept : same_found (look t old) (look t new) ≡ false → there (look t old) ≡ None → walked (look t new) ≡ None → Rest (look t old) (look t new) → IsKept (renamed s.options t old new) s.serial
   moved-kept apart th w r =
       let h = taken-name t n1 q1 th in
       let g = look-reached t n2 q2 w in
       let at = look-found t old h.0 h.2 in
       let z = target h.0 (look t new) (walk-node (look t new) refl w) w (ap (λ l. same_found l (look t new)) (sym h.2) ∙ apart) (subst (λ l. Rest l (look t new)) h.2 r) in
       subst (λ u. IsKept u s.serial) (shape h.0 h.1.dir g.1.dir at h.1.at g.1.at)
-      (renamed-kept t s.serial h.1.dir n1 g.1.dir n2 h.0 (node_at t new) h.1.folder g.1.folder (at-path t s.serial k q2 g.1.dir g.1.at) h.1.leads (sym (ap (λ o. entry t o n2) g.1.at)) z.other z.empty k)
+      (renamed-kept s.options t s.serial h.1.dir n1 g.1.dir n2 h.0 (node_at t new) h.1.folder g.1.folder (at-path t s.serial k q2 g.1.dir g.1.at) h.1.leads (sym (ap (λ o. entry t o n2) g.1.at)) z.other z.empty k)
 
   abbrev rest_of : Option Errno
   rest_of =
       when (is_folder (node_found t (look t old)) && is_found (look t new) && not (is_folder (node_found t (look t new)))) ENOTDIR
       or_else when (not (is_folder (node_found t (look t old))) && is_folder (node_found t (look t new))) EISDIR
-      or_else when (is_base (node_found t (look t old)) && not s.redirects) EXDEV
+      or_else when (is_base (node_found t (look t old)) && not s.options.redirects) EXDEV
       or_else when (is_folder (node_found t (look t old)) && has_names (node_found t (look t new))) ENOTEMPTY
 
   pub rename-kept : refusal s c (Rename old new) ≡ None → IsKept (tree_after s c (Rename old new)) s.serial
@@ -291,10 +293,10 @@ module _ (s : State) (c : ℕ) (n1 : Name) (q1 : Path) (n2 : Name) (q2 : Path) (
       second : walked (look t new) or_else unless_same (same_found (look t old) (look t new)) (when (is_below old new) EINVAL or_else rest_of) ≡ None
       second = or-second (there (look t old)) _ first
 
-      by : (b : Bool) → same_found (look t old) (look t new) ≡ b → IsKept (cond b t (settled s.tables (renamed t old new) (node_at t new))) s.serial
+      by : (b : Bool) → same_found (look t old) (look t new) ≡ b → IsKept (cond b t (settled s.tables (renamed s.options t old new) (node_at t new))) s.serial
       by true h = k
       by false h =
-          settled-kept s.tables (renamed t old new) s.serial (node_at t new)
+          settled-kept s.tables (renamed s.options t old new) s.serial (node_at t new)
           (moved-kept h (or-first (there (look t old)) _ first) (or-first (walked (look t new)) _ second)
           (or-second (when (is_below old new) EINVAL) rest_of (ap (λ b. unless_same b (when (is_below old new) EINVAL or_else rest_of)) (sym h) ∙ or-second (walked (look t new)) _ second)))
 
@@ -302,11 +304,11 @@ module _ (s : State) (c : ℕ) (n1 : Name) (q1 : Path) (n2 : Name) (q2 : Path) (
 pub law_of_names : LawOfNames
 law_of_names s c (Stat p) k r = k
 law_of_names s c (Readlink p) k r = k
-law_of_names s c (Chmod p mode) k r = change-kept _ (attributes-mild (with_mode mode)) s.tree s.serial (node_at s.tree p) k
-law_of_names s c (Chown p uid gid) k r = change-kept _ (attributes-mild (with_owner uid gid)) s.tree s.serial (node_at s.tree p) k
-law_of_names s c (SetAttribute p n v) k r = change-kept _ (attributes-mild (λ a. record a { user = set_value a.user n v })) s.tree s.serial (node_at s.tree p) k
+law_of_names s c (Chmod p mode) k r = change-kept _ (attributes-mild s.options (with_mode mode)) s.tree s.serial (node_at s.tree p) k
+law_of_names s c (Chown p uid gid) k r = change-kept _ (attributes-mild s.options (with_owner uid gid)) s.tree s.serial (node_at s.tree p) k
+law_of_names s c (SetAttribute p n v) k r = change-kept _ (attributes-mild s.options (λ a. record a { user = set_value a.user n v })) s.tree s.serial (node_at s.tree p) k
 law_of_names s c (GetAttribute p n) k r = k
-law_of_names s c (DeleteAttribute p n) k r = change-kept _ (attributes-mild (λ a. record a { user = drop_value a.user n })) s.tree s.serial (node_at s.tree p) k
+law_of_names s c (DeleteAttribute p n) k r = change-kept _ (attributes-mild s.options (λ a. record a { user = drop_value a.user n })) s.tree s.serial (node_at s.tree p) k
 law_of_names s c (ListAttributes p) k r = k
 law_of_names s c (Mkdir p mode) k r = mkdir-kept s c p mode k r
 law_of_names s c (Symlink target p) k r = symlink-kept s c target p k r

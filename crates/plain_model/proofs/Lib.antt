@@ -23,3 +23,8 @@ pub mod Renaming
 pub mod Looking
 pub mod Kept
 pub mod RunsKept
+pub mod Held
+pub mod Lasting
+pub mod Calls
+pub mod Clients
+pub mod Settled

@@ -4,6 +4,7 @@ use Rattle.std.proofs.lemmas.Bool.{cases_Bool, false≢true, both_ways}
 use Rattle.ov_base.specs.declared.node_id.NodeId.{NodeId}
 use Rattle.plain_model.specs.Layers.{Name}
 use Rattle.plain_model.specs.Tree.{same_id, Node, Branch, Leaf, Tree, names_of, lead, is_folder, count_of, AreNames, IsKept}
+use Rattle.plain_model.specs.Machine.{MountOptions}
 use Rattle.plain_model.specs.Changes.{over_node, change, one_more}
 use Rattle.plain_model.proofs.Paths.{ids_tell}
 use Rattle.plain_model.proofs.Names.{names-more, names-else}
@@ -15,10 +16,10 @@ abbrev pub is_leaf : Option Node → Bool
 is_leaf (Some (Leaf content a u c)) = true
 is_leaf _ = false
 
-more-count : (o : Option Node) → is_leaf o ≡ true → count_of (over_node one_more o) ≡ count_of o + 1
-more-count None h = absurd (false≢true h)
-more-count (Some (Branch a b names c)) h = absurd (false≢true h)
-more-count (Some (Leaf content a u c)) h = refl
+more-count : (m : MountOptions) (o : Option Node) → is_leaf o ≡ true → count_of (over_node (one_more m) o) ≡ count_of o + 1
+more-count m None h = absurd (false≢true h)
+more-count m (Some (Branch a b names c)) h = absurd (false≢true h)
+more-count m (Some (Leaf content a u c)) h = refl
 
 leaf-names : (o : Option Node) (m : Name) → is_leaf o ≡ true → names_of o m ≡ None
 leaf-names None m h = refl
@@ -31,15 +32,15 @@ leaf-folder (Some (Branch a b names c)) h = absurd (false≢true h)
 leaf-folder (Some (Leaf content a u c)) h = refl
 
 -- a file or link gets a name more in a named directory
-module _ (t : Tree) (i : ℕ) (d : NodeId) (n : Name) (e : NodeId) (dir : is_folder (t d) ≡ true) (live : count_of (t d) ≡ 0 → ⊥) (free : names_of (t d) n ≡ None) (leaf : is_leaf (t e) ≡ true) (k : IsKept t i) where
+module _ (m : MountOptions) (t : Tree) (i : ℕ) (d : NodeId) (n : Name) (e : NodeId) (dir : is_folder (t d) ≡ true) (live : count_of (t d) ≡ 0 → ⊥) (free : names_of (t d) n ≡ None) (leaf : is_leaf (t e) ≡ true) (k : IsKept t i) where
   abbrev t1 : Tree
-  t1 = change one_more t (Some e)
+  t1 = change (one_more m) t (Some e)
 
   abbrev t2 : Tree
   t2 = lead t1 d n (Some e)
 
   dir1 : is_folder (t1 d) ≡ true
-  dir1 = flat-folders one_more more-flat t e d ∙ dir
+  dir1 = flat-folders (one_more m) (more-flat m) t e d ∙ dir
 
   apart : same_id e d ≡ false
   apart = elim (cases_Bool (same_id e d)) [
@@ -48,12 +49,12 @@ module _ (t : Tree) (i : ℕ) (d : NodeId) (n : Name) (e : NodeId) (dir : is_fol
   ]
 
   free1 : names_of (t1 d) n ≡ None
-  free1 = flat-names one_more more-flat t e d n ∙ free
+  free1 = flat-names (one_more m) (more-flat m) t e d n ∙ free
 
   told : (x : NodeId) → count_of (t1 x) ≡ gained e (counts t) x
   told x = elim (cases_Bool (same_id e x)) [
-    | inl y ↦ ap count_of (put-here t e (over_node one_more (t e)) x y) ∙ more-count (t e) leaf ∙ ap (λ z. count_of (t z) + 1) ((ids_tell e x).0 y) ∙ sym (ap (λ b. cond b (count_of (t x) + 1) (count_of (t x))) y)
-    | inr f ↦ ap count_of (put-there t e (over_node one_more (t e)) x f) ∙ sym (ap (λ b. cond b (count_of (t x) + 1) (count_of (t x))) f)
+    | inl y ↦ ap count_of (put-here t e (over_node (one_more m) (t e)) x y) ∙ more-count m (t e) leaf ∙ ap (λ z. count_of (t z) + 1) ((ids_tell e x).0 y) ∙ sym (ap (λ b. cond b (count_of (t x) + 1) (count_of (t x))) y)
+    | inr f ↦ ap count_of (put-there t e (over_node (one_more m) (t e)) x f) ∙ sym (ap (λ b. cond b (count_of (t x) + 1) (count_of (t x))) f)
   ]
 
   step : (x : NodeId) → AreNames t1 x (count_of (t x)) → AreNames t2 x (gained e (counts t) x)
@@ -62,8 +63,8 @@ module _ (t : Tree) (i : ℕ) (d : NodeId) (n : Name) (e : NodeId) (dir : is_fol
     | inr f ↦ subst (AreNames t2 x) (sym (ap (λ b. cond b (count_of (t x) + 1) (count_of (t x))) f)) (names-else t1 d n (Some e) dir1 x (count_of (t x)) a (λ l. let z = sym free1 ∙ l in cc) (λ l. both_ways (same_id e x) f (some-same e x l)))
   ]
 
-  pub linked-kept : IsKept (lead (change one_more t (Some e)) d n (Some e)) i
+  pub linked-kept : IsKept (lead (change (one_more m) t (Some e)) d n (Some e)) i
   linked-kept =
       kept-as (gained e (counts t)) t2 i
-      (lead-kept (counts t) (gained e (counts t)) t1 i d n (Some e) dir1 (λ s h. live (ap count_of (sym (put-there t e (over_node one_more (t e)) d apart)) ∙ h)) (flat-kept one_more more-flat t e i (λ h m. leaf-names (t e) m leaf) k) step)
+      (lead-kept (counts t) (gained e (counts t)) t1 i d n (Some e) dir1 (λ s h. live (ap count_of (sym (put-there t e (over_node (one_more m) (t e)) d apart)) ∙ h)) (flat-kept (one_more m) (more-flat m) t e i (λ h k. leaf-names (t e) k leaf) k) step)
       (λ x. lead-counts t1 d n (Some e) x ∙ told x)

@@ -1,13 +1,15 @@
 -- What the walk of a path finds, and what a call that is not refused found.
-use Rattle.std.proofs.Common.{◌≡◌, Bool, true, false, [], ◌∷◌, Option, None, Some, refl, sym, ap, subst, ◌∙◌}
+use Rattle.std.proofs.Common.{◌≡◌, ℕ, Bool, true, false, ◌&&◌, [], ◌∷◌, Option, None, Some, refl, sym, ap, subst, ◌∙◌}
 use Rattle.std.specs.FinMap as fin
 use Rattle.ov_base.specs.declared.bytes.Content.TheVariants.{File, SymbolicLink}
 use Rattle.ov_base.specs.declared.errno.Errno.{Errno}
 use Rattle.ov_base.specs.declared.node_id.NodeId.{NodeId}
 use Rattle.plain_model.specs.Layers.{Name, Path}
 use Rattle.plain_model.specs.Tree.{Node, Branch, Leaf, Tree, root, names_of, entry, node_at, is_folder}
-use Rattle.plain_model.specs.Machine.{Look, Found, Absent, Fails, within, enter, into, look}
-use Rattle.plain_model.specs.Refusals.{◌or_else◌, when, walked}
+use Rattle.ov_base.specs.declared.call.Call.{Call}
+use Rattle.ov_base.specs.declared.errno.Errno.TheVariants.{EROFS}
+use Rattle.plain_model.specs.Machine.{State, Look, Found, Absent, Fails, within, enter, into, look}
+use Rattle.plain_model.specs.Refusals.{◌or_else◌, when, walked, writes, writable_refusal, refusal}
 
 -- of two refusals there is none
 pub or-first : (a b : Option Errno) → a or_else b ≡ None → a ≡ None
@@ -21,6 +23,22 @@ or-second (Some e) b h = cc
 pub when-not : (b : Bool) (e : Errno) → when b e ≡ None → b ≡ false
 when-not true e h = cc
 when-not false e h = refl
+
+-- a refusal that nothing follows
+pub or-none : (a : Option Errno) → (a or_else None) ≡ a
+or-none None = refl
+or-none (Some e) = refl
+
+neither : (b : Bool) → b && false ≡ false
+neither true = refl
+neither false = refl
+
+-- where all may be written, and of a call that writes nothing, the refusal is the same
+pub refusal-writable : (s : State) (c : ℕ) (call : Call) → s.options.read_only ≡ false → refusal s c call ≡ writable_refusal s c call
+refusal-writable s c call h = ap (λ b. writable_refusal s c call or_else when b EROFS) (ap (λ b. writes s call && b) h ∙ neither (writes s call)) ∙ or-none (writable_refusal s c call)
+
+pub refusal-reading : (s : State) (c : ℕ) (call : Call) → writes s call ≡ false → refusal s c call ≡ writable_refusal s c call
+refusal-reading s c call h = ap (λ b. writable_refusal s c call or_else when (b && s.options.read_only) EROFS) h ∙ or-none (writable_refusal s c call)
 
 -- a name in a directory that a path leads to, and what it leads to
 pub record Reached (t : Tree) (n : Name) (q : Path) (e : Option NodeId) : Type 0 where

@@ -1,12 +1,12 @@
 -- The law of moves.
-use Rattle.std.proofs.Common.{◌≡◌, ℕ, Bool, true, false, List, [], ◌∷◌, ◌++◌, Option, None, Some, ◌∙◌, is_some, arith, ◌⊎◌}
+use Rattle.std.proofs.Common.{◌≡◌, ℕ, Bool, true, false, cond, List, [], ◌∷◌, ◌++◌, Option, None, Some, sym, ap, ◌∙◌, append-nil, is_some, arith, ◌⊎◌}
 use Rattle.ov_base.specs.declared.attributes.Attributes.{Attributes}
 use Rattle.ov_base.specs.declared.redirect.Redirect.{Redirect}
 use Rattle.ov_base.specs.declared.redirect.Redirect.TheVariants.{Absolute}
-use Rattle.plain_model.specs.Layers.{Name, Path, Object, Directory, Layer, held, spell, below, cut, cuts, Shown, unless, shows, through, under, is_directory, AreLayers}
+use Rattle.plain_model.specs.Layers.{Name, Path, Object, Directory, Whiteout, Layer, Inode, held, spell, below, cut, cuts, Shown, unless, over, shows, through, under, is_directory, AreLayers}
 use Rattle.plain_model.proofs.Paths.{outside-parent, parent-outside}
 use Rattle.plain_model.specs.Laws.{IsOutside, Moved, LawOfMoves}
-use Rattle.plain_model.proofs.Uppers.{AgreeTo, agree-where, through-agree}
+use Rattle.plain_model.proofs.Uppers.{AgreeTo, agree-where, through-agree, under-agree, nothing-beneath}
 use Rattle.plain_model.proofs.LookUp.{parent-shown, base-through}
 
 -- Two places that lead to the same spelling, both cut or both not; or both lead to no directory.
@@ -61,8 +61,40 @@ module _ (U V : Layer) (lowers : List Layer) (trees : AreLayers lowers) (old : P
   pub moved-base : AgreeTo U V q → is_directory (through V lowers (n ∷ q)) ≡ is_directory (through U lowers old)
   moved-base a = alike-base (shows 1 lowers) _ _ _ _ (alike-at a [])
 
+-- where a directory went, nothing is shown, and no directory comes through
+gone-step : (low : Path → Option Shown) (inodes : ℕ → Option Inode) (o : Option Object) (k : Name) (c : Bool) (s : Path) → o ≡ cond (is_some (unless c (low (k ∷ s)))) (Some Whiteout) None → over 0 inodes o (unless (cut o c) (low (spell o k s))) ≡ None
+gone-step low inodes o k c s h = grind arith
+
+gone-dead : (low : Path → Option Shown) (o : Option Object) (k : Name) (c : Bool) (s : Path) → o ≡ cond (is_some (unless c (low (k ∷ s)))) (Some Whiteout) None → is_directory (unless (cut o c) (low (spell o k s))) ≡ false
+gone-dead low o k c s h = grind arith
+
+module _ (U V : Layer) (lowers : List Layer) (trees : AreLayers lowers) where
+  pub moved-gone : (old : Path) (n : Name) (q : Path) → Moved U V lowers old n q → IsOutside old (n ∷ q) → IsOutside (n ∷ q) old → (r : Path) → shows 0 (V ∷ lowers) (r ++ old) ≡ None
+  moved-gone [] n q m apart back = absurd (apart (n ∷ q) (sym (append-nil (n ∷ q))))
+  moved-gone (k ∷ p) n q m apart back = at
+    where
+      a : AgreeTo U V p
+      a = agree-outside U V lowers trees (k ∷ p) n q m p (parent-outside k p) (outside-parent (n ∷ q) k p back)
+
+      left : held V (k ∷ p) ≡ cond (is_some (unless (cuts V p) (shows 1 lowers (k ∷ below V p)))) (Some Whiteout) None
+      left = m.left ∙ ap (λ s. cond (is_some s) (Some Whiteout) None) (sym (under-agree U V lowers k p a))
+
+      dead : is_directory (through V lowers (k ∷ p)) ≡ false
+      dead = gone-dead (shows 1 lowers) (held V (k ∷ p)) k (cuts V p) (below V p) left
+
+      at : (r : Path) → shows 0 (V ∷ lowers) (r ++ (k ∷ p)) ≡ None
+      at [] = gone-step (shows 1 lowers) V.inodes (held V (k ∷ p)) k (cuts V p) (below V p) left
+      at (j ∷ r) = ap (λ o. over 0 V.inodes o (through V lowers (j ∷ r ++ (k ∷ p)))) (m.emptied j r) ∙ nothing-beneath V lowers trees (k ∷ p) dead m.emptied j r
+
 -- the law of moves
 pub law_of_moves : LawOfMoves
 law_of_moves U V lowers old n q trees apart back m =
     let a = agree-outside U V lowers trees old n q m q (outside-parent old n q apart) (parent-outside n q) in
-    record { below_new = moved-through U V lowers trees old n q m a; elsewhere = λ x o p. through-agree U V lowers x (agree-outside U V lowers trees old n q m x o p) }
+    record {
+      base_new = base-through V lowers (n ∷ q) ∙ moved-base U V lowers trees old n q m a ∙ sym (base-through U lowers old);
+      below_new = moved-through U V lowers trees old n q m a;
+      under_new = moved-under U V lowers trees old n q m a;
+      gone = moved-gone U V lowers trees old n q m apart back;
+      elsewhere = λ x o p. through-agree U V lowers x (agree-outside U V lowers trees old n q m x o p);
+      under_elsewhere = λ k x o p. under-agree U V lowers k x (agree-outside U V lowers trees old n q m x o p);
+    }

@@ -1,5 +1,5 @@
 -- Every state of a run that begins with a merge keeps what trees keep: each node has as many names as it says.
-use Rattle.std.proofs.Common.{◌≡◌, ℕ, Bool, List, [], ◌∷◌, Option, None, Some, refl, sym, subst}
+use Rattle.std.proofs.Common.{◌≡◌, ℕ, List, [], ◌∷◌, Option, None, Some, refl, sym, subst}
 use Rattle.ov_base.specs.declared.call.Call.{Call}
 use Rattle.ov_base.specs.declared.call.Call.TheVariants.{Close}
 use Rattle.ov_base.specs.declared.errno.Errno.{Errno}
@@ -8,7 +8,7 @@ use Rattle.plain_model.specs.Layers.{Layer}
 use Rattle.plain_model.specs.Tree.{Tree, IsKept}
 use Rattle.plain_model.specs.Merging.{IsMerge}
 use Rattle.plain_model.specs.Watching.{Rule}
-use Rattle.plain_model.specs.Machine.{Handle, State, opening, handles_of}
+use Rattle.plain_model.specs.Machine.{MountOptions, Handle, State, opening, handles_of}
 use Rattle.plain_model.specs.Refusals.{refusal}
 use Rattle.plain_model.specs.Runs.{Answered, Step, Closes, without_instance, Deed, Attached, Called, Detached, Entry, Does, Run, IsLegal}
 use Rattle.plain_model.proofs.Kept.{law_of_names}
@@ -39,5 +39,5 @@ run-keeps shows [] old new h k = subst Keeps (sym h) k
 run-keeps shows (e ∷ es) old new h k = run-keeps shows es h.0 new h.2 (does-keeps shows old e.client e.deed h.0 h.1 k)
 
 -- the last state of a history of a mount keeps it
-pub history-keeps : (shows : Rule) (U : Layer) (lowers : List Layer) (t : Tree) (redirects : Bool) (es : List Entry) (last : State) → IsMerge U lowers t → IsLegal shows (opening t redirects) es last → Keeps last
-history-keeps shows U lowers t redirects es last m l = run-keeps shows es (opening t redirects) last l.run m.kept
+pub history-keeps : (shows : Rule) (U : Layer) (lowers : List Layer) (t : Tree) (options : MountOptions) (es : List Entry) (last : State) → IsMerge U lowers t → IsLegal shows (opening t options) es last → Keeps last
+history-keeps shows U lowers t options es last m l = run-keeps shows es (opening t options) last l.run m.kept

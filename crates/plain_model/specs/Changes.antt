@@ -14,7 +14,7 @@ use Rattle.ov_base.specs.declared.node_id.NodeId.TheVariants.{New}
 use Rattle.plain_model.specs.Layers.{Name, Path, same_name}
 use Rattle.plain_model.specs.Tree.{same_id, Node, Branch, Leaf, Origin, Own, Untouched, Tree, node_at, node_of, put, lead, is_folder}
 use Rattle.plain_model.specs.Watching.{EVENTS, MASK_ADD, ONESHOT, has_bit, Watch, Instance}
-use Rattle.plain_model.specs.Machine.{View, Live, Frozen, Handle, DESCRIPTORS_MAX, Table, State, look, same_found, bytes_of_node, handle_of, handle_node, lowest_free, bytes_of, place_of, write_place, seek_base, watch_on}
+use Rattle.plain_model.specs.Machine.{View, Live, Frozen, Handle, DESCRIPTORS_MAX, Table, MountOptions, State, look, same_found, bytes_of_node, handle_of, handle_node, lowest_free, bytes_of, place_of, write_place, seek_base, watch_on}
 use Rattle.plain_model.specs.Refusals.{FILE_MAX}
 
 -- the name n in the directory d
@@ -42,8 +42,8 @@ change f t None = t
 change f t (Some d) = put t d (over_node f (t d))
 
 -- the origin after a change of attributes or names, and after write access: these copy a lower file up
-abbrev pub after_meta : Origin → Origin
-after_meta u = Own
+abbrev pub after_meta : MountOptions → Origin → Origin
+after_meta m u = Own
 
 abbrev pub after_write : Origin → Origin
 after_write u = Own
@@ -59,18 +59,18 @@ touched (Leaf content a u l) = Leaf content a (after_write u) l
 touched x = x
 
 -- a node after a rename of it
-abbrev pub meta_touched : Node → Node
-meta_touched (Leaf content a u l) = Leaf content a (after_meta u) l
-meta_touched x = x
+abbrev pub meta_touched : MountOptions → Node → Node
+meta_touched m (Leaf content a u l) = Leaf content a (after_meta m u) l
+meta_touched m x = x
 
 -- a node with a name less, and with a name more
 abbrev pub one_fewer : Node → Node
 one_fewer (Leaf content a u l) = Leaf content a u (l - 1)
 one_fewer (Branch a b names c) = Branch a b names (c - 1)
 
-abbrev pub one_more : Node → Node
-one_more (Leaf content a u l) = Leaf content a (after_meta u) (l + 1)
-one_more x = x
+abbrev pub one_more : MountOptions → Node → Node
+one_more m (Leaf content a u l) = Leaf content a (after_meta m u) (l + 1)
+one_more m x = x
 
 -- a file with other bytes
 abbrev pub with_bytes : List ℕ → Node → Node
@@ -78,9 +78,9 @@ with_bytes bytes (Leaf (File old) a u l) = Leaf (File bytes) a u l
 with_bytes bytes x = x
 
 -- a node with other attributes
-abbrev pub with_attributes : (Attributes → Attributes) → Node → Node
-with_attributes f (Leaf content a u l) = Leaf content (f a) (after_meta u) l
-with_attributes f (Branch a b names c) = Branch (f a) b names c
+abbrev pub with_attributes : MountOptions → (Attributes → Attributes) → Node → Node
+with_attributes m f (Leaf content a u l) = Leaf content (f a) (after_meta m u) l
+with_attributes m f (Branch a b names c) = Branch (f a) b names c
 
 abbrev pub with_mode : ℕ → Attributes → Attributes
 with_mode mode a = record a { mode = mode }
@@ -130,8 +130,8 @@ abbrev pub dropped : List Table → Tree → Path → Tree
 dropped ks t p = settled ks (lead_way (change one_fewer t (node_at t p)) (way_of t p) None) (node_at t p)
 
 -- the tree after a node took the new name, which what stood there loses, and left the old one
-abbrev pub renamed : Tree → Path → Path → Tree
-renamed t old new = lead_way (lead_way (change meta_touched (change one_fewer t (node_at t new)) (node_at t old)) (way_of t new) (node_at t old)) (way_of t old) None
+abbrev pub renamed : MountOptions → Tree → Path → Path → Tree
+renamed m t old new = lead_way (lead_way (change (meta_touched m) (change one_fewer t (node_at t new)) (node_at t old)) (way_of t new) (node_at t old)) (way_of t old) None
 
 -- bytes cut or filled with zeros to a length
 abbrev pub sized : List ℕ → ℕ → List ℕ
@@ -164,10 +164,10 @@ with_handle ks c fd h = map {A = Table} (λ k. cond (nat_eq k.client c) (record 
 
 -- the tree after a call
 abbrev pub tree_after : State → ℕ → Call → Tree
-tree_after s c (Chmod p mode) = change (with_attributes (with_mode mode)) s.tree (node_at s.tree p)
-tree_after s c (Chown p uid gid) = change (with_attributes (with_owner uid gid)) s.tree (node_at s.tree p)
-tree_after s c (SetAttribute p n v) = change (with_attributes (λ a. record a { user = set_value a.user n v })) s.tree (node_at s.tree p)
-tree_after s c (DeleteAttribute p n) = change (with_attributes (λ a. record a { user = drop_value a.user n })) s.tree (node_at s.tree p)
+tree_after s c (Chmod p mode) = change (with_attributes s.options (with_mode mode)) s.tree (node_at s.tree p)
+tree_after s c (Chown p uid gid) = change (with_attributes s.options (with_owner uid gid)) s.tree (node_at s.tree p)
+tree_after s c (SetAttribute p n v) = change (with_attributes s.options (λ a. record a { user = set_value a.user n v })) s.tree (node_at s.tree p)
+tree_after s c (DeleteAttribute p n) = change (with_attributes s.options (λ a. record a { user = drop_value a.user n })) s.tree (node_at s.tree p)
 tree_after s c (Mkdir p mode) = made_way s.tree s.serial (way_of s.tree p) (Branch (fresh mode) false fin.empty 1)
 tree_after s c (Symlink target p) = made_way s.tree s.serial (way_of s.tree p) (Leaf (SymbolicLink target) (fresh 0o777) Own 1)
 tree_after s c (Open p f mode) =
@@ -176,8 +176,8 @@ tree_after s c (Open p f mode) =
     (change (opened f) s.tree (node_at s.tree p))
 tree_after s c (Unlink p) = dropped s.tables s.tree p
 tree_after s c (Rmdir p) = dropped s.tables s.tree p
-tree_after s c (Hardlink old new) = lead_way (change one_more s.tree (node_at s.tree old)) (way_of s.tree new) (node_at s.tree old)
-tree_after s c (Rename old new) = cond (same_found (look s.tree old) (look s.tree new)) s.tree (settled s.tables (renamed s.tree old new) (node_at s.tree new))
+tree_after s c (Hardlink old new) = lead_way (change (one_more s.options) s.tree (node_at s.tree old)) (way_of s.tree new) (node_at s.tree old)
+tree_after s c (Rename old new) = cond (same_found (look s.tree old) (look s.tree new)) s.tree (settled s.tables (renamed s.options s.tree old new) (node_at s.tree new))
 tree_after s c (Write fd bytes) = cond (nat_eq (length bytes) 0) s.tree (change (wrote (write_place s.tree (handle_of s.tables c fd)) bytes) s.tree (node_of_handle (handle_of s.tables c fd)))
 tree_after s c (Truncate fd size) = change (λ x. with_bytes (sized (bytes_of_node (Some x)) size) x) s.tree (node_of_handle (handle_of s.tables c fd))
 tree_after s c (Close fd) = settled (with_handle s.tables c fd None) s.tree (node_of_handle (handle_of s.tables c fd))
@@ -302,7 +302,7 @@ after s c call = record {
   serial = next_if (makes s call) s.serial;
   renames = next_if (moves s call) s.renames;
   arrived = s.arrived;
-  redirects = s.redirects;
+  options = s.options;
   tables = tables_after s c call;
   instances = instances_after s c call;
 }

@@ -1,10 +1,10 @@
 -- What is proved of the definitions of layers and of look-up: the law of look-up, that what is shown stands in shown directories,
 -- that a walk name by name is look-up, and what a moved directory keeps (overlayfs.rst, "Multiple lower layers" and "redirect_dir").
-use Rattle.std.specs.Prelude.{◌≡◌, ℕ, Bool, true, false, List, ◌∷◌, ◌++◌, Option, None, Some, is_some}
+use Rattle.std.specs.Prelude.{◌≡◌, ℕ, Bool, true, false, cond, List, [], ◌∷◌, ◌++◌, Option, None, Some, is_some}
 use Rattle.ov_base.specs.declared.attributes.Attributes.{Attributes}
 use Rattle.ov_base.specs.declared.redirect.Redirect.{Redirect}
 use Rattle.ov_base.specs.declared.redirect.Redirect.TheVariants.{Absolute}
-use Rattle.plain_model.specs.Layers.{Name, Path, Object, Directory, Layer, held, below, shows, through, under, over, is_directory, base, AreLayers}
+use Rattle.plain_model.specs.Layers.{Name, Path, Object, Directory, Whiteout, Layer, held, below, shows, through, under, over, is_directory, base, AreLayers}
 use Rattle.plain_model.specs.Stacks.{stack, step, child}
 
 -- a path shows the upper's object where it holds one, else what comes through it; it is base where a directory comes through
@@ -38,6 +38,11 @@ pub record Placed (U V : Layer) (p : Path) (o : Option Object) : Type 0 where
   pub elsewhere : (x : Path) → IsOutside p x → held V x ≡ held U x
   pub inodes : V.inodes ≡ U.inodes
 
+-- what the upper keeps at a name that went: a whiteout exactly where the layers below show something there
+abbrev pub left_at : Layer → List Layer → Path → Option Object
+left_at U lowers [] = None
+left_at U lowers (n ∷ p) = cond (is_some (under U lowers n p)) (Some Whiteout) None
+
 -- The upper V is U with the directory at old moved to n in q. A base directory ends without an opaque mark and with a redirect to the
 -- spelling by which the layers below have it; any other ends without a redirect, and opaque exactly where they show a directory at its new place.
 pub record Moved (U V : Layer) (lowers : List Layer) (old : Path) (n : Name) (q : Path) : Type 0 where
@@ -47,14 +52,21 @@ pub record Moved (U V : Layer) (lowers : List Layer) (old : Path) (n : Name) (q 
   pub redirect : Option Redirect
   pub placed : held V (n ∷ q) ≡ Some (Directory number attributes opaque redirect)
   pub inside : (k : Name) (r : Path) → held V (k ∷ r ++ (n ∷ q)) ≡ held U (k ∷ r ++ old)
+  pub left : held V old ≡ left_at U lowers old
+  pub emptied : (k : Name) (r : Path) → held V (k ∷ r ++ old) ≡ None
   pub elsewhere : (x : Path) → IsOutside old x → IsOutside (n ∷ q) x → held V x ≡ held U x
   pub when_base : base U lowers old ≡ true → (opaque ≡ false) × (redirect ≡ Some (Absolute (below U old)))
   pub when_not : base U lowers old ≡ false → (opaque ≡ is_directory (under U lowers n q)) × (redirect ≡ None)
 
--- below the new place comes through what came through below the old one, and outside both places nothing changes
+-- The new place is base where the old one was, below it comes through what came through below the old one, also whatever the upper holds
+-- there; at the old place and below it nothing is shown; outside both places nothing changes.
 pub record KeepsMoves (U V : Layer) (lowers : List Layer) (old : Path) (n : Name) (q : Path) : Type 0 where
+  pub base_new : base V lowers (n ∷ q) ≡ base U lowers old
   pub below_new : (k : Name) (r : Path) → through V lowers (k ∷ r ++ (n ∷ q)) ≡ through U lowers (k ∷ r ++ old)
+  pub under_new : (k : Name) (r : Path) → under V lowers k (r ++ (n ∷ q)) ≡ under U lowers k (r ++ old)
+  pub gone : (r : Path) → shows 0 (V ∷ lowers) (r ++ old) ≡ None
   pub elsewhere : (x : Path) → IsOutside old x → IsOutside (n ∷ q) x → through V lowers x ≡ through U lowers x
+  pub under_elsewhere : (k : Name) (x : Path) → IsOutside old x → IsOutside (n ∷ q) x → under V lowers k x ≡ under U lowers k x
 
 -- the law of moves, where neither place is below the other
 abbrev pub LawOfMoves : Type 0

@@ -12,3 +12,4 @@ pub mod Replies
 pub mod Subjects
 pub mod Runs
 pub mod Bounds
+pub mod Settling

@@ -42,20 +42,26 @@ pub record Table : Type 0 where
 abbrev pub free_table : ℕ → Table
 free_table c = record { client = c; handles = replicate DESCRIPTORS_MAX None }
 
--- The state: the tree, the next new node's serial, how many renames moved something, the next client's number, whether renames make
--- redirects, and for each attached client, in the order of their numbers, its descriptors and its inotify instance.
+-- What a mount was told as it began: whether renames of directories that lower layers have make redirects, and whether nothing may be
+-- written.
+pub record MountOptions : Type 0 where
+  pub redirects : Bool
+  pub read_only : Bool
+
+-- The state: the tree, the next new node's serial, how many renames moved something, the next client's number, the mount's options, and
+-- for each attached client, in the order of their numbers, its descriptors and its inotify instance.
 pub record State : Type 0 where
   pub tree : Tree
   pub serial : ℕ
   pub renames : ℕ
   pub arrived : ℕ
-  pub redirects : Bool
+  pub options : MountOptions
   pub tables : List Table
   pub instances : List Instance
 
 -- the state of a mount as it begins
-abbrev pub opening : Tree → Bool → State
-opening t redirects = record { tree = t; serial = 0; renames = 0; arrived = 0; redirects = redirects; tables = []; instances = [] }
+abbrev pub opening : Tree → MountOptions → State
+opening t options = record { tree = t; serial = 0; renames = 0; arrived = 0; options = options; tables = []; instances = [] }
 
 -- where a path leads: to a node, or its last name is absent from a directory, or it is refused
 pub data Look : Type 0 where

@@ -6,7 +6,7 @@ use Rattle.ov_base.specs.declared.call.Call.{Call}
 use Rattle.ov_base.specs.declared.call.Call.TheVariants.{Stat, Readlink, Chmod, Chown, SetAttribute, GetAttribute, DeleteAttribute, ListAttributes, Mkdir, Symlink, Open, Unlink, Rmdir, Hardlink, Rename, Read, Write, Seek, Truncate, Fstat, ListNames, Close, Arm, Disarm, TakeNotices}
 use Rattle.ov_base.specs.declared.call.OpenFlags.{OpenFlags}
 use Rattle.ov_base.specs.declared.errno.Errno.{Errno}
-use Rattle.ov_base.specs.declared.errno.Errno.TheVariants.{EPERM, ENOENT, EBADF, EBUSY, EEXIST, EXDEV, ENOTDIR, EISDIR, EINVAL, EMFILE, EFBIG, ENOSPC, ENAMETOOLONG, ENOTEMPTY, ELOOP, ENODATA, EOVERFLOW, EOPNOTSUPP}
+use Rattle.ov_base.specs.declared.errno.Errno.TheVariants.{EPERM, ENOENT, EBADF, EBUSY, EEXIST, EXDEV, ENOTDIR, EISDIR, EINVAL, EMFILE, EFBIG, ENOSPC, ENAMETOOLONG, ENOTEMPTY, ELOOP, ENODATA, EOVERFLOW, EOPNOTSUPP, EROFS}
 use Rattle.ov_base.specs.declared.node_id.NodeId.{NodeId}
 use Rattle.plain_model.specs.Layers.{Path}
 use Rattle.plain_model.specs.Tree.{same_id, Node, Tree, node_at, node_of, is_folder}
@@ -132,7 +132,7 @@ path_refusal s l o c (Open p f mode) = open_refusal f mode l o (lowest_free s.ta
 path_refusal s l o c (Unlink p) = when (is_root p) EBUSY or_else there l or_else when (is_folder o) EISDIR
 path_refusal s l o c (Rmdir p) = when (is_root p) EBUSY or_else there l or_else when (not (is_folder o)) ENOTDIR or_else when (has_names o) ENOTEMPTY
 path_refusal s l o c (Hardlink old new) = there l or_else walked (look s.tree new) or_else when (is_found (look s.tree new)) EEXIST or_else when (is_folder o) EPERM
-path_refusal s l o c (Rename old new) = rename_refusal s.tree s.redirects old new l (look s.tree new)
+path_refusal s l o c (Rename old new) = rename_refusal s.tree s.options.redirects old new l (look s.tree new)
 path_refusal s l o c (Arm slot p mask) =
     when (not (nat_lt slot (hooks_of (instance_of s.instances c)))) EINVAL
     or_else when (bad_mask mask) EINVAL
@@ -209,8 +209,27 @@ descriptor_of (ListNames fd n) = fd
 descriptor_of (Close fd) = fd
 descriptor_of _ = 0
 
--- the refusal of a client's call in a state, or none
-abbrev pub refusal : State → ℕ → Call → Option Errno
-refusal s c call =
+-- whether a call writes to the mount; opening for reading does where it makes the file, and a rename where it moves something
+abbrev pub writes : State → Call → Bool
+writes s (Chmod p mode) = true
+writes s (Chown p uid gid) = true
+writes s (SetAttribute p n v) = true
+writes s (DeleteAttribute p n) = true
+writes s (Mkdir p mode) = true
+writes s (Symlink target p) = true
+writes s (Open p f mode) = f.writes || is_none (node_at s.tree p)
+writes s (Unlink p) = true
+writes s (Rmdir p) = true
+writes s (Hardlink old new) = true
+writes s (Rename old new) = not (same_found (look s.tree old) (look s.tree new))
+writes s _ = false
+
+-- the refusal of a client's call in a state where all may be written, or none
+abbrev pub writable_refusal : State → ℕ → Call → Option Errno
+writable_refusal s c call =
     path_refusal s (look s.tree (path_of call)) (node_of s.tree (node_at s.tree (path_of call))) c call
     or_else descriptor_refusal s (handle_of s.tables c (descriptor_of call)) (handle_node s.tree (handle_of s.tables c (descriptor_of call))) c call
+
+-- the refusal of a client's call in a state, or none; that nothing may be written is told last
+abbrev pub refusal : State → ℕ → Call → Option Errno
+refusal s c call = writable_refusal s c call or_else when (writes s call && s.options.read_only) EROFS

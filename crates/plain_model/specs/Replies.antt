@@ -59,11 +59,11 @@ next_number (Some e) = e.armed + 1
 -- the answer to a client's call
 abbrev pub reply_of : State → ℕ → Call → Reply
 reply_of s c (Stat p) = stat_of (node_of s.tree (node_at s.tree p))
-reply_of s c (Readlink p) = reply.Content (bytes_of_node (node_of s.tree (node_at s.tree p)))
-reply_of s c (GetAttribute p n) = reply.Content (unwrap_or (value_of (user_of (node_of s.tree (node_at s.tree p))) n) [])
+reply_of s c (Readlink p) = reply.Target (bytes_of_node (node_of s.tree (node_at s.tree p)))
+reply_of s c (GetAttribute p n) = reply.Value (unwrap_or (value_of (user_of (node_of s.tree (node_at s.tree p))) n) [])
 reply_of s c (ListAttributes p) = reply.AttributeNames (map (λ x. x.0) (user_of (node_of s.tree (node_at s.tree p))))
 reply_of s c (Open p f mode) = reply.Descriptor (unwrap_or (lowest_free s.tables c) DESCRIPTORS_MAX)
-reply_of s c (Read fd n) = reply.Content (read_bytes s.tree (handle_of s.tables c fd) n)
+reply_of s c (Read fd n) = reply.Read (read_bytes s.tree (handle_of s.tables c fd) n)
 reply_of s c (Write fd bytes) = reply.Written (length (fitting (write_place s.tree (handle_of s.tables c fd)) bytes))
 reply_of s c (Seek fd offset whence) = reply.Place (sought s c fd offset whence)
 reply_of s c (Fstat fd) = stat_of_handle s.tree (handle_of s.tables c fd)

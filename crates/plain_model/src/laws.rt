@@ -2,6 +2,7 @@
 ghost use Rattle.plain_model.specs.Bounds.{LawOfBounds};
 ghost use Rattle.plain_model.specs.Merging.{LawOfPaths, LawOfMerge, LawOfMount};
 ghost use Rattle.plain_model.specs.Runs.{LawOfNames};
+ghost use Rattle.plain_model.specs.Settling.{LawOfSettledOpening, LawOfSettledRuns, LawOfSettling};
 ghost use Rattle.plain_model.specs.Watching.{LawOfQueues};
 ghost use Rattle.plain_model.specs.Laws.{LawOfLookUp, LawOfParents, LawOfSteps, LawOfMoves};
 
@@ -55,4 +56,20 @@ pub fn law_of_queues()
 /// directory, new serials unused, and an object without a name without names in it.
 pub fn law_of_names()
     ensures { LawOfNames }
+{}
+
+/// A mount begins settled: each node that is there has a name, and no client is attached.
+pub fn law_of_settled_opening()
+    ensures { LawOfSettledOpening }
+{}
+
+/// Whatever a client does and callbacks answer, a settled state stays one: a node is there exactly while it has a name or an open handle,
+/// and each attached client has a number of its own, its descriptors and its instance.
+pub fn law_of_settling()
+    ensures { LawOfSettling }
+{}
+
+/// Each run from a settled state ends in one.
+pub fn law_of_settled_runs()
+    ensures { LawOfSettledRuns }
 {}

@@ -5,7 +5,8 @@ mod laws;
 
 pub use laws::{
     law_of_bounds, law_of_look_up, law_of_merge, law_of_mount, law_of_moves, law_of_names,
-    law_of_parents, law_of_paths, law_of_queues, law_of_steps,
+    law_of_parents, law_of_paths, law_of_queues, law_of_settled_opening, law_of_settled_runs,
+    law_of_settling, law_of_steps,
 };
 
 /// The most lower layers of a mount.

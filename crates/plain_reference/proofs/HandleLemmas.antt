@@ -13,6 +13,7 @@ use Rattle.plain_model.specs.Tree.{Node, Branch, Leaf, Tree, Own, node_at, node_
 use Rattle.ov_base.specs.declared.bytes.Content.TheVariants.{File}
 use Rattle.plain_model.specs.Watching.{Instance, AllHear}
 use Rattle.plain_model.specs.Machine.{State, Table, Handle, handle_of, handle_node, lowest_free, place_of, DESCRIPTORS_MAX}
+use Rattle.plain_model.proofs.Looking.{refusal-reading}
 use Rattle.plain_model.specs.Refusals.{◌or_else◌, when, refusal, descriptor_refusal}
 use Rattle.plain_model.specs.Changes.{after, change, over_node, opened, opens, new_handle, with_handle, made_way, way_of, fresh as fresh_attributes, next_if, listed_on, moved_to, rewound}
 use Rattle.plain_model.specs.Replies.{reply_of, page}
@@ -64,7 +65,7 @@ seek_rule s (Some h) (Some (Leaf content a u l)) c fd e f = absurd (cc)
 
 -- a seek to the start of a directory is not refused
 pub seek_taken : (s : State) (c fd : ℕ) → is_none (handle_of s.tables c fd) ≡ false → is_folder (handle_node s.tree (handle_of s.tables c fd)) ≡ true → None ≡ refusal s c (Seek fd (pos 0) 0)
-seek_taken s c fd e f = seek_rule s (handle_of s.tables c fd) (handle_node s.tree (handle_of s.tables c fd)) c fd e f
+seek_taken s c fd e f = seek_rule s (handle_of s.tables c fd) (handle_node s.tree (handle_of s.tables c fd)) c fd e f ∙ sym (refusal-reading s c (Seek fd (pos 0) 0) refl)
 
 -- a handle that is rewound
 pub rewound_on : (b : Bool) (h : Option Handle) → b ≡ true → rewound b (moved_to 0 h) ≡ over_handle fresh h

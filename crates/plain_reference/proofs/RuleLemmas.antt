@@ -1,10 +1,11 @@
 -- A call by path that a line of the order of checks refuses, is refused so by the machine.
-use Rattle.std.proofs.Common.{◌≡◌, ℕ, Option, None, sym, ap, ◌∙◌}
+use Rattle.std.proofs.Common.{◌≡◌, ℕ, false, Option, None, sym, ap, ◌∙◌}
 use Rattle.ov_base.specs.declared.call.Call.{Call}
 use Rattle.plain_model.specs.Layers.{Path}
 use Rattle.plain_model.specs.Tree.{Node, Tree, node_at, node_of}
 use Rattle.plain_model.specs.Machine.{State, Look, look, node_found, handle_of, handle_node}
 use Rattle.plain_model.specs.Refusals.{path_refusal, descriptor_refusal, path_of, descriptor_of, refusal, ◌or_else◌}
+use Rattle.plain_model.proofs.Looking.{refusal-writable}
 use Rattle.plain_reference.proofs.OrLemmas.{or_none}
 use Rattle.plain_reference.proofs.WalkLemmas.{found-look}
 
@@ -16,9 +17,10 @@ abbrev pub by_descriptor : State → ℕ → Call → Type 0
 by_descriptor s c k = descriptor_refusal s (handle_of s.tables c (descriptor_of k)) (handle_node s.tree (handle_of s.tables c (descriptor_of k))) c k ≡ None
 
 -- a call by path, from the walk and the node that it found
-pub by_path : (s : State) (c : ℕ) (k : Call) (l : Look) (o : Option Node) → l ≡ look s.tree (path_of k) → o ≡ node_found s.tree l → by_descriptor s c k → path_refusal s l o c k ≡ refusal s c k
-by_path s c k l o walk node none =
+pub by_path : (s : State) (c : ℕ) (k : Call) (l : Look) (o : Option Node) → l ≡ look s.tree (path_of k) → o ≡ node_found s.tree l → by_descriptor s c k → s.options.read_only ≡ false → path_refusal s l o c k ≡ refusal s c k
+by_path s c k l o walk node none writable =
     ap (λ m. path_refusal s m o c k) walk
     ∙ ap (λ (x : Option Node). path_refusal s (look s.tree (path_of k)) x c k) (node ∙ node-look s.tree (path_of k) l walk)
     ∙ sym (or_none _)
     ∙ ap (λ e. path_refusal s (look s.tree (path_of k)) (node_of s.tree (node_at s.tree (path_of k))) c k or_else e) (sym none)
+    ∙ sym (refusal-writable s c k writable)

@@ -1,5 +1,5 @@
 -- The state of the plain machine that the reference stands for. Its clients have no hooks, so they never hear anything.
-use Rattle.std.specs.Prelude.{List, [], map}
+use Rattle.std.specs.Prelude.{false, List, [], map}
 use Rattle.plain_model.specs.Watching.{Instance, Rule, silent}
 use Rattle.plain_model.specs.Machine.{Table, State}
 use Rattle.plain_reference.specs.Slots.{tree_of}
@@ -14,7 +14,7 @@ state_of r = record {
   serial = r.serial;
   renames = 0;
   arrived = r.clients.arrived;
-  redirects = r.redirects;
+  options = record { redirects = r.redirects; read_only = false };
   tables = r.clients.list.items;
   instances = silent_all r.clients.list.items;
 }

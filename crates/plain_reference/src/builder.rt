@@ -1,5 +1,5 @@
 // The opening tree, put together by hand.
-ghost use Rattle.std.specs.Prelude.{◌≡◌, IfOk, OnOk, OnErr};
+ghost use Rattle.std.specs.Prelude.{false, ◌≡◌, IfOk, OnOk, OnErr};
 ghost use Rattle.std.specs.FinMap as map;
 ghost use Rattle.plain_model.specs.Tree as plain;
 ghost use Rattle.plain_model.specs.Machine.{opening};
@@ -111,7 +111,7 @@ impl Builder {
 
     /// The plain machine at the tree, with no client.
     pub fn finish(self) -> Reference
-        ensures { state_of result ≡ opening (tree_of self.tree.slots.items) self.redirects }
+        ensures { state_of result ≡ opening (tree_of self.tree.slots.items) (record { redirects = self.redirects; read_only = false }) }
     {
         let Builder {
             tree,

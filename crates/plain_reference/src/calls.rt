@@ -41,6 +41,6 @@ impl Reference {
         }
         let node = self.node(path)?;
         let bytes = bytes_of(self.alloc, node)?;
-        Ok(Reply::Content(bytes))
+        Ok(Reply::Target(bytes))
     }
 }

@@ -169,7 +169,7 @@ module _ (m : Mount) (s : State) (st : IsStateOf m s) (c : ℕ) where
 
   -- the state with other tables
   with-tables : (new : Clients) (ks : List Table) → new.next ≡ m.clients.next → AreTables s.tree new ks → IsStateOf (record m { clients = new }) (record s { tables = ks })
-  with-tables new ks next a = record { arrived = next ∙ st.arrived; layers = record { layers = st.layers.layers; shows = st.layers.shows; kept = st.layers.kept }; tables = a; unwatched = st.unwatched }
+  with-tables new ks next a = record { arrived = next ∙ st.arrived; layers = record { layers = st.layers.layers; shows = st.layers.shows; kept = st.layers.kept; writable = st.layers.writable }; tables = a; unwatched = st.unwatched }
 
   -- a walk to a directory that is shown is not refused
   walk-none : (p : Path) → is_directory (shows 0 Ls p) ≡ true → walk_fault Ls p ≡ None
@@ -181,7 +181,7 @@ module _ (m : Mount) (s : State) (st : IsStateOf m s) (c : ℕ) where
   pub keep-unchanged : (new : Mount) → IsUnchanged m new → IsStateOf new s
   keep-unchanged new h =
       state-as new m.layers s h.layers
-      (record { layers = st.layers.layers; shows = st.layers.shows; kept = st.layers.kept })
+      (record { layers = st.layers.layers; shows = st.layers.shows; kept = st.layers.kept; writable = st.layers.writable })
       (tables-same s.tree m.clients s.tables st.tables new.clients h.clients)
       (h.clients.next ∙ st.arrived)
       st.unwatched
@@ -355,7 +355,7 @@ module _ (m : Mount) (s : State) (st : IsStateOf m s) (c : ℕ) where
       (ap reply.Names (pages.next ∙ ap (take n) left) ∙ sym (law.answer n))
       (subst (IsStateOf new) (sym (law.state n))
       (state-as new m.layers _ pages.layers
-      (record { layers = st.layers.layers; shows = st.layers.shows; kept = st.layers.kept })
+      (record { layers = st.layers.layers; shows = st.layers.shows; kept = st.layers.kept; writable = st.layers.writable })
       (tables-set s.tree m.clients s.tables st.tables new.clients c d _ (listed_on s.tree n (Some h)) pages.changes inside
       (record {
         stands = x.2.stands;

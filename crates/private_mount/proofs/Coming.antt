@@ -111,7 +111,7 @@ module _ (t : Tree) (clients : Clients) (ks : List Table) (a : AreTables t clien
       slots b d (inr m) = slot-as t _ _ _ _ (sym (ap (open_in d) (h.others b m))) (sym (ap (λ z. held_in (slice_get z d)) (handles-last-other ks n b m))) (a.slots b d)
 
 -- a mount without clients stands for the opening state of the merge
-pub begins : (m : Mount) → ((n : ℕ) → get nat_cmp m.clients.attached n ≡ None) → m.clients.next ≡ Some 0 → (t : Tree) (redirects : Bool) → AreLayers (layers_of m.layers) → IsMerge (layer_of m.layers.upper) (lowers_of m.layers) t → IsStateOf m (opening t redirects)
+pub begins : (m : Mount) → ((n : ℕ) → get nat_cmp m.clients.attached n ≡ None) → m.clients.next ≡ Some 0 → (t : Tree) (redirects : Bool) → AreLayers (layers_of m.layers) → IsMerge (layer_of m.layers.upper) (lowers_of m.layers) t → IsStateOf m (opening t (record { redirects = redirects; read_only = false }))
 begins m none next t redirects a merge = record {
   layers = law_of_beginning (layer_of m.layers.upper) (lowers_of m.layers) t redirects a merge;
   arrived = next;
@@ -153,7 +153,7 @@ module _ (m : Mount) (s : State) (st : IsStateOf m s) (new : Clients) where
       let same : n ≡ s.arrived = arrives n h.next in (
         same,
         record {
-          layers = record { layers = st.layers.layers; shows = st.layers.shows; kept = st.layers.kept };
+          layers = record { layers = st.layers.layers; shows = st.layers.shows; kept = st.layers.kept; writable = st.layers.writable };
           unwatched = unwatched-last s.instances (silent s.arrived tags) st.unwatched refl;
           arrived = h.rises ∙ ap number (add-one n ∙ ap suc same);
           tables = subst (λ z. AreTables s.tree new (s.tables ++ free_table z ∷ [])) same (come s.tree m.clients s.tables st.tables new n h);

@@ -188,7 +188,7 @@ module _ (U : Layer) (lowers : List Layer) (clients : Clients) (n : ℕ) where
     -- one descriptor less
     closing : (es : List Instance) → AreUnwatched es → Leaving U lowers clients n (record closed { instances = es })
     closing es w = record {
-      mount = record { layers = law.mounts.layers; shows = law.mounts.shows; kept = law.mounts.kept };
+      mount = record { layers = law.mounts.layers; shows = law.mounts.shows; kept = law.mounts.kept; writable = law.mounts.writable };
       others = record {
         attached = λ b m. attached-same s.tables n i b None ∙ l.others.attached b m;
         room = λ b m. ap length (handles-others s.tables n i b None m) ∙ l.others.room b m;
@@ -274,7 +274,7 @@ module _ (m : Mount) (s : State) (st : IsStateOf m s) (new : Clients) (n : ℕ) 
   -- the client's watches are gone
   unwatching : Leaving U lowers m.clients n (without_instance s n)
   unwatching = record {
-    mount = record { layers = st.layers.layers; shows = st.layers.shows; kept = st.layers.kept };
+    mount = record { layers = st.layers.layers; shows = st.layers.shows; kept = st.layers.kept; writable = st.layers.writable };
     others = record { attached = λ b other. st.tables.attached b; room = λ b other. st.tables.room b; slots = λ b d other. st.tables.slots b d };
     own = λ d. (opened_by m.clients n d, st.tables.slots n d);
     arrived = st.arrived;
@@ -284,7 +284,7 @@ module _ (m : Mount) (s : State) (st : IsStateOf m s) (new : Clients) (n : ℕ) 
   -- without its table the client is gone
   gone : (t : State) → Leaving U lowers m.clients n t → IsStateOf (record m { clients = new }) (without_table t n)
   gone t l = record {
-    layers = record { layers = l.mount.layers; shows = l.mount.shows; kept = l.mount.kept };
+    layers = record { layers = l.mount.layers; shows = l.mount.shows; kept = l.mount.kept; writable = l.mount.writable };
     arrived = h.next ∙ l.arrived;
     unwatched = l.unwatched;
     tables = go t.tree m.clients t.tables new n l.others h;

@@ -60,7 +60,7 @@ module _ (U : Layer) (lowers : List Layer) (s : State) (m : IsMountOf U lowers s
       refused = law.refused;
       answer = law.answer;
       tables = ap (λ z. z.tables) law.state;
-      mounts = subst (IsMountOf U lowers) (sym law.state) (record { layers = m.layers; shows = m.shows; kept = m.kept });
+      mounts = subst (IsMountOf U lowers) (sym law.state) (record { layers = m.layers; shows = m.shows; kept = m.kept; writable = m.writable });
       paths = λ q. ap (λ z. node_at z.tree q) law.state;
       others = λ d apart. ap (λ z. z.tree d) law.state;
       held = λ k i g at. ap (λ z. z.tree g.node) law.state;

@@ -61,7 +61,7 @@ stat_at Ls p = unless_refused (walk_fault Ls p) (stat_shown (shows 0 Ls p))
 -- the reply to readlink of what has this target, or none
 abbrev pub target_reply : Option (List ℕ) → Reply
 target_reply None = reply.Refused EINVAL
-target_reply (Some target) = reply.Content target
+target_reply (Some target) = reply.Target target
 
 -- the same, where the walk is refused or not
 abbrev pub link_reply : Option Errno → Option (List ℕ) → Reply

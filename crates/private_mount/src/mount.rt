@@ -1,5 +1,5 @@
 // A mount and the clients on it.
-ghost use Rattle.std.specs.Prelude.{◌≡◌, ◌<◌, ℕ, Bool, List, Some, None, Ok, IfOk, IfErr, OnOk, OnErr, IsSome, IsSomeAnd, is_some, MatchResult, option_copied, true};
+ghost use Rattle.std.specs.Prelude.{◌≡◌, ◌<◌, ℕ, Bool, false, List, Some, None, Ok, IfOk, IfErr, OnOk, OnErr, IsSome, IsSomeAnd, is_some, MatchResult, option_copied, true};
 ghost use Rattle.plain_model.specs.Layers.{AreLayers};
 ghost use Rattle.layer_tree.specs.Tree.{layer_of, inode_of};
 ghost use Rattle.merged_lookup.specs.Merged.{layers_of, lowers_of};
@@ -55,7 +55,7 @@ impl Mount {
         ensures layers { result.layers ≡ layers }
         ensures none { (n : ℕ) → get nat_cmp result.clients.attached n ≡ None }
         ensures first { result.clients.next ≡ Some 0 }
-        ensures begins { (t : Tree) (redirects : Bool) → AreLayers (layers_of layers) → IsMerge (layer_of layers.upper) (lowers_of layers) t → IsStateOf result (machine.opening t redirects) }
+        ensures begins { (t : Tree) (redirects : Bool) → AreLayers (layers_of layers) → IsMerge (layer_of layers.upper) (lowers_of layers) t → IsStateOf result (machine.opening t (record { redirects = redirects; read_only = false })) }
     {
         Mount {
             layers,
@@ -344,7 +344,7 @@ fn read_link(node: Option<&Node>) -> Result<Reply, AllocError>
                     ..
                 },
             ),
-        ) => Ok(Reply::Content(target.clone()?)),
+        ) => Ok(Reply::Target(target.clone()?)),
         _ => Ok(Reply::Refused(Errno::EINVAL)),
     }
 }

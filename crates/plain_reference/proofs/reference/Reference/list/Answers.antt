@@ -5,6 +5,7 @@ use Rattle.ov_base.specs.declared.reply.Reply.TheVariants.{Names}
 use Rattle.plain_model.specs.Layers.{Name}
 use Rattle.plain_model.specs.Machine.{Table, handle_of, handle_node, place_of}
 use Rattle.plain_model.specs.Refusals.{refusal}
+use Rattle.plain_model.proofs.Looking.{refusal-reading}
 use Rattle.plain_model.specs.Changes.{with_handle, listed_on}
 use Rattle.plain_model.specs.Replies.{page}
 use Rattle.plain_reference.specs.Nodes.{shown}
@@ -21,7 +22,7 @@ returns-clause-step c =
     let h = handle_of ks c.args.client c.args.descriptor in
     let handle : option_copied c.open_handle-handle.result ≡ h = c.open_handle-handle.ensures ∙ ap (λ (tables : List Table). handle_of tables c.args.client c.args.descriptor) c.as_slice.ensures in
     let node : shown (option_copied c.handle_node-node.result) ≡ handle_node t h = c.handle_node-node.ensures ∙ ap (handle_node t) handle in
-    let none : None ≡ refusal (state_of c.args.self.now) c.args.client (ListNames c.args.descriptor c.args.count) = c.in_default.ensures ∙ (λ i. list_rule (handle i) (node i) c.args.count) in
+    let none : None ≡ refusal (state_of c.args.self.now) c.args.client (ListNames c.args.descriptor c.args.count) = c.in_default.ensures ∙ (λ i. list_rule (handle i) (node i) c.args.count) ∙ sym (refusal-reading (state_of c.args.self.now) c.args.client (ListNames c.args.descriptor c.args.count) refl) in
     let names : c.in_ok-names.names ≡ listing_of t h = c.in_ok-names.ensures ∙ ap (listing_of t) handle in
     let answer : c.from_vec.result ≡ page t h c.args.count = c.from_vec.ensures ∙ c.in_ok-page.ensures ∙ (λ i. take c.args.count (drop (c.place_of.ensures i) (c.as_slice-2.ensures i))) ∙ (λ i. take c.args.count (drop (place_of (handle i)) (names i))) ∙ page_of t h c.args.count in
     let listed : over_handle (kept c.in_ok-names.names c.args.count) h ≡ listed_on t c.args.count h = ap (λ (ns : List Name). over_handle (kept ns c.args.count) h) names ∙ kept_on t h c.args.count in

@@ -10,4 +10,4 @@ use Rattle.plain_reference.proofs.RuleLemmas.{by_path}
 use Rattle.plain_reference.proofs.reference.Reference.open_refusal.Goals as goal
 
 pub returns : goal.returns
-returns c = c.open_line.ensures ∙ ap (λ (free : Option ℕ). open_refusal c.args.flags c.args.mode (look_of c.in_ok-look.look) (shown (option_copied c.node_found-node.result)) free) (c.lowest_free-free.ensures ∙ ap (λ (tables : List Table). lowest_free tables c.args.client) c.as_slice.ensures) ∙ by_path (state_of c.args.self.now) c.args.client (Open c.args.path.now c.args.flags c.args.mode) _ _ c.in_ok-look.ensures c.node_found-node.ensures refl
+returns c = c.open_line.ensures ∙ ap (λ (free : Option ℕ). open_refusal c.args.flags c.args.mode (look_of c.in_ok-look.look) (shown (option_copied c.node_found-node.result)) free) (c.lowest_free-free.ensures ∙ ap (λ (tables : List Table). lowest_free tables c.args.client) c.as_slice.ensures) ∙ by_path (state_of c.args.self.now) c.args.client (Open c.args.path.now c.args.flags c.args.mode) _ _ c.in_ok-look.ensures c.node_found-node.ensures refl refl

@@ -1,6 +1,6 @@
 use Rattle.std.proofs.Common.{◌∙◌, refl, sym, ap}
 use Rattle.ov_base.specs.declared.call.Call.TheVariants.{Readlink}
-use Rattle.ov_base.specs.declared.reply.Reply.TheVariants.{Content}
+use Rattle.ov_base.specs.declared.reply.Reply.TheVariants.{Target}
 use Rattle.plain_model.specs.Machine.{bytes_of_node}
 use Rattle.plain_model.specs.Subjects.{subjects}
 use Rattle.plain_reference.specs.States.{state_of}
@@ -10,4 +10,4 @@ use Rattle.plain_reference.proofs.reference.Reference.readlink.Goals as goal
 pub returns : goal.returns
 returns c =
     taken_step (state_of c.args.self.now) (state_of c.args.self.now) c.args.client (Readlink c.args.path.now) _ (sym c.in_default.is ∙ c.in_ok-errno.ensures)
-    (record { answer = ap Content (c.in_ok-bytes.ensures ∙ ap bytes_of_node c.in_ok-node.ensures); state = refl; heard = silence (subjects (state_of c.args.self.now) c.args.client (Readlink c.args.path.now)) _ })
+    (record { answer = ap Target (c.in_ok-bytes.ensures ∙ ap bytes_of_node c.in_ok-node.ensures); state = refl; heard = silence (subjects (state_of c.args.self.now) c.args.client (Readlink c.args.path.now)) _ })

@@ -4,6 +4,7 @@ use Rattle.ov_base.specs.declared.errno.Errno.TheVariants.{EBADF}
 use Rattle.ov_base.specs.declared.reply.Reply.TheVariants.{Done}
 use Rattle.plain_model.specs.Machine.{Handle, handle_of}
 use Rattle.plain_model.specs.Refusals.{when}
+use Rattle.plain_model.proofs.Looking.{refusal-reading}
 use Rattle.plain_model.specs.Changes.{with_handle, settled, node_of_handle}
 use Rattle.plain_reference.specs.Slots.{tree_of}
 use Rattle.plain_reference.specs.States.{heard_by}
@@ -24,5 +25,5 @@ returns-in-Some-clause-step c = λ tables.
     let node : Some c.node.result.now ≡ node_of_handle h = ap Some c.node.ensures ∙ ap node_of_handle c.in-Some.ensures.handle in
     let tree : tree_of new.tree.slots.items ≡ settled (with_handle ks c.args.client c.args.descriptor None) (tree_of old.tree.slots.items) (node_of_handle h) = c.settle.ensures.tree ∙ (λ i. settled (c.in-Some.ensures.list i) (tree_of old.tree.slots.items) (node i)) in
     handled_step old new tables c.args.client c.args.descriptor None (Close c.args.descriptor) Done
-    (ap (λ (o : Option Handle). when (is_none o) EBADF) c.in-Some.ensures.handle) refl list arrived rest
+    (ap (λ (o : Option Handle). when (is_none o) EBADF) c.in-Some.ensures.handle ∙ sym (refusal-reading (heard_by old tables) c.args.client (Close c.args.descriptor) refl)) refl list arrived rest
     (λ i. record (heard_by old tables) { tree = sym tree i; tables = with_handle ks c.args.client c.args.descriptor None })

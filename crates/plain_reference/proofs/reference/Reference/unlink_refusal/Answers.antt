@@ -5,4 +5,4 @@ use Rattle.plain_reference.proofs.RuleLemmas.{by_path}
 use Rattle.plain_reference.proofs.reference.Reference.unlink_refusal.Goals as goal
 
 pub returns : goal.returns
-returns c = c.unlink_line.ensures ∙ by_path (state_of c.args.self.now) c.args.client (Unlink c.args.path.now) _ _ c.in_ok-look.ensures c.node_found-node.ensures refl
+returns c = c.unlink_line.ensures ∙ by_path (state_of c.args.self.now) c.args.client (Unlink c.args.path.now) _ _ c.in_ok-look.ensures c.node_found-node.ensures refl refl
