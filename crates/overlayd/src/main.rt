@@ -17,10 +17,19 @@ fn main(rt: HostRuntime) -> ExitCode {
 fn run(rt: &HostRuntime) -> Result<(), Fault> {
     let words = words(rt)?;
     let invocation = command_line(rt.alloc(), words.as_slice())?;
-    let keys = RandomState::new(rt)?;
+    let keys = keys(rt)?;
     match invocation {
         Invocation::Show { manifest } => show(rt, keys, manifest),
         Invocation::Play { manifest } => play(rt, keys, manifest),
+    }
+}
+
+// The keys by which directories hash their names, from the system's randomness. Where it fails, that counts as a stream that failed.
+fn keys(rt: &HostRuntime) -> Result<RandomState, Fault> {
+    match RandomState::new(rt) {
+        Ok(keys) => Ok(keys),
+        Err(fault) if fault.kind() == io::ErrorKind::OutOfMemory => Err(Fault::Memory),
+        Err(_) => Err(Fault::Stream),
     }
 }
 
