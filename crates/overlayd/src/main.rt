@@ -2,9 +2,8 @@
 #![tactic(auto)]
 
 use ov_server::{Fault, Input, Invocation, Output, command_line, play_run, show_run};
-use std::io;
 use std::process::ExitCode;
-use std::{env, fs};
+use std::{env, fs, io};
 
 fn main(rt: HostRuntime) -> ExitCode {
     match run(&rt) {
@@ -40,12 +39,7 @@ fn play(rt: &HostRuntime, manifest: &str) -> Result<(), Fault> {
     let manifest = bytes_of(rt, manifest)?;
     let mut input = Input::new(rt.reader());
     let mut output = Output::new(rt.alloc(), io::writer(rt));
-    play_run(
-        rt.alloc(),
-        manifest.as_slice(),
-        &mut input,
-        &mut output,
-    )
+    play_run(rt.alloc(), manifest.as_slice(), &mut input, &mut output)
 }
 
 fn bytes_of(rt: &HostRuntime, path: &str) -> Result<Vec<u8>, Fault> {
