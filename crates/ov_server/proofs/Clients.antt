@@ -75,10 +75,16 @@ attached_next old new r n a st next client = by (cases_eq client r.next)
 pub attach_plays : (old new : Mount) (n : ℕ) → Attaches old.clients new.clients n → new.layers ≡ old.layers → PlaysCommand old command.Attach new
 attach_plays old new n a layers = record {
   good = λ r st. refl;
-  leaves = λ r st. let next = next_is old.clients.next n r.next a.next st.next in (with_next r, (inr refl, record {
-    attached = attached_next old new r n a st next;
-    next = rw (← next) (rises _ new.clients.next (n + 1) a.rises);
-  }));
+  leaves = λ r st. let next = next_is old.clients.next n r.next a.next st.next in (
+    with_next r,
+    (
+      inr refl,
+      record {
+        attached = attached_next old new r n a st next;
+        next = rw (← next) (rises _ new.clients.next (n + 1) a.rises);
+      },
+    ),
+  );
   layers = same_count old new layers;
 }
 

@@ -251,7 +251,7 @@ module _ (layers : ℕ) where
 -- an input that fails
 pub input_stream : (failed output : Bool) (left : ℕ) (fault : DeviceFault) → IsInputFault failed left fault → IsStreamFault failed left output (Device fault)
 input_stream failed output left fault = elim fault as (λ x. IsInputFault failed left x → IsStreamFault failed left output (Device x)) [
-  | Stream ↦ λ h. elim h [ | inl e ↦ inl e | inr e ↦ inr (inl e) ]
+  | Stream ↦ λ h. elim h [ inl e ↦ inl e | inr e ↦ inr (inl e) ]
   | Memory ↦ λ h. tt
 ]
 

@@ -1,12 +1,30 @@
--- What a command line asks for.
-use Rattle.std.specs.Prelude.{◌≡◌, ℕ, List, Some, option_map, codes}
-use Rattle.clap.specs.Matches.{first_value, subcommand_name_of}
-use Rattle.clap.specs.Simple.{App, HasMatchesOf, subcommand_rows_of}
-use Rattle.clap.specs.Walk.{rows_of}
+-- The command line of the program, and what its words ask for.
+use Rattle.std.specs.Prelude.{◌≡◌, ℕ, List, Some, true, false, codes, ◌⊎◌}
+use Rattle.clap.specs.Simple.{App, new_app, new_rule, on_top, subcommand_of, subcommand_rows_of, with_rule, with_subcommand}
+use Rattle.clap.specs.Takes.{takes}
+use Rattle.clap.specs.Values.{kind_of}
+use Rattle.clap.specs.Walk.{Row, Rule, first_of}
+use Rattle.clap.specs.declared.error.Error.{Error}
+use Rattle.clap.specs.declared.error.kind.ErrorKind.TheVariants as kind
 use Rattle.clap.specs.declared.parser.matches.ArgMatches.{ArgMatches}
-use Rattle.clap.specs.declared.parser.matches.Found.{Found}
 use Rattle.ov_server.specs.declared.arguments.Invocation.{Invocation}
 use Rattle.ov_server.specs.declared.arguments.Invocation.TheVariants.{Show, Play}
+
+-- the argument that names the manifest's file
+abbrev pub manifest_rule : Rule
+manifest_rule = record (new_rule (codes "MANIFEST")) { required = true }
+
+-- a subcommand of this name, with that argument
+abbrev pub app_named : List ℕ → App
+app_named name = with_rule (new_app name) manifest_rule
+
+-- the program without its subcommands, one of which is wanted
+abbrev pub bare_app : App
+bare_app = on_top (λ s. record s { subcommand_required = true }) (new_app (codes "overlayd"))
+
+-- THE COMMAND LINE: `overlayd show MANIFEST`, or `overlayd play MANIFEST`
+abbrev pub overlayd_app : App
+overlayd_app = with_subcommand (with_subcommand bare_app (app_named (codes "show")).top) (app_named (codes "play")).top
 
 -- the name of the subcommand
 abbrev pub name_of : Invocation → List ℕ
@@ -20,14 +38,16 @@ manifest_named (Play manifest) = manifest.now
 
 -- a parse met the subcommand of this name, whose argument names this manifest
 pub record Names (matches : ArgMatches) (asked : Invocation) : Type 0 where
-  pub inner : Found
-  pub name : subcommand_name_of matches ≡ Some (name_of asked)
-  pub rows : option_map (λ p. p.1) (subcommand_rows_of matches) ≡ Some (rows_of inner)
-  pub manifest : first_value inner (codes "MANIFEST") ≡ Some (manifest_named asked)
+  pub rows : List Row
+  pub subcommand : subcommand_rows_of matches ≡ Some (name_of asked, rows)
+  pub manifest : first_of (codes "MANIFEST") rows ≡ Some (manifest_named asked)
 
--- clap reads the words as this
+-- the words name the subcommand, and its argument names this manifest
 pub record IsAskedBy (words : List (List ℕ)) (asked : Invocation) : Type 0 where
-  pub app : App
-  pub matches : ArgMatches
-  pub parsed : HasMatchesOf app words matches
-  pub names : Names matches asked
+  pub rows : List Row
+  pub subcommand : subcommand_of overlayd_app words ≡ Some (name_of asked, rows)
+  pub manifest : first_of (codes "MANIFEST") rows ≡ Some (manifest_named asked)
+
+-- the words are none of such a command line, or memory ran out
+abbrev pub IsRefusedBy : List (List ℕ) → Error → Type 0
+IsRefusedBy words error = (takes overlayd_app words ≡ false) ⊎ (kind_of error ≡ kind.OutOfMemory)

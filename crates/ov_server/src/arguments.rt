@@ -1,6 +1,11 @@
 // The command line.
-ghost use Rattle.std.specs.Prelude.{IfOk, IfSome, map};
-ghost use Rattle.ov_server.specs.Arguments.{IsAskedBy, Names};
+ghost use Rattle.std.specs.Prelude.{◌≡◌, false, IfErr, IfOk, IfSome, map};
+ghost use Rattle.clap.specs.Faults.{fault_of};
+ghost use Rattle.clap.specs.Kinds.{FailsBy};
+ghost use Rattle.clap.specs.Simple.{app_of};
+ghost use Rattle.clap.specs.Walk.{rule_of};
+ghost use Rattle.clap.specs.declared.builder.command.Command.TheViews.{out-Command};
+ghost use Rattle.ov_server.specs.Arguments.{IsAskedBy, IsRefusedBy, Names, app_named, manifest_rule, overlayd_app};
 
 use clap::{Arg, ArgMatches, Command, Error};
 use std::alloc::{AllocError, Global};
@@ -17,31 +22,46 @@ pub enum Invocation<'a> {
 
 /// Reads the words of a command line, the program's name first. An error has the text for the user, also where help is asked for.
 pub fn command_line<'a, S: AsStr>(alloc: Global, words: &'a [S]) -> Result<Invocation<'a>, Error>
-    ensures { IfOk result (IsAskedBy (map S.text words.entry.now)) }
+    ensures ok { IfOk result (IsAskedBy (map S.text words.entry.now)) }
+    ensures err { IfErr result (IsRefusedBy (map S.text words.entry.now)) }
+    ensures kinds { FailsBy (fault_of overlayd_app (map S.text words.entry.now)) result }
 {
-    let matches = overlayd(alloc)?.try_get_matches_from(words)?;
+    let command = overlayd(alloc)?;
+    let matches = command.try_get_matches_from(words)?;
     match invocation_of(&matches) {
         Some(invocation) => Ok(invocation),
         None => Err(Error::from(AllocError)),
     }
 }
 
-fn overlayd<'a>(alloc: Global) -> Result<Command<'a>, Error> {
-    let show = Command::new(alloc, "show")
-        .about("Prints the merged tree of a manifest")
-        .arg(manifest(alloc))?;
-    let play = Command::new(alloc, "play")
-        .about("Plays the script on standard input on the mount of a manifest")
-        .arg(manifest(alloc))?;
-    let command = Command::new(alloc, "overlayd")
+fn overlayd<'a>(alloc: Global) -> Result<Command<'a>, AllocError>
+    ensures { IfOk result (λ command. app_of command ≡ overlayd_app) }
+{
+    let show = subcommand(alloc, "show", "Prints the merged tree of a manifest")?;
+    let play = subcommand(
+        alloc,
+        "play",
+        "Plays the script on standard input on the mount of a manifest",
+    )?;
+    Command::new(alloc, "overlayd")
         .about("An overlay mount in memory")
         .subcommand_required(true)
         .subcommand(show)?
-        .subcommand(play)?;
-    Ok(command)
+        .subcommand(play)
 }
 
-fn manifest<'a>(alloc: Global) -> Arg<'a> {
+// A subcommand that takes the file of a manifest.
+fn subcommand<'a>(alloc: Global, name: &'a str, about: &'a str) -> Result<Command<'a>, AllocError>
+    ensures app { IfOk result (λ command. app_of command ≡ app_named name.entry.now) }
+    ensures local { IfOk result (λ command. (out-Command command).has_globals ≡ false) }
+{
+    Command::new(alloc, name).about(about).arg(manifest(alloc))
+}
+
+fn manifest<'a>(alloc: Global) -> Arg<'a>
+    ensures rule { rule_of result ≡ manifest_rule }
+    ensures local { result.global ≡ false }
+{
     Arg::new(alloc, "MANIFEST")
         .help("The TOML file of the layers")
         .required(true)

@@ -98,7 +98,11 @@ fn put_layer<W: Write>(
     Ok(())
 }
 
-fn put_merge<W: Write>(alloc: Global, mount: &Mount, output: &mut Output<W>) -> Result<(), LineFault>
+fn put_merge<W: Write>(
+    alloc: Global,
+    mount: &Mount,
+    output: &mut Output<W>,
+) -> Result<(), LineFault>
     ensures err { IfErr result plays.IsOfDevice }
     ensures stream { TellsLine output.old.failed output.new.failed result }
 {

@@ -49,9 +49,7 @@ pub fn play_run<R: Read, W: Write>(
 #[derive(Drop)]
 pub enum PlayFault {
     /// A line, counted from 1, is bad.
-    BadLine {
-        line: u64,
-    },
+    BadLine { line: u64 },
     Device(DeviceFault),
 }
 

@@ -3,9 +3,8 @@
 
 use ov_server::{Fault, Input, Invocation, Output, command_line, play_run, show_run};
 use std::hash::RandomState;
-use std::io;
 use std::process::ExitCode;
-use std::{env, fs};
+use std::{env, fs, io};
 
 fn main(rt: HostRuntime) -> ExitCode {
     match run(&rt) {
