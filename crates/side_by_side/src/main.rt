@@ -8,12 +8,14 @@ mod expanded;
 mod generated;
 mod merged;
 mod mount;
+mod opens;
 mod plain_layer;
 mod playing;
 mod rows;
 mod tree_lines;
 
 use crate::generated::play_generated;
+use crate::opens::play_opens;
 use crate::playing::difference;
 use crate::rows::rows_in;
 use std::hash::RandomState;
@@ -33,6 +35,9 @@ const FILES: [&str; 9] = [
     "entry_faults.rows",
 ];
 
+/// The file of the calls that only the reference is asked.
+const OPENS: &str = "opens.rows";
+
 /// The manifests over which generated scripts are played.
 const MANIFESTS: [&str; 2] = ["two_layers.toml", "four_layers.toml"];
 
@@ -42,6 +47,7 @@ fn main(rt: HostRuntime) -> io::Result<()> {
     for file in FILES {
         count = count.saturating_add(play_file(&rt, keys, file)?);
     }
+    count = count.saturating_add(play_opens(&rt, OPENS)?);
     println!(rt; "{count} rows agree")?;
     for manifest in MANIFESTS {
         play_generated(&rt, keys, manifest)?;

@@ -2,9 +2,9 @@
 ghost use Rattle.std.specs.Prelude.{◌≡◌, ◌≢◌, ℕ, List, Some, None, IsTrue};
 ghost use Rattle.layer_tree.specs.Tree.{child};
 
-use crate::fixtures::{name, path, read};
+use crate::fixtures::{path, read};
 use layer_tree::{Entry, Layer, Node, Object, ROOT};
-use ov_base::{Attributes, Bytes, Content, UserAttributes};
+use ov_base::{Attributes, Bytes, Content, Name, UserAttributes};
 use std::alloc::Global;
 use std::hash::RandomState;
 use std::process::Abort;
@@ -30,6 +30,11 @@ fn layer_of_one_file(
     Ok((layer, dir, file))
 }
 
+// The name of the file.
+fn name(rt: &impl Abort) -> Name {
+    Name::parse(b"f").expect(rt, "a name")
+}
+
 #[test]
 fn a_file_is_written(rt: HostRuntime) -> Result<(), Fail> {
     let alloc = rt.alloc();
@@ -46,7 +51,7 @@ fn a_file_is_written(rt: HostRuntime) -> Result<(), Fail> {
 fn names_go_and_whiteouts_stand(rt: HostRuntime) -> Result<(), Fail> {
     let alloc = rt.alloc();
     let (mut layer, dir, file) = layer_of_one_file(&rt, alloc, RandomState::new(&rt)?)?;
-    let f = name(&rt, "f");
+    let f = name(&rt);
     assert!(rt; layer.is_directory(dir));
     let was = layer.insert_whiteout(dir, f)?;
     assert!(rt; matches!(was, Some(Entry::Object(found)) if found == file));
@@ -77,7 +82,7 @@ fn insert_link(
     layer: &mut Layer,
     dir: usize,
 ) -> Result<usize, Fail> {
-    let f = name(rt, "f");
+    let f = name(rt);
     assert!(rt; layer.is_directory(dir));
     assert!(rt; layer.entry(dir, &f).is_none());
     let target = Bytes::from_slice(alloc, b"/d".as_slice())?;
@@ -97,7 +102,7 @@ fn a_file_without_a_name_is_freed(rt: HostRuntime) -> Result<(), Fail> {
     let alloc = rt.alloc();
     let (mut layer, dir, file) = layer_of_one_file(&rt, alloc, RandomState::new(&rt)?)?;
     assert!(rt; layer.is_directory(dir));
-    let gone = layer.take_out(dir, &name(&rt, "f"));
+    let gone = layer.take_out(dir, &name(&rt));
     assert!(rt; matches!(gone, Some(Entry::Object(found)) if found == file));
     assert!(rt; file != ROOT);
     assert!(rt; is_nameless(&layer, file));

@@ -2,9 +2,9 @@
 ghost use Rattle.std.specs.Prelude.{◌<◌, ◌≤◌, IfOk};
 ghost use Rattle.std.specs.Vec.{vec_len};
 
-use layer_tree::Layer;
-use merged_lookup::Layers;
-use ov_base::{Name, Options, Path};
+use layer_tree::{Layer, Node};
+use merged_lookup::{Found, Layers};
+use ov_base::{Errno, Options, Path};
 use ov_wire::{ManifestFault, manifest_of};
 use std::alloc::Global;
 use std::hash::RandomState;
@@ -30,6 +30,15 @@ pub fn path(rt: &impl Abort, alloc: Global, text: &str) -> Path {
     parsed.expect(rt, "a path")
 }
 
-pub fn name(rt: &impl Abort, text: &str) -> Name {
-    Name::parse(text.as_bytes()).expect(rt, "a name")
+// The layer of what a path shows, of how many layers a directory is made, 0 for a file or a link, and the mode.
+pub fn seen(layers: &Layers, path: &Path) -> Result<(usize, usize, u32), Errno> {
+    let (place, count) = match layers.walk(path)? {
+        Found::Directory(stack) => (stack.top(), stack.places().len()),
+        Found::Inode(place) => (place, 0),
+    };
+    match layers.node(place) {
+        Some(Node::Directory(directory)) => Ok((place.layer, count, directory.attributes.mode)),
+        Some(Node::Inode(inode)) => Ok((place.layer, count, inode.attributes.mode)),
+        None => Err(Errno::ENOENT),
+    }
 }

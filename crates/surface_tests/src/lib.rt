@@ -9,14 +9,10 @@ mod files;
 #[cfg(test)]
 mod fixtures;
 #[cfg(test)]
-mod listings;
-#[cfg(test)]
 mod look_ups;
 #[cfg(test)]
 mod making;
 #[cfg(test)]
 mod manifests;
-#[cfg(test)]
-mod opening;
 #[cfg(test)]
 mod streams;

@@ -1,18 +1,9 @@
 // Chains of redirects in as many layers as there may be.
-use crate::fixtures::{mount, path};
-use merged_lookup::{Found, Layers};
-use ov_base::{Errno, Path};
+use crate::fixtures::{mount, path, seen};
+use ov_base::Errno;
 use std::alloc::Global;
 use std::hash::RandomState;
 use std::test::Fail;
-
-// The layer of what a path shows, and of how many layers a directory is made, 0 for a file.
-fn seen(layers: &Layers, path: &Path) -> Result<(usize, usize), Errno> {
-    match layers.walk(path)? {
-        Found::Directory(stack) => Ok((stack.top().layer, stack.places().len())),
-        Found::Inode(place) => Ok((place.layer, 0)),
-    }
-}
 
 // 17 layers, in each a chain of eight directories in one another, each with a redirect to the last of them; and a file in that of the
 // last layer.
@@ -41,12 +32,12 @@ fn chains_of_redirects_answer_at_once(rt: HostRuntime) -> Result<(), Fail> {
     let layers = mount(alloc, RandomState::new(&rt)?, chains(alloc)?.as_str())?;
     assert_eq!(rt; layers.count(), 17);
     for (text, wanted) in [
-        ("/a", Ok((0, 17))),
-        ("/a/a/a/a", Ok((0, 17))),
-        ("/a/a/a/a/a/a/a/a", Ok((0, 17))),
+        ("/a", Ok((0, 17, 0o755))),
+        ("/a/a/a/a", Ok((0, 17, 0o755))),
+        ("/a/a/a/a/a/a/a/a", Ok((0, 17, 0o755))),
         ("/a/a/a/a/a/a/a/a/a", Err(Errno::ENOENT)),
-        ("/a/a/a/a/a/a/a/a/note", Ok((16, 0))),
-        ("/a/note", Ok((16, 0))),
+        ("/a/a/a/a/a/a/a/a/note", Ok((16, 0, 0o644))),
+        ("/a/note", Ok((16, 0, 0o644))),
         ("/a/a/a/note/x", Err(Errno::ENOTDIR)),
     ] {
         let found = seen(&layers, &path(&rt, alloc, text));

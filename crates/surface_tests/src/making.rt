@@ -1,9 +1,8 @@
 // Files are made, and missing parents placed one by one.
-use crate::fixtures::{mount, path};
+use crate::fixtures::{mount, path, seen};
 use copy_up::{Need, need_at, place_dir, place_parents};
-use layer_tree::Node;
 use make_remove::create;
-use merged_lookup::{Found, Layers, Look, split_last};
+use merged_lookup::{Layers, Look, split_last};
 use ov_base::{Errno, Path};
 use std::hash::RandomState;
 use std::process::Abort;
@@ -13,21 +12,6 @@ const NESTED: &str = "layer = [{}, {entry = [
   {path = '/a', kind = 'dir', mode = 0o700},
   {path = '/a/b', kind = 'dir', mode = 0o711},
 ]}]";
-
-// The layer and the mode of what a path shows.
-fn seen(layers: &Layers, path: &Path) -> Option<(usize, u32)> {
-    let Ok(found) = layers.walk(path) else {
-        return None;
-    };
-    let place = match found {
-        Found::Directory(stack) => stack.top(),
-        Found::Inode(place) => place,
-    };
-    match layers.node(place)? {
-        Node::Directory(directory) => Some((place.layer, directory.attributes.mode)),
-        Node::Inode(inode) => Some((place.layer, inode.attributes.mode)),
-    }
-}
 
 #[test]
 fn makes_files(rt: HostRuntime) -> Result<(), Fail> {
@@ -43,10 +27,10 @@ fn makes_files(rt: HostRuntime) -> Result<(), Fail> {
         assert!(rt; made == wanted, "{text}");
     }
     for (text, wanted) in [
-        ("/a", Some((0, 0o700))),
-        ("/a/b", Some((0, 0o711))),
-        ("/a/b/f", Some((0, 0o640))),
-        ("/g", None),
+        ("/a", Ok((0, 2, 0o700))),
+        ("/a/b", Ok((0, 2, 0o711))),
+        ("/a/b/f", Ok((0, 0, 0o640))),
+        ("/g", Err(Errno::ENOENT)),
     ] {
         assert!(rt; seen(&layers, &path(&rt, alloc, text)) == wanted, "{text}");
     }
@@ -72,10 +56,14 @@ fn places_one_parent_at_a_time(rt: HostRuntime) -> Result<(), Fail> {
     let alloc = rt.alloc();
     let mut layers = mount(alloc, RandomState::new(&rt)?, NESTED)?;
     let new = path(&rt, alloc, "/a/b/new");
-    for (count, first, second) in [(1, 0, 1), (2, 0, 0), (0, 0, 0)] {
+    for (count, first, second) in [
+        (1, (0, 2, 0o700), (1, 1, 0o711)),
+        (2, (0, 2, 0o700), (0, 2, 0o711)),
+        (0, (0, 2, 0o700), (0, 2, 0o711)),
+    ] {
         assert_eq!(rt; place_next(&rt, &mut layers, &new), count);
-        assert!(rt; seen(&layers, &path(&rt, alloc, "/a")) == Some((first, 0o700)));
-        assert!(rt; seen(&layers, &path(&rt, alloc, "/a/b")) == Some((second, 0o711)));
+        assert!(rt; seen(&layers, &path(&rt, alloc, "/a")) == Ok(first));
+        assert!(rt; seen(&layers, &path(&rt, alloc, "/a/b")) == Ok(second));
     }
     Ok(())
 }
@@ -97,6 +85,6 @@ fn places_all_parents(rt: HostRuntime) -> Result<(), Fail> {
     let alloc = rt.alloc();
     let mut layers = mount(alloc, RandomState::new(&rt)?, NESTED)?;
     assert!(rt; place_all(&mut layers, &path(&rt, alloc, "/a/b/new")) == Some(0));
-    assert!(rt; seen(&layers, &path(&rt, alloc, "/a/b")) == Some((0, 0o711)));
+    assert!(rt; seen(&layers, &path(&rt, alloc, "/a/b")) == Ok((0, 2, 0o711)));
     Ok(())
 }
