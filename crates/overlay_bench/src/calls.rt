@@ -1,7 +1,7 @@
 // Loads of whole calls, of a client on a mount.
 use crate::loads::since;
 use crate::manifests::{ManifestText, child};
-use crate::mounts::{mounted, path_of};
+use crate::mounts::{mounted, path_of, path_to};
 use ov_base::{Bytes, Call, Errno, OpenFlags, Reply};
 use private_mount::Mount;
 use std::alloc::{AllocError, Global};
@@ -55,10 +55,8 @@ fn stats(alloc: Global, series: Series<'_>, first: u32) -> Result<Vec<Call>, All
             .saturating_add(number)
             .checked_rem(series.names)
             .unwrap_or(0);
-        let text = child(alloc, series.parent, series.first, number)?;
-        calls.push(Call::Stat {
-            path: path_of(alloc, text.as_str())?,
-        })?;
+        let path = path_to(alloc, series.parent, series.first, number)?;
+        calls.push(Call::Stat { path })?;
     }
     Ok(calls)
 }

@@ -1,8 +1,8 @@
 // Loads of changes, each with its walk.
 use crate::loads::since;
 use crate::manifests::child;
-use crate::mounts::{layers_of, path_of};
-use crate::trees::{chained, flat};
+use crate::mounts::{flat_layers, layers_of, path_of, path_to};
+use crate::trees::chained;
 use make_remove::{create, mkdir, unlink};
 use merged_lookup::Layers;
 use ov_base::Path;
@@ -20,8 +20,8 @@ pub fn measure_create<C: Clock>(
     names: u32,
     count: u32,
 ) -> io::Result<(u64, u32)> {
-    let mut layers = layers_of(alloc, keys, &flat(alloc, names, true)?)?;
-    let path = path_of(alloc, child(alloc, "", "none-", 0)?.as_str())?;
+    let mut layers = flat_layers(alloc, names, true)?;
+    let path = path_to(alloc, "", "none-", 0)?;
     let start = Instant::now(clock)?;
     let done = create_often(alloc, &mut layers, &path, count)?;
     Ok((since(clock, start)?, done))
@@ -50,7 +50,7 @@ pub fn measure_whiteout<C: Clock>(
     names: u32,
     count: u32,
 ) -> io::Result<(u64, u32)> {
-    let mut layers = layers_of(alloc, keys, &flat(alloc, names, false)?)?;
+    let mut layers = flat_layers(alloc, names, false)?;
     let paths = paths_in(alloc, "", "name-", count.min(names))?;
     let start = Instant::now(clock)?;
     let done = unlink_all(&mut layers, &paths)?;
@@ -61,8 +61,7 @@ pub fn measure_whiteout<C: Clock>(
 fn paths_in(alloc: Global, parent: &str, first: &str, count: u32) -> Result<Vec<Path>, AllocError> {
     let mut paths = Vec::new(alloc);
     for number in 0..count {
-        let text = child(alloc, parent, first, number)?;
-        paths.push(path_of(alloc, text.as_str())?)?;
+        paths.push(path_to(alloc, parent, first, number)?)?;
     }
     Ok(paths)
 }

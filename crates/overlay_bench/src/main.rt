@@ -23,7 +23,7 @@ names of one directory that collide under fixed keys, others, and the same under
 stat below redirects in 17 layers: chains chains_absent chains_past chains_past_named chains_single chains_longer
 parts of calls: find walk walk16 insert names create1k create create100k whiteout1k whiteout whiteout100k parents";
 
-/// The lower layers of a call where the command line says nothing of them, as many as a mount takes.
+/// The most lower layers of a mount, and as many as a call has where the command line says nothing of them.
 const LOWERS: u32 = 16;
 
 // What the command line asks for.
@@ -40,6 +40,9 @@ fn asked<R: Env + AllocGlobal>(rt: &R) -> io::Result<Option<(Load, u32)>> {
         Some(lowers) => lowers.as_str().parse::<u32>().unwrap_or(0),
         None => LOWERS,
     };
+    if lowers == 0 || lowers > LOWERS {
+        return Ok(None);
+    }
     match count.as_str().parse::<u32>() {
         Ok(count) if count > 0 => Ok(Load::named(load.as_str(), lowers).map(|load| (load, count))),
         _ => Ok(None),

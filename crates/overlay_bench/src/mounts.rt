@@ -1,6 +1,7 @@
 // Mounts of the layers that manifests spell.
 
-use crate::manifests::ManifestText;
+use crate::manifests::{ManifestText, child};
+use crate::trees::flat;
 use merged_lookup::Layers;
 use ov_base::Path;
 use ov_wire::manifest_of;
@@ -18,6 +19,12 @@ pub fn layers_of(
         Ok((upper, lowers, _)) => Ok(Layers::new(upper, lowers)),
         Err(_) => Err(AllocError),
     }
+}
+
+/// Two layers, of which the upper or the lower one has so many empty files at its root.
+pub fn flat_layers(alloc: Global, files: u32, in_upper: bool) -> Result<Layers, AllocError> {
+    let manifest = flat(alloc, files, in_upper)?;
+    layers_of(alloc, &manifest)
 }
 
 /// A mount with a client, whose number follows.
@@ -39,4 +46,10 @@ pub fn path_of(alloc: Global, text: &str) -> Result<Path, AllocError> {
         Ok(path) => Ok(path),
         Err(_) => Err(AllocError),
     }
+}
+
+/// The path of a name of 12 bytes in a directory: these first five bytes and a number.
+pub fn path_to(alloc: Global, parent: &str, first: &str, number: u32) -> Result<Path, AllocError> {
+    let text = child(alloc, parent, first, number)?;
+    path_of(alloc, text.as_str())
 }

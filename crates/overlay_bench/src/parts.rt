@@ -1,8 +1,8 @@
 // Loads of the parts that calls are made of.
 use crate::loads::since;
-use crate::manifests::{child, nested};
-use crate::mounts::{layers_of, path_of};
-use crate::trees::{DIRECTORIES, bare, deep, flat};
+use crate::manifests::nested;
+use crate::mounts::{flat_layers, layers_of, path_to};
+use crate::trees::{DIRECTORIES, bare, deep};
 use dir_listing::names;
 use layer_tree::{Layer, Object, ROOT};
 use merged_lookup::Layers;
@@ -16,7 +16,7 @@ use std::time::Instant;
 // The path of the first file below the directories of `deep`.
 fn deep_path(alloc: Global) -> Result<Path, AllocError> {
     let parent = nested(alloc, DIRECTORIES)?;
-    path_of(alloc, child(alloc, parent.as_str(), "name-", 0)?.as_str())
+    path_to(alloc, parent.as_str(), "name-", 0)
 }
 
 /// Finding a path of four names in one layer, so often.
@@ -130,7 +130,7 @@ pub fn measure_names<C: Clock>(
     files: u32,
     count: u32,
 ) -> io::Result<(u64, u32)> {
-    let layers = layers_of(alloc, keys, &flat(alloc, files, false)?)?;
+    let layers = flat_layers(alloc, files, false)?;
     let start = Instant::now(clock)?;
     let listed = list_often(alloc, &layers, count)?;
     Ok((since(clock, start)?, listed))
