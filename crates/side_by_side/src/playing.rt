@@ -1,7 +1,7 @@
 // A script on the engine and on the slow reference, line by line.
 use ov_base::{Attributes, Bytes, Content, Path, UserAttributes};
 use ov_script::{Command, ReplyLine, command_of};
-use ov_server::play_run;
+use ov_server::{Input, Output, play_run};
 use plain_reference::{Builder, Origin, Reference};
 use std::alloc::Global;
 use std::process::Abort;
@@ -123,8 +123,9 @@ fn answer(
 // What the engine answers to the lines of a script, without the trees that it prints.
 pub fn engine_lines(alloc: Global, manifest: &str, script: &str) -> Result<String, Fail> {
     let mut written = Vec::new(alloc);
-    let mut reader = script.as_bytes();
-    play_run(alloc, manifest.as_bytes(), &mut reader, &mut written)
+    let mut input = Input::new(script.as_bytes());
+    let mut output = Output::new(alloc, &mut written);
+    play_run(alloc, manifest.as_bytes(), &mut input, &mut output)
         .ok()
         .ok_or("a run")?;
     let written = String::from_utf8(written).ok().ok_or("text")?;
