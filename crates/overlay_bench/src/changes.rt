@@ -20,7 +20,7 @@ pub fn measure_create<C: Clock>(
     names: u32,
     count: u32,
 ) -> io::Result<(u64, u32)> {
-    let mut layers = flat_layers(alloc, names, true)?;
+    let mut layers = flat_layers(alloc, keys, names, true)?;
     let path = path_to(alloc, "", "none-", 0)?;
     let start = Instant::now(clock)?;
     let done = create_often(alloc, &mut layers, &path, count)?;
@@ -50,7 +50,7 @@ pub fn measure_whiteout<C: Clock>(
     names: u32,
     count: u32,
 ) -> io::Result<(u64, u32)> {
-    let mut layers = flat_layers(alloc, names, false)?;
+    let mut layers = flat_layers(alloc, keys, names, false)?;
     let paths = paths_in(alloc, "", "name-", count.min(names))?;
     let start = Instant::now(clock)?;
     let done = unlink_all(&mut layers, &paths)?;

@@ -22,9 +22,14 @@ pub fn layers_of(
 }
 
 /// Two layers, of which the upper or the lower one has so many empty files at its root.
-pub fn flat_layers(alloc: Global, files: u32, in_upper: bool) -> Result<Layers, AllocError> {
+pub fn flat_layers(
+    alloc: Global,
+    keys: RandomState,
+    files: u32,
+    in_upper: bool,
+) -> Result<Layers, AllocError> {
     let manifest = flat(alloc, files, in_upper)?;
-    layers_of(alloc, &manifest)
+    layers_of(alloc, keys, &manifest)
 }
 
 /// A mount with a client, whose number follows.

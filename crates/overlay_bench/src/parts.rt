@@ -130,7 +130,7 @@ pub fn measure_names<C: Clock>(
     files: u32,
     count: u32,
 ) -> io::Result<(u64, u32)> {
-    let layers = flat_layers(alloc, files, false)?;
+    let layers = flat_layers(alloc, keys, files, false)?;
     let start = Instant::now(clock)?;
     let listed = list_often(alloc, &layers, count)?;
     Ok((since(clock, start)?, listed))
