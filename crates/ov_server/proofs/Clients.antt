@@ -1,8 +1,7 @@
 -- What commands leave of who is attached.
-use Rattle.std.proofs.Common.{◌≡◌, ◌≢◌, ◌∙◌, ℕ, ◌+◌, ◌^◌, Bool, true, false, ◌&&◌, ◌||◌, not, List, [], ◌∷◌, Option, Some, None, Result, Ok, Err, IfSome, MatchOption, refl, sym, ap, subst, cond, nat_eq, nat_lt, is_none, is_some, length, OnErr, OnOk, ◌⊎◌, inl, inr}
+use Rattle.std.proofs.Common.{◌≡◌, ◌∙◌, ℕ, ◌+◌, Bool, true, false, ◌&&◌, ◌||◌, not, List, Option, Some, None, Result, Ok, Err, IfSome, MatchOption, refl, sym, ap, subst, cond, nat_eq, is_none, is_some, length, OnErr, OnOk, ◌⊎◌, inl, inr}
 use Rattle.std.specs.BTreeMap.{get}
-use Rattle.std.specs.List.{list_any, filter}
-use Rattle.std.specs.Option.{option_map_or}
+use Rattle.std.specs.List.{list_any}
 use Rattle.std.specs.Ordering.{nat_cmp}
 use Rattle.std.specs.declared.alloc.AllocError.{AllocError}
 use Rattle.std.proofs.lemmas.Bool.{cases_Bool, cases_eq, eqb-false, eqb-true, ne_eqb}
@@ -22,14 +21,13 @@ use Rattle.ov_script.specs.declared.script.Command.{Command}
 use Rattle.ov_script.specs.declared.script.Command.TheVariants as command
 use Rattle.ov_script.specs.declared.script.CallText.{CallText}
 use Rattle.private_mount.specs.Attaching.{Attaches, ChangesClient, Detaches, opened_by}
-use Rattle.private_mount.specs.Mounts.{Answers, AnswersChange, AnswersRmdir, ChangesOrRefuses, GivesPage, IsAnswered, IsRefused, IsUnchanged, OpensDirectory, RemovesDirectory, Rewinds, ClosesDescriptor, UnlessRefused, list_fault, open_fault, seek_fault}
+use Rattle.private_mount.specs.Mounts.{Answers, AnswersChange, AnswersRmdir, IsAnswered, IsUnchanged, RemovesDirectory, UnlessRefused, list_fault, open_fault, seek_fault}
 use Rattle.private_mount.specs.Removing.{MarksRemoved}
 use Rattle.private_mount.specs.declared.clients.Clients.{Clients}
-use Rattle.private_mount.specs.declared.descriptors.Descriptors.{Descriptors}
 use Rattle.private_mount.specs.declared.descriptors.OpenDirectory.{OpenDirectory}
 use Rattle.private_mount.specs.declared.mount.Mount.{Mount}
 use Rattle.ov_server.specs.Plays.{CannotPlay, IsBadOn, IsRosterOf, KeepsClients, PlaysCommand, PlaysLine, layers_in}
-use Rattle.ov_server.specs.Rosters.{CommandLeaves, LineLeaves, Roster, command_in, is_attached, is_good, is_good_command, is_skipped, with_next, without}
+use Rattle.ov_server.specs.Rosters.{CommandLeaves, LineLeaves, Roster, command_in, is_attached, is_skipped, with_next, without}
 
 -- whether there is something
 abbrev there : {A : Type 0} → Option A → Bool

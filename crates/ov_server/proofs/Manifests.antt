@@ -1,5 +1,5 @@
 -- What the reading of a manifest answers.
-use Rattle.std.proofs.Common.{◌≡◌, ◌∙◌, ℕ, suc, Bool, true, false, List, [], ◌∷◌, Option, Some, None, Result, Ok, Err, IfSome, refl, sym, ap, subst, map, length, option_map, ◌⊎◌, inl, inr}
+use Rattle.std.proofs.Common.{◌≡◌, ◌∙◌, ℕ, suc, true, false, List, [], ◌∷◌, Option, Some, None, Result, Ok, Err, IfSome, refl, sym, ap, subst, map, length, option_map, ◌⊎◌, inl, inr}
 use Rattle.std.specs.Prelude.{IsUtf8}
 use Rattle.std.specs.Option.{option_map_or}
 use Rattle.std.specs.Str.{is_utf8}
@@ -15,9 +15,8 @@ use Rattle.ov_wire.specs.Manifests.{Refuses, items_len, layer_count}
 use Rattle.ov_wire.specs.ManifestLayers.{AreSpelled, IsTold, fault_of, layer_items, manifest_of}
 use Rattle.ov_wire.specs.declared.manifest.fault.ManifestFault.{ManifestFault}
 use Rattle.ov_wire.specs.declared.manifest.fault.ManifestFault.TheVariants as manifest
-use Rattle.ov_server.specs.declared.fault.Fault.{Fault}
-use Rattle.ov_server.specs.declared.fault.Fault.TheVariants.{CommandLine, NotText, CannotReadManifest, Manifest, Stream, BadCommand, Memory}
-use Rattle.ov_server.specs.Faults.{AnswersManifest, EndsByManifest, IsFaultOf, layers_told, manifest_fault}
+use Rattle.ov_server.specs.declared.fault.Fault.TheVariants.{Manifest, Memory}
+use Rattle.ov_server.specs.Faults.{AnswersManifest, IsFaultOf, layers_told, manifest_fault}
 
 -- what holds of bytes that are text and of those that are none holds
 either_text : (bytes : List ℕ) (P : Type 0) → (IsUtf8 bytes → P) → ((IsUtf8 bytes → ⊥) → P) → P

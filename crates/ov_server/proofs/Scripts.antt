@@ -1,11 +1,10 @@
 -- How the play of a script goes on from line to line.
-use Rattle.std.proofs.Common.{◌≡◌, ◌+◌, ◌<◌, ◌≤◌, ◌&&◌, ℕ, List, [], ◌∷◌, ◌++◌, Option, Some, None, Bool, true, false, cond, nat_eq, nat_lt, position, get_or, take, drop, length, refl, sym, ap, ◌∙◌, arith, append_assoc, append-nil, length-append, subst, IfErr, IfSome, MatchOption, OnOk, Result, Ok, Err, ◌⊎◌, inl, inr}
-use Rattle.std.specs.List.{All, list_all, position_or_len}
+use Rattle.std.proofs.Common.{◌≡◌, ◌+◌, ◌<◌, ◌≤◌, ℕ, List, [], ◌∷◌, ◌++◌, Option, Some, None, Bool, true, false, cond, nat_eq, nat_lt, position, get_or, take, drop, length, refl, sym, ap, ◌∙◌, arith, append_assoc, append-nil, length-append, subst, IfErr, IfSome, MatchOption, OnOk, Result, Ok, Err, inl, inr}
+use Rattle.std.specs.List.{All, position_or_len}
 use Rattle.std.specs.Io.KnownBytes.{Consumes, IsAtEnd, Keeps}
 use Rattle.std.proofs.lemmas.Bool.{ltb-true, ltb-false}
 use Rattle.std.proofs.lemmas.List.{get_or-take, length-take}
 use Rattle.std.proofs.lemmas.List.Elements.{All-append, All-nil}
-use Rattle.std.proofs.lemmas.List.Folds.{list_all-append}
 use Rattle.std.proofs.lemmas.List.Sums.{fails_before_first, passes_at_first, split_at_first}
 use Rattle.std.proofs.lemmas.List.Splits.{slice_split_none, slice_split_at}
 use Rattle.private_mount.specs.declared.mount.Mount.{Mount}
@@ -14,7 +13,7 @@ use Rattle.ov_server.specs.declared.fault.DeviceFault.TheVariants.{Stream, Memor
 use Rattle.ov_server.specs.declared.play.PlayFault.{PlayFault}
 use Rattle.ov_server.specs.declared.play.PlayFault.TheVariants.{BadLine, Device}
 use Rattle.ov_server.specs.Devices.{IsInputFault, IsToldBy, Notes, Reads}
-use Rattle.ov_server.specs.Plays.{BeginsOn, EndsBy, GoesOn, IsBadOn, IsLineFault, IsPlayFault, IsPlayed, IsRosterOf, IsStreamFault, PlaysLine, TellsPlay, layers_in}
+use Rattle.ov_server.specs.Plays.{BeginsOn, EndsBy, GoesOn, IsBadOn, IsLineFault, IsPlayFault, IsPlayed, IsStreamFault, PlaysLine, TellsPlay, layers_in}
 use Rattle.ov_server.specs.Rosters.{ArePlayed, LineLeaves, Roster, is_good, nobody}
 use Rattle.ov_server.specs.Scripts.{IsBadLine, IsGoodScript, script_lines}
 

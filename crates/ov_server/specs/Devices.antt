@@ -1,6 +1,6 @@
 -- What devices leave: their marks of failure, and what was read.
-use Rattle.std.specs.Prelude.{◌≡◌, ℕ, ◌≤◌, Bool, true, List, length, take, Option, Result, Ok, Err, ◌⊎◌}
-use Rattle.std.specs.Io.KnownBytes.{Consumes, IsAtEnd}
+use Rattle.std.specs.Prelude.{◌≡◌, ℕ, ◌≤◌, Bool, true, List, length, take, Option, MatchOption, Result, Ok, Err, ◌⊎◌}
+use Rattle.std.specs.Io.KnownBytes.{Consumes, IsAtEnd, Keeps}
 use Rattle.ov_server.specs.declared.fault.DeviceFault.{DeviceFault}
 use Rattle.ov_server.specs.declared.fault.DeviceFault.TheVariants.{Stream, Memory}
 
@@ -27,3 +27,7 @@ IsInputFault failed reads_left Memory = Unit {0}
 -- a read gave so many bytes, which stand first in a piece; none come only at the end
 abbrev pub Reads : Option (List ℕ) → Option (List ℕ) → ℕ → List ℕ → Type 0
 Reads before after count piece = (count ≤ length piece) × Consumes before after (take count piece) × (count ≡ 0 → IsAtEnd after)
+
+-- what a read gives: so many bytes, or none where it was interrupted
+abbrev pub Gives : Option (List ℕ) → Option (List ℕ) → Option ℕ → List ℕ → Type 0
+Gives before after read piece = MatchOption read (Keeps before after) (λ count. Reads before after count piece)

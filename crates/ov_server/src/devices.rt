@@ -2,7 +2,7 @@
 ghost use Rattle.std.specs.Prelude.{◌≡◌, ◌+◌, ◌<◌, ◌++◌, [], Some, false, true, length, IfErr, IfOk, MatchOption, OnOk, string_bytes};
 ghost use Rattle.std.specs.Io.KnownBytes.{Appends, Keeps};
 ghost use Rattle.ov_server.specs.Devices as devices;
-ghost use Rattle.ov_server.specs.Devices.{IsInputFault, Marks, Reads};
+ghost use Rattle.ov_server.specs.Devices.{Gives, IsInputFault, Marks};
 
 use crate::fault::DeviceFault;
 use std::alloc::Global;
@@ -46,7 +46,7 @@ impl<R: Read> Input<R> {
     /// How many bytes one read gives, 0 at the end; none where it was interrupted.
     pub fn read(&mut self, piece: &mut [u8]) -> Result<Option<usize>, DeviceFault>
         requires { 0 < length piece.old }
-        ensures ok { IfOk result (λ read. MatchOption read (Keeps (R.remaining self.old.reader) (R.remaining self.new.reader)) (λ count. Reads (R.remaining self.old.reader) (R.remaining self.new.reader) count piece.new)) }
+        ensures ok { IfOk result (λ read. Gives (R.remaining self.old.reader) (R.remaining self.new.reader) read piece.new) }
         ensures reads { OnOk result (self.new.reads_left + 1 ≡ self.old.reads_left) }
         ensures well { OnOk result (self.new.failed ≡ self.old.failed) }
         ensures err { IfErr result (IsInputFault self.new.failed self.new.reads_left) }
