@@ -202,7 +202,11 @@ fn called(
 }
 
 fn not_taken(alloc: Global, client: u32, errno: &str) -> Result<String, AllocError> {
-    format!(in alloc; "{client} not taken {errno}\n")
+    let mut line = format!(in alloc; "{client}")?;
+    line.push_str(" not taken ")?;
+    line.push_str(errno)?;
+    line.push_str("\n")?;
+    Ok(line)
 }
 
 fn replied(alloc: Global, client: u32, reply: &Reply) -> Result<Answer, AllocError> {
