@@ -66,7 +66,7 @@ fn push_call(alloc: Global, dice: &mut Dice, script: &mut String) -> Result<(), 
     let client = dice.roll(2);
     let small = dice.roll(4);
     let kind = dice.roll(13);
-    script.push_str(format!(in alloc; "{client} ")?.as_str())?;
+    push_around(alloc, client, ("", " "), script)?;
     if kind < 4 {
         push_descriptor_call(alloc, kind, small, script)?;
     } else {
@@ -82,13 +82,12 @@ fn push_descriptor_call(
     small: u8,
     script: &mut String,
 ) -> Result<(), AllocError> {
-    let call = match kind {
-        0 => format!(in alloc; "list {small} 2")?,
-        1 => format!(in alloc; "close {small}")?,
-        2 => format!(in alloc; "seek {small} 0 set")?,
-        _ => format!(in alloc; "seek 0 {small} cur")?,
-    };
-    script.push_str(call.as_str())
+    match kind {
+        0 => push_around(alloc, small, ("list ", " 2"), script),
+        1 => push_around(alloc, small, ("close ", ""), script),
+        2 => push_around(alloc, small, ("seek ", " 0 set"), script),
+        _ => push_around(alloc, small, ("seek 0 ", " cur"), script),
+    }
 }
 
 // A call but for its path.
@@ -100,13 +99,25 @@ fn push_path_call(
 ) -> Result<(), AllocError> {
     match kind {
         4 => script.push_str("stat "),
-        5 | 6 => script.push_str(format!(in alloc; "mkdir 7{small}0 ")?.as_str()),
+        5 | 6 => push_around(alloc, small, ("mkdir 7", "0 "), script),
         7 => script.push_str("open rd "),
         8 => script.push_str("readlink "),
-        9 => script.push_str(format!(in alloc; "symlink t{small} ")?.as_str()),
+        9 => push_around(alloc, small, ("symlink t", " "), script),
         10 | 11 => script.push_str("unlink "),
         _ => script.push_str("rmdir "),
     }
+}
+
+// A number between two texts.
+fn push_around(
+    alloc: Global,
+    number: u8,
+    (before, after): (&str, &str),
+    script: &mut String,
+) -> Result<(), AllocError> {
+    script.push_str(before)?;
+    script.push_str(format!(in alloc; "{number}")?.as_str())?;
+    script.push_str(after)
 }
 
 fn push_path(dice: &mut Dice, script: &mut String) -> Result<(), AllocError> {

@@ -8,7 +8,7 @@ use std::alloc::{AllocError, Global};
 use std::rt::Files;
 use std::{fs, io};
 
-/// Plays the rows of a file of lines `open FLAGS PATH MODE` and `fstat FD` by one client on the reference, and tells of each row. Gives
+/// Plays the rows of a file of lines `open FLAGS PATH MODE`, `seek FD WHENCE` and `fstat FD` by one client on the reference, and tells of each row. Gives
 /// how many agree.
 pub fn play_opens<R: Files + AllocGlobal + Print>(rt: &R, file: &str) -> io::Result<u64> {
     let text = fs::read_to_string(rt, file)?;
@@ -67,6 +67,9 @@ fn call_of(alloc: Global, line: &str) -> Result<Option<Call>, AllocError> {
     if let Some(descriptor) = line.strip_prefix("fstat ") {
         return Ok(fstat_of(descriptor));
     }
+    if let Some(words) = line.strip_prefix("seek ") {
+        return Ok(seek_of(words));
+    }
     let Some(words) = line.strip_prefix("open ") else {
         return Ok(None);
     };
@@ -83,6 +86,19 @@ fn fstat_of(descriptor: &str) -> Option<Call> {
     match descriptor.parse::<u32>() {
         Ok(descriptor) => Some(Call::Fstat { descriptor }),
         Err(_) => None,
+    }
+}
+
+// A seek to the start, by a descriptor and the number of a whence.
+fn seek_of(words: &str) -> Option<Call> {
+    let (descriptor, whence) = words.split_once(' ')?;
+    match (descriptor.parse::<u32>(), whence.parse::<u8>()) {
+        (Ok(descriptor), Ok(whence)) => Some(Call::Seek {
+            descriptor,
+            offset: 0,
+            whence,
+        }),
+        _ => None,
     }
 }
 

@@ -3,7 +3,7 @@ use crate::engine::run_of;
 use crate::mount::{PlainMount, mount_of};
 use crate::rows::Row;
 use crate::tree_lines::push_tree;
-use ov_base::{Errno, Reply};
+use ov_base::Reply;
 use ov_script::{CallText, Command, ReplyLine, command_of};
 use plain_reference::Reference;
 use std::hash::RandomState;
@@ -194,7 +194,7 @@ fn called(
         return Ok(Answer::BadCommand);
     }
     match call.call(alloc)? {
-        Err(errno) => not_taken(alloc, client, errno),
+        Err(errno) => Ok(Answer::Lines(not_taken(alloc, client, errno.text())?)),
         Ok(call) => match reference.call(client, &call)? {
             Some(reply) => replied(alloc, client, &reply),
             None => Ok(Answer::Lines(String::from_str(alloc, "not offered\n")?)),
@@ -202,9 +202,12 @@ fn called(
     }
 }
 
-fn not_taken(alloc: Global, client: u32, errno: Errno) -> Result<Answer, AllocError> {
-    let errno = errno.text();
-    Ok(Answer::Lines(format!(in alloc; "{client} not taken {errno}\n")?))
+fn not_taken(alloc: Global, client: u32, errno: &str) -> Result<String, AllocError> {
+    let mut line = format!(in alloc; "{client}")?;
+    line.push_str(" not taken ")?;
+    line.push_str(errno)?;
+    line.push_str("\n")?;
+    Ok(line)
 }
 
 fn replied(alloc: Global, client: u32, reply: &Reply) -> Result<Answer, AllocError> {

@@ -37,12 +37,14 @@ pub fn rows_in<'a>(alloc: Global, text: &'a str) -> Result<Vec<Row<'a>>, AllocEr
     Ok(rows)
 }
 
-fn empty_row(alloc: Global, name: &str) -> Row<'_> {
+fn empty_row<'a>(alloc: Global, name: &'a str) -> Row<'a> {
+    let manifest = Vec::new(alloc);
+    let wanted = Vec::new(alloc);
     Row {
         name,
-        manifest: Vec::new(alloc),
+        manifest,
         script: None,
-        wanted: Vec::new(alloc),
+        wanted,
     }
 }
 

@@ -72,7 +72,8 @@ fn push_words(
     lines: &mut String,
 ) -> Result<(), AllocError> {
     let words = StatWords(stat);
-    lines.push_str(format!(in alloc; "{words} ")?.as_str())?;
+    lines.push_str(format!(in alloc; "{words}")?.as_str())?;
+    lines.push_str(" ")?;
     if path.names().is_empty() {
         lines.push_str("/")?;
     }
