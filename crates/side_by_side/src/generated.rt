@@ -1,8 +1,8 @@
 // Scripts made by a seeded generator: names `a` to `c`, three names deep, two clients.
 use crate::engine::run_of;
 use crate::playing::reference_difference;
-use std::hash::RandomState;
 use std::alloc::{AllocError, Global};
+use std::hash::RandomState;
 use std::rt::Files;
 use std::{fs, io};
 
@@ -30,7 +30,11 @@ impl Dice {
 }
 
 /// Plays generated scripts over the manifest of a file, and tells how many get the same lines from the engine and from the reference.
-pub fn play_generated<R: Files + AllocGlobal + Print>(rt: &R, keys: RandomState, file: &str) -> io::Result<()> {
+pub fn play_generated<R: Files + AllocGlobal + Print>(
+    rt: &R,
+    keys: RandomState,
+    file: &str,
+) -> io::Result<()> {
     let manifest = fs::read(rt, file)?;
     let mut count = 0u64;
     for seed in 0..SCRIPTS {
@@ -42,7 +46,12 @@ pub fn play_generated<R: Files + AllocGlobal + Print>(rt: &R, keys: RandomState,
     println!(rt; "{count} generated scripts over {file} agree")
 }
 
-fn script_difference(alloc: Global, keys: RandomState, manifest: &[u8], seed: u64) -> io::Result<Option<String>> {
+fn script_difference(
+    alloc: Global,
+    keys: RandomState,
+    manifest: &[u8],
+    seed: u64,
+) -> io::Result<Option<String>> {
     let script = script_of(alloc, seed)?;
     let script = script.as_bytes();
     let engine = run_of(alloc, keys, manifest, Some(script))?;

@@ -56,7 +56,11 @@ fn main(rt: HostRuntime) -> io::Result<()> {
 }
 
 // Plays the rows of a file, tells of each, and gives how many agree.
-fn play_file<R: Files + AllocGlobal + Print>(rt: &R, keys: RandomState, file: &str) -> io::Result<u64> {
+fn play_file<R: Files + AllocGlobal + Print>(
+    rt: &R,
+    keys: RandomState,
+    file: &str,
+) -> io::Result<u64> {
     let text = fs::read_to_string(rt, file)?;
     let mut count = 0u64;
     for row in rows_in(rt.alloc(), text.as_str())? {

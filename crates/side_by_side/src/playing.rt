@@ -6,8 +6,8 @@ use crate::tree_lines::push_tree;
 use ov_base::Reply;
 use ov_script::{CallText, Command, ReplyLine, command_of};
 use plain_reference::Reference;
-use std::hash::RandomState;
 use std::alloc::{AllocError, Global};
+use std::hash::RandomState;
 use std::io;
 
 /// What the reference answers to a line.

@@ -12,7 +12,11 @@ use std::process::Abort;
 use std::test::Fail;
 
 // The layers and options of a manifest.
-pub fn read(alloc: Global, keys: RandomState, manifest: &str) -> Result<(Layer, Vec<Layer>, Options), ManifestFault>
+pub fn read(
+    alloc: Global,
+    keys: RandomState,
+    manifest: &str,
+) -> Result<(Layer, Vec<Layer>, Options), ManifestFault>
     ensures some_lower { IfOk result (λ r. 0 < vec_len r.1) }
     ensures few_lowers { IfOk result (λ r. vec_len r.1 ≤ 16) }
 {
