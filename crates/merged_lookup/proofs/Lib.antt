@@ -3,3 +3,4 @@ pub mod Looking
 pub mod Passing
 pub mod Rows
 pub mod Walking
+pub mod Ways

@@ -1,5 +1,5 @@
 -- What one step, and a walk of several, show.
-use Rattle.std.proofs.Common.{◌≡◌, ℕ, suc, ◌<◌, ◌≤◌, ◌+◌, ◌++◌, Bool, true, false, not, List, [], ◌∷◌, Option, None, Some, refl, sym, ap, ◌∙◌, subst, is_some, length, map, slice_get, drop, take, reverse, arith, nat_eq, cond, get_or, MatchOption}
+use Rattle.std.proofs.Common.{◌≡◌, ℕ, suc, ◌<◌, ◌≤◌, ◌+◌, ◌++◌, Bool, true, false, not, List, [], ◌∷◌, Option, None, Some, refl, sym, ap, ◌∙◌, subst, is_some, length, map, slice_get, drop, take, reverse, arith, nat_eq, cond, get_or, MatchOption, option_map}
 use Rattle.std.proofs.lemmas.List.{reverse-reverse, reverse-append, length-reverse, take-append-drop, length-map}
 use Rattle.std.specs.Option.{option_and_then}
 use Rattle.slab.specs.Slab.{get}
@@ -11,15 +11,19 @@ use Rattle.layer_tree.specs.Tree.{Tree, layer_of, inode_at, inode_of}
 use Rattle.merged_lookup.specs.declared.stack.Place.{Place}
 use Rattle.merged_lookup.specs.declared.stack.Stack.{Stack}
 use Rattle.merged_lookup.specs.declared.layers.Layers.{Layers}
-use Rattle.merged_lookup.specs.Merged.{trees, layers_of, IsStackOf, ShowsDirectory, ShowsInode, ShowsNothing, level, unless_cut, places_at, top_of, fault, or_else, way_fault, inode_fault, node_in}
+use Rattle.merged_lookup.specs.declared.found.Found.{Found}
+use Rattle.merged_lookup.specs.declared.found.Found.TheVariants as found
+use Rattle.merged_lookup.specs.Merged.{trees, layers_of, IsStackOf, ShowsDirectory, ShowsInode, ShowsNothing, IsAnswer, level, unless_cut, places_at, top_of, fault, or_else, way_fault, inode_fault, node_in}
 use Rattle.merged_lookup.specs.Descent.{places_from, descend, first, without_upper}
 use Rattle.merged_lookup.proofs.Descending.{IsTop, top-shown, place_of, first-places, first-unless, shown-inode, shown-none, walk-step, descend-places, descend-unless, length-places, drop-get, reverse-more}
 
-top-of : (s : List Place) (x : Option Shown) → 0 < length s → IsTop s x → (a : Attributes) × (x ≡ Some (Folder (top_of s).layer (top_of s).key a))
+-- the first of some places is the directory shown
+pub top-of : (s : List Place) (x : Option Shown) → 0 < length s → IsTop s x → (a : Attributes) × (x ≡ Some (Folder (top_of s).layer (top_of s).key a))
 top-of [] x h t = absurd (omega (arith, h))
 top-of (d ∷ ds) x h t = t
 
-no-top : (s : List Place) (x : Option Shown) → length s ≡ 0 → IsTop s x → is_directory x ≡ false
+-- without a place none is
+pub no-top : (s : List Place) (x : Option Shown) → length s ≡ 0 → IsTop s x → is_directory x ≡ false
 no-top [] x h t = t
 no-top (d ∷ ds) x h t = absurd (omega (arith, h))
 
@@ -58,6 +62,17 @@ module _ (l : Layers) (s : Stack) (asked : List Place) (same : asked ≡ s.place
 
   pub step-none : first (trees l) asked n ≡ None → ShowsNothing l (n ∷ p)
   step-none e = record { shown = step-nothing (trees l) asked p n few (same ∙ is.places) reached exact e }
+
+  pub step-found : (o : Option Place) → length reached ≡ 0 → first (trees l) asked n ≡ o → IsAnswer l (n ∷ p) (option_map found.Inode o)
+  step-found None h e = step-none e
+  step-found (Some d) h e = step-inode d h e
+
+-- an answer that is an inode, and one that is nothing
+pub answer-inode : (l : Layers) (p : Path) (o : Option Found) (d : Place) → o ≡ Some (found.Inode d) → IsAnswer l p o → ShowsInode l p d
+answer-inode l p o d e h = let P : Option Found → Type 0 = IsAnswer l p in subst P e h
+
+pub answer-none : (l : Layers) (p : Path) (o : Option Found) → o ≡ None → IsAnswer l p o → ShowsNothing l p
+answer-none l p o e h = let P : Option Found → Type 0 = IsAnswer l p in subst P e h
 
 is_some-place : (x : Option Shown) → is_some (place_of x) ≡ is_some x
 is_some-place None = refl

@@ -78,13 +78,20 @@ fn cross<'a>(layer: &'a Layer, spelling: &Spelling<'a>) -> Crossing<'a>
     crossing
 }
 
-// The directories at a path of the layers from this one on. Each layer is gone through once, by its own spelling of the path, so the
-// look-ups are at most about the square of the layers times the names of the path and of the redirects that count.
+// The directories at a path of the layers from this one on.
 pub(crate) fn walk_below<'a>(layers: &'a Layers, first: usize, path: &'a Path) -> Places
     ensures { result.items ≡ places_from first (trees layers.now) path.now }
 {
+    cross_all(layers, first, path.names())
+}
+
+// The directories that names lead to from the roots of the layers from this one on. Each layer is gone through once, by its own spelling of the
+// names, so the look-ups are at most about the square of the layers times these names and those of the redirects that count.
+pub(crate) fn cross_all<'a>(layers: &'a Layers, first: usize, names: &'a [Name]) -> Places
+    ensures { result.items ≡ places_from first (trees layers.now) (reverse names.now) }
+{
     let mut places = Places::new();
-    let mut spelling = Spelling::new(&layers.upper, path.names());
+    let mut spelling = Spelling::new(&layers.upper, names);
     for index in first..layers.count() {
         let Some(layer) = layers.layer(index) else {
             return places;

@@ -1,12 +1,13 @@
 // The layers of a mount.
-ghost use Rattle.std.specs.Prelude.{◌≡◌, ◌<◌, ◌≤◌, ◌∷◌, [], List, ℕ, Option, length, slice_get, Some, None, is_some, IsOk, IfOk, IfErr, MatchOption, ◌↔◌, reverse};
+ghost use Rattle.std.specs.Prelude.{◌≡◌, ◌≢◌, ◌+◌, ◌<◌, ◌≤◌, ◌∷◌, [], List, ℕ, Option, length, slice_get, Some, None, is_some, IsOk, IfOk, IfErr, MatchOption, ◌↔◌, reverse, take};
 ghost use Rattle.std.specs.Vec.{vec_len};
 ghost use Rattle.std.specs.Option.{option_copied, option_and_then};
 ghost use Rattle.plain_model.specs.Layers.{Path, shows, is_directory, under};
 ghost use Rattle.layer_tree.specs.Tree.{layer_of, inode_of};
 
-use crate::descent::{below_upper, descend, first_object, roots};
-use crate::found::{Found, Look};
+use crate::crossing::cross_all;
+use crate::descent::{Descent, below_upper, descend, first_object, roots};
+use crate::found::{Found, Look, Step};
 use crate::stack::{Place, Stack};
 use layer_tree::{Inode, Layer, Node};
 use ov_base::{Content, Errno, Name, Path};
@@ -25,7 +26,7 @@ pub struct Layers {
 
 impl Layers {
     ghost use Rattle.merged_lookup.specs.Merged.{trees, node_in, layers_of, lowers_of, IsStackOf, IsAnswer, IsFound, IsLook, parents_fault, walk_fault, way_fault, inode_fault};
-    ghost use Rattle.merged_lookup.specs.Descent.{first};
+    ghost use Rattle.merged_lookup.specs.Descent.{first, places_from};
 
     /// An upper layer over 1 to 16 lower ones, the nearest first.
     pub fn new(upper: Layer, lowers: Vec<Layer>) -> Layers
@@ -75,12 +76,21 @@ impl Layers {
     pub fn step(&self, stack: &Stack, name: &Name) -> Option<Found>
         ensures { (p : Path) → IsStackOf self.now p stack.now → IsAnswer self.now (name.now ∷ p) result }
     {
+        self.step_on(stack, name).found
+    }
+
+    /// `step`, telling whether it crossed the layers.
+    fn step_on(&self, stack: &Stack, name: &Name) -> Step
+        ensures { (p : Path) → IsStackOf self.now p stack.now → IsAnswer self.now (name.now ∷ p) result.found }
+    {
         let asked = stack.places();
-        let places = descend(self, 0, asked, name);
+        let Descent { places, crossed } = descend(self, 0, asked, name);
         if !places.is_empty() {
-            return Some(Found::Directory(Stack { places }));
+            let found = Some(Found::Directory(Stack { places }));
+            return Step { found, crossed };
         }
-        Some(Found::Inode(first_object(self, asked, name)?))
+        let found = first_object(self, asked, name).map(Found::Inode);
+        Step { found, crossed }
     }
 
     /// Whether a name shows something in a merged directory.
@@ -119,20 +129,71 @@ impl Layers {
         }
     }
 
-    /// The directory that names lead to from the root.
+    /// The directory that names lead to from the root, name by name as long as no more than one of them crosses the layers.
     fn directory(&self, names: &[Name]) -> Result<Stack, Errno>
         ensures found { IfOk result (λ s. (way_fault (layers_of self.now) (reverse names.now) ≡ None) × IsStackOf self.now (reverse names.now) s) }
         ensures refused { IfErr result (λ e. way_fault (layers_of self.now) (reverse names.now) ≡ Some e) }
     {
         let mut stack = self.root();
+        let mut crossed = false;
         for name in names {
-            match self.step(&stack, name) {
+            let step = self.step_on(&stack, name);
+            if crossed && step.crossed {
+                return self.directory_at_once(names);
+            }
+            crossed |= step.crossed;
+            match step.found {
                 Some(Found::Directory(next)) => stack = next,
                 Some(Found::Inode(place)) => return Err(self.blocked(place)),
                 None => return Err(Errno::ENOENT),
             }
         }
         Ok(stack)
+    }
+
+    /// `directory` by one crossing of the layers where there is one, whatever redirects are on the way.
+    fn directory_at_once(&self, names: &[Name]) -> Result<Stack, Errno>
+        ensures found { IfOk result (λ s. (way_fault (layers_of self.now) (reverse names.now) ≡ None) × IsStackOf self.now (reverse names.now) s) }
+        ensures refused { IfErr result (λ e. way_fault (layers_of self.now) (reverse names.now) ≡ Some e) }
+    {
+        let places = cross_all(self, 0, names);
+        if places.is_empty() {
+            return Err(self.fault_on(names));
+        }
+        Ok(Stack { places })
+    }
+
+    /// Why names lead to no directory: the fault of the first one that leads to none.
+    fn fault_on(&self, names: &[Name]) -> Errno
+        requires nowhere { places_from 0 (trees self.now) (reverse names.now) ≡ [] }
+        ensures { way_fault (layers_of self.now) (reverse names.now) ≡ Some result }
+    {
+        let directories = self.directories_on(names);
+        let parent = cross_all(self, 0, &names[..directories]);
+        match first_object(self, parent.as_slice(), &names[directories]) {
+            Some(place) => self.blocked(place),
+            None => Errno::ENOENT,
+        }
+    }
+
+    /// How many of the names lead to directories, by about as many crossings of the layers as their number has binary digits.
+    fn directories_on(&self, names: &[Name]) -> usize
+        requires nowhere { places_from 0 (trees self.now) (reverse names.now) ≡ [] }
+        ensures within { result < length names.now }
+        ensures directory { places_from 0 (trees self.now) (reverse (take result names.now)) ≢ [] }
+        ensures nowhere { places_from 0 (trees self.now) (reverse (take (result + 1) names.now)) ≡ [] }
+    {
+        let mut directories = 0;
+        let mut beyond = names.len();
+        while beyond - directories > 1 {
+            let middle = directories + (beyond - directories) / 2;
+            if cross_all(self, 0, &names[..middle]).is_empty() {
+                beyond = middle;
+            } else {
+                directories = middle;
+            }
+        }
+        directories
     }
 
     /// Why a walk can't go on from an inode: a symbolic link, which isn't followed, is ELOOP, and a file is ENOTDIR.
@@ -156,7 +217,9 @@ impl Layers {
     pub fn lowers_show_directory(&self, parent: &Stack, name: &Name) -> bool
         ensures { (p : Path) → IsStackOf self.now p parent.now → result ≡ is_directory (under (layer_of self.now.upper) (lowers_of self.now) name.now p) }
     {
-        !descend(self, 1, below_upper(parent.places()), name).is_empty()
+        !descend(self, 1, below_upper(parent.places()), name)
+            .places
+            .is_empty()
     }
 
     /// Whether the lower layers show something at a name of a merged directory, whatever the upper has there.
