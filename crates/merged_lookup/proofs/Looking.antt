@@ -1,5 +1,5 @@
 -- What one step, and a walk of several, show.
-use Rattle.std.proofs.Common.{◌≡◌, ℕ, suc, ◌<◌, ◌≤◌, ◌+◌, ◌++◌, Bool, true, false, not, List, [], ◌∷◌, Option, None, Some, refl, sym, ap, ◌∙◌, subst, is_some, length, map, slice_get, drop, take, reverse, arith, nat_eq, cond, get_or, MatchOption, option_map}
+use Rattle.std.proofs.Common.{◌≡◌, ℕ, suc, ◌<◌, ◌≤◌, ◌+◌, ◌++◌, Bool, true, false, not, List, [], ◌∷◌, Option, None, Some, refl, sym, ap, ◌∙◌, subst, is_some, length, map, slice_get, drop, take, reverse, arith, nat_eq, cond, get_or, MatchOption}
 use Rattle.std.proofs.lemmas.List.{reverse-reverse, reverse-append, length-reverse, take-append-drop, length-map}
 use Rattle.std.specs.Option.{option_and_then}
 use Rattle.slab.specs.Slab.{get}
@@ -62,10 +62,6 @@ module _ (l : Layers) (s : Stack) (asked : List Place) (same : asked ≡ s.place
 
   pub step-none : first (trees l) asked n ≡ None → ShowsNothing l (n ∷ p)
   step-none e = record { shown = step-nothing (trees l) asked p n few (same ∙ is.places) reached exact e }
-
-  pub step-found : (o : Option Place) → length reached ≡ 0 → first (trees l) asked n ≡ o → IsAnswer l (n ∷ p) (option_map found.Inode o)
-  step-found None h e = step-none e
-  step-found (Some d) h e = step-inode d h e
 
 -- an answer that is an inode, and one that is nothing
 pub answer-inode : (l : Layers) (p : Path) (o : Option Found) (d : Place) → o ≡ Some (found.Inode d) → IsAnswer l p o → ShowsInode l p d

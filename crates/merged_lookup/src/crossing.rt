@@ -85,8 +85,8 @@ pub(crate) fn walk_below<'a>(layers: &'a Layers, first: usize, path: &'a Path) -
     cross_all(layers, first, path.names())
 }
 
-// The directories that names lead to from the roots of the layers from this one on. Each layer is gone through once, by its own spelling of the
-// names, so the look-ups are at most about the square of the layers times these names and those of the redirects that count.
+// The directories that names lead to from the roots of the layers from this one on. Each layer is gone through once, by its own spelling
+// of the names, so the look-ups are at most about the square of the layers times these names and those of the redirects that count.
 pub(crate) fn cross_all<'a>(layers: &'a Layers, first: usize, names: &'a [Name]) -> Places
     ensures { result.items ≡ places_from first (trees layers.now) (reverse names.now) }
 {

@@ -23,23 +23,18 @@ pub(crate) fn roots(layers: &Layers, first: usize) -> Places
     places
 }
 
-// What a name leads to.
-#[derive(Drop)]
-pub(crate) struct Descent {
-    // The directories, top first.
-    pub(crate) places: Places,
-    // Whether an absolute redirect led to some of them, for which the layers were crossed from their roots.
-    pub(crate) crossed: bool,
-}
-
-// The directories that a name leads to from these places, of layers from `floor` on.
-pub(crate) fn descend(layers: &Layers, floor: usize, places: &[Place], name: &Name) -> Descent
-    ensures { length (down.descend floor (trees layers.now) places.now name.now) ≤ 17 → result.places.items ≡ down.descend floor (trees layers.now) places.now name.now }
+// The directories that a name leads to from these places, of layers from `floor` on. Where an absolute redirect led to some of them, for
+// which the layers below were crossed, `crossed` is set.
+pub(crate) fn descend(
+    layers: &Layers,
+    floor: usize,
+    places: &[Place],
+    name: &Name,
+    crossed: &mut bool,
+) -> Places
+    ensures { length (down.descend floor (trees layers.now) places.now name.now) ≤ 17 → result.items ≡ down.descend floor (trees layers.now) places.now name.now }
 {
-    let mut reached = Descent {
-        places: Places::new(),
-        crossed: false,
-    };
+    let mut reached = Places::new();
     let mut asked = name;
     for place in places {
         if place.layer < floor {
@@ -52,20 +47,17 @@ pub(crate) fn descend(layers: &Layers, floor: usize, places: &[Place], name: &Na
             Onward::Through => {}
             Onward::Whiteout | Onward::Inode(_) => return reached,
             Onward::Last(key) => {
-                reach(&mut reached.places, place.layer, key);
+                reach(&mut reached, place.layer, key);
                 return reached;
             }
             Onward::By(key, other) => {
-                reach(&mut reached.places, place.layer, key);
+                reach(&mut reached, place.layer, key);
                 asked = other;
             }
             Onward::From(key, path) => {
-                reach(&mut reached.places, place.layer, key);
-                append(
-                    &mut reached.places,
-                    &walk_below(layers, place.layer + 1, path),
-                );
-                reached.crossed = true;
+                reach(&mut reached, place.layer, key);
+                append(&mut reached, &walk_below(layers, place.layer + 1, path));
+                *crossed = true;
                 return reached;
             }
         }

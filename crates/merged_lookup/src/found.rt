@@ -14,10 +14,3 @@ pub enum Look {
     Found(Found),
     Absent(Stack),
 }
-
-// What one step finds, and whether it crossed the layers by an absolute redirect.
-#[derive(Drop)]
-pub(crate) struct Step {
-    pub(crate) found: Option<Found>,
-    pub(crate) crossed: bool,
-}

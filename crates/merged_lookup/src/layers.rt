@@ -6,8 +6,8 @@ ghost use Rattle.plain_model.specs.Layers.{Path, shows, is_directory, under};
 ghost use Rattle.layer_tree.specs.Tree.{layer_of, inode_of};
 
 use crate::crossing::cross_all;
-use crate::descent::{Descent, below_upper, descend, first_object, roots};
-use crate::found::{Found, Look, Step};
+use crate::descent::{below_upper, descend, first_object, roots};
+use crate::found::{Found, Look};
 use crate::stack::{Place, Stack};
 use layer_tree::{Inode, Layer, Node};
 use ov_base::{Content, Errno, Name, Path};
@@ -76,21 +76,19 @@ impl Layers {
     pub fn step(&self, stack: &Stack, name: &Name) -> Option<Found>
         ensures { (p : Path) → IsStackOf self.now p stack.now → IsAnswer self.now (name.now ∷ p) result }
     {
-        self.step_on(stack, name).found
+        self.step_on(stack, name, &mut false)
     }
 
-    /// `step`, telling whether it crossed the layers.
-    fn step_on(&self, stack: &Stack, name: &Name) -> Step
-        ensures { (p : Path) → IsStackOf self.now p stack.now → IsAnswer self.now (name.now ∷ p) result.found }
+    /// `step`, which sets `crossed` where it crossed the layers.
+    fn step_on(&self, stack: &Stack, name: &Name, crossed: &mut bool) -> Option<Found>
+        ensures { (p : Path) → IsStackOf self.now p stack.now → IsAnswer self.now (name.now ∷ p) result }
     {
         let asked = stack.places();
-        let Descent { places, crossed } = descend(self, 0, asked, name);
+        let places = descend(self, 0, asked, name, crossed);
         if !places.is_empty() {
-            let found = Some(Found::Directory(Stack { places }));
-            return Step { found, crossed };
+            return Some(Found::Directory(Stack { places }));
         }
-        let found = first_object(self, asked, name).map(Found::Inode);
-        Step { found, crossed }
+        Some(Found::Inode(first_object(self, asked, name)?))
     }
 
     /// Whether a name shows something in a merged directory.
@@ -137,12 +135,13 @@ impl Layers {
         let mut stack = self.root();
         let mut crossed = false;
         for name in names {
-            let step = self.step_on(&stack, name);
-            if crossed && step.crossed {
+            let mut again = false;
+            let found = self.step_on(&stack, name, &mut again);
+            if crossed && again {
                 return self.directory_at_once(names);
             }
-            crossed |= step.crossed;
-            match step.found {
+            crossed |= again;
+            match found {
                 Some(Found::Directory(next)) => stack = next,
                 Some(Found::Inode(place)) => return Err(self.blocked(place)),
                 None => return Err(Errno::ENOENT),
@@ -151,7 +150,7 @@ impl Layers {
         Ok(stack)
     }
 
-    /// `directory` by one crossing of the layers where there is one, whatever redirects are on the way.
+    /// `directory`, whatever redirects are on the way: by one crossing of the layers, and a few more where there is no directory.
     fn directory_at_once(&self, names: &[Name]) -> Result<Stack, Errno>
         ensures found { IfOk result (λ s. (way_fault (layers_of self.now) (reverse names.now) ≡ None) × IsStackOf self.now (reverse names.now) s) }
         ensures refused { IfErr result (λ e. way_fault (layers_of self.now) (reverse names.now) ≡ Some e) }
@@ -217,9 +216,7 @@ impl Layers {
     pub fn lowers_show_directory(&self, parent: &Stack, name: &Name) -> bool
         ensures { (p : Path) → IsStackOf self.now p parent.now → result ≡ is_directory (under (layer_of self.now.upper) (lowers_of self.now) name.now p) }
     {
-        !descend(self, 1, below_upper(parent.places()), name)
-            .places
-            .is_empty()
+        !descend(self, 1, below_upper(parent.places()), name, &mut false).is_empty()
     }
 
     /// Whether the lower layers show something at a name of a merged directory, whatever the upper has there.

@@ -9,8 +9,8 @@ pub returns-in-Some-Inode-clause-refused : goal.returns-in-Some-Inode-clause-ref
 returns-in-Some-Inode-clause-refused c =
     let before = reverse (take c.loop-name.name-index c.args.names.now) in
     let way = c.name-item.result ∷ before in
-    let is : c.step_on-step.result.found ≡ Some (found.Inode c.in-Some-Inode.place) = search rules in
-    let shown : ShowsInode c.args.self.now way c.in-Some-Inode.place = answer-inode c.args.self.now way c.step_on-step.result.found c.in-Some-Inode.place is (c.step_on-step.ensures before c.loop-name.invariant.1) in
+    let is : c.step_on-found.result ≡ Some (found.Inode c.in-Some-Inode.place) = search rules in
+    let shown : ShowsInode c.args.self.now way c.in-Some-Inode.place = answer-inode c.args.self.now way c.step_on-found.result c.in-Some-Inode.place is (c.step_on-found.ensures before c.loop-name.invariant.1) in
     fault-at c.args.self.now c.args.names.now c.loop-name.name-index c.name-item.result c.blocked.result c.loop-name-test.true c.name-item.is c.loop-name.invariant.0
     (inode-fault c.args.self.now way c.in-Some-Inode.place shown ∙ ap Some (sym c.blocked.ensures))
 
@@ -18,6 +18,6 @@ pub returns-in-None-clause-refused : goal.returns-in-None-clause-refused
 returns-in-None-clause-refused c =
     let before = reverse (take c.loop-name.name-index c.args.names.now) in
     let way = c.name-item.result ∷ before in
-    let shown : ShowsNothing c.args.self.now way = answer-none c.args.self.now way c.step_on-step.result.found c.in-None.is (c.step_on-step.ensures before c.loop-name.invariant.1) in
+    let shown : ShowsNothing c.args.self.now way = answer-none c.args.self.now way c.step_on-found.result c.in-None.is (c.step_on-found.ensures before c.loop-name.invariant.1) in
     fault-at c.args.self.now c.args.names.now c.loop-name.name-index c.name-item.result errno.ENOENT c.loop-name-test.true c.name-item.is c.loop-name.invariant.0
     (nothing-fault c.args.self.now way shown)
