@@ -1,5 +1,5 @@
 -- What a mount shows before and after its upper gains a directory.
-use Rattle.std.proofs.Common.{is_some, ◌≡◌, ◌≢◌, ℕ, suc, ◌+◌, ◌<◌, Bool, true, false, List, [], ◌∷◌, ◌++◌, Option, None, Some, refl, sym, ap, ◌∙◌, subst, length, map, drop, take, reverse, get_or, arith, Result, Ok, Err, OnErr, ◌⊎◌, inl, inr}
+use Rattle.std.proofs.Common.{is_some, ◌≡◌, ◌≢◌, ℕ, suc, ◌+◌, ◌<◌, Bool, true, false, List, [], ◌∷◌, ◌++◌, Option, None, Some, refl, sym, ap, ap₂, ◌∙◌, subst, length, map, drop, take, reverse, get_or, arith, Result, Ok, Err, OnErr, ◌⊎◌, inl, inr}
 use Rattle.std.proofs.lemmas.Bool.{false≢true}
 use Rattle.ov_base.specs.declared.attributes.Attributes.{Attributes}
 use Rattle.ov_base.specs.declared.errno.Errno.{Errno}
@@ -10,7 +10,9 @@ use Rattle.plain_model.specs.Machine.{State}
 use Rattle.mount_laws.specs.Looks.{IsMountOf}
 use Rattle.mount_laws.proofs.Places.{law_of_placed_parent, longer}
 use Rattle.mount_laws.proofs.Alters.{law_of_thin}
-use Rattle.plain_model.proofs.Uppers.{AgreeTo, agree-where, under-agree, merged-agree}
+use Rattle.plain_model.proofs.Uppers.{AgreeTo, agree-where, through-agree, under-agree, merged-meld}
+use Rattle.slab.specs.Slab.{get}
+use Rattle.layer_tree.specs.Nameless.{KeepsObjects}
 use Rattle.layer_tree.specs.Tree.{Tree, layer_of, inode_at, SetsPath, SameObjects}
 use Rattle.merged_lookup.specs.declared.stack.Place.{Place}
 use Rattle.merged_lookup.specs.declared.stack.Stack.{Stack}
@@ -18,8 +20,9 @@ use Rattle.merged_lookup.specs.declared.layers.Layers.{Layers}
 use Rattle.merged_lookup.specs.Merged.{level, unless_cut, places_at, top_of, lowers_of, layers_of, or_else, fault, way_fault, IsStackOf, ShowsDirectory}
 use Rattle.merged_lookup.proofs.Descending.{reverse-more}
 use Rattle.merged_lookup.proofs.Looking.{head-places, head-unless, reverse-parts}
-use Rattle.copy_up.specs.Showing.{PassesSame, ShowsSame, HasPlace, is_object, Stays, GainsParent}
-use Rattle.copy_up.proofs.Placing.{nothing-held, some-not-none, agree-placed, placed-same, placed-absent, shows-agree, IsHeldDirectory, top-held, free-folder}
+use Rattle.copy_up.specs.Showing.{PassesSame, ShowsSame, HasPlace, is_object, Stays, StaysLayers, StaysMount, StaysThin, GainsParent, IsParent, GainsParents}
+use Rattle.copy_up.proofs.Frames.{gains-one}
+use Rattle.copy_up.proofs.Placing.{nothing-held, some-not-none, agree-placed, placed-same, placed-absent, IsHeldDirectory, top-held, free-folder}
 
 pub same-self : (l : Layers) → ShowsSame l l
 same-self l = record { lowers = refl; sights = λ p. refl; absent = λ p h. h; passes = record { cuts = λ p. refl; spelling = λ p. refl } }
@@ -63,18 +66,6 @@ place-of l p s n is top free =
 pub lowers-same : (old new : Layers) → new.lowers ≡ old.lowers → lowers_of new ≡ lowers_of old
 lowers-same old new low = ap (λ v. map layer_of v.items) low
 
--- an upper that holds the same everywhere shows the same
-pub same-unchanged : (old new : Layers) → new.lowers ≡ old.lowers → SameObjects (layer_of old.upper) (layer_of new.upper) → ((k : ℕ) → inode_at new.upper k ≡ inode_at old.upper k) → ShowsSame old new
-same-unchanged old new low same inodes =
-    let agree : (x : Path) → AgreeTo (layer_of old.upper) (layer_of new.upper) x = λ x. agree-where (layer_of old.upper) (layer_of new.upper) (λ _. Unit {0}) (λ k y u. tt) (λ y u. same y) x tt in
-    let i : (layer_of new.upper).inodes ≡ (layer_of old.upper).inodes = inodes-same old.upper new.upper inodes in
-    record {
-      lowers = low;
-      sights = λ p. ap (λ Ls. merged (layer_of new.upper) Ls p) (lowers-same old new low) ∙ merged-agree (layer_of old.upper) (layer_of new.upper) (lowers_of old) p i (same p) (agree p);
-      absent = λ p h. ap (λ Ls. shows 0 (layer_of new.upper ∷ Ls) p) (lowers-same old new low) ∙ shows-agree (layer_of old.upper) (layer_of new.upper) (lowers_of old) p i (same p) (agree p) ∙ h;
-      passes = record { cuts = λ p. (agree p).cut_alike; spelling = λ p. (agree p).spelled };
-    }
-
 -- linked names are linked by another upper that names the same
 pub linked-by : (U V : Layer) → ((p : Path) (k : ℕ) → held U p ≡ Some (Named k) → held V p ≡ Some (Named k)) → (p q : Path) → AreLinked U p q → AreLinked V p q
 linked-by U V names p q l = record { number = l.number; first = names p l.number l.first; second = names q l.number l.second }
@@ -83,34 +74,82 @@ lift : {A B C : Type 0} → (B → C) → A ⊎ B → A ⊎ C
 lift f (inl a) = inl a
 lift f (inr b) = inr (f b)
 
--- an upper that holds the same everywhere is as the old one
+over-alike : (old new : ℕ → Option Inode) (o : Option Object) (s : Option Shown) → ((k : ℕ) → o ≡ Some (Named k) → new k ≡ old k) → over 0 new o s ≡ over 0 old o s
+over-alike old new None s same = refl
+over-alike old new (Some Whiteout) s same = refl
+over-alike old new (Some (Directory k a o r)) s same = refl
+over-alike old new (Some (Named k)) s same = ap (λ i. Some (Contents 0 k i)) (same k refl)
+
+-- an upper that holds the same everywhere, and under each number that it names the same inode
+module _ (old new : Layers) (low : new.lowers ≡ old.lowers) (same : SameObjects (layer_of old.upper) (layer_of new.upper)) (named : (p : Path) (k : ℕ) → held (layer_of old.upper) p ≡ Some (Named k) → inode_at new.upper k ≡ inode_at old.upper k) where
+  agree : (x : Path) → AgreeTo (layer_of old.upper) (layer_of new.upper) x
+  agree x = agree-where (layer_of old.upper) (layer_of new.upper) (λ _. Unit {0}) (λ k y u. tt) (λ y u. same y) x tt
+
+  shown-alike : (p : Path) → shows 0 (layer_of new.upper ∷ lowers_of old) p ≡ shows 0 (layer_of old.upper ∷ lowers_of old) p
+  shown-alike p =
+      ap₂ (λ o s. over 0 (layer_of new.upper).inodes o s) (same p) (through-agree (layer_of old.upper) (layer_of new.upper) (lowers_of old) p (agree p))
+      ∙ over-alike (layer_of old.upper).inodes (layer_of new.upper).inodes (held (layer_of old.upper) p) (through (layer_of old.upper) (lowers_of old) p) (named p)
+
+  sights-alike : (p : Path) → merged (layer_of new.upper) (lowers_of old) p ≡ merged (layer_of old.upper) (lowers_of old) p
+  sights-alike p =
+      merged-meld (layer_of new.upper) (lowers_of old) p
+      ∙ ap₂ (λ s x. see (is_directory s) x) (through-agree (layer_of old.upper) (layer_of new.upper) (lowers_of old) p (agree p)) (shown-alike p)
+      ∙ sym (merged-meld (layer_of old.upper) (lowers_of old) p)
+
+  -- shows the same
+  pub same-alike : ShowsSame old new
+  same-alike = record {
+    lowers = low;
+    sights = λ p. ap (λ Ls. merged (layer_of new.upper) Ls p) (lowers-same old new low) ∙ sights-alike p;
+    absent = λ p h. ap (λ Ls. shows 0 (layer_of new.upper ∷ Ls) p) (lowers-same old new low) ∙ shown-alike p ∙ h;
+    passes = record { cuts = λ p. (agree p).cut_alike; spelling = λ p. (agree p).spelled };
+  }
+
+  more : (p : Path) (k : ℕ) → held (layer_of old.upper) p ≡ Some (Named k) → held (layer_of new.upper) p ≡ Some (Named k)
+  more p k h = same p ∙ h
+
+  less : (p : Path) (k : ℕ) → held (layer_of new.upper) p ≡ Some (Named k) → held (layer_of old.upper) p ≡ Some (Named k)
+  less p k h = sym (same p) ∙ h
+
+  mount-alike : (IsLayer (layer_of old.upper) → IsLayer (layer_of new.upper)) → (s : State) → IsMountOf (layer_of old.upper) (lowers_of old) s → IsMountOf (layer_of new.upper) (lowers_of old) s
+  mount-alike keep s h = record {
+    layers = (keep h.layers.0, h.layers.1);
+    shows = record {
+      sights = λ p. h.shows.sights p ∙ sym (sights-alike p);
+      linked = λ p q l. h.shows.linked p q (linked-by (layer_of new.upper) (layer_of old.upper) less p q l);
+      apart = λ p q d e g. lift (linked-by (layer_of old.upper) (layer_of new.upper) more p q) (h.shows.apart p q d e g);
+    };
+    kept = h.kept;
+    writable = h.writable;
+  }
+
+  thin-upper : IsThin (layer_of old.upper) (lowers_of old) → IsThin (layer_of new.upper) (lowers_of old)
+  thin-upper h n p is = ap is_some (under-agree (layer_of old.upper) (layer_of new.upper) (lowers_of old) n p (agree p)) ∙ h n p (sym (same (n ∷ p)) ∙ is)
+
+  -- stays layers, the mount of the same states, and thin
+  pub layers-alike : (IsLayer (layer_of old.upper) → IsLayer (layer_of new.upper)) → StaysLayers old new
+  layers-alike keep a = (keep a.0, subst AreLayers (sym (lowers-same old new low)) a.1)
+
+  pub mounts-alike : (IsLayer (layer_of old.upper) → IsLayer (layer_of new.upper)) → StaysMount old new
+  mounts-alike keep s h = subst (λ (Ls : List Layer). IsMountOf (layer_of new.upper) Ls s) (sym (lowers-same old new low)) (mount-alike keep s h)
+
+  pub thin-alike : StaysThin old new
+  thin-alike h = subst (λ (Ls : List Layer). IsThin (layer_of new.upper) Ls) (sym (lowers-same old new low)) (thin-upper h)
+
+-- an upper that holds the same everywhere shows the same
+pub same-unchanged : (old new : Layers) → new.lowers ≡ old.lowers → SameObjects (layer_of old.upper) (layer_of new.upper) → ((k : ℕ) → inode_at new.upper k ≡ inode_at old.upper k) → ShowsSame old new
+same-unchanged old new low same inodes = same-alike old new low same (λ p k h. inodes k)
+
+-- and is as the old one
 pub stays-unchanged : (old new : Layers) → new.lowers ≡ old.lowers → SameObjects (layer_of old.upper) (layer_of new.upper) → ((k : ℕ) → inode_at new.upper k ≡ inode_at old.upper k) → (IsLayer (layer_of old.upper) → IsLayer (layer_of new.upper)) → Stays old new
-stays-unchanged old new low same inodes keep =
-    let U : Layer = layer_of old.upper in
-    let V : Layer = layer_of new.upper in
-    let agree : (x : Path) → AgreeTo U V x = λ x. agree-where U V (λ _. Unit {0}) (λ k y u. tt) (λ y u. same y) x tt in
-    let sights : (p : Path) → merged V (lowers_of old) p ≡ merged U (lowers_of old) p = λ p. merged-agree U V (lowers_of old) p (inodes-same old.upper new.upper inodes) (same p) (agree p) in
-    let more : (p : Path) (k : ℕ) → held U p ≡ Some (Named k) → held V p ≡ Some (Named k) = λ p k h. same p ∙ h in
-    let less : (p : Path) (k : ℕ) → held V p ≡ Some (Named k) → held U p ≡ Some (Named k) = λ p k h. sym (same p) ∙ h in
-    let mounts : (s : State) → IsMountOf U (lowers_of old) s → IsMountOf V (lowers_of old) s = λ s h. record {
-      layers = (keep h.layers.0, h.layers.1);
-      shows = record {
-        sights = λ p. h.shows.sights p ∙ sym (sights p);
-        linked = λ p q l. h.shows.linked p q (linked-by V U less p q l);
-        apart = λ p q d e g. lift (linked-by U V more p q) (h.shows.apart p q d e g);
-      };
-      kept = h.kept;
-      writable = h.writable;
-    } in
-    let thin : IsThin U (lowers_of old) → IsThin V (lowers_of old) = λ h n p is. ap is_some (under-agree U V (lowers_of old) n p (agree p)) ∙ h n p (sym (same (n ∷ p)) ∙ is) in
-    record {
-      layers = λ a. (keep a.0, subst AreLayers (sym (lowers-same old new low)) a.1);
-      mounts = λ s h. subst (λ (Ls : List Layer). IsMountOf V Ls s) (sym (lowers-same old new low)) (mounts s h);
-      thin = λ h. subst (λ (Ls : List Layer). IsThin V Ls) (sym (lowers-same old new low)) (thin h);
-      names = λ p k. (less p k, more p k);
-      inodes = inodes;
-      holds = λ p o h. same p ∙ h;
-    }
+stays-unchanged old new low same inodes keep = record {
+  layers = layers-alike old new low same (λ p k h. inodes k) keep;
+  mounts = mounts-alike old new low same (λ p k h. inodes k) keep;
+  thin = thin-alike old new low same (λ p k h. inodes k);
+  names = λ p k. (λ h. sym (same p) ∙ h, λ h. same p ∙ h);
+  inodes = inodes;
+  holds = λ p o h. same p ∙ h;
+}
 
 places-agree : (i : ℕ) (U V : Layer) (Ls : List Layer) (p : Path) → held V p ≡ held U p → cuts V p ≡ cuts U p → below V p ≡ below U p → places_at i (V ∷ Ls) p ≡ places_at i (U ∷ Ls) p
 places-agree i U V Ls p h c b j = level i (h j) (unless_cut (c j) (places_at (suc i) Ls (b j)))
@@ -162,6 +201,9 @@ module _ (old new : Layers) (low : new.lowers ≡ old.lowers) (inodes : (k : ℕ
 
   pub gains-placed : GainsParent old new (n ∷ p)
   gains-placed = record { layer = i; key = m; attributes = a; shown = shown; lowers = low; number = key; placed = placed }
+
+  pub frames-placed : get old.upper key ≡ None → (t : Path) → IsParent (n ∷ p) t → KeepsObjects old.upper new.upper None → GainsParents old new t
+  frames-placed vacant t parent kept = gains-one old new t (n ∷ p) i m key a parent low shown lacked sets vacant kept
 
   -- the upper shows it
   pub shown-placed : shows 0 (layers_of new) (n ∷ p) ≡ Some (Folder 0 key a)
@@ -230,6 +272,10 @@ way-shows l names i n h is none =
     let front : way_fault (layers_of l) (reverse (take (i + 1) names)) ≡ None = way-first (layers_of l) (reverse (drop (i + 1) names)) (reverse (take (i + 1) names)) whole in
     way-directory (layers_of l) (reverse (take i names)) n (sym (ap (way_fault (layers_of l)) (reverse-more names i n h is)) ∙ front)
 
+-- the names up to one of them lead to a parent of what is in the directory that all of them lead to
+pub is-parent : (names : List Name) (i : ℕ) (name n : Name) → i < length names → name ≡ get_or names i name → IsParent (name ∷ reverse (take i names)) (n ∷ reverse names)
+is-parent names i name n h is = (n, reverse (drop (i + 1) names), ap (λ z. n ∷ z) (reverse-parts names (i + 1) ∙ ap (λ z. reverse (drop (i + 1) names) ++ z) (reverse-more names i name h is)))
+
 -- the upper has the directory n in p now, and the same is shown as before
 pub record IsPlaced (old new : Layers) (p : Path) (n : Name) : Type 0 where
   pub key : ℕ
@@ -239,6 +285,7 @@ pub record IsPlaced (old new : Layers) (p : Path) (n : Name) : Type 0 where
   pub stack : (q : Path) (s : Stack) → (top_of s.places.items).layer ≡ 0 → IsStackOf old q s → IsStackOf new q s
   pub stays : Stays old new
   pub gains : GainsParent old new (n ∷ p)
+  pub frames : (t : Path) → IsParent (n ∷ p) t → KeepsObjects old.upper new.upper None → GainsParents old new t
 
 -- a directory that is shown by a lower layer, found from the stack of its parent in the upper
 module _ (old : Layers) (p : Path) (n : Name) (parent : Stack) (is : IsStackOf old p parent) (upper : (top_of parent.places.items).layer ≡ 0) (found : List Place) (f : ShowsDirectory old (n ∷ p) found) (spot dir : Place) (is_spot : spot ≡ top_of found) (is_dir : dir ≡ top_of parent.places.items) (lower : spot.layer ≢ 0) where
@@ -252,7 +299,7 @@ module _ (old : Layers) (p : Path) (n : Name) (parent : Stack) (is : IsStackOf o
       subst (λ (d : Place). HasPlace (layer_of old.upper) d.key n p) (sym is_dir) (place-of old p parent n is upper (ap is_object lacked))
 
   -- is placed there by a copy of its attributes
-  pub found-placed : (new : Layers) (copy : Attributes) → copy ≡ f.attributes → new.lowers ≡ old.lowers → ((k : ℕ) → inode_at new.upper k ≡ inode_at old.upper k) → (key : ℕ) × SetsPath (layer_of old.upper) (layer_of new.upper) (n ∷ p) (Directory key copy false None) → (IsLayer (layer_of old.upper) → IsLayer (layer_of new.upper)) → IsPlaced old new p n
+  pub found-placed : (new : Layers) (copy : Attributes) → copy ≡ f.attributes → new.lowers ≡ old.lowers → ((k : ℕ) → inode_at new.upper k ≡ inode_at old.upper k) → (key : ℕ) × SetsPath (layer_of old.upper) (layer_of new.upper) (n ∷ p) (Directory key copy false None) × (get old.upper key ≡ None) → (IsLayer (layer_of old.upper) → IsLayer (layer_of new.upper)) → IsPlaced old new p n
   found-placed new copy e low inodes sets keep =
       let shown : shows 0 (layers_of old) (n ∷ p) ≡ Some (Folder spot.layer spot.key copy) = found-shown ∙ ap (λ a. Some (Folder spot.layer spot.key a)) (sym e) in
       record {
@@ -263,6 +310,7 @@ module _ (old : Layers) (p : Path) (n : Name) (parent : Stack) (is : IsStackOf o
         stack = stack-placed old new low inodes p n spot.layer spot.key copy shown lower sets.0 sets.1;
         stays = stays-placed old new low inodes p n spot.layer spot.key copy shown lower sets.0 sets.1 keep;
         gains = gains-placed old new low inodes p n spot.layer spot.key copy shown lower sets.0 sets.1;
+        frames = frames-placed old new low inodes p n spot.layer spot.key copy shown lower sets.0 sets.1 sets.2;
       }
 
 pub on-err : {A E : Type 0} (P : Type 0) (r : Result A E) → P → OnErr r P

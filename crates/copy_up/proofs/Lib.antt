@@ -1,4 +1,5 @@
 pub mod Nodes
 pub mod Placing
+pub mod Frames
 pub mod Keeping
 pub mod Needing

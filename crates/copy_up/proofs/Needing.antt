@@ -5,12 +5,18 @@ use Rattle.plain_model.specs.Layers.{Name, Path, Layer, held, holds_directory}
 use Rattle.merged_lookup.specs.Merged.{parents_fault, way_fault}
 use Rattle.merged_lookup.proofs.Looking.{reverse-parts}
 use Rattle.copy_up.proofs.Keeping.{way-first}
+use Rattle.copy_up.specs.Showing.{IsParent}
 use Rattle.copy_up.specs.Needs.{first_names, has_directory}
 
 -- the way to a proper part of a path has no fault where its parents have none
 within-way : (Ls : List Layer) (r q path : Path) → path ≡ r ++ q → 0 < length r → parents_fault Ls path ≡ None → way_fault Ls q ≡ None
 within-way Ls [] q path e some h = absurd (omega arith)
 within-way Ls (x ∷ r) q path e some h = way-first Ls r q (sym (ap (parents_fault Ls) e) ∙ h)
+
+-- a proper part of a path is a parent of it
+parent-within : (r q path : Path) → path ≡ r ++ q → 0 < length r → IsParent q path
+parent-within [] q path e some = absurd (omega arith)
+parent-within (x ∷ r) q path e some = (x, r, e)
 
 -- the names of a path from the root down: those of its parent, and its last
 pub names-of : (n : Name) (parents : List Name) → reverse (n ∷ reverse parents) ≡ parents ++ n ∷ []
@@ -46,3 +52,7 @@ module _ (path : Path) (count : ℕ) (within : count < length path) (names paren
   -- the way to it has no fault
   pub way-split : (Ls : List Layer) → parents_fault Ls path ≡ None → way_fault Ls (name ∷ reverse parents) ≡ None
   way-split Ls h = within-way Ls (reverse (drop count (reverse path))) (name ∷ reverse parents) path path-is some-rest h
+
+  -- it is a parent
+  pub split-parent : IsParent (name ∷ reverse parents) path
+  split-parent = parent-within (reverse (drop count (reverse path))) (name ∷ reverse parents) path path-is some-rest

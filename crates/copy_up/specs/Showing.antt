@@ -1,13 +1,15 @@
 -- What placing missing parents in the upper leaves: what is shown, and where a directory has its place (overlayfs.rst, "Directories").
-use Rattle.std.specs.Prelude.{◌≡◌, ◌↔◌, ℕ, Bool, true, false, ◌∷◌, Option, None, Some}
+use Rattle.std.specs.Prelude.{◌≡◌, ◌↔◌, ◌⊎◌, ℕ, Bool, true, false, ◌∷◌, ◌++◌, Option, None, Some}
+use Rattle.slab.specs.Slab.{get}
 use Rattle.ov_base.specs.declared.attributes.Attributes.{Attributes}
 use Rattle.ov_base.specs.declared.redirect.Redirect.{Redirect}
-use Rattle.plain_model.specs.Laws.{Placed}
+use Rattle.plain_model.specs.Laws.{Placed, IsOutside}
 use Rattle.plain_model.specs.Machine.{State}
 use Rattle.plain_model.specs.Layers.{AreLayers, Folder, Name, Path, Object, Directory, Named, Layer, held, below, cuts, shows}
 use Rattle.plain_model.specs.Tree.{Sight, merged, IsThin}
 use Rattle.mount_laws.specs.Looks.{IsMountOf}
 use Rattle.layer_tree.specs.Tree.{layer_of, inode_at}
+use Rattle.layer_tree.specs.Nameless.{KeepsObjects}
 use Rattle.merged_lookup.specs.declared.layers.Layers.{Layers}
 use Rattle.merged_lookup.specs.Merged.{layers_of, lowers_of}
 
@@ -32,6 +34,40 @@ abbrev pub is_object : Option Object → Bool
 is_object (Some (Directory k a o r)) = true
 is_object (Some (Named k)) = true
 is_object _ = false
+
+-- x is a parent of p
+abbrev pub IsParent : Path → Path → Type 0
+IsParent x p = (n : Name) × (r : Path) × (p ≡ n ∷ (r ++ x))
+
+-- The upper gained a parent of p that it lacked, as it was shown: a directory with the attributes that were shown and no marks, under a
+-- number under which nothing stood.
+pub record PlacedParent (old new : Layers) (p x : Path) : Type 0 where
+  pub parent : IsParent x p
+  pub lacked : held (layer_of old.upper) x ≡ None
+  pub layer : ℕ
+  pub key : ℕ
+  pub attributes : Attributes
+  pub shown : shows 0 (layers_of old) x ≡ Some (Folder layer key attributes)
+  pub number : ℕ
+  pub vacant : get old.upper number ≡ None
+  pub gained : held (layer_of new.upper) x ≡ Some (Directory number attributes false None)
+
+-- the upper holds at x what it held, unless x is a parent of p that it gained
+abbrev pub KeepsPath : Layers → Layers → Path → Path → Type 0
+KeepsPath old new p x = (held (layer_of new.upper) x ≡ held (layer_of old.upper) x) ⊎ PlacedParent old new p x
+
+-- nothing changes but that parents of p are gained
+pub record GainsParents (old new : Layers) (p : Path) : Type 0 where
+  pub lowers : new.lowers ≡ old.lowers
+  pub paths : (x : Path) → KeepsPath old new p x
+  pub objects : KeepsObjects old.upper new.upper None
+
+-- the same at every path but p and those below it, where at most whiteouts stood and nothing stands
+pub record KeepsOthers (old new : Layers) (p : Path) : Type 0 where
+  pub lowers : new.lowers ≡ old.lowers
+  pub paths : (x : Path) → IsOutside p x → KeepsPath old new p x
+  pub bare : (n : Name) (r : Path) → is_object (held (layer_of old.upper) (n ∷ r ++ p)) ≡ false
+  pub below : (n : Name) (r : Path) → held (layer_of new.upper) (n ∷ r ++ p) ≡ None
 
 -- the layer holds a directory under this key at a path, and no object at the name in it
 pub record HasPlace (L : Layer) (dir : ℕ) (n : Name) (p : Path) : Type 0 where

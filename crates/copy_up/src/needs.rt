@@ -3,11 +3,11 @@ ghost use Rattle.std.specs.Prelude.{◌≡◌, ◌∷◌, List, ℕ, Some, None,
 ghost use Rattle.plain_model.specs.Layers.{Path as Names, held, shows, is_directory, holds_directory};
 ghost use Rattle.layer_tree.specs.Tree.{layer_of, key_at, SameObjects};
 ghost use Rattle.merged_lookup.specs.Merged.{layers_of, parents_fault, way_fault, IsStackOf};
-ghost use Rattle.copy_up.specs.Showing.{ShowsSame, GainsParent, StaysLayers, StaysMount, StaysThin};
+ghost use Rattle.copy_up.specs.Showing.{ShowsSame, GainsParent, GainsParents, StaysLayers, StaysMount, StaysThin};
 ghost use Rattle.copy_up.specs.Needs.{IsNeed, first_names};
 
 use crate::parents::{directory_in, place_parent};
-use layer_tree::{Entry, Layer, ROOT};
+use layer_tree::{Entry, ROOT};
 use merged_lookup::{Layers, Stack, split_last};
 use ov_base::{Name, Path};
 use std::alloc::AllocError;
@@ -28,7 +28,7 @@ pub fn need_at(layers: &Layers, path: &Path) -> Need
     };
     let mut dir = ROOT;
     for (index, name) in parents.iter().enumerate() {
-        match upper_directory(&layers.upper, dir, name) {
+        match upper_directory(layers, dir, name) {
             Some(key) => dir = key,
             None => return Need::Directory(index + 1),
         }
@@ -36,11 +36,12 @@ pub fn need_at(layers: &Layers, path: &Path) -> Need
     Need::Nothing
 }
 
-// The key of the directory that a layer holds at a name in a directory of its own.
-fn upper_directory(upper: &Layer, dir: usize, name: &Name) -> Option<usize>
-    ensures held { IfSome result (λ key. (p : Names) → key_at upper.now p ≡ Some dir → (key_at upper.now (name.now ∷ p) ≡ Some key) × (holds_directory (held (layer_of upper.now) (name.now ∷ p)) ≡ true)) }
-    ensures none { result ≡ None → (p : Names) → key_at upper.now p ≡ Some dir → holds_directory (held (layer_of upper.now) (name.now ∷ p)) ≡ false }
+// The key of the directory that the upper holds at a name in a directory of its own.
+fn upper_directory(layers: &Layers, dir: usize, name: &Name) -> Option<usize>
+    ensures held { IfSome result (λ key. (p : Names) → key_at layers.now.upper p ≡ Some dir → (key_at layers.now.upper (name.now ∷ p) ≡ Some key) × (holds_directory (held (layer_of layers.now.upper) (name.now ∷ p)) ≡ true)) }
+    ensures none { result ≡ None → (p : Names) → key_at layers.now.upper p ≡ Some dir → holds_directory (held (layer_of layers.now.upper) (name.now ∷ p)) ≡ false }
 {
+    let upper = layers.upper();
     match upper.entry(dir, name) {
         Some(Entry::Object(key)) => {
             if upper.is_directory(key) {
@@ -61,6 +62,7 @@ pub fn place_dir(layers: &mut Layers, path: &Path, count: usize) -> Result<(), A
     ensures same { ShowsSame layers.old layers.new }
     ensures placed { OnOk result (GainsParent layers.old layers.new (first_names count path.now)) }
     ensures unchanged { OnErr result (SameObjects (layer_of layers.old.upper) (layer_of layers.new.upper)) }
+    ensures gains { GainsParents layers.old layers.new path.now }
     ensures keeps { StaysLayers layers.old layers.new }
     ensures mounts { StaysMount layers.old layers.new }
     ensures thin { StaysThin layers.old layers.new }

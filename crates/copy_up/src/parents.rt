@@ -3,9 +3,11 @@ ghost use Rattle.std.specs.Prelude.{◌≡◌, ◌↔◌, ◌∷◌, List, ℕ, 
 ghost use Rattle.ov_base.specs.declared.attributes.Attributes.{Attributes};
 ghost use Rattle.plain_model.specs.Layers as held;
 ghost use Rattle.plain_model.specs.Layers.{Path, shows, is_directory, IsLayer};
+ghost use Rattle.slab.specs.Slab.{get};
+ghost use Rattle.layer_tree.specs.Nameless.{KeepsObjects};
 ghost use Rattle.layer_tree.specs.Tree.{layer_of, inode_at, SetsPath, SameObjects};
 ghost use Rattle.merged_lookup.specs.Merged.{layers_of, way_fault, top_of, IsStackOf, ShowsDirectory};
-ghost use Rattle.copy_up.specs.Showing.{ShowsSame, HasPlace, GainsParent, Stays, StaysLayers, StaysMount, StaysThin};
+ghost use Rattle.copy_up.specs.Showing.{ShowsSame, HasPlace, GainsParent, IsParent, GainsParents, Stays, StaysLayers, StaysMount, StaysThin};
 
 use layer_tree::{Layer, Marks, Node, Object};
 use merged_lookup::{Found, Layers, Place, Stack};
@@ -25,6 +27,7 @@ pub fn place_parents(layers: &mut Layers, names: &[Name]) -> Result<Stack, Alloc
     ensures names { (p : Path) (k : ℕ) → (held.held (layer_of layers.new.upper) p ≡ Some (held.Named k)) ↔ (held.held (layer_of layers.old.upper) p ≡ Some (held.Named k)) }
     ensures inodes { (k : ℕ) → inode_at layers.new.upper k ≡ inode_at layers.old.upper k }
     ensures holds { (p : Path) (o : held.Object) → held.held (layer_of layers.old.upper) p ≡ Some o → held.held (layer_of layers.new.upper) p ≡ Some o }
+    ensures gains { (n : held.Name) → GainsParents layers.old layers.new (n ∷ reverse names.now) }
 {
     let mut stack = layers.root();
     for name in names {
@@ -47,6 +50,7 @@ pub(crate) fn place_parent(
     ensures stays { Stays layers.old layers.new }
     ensures placed { OnOk result ((p : Path) → IsStackOf layers.old p parent.now → held.holds_directory (held.held (layer_of layers.old.upper) (name.now ∷ p)) ≡ false → GainsParent layers.old layers.new (name.now ∷ p)) }
     ensures unchanged { OnErr result (SameObjects (layer_of layers.old.upper) (layer_of layers.new.upper)) }
+    ensures gains { (p t : Path) → IsStackOf layers.old p parent.now → IsParent (name.now ∷ p) t → GainsParents layers.old layers.new t }
 {
     let found = directory_in(layers, parent, name);
     let place = found.top();
@@ -55,7 +59,7 @@ pub(crate) fn place_parent(
     }
     let attributes = attributes_at(layers, place)?;
     let dir = parent.top();
-    insert_directory(&mut layers.upper, dir.key, *name, attributes, false)?;
+    insert_directory(layers, dir.key, name, attributes, false)?;
     let placed = directory_in(layers, parent, name);
     Ok(placed)
 }
@@ -86,21 +90,42 @@ fn attributes_at(layers: &Layers, place: Place) -> Result<Attributes, AllocError
     }
 }
 
-/// Puts a directory without a redirect at a name of a directory at which no object stands.
+/// Puts a directory without a redirect at a name of a directory of the upper at which no object stands.
 pub fn insert_directory(
-    upper: &mut Layer,
+    layers: &mut Layers,
     dir: usize,
-    name: Name,
+    name: &Name,
     attributes: Attributes,
     opaque: bool,
 ) -> Result<(), AllocError>
-    requires { (p : Path) × HasPlace (layer_of upper.old) dir name p }
-    ensures sets { OnOk result ((p : Path) → HasPlace (layer_of upper.old) dir name p → (key : ℕ) × SetsPath (layer_of upper.old) (layer_of upper.new) (name ∷ p) (held.Directory key attributes opaque None)) }
+    requires { (p : Path) × HasPlace (layer_of layers.old.upper) dir name.now p }
+    ensures lowers { layers.new.lowers ≡ layers.old.lowers }
+    ensures sets { OnOk result ((p : Path) → HasPlace (layer_of layers.old.upper) dir name.now p → (key : ℕ) × SetsPath (layer_of layers.old.upper) (layer_of layers.new.upper) (name.now ∷ p) (held.Directory key attributes opaque None) × (get layers.old.upper key ≡ None)) }
+    ensures unchanged { OnErr result (SameObjects (layer_of layers.old.upper) (layer_of layers.new.upper)) }
+    ensures keeps { IsLayer (layer_of layers.old.upper) → IsLayer (layer_of layers.new.upper) }
+    ensures inodes { (key : ℕ) → inode_at layers.new.upper key ≡ inode_at layers.old.upper key }
+    ensures objects { KeepsObjects layers.old.upper layers.new.upper None }
+{
+    insert_in(layers.upper_mut(), dir, name, attributes, opaque)
+}
+
+// Puts a directory without a redirect at a name of a directory of a layer at which no object stands.
+fn insert_in(
+    upper: &mut Layer,
+    dir: usize,
+    name: &Name,
+    attributes: Attributes,
+    opaque: bool,
+) -> Result<(), AllocError>
+    requires { (p : Path) × HasPlace (layer_of upper.old) dir name.now p }
+    ensures sets { OnOk result ((p : Path) → HasPlace (layer_of upper.old) dir name.now p → (key : ℕ) × SetsPath (layer_of upper.old) (layer_of upper.new) (name.now ∷ p) (held.Directory key attributes opaque None) × (get upper.old key ≡ None)) }
     ensures unchanged { OnErr result (SameObjects (layer_of upper.old) (layer_of upper.new)) }
     ensures keeps { IsLayer (layer_of upper.old) → IsLayer (layer_of upper.new) }
     ensures inodes { (key : ℕ) → inode_at upper.new key ≡ inode_at upper.old key }
+    ensures objects { KeepsObjects upper.old upper.new None }
 {
     upper.lawful();
+    let name = name.clone()?;
     let marks = Marks {
         opaque,
         redirect: None,

@@ -1,2 +1,4 @@
 pub mod Listing
+pub mod Merging
+pub mod Runs
 pub mod Showing

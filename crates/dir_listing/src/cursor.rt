@@ -1,7 +1,7 @@
 // How far a directory was listed.
 ghost use Rattle.std.specs.Prelude.{◌≡◌, [], None, Some, IfOk, OnOk, OnErr, drop, is_some, option_map, take, unwrap_or};
 
-use ov_base::{Name, NameList};
+use ov_base::{Name, NameList, copy_names};
 use std::alloc::{AllocError, Global};
 use std::marker::Model;
 
@@ -96,7 +96,7 @@ impl Listing {
     {
         let left = self.names.len() - self.given;
         let end = self.given + left.min(count);
-        let names = Vec::from_slice(alloc, &self.names.as_slice()[self.given..end])?;
+        let names = copy_names(alloc, &self.names.as_slice()[self.given..end])?;
         self.given = end;
         Ok(NameList::from_vec(names))
     }

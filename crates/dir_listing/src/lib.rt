@@ -1,22 +1,23 @@
 //! Listings of merged directories.
 #![tactic(auto)]
 
-ghost use Rattle.std.specs.Prelude.{◌≡◌, ◌∷◌, List, ℕ, IfOk, is_some, filter};
+ghost use Rattle.std.specs.Prelude.{◌≡◌, ◌∷◌, List, ℕ, IfOk, is_some, map};
 ghost use Rattle.std.specs.List.{list_any};
 ghost use Rattle.std.specs.List.Sorted.{IsStrictlySortedBy};
 ghost use Rattle.std.specs.Str.{bytes_eq};
 ghost use Rattle.std.specs.Ordering.{nat_cmp};
 ghost use Rattle.std.specs.Cmp.Lexicographic.{slice_cmp};
 ghost use Rattle.plain_model.specs.Layers.{Path, shows};
-ghost use Rattle.merged_lookup.specs.Merged.{trees, layers_of, IsStackOf};
-ghost use Rattle.merged_lookup.specs.Descent.{first};
-ghost use Rattle.dir_listing.specs.Bound.{names_behind};
+ghost use Rattle.merged_lookup.specs.Merged.{layers_of, IsStackOf};
 
+mod bound;
 mod cursor;
+mod merge;
 mod shown;
 
-use crate::shown::names_at;
+use crate::bound::{Bound, bounds_of};
 pub use cursor::Cursor;
+use layer_tree::Entry;
 use merged_lookup::{Layers, Stack};
 use ov_base::Name;
 pub use shown::shows_names;
@@ -27,46 +28,18 @@ pub fn names(alloc: Global, layers: &Layers, stack: &Stack) -> Result<Vec<Name>,
     ensures sorted { IfOk result (λ v. IsStrictlySortedBy (slice_cmp nat_cmp) v.items) }
     ensures names { IfOk result (λ v. (p : Path) → IsStackOf layers.now p stack.now → (n : List ℕ) → list_any (bytes_eq n) v.items ≡ is_some (shows 0 (layers_of layers.now) (n ∷ p))) }
 {
-    let mut shown = shown_names(alloc, layers, stack)?;
-    shown.sort_unstable();
-    shown.dedup();
-    copies(alloc, shown.as_slice())
+    let mut bounds = bounds_of(alloc, layers, stack.places())?;
+    bounds.retain(|bound| matches!(bound.entry, Entry::Object(_)));
+    copies(alloc, bounds.as_slice())
 }
 
-// The names that a merged directory shows, some more than once.
-fn shown_names<'a>(
-    alloc: Global,
-    layers: &'a Layers,
-    stack: &Stack,
-) -> Result<Vec<&'a Name>, AllocError>
-    ensures { IfOk result (λ v. (n : List ℕ) → list_any (bytes_eq n) (names_behind v.items) ≡ is_some (first (trees layers.now) stack.now.places.items n)) }
+// The names alone.
+fn copies(alloc: Global, bounds: &[Bound]) -> Result<Vec<Name>, AllocError>
+    ensures { IfOk result (λ v. v.items ≡ map (λ b. b.name.now) bounds.now) }
 {
-    let mut names = Vec::new(alloc);
-    for place in stack.places() {
-        let mut more = shown_of(alloc, layers, stack, names_at(layers, *place))?;
-        names.append(&mut more)?;
+    let mut names = Vec::with_capacity(alloc, bounds.len())?;
+    for bound in bounds {
+        names.push(bound.name.clone()?)?;
     }
     Ok(names)
-}
-
-// Those of some names that a merged directory shows.
-fn shown_of<'a>(
-    alloc: Global,
-    layers: &Layers,
-    stack: &Stack,
-    names: &'a [Name],
-) -> Result<Vec<&'a Name>, AllocError>
-    ensures { IfOk result (λ v. names_behind v.items ≡ filter (λ n. is_some (first (trees layers.now) stack.now.places.items n)) names.now) }
-{
-    names
-        .iter()
-        .filter(|name| layers.shows(stack, name))
-        .collect(alloc)
-}
-
-// The names that references lead to.
-fn copies(alloc: Global, names: &[&Name]) -> Result<Vec<Name>, AllocError>
-    ensures { IfOk result (λ v. v.items ≡ names_behind names.now) }
-{
-    names.iter().map(|name| **name).collect(alloc)
 }

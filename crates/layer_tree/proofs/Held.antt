@@ -7,13 +7,13 @@ use Rattle.ov_base.specs.declared.redirect.Redirect.TheVariants as redirect
 use Rattle.plain_model.specs.Layers as layers
 use Rattle.plain_model.specs.Layers.{Path, held}
 use Rattle.layer_tree.specs.Table.{entry_in, object_key}
-use Rattle.layer_tree.specs.Tree.{Tree, table_of, inode_of, seen, entry, key_at, entry_at, seen_at, seen_entry, inode_at, object_at, layer_of, leads_on, IsDirectory, IsTree, IsHeldTogether}
+use Rattle.layer_tree.specs.Tree.{Tree, ROOT, table_of, inode_of, seen, entry, child, key_at, entry_at, seen_at, seen_entry, inode_at, object_at, layer_of, leads_on, IsDirectory, IsTree, IsHeldTogether, directory_number}
 use Rattle.layer_tree.specs.declared.name_table.Entry.{Entry}
 use Rattle.layer_tree.specs.declared.name_table.Entry.TheVariants as to
 use Rattle.layer_tree.specs.declared.node.Node.{Node}
 use Rattle.layer_tree.specs.declared.node.Node.TheVariants as node
-use Rattle.layer_tree.proofs.Walks.{bound}
-use Rattle.layer_tree.proofs.Changing.{kind_seen, key_of_entry}
+use Rattle.layer_tree.proofs.Walks.{bound, one_path}
+use Rattle.layer_tree.proofs.Changing.{kind_seen, key_of_entry, is_placed, root_is_directory}
 
 -- what is held somewhere has an entry in a directory
 held_entry : (t : Tree) (name : List ℕ) (path : Path) → is_some (object_at t (name ∷ path)) ≡ true → (e : Entry) × (entry_at t (name ∷ path) ≡ Some e)
@@ -51,6 +51,25 @@ held_seen t name path o is differs = of (entry_at t (name ∷ path)) is
     of (Some to.Whiteout) f = absurd (differs (cc))
     of (Some (to.Object key)) f = (key, f)
 
+seen_number : (j key : ℕ) (o : Option Node) → directory_number (option_map (seen j) o) ≡ Some key → (j ≡ key) × IsSome (option_and_then table_of o)
+seen_number j key None h = absurd (cc)
+seen_number j key (Some (node.Directory d)) h = (cc, refl)
+seen_number j key (Some (node.Inode i)) h = absurd (cc)
+
+-- a directory that is held stands under its number, to which the path leads
+number_at : (t : Tree) → IsTree t → (path : Path) (key : ℕ) → directory_number (held (layer_of t) path) ≡ Some key → (key_at t path ≡ Some key) × IsDirectory t key
+number_at t tree [] key h =
+    let root : ROOT ≡ key = cc in
+    (ap Some root, subst (IsDirectory t) root (root_is_directory t tree))
+number_at t tree (n ∷ p) key h = of (entry_at t (n ∷ p)) refl h
+  where
+    of : (e : Option Entry) → entry_at t (n ∷ p) ≡ e → directory_number (option_and_then (seen_entry t) e) ≡ Some key → (key_at t (n ∷ p) ≡ Some key) × IsDirectory t key
+    of None is f = absurd (cc)
+    of (Some to.Whiteout) is f = absurd (cc)
+    of (Some (to.Object j)) is f =
+        let there = seen_number j key (get t j) f in
+        (key_of_entry t (n ∷ p) ∙ ap (option_and_then object_key) is ∙ ap Some there.0, subst (IsDirectory t) there.0 there.1)
+
 pub held_together : (t : Tree) → IsTree t → IsHeldTogether (layer_of t)
 held_together t tree =
     record {
@@ -60,6 +79,9 @@ held_together t tree =
           directory_held t path dir.0 dir.1 (entry_in_directory t dir.0 name found.0 dir.2);
       redirects = λ path key a opaque target h. leads path key a opaque target h;
       present = λ path key h. inode_there path key h;
+      one_path = λ path other key h g.
+          let first = number_at t tree path key h in
+          one_path (child t) ROOT (IsDirectory t) (is_placed t tree) path other key first.0 (number_at t tree other key g).0 first.1;
     }
   where
     not_empty : (key : ℕ) (a : _) (opaque : Bool) (target : Path) → leads_on (Some (layers.Directory key a opaque (Some (redirect.Absolute target)))) ≡ true → target ≢ []

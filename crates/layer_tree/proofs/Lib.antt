@@ -14,3 +14,4 @@ pub mod Held
 pub mod Layers
 pub mod Keeping
 pub mod Freeing
+pub mod Nameless

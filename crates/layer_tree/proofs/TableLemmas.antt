@@ -1,5 +1,5 @@
 -- A hash table of names, seen as a finite map.
-use Rattle.std.proofs.Common.{◌≡◌, ℕ, length, arith, List, [], ◌∷◌, Bool, false, cond, Some, None, refl, sym, ap, ◌∙◌, ◌+◌, get_or, true≢false}
+use Rattle.std.proofs.Common.{◌≡◌, ℕ, length, arith, List, [], ◌∷◌, Bool, true, false, cond, Option, Some, None, refl, sym, ap, ◌∙◌, ◌+◌, get_or, true≢false}
 use Rattle.std.specs.Prelude.{nat_eq}
 use Rattle.std.specs.Ordering.{nat_cmp, is_eq, is_lt, ordering_reverse}
 use Rattle.std.specs.declared.cmp.Ordering.{Ordering}
@@ -13,7 +13,8 @@ use Rattle.std.specs.FinMap.{find, get-from_entries, get-insert, get-remove, sam
 use Rattle.std.specs.Map.{lookup}
 use Rattle.std.proofs.lemmas.Map.Text.{is_eq-slice_cmp}
 use Rattle.std.proofs.lemmas.Cmp.{nat_list_eq_equiv, nat_list_cmp_total}
-use Rattle.layer_tree.specs.Table.{NameMap}
+use Rattle.std.specs.Global.{Box}
+use Rattle.layer_tree.specs.Table.{NameMap, Table, entry_in, table_in}
 use Rattle.layer_tree.specs.declared.name_table.Entry.{Entry}
 
 abbrev pub name_eq : List ℕ → List ℕ → Bool
@@ -75,3 +76,25 @@ sorted_apart xs ys permuted distinct sorted =
 pub none_sorted : IsStrictlySortedBy (slice_cmp nat_cmp) []
 unfolding IsStrictlySortedBy
 none_sorted = tt
+
+-- a choice between the same
+same_cond : (o : Option Entry) (b : Bool) → o ≡ cond b o o
+same_cond o true = refl
+same_cond o false = refl
+
+-- no name is left where none was
+remove_none : (name : List ℕ) → map.remove (entries_of []) name ≡ entries_of []
+remove_none name = sym (entries_of_remove [] [] name (λ q. same_cond None (name_eq name q)))
+
+-- a table that was not made has no names and no room
+pub unmade : (h : Option (Box Table)) (t : Table) → h ≡ None → table_in h ≡ t → t ≡ record { entries = map.empty; spare = 0 }
+unmade h t none is = sym is ∙ ap table_in none
+
+-- at each name it has nothing
+pub unmade_entry : (h : Option (Box Table)) (t : Table) (name : List ℕ) → h ≡ None → table_in h ≡ t → None ≡ entry_in t name
+unmade_entry h t name none is = sym (ap (λ (t : Table). entry_in t name) (unmade h t none is) ∙ map.get-empty (slice_cmp nat_cmp) name)
+
+-- taking a name out changes nothing
+pub unmade_remove : (h : Option (Box Table)) (t : Table) (name : List ℕ) → h ≡ None → table_in h ≡ t → (table_in h).entries ≡ map.remove t.entries name
+unmade_remove h t name none is =
+    ap (λ (o : Option (Box Table)). (table_in o).entries) none ∙ sym (remove_none name) ∙ sym (ap (λ (t : Table). map.remove t.entries name) (unmade h t none is))

@@ -2,4 +2,5 @@ pub mod Table
 pub mod Walk
 pub mod Places
 pub mod Tree
+pub mod Nameless
 pub mod Change

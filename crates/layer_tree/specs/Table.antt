@@ -4,6 +4,7 @@ use Rattle.std.specs.Ordering.{nat_cmp}
 use Rattle.std.specs.Cmp.Lexicographic.{slice_cmp}
 use Rattle.std.specs.Coded.{Coded, code_by, coded×, coded_ℕ, coded_list, coded_option}
 use Rattle.std.specs.FinMap as map
+use Rattle.std.specs.Global.{Box}
 use Rattle.layer_tree.specs.declared.name_table.Entry.{Entry}
 use Rattle.layer_tree.specs.declared.name_table.Entry.TheVariants as bound
 
@@ -39,3 +40,8 @@ table_code =
 -- the entry at a name
 abbrev pub entry_in : Table → List ℕ → Option Entry
 entry_in t name = map.get t.entries name
+
+-- a table that may not have been made
+abbrev pub table_in : Option (Box Table) → Table
+table_in (Some hashed) = hashed.value
+table_in None = record { entries = map.empty; spare = 0 }

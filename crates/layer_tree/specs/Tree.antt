@@ -142,11 +142,18 @@ pub record IsTree (t : Tree) : Type 0 where
   pub redirects : (key : ℕ) → IsTrue (leads_on (seen_at t key))
   pub links : (key : ℕ) (i : layers.Inode) → inode_at t key ≡ Some i → HasNames (child t) key i.links
 
--- What a layer keeps: the parent of a held path is a directory, an absolute redirect has at least one name, and a named inode is there.
+-- the number of a directory that is held
+abbrev pub directory_number : Option layers.Object → Option ℕ
+directory_number (Some (layers.Directory key a opaque r)) = Some key
+directory_number _ = None
+
+-- What a layer keeps: the parent of a held path is a directory, an absolute redirect has at least one name, a named inode is there, and
+-- a number tells a directory apart from all others.
 pub record IsHeldTogether (L : Layer) : Type 0 where
   pub parents : (name : List ℕ) (path : Path) → is_some (held L (name ∷ path)) ≡ true → layers.holds_directory (held L path) ≡ true
   pub redirects : (path : Path) (key : ℕ) (a : Attributes) (opaque : Bool) (target : Path) → held L path ≡ Some (layers.Directory key a opaque (Some (redirect.Absolute target))) → target ≢ []
   pub present : (path : Path) (key : ℕ) → held L path ≡ Some (layers.Named key) → is_some (L.inodes key) ≡ true
+  pub one_path : (path other : Path) (key : ℕ) → directory_number (held L path) ≡ Some key → directory_number (held L other) ≡ Some key → path ≡ other
 
 -- what a layer holds where a new object stands under a key
 abbrev pub seen_object : ℕ → Object → layers.Object

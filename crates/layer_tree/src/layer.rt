@@ -3,6 +3,7 @@ ghost use Rattle.std.specs.Prelude.{◌≡◌, ◌≢◌, ℕ, ◌+◌, ◌^◌,
 ghost use Rattle.std.specs.List.{list_any, IsDistinct};
 ghost use Rattle.std.specs.List.Sorted.{IsStrictlySortedBy};
 ghost use Rattle.std.specs.Option.{option_and_then, option_copied};
+ghost use Rattle.std.specs.Map.{keys_of, lookup};
 ghost use Rattle.std.specs.Str.{bytes_eq};
 ghost use Rattle.std.specs.Ordering.{nat_cmp};
 ghost use Rattle.std.specs.Cmp.Lexicographic.{slice_cmp, pointwise};
@@ -13,12 +14,14 @@ ghost use Rattle.plain_model.specs.Layers.{held, IsLayer};
 ghost use Rattle.layer_tree.specs.Table.{object_key};
 ghost use Rattle.layer_tree.specs.Walk.{Rebinds};
 ghost use Rattle.layer_tree.specs.Tree.{Tree, entry, child, key_at, entry_at, seen_at, inode_at, marks_at, bytes_at, file_bytes, layer_of, seen_object, new_inode, with_less, table_of, leads_on, Inserts, Unbinds, Writes, written, IsDirectory, names_room, SetsPath, ClearsPath, CoversPath, SameObjects, SameTree, UsesObjects, Frees, HoldsNoObjects, IsHeldTogether, IsTree};
+ghost use Rattle.layer_tree.specs.Nameless.{IsNameless};
 ghost use Rattle.layer_tree.specs.Change.{IsPlanted, Retables, Retabled, Unlinks, IsCounted, node_room, node_entry, unlinked, node_bytes, with_file};
 ghost use Rattle.layer_tree.specs.declared.name_table.Entry.TheVariants as bound;
 
 use crate::file_write::write_in;
 use crate::name_table::{Entry, NameTable};
 use crate::node::{Directory, Inode, Marks, Node, Object};
+use indexmap::map::Slice;
 use ov_base::{Attributes, Content, Name, Path};
 use slab::Slab;
 use std::alloc::{AllocError, AllocFailed, Global};
@@ -137,6 +140,18 @@ impl Layer {
         }
     }
 
+    /// What a directory has at each of its names, each name once and in no order that is promised; nothing where no directory stands
+    /// under the key.
+    pub fn entries(&self, dir: usize) -> Slice<'_, Name, Entry>
+        ensures entries { (name : List ℕ) → lookup (bytes_eq name) result ≡ entry self.now dir name }
+        ensures distinct { IsDistinct (pointwise nat_eq) (keys_of result) }
+    {
+        let Some(Node::Directory(directory)) = self.nodes.get(dir) else {
+            return Slice::new();
+        };
+        directory.names.entries()
+    }
+
     /// The names that a directory binds, whiteouts among them, sorted by their bytes; none where no directory stands under the key.
     pub fn names(&self, alloc: Global, dir: usize) -> Result<Vec<Name>, AllocError>
         ensures sorted { IfOk result (λ v. IsStrictlySortedBy (slice_cmp nat_cmp) v.items) }
@@ -187,6 +202,7 @@ impl Layer {
         ensures names { (d : ℕ) → names_room self.new d ≡ names_room self.old d }
         ensures objects { UsesObjects self.old self.new 0 }
         ensures keeps { IsLayer (layer_of self.old) → IsLayer (layer_of self.new) }
+        ensures nameless { (k : ℕ) → IsNameless self.old k → IsNameless self.new k }
     {
         let alloc = self.alloc;
         let node = &mut self.nodes[key];
@@ -349,6 +365,7 @@ impl Layer {
         ensures capacity { self.new.capacity ≡ self.old.capacity }
         ensures objects { UsesObjects self.old self.new 0 }
         ensures keeps { IsLayer (layer_of self.old) → IsLayer (layer_of self.new) }
+        ensures nameless { (k : ℕ) → k ≢ key → IsNameless self.old k → IsNameless self.new k }
     {
         let _ = self.nodes.try_remove(key);
     }

@@ -2,6 +2,7 @@
 #![tactic(auto)]
 
 mod file_write;
+mod hashed_names;
 mod layer;
 mod name_table;
 mod node;

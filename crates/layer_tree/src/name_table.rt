@@ -3,12 +3,14 @@ ghost use Rattle.std.specs.Prelude.{◌≡◌, ℕ, ◌+◌, ◌<◌, ◌≤◌,
 ghost use Rattle.std.specs.FinMap as map;
 ghost use Rattle.std.specs.List.{list_any, IsDistinct};
 ghost use Rattle.std.specs.List.Sorted.{IsStrictlySortedBy};
+ghost use Rattle.std.specs.Map.{keys_of, lookup};
 ghost use Rattle.std.specs.Str.{bytes_eq};
 ghost use Rattle.std.specs.Ordering.{nat_cmp};
 ghost use Rattle.std.specs.Cmp.Lexicographic.{slice_cmp, pointwise};
 ghost use Rattle.layer_tree.specs.Table.{Table, entry_in};
 
-use indexmap::IndexMap;
+use crate::hashed_names::HashedNames;
+use indexmap::map::Slice;
 use ov_base::Name;
 use std::alloc::{AllocError, Global};
 use std::hash::RandomState;
@@ -21,22 +23,22 @@ pub enum Entry {
     Whiteout,
 }
 
-/// The names of a directory, each with its entry. The hash has random keys, against names that are picked to collide.
+/// The names of a directory, each with its entry. They stand on the heap, and as long as there is no room for any, none is made.
 #[derive(Drop)]
 pub struct NameTable {
-    table: IndexMap<Name, Entry, RandomState>,
+    keys: RandomState,
+    alloc: Global,
+    hashed: Option<Box<HashedNames>>,
 }
 
 impl Model for NameTable {
-    ghost use Rattle.std.specs.FinMap as map;
-    ghost use Rattle.std.specs.HashMap.{spare as places};
-    ghost use Rattle.layer_tree.specs.Table.{Table, table_code};
+    ghost use Rattle.layer_tree.specs.Table.{Table, table_code, table_in};
 
     ghost Value = { Table };
 
     ghost coded = { table_code };
 
-    ghost view = { λ t. record { entries = map.from_entries t.table.entries; spare = places t.table } };
+    ghost view = { λ t. table_in t.hashed };
 }
 
 impl NameTable {
@@ -45,7 +47,9 @@ impl NameTable {
         ensures { result.entries ≡ map.empty }
     {
         NameTable {
-            table: IndexMap::with_hasher(alloc, keys),
+            keys,
+            alloc,
+            hashed: None,
         }
     }
 
@@ -53,7 +57,10 @@ impl NameTable {
     pub fn get(&self, name: &Name) -> Option<Entry>
         ensures { result ≡ entry_in self.now name.now }
     {
-        self.table.get(name).copied()
+        match &self.hashed {
+            Some(hashed) => hashed.get(name),
+            None => None,
+        }
     }
 
     /// Makes room for so many more names.
@@ -63,7 +70,14 @@ impl NameTable {
         ensures spare { self.old.spare ≤ self.new.spare }
         ensures succeeds { names ≤ self.old.spare → IsOk result }
     {
-        self.table.reserve(names)
+        match &mut self.hashed {
+            Some(hashed) => hashed.reserve(names),
+            None if names == 0 => Ok(()),
+            None => {
+                self.hashed = Some(room_for(self.alloc, self.keys, names)?);
+                Ok(())
+            }
+        }
     }
 
     /// Puts an entry at a name, over the one that is there, which it returns. A new name needs room.
@@ -73,9 +87,9 @@ impl NameTable {
         ensures entries { self.new.entries ≡ map.insert self.old.entries name entry }
         ensures spare { self.old.spare ≤ self.new.spare + 1 }
     {
-        match self.table.insert(name, entry) {
-            Ok(old) => old,
-            Err(_) => unreachable!(),
+        match &mut self.hashed {
+            Some(hashed) => hashed.put_reserved(name, entry),
+            None => unreachable!(),
         }
     }
 
@@ -85,7 +99,10 @@ impl NameTable {
         ensures entries { self.new.entries ≡ map.remove self.old.entries name.now }
         ensures spare { self.old.spare ≤ self.new.spare }
     {
-        self.table.swap_remove(name)
+        let Some(hashed) = &mut self.hashed else {
+            return None;
+        };
+        hashed.remove(name)
     }
 
     /// The names, each once, in no order that is promised.
@@ -93,7 +110,21 @@ impl NameTable {
         ensures names { (name : List ℕ) → list_any (bytes_eq name) result.now ≡ is_some (entry_in self.now name) }
         ensures distinct { IsDistinct (pointwise nat_eq) result.now }
     {
-        self.table.keys().as_slice()
+        match &self.hashed {
+            Some(hashed) => hashed.as_slice(),
+            None => &[],
+        }
+    }
+
+    /// The names with their entries, each name once, in no order that is promised.
+    pub fn entries(&self) -> Slice<'_, Name, Entry>
+        ensures entries { (name : List ℕ) → lookup (bytes_eq name) result ≡ entry_in self.now name }
+        ensures distinct { IsDistinct (pointwise nat_eq) (keys_of result) }
+    {
+        let Some(hashed) = &self.hashed else {
+            return Slice::new();
+        };
+        hashed.entries()
     }
 
     /// The names, sorted by their bytes, each once.
@@ -101,15 +132,29 @@ impl NameTable {
         ensures sorted { IfOk result (λ v. IsStrictlySortedBy (slice_cmp nat_cmp) v.items) }
         ensures names { IfOk result (λ v. (name : List ℕ) → list_any (bytes_eq name) v.items ≡ is_some (entry_in self.now name)) }
     {
-        let mut all = Vec::from_slice(alloc, self.as_slice())?;
-        all.sort_unstable();
-        Ok(all)
+        match &self.hashed {
+            Some(hashed) => hashed.sorted(alloc),
+            None => Ok(Vec::new(alloc)),
+        }
     }
 
     /// Whether there is no name.
     pub fn is_empty(&self) -> bool
         ensures { IsTrue result ↔ (self.now.entries ≡ map.empty) }
     {
-        self.table.is_empty()
+        match &self.hashed {
+            Some(hashed) => hashed.is_empty(),
+            None => true,
+        }
     }
+}
+
+// A table of no names with room for so many.
+fn room_for(alloc: Global, keys: RandomState, names: usize) -> Result<Box<HashedNames>, AllocError>
+    ensures entries { IfOk result (λ b. b.value.entries ≡ map.empty) }
+    ensures room { IfOk result (λ b. names ≤ b.value.spare) }
+{
+    let mut hashed = HashedNames::new(alloc, keys);
+    hashed.reserve(names)?;
+    Ok(Box::new(alloc, hashed)?)
 }

@@ -32,6 +32,9 @@ pub enum Node {
     Inode(Inode),
 }
 
+// A layer holds many: the names of a directory stand on the heap, so that a file is no wider than it has to be.
+const _: () = prove!(size_of::<Node>() == 120);
+
 /// An object on its way into a layer.
 #[derive(Drop)]
 pub enum Object {

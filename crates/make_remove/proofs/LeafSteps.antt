@@ -1,28 +1,33 @@
 -- A file or link that is made in a directory whose missing parents were placed.
-use Rattle.std.proofs.Common.{◌≡◌, ◌↔◌, ℕ, cond, List, [], ◌∷◌, ◌++◌, Option, None, Some, refl, sym, ap, ◌∙◌, subst, length, nat_lt, nat_eq}
+use Rattle.std.proofs.Common.{◌≡◌, ◌↔◌, ◌≤◌, ℕ, false, cond, List, [], ◌∷◌, ◌++◌, Option, None, Some, refl, sym, ap, ◌∙◌, subst, length, nat_lt, nat_eq, arith}
 use Rattle.std.specs.Option.{option_and_then}
 use Rattle.ov_base.specs.declared.attributes.Attributes.{Attributes}
 use Rattle.ov_base.specs.declared.bytes.Content.{Content}
 use Rattle.ov_base.specs.declared.bytes.Content.TheVariants as content
-use Rattle.plain_model.specs.Layers.{Name, Path, Named, Inode, Layer, held, shows, same_path, IsLayer, AreLayers}
+use Rattle.plain_model.specs.Layers.{Name, Path, Named, Inode, Layer, held, shows, same_path, through, IsLayer, AreLayers}
 use Rattle.plain_model.specs.Tree.{IsThin, Own, SeenLeaf, merged}
 use Rattle.ov_base.specs.declared.errno.Errno.{Errno}
 use Rattle.ov_base.specs.declared.errno.Errno.TheVariants as errno
 use Rattle.plain_model.specs.Refusals.{when, has_nul}
 use Rattle.mount_laws.specs.Looks.{or_else}
-use Rattle.mount_laws.specs.Leaves.{PlacesLeaf, GainsLeaf, MakesLink, symlink_fault}
+use Rattle.mount_laws.specs.Leaves.{PlacesLeaf, GainsLeaf, MakesLink, MakesFile, symlink_fault}
 use Rattle.mount_laws.proofs.Places.{longer}
 use Rattle.mount_laws.proofs.Alters.{law_of_thin, law_of_placed_leaf}
 use Rattle.mount_laws.proofs.Links.{law_of_link_made}
+use Rattle.mount_laws.proofs.Files.{law_of_file_made}
 use Rattle.layer_tree.specs.Tree.{Tree, layer_of, inode_of, Inserts, SetsPath}
 use Rattle.layer_tree.specs.declared.node.Object.TheVariants as object
 use Rattle.merged_lookup.specs.declared.layers.Layers.{Layers}
 use Rattle.merged_lookup.specs.Merged.{layers_of, lowers_of}
-use Rattle.copy_up.specs.Showing.{ShowsSame, StaysLayers, StaysThin, HasPlace}
-use Rattle.copy_up.proofs.Placing.{nothing-held}
+use Rattle.slab.specs.Slab.{get}
+use Rattle.layer_tree.specs.Nameless.{KeepsObjects}
+use Rattle.layer_tree.proofs.Nameless.{keeps_then, vacant_before}
+use Rattle.copy_up.specs.Showing.{is_object, ShowsSame, StaysLayers, StaysThin, HasPlace, GainsParents}
+use Rattle.copy_up.proofs.Frames.{others-then}
+use Rattle.copy_up.proofs.Placing.{nothing-held, free-absent}
 use Rattle.copy_up.proofs.Keeping.{lowers-same}
-use Rattle.make_remove.specs.Making.{new_attributes, vacancy_fault}
-use Rattle.make_remove.specs.Leaves.{MakesLeaf, SymlinkSteps, target_fault}
+use Rattle.make_remove.specs.Making.{mkdir_fault, new_attributes, vacancy_fault}
+use Rattle.make_remove.specs.Leaves.{MakesLeaf, SymlinkSteps, CreateSteps, target_fault}
 use Rattle.make_remove.proofs.Making.{free-directory}
 
 -- a new inode of one name
@@ -55,22 +60,27 @@ gains-since start old V p c a same names g =
     }
 
 module _ (start old new : Layers) (same : ShowsSame start old) (stays : StaysLayers start old) (names : (x : Path) (k : ℕ) → (held (layer_of old.upper) x ≡ Some (Named k)) ↔ (held (layer_of start.upper) x ≡ Some (Named k))) (low : new.lowers ≡ old.lowers) (keep : IsLayer (layer_of old.upper) → IsLayer (layer_of new.upper)) (n : Name) (q : Path) (key : ℕ) (c : Content) (a : Attributes) (absent : shows 0 (layers_of start) (n ∷ q) ≡ None) (placed : PlacesLeaf (layer_of old.upper) (layer_of new.upper) (n ∷ q) key (leaf_of c a)) where
-  makes-at : MakesLeaf start new (n ∷ q) c a
-  makes-at = record {
+  makes-at : GainsParents start old (n ∷ q) → get old.upper key ≡ None → KeepsObjects old.upper new.upper (Some key) → MakesLeaf start new (n ∷ q) c a
+  makes-at gains vacant kept = record {
     lowers = low ∙ same.lowers;
     number = key;
     held_there = placed.here;
     inode = placed.inode;
     gains = λ h. gains-since start old (layer_of new.upper) (n ∷ q) c a same names (law_of_placed_leaf (layer_of old.upper) (layer_of new.upper) (lowers_of old) (stays h) (keep (stays h).0, (stays h).1) n q key (leaf_of c a) (same.absent (n ∷ q) absent) placed);
+    vacant = vacant_before start.upper old.upper None gains.objects key vacant;
+    others = others-then start old new (n ∷ q) gains low placed.elsewhere
+        (λ m r. ap is_object (nothing-held old.upper (n ∷ q) (free-directory (held (layer_of old.upper) (n ∷ q)) (free-absent (layer_of old.upper).inodes (held (layer_of old.upper) (n ∷ q)) (through (layer_of old.upper) (lowers_of old) (n ∷ q)) (same.absent (n ∷ q) absent))) m r))
+        placed.beneath;
+    objects = keeps_then start.upper old.upper new.upper (Some key) gains.objects kept;
   }
 
   thin-at : StaysThin start old → StaysThin start new
   thin-at thin h = subst (λ (Ls : List Layer). IsThin (layer_of new.upper) Ls) (sym (lowers-same old new low)) ((law_of_thin (layer_of old.upper) (layer_of new.upper) (lowers_of old) (thin h) n q).leaf key (leaf_of c a) placed)
 
 -- a file or link at a path that ends in the name
-pub leaf-made : (start old new : Layers) → ShowsSame start old → StaysLayers start old → ((x : Path) (k : ℕ) → (held (layer_of old.upper) x ≡ Some (Named k)) ↔ (held (layer_of start.upper) x ≡ Some (Named k))) → new.lowers ≡ old.lowers → (IsLayer (layer_of old.upper) → IsLayer (layer_of new.upper)) → (p : Path) (n : Name) (q : Path) (key : ℕ) (c : Content) (a : Attributes) → p ≡ n ∷ q → shows 0 (layers_of start) p ≡ None → PlacesLeaf (layer_of old.upper) (layer_of new.upper) (n ∷ q) key (leaf_of c a) → MakesLeaf start new p c a
-leaf-made start old new same stays names low keep p n q key c a e absent placed =
-    subst (λ (z : Path). MakesLeaf start new z c a) (sym e) (makes-at start old new same stays names low keep n q key c a (sym (ap (shows 0 (layers_of start)) e) ∙ absent) placed)
+pub leaf-made : (start old new : Layers) → ShowsSame start old → StaysLayers start old → ((x : Path) (k : ℕ) → (held (layer_of old.upper) x ≡ Some (Named k)) ↔ (held (layer_of start.upper) x ≡ Some (Named k))) → new.lowers ≡ old.lowers → (IsLayer (layer_of old.upper) → IsLayer (layer_of new.upper)) → (p : Path) (n : Name) (q : Path) (key : ℕ) (c : Content) (a : Attributes) → p ≡ n ∷ q → shows 0 (layers_of start) p ≡ None → PlacesLeaf (layer_of old.upper) (layer_of new.upper) (n ∷ q) key (leaf_of c a) → GainsParents start old (n ∷ q) → get old.upper key ≡ None → KeepsObjects old.upper new.upper (Some key) → MakesLeaf start new p c a
+leaf-made start old new same stays names low keep p n q key c a e absent placed gains vacant kept =
+    subst (λ (z : Path). MakesLeaf start new z c a) (sym e) (makes-at start old new same stays names low keep n q key c a (sym (ap (shows 0 (layers_of start)) e) ∙ absent) placed gains vacant kept)
 
 pub leaf-thin : (start old new : Layers) → ShowsSame start old → StaysLayers start old → ((x : Path) (k : ℕ) → (held (layer_of old.upper) x ≡ Some (Named k)) ↔ (held (layer_of start.upper) x ≡ Some (Named k))) → new.lowers ≡ old.lowers → (IsLayer (layer_of old.upper) → IsLayer (layer_of new.upper)) → (p : Path) (n : Name) (q : Path) (key : ℕ) (c : Content) (a : Attributes) → p ≡ n ∷ q → shows 0 (layers_of start) p ≡ None → PlacesLeaf (layer_of old.upper) (layer_of new.upper) (n ∷ q) key (leaf_of c a) → StaysThin start old → StaysThin start new
 leaf-thin start old new same stays names low keep p n q key c a e absent placed thin = thin-at start old new same stays names low keep n q key c a (sym (ap (shows 0 (layers_of start)) e) ∙ absent) placed thin
@@ -89,3 +99,15 @@ symlink-fine Ls target p h e = or-chain (when (nat_lt 4095 (length target)) errn
 pub symlink-steps : (old new : Layers) (target : List ℕ) (p : Path) → symlink_fault (layers_of old) target p ≡ None → MakesLeaf old new p (content.SymbolicLink target) (new_attributes 0o777) → SymlinkSteps old new target p
 symlink-steps old new target p fine made s h c =
     subst (λ (Ls : List Layer). MakesLink (layer_of new.upper) Ls s c target p) (sym (lowers-same old new made.lowers)) (law_of_link_made (layer_of old.upper) (layer_of new.upper) (lowers_of old) s h c target p fine (made.gains h.layers))
+
+-- a mode that may be given, where something may be made
+pub mkdir-fine : (Ls : List Layer) (p : Path) (mode : ℕ) → mode ≤ 0o7777 → vacancy_fault Ls p ≡ None → mkdir_fault Ls p mode ≡ None
+mkdir-fine Ls p mode h e = ap (λ b. or_else (when b errno.EINVAL) (vacancy_fault Ls p)) (small mode h) ∙ e
+  where
+    small : (mode : ℕ) → mode ≤ 0o7777 → nat_lt 0o7777 mode ≡ false
+    small mode h = grind arith
+
+-- an open is the machine's step, as far as the layers, where it makes its file
+pub create-steps : (old new : Layers) (p : Path) (mode : ℕ) → mkdir_fault (layers_of old) p mode ≡ None → MakesLeaf old new p (content.File []) (new_attributes mode) → CreateSteps old new p mode
+create-steps old new p mode fine made s h c flags =
+    subst (λ (Ls : List Layer). MakesFile (layer_of new.upper) Ls s c p flags mode) (sym (lowers-same old new made.lowers)) (law_of_file_made (layer_of old.upper) (layer_of new.upper) (lowers_of old) s h c p flags mode fine (made.gains h.layers))

@@ -1,5 +1,6 @@
 pub mod Making
 pub mod Stepping
 pub mod LeafSteps
-pub mod Freeing
+pub mod Unnaming
+pub mod Freed
 pub mod Removing

@@ -7,9 +7,13 @@ use Rattle.plain_model.specs.Tree.{SeenBranch, merged}
 use Rattle.plain_model.proofs.Paths.{place, outside-parent, parent-outside}
 use Rattle.plain_model.proofs.Uppers.{meld, merged-meld, AgreeTo, agree-where, under-agree, merged-agree}
 use Rattle.layer_tree.specs.Tree.{Tree, layer_of, SetsPath, inode_at}
+use Rattle.layer_tree.specs.Nameless.{KeepsObjects}
+use Rattle.layer_tree.proofs.Nameless.{keeps_then, vacant_before}
+use Rattle.slab.specs.Slab.{get}
 use Rattle.merged_lookup.specs.declared.stack.Place.{Place}
 use Rattle.merged_lookup.specs.Merged.{top_of, lowers_of, layers_of, IsStackOf}
-use Rattle.copy_up.specs.Showing.{is_object, ShowsSame, HasPlace}
+use Rattle.copy_up.specs.Showing.{is_object, ShowsSame, HasPlace, GainsParents}
+use Rattle.copy_up.proofs.Frames.{others-then}
 use Rattle.merged_lookup.specs.declared.stack.Stack.{Stack}
 use Rattle.merged_lookup.specs.declared.layers.Layers.{Layers}
 use Rattle.make_remove.specs.Making.{MakesDirectory, new_attributes}
@@ -74,8 +78,8 @@ under-same start old n q s =
     ap (λ Ls. under (layer_of old.upper) Ls n q) (lowers-same start old s.lowers)
     ∙ under-agree (layer_of start.upper) (layer_of old.upper) (lowers_of start) n q (record { cut_alike = s.passes.cuts q; spelled = s.passes.spelling q })
 
-makes-at : (start old new : Layers) (q : Path) (n : Name) (key mode : ℕ) (o : Bool) → ShowsSame start old → new.lowers ≡ old.lowers → ((k : ℕ) → inode_at new.upper k ≡ inode_at old.upper k) → shows 0 (layers_of start) (n ∷ q) ≡ None → o ≡ is_directory (under (layer_of old.upper) (lowers_of old) n q) → SetsPath (layer_of old.upper) (layer_of new.upper) (n ∷ q) (Directory key (new_attributes mode) o None) → MakesDirectory start new (n ∷ q) mode
-makes-at start old new q n key mode o same low inodes absent opaque sets =
+makes-at : (start old new : Layers) (q : Path) (n : Name) (key mode : ℕ) (o : Bool) → ShowsSame start old → GainsParents start old (n ∷ q) → get old.upper key ≡ None → KeepsObjects old.upper new.upper None → new.lowers ≡ old.lowers → ((k : ℕ) → inode_at new.upper k ≡ inode_at old.upper k) → shows 0 (layers_of start) (n ∷ q) ≡ None → o ≡ is_directory (under (layer_of old.upper) (lowers_of old) n q) → SetsPath (layer_of old.upper) (layer_of new.upper) (n ∷ q) (Directory key (new_attributes mode) o None) → MakesDirectory start new (n ∷ q) mode
+makes-at start old new q n key mode o same gains vacant kept low inodes absent opaque sets =
     let I : (layer_of new.upper).inodes ≡ (layer_of old.upper).inodes = inodes-same old.upper new.upper inodes in
     let none : shows 0 (layers_of old) (n ∷ q) ≡ None = same.absent (n ∷ q) absent in
     let free : is_object (held (layer_of old.upper) (n ∷ q)) ≡ false = free-absent (layer_of old.upper).inodes (held (layer_of old.upper) (n ∷ q)) (through (layer_of old.upper) (lowers_of old) (n ∷ q)) none in
@@ -85,11 +89,16 @@ makes-at start old new q n key mode o same low inodes absent opaque sets =
       held_there = sets.there ∙ ap (λ b. Some (Directory key (new_attributes mode) b None)) (opaque ∙ ap is_directory (under-same start old n q same));
       shown_there = ap (λ Ls. merged (layer_of new.upper) Ls (n ∷ q)) (lowers-same old new low) ∙ made-here old.upper (layer_of new.upper) old.lowers.items n q key (new_attributes mode) o free none opaque sets I;
       elsewhere = λ x ne. ap (λ Ls. merged (layer_of new.upper) Ls x) (lowers-same old new low) ∙ made-elsewhere old.upper (layer_of new.upper) old.lowers.items n q key (new_attributes mode) o free none opaque sets I x ne ∙ same.sights x;
+      vacant = vacant_before start.upper old.upper None gains.objects key vacant;
+      others = others-then start old new (n ∷ q) gains low (λ x out. sets.elsewhere x (λ e. out [] e))
+          (λ m r. ap is_object (was-bare old.upper (layer_of new.upper) old.lowers.items n q key (new_attributes mode) o free none opaque sets I m r))
+          (now-bare old.upper (layer_of new.upper) old.lowers.items n q key (new_attributes mode) o free none opaque sets I);
+      objects = keeps_then start.upper old.upper new.upper None gains.objects kept;
     }
 
 -- a new directory where nothing is shown, in a parent that the upper has
-pub makes : (start old new : Layers) (p q : Path) (n : Name) (key mode : ℕ) (o : Bool) → p ≡ n ∷ q → ShowsSame start old → new.lowers ≡ old.lowers → ((k : ℕ) → inode_at new.upper k ≡ inode_at old.upper k) → shows 0 (layers_of start) p ≡ None → o ≡ is_directory (under (layer_of old.upper) (lowers_of old) n q) → SetsPath (layer_of old.upper) (layer_of new.upper) (n ∷ q) (Directory key (new_attributes mode) o None) → MakesDirectory start new p mode
-makes start old new p q n key mode o e same low inodes absent opaque sets = subst (λ (z : Path). MakesDirectory start new z mode) (sym e) (makes-at start old new q n key mode o same low inodes (sym (ap (shows 0 (layers_of start)) e) ∙ absent) opaque sets)
+pub makes : (start old new : Layers) (p q : Path) (n : Name) (key mode : ℕ) (o : Bool) → p ≡ n ∷ q → ShowsSame start old → GainsParents start old (n ∷ q) → get old.upper key ≡ None → KeepsObjects old.upper new.upper None → new.lowers ≡ old.lowers → ((k : ℕ) → inode_at new.upper k ≡ inode_at old.upper k) → shows 0 (layers_of start) p ≡ None → o ≡ is_directory (under (layer_of old.upper) (lowers_of old) n q) → SetsPath (layer_of old.upper) (layer_of new.upper) (n ∷ q) (Directory key (new_attributes mode) o None) → MakesDirectory start new p mode
+makes start old new p q n key mode o e same gains vacant kept low inodes absent opaque sets = subst (λ (z : Path). MakesDirectory start new z mode) (sym e) (makes-at start old new q n key mode o same gains vacant kept low inodes (sym (ap (shows 0 (layers_of start)) e) ∙ absent) opaque sets)
 
 -- the place of a new directory where nothing is shown
 pub absent-place : (start old : Layers) (p q : Path) (n : Name) (parent : Stack) (dir : Place) → p ≡ n ∷ q → ShowsSame start old → shows 0 (layers_of start) p ≡ None → IsStackOf old q parent → (top_of parent.places.items).layer ≡ 0 → dir ≡ top_of parent.places.items → HasPlace (layer_of old.upper) dir.key n q

@@ -1,11 +1,11 @@
 -- What layers show once a name is removed, from what the upper held before missing parents were placed.
-use Rattle.std.proofs.Common.{◌≡◌, ◌↔◌, ℕ, ◌<◌, Bool, true, false, not, cond, List, [], ◌∷◌, Option, None, Some, is_some, length, refl, sym, ap, ap₂, ◌∙◌, subst, map, arith}
+use Rattle.std.proofs.Common.{◌≡◌, ◌↔◌, ℕ, ◌<◌, Bool, true, false, not, cond, List, [], ◌∷◌, ◌++◌, Option, None, Some, is_some, length, refl, sym, ap, ap₂, ◌∙◌, subst, map, arith}
 use Rattle.std.proofs.lemmas.Bool.{false≢true}
 use Rattle.slab.specs.Slab.{get}
 use Rattle.ov_base.specs.declared.call.Call.TheVariants as call
 use Rattle.ov_base.specs.declared.errno.Errno.{Errno}
 use Rattle.ov_base.specs.declared.errno.Errno.TheVariants as errno
-use Rattle.plain_model.specs.Layers.{Name, Path, Object, Named, Whiteout, Layer, IsLayer, AreLayers, held, below, cuts, Shown, Folder, Contents, shows, under, is_directory}
+use Rattle.plain_model.specs.Layers.{Name, Path, Named, Whiteout, Layer, IsLayer, AreLayers, held, below, cuts, Shown, Folder, Contents, shows, through, under, is_directory}
 use Rattle.plain_model.specs.Machine.{State, is_root}
 use Rattle.plain_model.specs.Refusals.{refusal, when}
 use Rattle.plain_model.specs.Tree.{merged, IsThin}
@@ -14,7 +14,7 @@ use Rattle.mount_laws.specs.Removals.{fewer}
 use Rattle.mount_laws.proofs.Alters.{law_of_taken_away, law_of_thin}
 use Rattle.mount_laws.proofs.Refusing.{law_of_rmdir}
 use Rattle.mount_laws.proofs.Removes.{law_of_unlinked, law_of_removed_directory}
-use Rattle.layer_tree.specs.Tree.{Tree, IsTree, IsDirectory, layer_of, inode_at, child, key_at}
+use Rattle.layer_tree.specs.Tree.{Tree, IsTree, IsDirectory, layer_of, key_at}
 use Rattle.merged_lookup.specs.declared.stack.Place.{Place}
 use Rattle.merged_lookup.specs.declared.stack.Stack.{Stack}
 use Rattle.merged_lookup.specs.declared.layers.Layers.{Layers}
@@ -23,13 +23,13 @@ use Rattle.merged_lookup.specs.declared.found.Found.TheVariants as found
 use Rattle.merged_lookup.specs.Merged.{trees, layers_of, lowers_of, top_of, unless_cut, places_at, IsStackOf, IsFound, ShowsDirectory, ShowsInode}
 use Rattle.merged_lookup.proofs.Descending.{key-of}
 use Rattle.merged_lookup.proofs.Looking.{head-places, head-unless}
-use Rattle.copy_up.specs.Showing.{ShowsSame, StaysLayers}
+use Rattle.copy_up.specs.Showing.{is_object, ShowsSame, StaysLayers, GainsParents}
+use Rattle.copy_up.proofs.Frames.{others-then}
 use Rattle.copy_up.proofs.Keeping.{lowers-same, linked-by}
 use Rattle.copy_up.proofs.Nodes.{IsDirectoryWith, held-node, table-some}
-use Rattle.copy_up.proofs.Placing.{IsHeldDirectory, top-held, parents-shown}
-use Rattle.make_remove.specs.Removing.{unlink_fault, rmdir_fault, ShowsNoName, TakesAway, Loses, Removes, TellsNames, TakesName, left_behind, number_of, has_more}
-use Rattle.make_remove.proofs.Freeing.{number-child}
-use Rattle.make_remove.proofs.Making.{under-same}
+use Rattle.copy_up.proofs.Placing.{IsHeldDirectory, top-held, parents-shown, nothing-held, free-absent}
+use Rattle.make_remove.specs.Removing.{unlink_fault, rmdir_fault, ShowsNoName, TakesAway, Loses, Removes, TellsNames, TakesName, left_behind}
+use Rattle.make_remove.proofs.Making.{under-same, free-directory}
 
 -- the directory at a path is under this key of the tree
 pub record IsAt (t : Tree) (p : Path) (dir : ℕ) : Type 0 where
@@ -59,11 +59,6 @@ loses-from W U V lowers p sights names l = record {
   names = λ q k. (λ h. (let z = (l.names q k).0 h in (z.0, (names q k).0 z.1)), λ h. (l.names q k).1 (h.0, (names q k).1 h.1));
 }
 
--- what the upper holds keeps its number
-number-kept : (o v : Option Object) (k : ℕ) → ((x : Object) → o ≡ Some x → v ≡ Some x) → number_of o ≡ Some k → number_of v ≡ Some k
-number-kept None v k holds h = cc
-number-kept (Some x) v k holds h = ap number_of (holds x refl) ∙ h
-
 -- what is left is a whiteout exactly where the lower layers show something, and the upper stays without needless ones
 taken-left : (old : Layers) (V : Layer) (q : Path) (n : Name) (covered : Bool) → covered ≡ is_some (under (layer_of old.upper) (lowers_of old) n q) → TakesAway (layer_of old.upper) V (n ∷ q) (cond covered (Some Whiteout) None) → TakesAway (layer_of old.upper) V (n ∷ q) (left_behind (layer_of old.upper) (lowers_of old) n q)
 taken-left old V q n covered e taken = subst (λ c. TakesAway (layer_of old.upper) V (n ∷ q) (cond c (Some Whiteout) None)) e taken
@@ -71,8 +66,13 @@ taken-left old V q n covered e taken = subst (λ c. TakesAway (layer_of old.uppe
 pub taken-thin : (old : Layers) (V : Layer) (q : Path) (n : Name) (covered : Bool) → covered ≡ is_some (under (layer_of old.upper) (lowers_of old) n q) → TakesAway (layer_of old.upper) V (n ∷ q) (cond covered (Some Whiteout) None) → IsThin (layer_of old.upper) (lowers_of old) → IsThin V (lowers_of old)
 taken-thin old V q n covered e taken thin = (law_of_thin (layer_of old.upper) V (lowers_of old) thin n q).taken (taken-left old V q n covered e taken)
 
+-- where no name is shown in a path, the upper holds no object below it
+unshown-bare : (l : Layers) (p : Path) → ShowsNoName (layers_of l) p → (m : Name) (r : Path) → is_object (held (layer_of l.upper) (m ∷ r ++ p)) ≡ false
+unshown-bare l p unshown m [] = free-absent (layer_of l.upper).inodes (held (layer_of l.upper) (m ∷ p)) (through (layer_of l.upper) (lowers_of l) (m ∷ p)) (unshown m)
+unshown-bare l p unshown m (k ∷ r) = ap is_object (nothing-held l.upper (k ∷ r ++ p) (free-directory (held (layer_of l.upper) (k ∷ r ++ p)) (unshown-bare l p unshown k r)) m [])
+
 -- the name goes from an upper that shows what the first did
-module _ (start old new : Layers) (q : Path) (n : Name) (dir : ℕ) (covered : Bool) (same : ShowsSame start old) (keeps : StaysLayers start old) (names : (p : Path) (k : ℕ) → (held (layer_of old.upper) p ≡ Some (Named k)) ↔ (held (layer_of start.upper) p ≡ Some (Named k))) (inodes : (k : ℕ) → inode_at old.upper k ≡ inode_at start.upper k) (holds : (p : Path) (o : Object) → held (layer_of start.upper) p ≡ Some o → held (layer_of old.upper) p ≡ Some o) (low : new.lowers ≡ old.lowers) (unshown : ShowsNoName (layers_of start) (n ∷ q)) (at : key_at old.upper q ≡ Some dir) (is_covered : covered ≡ is_some (under (layer_of old.upper) (lowers_of old) n q)) (taken : TakesAway (layer_of old.upper) (layer_of new.upper) (n ∷ q) (cond covered (Some Whiteout) None)) (keep : IsLayer (layer_of old.upper) → IsLayer (layer_of new.upper)) (freed : (key : ℕ) → child old.upper dir n ≡ Some key → has_more 1 (inode_at old.upper key) ≡ false → get new.upper key ≡ None) where
+module _ (start old new : Layers) (q : Path) (n : Name) (covered : Bool) (same : ShowsSame start old) (keeps : StaysLayers start old) (names : (p : Path) (k : ℕ) → (held (layer_of old.upper) p ≡ Some (Named k)) ↔ (held (layer_of start.upper) p ≡ Some (Named k))) (gains : GainsParents start old (n ∷ q)) (low : new.lowers ≡ old.lowers) (unshown : ShowsNoName (layers_of start) (n ∷ q)) (is_covered : covered ≡ is_some (under (layer_of old.upper) (lowers_of old) n q)) (taken : TakesAway (layer_of old.upper) (layer_of new.upper) (n ∷ q) (cond covered (Some Whiteout) None)) (keep : IsLayer (layer_of old.upper) → IsLayer (layer_of new.upper)) where
   loses : AreLayers (layers_of start) → Loses (layer_of start.upper) (layer_of new.upper) (lowers_of start) (n ∷ q)
   loses a =
       let b : AreLayers (layers_of old) = keeps a in
@@ -87,9 +87,7 @@ module _ (start old new : Layers) (q : Path) (n : Name) (dir : ℕ) (covered : B
     lowers = low ∙ same.lowers;
     left = (taken-left old (layer_of new.upper) q n covered is_covered taken).here ∙ ap (λ s. cond (is_some s) (Some Whiteout) None) (under-same start old n q same);
     loses = loses;
-    freed = λ key here last. freed key
-        (number-child old.upper q dir n key at (number-kept (held (layer_of start.upper) (n ∷ q)) (held (layer_of old.upper) (n ∷ q)) key (holds (n ∷ q)) here))
-        (ap (has_more 1) (inodes key) ∙ last);
+    others = others-then start old new (n ∷ q) gains low taken.elsewhere (unshown-bare old (n ∷ q) (λ m. same.absent (m ∷ n ∷ q) (unshown m))) taken.beneath;
   }
 
 -- what shows no directory shows nothing in it

@@ -1,13 +1,12 @@
 -- What a call that removes a name leaves, by what is shown and by what the upper holds (overlayfs.rst, "whiteouts and opaque
 -- directories"; POSIX.1-2017, unlink() and rmdir()).
-use Rattle.std.specs.Prelude.{◌≡◌, ◌≢◌, ℕ, Bool, true, false, nat_lt, [], ◌∷◌, Option, None, Some}
-use Rattle.slab.specs.Slab.{get}
-use Rattle.plain_model.specs.Layers.{Name, Path, Object, Directory, Named, Inode, held, AreLayers}
+use Rattle.std.specs.Prelude.{◌≡◌, ℕ, Bool, false, cond, nat_lt, [], ◌∷◌, Option, None, Some, option_map}
+use Rattle.plain_model.specs.Layers.{Path, Object, Directory, Named, Inode, held, AreLayers}
 pub use Rattle.mount_laws.specs.Removals.{unlink_fault, rmdir_fault, ShowsNoName, TakesAway, Loses, left_behind, Removes}
 pub use Rattle.dir_listing.specs.Shown.{TellsNames}
-use Rattle.layer_tree.specs.Tree.{Tree, ROOT, IsDirectory, child, inode_at, layer_of}
-use Rattle.layer_tree.specs.declared.name_table.Entry.{Entry}
-use Rattle.layer_tree.specs.declared.name_table.Entry.TheVariants as bound
+use Rattle.layer_tree.specs.Tree.{Tree, inode_at, with_less, layer_of}
+use Rattle.layer_tree.specs.Nameless.{IsNameless, KeepsObjects}
+use Rattle.copy_up.specs.Showing.{KeepsOthers}
 use Rattle.merged_lookup.specs.declared.layers.Layers.{Layers}
 use Rattle.merged_lookup.specs.Merged.{layers_of, lowers_of}
 
@@ -28,21 +27,28 @@ has_more count None = false
 has_more count (Some i) = nat_lt count i.links
 
 -- The upper lost the name p: what stands there now is a whiteout or nothing, nothing else that is shown changes but for link counts, and
--- the object that the name led to is gone, unless it has other names.
+-- what the upper holds elsewhere stays, but for missing parents that it gained.
 pub record TakesName (old new : Layers) (p : Path) : Type 0 where
   pub lowers : new.lowers ≡ old.lowers
   pub left : held (layer_of new.upper) p ≡ left_at old p
   pub loses : AreLayers (layers_of old) → Loses (layer_of old.upper) (layer_of new.upper) (lowers_of old) p
-  pub freed : (key : ℕ) → number_of (held (layer_of old.upper) p) ≡ Some key → has_more 1 (inode_at old.upper key) ≡ false → get new.upper key ≡ None
+  pub others : KeepsOthers old new p
 
--- an object that lost a name: not the root, empty but for whiteouts, and if it's a directory no name leads to it
-pub record IsReleased (t : Tree) (key : ℕ) : Type 0 where
-  pub not_root : key ≢ ROOT
-  pub unnamed : IsDirectory t key → (dir : ℕ) (name : Name) → child t dir name ≢ Some key
-  pub bare : (name : Name) → child t key name ≡ None
+-- what was left without a name under this key: a directory, or an inode without links
+abbrev pub released_by : Tree → Option ℕ → Option ℕ
+released_by t None = None
+released_by t (Some key) = cond (has_more 0 (inode_at t key)) None (Some key)
 
--- The object that a name led to is gone if it is no inode with other names. Every other object stays.
-pub record Releases (old new : Tree) (was : Option Entry) : Type 0 where
-  pub freed : (key : ℕ) → was ≡ Some (bound.Object key) → has_more 0 (inode_at old key) ≡ false → get new key ≡ None
-  pub kept : (key : ℕ) → has_more 0 (inode_at old key) ≡ true → get new key ≡ get old key
-  pub others : (key : ℕ) → was ≢ Some (bound.Object key) → get new key ≡ get old key
+-- the key of the object that is held, where that is its last name: a directory, or an inode that has no other
+abbrev pub last_named : Tree → Option Object → Option ℕ
+last_named t (Some (Directory k a o r)) = Some k
+last_named t (Some (Named k)) = cond (has_more 1 (inode_at t k)) None (Some k)
+last_named t _ = None
+
+-- What the upper held at p lost this name: an inode has a link fewer, and all else under the keys of the upper stays. Where the name
+-- was the last one, the object stays without a name, and its key is handed back.
+pub record Unnames (old new : Layers) (p : Path) (released : Option ℕ) : Type 0 where
+  pub objects : KeepsObjects old.upper new.upper (number_of (held (layer_of old.upper) p))
+  pub fewer : (key : ℕ) → number_of (held (layer_of old.upper) p) ≡ Some key → inode_at new.upper key ≡ option_map with_less (inode_at old.upper key)
+  pub handed_back : released ≡ last_named old.upper (held (layer_of old.upper) p)
+  pub nameless : (key : ℕ) → released ≡ Some key → IsNameless new.upper key

@@ -2,7 +2,7 @@
 ghost use Rattle.std.specs.Prelude.{◌≡◌, Some, None, IfOk, IfErr, OnOk, OnErr};
 ghost use Rattle.plain_model.specs.Layers.{shows};
 ghost use Rattle.merged_lookup.specs.Merged.{layers_of, parents_fault};
-ghost use Rattle.copy_up.specs.Showing.{ShowsSame, StaysLayers, StaysMount, StaysThin};
+ghost use Rattle.copy_up.specs.Showing.{ShowsSame, GainsParents, StaysLayers, StaysMount, StaysThin};
 ghost use Rattle.make_remove.specs.Making.{MakesDirectory, MkdirSteps, mkdir_fault};
 
 use crate::objects::{MODE_BITS, new_attributes, vacant};
@@ -27,6 +27,7 @@ pub fn mkdir(
     ensures steps { IfOk result (λ r. OnOk r (MkdirSteps layers.old layers.new path.now mode)) }
     ensures no_memory { OnErr result (ShowsSame layers.old layers.new) }
     ensures mounts { OnErr result (StaysMount layers.old layers.new) }
+    ensures parents { OnErr result (GainsParents layers.old layers.new path.now) }
     ensures keeps { StaysLayers layers.old layers.new }
     ensures thin { StaysThin layers.old layers.new }
 {
@@ -49,6 +50,7 @@ fn make(alloc: Global, layers: &mut Layers, path: &Path, mode: u32) -> Result<()
     ensures steps { OnOk result (MkdirSteps layers.old layers.new path.now mode) }
     ensures no_memory { OnErr result (ShowsSame layers.old layers.new) }
     ensures mounts { OnErr result (StaysMount layers.old layers.new) }
+    ensures parents { OnErr result (GainsParents layers.old layers.new path.now) }
     ensures keeps { StaysLayers layers.old layers.new }
     ensures thin { StaysThin layers.old layers.new }
 {
@@ -59,6 +61,6 @@ fn make(alloc: Global, layers: &mut Layers, path: &Path, mode: u32) -> Result<()
     let opaque = layers.lowers_show_directory(&parent, name);
     let attributes = new_attributes(alloc, mode);
     let dir = parent.top();
-    insert_directory(&mut layers.upper, dir.key, *name, attributes, opaque)?;
+    insert_directory(layers, dir.key, name, attributes, opaque)?;
     Ok(())
 }

@@ -3,12 +3,14 @@ ghost use Rattle.std.specs.Prelude.{◌≡◌, ◌∷◌, [], ℕ, Some, None, I
 ghost use Rattle.plain_model.specs.Layers.{Path as Names, shows, AreLayers, IsLayer};
 ghost use Rattle.plain_model.specs.Refusals as rule;
 ghost use Rattle.mount_laws.specs.Leaves.{PlacesLeaf, symlink_fault};
-ghost use Rattle.layer_tree.specs.Tree.{layer_of, inode_at, SameObjects};
+ghost use Rattle.slab.specs.Slab.{get};
+ghost use Rattle.layer_tree.specs.Nameless.{KeepsObjects};
+ghost use Rattle.layer_tree.specs.Tree.{layer_of, SameObjects};
 ghost use Rattle.merged_lookup.specs.Merged.{layers_of, parents_fault};
-ghost use Rattle.copy_up.specs.Showing.{ShowsSame, HasPlace, StaysLayers, StaysMount, StaysThin};
+ghost use Rattle.copy_up.specs.Showing.{ShowsSame, GainsParents, HasPlace, StaysLayers, StaysMount, StaysThin};
 ghost use Rattle.make_remove.specs.Making as made;
 ghost use Rattle.make_remove.specs.Making.{mkdir_fault};
-ghost use Rattle.make_remove.specs.Leaves.{MakesLeaf, SymlinkSteps, target_fault};
+ghost use Rattle.make_remove.specs.Leaves.{MakesLeaf, SymlinkSteps, CreateSteps, target_fault};
 ghost use Rattle.ov_base.specs.declared.bytes.Content.TheVariants as content;
 
 use crate::objects::{MODE_BITS, new_attributes, vacant};
@@ -40,6 +42,7 @@ pub fn symlink(
     ensures steps { IfOk result (λ r. OnOk r (SymlinkSteps layers.old layers.new target path.now)) }
     ensures no_memory { OnErr result (ShowsSame layers.old layers.new) }
     ensures mounts { OnErr result (StaysMount layers.old layers.new) }
+    ensures parents { OnErr result (GainsParents layers.old layers.new path.now) }
     ensures keeps { StaysLayers layers.old layers.new }
     ensures thin { StaysThin layers.old layers.new }
 {
@@ -89,8 +92,10 @@ pub fn create(
     ensures unchanged { IfOk result (λ r. OnErr r (layers.new ≡ layers.old)) }
     ensures allowed { IfOk result (λ r. OnOk r (mkdir_fault (layers_of layers.old) path.now mode ≡ None)) }
     ensures made { IfOk result (λ r. OnOk r (MakesLeaf layers.old layers.new path.now (content.File []) (made.new_attributes mode))) }
+    ensures steps { IfOk result (λ r. OnOk r (CreateSteps layers.old layers.new path.now mode)) }
     ensures no_memory { OnErr result (ShowsSame layers.old layers.new) }
     ensures mounts { OnErr result (StaysMount layers.old layers.new) }
+    ensures parents { OnErr result (GainsParents layers.old layers.new path.now) }
     ensures keeps { StaysLayers layers.old layers.new }
     ensures thin { StaysThin layers.old layers.new }
 {
@@ -117,6 +122,7 @@ fn make_leaf(
     ensures made { OnOk result (MakesLeaf layers.old layers.new path.now content attributes) }
     ensures no_memory { OnErr result (ShowsSame layers.old layers.new) }
     ensures mounts { OnErr result (StaysMount layers.old layers.new) }
+    ensures parents { OnErr result (GainsParents layers.old layers.new path.now) }
     ensures keeps { StaysLayers layers.old layers.new }
     ensures thin { StaysThin layers.old layers.new }
 {
@@ -125,25 +131,48 @@ fn make_leaf(
     };
     let parent = place_parents(layers, parents)?;
     let dir = parent.top();
-    insert_leaf(&mut layers.upper, dir.key, *name, content, attributes)?;
+    insert_leaf(layers, dir.key, name, content, attributes)?;
     Ok(())
 }
 
-// Puts a new file or symbolic link at a name of a directory at which no object stands.
+// Puts a new file or symbolic link at a name of a directory of the upper at which no object stands, and gives its key.
 fn insert_leaf(
-    upper: &mut Layer,
+    layers: &mut Layers,
     dir: usize,
-    name: Name,
+    name: &Name,
     content: Content,
     attributes: Attributes,
-) -> Result<(), AllocError>
-    requires { (p : Names) × HasPlace (layer_of upper.old) dir name p }
-    ensures placed { OnOk result ((p : Names) → HasPlace (layer_of upper.old) dir name p → (key : ℕ) × PlacesLeaf (layer_of upper.old) (layer_of upper.new) (name ∷ p) key (record { content = content; attributes = attributes; links = 1 })) }
+) -> Result<usize, AllocError>
+    requires { (p : Names) × HasPlace (layer_of layers.old.upper) dir name.now p }
+    ensures lowers { layers.new.lowers ≡ layers.old.lowers }
+    ensures placed { IfOk result (λ key. (p : Names) → HasPlace (layer_of layers.old.upper) dir name.now p → PlacesLeaf (layer_of layers.old.upper) (layer_of layers.new.upper) (name.now ∷ p) key (record { content = content; attributes = attributes; links = 1 })) }
+    ensures unchanged { OnErr result (SameObjects (layer_of layers.old.upper) (layer_of layers.new.upper)) }
+    ensures vacant { IfOk result (λ key. get layers.old.upper key ≡ None) }
+    ensures objects { IfOk result (λ key. KeepsObjects layers.old.upper layers.new.upper (Some key)) }
+    ensures same { OnErr result (KeepsObjects layers.old.upper layers.new.upper None) }
+    ensures keeps { IsLayer (layer_of layers.old.upper) → IsLayer (layer_of layers.new.upper) }
+{
+    insert_leaf_in(layers.upper_mut(), dir, name, content, attributes)
+}
+
+// Puts a new file or symbolic link at a name of a directory of a layer at which no object stands, and gives its key.
+fn insert_leaf_in(
+    upper: &mut Layer,
+    dir: usize,
+    name: &Name,
+    content: Content,
+    attributes: Attributes,
+) -> Result<usize, AllocError>
+    requires { (p : Names) × HasPlace (layer_of upper.old) dir name.now p }
+    ensures placed { IfOk result (λ key. (p : Names) → HasPlace (layer_of upper.old) dir name.now p → PlacesLeaf (layer_of upper.old) (layer_of upper.new) (name.now ∷ p) key (record { content = content; attributes = attributes; links = 1 })) }
     ensures unchanged { OnErr result (SameObjects (layer_of upper.old) (layer_of upper.new)) }
-    ensures inodes { OnErr result ((key : ℕ) → inode_at upper.new key ≡ inode_at upper.old key) }
+    ensures vacant { IfOk result (λ key. get upper.old key ≡ None) }
+    ensures objects { IfOk result (λ key. KeepsObjects upper.old upper.new (Some key)) }
+    ensures same { OnErr result (KeepsObjects upper.old upper.new None) }
     ensures keeps { IsLayer (layer_of upper.old) → IsLayer (layer_of upper.new) }
 {
     upper.lawful();
-    upper.insert(dir, name, Object::Inode(content, attributes))?;
-    Ok(())
+    let name = name.clone()?;
+    let key = upper.insert(dir, name, Object::Inode(content, attributes))?;
+    Ok(key)
 }

@@ -2,10 +2,12 @@
 #![tactic(auto)]
 
 mod directories;
+mod freeing;
 mod leaves;
 mod objects;
 mod removals;
 
 pub use directories::mkdir;
+pub use freeing::free;
 pub use leaves::{create, symlink};
 pub use removals::{rmdir, unlink};

@@ -1,17 +1,19 @@
 // `unlink` and `rmdir`.
-ghost use Rattle.std.specs.Prelude.{◌≡◌, ◌≢◌, ◌∷◌, List, ℕ, Bool, false, cond, Some, None, reverse, IfOk, IfErr, OnOk, OnErr};
-ghost use Rattle.slab.specs.Slab.{get};
+ghost use Rattle.std.specs.Prelude.{◌≡◌, ◌≢◌, ◌∷◌, List, ℕ, Bool, false, cond, Some, None, option_map, reverse, IfOk, IfErr, OnOk, OnErr};
+ghost use Rattle.std.specs.Option.{option_and_then};
 ghost use Rattle.ov_base.specs.declared.call.Call.TheVariants as call;
 ghost use Rattle.plain_model.specs.Layers as held;
 ghost use Rattle.plain_model.specs.Layers.{IsLayer};
 ghost use Rattle.plain_model.specs.Machine.{State};
 ghost use Rattle.plain_model.specs.Refusals.{refusal};
 ghost use Rattle.mount_laws.specs.Looks.{IsMountOf};
-ghost use Rattle.layer_tree.specs.Tree.{layer_of, inode_at, entry, child, key_at, IsDirectory, HoldsNoObjects, ReplacesPath, Unbinds, SameTree, SameObjects};
+ghost use Rattle.layer_tree.specs.Nameless.{IsNameless, KeepsObjects};
+ghost use Rattle.layer_tree.specs.Table.{object_key};
+ghost use Rattle.layer_tree.specs.Tree.{layer_of, inode_at, with_less, entry, child, key_at, IsDirectory, HoldsNoObjects, ReplacesPath, Unbinds, SameTree, SameObjects, IsTree};
 ghost use Rattle.layer_tree.specs.declared.name_table.Entry.TheVariants as bound;
 ghost use Rattle.merged_lookup.specs.Merged.{layers_of, lowers_of, way_fault};
-ghost use Rattle.copy_up.specs.Showing.{ShowsSame, Stays, StaysLayers, StaysMount, StaysThin};
-ghost use Rattle.make_remove.specs.Removing.{unlink_fault, rmdir_fault, ShowsNoName, TakesAway, Removes, TellsNames, TakesName, IsReleased, Releases, has_more};
+ghost use Rattle.copy_up.specs.Showing.{ShowsSame, GainsParents, Stays, StaysLayers, StaysMount, StaysThin};
+ghost use Rattle.make_remove.specs.Removing.{unlink_fault, rmdir_fault, ShowsNoName, TakesAway, Removes, TellsNames, TakesName, Unnames, released_by, has_more};
 
 use copy_up::place_parents;
 use dir_listing::shows_names;
@@ -24,9 +26,10 @@ use std::alloc::AllocError;
 const ROOT_REFUSAL: Errno = Errno::EBUSY;
 
 /// Removes a name of a file or symbolic link, as unlink(2). The root is EBUSY; on the way to the last name a name that shows nothing is
-/// ENOENT, a file ENOTDIR and a symbolic link ELOOP; then a name that shows nothing is ENOENT and a directory EISDIR. A refusal changes
-/// nothing, and want of memory changes nothing that is shown.
-pub fn unlink(layers: &mut Layers, path: &Path) -> Result<Result<(), Errno>, AllocError>
+/// ENOENT, a file ENOTDIR and a symbolic link ELOOP; then a name that shows nothing is ENOENT and a directory EISDIR. It hands back the
+/// key of the upper's inode whose last name this was, which stays until it is freed. A refusal changes nothing, and want of memory
+/// changes nothing that is shown.
+pub fn unlink(layers: &mut Layers, path: &Path) -> Result<Result<Option<usize>, Errno>, AllocError>
     ensures refused { IfOk result (λ r. IfErr r (λ e. unlink_fault (layers_of layers.old) path.now ≡ Some e)) }
     ensures unchanged { IfOk result (λ r. OnErr r (layers.new ≡ layers.old)) }
     ensures allowed { IfOk result (λ r. OnOk r (unlink_fault (layers_of layers.old) path.now ≡ None)) }
@@ -36,6 +39,8 @@ pub fn unlink(layers: &mut Layers, path: &Path) -> Result<Result<(), Errno>, All
     ensures thin { StaysThin layers.old layers.new }
     ensures no_memory { OnErr result (ShowsSame layers.old layers.new) }
     ensures mounts { OnErr result (StaysMount layers.old layers.new) }
+    ensures unnames { IfOk result (λ r. IfOk r (λ released. Unnames layers.old layers.new path.now released)) }
+    ensures parents { OnErr result (GainsParents layers.old layers.new path.now) }
 {
     let Some((name, parents)) = split_last(path) else {
         return Ok(Err(ROOT_REFUSAL));
@@ -45,14 +50,14 @@ pub fn unlink(layers: &mut Layers, path: &Path) -> Result<Result<(), Errno>, All
         Ok(Found::Directory(_)) => return Ok(Err(Errno::EISDIR)),
         Err(errno) => return Ok(Err(errno)),
     }
-    take_away(layers, parents, name)?;
-    Ok(Ok(()))
+    let key = take_away(layers, parents, name)?;
+    Ok(Ok(key))
 }
 
 /// Removes a directory that shows no name, as rmdir(2). The root is EBUSY; the way is refused as in `unlink`; a name that shows nothing is
-/// ENOENT, one that shows no directory ENOTDIR and a directory that shows a name ENOTEMPTY. A refusal changes nothing, and want of memory
-/// changes nothing that is shown.
-pub fn rmdir(layers: &mut Layers, path: &Path) -> Result<Result<(), Errno>, AllocError>
+/// ENOENT, one that shows no directory ENOTDIR and a directory that shows a name ENOTEMPTY. It hands back the key of the upper's
+/// directory that went, which stays until it is freed. A refusal changes nothing, and want of memory changes nothing that is shown.
+pub fn rmdir(layers: &mut Layers, path: &Path) -> Result<Result<Option<usize>, Errno>, AllocError>
     ensures refused { IfOk result (λ r. IfErr r (λ e. (full : Bool) → TellsNames (layers_of layers.old) path.now full → rmdir_fault (layers_of layers.old) path.now full ≡ Some e)) }
     ensures refuses { IfOk result (λ r. IfErr r (λ e. (s : State) → IsMountOf (layer_of layers.old.upper) (lowers_of layers.old) s → (c : ℕ) → refusal s c (call.Rmdir path.now) ≡ Some e)) }
     ensures unchanged { IfOk result (λ r. OnErr r (layers.new ≡ layers.old)) }
@@ -64,6 +69,8 @@ pub fn rmdir(layers: &mut Layers, path: &Path) -> Result<Result<(), Errno>, Allo
     ensures thin { StaysThin layers.old layers.new }
     ensures no_memory { OnErr result (ShowsSame layers.old layers.new) }
     ensures mounts { OnErr result (StaysMount layers.old layers.new) }
+    ensures unnames { IfOk result (λ r. IfOk r (λ released. Unnames layers.old layers.new path.now released)) }
+    ensures parents { OnErr result (GainsParents layers.old layers.new path.now) }
 {
     let Some((name, parents)) = split_last(path) else {
         return Ok(Err(ROOT_REFUSAL));
@@ -76,12 +83,16 @@ pub fn rmdir(layers: &mut Layers, path: &Path) -> Result<Result<(), Errno>, Allo
     if shows_names(layers, &stack) {
         return Ok(Err(Errno::ENOTEMPTY));
     }
-    take_away(layers, parents, name)?;
-    Ok(Ok(()))
+    let key = take_away(layers, parents, name)?;
+    Ok(Ok(key))
 }
 
-// Takes away what a name shows and in which no name is shown.
-fn take_away(layers: &mut Layers, parents: &[Name], name: &Name) -> Result<(), AllocError>
+// Takes away what a name shows and in which no name is shown, and gives the key of what lost its last name.
+fn take_away(
+    layers: &mut Layers,
+    parents: &[Name],
+    name: &Name,
+) -> Result<Option<usize>, AllocError>
     requires parents { way_fault (layers_of layers.old) (reverse parents.now) ≡ None }
     requires bare { ShowsNoName (layers_of layers.old) (name.now ∷ reverse parents.now) }
     ensures takes { OnOk result (TakesName layers.old layers.new (name.now ∷ reverse parents.now)) }
@@ -89,29 +100,68 @@ fn take_away(layers: &mut Layers, parents: &[Name], name: &Name) -> Result<(), A
     ensures thin { OnOk result (StaysThin layers.old layers.new) }
     ensures no_memory { OnErr result (ShowsSame layers.old layers.new) }
     ensures stays { OnErr result (Stays layers.old layers.new) }
+    ensures unnames { IfOk result (λ released. Unnames layers.old layers.new (name.now ∷ reverse parents.now) released) }
+    ensures parents { OnErr result (GainsParents layers.old layers.new (name.now ∷ reverse parents.now)) }
 {
     let parent = place_parents(layers, parents)?;
     let covered = layers.lowers_show(&parent, name);
     let dir = parent.top();
-    layers.upper.lawful();
-    remove_name(&mut layers.upper, dir.key, name, covered)?;
-    Ok(())
+    lawful(layers);
+    let key = remove_name(layers, dir.key, name, covered)?;
+    Ok(key)
 }
 
-// Takes a name out of a directory of the upper, or covers it by a whiteout, and frees what it led to unless that has other names.
-fn remove_name(upper: &mut Layer, dir: usize, name: &Name, covered: bool) -> Result<(), AllocError>
+// What the upper keeps; it does nothing.
+fn lawful(layers: &Layers)
+    ensures { IsTree layers.now.upper }
+{
+    layers.upper().lawful();
+}
+
+// Takes a name out of a directory of the upper, or covers it by a whiteout, and gives the key of what lost its last name.
+fn remove_name(
+    layers: &mut Layers,
+    dir: usize,
+    name: &Name,
+    covered: bool,
+) -> Result<Option<usize>, AllocError>
+    requires dir { IsDirectory layers.old.upper dir }
+    requires bare { HoldsNoObjects layers.old.upper dir name.now }
+    ensures takes { OnOk result ((p : List (List ℕ)) → key_at layers.old.upper p ≡ Some dir → TakesAway (layer_of layers.old.upper) (layer_of layers.new.upper) (name.now ∷ p) (cond covered (Some held.Whiteout) None)) }
+    ensures objects { OnOk result (KeepsObjects layers.old.upper layers.new.upper (child layers.old.upper dir name.now)) }
+    ensures fewer { OnOk result ((key : ℕ) → child layers.old.upper dir name.now ≡ Some key → inode_at layers.new.upper key ≡ option_map with_less (inode_at layers.old.upper key)) }
+    ensures released { IfOk result (λ released. released ≡ released_by layers.new.upper (child layers.old.upper dir name.now)) }
+    ensures nameless { IfOk result (λ released. (key : ℕ) → released ≡ Some key → IsNameless layers.new.upper key) }
+    ensures keeps { (p : List (List ℕ)) → key_at layers.old.upper p ≡ Some dir → IsLayer (layer_of layers.old.upper) → IsLayer (layer_of layers.new.upper) }
+    ensures unchanged { OnErr result (SameObjects (layer_of layers.old.upper) (layer_of layers.new.upper)) }
+    ensures same { OnErr result (KeepsObjects layers.old.upper layers.new.upper None) }
+    ensures lowers { layers.new.lowers ≡ layers.old.lowers }
+{
+    remove_in(layers.upper_mut(), dir, name, covered)
+}
+
+// Takes a name out of a directory of a layer, or covers it by a whiteout, and gives the key of what lost its last name.
+fn remove_in(
+    upper: &mut Layer,
+    dir: usize,
+    name: &Name,
+    covered: bool,
+) -> Result<Option<usize>, AllocError>
     requires dir { IsDirectory upper.old dir }
     requires bare { HoldsNoObjects upper.old dir name.now }
     ensures takes { OnOk result ((p : List (List ℕ)) → key_at upper.old p ≡ Some dir → TakesAway (layer_of upper.old) (layer_of upper.new) (name.now ∷ p) (cond covered (Some held.Whiteout) None)) }
-    ensures freed { OnOk result ((key : ℕ) → child upper.old dir name.now ≡ Some key → has_more 1 (inode_at upper.old key) ≡ false → get upper.new key ≡ None) }
+    ensures objects { OnOk result (KeepsObjects upper.old upper.new (child upper.old dir name.now)) }
+    ensures fewer { OnOk result ((key : ℕ) → child upper.old dir name.now ≡ Some key → inode_at upper.new key ≡ option_map with_less (inode_at upper.old key)) }
+    ensures released { IfOk result (λ released. released ≡ released_by upper.new (child upper.old dir name.now)) }
+    ensures nameless { IfOk result (λ released. (key : ℕ) → released ≡ Some key → IsNameless upper.new key) }
     ensures keeps { (p : List (List ℕ)) → key_at upper.old p ≡ Some dir → IsLayer (layer_of upper.old) → IsLayer (layer_of upper.new) }
     ensures unchanged { OnErr result (SameObjects (layer_of upper.old) (layer_of upper.new)) }
-    ensures inodes { OnErr result ((key : ℕ) → inode_at upper.new key ≡ inode_at upper.old key) }
+    ensures same { OnErr result (KeepsObjects upper.old upper.new None) }
 {
     upper.lawful();
     let was = unbind(upper, dir, name, covered)?;
-    release(upper, was);
-    Ok(())
+    upper.lawful();
+    Ok(released(upper, was))
 }
 
 // Takes a name out of a directory, or covers it by a whiteout; what it led to stays.
@@ -131,24 +181,18 @@ fn unbind(
     ensures err_held { OnErr result (SameObjects (layer_of upper.old) (layer_of upper.new)) }
 {
     if covered {
-        return upper.insert_whiteout(dir, *name);
+        return upper.insert_whiteout(dir, name.clone()?);
     }
     Ok(upper.take_out(dir, name))
 }
 
-// Frees an object that lost a name, unless it is an inode with other names.
-fn release(upper: &mut Layer, was: Option<Entry>)
-    requires { (key : ℕ) → was ≡ Some (bound.Object key) → IsReleased upper.old key }
-    ensures releases { Releases upper.old upper.new was }
-    ensures objects { SameObjects (layer_of upper.old) (layer_of upper.new) }
-    ensures keeps { IsLayer (layer_of upper.old) → IsLayer (layer_of upper.new) }
+// The key of what a name led to that went, unless that is an inode with other names.
+fn released(upper: &Layer, was: Option<Entry>) -> Option<usize>
+    ensures { result ≡ released_by upper.now (option_and_then object_key was) }
 {
-    let Some(Entry::Object(key)) = was else {
-        return;
-    };
-    upper.lawful();
-    if !is_linked(upper, key) {
-        upper.discard(key);
+    match was {
+        Some(Entry::Object(key)) if !is_linked(upper, key) => Some(key),
+        _ => None,
     }
 }
 

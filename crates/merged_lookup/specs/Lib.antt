@@ -3,3 +3,4 @@ pub mod Descent
 pub mod Passing
 pub mod Cursors
 pub mod Spelling
+pub mod Changing

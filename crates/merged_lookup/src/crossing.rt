@@ -91,7 +91,7 @@ pub(crate) fn cross_all<'a>(layers: &'a Layers, first: usize, names: &'a [Name])
     ensures { result.items ≡ places_from first (trees layers.now) (reverse names.now) }
 {
     let mut places = Places::new();
-    let mut spelling = Spelling::new(&layers.upper, names);
+    let mut spelling = Spelling::new(layers.upper(), names);
     for index in first..layers.count() {
         let Some(layer) = layers.layer(index) else {
             return places;

@@ -18,8 +18,8 @@ pub const LAYERS_MAX: usize = 17;
 /// The layers of a mount. Layer 0 is the upper, which takes every change; the lower ones follow, the nearest first.
 #[derive(Drop)]
 pub struct Layers {
-    pub upper: Layer,
-    pub lowers: Vec<Layer>,
+    upper: Layer,
+    lowers: Vec<Layer>,
     pub ghost some_lower: { 0 < vec_len lowers },
     pub ghost few_lowers: { vec_len lowers ≤ 16 },
 }
@@ -27,6 +27,8 @@ pub struct Layers {
 impl Layers {
     ghost use Rattle.merged_lookup.specs.Merged.{trees, node_in, layers_of, lowers_of, IsStackOf, IsAnswer, IsFound, IsLook, parents_fault, walk_fault, way_fault, inode_fault};
     ghost use Rattle.merged_lookup.specs.Descent.{first, places_from};
+    ghost use Rattle.merged_lookup.specs.Changing.{LendsUpper};
+    ghost use Rattle.std.specs.Borrow.{sem};
 
     /// An upper layer over 1 to 16 lower ones, the nearest first.
     pub fn new(upper: Layer, lowers: Vec<Layer>) -> Layers
@@ -36,6 +38,21 @@ impl Layers {
         ensures lowers { result.lowers ≡ lowers }
     {
         Layers { upper, lowers }
+    }
+
+    /// The upper layer.
+    pub fn upper(&self) -> &Layer
+        ensures { result.now ≡ self.now.upper }
+    {
+        &self.upper
+    }
+
+    /// The upper layer, to change it; the lower ones stay.
+    pub fn upper_mut(&mut self) -> &mut Layer
+        ensures value { result.now ≡ self.old.upper }
+        ensures* lends { sem 𝓛 (LendsUpper self.entry result) }
+    {
+        &mut self.upper
     }
 
     /// How many layers there are, the upper included.

@@ -60,7 +60,7 @@ fn onward_from<'a>(key: usize, marks: &'a Marks, name: &'a Name) -> Onward<'a>
         Marks {
             redirect: Some(Redirect::Single(other)),
             ..
-        } => Onward::By(key, other.get()),
+        } => Onward::By(key, other),
         Marks {
             redirect: Some(Redirect::Absolute(path)),
             ..

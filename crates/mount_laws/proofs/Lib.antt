@@ -7,6 +7,7 @@ pub mod Places
 pub mod Refusing
 pub mod Alters
 pub mod Links
+pub mod Files
 pub mod Handles
 pub mod Removes
 pub mod Removed

@@ -2,6 +2,8 @@
 use Rattle.std.proofs.Common.{◌≡◌, ℕ, true, false, List, ◌∷◌, Option, None, Some, refl, sym, ap, ap₂, ◌∙◌, ◌⊎◌, inl, inr, is_some, length}
 use Rattle.std.specs.Prelude.{nat_eq, nat_lt}
 use Rattle.std.proofs.lemmas.Bool.{cases_Bool, both_ways}
+use Rattle.ov_base.specs.declared.attributes.Attributes.{Attributes}
+use Rattle.ov_base.specs.declared.bytes.Content.{Content}
 use Rattle.ov_base.specs.declared.bytes.Content.TheVariants.{SymbolicLink}
 use Rattle.ov_base.specs.declared.call.Call.TheVariants.{Symlink}
 use Rattle.ov_base.specs.declared.errno.Errno.{Errno}
@@ -30,6 +32,36 @@ pub second-none : (a b : Option Errno) → first a b ≡ None → b ≡ None
 second-none None b h = h
 second-none (Some e) b h = cc
 
+-- an upper that gains a file or link where nothing was shown names as before
+module _ (U V : Layer) (lowers : List Layer) (p : Path) (content : Content) (a : Attributes) (free : shows 0 (U ∷ lowers) p ≡ None) (g : GainsLeaf U V lowers p content a) where
+  -- the number of the new inode has p as its only name
+  only-name : (y z : Path) (k : ℕ) → p ≡ y → held V y ≡ Some (Named k) → held V z ≡ Some (Named k) → z ≡ p
+  only-name y z k e a b =
+      let number : k ≡ g.number = (let w : Some (Named k) ≡ Some (Named g.number) = sym a ∙ sym (ap (held V) e) ∙ g.here in cc) in
+      g.alone z (b ∙ ap (λ k. Some (Named k)) number)
+
+  pub before : (y z : Path) → AreLinked V y z → (y ≡ z) ⊎ AreLinked U y z
+  before y z l = by (cases_Bool (same_path p y)) (cases_Bool (same_path p z))
+    where
+      apart : (y : Path) → same_path p y ≡ false → y ≡ p → ⊥
+      apart y f e = both_ways (same_path p y) f ((paths_tell p y).1 (sym e))
+
+      by : (same_path p y ≡ true) ⊎ (same_path p y ≡ false) → (same_path p z ≡ true) ⊎ (same_path p z ≡ false) → (y ≡ z) ⊎ AreLinked U y z
+      by (inl h) j = let e = (paths_tell p y).0 h in inl (sym e ∙ sym (only-name y z l.number e l.first l.second))
+      by (inr h) (inl j) = let e = (paths_tell p z).0 j in inl (only-name z y l.number e l.second l.first ∙ e)
+      by (inr h) (inr j) = inr (record { number = l.number; first = (g.names y l.number (apart y h)).0 l.first; second = (g.names z l.number (apart z j)).0 l.second })
+
+  -- what U names is not at p
+  away : (y : Path) (k : ℕ) → held U y ≡ Some (Named k) → y ≡ p → ⊥
+  away y k h e = named-shown U lowers p k (ap (held U) (sym e) ∙ h) free
+
+  pub later : (y z : Path) → AreLinked U y z → AreLinked V y z
+  later y z l = record {
+    number = l.number;
+    first = (g.names y l.number (away y l.number l.first)).1 l.first;
+    second = (g.names z l.number (away z l.number l.second)).1 l.second;
+  }
+
 module _ (U V : Layer) (lowers : List Layer) (s : State) (m : IsMountOf U lowers s) (c : ℕ) (target : List ℕ) (p : Path) (fine : symlink_fault (U ∷ lowers) target p ≡ None) (g : GainsLeaf U V lowers p (SymbolicLink target) (fresh 0o777)) where
   abbrev x : Node
   x = Leaf (SymbolicLink target) (fresh 0o777) Own 1
@@ -50,34 +82,6 @@ module _ (U V : Layer) (lowers : List Layer) (s : State) (m : IsMountOf U lowers
   spot : Spot s.tree p
   spot = free-spot s.tree p None (ap₂ (λ e b. first e (when b EEXIST)) (to-parents U lowers s m p) (finds U lowers s m p) ∙ last-none)
 
-  -- the number of the new inode has p as its only name
-  only-name : (y z : Path) (k : ℕ) → p ≡ y → held V y ≡ Some (Named k) → held V z ≡ Some (Named k) → z ≡ p
-  only-name y z k e a b =
-      let number : k ≡ g.number = (let w : Some (Named k) ≡ Some (Named g.number) = sym a ∙ sym (ap (held V) e) ∙ g.here in cc) in
-      g.alone z (b ∙ ap (λ k. Some (Named k)) number)
-
-  before : (y z : Path) → AreLinked V y z → (y ≡ z) ⊎ AreLinked U y z
-  before y z l = by (cases_Bool (same_path p y)) (cases_Bool (same_path p z))
-    where
-      apart : (y : Path) → same_path p y ≡ false → y ≡ p → ⊥
-      apart y f e = both_ways (same_path p y) f ((paths_tell p y).1 (sym e))
-
-      by : (same_path p y ≡ true) ⊎ (same_path p y ≡ false) → (same_path p z ≡ true) ⊎ (same_path p z ≡ false) → (y ≡ z) ⊎ AreLinked U y z
-      by (inl h) j = let e = (paths_tell p y).0 h in inl (sym e ∙ sym (only-name y z l.number e l.first l.second))
-      by (inr h) (inl j) = let e = (paths_tell p z).0 j in inl (only-name z y l.number e l.second l.first ∙ e)
-      by (inr h) (inr j) = inr (record { number = l.number; first = (g.names y l.number (apart y h)).0 l.first; second = (g.names z l.number (apart z j)).0 l.second })
-
-  -- what U names is not at p
-  away : (y : Path) (k : ℕ) → held U y ≡ Some (Named k) → y ≡ p → ⊥
-  away y k h e = named-shown U lowers p k (ap (held U) (sym e) ∙ h) free
-
-  later : (y z : Path) → AreLinked U y z → AreLinked V y z
-  later y z l = record {
-    number = l.number;
-    first = (g.names y l.number (away y l.number l.first)).1 l.first;
-    second = (g.names z l.number (away z l.number l.second)).1 l.second;
-  }
-
   bare : (n : Name) → names_of (Some x) n ≡ None
   bare n = refl
 
@@ -86,13 +90,13 @@ module _ (U V : Layer) (lowers : List Layer) (s : State) (m : IsMountOf U lowers
     answer = refl;
     mounts = record {
       layers = g.layers;
-      shows = way-shows U V lowers s m p spot x bare g.sights before later;
+      shows = way-shows U V lowers s m p spot x bare g.sights (before U V lowers p (SymbolicLink target) (fresh 0o777) free g) (later U V lowers p (SymbolicLink target) (fresh 0o777) free g);
       kept = law_of_names s c (Symlink target p) m.kept (law_of_symlink U lowers s m c target p ∙ fine);
       writable = m.writable;
     };
     tables = refl;
-    stays = way-stays U V lowers s m p spot x bare g.sights before later;
-    hidden = way-hidden U V lowers s m p spot x bare g.sights before later;
+    stays = way-stays U V lowers s m p spot x bare g.sights (before U V lowers p (SymbolicLink target) (fresh 0o777) free g) (later U V lowers p (SymbolicLink target) (fresh 0o777) free g);
+    hidden = way-hidden U V lowers s m p spot x bare g.sights (before U V lowers p (SymbolicLink target) (fresh 0o777) free g) (later U V lowers p (SymbolicLink target) (fresh 0o777) free g);
   }
 
 -- symlink makes the mount one of the upper that gains the link

@@ -21,7 +21,7 @@ use Rattle.plain_model.specs.Refusals.{◌or_else◌, when}
 use Rattle.plain_model.specs.Replies.{page}
 use Rattle.plain_model.specs.Changes.{is_named, is_held, settled, node_of_handle, names_in, listing, listed_on, with_handle}
 use Rattle.plain_model.proofs.Kept.{at-path}
-use Rattle.plain_model.proofs.Looking.{refusal-writable, refusal-reading}
+use Rattle.plain_model.proofs.Looking.{refusal-reading}
 use Rattle.mount_laws.specs.Looks.{AreShown, LawOfList, LawOfClose, LawOfBadDescriptors}
 use Rattle.mount_laws.proofs.Looks.{at-some}
 use Rattle.mount_laws.proofs.Opens.{folder-at, put-same}

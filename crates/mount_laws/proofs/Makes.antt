@@ -1,5 +1,5 @@
 -- What mkdir makes of the tree, and that the layers which gain the directory show it.
-use Rattle.std.proofs.Common.{◌≡◌, ℕ, true, false, cond, List, [], ◌∷◌, ◌++◌, Option, None, Some, refl, sym, ap, ap₂, subst, ◌∙◌, ◌⊎◌, inl, inr, is_some, arith, length, length-append}
+use Rattle.std.proofs.Common.{◌≡◌, ℕ, suc, true, false, cond, List, [], ◌∷◌, ◌++◌, Option, None, Some, refl, sym, ap, ap₂, subst, ◌∙◌, ◌⊎◌, inl, inr, is_some, arith, length, length-append}
 use Rattle.std.specs.FinMap as fin
 use Rattle.std.specs.Cmp.Lexicographic.{slice_cmp}
 use Rattle.std.specs.Ordering.{nat_cmp}
@@ -17,6 +17,7 @@ use Rattle.plain_model.specs.Refusals.{when, walked, bad_mode}
 use Rattle.plain_model.specs.Changes.{fresh, on_way, way_of, made_way}
 use Rattle.plain_model.proofs.Keeping.{put-here, put-there}
 use Rattle.plain_model.proofs.Kept.{at-path, law_of_names}
+use Rattle.plain_model.proofs.Making.{made-kept}
 use Rattle.plain_model.proofs.Looking.{Reached, Tells, look-reached}
 use Rattle.plain_model.proofs.Paths.{place, paths_tell, ids_tell}
 use Rattle.plain_model.proofs.Merged.{named-seen}
@@ -259,6 +260,12 @@ module _ (U V : Layer) (lowers : List Layer) (s : State) (m : IsMountOf U lowers
 
   pub way-hidden : KeepsHidden s.tree way-tree
   way-hidden = subst (KeepsHidden s.tree) (sym is-made) (hidden-made s.tree s.serial m.kept spot.parent spot.name spot.dir spot.at spot.folder spot.free only x bare)
+
+  pub way-here : node_at way-tree p ≡ Some (New s.serial)
+  way-here = ap (λ t. node_at t p) is-made ∙ ap (node_at made-tree) spot.is ∙ here-at s.tree s.serial m.kept spot.parent spot.name spot.dir spot.at spot.folder spot.free only x bare
+
+  pub way-kept : count_of (Some x) ≡ 1 → IsKept way-tree (suc s.serial)
+  way-kept one = subst (λ t. IsKept t (suc s.serial)) (sym is-made) (made-kept s.tree s.serial spot.dir spot.name x spot.folder (at-path s.tree s.serial m.kept spot.parent spot.dir spot.at) spot.free one bare m.kept)
 
 -- mkdir makes the mount one of the upper that gains the directory
 pub law_of_made : LawOfMade

@@ -16,7 +16,7 @@ use Rattle.plain_model.specs.Machine.{Live, State, opening, Look, Found, Absent,
 use Rattle.plain_model.specs.Refusals.{◌or_else◌, when, walked, there, bad_mode}
 use Rattle.plain_model.specs.Changes.{change, opened, over_node, made_way, fresh, view_of, opens, way_of, with_handle, next_if}
 use Rattle.plain_model.proofs.Paths.{ids_tell}
-use Rattle.plain_model.proofs.Looking.{refusal-writable, refusal-reading}
+use Rattle.plain_model.proofs.Looking.{refusal-writable}
 use Rattle.mount_laws.specs.Looks.{or_else as first, absent, parents_fault, walk_fault, IsMountOf, LawOfDirectories, FOR_LISTING, shows_link, shows_file, OpensAs, LawOfOpen}
 use Rattle.mount_laws.proofs.Looks.{is_present, here, at-some, to-last, finds, law_of_beginning}
 

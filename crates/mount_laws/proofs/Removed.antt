@@ -14,7 +14,7 @@ use Rattle.plain_model.specs.Refusals.{◌or_else◌, when, refusal}
 use Rattle.plain_model.specs.Changes.{is_named, is_held, settled, node_of_handle, names_in, listing, listed_on, with_handle, tree_after}
 use Rattle.plain_model.specs.Replies.{page}
 use Rattle.plain_model.proofs.Keeping.{put-here, put-there}
-use Rattle.plain_model.proofs.Looking.{refusal-writable, refusal-reading}
+use Rattle.plain_model.proofs.Looking.{refusal-reading}
 use Rattle.plain_model.proofs.Kept.{law_of_names}
 use Rattle.plain_model.proofs.Paths.{ids_tell}
 use Rattle.mount_laws.specs.Looks.{IsMountOf, IsHidden}

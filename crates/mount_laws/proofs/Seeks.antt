@@ -8,7 +8,7 @@ use Rattle.ov_base.specs.declared.errno.Errno.TheVariants.{EBADF, EINVAL, EOVERF
 use Rattle.plain_model.specs.Tree.{Tree, is_folder}
 use Rattle.plain_model.specs.Machine.{Handle, handle_of, handle_node, seek_base}
 use Rattle.plain_model.specs.Refusals.{◌or_else◌, when, PLACE_MAX}
-use Rattle.plain_model.proofs.Looking.{refusal-writable, refusal-reading}
+use Rattle.plain_model.proofs.Looking.{refusal-reading}
 use Rattle.plain_model.specs.Changes.{with_handle, moved_to, rewound}
 use Rattle.mount_laws.specs.Seeks.{LawOfSeek}
 

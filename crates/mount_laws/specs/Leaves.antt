@@ -1,13 +1,15 @@
--- What symlink and readlink do on the merge of layers, told by what the layers show (POSIX.1-2017, symlink() and readlink(), as Linux's
--- namei.c asks for their errors).
-use Rattle.std.specs.Prelude.{◌≡◌, ◌≢◌, ◌↔◌, ℕ, not, cond, List, ◌∷◌, ◌++◌, Option, None, Some, nat_eq, nat_lt, is_some, length}
+-- What symlink, readlink and an open that makes a file do on the merge of layers, told by what the layers show (POSIX.1-2017, symlink(),
+-- readlink() and open(), as Linux's namei.c asks for their errors).
+use Rattle.std.specs.Prelude.{◌≡◌, ◌≢◌, ◌↔◌, ℕ, not, cond, List, [], ◌∷◌, ◌++◌, Option, None, Some, nat_eq, nat_lt, is_some, length}
 use Rattle.ov_base.specs.declared.attributes.Attributes.{Attributes}
 use Rattle.ov_base.specs.declared.bytes.Content.{Content}
 use Rattle.ov_base.specs.declared.bytes.Content.TheVariants as content
 use Rattle.ov_base.specs.declared.call.Call.TheVariants as call
+use Rattle.ov_base.specs.declared.call.OpenFlags.{OpenFlags}
 use Rattle.ov_base.specs.declared.errno.Errno.{Errno}
 use Rattle.ov_base.specs.declared.errno.Errno.TheVariants as errno
 use Rattle.ov_base.specs.declared.node_id.NodeId.{NodeId}
+use Rattle.ov_base.specs.declared.node_id.NodeId.TheVariants.{New}
 use Rattle.ov_base.specs.declared.reply.Reply.TheVariants as reply
 use Rattle.plain_model.specs.Layers.{Name, Path, Named, Inode, Layer, held, Shown, Contents, shows, same_path, AreLayers}
 use Rattle.plain_model.specs.Laws.{IsOutside}
@@ -16,7 +18,7 @@ use Rattle.plain_model.specs.Machine.{State}
 use Rattle.plain_model.specs.Refusals.{when, has_nul, refusal}
 use Rattle.plain_model.specs.Changes.{fresh, after}
 use Rattle.plain_model.specs.Replies.{reply_of}
-use Rattle.mount_laws.specs.Looks.{or_else, parents_fault, walk_fault, shows_link, IsMountOf, KeepsHidden}
+use Rattle.mount_laws.specs.Looks.{or_else, parents_fault, walk_fault, shows_link, mkdir_fault, IsMountOf, KeepsHidden}
 
 -- why symlink is refused: its target, which has 1 to 4,095 bytes and no NUL, then the parents, then what is there
 abbrev pub symlink_fault : List Layer → List ℕ → Path → Option Errno
@@ -93,3 +95,18 @@ LawOfLinkMade =
     (U V : Layer) (lowers : List Layer) (s : State) → IsMountOf U lowers s →
     (c : ℕ) (target : List ℕ) (p : Path) → symlink_fault (U ∷ lowers) target p ≡ None →
     GainsLeaf U V lowers p (content.SymbolicLink target) (fresh 0o777) → MakesLink V lowers s c target p
+
+-- An open that finds nothing and makes its file makes the mount one of the upper that gains the file, a new node; what a path led to it
+-- leads to still. The handle is told apart.
+pub record MakesFile (V : Layer) (lowers : List Layer) (s : State) (c : ℕ) (p : Path) (flags : OpenFlags) (mode : ℕ) : Type 0 where
+  pub absent : node_at s.tree p ≡ None
+  pub mounts : IsMountOf V lowers (after s c (call.Open p flags mode))
+  pub made : node_at (after s c (call.Open p flags mode)).tree p ≡ Some (New s.serial)
+  pub stays : (q : Path) (d : NodeId) → node_at s.tree q ≡ Some d → node_at (after s c (call.Open p flags mode)).tree q ≡ Some d
+  pub hidden : KeepsHidden s.tree (after s c (call.Open p flags mode)).tree
+
+abbrev pub LawOfFileMade : Type 0
+LawOfFileMade =
+    (U V : Layer) (lowers : List Layer) (s : State) → IsMountOf U lowers s →
+    (c : ℕ) (p : Path) (flags : OpenFlags) (mode : ℕ) → mkdir_fault (U ∷ lowers) p mode ≡ None →
+    GainsLeaf U V lowers p (content.File []) (fresh mode) → MakesFile V lowers s c p flags mode

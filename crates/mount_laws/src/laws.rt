@@ -1,6 +1,6 @@
 // The laws of the machine on a mount of layers, each as the contract of a function that does nothing.
 ghost use Rattle.mount_laws.specs.Removed.{LawOfCloseRemoved, LawOfListRemoved};
-ghost use Rattle.mount_laws.specs.Leaves.{LawOfLinkMade, LawOfPlacedLeaf, LawOfReadlink, LawOfSymlink};
+ghost use Rattle.mount_laws.specs.Leaves.{LawOfFileMade, LawOfLinkMade, LawOfPlacedLeaf, LawOfReadlink, LawOfSymlink};
 ghost use Rattle.mount_laws.specs.Looks.{LawOfBadDescriptors, LawOfBeginning, LawOfClose, LawOfDirectories, LawOfList, LawOfMade, LawOfMkdir, LawOfOpen, LawOfPlacedDirectory, LawOfPlacedParent, LawOfStat, LawOfWalks};
 ghost use Rattle.mount_laws.specs.Removals.{LawOfRemovedDirectory, LawOfRmdir, LawOfTakenAway, LawOfUnlink, LawOfUnlinked};
 ghost use Rattle.mount_laws.specs.Seeks.{LawOfSeek};
@@ -113,6 +113,11 @@ pub fn law_of_thin()
 /// A `symlink` that is not refused makes the mount one of the upper that gains the link; no other path and no handle changes.
 pub fn law_of_link_made()
     ensures { LawOfLinkMade }
+{}
+
+/// A file that an `open` makes where nothing is shown makes the mount one of the upper that gains it; no other path changes.
+pub fn law_of_file_made()
+    ensures { LawOfFileMade }
 {}
 
 /// An `unlink` that is not refused makes the mount one of the upper that loses the name; no other path and no handle changes.

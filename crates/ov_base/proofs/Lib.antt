@@ -1,3 +1,1 @@
-pub mod EntryLemmas
-pub mod NameLemmas
 pub mod PathLemmas

@@ -1,4 +1,4 @@
 pub mod Errnos
-pub mod NameInverse
 pub mod Names
 pub mod Paths
+pub mod StoredNames

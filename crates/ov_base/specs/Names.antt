@@ -1,5 +1,5 @@
--- What a name is, by its bytes, and how it is stored (POSIX.1-2017, 3.170 Filename; Linux's NAME_MAX).
-use Rattle.std.specs.Prelude.{ℕ, ◌-◌, Bool, not, ◌&&◌, List, [], ◌∷◌, ◌++◌, length, replicate, cond, nat_lt, nat_eq, Result, Ok, Err}
+-- What a name is, by its bytes (POSIX.1-2017, 3.170 Filename; Linux's NAME_MAX).
+use Rattle.std.specs.Prelude.{ℕ, Bool, not, ◌&&◌, List, [], ◌∷◌, length, cond, nat_lt, nat_eq, Result, Ok, Err}
 use Rattle.std.specs.List.{list_all}
 use Rattle.std.specs.Str.{bytes_eq}
 use Rattle.ov_base.specs.declared.errno.Errno.{Errno}
@@ -11,10 +11,6 @@ is_name bytes =
     not (nat_eq (length bytes) 0) && not (nat_lt 255 (length bytes))
     && not (bytes_eq bytes (46 ∷ [])) && not (bytes_eq bytes (46 ∷ 46 ∷ []))
     && list_all (λ b. not (nat_eq b 47) && not (nat_eq b 0)) bytes
-
--- the bytes, filled up with zeros to 255
-abbrev pub padded : List ℕ → List ℕ
-padded bytes = bytes ++ replicate (255 - length bytes) 0
 
 -- the refusal of bytes that are no name
 abbrev pub name_fault : List ℕ → Errno

@@ -1,25 +1,28 @@
 // Mode, owner and user attributes.
-ghost use Rattle.std.specs.Prelude.{◌≡◌, ◌==◌, ◌∷◌, ◌++◌, [], IfOk, OnOk, None};
-ghost use Rattle.std.specs.Cmp.Lexicographic.{pointwise};
-ghost use Rattle.indexmap.specs.IndexMap.{get};
+ghost use Rattle.std.specs.Prelude.{◌≡◌, []};
 
 use crate::bytes::Bytes;
-use indexmap::IndexMap;
 use std::alloc::{AllocError, Global};
 use std::marker::Model;
 
-/// The attributes `user.*` of an object by name, in the order in which they were first set.
+/// The attributes `user.*` of an object, each a name and a value, in the order in which they were first set. They stand on the heap,
+/// so that an object without any is narrow.
 #[derive(Drop)]
 pub struct UserAttributes {
-    values: IndexMap<Bytes, Bytes>,
+    values: Option<Box<Vec<(Bytes, Bytes)>>>,
+    alloc: Global,
 }
 
+// Every object has them, and few have any.
+const _: () = prove!(size_of::<UserAttributes>() == 16);
+
 impl Model for UserAttributes {
-    ghost use Rattle.std.specs.Prelude.{List, ℕ};
+    ghost use Rattle.std.specs.Prelude.{List, ℕ, []};
+    ghost use Rattle.std.specs.Option.{option_map_or};
 
     ghost Value = { List (List ℕ × List ℕ) };
 
-    ghost view = { λ u. u.values.entries };
+    ghost view = { λ u. option_map_or (λ values. values.value.items) u.values [] };
 }
 
 impl UserAttributes {
@@ -28,7 +31,8 @@ impl UserAttributes {
         ensures { result ≡ [] }
     {
         UserAttributes {
-            values: IndexMap::new(alloc),
+            values: None,
+            alloc,
         }
     }
 }
@@ -37,34 +41,12 @@ impl Clone for UserAttributes {
     ghost is_clone = { λ a b. b ≡ a };
 
     fn clone(&self) -> Result<UserAttributes, AllocError> {
-        let values = clone_entries(&self.values)?;
-        Ok(UserAttributes { values })
+        let values = self.values.clone()?;
+        Ok(UserAttributes {
+            values,
+            alloc: self.alloc,
+        })
     }
-}
-
-fn clone_entries(values: &IndexMap<Bytes, Bytes>) -> Result<IndexMap<Bytes, Bytes>, AllocError>
-    ensures { IfOk result (λ copy. copy.entries ≡ values.now.entries) }
-{
-    let mut copy = IndexMap::new(*values.allocator());
-    for index in 0..values.len() {
-        let Some((name, value)) = values.get_index(index) else {
-            unreachable!()
-        };
-        append_clone(&mut copy, name, value)?;
-    }
-    Ok(copy)
-}
-
-fn append_clone(
-    values: &mut IndexMap<Bytes, Bytes>,
-    name: &Bytes,
-    value: &Bytes,
-) -> Result<(), AllocError>
-    requires { get (pointwise ◌==◌) values.old name.now ≡ None }
-    ensures { OnOk result (values.new.entries ≡ values.old.entries ++ (name.now, value.now) ∷ []) }
-{
-    values.insert(name.clone()?, value.clone()?)?;
-    Ok(())
 }
 
 /// Mode, owner and user attributes of an object.

@@ -1,5 +1,5 @@
 // Names in directories.
-ghost use Rattle.std.specs.Prelude.{◌≡◌, ◌≤◌, ◌==◌, [], ◌∷◌, length, not, nat_eq, ◌&&◌};
+ghost use Rattle.std.specs.Prelude.{◌≡◌, ◌≤◌, ◌==◌, [], ◌∷◌, length, not, nat_eq, ◌&&◌, IfOk, IsOk, OnErr, Ok};
 ghost use Rattle.std.specs.Ordering.{nat_cmp, as_partial_cmp};
 ghost use Rattle.std.specs.Cmp.Lexicographic.{slice_cmp, pointwise};
 ghost use Rattle.std.specs.Cmp.{partial_order_from_own_ties};
@@ -8,7 +8,9 @@ ghost use Rattle.std.proofs.Common.{rules};
 ghost use Rattle.std.specs.List.{list_all};
 ghost use Rattle.ov_base.specs.Names as names;
 ghost use Rattle.ov_base.specs.Names.{name_of};
+ghost use Rattle.ov_base.specs.StoredNames.{bytes_of, IsWithin};
 
+use crate::bytes::Bytes;
 use crate::errno::Errno;
 use std::alloc::{AllocError, Global};
 use std::cmp::Ordering;
@@ -18,37 +20,46 @@ use std::marker::Model;
 /// The most bytes of a name, as Linux's `NAME_MAX`.
 pub const NAME_MAX: usize = 255;
 
-/// A name in a directory: 1 to 255 bytes without `/` and NUL, and neither `.` nor `..`.
+/// The most bytes of a name that stand in the name itself.
+const SHORT_MAX: usize = 22;
+
+/// A name in a directory: 1 to 255 bytes without `/` and NUL, and neither `.` nor `..`. One of more than 22 bytes stands on the heap.
+#[derive(Drop)]
 pub struct Name {
-    len: u8,
-    bytes: [u8; 255],
+    stored: Stored,
 }
 
+// Where the bytes of a name stand: the first so many of a buffer, or on the heap.
+#[derive(Drop)]
+enum Stored {
+    Short(u8, [u8; SHORT_MAX]),
+    Long(Box<Bytes>),
+}
+
+// Tables and paths hold many.
+const _: () = prove!(size_of::<Name>() == 24);
+
 impl Model for Name {
-    ghost use Rattle.std.specs.Prelude.{◌≡◌, List, ℕ, take, length, IsTrue};
-    ghost use Rattle.ov_base.specs.Names.{is_name, padded};
+    ghost use Rattle.std.specs.Prelude.{List, ℕ, IsTrue};
     ghost use Rattle.std.specs.Coded.{coded_ℕ, coded_list};
+    ghost use Rattle.ov_base.specs.Names.{is_name};
+    ghost use Rattle.ov_base.specs.StoredNames.{bytes_of, IsWithin};
 
     ghost Value = { List ℕ };
 
     ghost coded = { coded_list coded_ℕ };
 
-    ghost view = { λ n. take n.len n.bytes };
+    ghost view = { λ n. bytes_of n.stored };
 
-    ghost invariant = { λ n. IsTrue (is_name (take n.len n.bytes)) × (n.bytes ≡ padded (take n.len n.bytes)) × (length (take n.len n.bytes) ≡ n.len) };
-
-    ghost inverse = { λ bs. record { len = length bs; bytes = padded bs } };
-
-    ghost use Rattle.ov_base.specs.NameInverse.{inverse_ok as back};
-
-    ghost inverse_ok = { back };
+    ghost invariant = { λ n. IsTrue (is_name (bytes_of n.stored)) × IsWithin n.stored };
 }
 
-impl Copy for Name {}
-
 impl Clone for Name {
+    ghost is_clone = { λ a b. b ≡ a };
+
     fn clone(&self) -> Result<Self, AllocError> {
-        Ok(*self)
+        let stored = self.stored.copy()?;
+        Ok(Name { stored })
     }
 }
 
@@ -115,31 +126,79 @@ fn is_name(bytes: &[u8]) -> bool
     !bytes.is_empty() && bytes != b".".as_slice() && bytes != b"..".as_slice() && is_plain(bytes)
 }
 
+impl Stored {
+    // These bytes; at most 22 of them want no memory.
+    fn new(alloc: Global, bytes: &[u8]) -> Result<Stored, AllocError>
+        ensures bytes { IfOk result (λ stored. bytes_of stored ≡ bytes.now) }
+        ensures within { IfOk result IsWithin }
+        ensures short { length bytes.now ≤ 22 → IsOk result }
+    {
+        if bytes.len() > SHORT_MAX {
+            let bytes = Bytes::from_slice(alloc, bytes)?;
+            return Ok(Stored::Long(Box::new(alloc, bytes)?));
+        }
+        let mut all = [0; SHORT_MAX];
+        all[..bytes.len()].copy_from_slice(bytes);
+        Ok(Stored::Short(bytes.len() as u8, all))
+    }
+
+    fn as_slice(&self) -> &[u8]
+        requires { IsWithin self.now }
+        ensures { result.now ≡ bytes_of self.now }
+    {
+        match self {
+            Stored::Short(len, bytes) => &bytes[..*len as usize],
+            Stored::Long(bytes) => bytes.as_slice(),
+        }
+    }
+
+    fn copy(&self) -> Result<Stored, AllocError>
+        requires { IsWithin self.now }
+        ensures bytes { IfOk result (λ copy. bytes_of copy ≡ bytes_of self.now) }
+        ensures within { IfOk result IsWithin }
+    {
+        match self {
+            Stored::Short(len, bytes) => Ok(Stored::Short(*len, *bytes)),
+            Stored::Long(bytes) => Ok(Stored::Long(bytes.clone()?)),
+        }
+    }
+}
+
 impl Name {
-    /// The name of these bytes. Over 255 bytes is ENAMETOOLONG, anything else that is no name EINVAL.
-    pub fn parse(bytes: &[u8]) -> Result<Name, Errno>
-        ensures { result ≡ name_of bytes.now }
+    /// The name of these bytes. Over 255 bytes is ENAMETOOLONG, anything else that is no name EINVAL. Only a name of more than 22 bytes
+    /// wants memory.
+    pub fn parse(alloc: Global, bytes: &[u8]) -> Result<Result<Name, Errno>, AllocError>
+        ensures told { IfOk result (λ outcome. outcome ≡ name_of bytes.now) }
+        ensures no_memory { OnErr result (name_of bytes.now ≡ Ok bytes.now) }
+        ensures short { length bytes.now ≤ 22 → IsOk result }
     {
         if bytes.len() > NAME_MAX {
-            return Err(Errno::ENAMETOOLONG);
+            return Ok(Err(Errno::ENAMETOOLONG));
         }
         if !is_name(bytes) {
-            return Err(Errno::EINVAL);
+            return Ok(Err(Errno::EINVAL));
         }
-        let mut all = [0; NAME_MAX];
-        all[..bytes.len()].copy_from_slice(bytes);
-        Ok(Name {
-            len: bytes.len() as u8,
-            bytes: all,
-        })
+        let stored = Stored::new(alloc, bytes)?;
+        Ok(Ok(Name { stored }))
     }
 
     /// The bytes of the name.
     pub fn as_slice(&self) -> &[u8]
         ensures { result.now ≡ self.now }
     {
-        &self.bytes[..self.len as usize]
+        self.stored.as_slice()
     }
+}
+
+/// A copy of these names.
+pub fn copy_names(alloc: Global, names: &[Name]) -> Result<Vec<Name>, AllocError>
+    ensures { IfOk result (λ copies. copies.items ≡ names.now) }
+{
+    let mut copies = Vec::with_capacity(alloc, names.len())?;
+    for name in names {
+        copies.push(name.clone()?)?;
+    }
+    Ok(copies)
 }
 
 /// Names in an order, as a listing of a directory.

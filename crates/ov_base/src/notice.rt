@@ -5,7 +5,7 @@ use crate::name::Name;
 use std::marker::Model;
 
 /// What is asked of a watch's callback.
-#[derive(Clone, Copy)]
+#[derive(Drop)]
 pub struct Event {
     pub watch: u32,
     pub bits: u32,
@@ -14,7 +14,7 @@ pub struct Event {
 }
 
 /// What a client reads, as `struct inotify_event`.
-#[derive(Clone, Copy)]
+#[derive(Drop)]
 pub struct Notice {
     /// The watch's number, or -1 for an overflow.
     pub watch: i32,

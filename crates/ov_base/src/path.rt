@@ -81,13 +81,13 @@ fn parse_names(alloc: Global, text: &[u8]) -> Result<Result<Path, Errno>, AllocE
     let mut path = Path::root(alloc);
     let mut rest = text;
     'names: while let Some(end) = first_slash(rest) {
-        match Name::parse(&rest[..end]) {
+        match Name::parse(alloc, &rest[..end])? {
             Ok(name) => path.push(name)?,
             Err(fault) => return Ok(Err(fault)),
         }
         rest = &rest[end + 1..];
     }
-    match Name::parse(rest) {
+    match Name::parse(alloc, rest)? {
         Ok(last) => {
             path.push(last)?;
             Ok(Ok(path))

@@ -10,7 +10,7 @@ use std::fmt;
 /// What a command comes to, but for the trees that `layer` and `merge` print.
 #[derive(Drop)]
 pub enum Answer {
-    Attached { client: u32 },
+    Attached { client: u64 },
     NotAttached { errno: Errno },
     Detached { client: u32 },
     Replied { client: u32, reply: Reply },

@@ -1,5 +1,6 @@
 // One line of a script on a mount.
-ghost use Rattle.std.specs.Prelude.{◌≡◌, IfErr, OnErr, OnOk};
+ghost use Rattle.std.specs.Prelude.{◌≡◌, ◌+◌, ◌<◌, ◌≤◌, ◌^◌, true, IfErr, OnErr, OnOk};
+ghost use Rattle.overlay_core.specs.Attaching.{is_attached};
 ghost use Rattle.ov_script.specs.declared.script.Command.TheVariants as asked;
 ghost use Rattle.ov_server.specs.Rosters as rosters;
 ghost use Rattle.ov_server.specs.Plays as plays;
@@ -11,7 +12,7 @@ use crate::fault::DeviceFault;
 use crate::print_tree::{write_layer, write_merge};
 use ov_base::{Call, Errno};
 use ov_script::{BadCommand, CallText, Command, command_of};
-use private_mount::Mount;
+use overlay_core::{Core, Job, Turn};
 use std::alloc::{AllocError, Global};
 use std::io::Write;
 
@@ -25,18 +26,20 @@ pub enum LineFault {
 /// Plays a line on a mount and puts its answer out.
 pub fn play_line<W: Write>(
     alloc: Global,
-    mount: &mut Mount,
+    core: &mut Core,
     line: &[u8],
     output: &mut Output<W>,
 ) -> Result<(), LineFault>
-    ensures ok { OnOk result (PlaysLine mount.old line.now mount.new) }
-    ensures err { IfErr result (IsRefusal mount.old line.now) }
+    requires { core.old.finished + 1 < 2 ^ 63 }
+    ensures counted { core.new.finished ≤ core.old.finished + 1 }
+    ensures ok { OnOk result (PlaysLine core.old line.now core.new) }
+    ensures err { IfErr result (IsRefusal core.old line.now) }
     ensures stream { TellsLine output.old.failed output.new.failed result }
 {
     if is_skipped(line) {
         Ok(())
     } else {
-        play_command(alloc, mount, command_of(line)?, output)
+        play_command(alloc, core, command_of(line)?, output)
     }
 }
 
@@ -53,22 +56,24 @@ fn is_skipped(line: &[u8]) -> bool
 // Plays a command and puts its answer out.
 fn play_command<W: Write>(
     alloc: Global,
-    mount: &mut Mount,
+    core: &mut Core,
     command: Command<'_>,
     output: &mut Output<W>,
 ) -> Result<(), LineFault>
-    ensures ok { OnOk result (PlaysCommand mount.old command.entry mount.new) }
-    ensures err { IfErr result (plays.IsCommandRefusal mount.old command.entry) }
+    requires { core.old.finished + 1 < 2 ^ 63 }
+    ensures counted { core.new.finished ≤ core.old.finished + 1 }
+    ensures ok { OnOk result (PlaysCommand core.old command.entry core.new) }
+    ensures err { IfErr result (plays.IsCommandRefusal core.old command.entry) }
     ensures stream { TellsLine output.old.failed output.new.failed result }
 {
     match command {
-        Command::Attach => put_answer(&attached(mount), output),
-        Command::Detach { client } => put_answer(&detached(mount, client)?, output),
+        Command::Attach => put_answer(&attached(core), output),
+        Command::Detach { client } => put_answer(&detached(core, client)?, output),
         Command::Call { client, call } => {
-            put_answer(&called(alloc, mount, client, &call)?, output)
+            put_answer(&called(alloc, core, client, &call)?, output)
         }
-        Command::Layer { index } => put_layer(alloc, mount, index, output),
-        Command::Merge => put_merge(alloc, mount, output),
+        Command::Layer { index } => put_layer(alloc, core, index, output),
+        Command::Merge => put_merge(alloc, core, output),
     }
 }
 
@@ -83,37 +88,35 @@ fn put_answer<W: Write>(answer: &Answer, output: &mut Output<W>) -> Result<(), L
 
 fn put_layer<W: Write>(
     alloc: Global,
-    mount: &Mount,
+    core: &Core,
     index: u32,
     output: &mut Output<W>,
 ) -> Result<(), LineFault>
-    ensures ok { OnOk result (PlaysCommand mount.now (asked.Layer index) mount.now) }
-    ensures err { IfErr result (plays.IsCommandRefusal mount.now (asked.Layer index)) }
+    ensures ok { OnOk result (PlaysCommand core.now (asked.Layer index) core.now) }
+    ensures err { IfErr result (plays.IsCommandRefusal core.now (asked.Layer index)) }
     ensures stream { TellsLine output.old.failed output.new.failed result }
 {
-    let Some(layer) = mount.layers().layer(index as usize) else {
+    let Some(layer) = core.layers().layer(index as usize) else {
         return Err(LineFault::BadCommand);
     };
     write_layer(alloc, layer, output)?;
     Ok(())
 }
 
-fn put_merge<W: Write>(
-    alloc: Global,
-    mount: &Mount,
-    output: &mut Output<W>,
-) -> Result<(), LineFault>
+fn put_merge<W: Write>(alloc: Global, core: &Core, output: &mut Output<W>) -> Result<(), LineFault>
     ensures err { IfErr result plays.IsOfDevice }
     ensures stream { TellsLine output.old.failed output.new.failed result }
 {
-    write_merge(alloc, mount.layers(), output)?;
+    write_merge(alloc, core.layers(), output)?;
     Ok(())
 }
 
-fn attached(mount: &mut Mount) -> Answer
-    ensures { PlaysCommand mount.old asked.Attach mount.new }
+fn attached(core: &mut Core) -> Answer
+    requires { core.old.finished + 1 < 2 ^ 63 }
+    ensures counted { core.new.finished ≤ core.old.finished + 1 }
+    ensures plays { PlaysCommand core.old asked.Attach core.new }
 {
-    match mount.attach() {
+    match core.attach() {
         Ok(Ok(client)) => Answer::Attached { client },
         Ok(Err(errno)) => Answer::NotAttached { errno },
         Err(AllocError) => Answer::NotAttached {
@@ -122,39 +125,46 @@ fn attached(mount: &mut Mount) -> Answer
     }
 }
 
-fn detached(mount: &mut Mount, client: u32) -> Result<Answer, BadCommand>
-    ensures ok { OnOk result (PlaysCommand mount.old (asked.Detach client) mount.new) }
-    ensures err { OnErr result (CannotPlay mount.old (asked.Detach client)) }
+fn detached(core: &mut Core, client: u32) -> Result<Answer, BadCommand>
+    requires { core.old.finished + 1 < 2 ^ 63 }
+    ensures counted { core.new.finished ≤ core.old.finished + 1 }
+    ensures ok { OnOk result (PlaysCommand core.old (asked.Detach client) core.new) }
+    ensures err { OnErr result (CannotPlay core.old (asked.Detach client)) }
 {
-    if !mount.is_attached(client) {
+    if !core.is_attached(client as u64) {
         return Err(BadCommand);
     }
-    mount.detach(client);
+    core.detach(client as u64);
     Ok(Answer::Detached { client })
 }
 
 fn called(
     alloc: Global,
-    mount: &mut Mount,
+    core: &mut Core,
     client: u32,
     text: &CallText<'_>,
 ) -> Result<Answer, BadCommand>
-    ensures ok { OnOk result (PlaysCommand mount.old (asked.Call client text.now) mount.new) }
-    ensures err { OnErr result (CannotPlay mount.old (asked.Call client text.now)) }
+    requires { core.old.finished + 1 < 2 ^ 63 }
+    ensures counted { core.new.finished ≤ core.old.finished + 1 }
+    ensures ok { OnOk result (PlaysCommand core.old (asked.Call client text.now) core.new) }
+    ensures err { OnErr result (CannotPlay core.old (asked.Call client text.now)) }
 {
-    if mount.is_attached(client) {
-        Ok(call_answer(alloc, mount, client, text))
+    if core.is_attached(client as u64) {
+        Ok(call_answer(alloc, core, client, text))
     } else {
         Err(BadCommand)
     }
 }
 
 // The answer to a call of a client that is attached.
-fn call_answer(alloc: Global, mount: &mut Mount, client: u32, text: &CallText<'_>) -> Answer
-    ensures { plays.KeepsClients mount.old mount.new }
+fn call_answer(alloc: Global, core: &mut Core, client: u32, text: &CallText<'_>) -> Answer
+    requires attached { is_attached core.old.mount.clients client ≡ true }
+    requires bound { core.old.finished + 1 < 2 ^ 63 }
+    ensures counted { core.new.finished ≤ core.old.finished + 1 }
+    ensures keeps { plays.KeepsClients core.old core.new }
 {
     match text.call(alloc) {
-        Ok(Ok(call)) => made(mount, client, call),
+        Ok(Ok(call)) => made(core, client, call),
         Ok(Err(errno)) => Answer::NotTaken { client, errno },
         Err(AllocError) => Answer::NotTaken {
             client,
@@ -163,15 +173,23 @@ fn call_answer(alloc: Global, mount: &mut Mount, client: u32, text: &CallText<'_
     }
 }
 
-fn made(mount: &mut Mount, client: u32, call: Call) -> Answer
-    ensures { plays.KeepsClients mount.old mount.new }
+// The answer to a call, which is made in one step.
+fn made(core: &mut Core, client: u32, call: Call) -> Answer
+    requires attached { is_attached core.old.mount.clients client ≡ true }
+    requires bound { core.old.finished + 1 < 2 ^ 63 }
+    ensures counted { core.new.finished ≤ core.old.finished + 1 }
+    ensures keeps { plays.KeepsClients core.old core.new }
 {
-    match mount.call(client, call) {
-        Ok(reply) => Answer::Replied { client, reply },
-        Err(AllocError) => Answer::NotTaken {
+    let mut job = Job::new(client as u64, call);
+    let turn = core.advance(&mut job);
+    let _ = job.into_call();
+    match turn {
+        Turn::Done(reply) => Answer::Replied { client, reply },
+        Turn::NoMemory => Answer::NotTaken {
             client,
             errno: Errno::ENOMEM,
         },
+        Turn::More => unreachable!(),
     }
 }
 

@@ -1,6 +1,6 @@
 // `play`: a script on a mount.
 ghost use Rattle.std.specs.Prelude.{◌≡◌, ℕ, ◌+◌, ◌*◌, ◌<◌, ◌≤◌, ◌^◌, [], length, nat_eq, position, IfErr, IfOk, IfSome, OnOk};
-ghost use Rattle.ov_server.specs.Faults.{AnswersManifest, layers_told};
+ghost use Rattle.ov_server.specs.Faults.{AnswersManifest, IsManifestFault, layers_told};
 ghost use Rattle.ov_server.specs.Plays as plays;
 ghost use Rattle.ov_server.specs.Plays.{BeginsOn, EndsBy, GoesOn, IsLineFault, IsPlayFault, PlaysLine, TellsPlay, layers_in};
 ghost use Rattle.ov_server.specs.Scripts.{IsGoodScript, IsRunFault, IsStreamFault};
@@ -8,8 +8,8 @@ ghost use Rattle.ov_server.specs.Scripts.{IsGoodScript, IsRunFault, IsStreamFaul
 use crate::commands::{LineFault, play_line};
 use crate::devices::{Input, Output};
 use crate::fault::{DeviceFault, Fault};
-use crate::show;
-use private_mount::Mount;
+use ov_wire::manifest_of;
+use overlay_core::Core;
 use std::alloc::{AllocError, Global};
 use std::hash::RandomState;
 use std::io::{Read, Write};
@@ -32,9 +32,8 @@ pub fn play_run<R: Read, W: Write>(
     ensures well { OnOk result ((input.new.failed ≡ input.old.failed) × (output.new.failed ≡ output.old.failed)) }
     ensures manifest { AnswersManifest manifest.now result }
 {
-    let layers = show::layers_in(alloc, keys, manifest)?;
     let mut script = Script {
-        mount: Mount::new(alloc, layers),
+        core: core_of(alloc, keys, manifest)?,
         pending: Vec::new(alloc),
         lines: 0,
         alloc,
@@ -43,6 +42,21 @@ pub fn play_run<R: Read, W: Write>(
     output.flush()?;
     outcome?;
     Ok(())
+}
+
+// The mount of the layers that the bytes of a manifest spell, without a client.
+fn core_of(alloc: Global, keys: RandomState, manifest: &[u8]) -> Result<Core, Fault>
+    ensures manifest { AnswersManifest manifest.now result }
+    ensures err { IfErr result IsManifestFault }
+    ensures count { IfOk result (λ core. layers_in core ≡ layers_told manifest.now) }
+    ensures begins { IfOk result BeginsOn }
+    ensures finished { IfOk result (λ core. core.finished ≡ 0) }
+{
+    let (upper, lowers, options) = manifest_of(alloc, keys, manifest)?;
+    match Core::mount(alloc, keys, upper, lowers, options)? {
+        Ok(core) => Ok(core),
+        Err(_) => unreachable!(),
+    }
 }
 
 /// Why a play ended before its script did.
@@ -56,10 +70,11 @@ pub enum PlayFault {
 // A script on its way: the mount as the lines before left it, how many they were, and the begun line.
 #[derive(Drop)]
 struct Script {
-    mount: Mount,
+    core: Core,
     pending: Vec<u8>,
     lines: u64,
     alloc: Global,
+    ghost counted: { core.finished ≤ lines },
 }
 
 impl Script {
@@ -70,9 +85,9 @@ impl Script {
     ) -> Result<(), PlayFault>
         requires pending { self.old.pending.items ≡ [] }
         requires lines { self.old.lines ≡ 0 }
-        requires mount { BeginsOn self.old.mount }
-        ensures ok { OnOk result (IfSome (R.remaining input.old.reader) (IsGoodScript (layers_in self.old.mount))) }
-        ensures err { IfErr result (λ fault. IfSome (R.remaining input.old.reader) (λ script. IsPlayFault (layers_in self.old.mount) script fault)) }
+        requires core { BeginsOn self.old.core }
+        ensures ok { OnOk result (IfSome (R.remaining input.old.reader) (IsGoodScript (layers_in self.old.core))) }
+        ensures err { IfErr result (λ fault. IfSome (R.remaining input.old.reader) (λ script. IsPlayFault (layers_in self.old.core) script fault)) }
         ensures stream { IfErr result (plays.IsStreamFault input.new.failed input.new.reads_left output.new.failed) }
         ensures well { OnOk result ((input.new.failed ≡ input.old.failed) × (output.new.failed ≡ output.old.failed)) }
     {
@@ -93,9 +108,9 @@ impl Script {
 
     // Plays the lines that end in a piece and keeps what begins a further one.
     fn feed<W: Write>(&mut self, piece: &[u8], output: &mut Output<W>) -> Result<(), PlayFault>
-        requires { self.old.lines + length piece.now < 2 ^ 64 }
-        ensures ok { OnOk result (GoesOn piece.now self.old.pending.items self.old.lines self.old.mount [] self.new.pending.items self.new.lines self.new.mount) }
-        ensures err { IfErr result (EndsBy piece.now self.old.pending.items self.old.lines self.old.mount) }
+        requires { self.old.lines + length piece.now < 2 ^ 63 }
+        ensures ok { OnOk result (GoesOn piece.now self.old.pending.items self.old.lines self.old.core [] self.new.pending.items self.new.lines self.new.core) }
+        ensures err { IfErr result (EndsBy piece.now self.old.pending.items self.old.lines self.old.core) }
         ensures lines { self.new.lines ≤ self.old.lines + length piece.now }
         ensures stream { TellsPlay output.old.failed output.new.failed result }
     {
@@ -111,9 +126,9 @@ impl Script {
 
     // Plays the line that the end of the input ends.
     fn end<W: Write>(&mut self, output: &mut Output<W>) -> Result<(), PlayFault>
-        requires { self.old.lines + 1 < 2 ^ 64 }
-        ensures ok { OnOk result (PlaysLine self.old.mount self.old.pending.items self.new.mount) }
-        ensures err { IfErr result (IsLineFault self.old.mount self.old.pending.items (self.old.lines + 1)) }
+        requires { self.old.lines + 1 < 2 ^ 63 }
+        ensures ok { OnOk result (PlaysLine self.old.core self.old.pending.items self.new.core) }
+        ensures err { IfErr result (IsLineFault self.old.core self.old.pending.items (self.old.lines + 1)) }
         ensures stream { TellsPlay output.old.failed output.new.failed result }
     {
         if self.pending.is_empty() {
@@ -125,15 +140,15 @@ impl Script {
 
     // Plays the pending line.
     fn line<W: Write>(&mut self, output: &mut Output<W>) -> Result<(), PlayFault>
-        requires { self.old.lines + 1 < 2 ^ 64 }
-        ensures ok { OnOk result (PlaysLine self.old.mount self.old.pending.items self.new.mount) }
-        ensures err { IfErr result (IsLineFault self.old.mount self.old.pending.items (self.old.lines + 1)) }
+        requires { self.old.lines + 1 < 2 ^ 63 }
+        ensures ok { OnOk result (PlaysLine self.old.core self.old.pending.items self.new.core) }
+        ensures err { IfErr result (IsLineFault self.old.core self.old.pending.items (self.old.lines + 1)) }
         ensures stream { TellsPlay output.old.failed output.new.failed result }
         ensures pending { self.new.pending.items ≡ [] }
         ensures lines { self.new.lines ≡ self.old.lines + 1 }
     {
         self.lines += 1;
-        let outcome = play_line(self.alloc, &mut self.mount, self.pending.as_slice(), output);
+        let outcome = play_line(self.alloc, &mut self.core, self.pending.as_slice(), output);
         self.pending.clear();
         match outcome {
             Ok(()) => Ok(()),

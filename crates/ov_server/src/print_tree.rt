@@ -184,8 +184,8 @@ fn go_on<T: Tree>(
         let _ = walk.path.pop();
         return Ok(true);
     };
-    walk.path.push(name)?;
     let child = tree.child(&level.directory, &name);
+    walk.path.push(name)?;
     walk.levels.push(level)?;
     match written(alloc, tree, child, walk.path.as_slice(), text)? {
         Some(below) => walk.levels.push(below)?,

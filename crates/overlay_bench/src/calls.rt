@@ -1,9 +1,9 @@
 // Loads of whole calls, of a client on a mount.
 use crate::loads::since;
 use crate::manifests::{ManifestText, child};
-use crate::mounts::{mounted, path_of, path_to};
+use crate::mounts::{made, mounted, path_of, path_to};
 use ov_base::{Bytes, Call, Errno, OpenFlags, Reply};
-use private_mount::Mount;
+use overlay_core::Core;
 use std::alloc::{AllocError, Global};
 use std::hash::RandomState;
 use std::io;
@@ -35,13 +35,13 @@ pub fn measure_stat<C: Clock>(
     series: Series<'_>,
     count: u32,
 ) -> io::Result<(u64, u32)> {
-    let (mut mount, client) = mounted(alloc, keys, manifest)?;
+    let (mut core, client) = mounted(alloc, keys, manifest)?;
     let mut nanos = 0u64;
     let mut done = 0u32;
     for batch in 0..count.div_ceil(BATCH) {
         let calls = stats(alloc, series, batch.saturating_mul(BATCH))?;
         let start = Instant::now(clock)?;
-        done = done.saturating_add(make_all(&mut mount, client, calls)?);
+        done = done.saturating_add(make_all(&mut core, client, calls)?);
         nanos = nanos.saturating_add(since(clock, start)?);
     }
     Ok((nanos, done))
@@ -62,10 +62,10 @@ fn stats(alloc: Global, series: Series<'_>, first: u32) -> Result<Vec<Call>, All
 }
 
 // How many of the calls were answered by a status or, for a name that isn't there, ENOENT.
-fn make_all(mount: &mut Mount, client: u32, calls: Vec<Call>) -> Result<u32, AllocError> {
+fn make_all(core: &mut Core, client: u64, calls: Vec<Call>) -> Result<u32, AllocError> {
     let mut done = 0u32;
     for call in calls {
-        match mount.call(client, call)? {
+        match made(core, client, call)? {
             Reply::Status(_) | Reply::Refused(Errno::ENOENT) => done = done.saturating_add(1),
             _ => {}
         }
@@ -82,13 +82,13 @@ pub fn measure_list<C: Clock>(
     directory: &str,
     count: u32,
 ) -> io::Result<(u64, u32)> {
-    let (mut mount, client) = mounted(alloc, keys, manifest)?;
+    let (mut core, client) = mounted(alloc, keys, manifest)?;
     let mut nanos = 0u64;
     let mut done = 0u32;
     for _ in 0..count {
         let open = opening(alloc, directory)?;
         let start = Instant::now(clock)?;
-        if list(&mut mount, client, open)? {
+        if list(&mut core, client, open)? {
             done = done.saturating_add(1);
         }
         nanos = nanos.saturating_add(since(clock, start)?);
@@ -116,22 +116,22 @@ fn opening(alloc: Global, directory: &str) -> Result<Call, AllocError> {
 }
 
 // Whether a directory could be opened, listed and closed.
-fn list(mount: &mut Mount, client: u32, open: Call) -> Result<bool, AllocError> {
-    let Reply::Descriptor(descriptor) = mount.call(client, open)? else {
+fn list(core: &mut Core, client: u64, open: Call) -> Result<bool, AllocError> {
+    let Reply::Descriptor(descriptor) = made(core, client, open)? else {
         return Ok(false);
     };
-    read_names(mount, client, descriptor)?;
-    Ok(matches!(mount.call(client, Call::Close { descriptor })?, Reply::Done))
+    read_names(core, client, descriptor)?;
+    Ok(matches!(made(core, client, Call::Close { descriptor })?, Reply::Done))
 }
 
 // Reads names until there are none.
-fn read_names(mount: &mut Mount, client: u32, descriptor: u32) -> Result<(), AllocError> {
+fn read_names(core: &mut Core, client: u64, descriptor: u32) -> Result<(), AllocError> {
     for _ in 0..u32::MAX {
         let page = Call::ListNames {
             descriptor,
             count: PAGE,
         };
-        let reply = mount.call(client, page)?;
+        let reply = made(core, client, page)?;
         if !has_names(&reply) {
             return Ok(());
         }
@@ -146,47 +146,63 @@ fn has_names(reply: &Reply) -> bool {
     }
 }
 
-/// Making a symbolic link in a directory of the upper layer and removing it again, so often.
-pub fn measure_symlink<C: Clock>(
+/// What is made and removed again.
+#[derive(Clone, Copy)]
+pub enum Kind {
+    Directory,
+    SymbolicLink,
+}
+
+/// Making something of this kind at a new name of a directory and removing it again, so often.
+pub fn measure_made<C: Clock>(
     clock: &C,
     alloc: Global,
     keys: RandomState,
     manifest: &ManifestText,
     parent: &str,
+    kind: Kind,
     count: u32,
 ) -> io::Result<(u64, u32)> {
-    let (mut mount, client) = mounted(alloc, keys, manifest)?;
-    let link = child(alloc, parent, "link-", 0)?;
+    let (mut core, client) = mounted(alloc, keys, manifest)?;
+    let path = child(alloc, parent, "made-", 0)?;
     let mut nanos = 0u64;
     let mut done = 0u32;
     for _ in 0..count.div_ceil(BATCH) {
-        let calls = links(alloc, link.as_str())?;
+        let calls = making(alloc, path.as_str(), kind)?;
         let start = Instant::now(clock)?;
-        done = done.saturating_add(link_all(&mut mount, client, calls)?);
+        done = done.saturating_add(remove_all(&mut core, client, calls)?);
         nanos = nanos.saturating_add(since(clock, start)?);
     }
     Ok((nanos, done))
 }
 
-// Calls that make a symbolic link and remove it, in turn.
-fn links(alloc: Global, link: &str) -> Result<Vec<Call>, AllocError> {
+// Calls that make something and remove it, in turn.
+fn making(alloc: Global, text: &str, kind: Kind) -> Result<Vec<Call>, AllocError> {
     let mut calls = Vec::new(alloc);
     for _ in 0..BATCH {
-        let target = Bytes::from_slice(alloc, b"target")?;
-        let path = path_of(alloc, link)?;
-        calls.push(Call::Symlink { target, path })?;
-        let path = path_of(alloc, link)?;
-        calls.push(Call::Unlink { path })?;
+        let path = path_of(alloc, text)?;
+        let again = path_of(alloc, text)?;
+        match kind {
+            Kind::Directory => {
+                calls.push(Call::Mkdir { path, mode: 0o755 })?;
+                calls.push(Call::Rmdir { path: again })?;
+            }
+            Kind::SymbolicLink => {
+                let target = Bytes::from_slice(alloc, b"target")?;
+                calls.push(Call::Symlink { target, path })?;
+                calls.push(Call::Unlink { path: again })?;
+            }
+        }
     }
     Ok(calls)
 }
 
-// How many links were removed.
-fn link_all(mount: &mut Mount, client: u32, calls: Vec<Call>) -> Result<u32, AllocError> {
+// How many times something was removed.
+fn remove_all(core: &mut Core, client: u64, calls: Vec<Call>) -> Result<u32, AllocError> {
     let mut done = 0u32;
     for call in calls {
-        let removes = matches!(&call, Call::Unlink { .. });
-        match mount.call(client, call)? {
+        let removes = matches!(&call, Call::Unlink { .. } | Call::Rmdir { .. });
+        match made(core, client, call)? {
             Reply::Done if removes => done = done.saturating_add(1),
             _ => {}
         }

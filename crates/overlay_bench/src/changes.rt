@@ -3,7 +3,7 @@ use crate::loads::since;
 use crate::manifests::child;
 use crate::mounts::{flat_layers, layers_of, path_of, path_to};
 use crate::trees::chained;
-use make_remove::{create, mkdir, unlink};
+use make_remove::{create, free, mkdir, unlink};
 use merged_lookup::Layers;
 use ov_base::Path;
 use std::alloc::{AllocError, Global};
@@ -35,11 +35,22 @@ fn create_often(
 ) -> Result<u32, AllocError> {
     let mut done = 0u32;
     for _ in 0..count {
-        if create(alloc, layers, path, 0o644)?.is_ok() && unlink(layers, path)?.is_ok() {
+        if create(alloc, layers, path, 0o644)?.is_ok() && unlink_and_free(layers, path)? {
             done = done.saturating_add(1);
         }
     }
     Ok(done)
+}
+
+// Removes a name, and frees what lost its last one; whether it did.
+fn unlink_and_free(layers: &mut Layers, path: &Path) -> Result<bool, AllocError> {
+    let Ok(released) = unlink(layers, path)? else {
+        return Ok(false);
+    };
+    if let Some(key) = released {
+        free(layers, key);
+    }
+    Ok(true)
 }
 
 /// Removing so many names that a lower layer has, in a directory of so many names: each leaves a whiteout.

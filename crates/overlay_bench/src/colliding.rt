@@ -47,7 +47,10 @@ fn name_with(alloc: Global, number: u32, end: &[u8; 8]) -> Result<Name, AllocErr
     let digits = format!(in alloc; "{number:08x}")?;
     let mut bytes = Vec::from_slice(alloc, digits.as_bytes())?;
     bytes.extend_from_slice(end)?;
-    Name::parse(bytes.as_slice()).map_err(|_| AllocError)
+    match Name::parse(alloc, bytes.as_slice())? {
+        Ok(name) => Ok(name),
+        Err(_) => Err(AllocError),
+    }
 }
 
 /// The nanoseconds that so many names took into one directory of a layer, and how many they were.
@@ -61,7 +64,7 @@ pub fn measure_directory<C: Clock>(
     let all = all_of(alloc, names, count)?;
     let mut layers = layers_of(alloc, keys, &bare(alloc)?)?;
     let start = Instant::now(clock)?;
-    let done = insert_all(alloc, &mut layers.upper, &all)?;
+    let done = insert_all(alloc, layers.upper_mut(), &all)?;
     Ok((since(clock, start)?, done))
 }
 
@@ -82,7 +85,7 @@ pub fn measure_fixed<C: Clock>(
 fn insert_fixed(table: &mut IndexMap<Name, u32>, names: &[Name]) -> Result<u32, AllocError> {
     let mut done = 0u32;
     for name in names {
-        table.insert(*name, done)?;
+        table.insert(name.clone()?, done)?;
         done = done.saturating_add(1);
     }
     Ok(done)

@@ -1,11 +1,11 @@
 // The loads by their names, each timed by the monotonic clock.
-use crate::calls::{Series, measure_list, measure_stat, measure_symlink};
+use crate::calls::{Kind, Series, measure_list, measure_made, measure_stat};
 use crate::changes::{measure_create, measure_parents, measure_whiteout};
 use crate::colliding::{Names, measure_directory, measure_fixed};
 use crate::manifests::nested;
 use crate::parts::{measure_find, measure_insert, measure_names, measure_walk};
 use crate::redirects::{DEPTH, Shape, redirected};
-use crate::trees::{DIRECTORIES, FILES, MERGED, OBJECTS, WIDE, served};
+use crate::trees::{DIRECTORIES, FILES, MERGED, OBJECTS, WIDE, deep, served};
 use std::alloc::Global;
 use std::hash::RandomState;
 use std::io;
@@ -56,6 +56,8 @@ pub enum Called {
     ListWide,
     /// A symbolic link made and removed at depth 4.
     Symlink,
+    /// A directory made and removed at depth 4, where each layer has about 10,000 names.
+    Mkdir,
 }
 
 impl Load {
@@ -95,6 +97,7 @@ fn call_named(word: &str) -> Option<Called> {
         "list" => Some(Called::List),
         "list_10k" => Some(Called::ListWide),
         "symlink" => Some(Called::Symlink),
+        "mkdir" => Some(Called::Mkdir),
         _ => None,
     }
 }
@@ -145,19 +148,22 @@ fn measure_call<C: Clock>(
     lowers: u32,
     count: u32,
 ) -> io::Result<(u64, u32)> {
-    let manifest = served(alloc, lowers)?;
+    let manifest = match called {
+        Called::Mkdir => deep(alloc, lowers.saturating_add(1))?,
+        _ => served(alloc, lowers)?,
+    };
     let parent = nested(alloc, DIRECTORIES)?;
     let (first, names) = match called {
         Called::List => return measure_list(clock, alloc, keys, &manifest, MERGED, count),
         Called::ListWide => return measure_list(clock, alloc, keys, &manifest, WIDE, count),
-        Called::Symlink => return measure_symlink(
-            clock,
-            alloc,
-            keys,
-            &manifest,
-            parent.as_str(),
-            count,
-        ),
+        Called::Symlink => {
+            let (parent, kind) = (parent.as_str(), Kind::SymbolicLink);
+            return measure_made(clock, alloc, keys, &manifest, parent, kind, count);
+        }
+        Called::Mkdir => {
+            let (parent, kind) = (parent.as_str(), Kind::Directory);
+            return measure_made(clock, alloc, keys, &manifest, parent, kind, count);
+        }
         Called::Stat => ("name-", 1),
         Called::StatMany => ("name-", FILES),
         Called::Absent => ("none-", 1),

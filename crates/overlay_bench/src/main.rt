@@ -18,7 +18,7 @@ use std::rt::{Clock, Env};
 use std::{env, io};
 
 const USAGE: &str = "usage: overlay_bench LOAD COUNT [LOWERS]
-calls of a client over LOWERS lower layers, 16 if not given: stat stat_many absent absent_new list list_10k symlink
+calls of a client over LOWERS lower layers, 16 if not given: stat stat_many absent absent_new list list_10k symlink mkdir
 names of one directory that collide under fixed keys, others, and the same under fixed keys: collide others collide_fixed others_fixed
 stat below redirects in 17 layers: chains chains_absent chains_past chains_past_named chains_single chains_longer
 parts of calls: find walk walk16 insert names create1k create create100k whiteout1k whiteout whiteout100k parents";

@@ -3,11 +3,14 @@
 use crate::manifests::{ManifestText, child};
 use crate::trees::flat;
 use merged_lookup::Layers;
-use ov_base::Path;
+use ov_base::{Call, Path, Reply};
 use ov_wire::manifest_of;
-use private_mount::Mount;
+use overlay_core::{Core, Job, Turn};
 use std::alloc::{AllocError, Global};
 use std::hash::RandomState;
+
+/// More attaches, calls and detaches than are ever measured.
+const DEEDS_MAX: u64 = 1 << 62;
 
 /// The layers of a manifest; a fault of it is answered as want of memory is.
 pub fn layers_of(
@@ -32,16 +35,35 @@ pub fn flat_layers(
     layers_of(alloc, keys, &manifest)
 }
 
-/// A mount with a client, whose number follows.
+/// The mount of a manifest with a client, whose number follows; what is no mount is answered as want of memory is.
 pub fn mounted(
     alloc: Global,
     keys: RandomState,
     manifest: &ManifestText,
-) -> Result<(Mount, u32), AllocError> {
-    let mut mount = Mount::new(alloc, layers_of(alloc, keys, manifest)?);
-    match mount.attach()? {
-        Ok(client) => Ok((mount, client)),
+) -> Result<(Core, u64), AllocError> {
+    let Ok((upper, lowers, options)) = manifest_of(alloc, keys, manifest.as_bytes()) else {
+        return Err(AllocError);
+    };
+    let Ok(mut core) = Core::mount(alloc, keys, upper, lowers, options)? else {
+        return Err(AllocError);
+    };
+    match core.attach()? {
+        Ok(client) => Ok((core, client)),
         Err(_) => Err(AllocError),
+    }
+}
+
+/// The reply to a call of a client; that it isn't attached, or was too often, is answered as want of memory is.
+pub fn made(core: &mut Core, client: u64, call: Call) -> Result<Reply, AllocError> {
+    if core.finished() >= DEEDS_MAX || !core.is_attached(client) {
+        return Err(AllocError);
+    }
+    let mut job = Job::new(client, call);
+    let turn = core.advance(&mut job);
+    let _ = job.into_call();
+    match turn {
+        Turn::Done(reply) => Ok(reply),
+        Turn::More | Turn::NoMemory => Err(AllocError),
     }
 }
 

@@ -29,7 +29,7 @@ pub fn measure_find<C: Clock>(
     let layers = layers_of(alloc, keys, &deep(alloc, 2)?)?;
     let path = deep_path(alloc)?;
     let start = Instant::now(clock)?;
-    let found = find_often(&layers.upper, &path, count);
+    let found = find_often(layers.upper(), &path, count);
     Ok((since(clock, start)?, found))
 }
 
@@ -78,7 +78,7 @@ pub fn measure_insert<C: Clock>(
     let mut layers = layers_of(alloc, keys, &bare(alloc)?)?;
     let all = numbered(alloc, count)?;
     let start = Instant::now(clock)?;
-    let done = insert_all(alloc, &mut layers.upper, &all)?;
+    let done = insert_all(alloc, layers.upper_mut(), &all)?;
     Ok((since(clock, start)?, done))
 }
 
@@ -86,7 +86,7 @@ fn numbered(alloc: Global, count: u32) -> Result<Vec<Name>, AllocError> {
     let mut all = Vec::new(alloc);
     for number in 0..count {
         let text = format!(in alloc; "name-{number:07}")?;
-        match Name::parse(text.as_bytes()) {
+        match Name::parse(alloc, text.as_bytes())? {
             Ok(name) => all.push(name)?,
             Err(_) => return Err(AllocError),
         }
@@ -98,7 +98,7 @@ fn numbered(alloc: Global, count: u32) -> Result<Vec<Name>, AllocError> {
 pub fn insert_all(alloc: Global, layer: &mut Layer, all: &[Name]) -> Result<u32, AllocError> {
     let mut done = 0u32;
     for name in all {
-        put_file(alloc, layer, *name)?;
+        put_file(alloc, layer, name.clone()?)?;
         done = done.saturating_add(1);
     }
     Ok(done)

@@ -19,7 +19,7 @@ use crate::clients::{Handle, open_handle};
 use crate::id::Id;
 use crate::node::{Node, is_folder, names_in};
 use crate::reference::Reference;
-use ov_base::{Errno, Name, NameList, OpenFlags, Path, Reply};
+use ov_base::{Errno, Name, NameList, OpenFlags, Path, Reply, copy_names};
 use std::alloc::{AllocError, Global};
 
 fn place_of(handle: Option<&Handle>) -> u64
@@ -35,18 +35,15 @@ fn place_of(handle: Option<&Handle>) -> u64
 fn page(alloc: Global, names: &[Name], place: u64, count: u32) -> Result<Vec<Name>, AllocError>
     ensures { IfOk result (λ page. page.items ≡ take count (drop place names.now)) }
 {
-    names
-        .iter()
-        .skip(place as usize)
-        .take(count as usize)
-        .copied()
-        .collect(alloc)
+    let start = names.len().min(place as usize);
+    let rest = &names[start..];
+    copy_names(alloc, &rest[..rest.len().min(count as usize)])
 }
 
 fn copied(alloc: Global, names: &NameList) -> Result<NameList, AllocError>
     ensures { IfOk result (λ copy. copy ≡ names.now) }
 {
-    Ok(NameList::from_vec(Vec::from_slice(alloc, names.as_slice())?))
+    Ok(NameList::from_vec(copy_names(alloc, names.as_slice())?))
 }
 
 fn list_line(handle: Option<&Handle>, node: Option<&Node>, count: u32) -> Option<Errno>

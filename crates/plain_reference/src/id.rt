@@ -4,7 +4,7 @@ ghost use Rattle.ov_base.specs.declared.node_id.NodeId.TheVariants as node;
 ghost use Rattle.plain_model.specs.Tree.{same_id};
 ghost use Rattle.plain_reference.specs.Keys.{id_of};
 
-use ov_base::{Name, Path};
+use ov_base::{Name, Path, copy_names};
 use std::alloc::{AllocError, Global};
 use std::marker::Model;
 
@@ -47,7 +47,8 @@ impl Id {
     pub fn at(alloc: Global, path: &Path) -> Result<Id, AllocError>
         ensures { IfOk result (λ id. id ≡ node.At path.now) }
     {
-        let names = path.names().iter().rev().copied().collect(alloc)?;
+        let mut names = copy_names(alloc, path.names())?;
+        names.reverse();
         Ok(Id {
             key: Key::At(names),
         })
@@ -78,7 +79,7 @@ fn copy_key(key: &Key) -> Result<Key, AllocError>
     ensures { IfOk result (λ copy. id_of copy ≡ id_of key.now) }
 {
     match key {
-        Key::At(names) => Ok(Key::At(Vec::from_slice(*names.allocator(), names.as_slice())?)),
+        Key::At(names) => Ok(Key::At(copy_names(*names.allocator(), names.as_slice())?)),
         Key::New(serial) => Ok(Key::New(*serial)),
     }
 }

@@ -81,5 +81,9 @@ impl Names {
 fn key_list(alloc: Global, ids: &BTreeMap<Name, Id>) -> Result<Vec<Name>, AllocError>
     ensures { IfOk result (λ list. list.items ≡ keys ids.now) }
 {
-    ids.keys().copied().collect(alloc)
+    let mut list = Vec::new(alloc);
+    for name in ids.keys() {
+        list.push(name.clone()?)?;
+    }
+    Ok(list)
 }

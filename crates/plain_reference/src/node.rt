@@ -87,7 +87,7 @@ impl Node {
         ensures err { OnErr result (plain self.new ≡ plain self.old) }
     {
         if let Node::Directory { names, .. } = self {
-            names.insert(*name, to)?;
+            names.insert(name.clone()?, to)?;
         }
         Ok(())
     }

@@ -82,7 +82,7 @@ impl Tree {
         match names {
             [] => Ok(None),
             [parents @ .., last] => {
-                let way = way_in(self.look(alloc, parents)?, *last);
+                let way = way_in(self.look(alloc, parents)?, last.clone()?);
                 Ok(way)
             }
         }

@@ -35,7 +35,7 @@ fn push_children(
 ) -> Result<(), AllocError> {
     for name in names.as_slice().iter().rev() {
         let mut path = copy_of(alloc, directory)?;
-        path.push(*name)?;
+        path.push(name.clone()?)?;
         left.push(path)?;
     }
     Ok(())
@@ -44,7 +44,7 @@ fn push_children(
 fn copy_of(alloc: Global, path: &Path) -> Result<Path, AllocError> {
     let mut copy = Path::root(alloc);
     for name in path.names() {
-        copy.push(*name)?;
+        copy.push(name.clone()?)?;
     }
     Ok(copy)
 }

@@ -5,7 +5,7 @@ ghost use Rattle.layer_tree.specs.Tree.{child};
 use crate::fixtures::{path, read};
 use layer_tree::{Entry, Layer, Node, Object, ROOT};
 use ov_base::{Attributes, Bytes, Content, Name, UserAttributes};
-use std::alloc::Global;
+use std::alloc::{AllocError, Global};
 use std::hash::RandomState;
 use std::process::Abort;
 use std::test::Fail;
@@ -31,8 +31,8 @@ fn layer_of_one_file(
 }
 
 // The name of the file.
-fn name(rt: &impl Abort) -> Name {
-    Name::parse(b"f").expect(rt, "a name")
+fn name(rt: &impl Abort, alloc: Global) -> Result<Name, AllocError> {
+    Ok(Name::parse(alloc, b"f")?.expect(rt, "a name"))
 }
 
 #[test]
@@ -51,9 +51,9 @@ fn a_file_is_written(rt: HostRuntime) -> Result<(), Fail> {
 fn names_go_and_whiteouts_stand(rt: HostRuntime) -> Result<(), Fail> {
     let alloc = rt.alloc();
     let (mut layer, dir, file) = layer_of_one_file(&rt, alloc, RandomState::new(&rt)?)?;
-    let f = name(&rt);
+    let f = name(&rt, alloc)?;
     assert!(rt; layer.is_directory(dir));
-    let was = layer.insert_whiteout(dir, f)?;
+    let was = layer.insert_whiteout(dir, f.clone()?)?;
     assert!(rt; matches!(was, Some(Entry::Object(found)) if found == file));
     assert!(rt; matches!(layer.entry(dir, &f), Some(Entry::Whiteout)));
     assert!(rt; matches!(layer.node(file), Some(Node::Inode(inode)) if inode.links == 0));
@@ -82,7 +82,7 @@ fn insert_link(
     layer: &mut Layer,
     dir: usize,
 ) -> Result<usize, Fail> {
-    let f = name(rt);
+    let f = name(rt, alloc)?;
     assert!(rt; layer.is_directory(dir));
     assert!(rt; layer.entry(dir, &f).is_none());
     let target = Bytes::from_slice(alloc, b"/d".as_slice())?;
@@ -102,7 +102,7 @@ fn a_file_without_a_name_is_freed(rt: HostRuntime) -> Result<(), Fail> {
     let alloc = rt.alloc();
     let (mut layer, dir, file) = layer_of_one_file(&rt, alloc, RandomState::new(&rt)?)?;
     assert!(rt; layer.is_directory(dir));
-    let gone = layer.take_out(dir, &name(&rt));
+    let gone = layer.take_out(dir, &name(&rt, alloc)?);
     assert!(rt; matches!(gone, Some(Entry::Object(found)) if found == file));
     assert!(rt; file != ROOT);
     assert!(rt; is_nameless(&layer, file));

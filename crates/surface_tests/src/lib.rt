@@ -1,4 +1,4 @@
-//! Tests of what no script reaches: streams that fail, command lines, options, and public functions that no command calls. Scripts and
+//! Tests of what no script reaches: streams that fail, command lines, options, schedules of jobs, and public functions that no command calls. Scripts and
 //! manifests with what they come to are rows of `side_by_side`.
 #![tactic(auto)]
 
@@ -14,5 +14,7 @@ mod look_ups;
 mod making;
 #[cfg(test)]
 mod manifests;
+#[cfg(test)]
+mod schedules;
 #[cfg(test)]
 mod streams;

@@ -4,13 +4,14 @@ ghost use Rattle.std.specs.List.{list_all};
 ghost use Rattle.std.specs.Option.{option_and_then};
 ghost use Rattle.toml.specs.Data.{as_integer, as_str, get_member};
 ghost use Rattle.toml.specs.View.{view, table_view};
+ghost use Rattle.ov_base.specs.Paths.{path_of_text};
 ghost use Rattle.layer_tree.specs.Tree.{leads};
 ghost use Rattle.ov_wire.specs.ManifestEntries.{Answers, IsPlaceable};
 ghost use Rattle.ov_wire.specs.ManifestEntries as spec;
 
 use super::fault::{EntryError, EntryFault};
 use layer_tree::{Marks, Object};
-use ov_base::{Attributes, BoxedName, Bytes, Content, Name, Path, Redirect, UserAttributes};
+use ov_base::{Attributes, Bytes, Content, Name, Path, Redirect, UserAttributes};
 use std::alloc::Global;
 use toml::{Table, Value};
 
@@ -233,9 +234,17 @@ fn redirect_spelled(alloc: Global, text: &[u8]) -> Result<Redirect, EntryError>
     ensures answer { Answers result (spec.redirect_spelled text.now) }
     ensures leads { IfOk result (λ redirect. IsTrue (leads (Some redirect))) }
 {
-    if let Ok(name) = Name::parse(text) {
-        return Ok(Redirect::Single(BoxedName::new(alloc, name)?));
+    match Name::parse(alloc, text)? {
+        Ok(name) => Ok(Redirect::Single(name)),
+        Err(_) => redirect_to(alloc, text),
     }
+}
+
+// The redirect to the path that a text spells, which has at least one name.
+fn redirect_to(alloc: Global, text: &[u8]) -> Result<Redirect, EntryError>
+    ensures answer { Answers result (spec.redirect_to (path_of_text text.now)) }
+    ensures leads { IfOk result (λ redirect. IsTrue (leads (Some redirect))) }
+{
     match Path::parse(alloc, text)? {
         Ok(path) if !path.names().is_empty() => Ok(Redirect::Absolute(path)),
         _ => Err(EntryError::Fault(EntryFault::Value)),

@@ -102,7 +102,7 @@ fn put(layer: &mut Layer, root_is_set: bool, path: &Path, item: Item) -> Result<
         check_root(root_is_set, &item)?;
         return Ok(true);
     };
-    place(layer, parents, *name, item)?;
+    place(layer, parents, name, item)?;
     Ok(root_is_set)
 }
 
@@ -117,19 +117,19 @@ fn check_root(root_is_set: bool, item: &Item) -> Result<(), EntryFault>
 }
 
 // Puts an item at a name in the directory at these names from the root.
-fn place(layer: &mut Layer, parents: &[Name], name: Name, item: Item) -> Result<(), EntryError>
+fn place(layer: &mut Layer, parents: &[Name], name: &Name, item: Item) -> Result<(), EntryError>
     requires { IsPlaceable item }
     ensures keeps { IsLayer (layer_of layer.old) → IsLayer (layer_of layer.new) }
-    ensures places { (a : RootAttributes) (set : Bool) (before : List PutEntry) → IsDraft (layer_of layer.old) a set before → Places (λ _. set) (layer_of layer.new) a (with_entry before (name ∷ reverse parents.now) item) result }
+    ensures places { (a : RootAttributes) (set : Bool) (before : List PutEntry) → IsDraft (layer_of layer.old) a set before → Places (λ _. set) (layer_of layer.new) a (with_entry before (name.now ∷ reverse parents.now) item) result }
 {
     layer.lawful();
     let Some(parent) = directory_at(layer, parents) else {
         return Err(EntryError::Fault(EntryFault::Parent));
     };
-    if layer.entry(parent, &name).is_some() {
+    if layer.entry(parent, name).is_some() {
         return Err(EntryError::Fault(EntryFault::Exists));
     }
-    plant(layer, parent, name, item)?;
+    plant(layer, parent, name.clone()?, item)?;
     Ok(())
 }
 

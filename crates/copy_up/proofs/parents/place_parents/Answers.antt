@@ -1,7 +1,8 @@
 use Rattle.std.proofs.Common.{sym, ap, ◌∙◌, ◌∷◌, take, reverse}
 use Rattle.merged_lookup.specs.Merged.{places_at, layers_of}
 use Rattle.merged_lookup.proofs.Descending.{reverse-more}
-use Rattle.copy_up.proofs.Keeping.{same-then, stays-then, directory-same, way-shows}
+use Rattle.copy_up.proofs.Frames.{gains-then}
+use Rattle.copy_up.proofs.Keeping.{is-parent, same-then, stays-then, directory-same, way-shows}
 use Rattle.copy_up.proofs.parents.place_parents.Goals as goal
 
 pub place_parent-requires-clause-shown : goal.place_parent-requires-clause-shown
@@ -16,6 +17,7 @@ loop-name-preserved c =
       record { places = (c.in_ok-stack.ensures.stack p c.loop-name.invariant.1).places ∙ ap (places_at 0 (layers_of c.place_parent.new.layers)) (sym (reverse-more c.args.names.now c.loop-name.name-index c.name-item.result c.loop-name-test.true c.name-item.is)) },
       c.in_ok-stack.ensures.upper,
       stays-then c.args.layers.now c.loop-name.layers c.place_parent.new.layers c.loop-name.invariant.3 c.place_parent.ensures.stays,
+      λ n. gains-then c.args.layers.now c.loop-name.layers c.place_parent.new.layers (n ∷ reverse c.args.names.now) c.loop-name.invariant.0 (c.loop-name.invariant.4 n) (c.place_parent.ensures.gains p (n ∷ reverse c.args.names.now) c.loop-name.invariant.1 (is-parent c.args.names.now c.loop-name.name-index c.name-item.result n c.loop-name-test.true c.name-item.is)),
     )
 
 pub returns-in_err-stack-clause-keeps : goal.returns-in_err-stack-clause-keeps
@@ -23,3 +25,11 @@ returns-in_err-stack-clause-keeps c = (stays-then c.args.layers.now c.loop-name.
 
 pub returns-in_err-stack-clause-names : goal.returns-in_err-stack-clause-names
 returns-in_err-stack-clause-names c = (stays-then c.args.layers.now c.loop-name.layers c.place_parent.new.layers c.loop-name.invariant.3 c.place_parent.ensures.stays).names
+
+pub returns-in_err-stack-clause-gains : goal.returns-in_err-stack-clause-gains
+returns-in_err-stack-clause-gains c = λ n.
+    let p = reverse (take c.loop-name.name-index c.args.names.now) in
+    gains-then c.args.layers.now c.loop-name.layers c.place_parent.new.layers (n ∷ reverse c.args.names.now) c.loop-name.invariant.0 (c.loop-name.invariant.4 n) (c.place_parent.ensures.gains p (n ∷ reverse c.args.names.now) c.loop-name.invariant.1 (is-parent c.args.names.now c.loop-name.name-index c.name-item.result n c.loop-name-test.true c.name-item.is))
+
+pub returns-in_err-stack-clause-holds : goal.returns-in_err-stack-clause-holds
+returns-in_err-stack-clause-holds c = (stays-then c.args.layers.now c.loop-name.layers c.place_parent.new.layers c.loop-name.invariant.3 c.place_parent.ensures.stays).holds

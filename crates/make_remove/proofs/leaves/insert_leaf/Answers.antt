@@ -1,19 +1,14 @@
-use Rattle.merged_lookup.proofs.Descending.{key-of}
-use Rattle.copy_up.proofs.Nodes.{place-free}
-use Rattle.make_remove.proofs.LeafSteps.{leaf-placed}
+use Rattle.std.proofs.Common.{◌∷◌, IfOk, subst}
+use Rattle.plain_model.specs.Layers.{Path, IsLayer}
+use Rattle.mount_laws.specs.Leaves.{PlacesLeaf}
+use Rattle.layer_tree.specs.Tree.{Tree, layer_of}
+use Rattle.copy_up.specs.Showing.{HasPlace}
 use Rattle.make_remove.proofs.leaves.insert_leaf.Goals as goal
 
-pub insert-requires-clause-no_object : goal.insert-requires-clause-no_object
-insert-requires-clause-no_object c = place-free c.args.upper.now c.lawful.ensures.tree c.args.dir c.args.name c.requires.0 c.requires.1
-
-pub returns-in_err-insert-clause-keeps : goal.returns-in_err-insert-clause-keeps
-returns-in_err-insert-clause-keeps c = c.insert.ensures.keeps c.requires.0 (key-of c.args.upper.now c.requires.0 c.args.dir c.requires.1.attributes c.requires.1.opaque c.requires.1.redirect c.requires.1.directory)
+pub returns-clause-placed : goal.returns-clause-placed
+returns-clause-placed c =
+    subst (λ (u : Tree). IfOk c.insert_leaf_in.result (λ key. (p : Path) → HasPlace (layer_of u) c.args.dir c.args.name.now p → PlacesLeaf (layer_of u) (layer_of c.insert_leaf_in.new.upper) (c.args.name.now ∷ p) key (record { content = c.args.content; attributes = c.args.attributes; links = 1 })))
+    c.upper_mut.ensures.value c.insert_leaf_in.ensures.placed
 
 pub returns-clause-keeps : goal.returns-clause-keeps
-returns-clause-keeps c = c.insert.ensures.keeps c.requires.0 (key-of c.args.upper.now c.requires.0 c.args.dir c.requires.1.attributes c.requires.1.opaque c.requires.1.redirect c.requires.1.directory)
-
-pub returns-clause-placed : goal.returns-clause-placed
-returns-clause-placed c = λ p h. (
-  c.in_ok-insert.field-0,
-  leaf-placed c.args.upper.now c.insert.new.self c.args.dir c.args.name p c.in_ok-insert.field-0 c.args.content c.args.attributes h (c.in_ok-insert.ensures.sets p (key-of c.args.upper.now p c.args.dir h.attributes h.opaque h.redirect h.directory)) c.in_ok-insert.ensures.inserts,
-)
+returns-clause-keeps c = subst (λ (u : Tree). IsLayer (layer_of u) → IsLayer (layer_of c.insert_leaf_in.new.upper)) c.upper_mut.ensures.value c.insert_leaf_in.ensures.keeps

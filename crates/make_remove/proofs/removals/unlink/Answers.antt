@@ -1,7 +1,9 @@
-use Rattle.std.proofs.Common.{reverse, refl, subst}
+use Rattle.std.proofs.Common.{reverse, refl, sym, subst}
 use Rattle.plain_model.specs.Layers.{Path}
 use Rattle.merged_lookup.specs.Merged.{trees, layers_of}
-use Rattle.make_remove.specs.Removing.{ShowsNoName}
+use Rattle.make_remove.specs.Removing.{ShowsNoName, Unnames}
+use Rattle.copy_up.specs.Showing.{GainsParents}
+use Rattle.copy_up.proofs.Keeping.{on-err}
 use Rattle.make_remove.proofs.Removing.{found-inode, unshown-in, unlink-step}
 use Rattle.make_remove.proofs.removals.unlink.Goals as goal
 
@@ -14,4 +16,10 @@ take_away-requires-clause-bare c =
 pub returns-clause-steps : goal.returns-clause-steps
 returns-clause-steps c =
     unlink-step c.args.layers.now c.take_away.new.layers c.args.path.now (reverse c.in-Some.parents.now) c.in-Some.name.now c.in-Some.ensures (c.in-Ok-Inode.ensures.answers.0 refl)
-    (found-inode c.args.layers.now c.args.path.now c.in-Ok-Inode.field-0 c.in-Ok-Inode.field-0-0 c.in-Ok-Inode.field-0-is c.in-Ok-Inode.ensures.found) c.in_ok-take_away.ensures.takes
+    (found-inode c.args.layers.now c.args.path.now c.in-Ok-Inode.field-0 c.in-Ok-Inode.field-0-0 c.in-Ok-Inode.field-0-is c.in-Ok-Inode.ensures.found) c.in_ok-key.ensures.takes
+
+pub returns-clause-unnames : goal.returns-clause-unnames
+returns-clause-unnames c = subst (λ p. Unnames c.args.layers.now c.take_away.new.layers p c.in_ok-key.key) (sym c.in-Some.ensures) c.in_ok-key.ensures.unnames
+
+pub returns-in_err-key-clause-parents : goal.returns-in_err-key-clause-parents
+returns-in_err-key-clause-parents c = on-err _ c.from_residual.result (subst (GainsParents c.args.layers.now c.take_away.new.layers) (sym c.in-Some.ensures) c.in_err-key.ensures.parents)

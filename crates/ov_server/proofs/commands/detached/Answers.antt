@@ -3,4 +3,4 @@ use Rattle.ov_server.proofs.Clients.{detach_plays}
 use Rattle.ov_server.proofs.commands.detached.Goals as goal
 
 pub returns-clause-ok : goal.returns-clause-ok
-returns-clause-ok c = detach_plays c.args.mount.now c.detach.new.self c.args.client (sym c.is_attached.ensures.there ∙ c.if-not-is_attached.false) c.detach.ensures.clients c.detach.ensures.layers
+returns-clause-ok c = detach_plays c.args.core.now c.detach.new.self c.args.client (sym c.is_attached.ensures ∙ c.if-not-is_attached.false) c.detach.ensures.clients c.detach.ensures.layers

@@ -1,7 +1,5 @@
-use Rattle.std.proofs.Common.{sym, ap, ◌∙◌}
-use Rattle.layer_tree.specs.Table.{Table, entry_in}
-use Rattle.layer_tree.proofs.TableLemmas.{get-entries_of}
+use Rattle.layer_tree.proofs.TableLemmas.{unmade_entry}
 use Rattle.layer_tree.proofs.name_table.NameTable.get.Goals as goal
 
-pub returns : goal.returns
-returns c = c.copied.ensures ∙ c.get.ensures.value ∙ sym (get-entries_of _ _) ∙ ap (λ (t : Table). entry_in t c.args.name.now) c.self.view_is
+pub returns-in-None : goal.returns-in-None
+returns-in-None c = unmade_entry c.self.inside.hashed _ c.args.name.now c.in-None.is c.self.view_is

@@ -1,17 +1,17 @@
 use Rattle.std.proofs.Common.{sym, ap, subst, ◌∙◌, List, ℕ}
+use Rattle.std.specs.Prelude.{is_some}
 use Rattle.std.specs.Str.{bytes_eq}
-use Rattle.std.specs.List.{list_any, IsDistinct}
-use Rattle.std.proofs.lemmas.List.Sorted.{list_any-IsPermutation}
-use Rattle.layer_tree.proofs.TableLemmas.{name_eq, sorted_apart}
+use Rattle.std.specs.Ordering.{nat_cmp}
+use Rattle.std.specs.Cmp.Lexicographic.{slice_cmp}
+use Rattle.std.specs.List.{list_any}
+use Rattle.std.specs.List.Sorted.{IsStrictlySortedBy}
+use Rattle.layer_tree.proofs.TableLemmas.{none_sorted, unmade_entry}
 use Rattle.layer_tree.proofs.name_table.NameTable.sorted.Goals as goal
 
-pub returns-clause-names : goal.returns-clause-names
-returns-clause-names c name =
-    sym (list_any-IsPermutation (bytes_eq name) _ _ c.sort_unstable.ensures.permutation)
-    ∙ ap (λ (xs : List (List ℕ)). list_any (bytes_eq name) xs) c.in_ok-all.ensures.items
-    ∙ c.as_slice.ensures.names name
+pub returns-in-None-clause-sorted : goal.returns-in-None-clause-sorted
+returns-in-None-clause-sorted c = subst (IsStrictlySortedBy (slice_cmp nat_cmp)) (sym c.new.ensures.items) none_sorted
 
-pub returns-clause-sorted : goal.returns-clause-sorted
-returns-clause-sorted c =
-    let P : List (List ℕ) → Type 0 = λ xs. IsDistinct name_eq xs in
-    sorted_apart _ _ c.sort_unstable.ensures.permutation (subst P (sym c.in_ok-all.ensures.items) c.as_slice.ensures.distinct) c.sort_unstable.ensures.sorted
+pub returns-in-None-clause-names : goal.returns-in-None-clause-names
+returns-in-None-clause-names c name =
+    ap (λ (xs : List (List ℕ)). list_any (bytes_eq name) xs) c.new.ensures.items
+    ∙ ap is_some (unmade_entry c.self.inside.hashed _ name c.in-None.is c.self.view_is)

@@ -1,0 +1,28 @@
+use Rattle.merged_lookup.proofs.Descending.{key-of}
+use Rattle.layer_tree.proofs.Nameless.{keeps_same, keeps_leaf}
+use Rattle.copy_up.proofs.Keeping.{on-err}
+use Rattle.copy_up.proofs.Nodes.{place-free}
+use Rattle.make_remove.proofs.LeafSteps.{leaf-placed}
+use Rattle.make_remove.proofs.leaves.insert_leaf_in.Goals as goal
+
+pub insert-requires-clause-no_object : goal.insert-requires-clause-no_object
+insert-requires-clause-no_object c = rw c.in_ok-name.ensures.cases (place-free c.args.upper.now c.lawful.ensures.tree c.args.dir c.args.name.now c.requires.0 c.requires.1)
+
+pub returns-in_err-key-clause-keeps : goal.returns-in_err-key-clause-keeps
+returns-in_err-key-clause-keeps c = c.insert.ensures.keeps c.requires.0 (key-of c.args.upper.now c.requires.0 c.args.dir c.requires.1.attributes c.requires.1.opaque c.requires.1.redirect c.requires.1.directory)
+
+pub returns-clause-keeps : goal.returns-clause-keeps
+returns-clause-keeps c = c.insert.ensures.keeps c.requires.0 (key-of c.args.upper.now c.requires.0 c.args.dir c.requires.1.attributes c.requires.1.opaque c.requires.1.redirect c.requires.1.directory)
+
+pub returns-clause-placed : goal.returns-clause-placed
+returns-clause-placed c = λ p h. leaf-placed c.args.upper.now c.insert.new.self c.args.dir c.args.name.now p c.in_ok-key.key c.args.content c.args.attributes h (rw c.in_ok-name.ensures.cases at (c.in_ok-key.ensures.sets p (key-of c.args.upper.now p c.args.dir h.attributes h.opaque h.redirect h.directory))) (rw c.in_ok-name.ensures.cases at c.in_ok-key.ensures.inserts)
+
+pub returns-clause-objects : goal.returns-clause-objects
+returns-clause-objects c =
+    keeps_leaf c.args.upper.now c.insert.new.self c.args.dir c.in_ok-name.name _ c.in_ok-key.key c.in_ok-key.ensures.inserts c.requires.0 (key-of c.args.upper.now c.requires.0 c.args.dir c.requires.1.attributes c.requires.1.opaque c.requires.1.redirect c.requires.1.directory)
+
+pub returns-clause-vacant : goal.returns-clause-vacant
+returns-clause-vacant c = c.in_ok-key.ensures.inserts.fresh
+
+pub returns-in_err-key-clause-same : goal.returns-in_err-key-clause-same
+returns-in_err-key-clause-same c = on-err _ c.from_residual-in_err-key.result (keeps_same c.args.upper.now c.insert.new.self c.in_err-key.ensures.err)

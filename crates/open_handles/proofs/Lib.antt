@@ -1,0 +1,11 @@
+pub mod Slots
+pub mod Standing
+pub mod Located
+pub mod Moving
+pub mod Entries
+pub mod Handles
+pub mod Freeing
+pub mod Removing
+pub mod Walking
+pub mod Laws
+pub mod Holding

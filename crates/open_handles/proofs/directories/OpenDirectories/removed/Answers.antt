@@ -1,0 +1,13 @@
+use Rattle.std.proofs.Common.{sym, subst, ap, ◌∙◌}
+use Rattle.slab.specs.Slab.{get}
+use Rattle.open_handles.specs.Dentries.{Dentries, ROOT, IsTree}
+use Rattle.open_handles.proofs.Laws.{attributes-read, opened-there}
+use Rattle.open_handles.proofs.directories.OpenDirectories.removed.Goals as goal
+
+pub returns-in_err-get : goal.returns-in_err-get
+returns-in_err-get c =
+    absurd (opened-there c.args.self.now c.args.directory c.requires (ap (λ (t : Dentries). get t c.args.directory) (sym c.self.view_is) ∙ sym c.in_err-get.ensures))
+
+pub returns : goal.returns
+returns c =
+    c.removed.ensures ∙ attributes-read c.args.self.now c.args.directory c.in_ok-get.field-0.now (subst (λ (t : Dentries). IsTree t ROOT) c.self.view_is c.self.invariant) c.requires (ap (λ (t : Dentries). get t c.args.directory) (sym c.self.view_is) ∙ sym c.in_ok-get.ensures)

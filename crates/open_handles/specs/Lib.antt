@@ -1,0 +1,6 @@
+pub mod Dentries
+pub mod Steps
+pub mod Opened
+pub mod Descriptors
+pub mod Listings
+pub mod Holding

@@ -1,0 +1,92 @@
+-- How the entries change. No public clause cites this module.
+use Rattle.std.specs.Prelude.{◌≡◌, ◌≢◌, ℕ, Option, Some, None, []}
+use Rattle.ov_base.specs.declared.attributes.Attributes.{Attributes}
+use Rattle.plain_model.specs.Layers.{Name, Path}
+use Rattle.open_handles.specs.declared.dentry.Dentry.{Dentry}
+use Rattle.open_handles.specs.declared.dentry.Place.{Place}
+use Rattle.open_handles.specs.declared.dentry.Place.TheVariants.{Root, In, Removed}
+use Rattle.open_handles.specs.Dentries.{Dentries, place_at, held, child_in, child, StandsAt}
+
+-- nothing keeps the entry: it isn't the root, and has neither a handle nor a child
+pub record IsIdle (e : Dentry) : Type 0 where
+  pub not_root : e.place ≢ Root
+  pub unheld : e.holders ≡ 0
+  pub childless : e.children.entries ≡ []
+
+-- the attributes of a directory that was removed
+abbrev pub left_attributes : Place → Option Attributes
+left_attributes Root = None
+left_attributes (In d n) = None
+left_attributes (Removed a) = Some a
+
+-- the entry has this child at the name, or none, and is otherwise as it was
+pub record Lists (old new : Dentry) (n : Name) (to : Option ℕ) : Type 0 where
+  pub place : new.place ≡ old.place
+  pub holders : new.holders ≡ old.holders
+  pub there : child_in new n ≡ to
+  pub others : (m : Name) → m ≢ n → child_in new m ≡ child_in old m
+
+-- the entry is as it was, but for its children's order and room
+pub record SameDentry (old new : Dentry) : Type 0 where
+  pub place : new.place ≡ old.place
+  pub holders : new.holders ≡ old.holders
+  pub children : (m : Name) → child_in new m ≡ child_in old m
+
+-- each entry is as it was
+pub record SameEntries (old new : Dentries) : Type 0 where
+  pub places : (k : ℕ) → place_at new k ≡ place_at old k
+  pub counts : (k : ℕ) → held new k ≡ held old k
+  pub children : (d : ℕ) (m : Name) → child new d m ≡ child old d m
+
+-- an entry has this child at the name, or none, and every other name has the child that it had
+pub record Rebinds (old new : Dentries) (d : ℕ) (n : Name) (to : Option ℕ) : Type 0 where
+  pub there : child new d n ≡ to
+  pub others : (e : ℕ) (m : Name) → ((e ≡ d) → (m ≡ n) → ⊥) → child new e m ≡ child old e m
+
+-- the same, where each directory stands where it stood, with as many handles
+pub record Relists (old new : Dentries) (d : ℕ) (n : Name) (to : Option ℕ) : Type 0 where
+  pub places : (k : ℕ) → place_at new k ≡ place_at old k
+  pub counts : (k : ℕ) → held new k ≡ held old k
+  pub binds : Rebinds old new d n to
+
+-- a directory has an entry now, as a child at this name
+pub record Adds (old new : Dentries) (d : ℕ) (n : Name) (k : ℕ) : Type 0 where
+  pub fresh : place_at old k ≡ None
+  pub vacant : child old d n ≡ None
+  pub placed : place_at new k ≡ Some (In d n)
+  pub places : (j : ℕ) → j ≢ k → place_at new j ≡ place_at old j
+  pub counts : (j : ℕ) → held new j ≡ held old j
+  pub binds : Rebinds old new d n (Some k)
+
+-- a child at this name is none any more: it has no entry, or was removed
+pub record Unlinks (old new : Dentries) (k d : ℕ) (n : Name) (to : Option Place) : Type 0 where
+  pub was : place_at old k ≡ Some (In d n)
+  pub placed : place_at new k ≡ to
+  pub places : (j : ℕ) → j ≢ k → place_at new j ≡ place_at old j
+  pub counts : (j : ℕ) → held new j ≡ held old j
+  pub binds : Rebinds old new d n None
+
+-- a directory without handles and children has no entry any more
+pub record Drops (old new : Dentries) (k : ℕ) : Type 0 where
+  pub gone : place_at new k ≡ None
+  pub places : (j : ℕ) → j ≢ k → place_at new j ≡ place_at old j
+  pub counts : (j : ℕ) → held new j ≡ held old j
+  pub children : (d : ℕ) (m : Name) → child new d m ≡ child old d m
+
+-- a directory stands there now, and has the handles and children that it had
+pub record Displaces (old new : Dentries) (k : ℕ) (to : Place) : Type 0 where
+  pub placed : place_at new k ≡ Some to
+  pub places : (j : ℕ) → j ≢ k → place_at new j ≡ place_at old j
+  pub counts : (j : ℕ) → held new j ≡ held old j
+  pub children : (d : ℕ) (m : Name) → child new d m ≡ child old d m
+
+-- so many handles hold a directory
+pub record Counts (old new : Dentries) (k count : ℕ) : Type 0 where
+  pub places : (j : ℕ) → place_at new j ≡ place_at old j
+  pub counted : held new k ≡ count
+  pub counts : (j : ℕ) → j ≢ k → held new j ≡ held old j
+  pub children : (d : ℕ) (m : Name) → child new d m ≡ child old d m
+
+-- each directory stands where it stood
+abbrev pub KeepsPaths : Dentries → Dentries → Type 0
+KeepsPaths old new = (k : ℕ) (p : Path) → StandsAt old k p → StandsAt new k p

@@ -1,0 +1,252 @@
+// The steps on the entries of a mount's open directories. Each keeps them a tree.
+ghost use Rattle.std.specs.Prelude.{◌≡◌, ◌≢◌, ℕ, ◌+◌, ◌-◌, ◌<◌, ◌∷◌, [], Some, None, IsSome, IfOk, OnOk, OnErr, IfSome, IfNone};
+ghost use Rattle.slab.specs.Slab.{get, slab_len};
+ghost use Rattle.open_handles.specs.declared.dentry.Place.TheVariants as place;
+ghost use Rattle.open_handles.specs.Dentries.{IsTree, StandsAt, Stands, child, place_at, held};
+ghost use Rattle.open_handles.specs.Steps.{SameEntries, Relists, Adds, Displaces, Counts, KeepsPaths};
+ghost use Rattle.open_handles.specs.Opened.{SameHandles, Opens, Closes, Removes, NoneBelow, opened};
+
+use crate::dentry::{Dentry, Place};
+use ov_base::{Attributes, Name, Path};
+use slab::Slab;
+use std::alloc::{AllocError, Global};
+use std::hash::RandomState;
+use std::mem;
+
+/// The number of the root directory.
+pub const ROOT: usize = 0;
+
+// The child of an entry at a name.
+fn child_at(entries: &Slab<Dentry>, parent: usize, name: &Name) -> Option<usize>
+    ensures { result ≡ child entries.now parent name.now }
+{
+    entries.get(parent)?.children.get(name).copied()
+}
+
+/// The entry that stands at a path.
+pub fn find(entries: &Slab<Dentry>, path: &Path) -> Option<usize>
+    requires { IsTree entries.now ROOT }
+    ensures found { IfSome result (λ k. StandsAt entries.now k path.now) }
+    ensures absent { IfNone result ((k : ℕ) → StandsAt entries.now k path.now → ⊥) }
+{
+    let mut directory = ROOT;
+    for name in path.names() {
+        directory = child_at(entries, directory, name)?;
+    }
+    Some(directory)
+}
+
+/// Makes a handle more hold the directory at a path, for which it makes the entries that lack. Want of memory leaves all as it was, and
+/// so does a directory that as many handles hold as can be counted.
+pub fn open(
+    entries: &mut Slab<Dentry>,
+    alloc: Global,
+    keys: RandomState,
+    path: &Path,
+) -> Result<usize, AllocError>
+    requires { IsTree entries.old ROOT }
+    ensures tree { IsTree entries.new ROOT }
+    ensures opens { IfOk result (λ k. Opens entries.old entries.new path.now k) }
+    ensures err { OnErr result (SameHandles entries.old entries.new) }
+{
+    let mut directory = ROOT;
+    for name in path.names() {
+        match enter(entries, alloc, keys, directory, name) {
+            Ok(below) => directory = below,
+            Err(fault) => {
+                prune(entries, directory);
+                return Err(fault);
+            }
+        }
+    }
+    hold(entries, directory)?;
+    Ok(directory)
+}
+
+// Goes on to the child of an entry at a name, which it makes where there is none.
+fn enter(
+    entries: &mut Slab<Dentry>,
+    alloc: Global,
+    keys: RandomState,
+    parent: usize,
+    name: &Name,
+) -> Result<usize, AllocError>
+    requires tree { IsTree entries.old parent }
+    requires stands { Stands entries.old parent }
+    ensures same { SameHandles entries.old entries.new }
+    ensures paths { KeepsPaths entries.old entries.new }
+    ensures tree { IfOk result (λ k. IsTree entries.new k) }
+    ensures placed { IfOk result (λ k. place_at entries.new k ≡ Some (place.In parent name.now)) }
+    ensures err { OnErr result (IsTree entries.new parent) }
+{
+    match child_at(entries, parent, name) {
+        Some(key) => Ok(key),
+        None => add_child(entries, alloc, keys, parent, name),
+    }
+}
+
+// Makes the entry of a child where there is none.
+fn add_child(
+    entries: &mut Slab<Dentry>,
+    alloc: Global,
+    keys: RandomState,
+    parent: usize,
+    name: &Name,
+) -> Result<usize, AllocError>
+    requires there { IsSome (get entries.old parent) }
+    requires vacant { child entries.old parent name.now ≡ None }
+    ensures adds { IfOk result (λ k. Adds entries.old entries.new parent name.now k) }
+    ensures err { OnErr result (SameEntries entries.old entries.new) }
+{
+    let own = name.clone()?;
+    let listed = name.clone()?;
+    entries.reserve(1)?;
+    let key = entries.vacant_key();
+    list_child(entries, parent, listed, key)?;
+    Ok(entries.insert_reserved(Dentry::new(alloc, keys, Place::In(parent, own))))
+}
+
+fn list_child(
+    entries: &mut Slab<Dentry>,
+    parent: usize,
+    name: Name,
+    key: usize,
+) -> Result<(), AllocError>
+    requires { IsSome (get entries.old parent) }
+    ensures ok { OnOk result (Relists entries.old entries.new parent name (Some key)) }
+    ensures err { OnErr result (SameEntries entries.old entries.new) }
+    ensures vacant { entries.new.vacant_key ≡ entries.old.vacant_key }
+    ensures len { slab_len entries.new ≡ slab_len entries.old }
+    ensures capacity { entries.new.capacity ≡ entries.old.capacity }
+{
+    let dentry = &mut entries[parent];
+    dentry.list(name, key)
+}
+
+fn unlist_child(entries: &mut Slab<Dentry>, parent: usize, name: &Name)
+    requires { IsSome (get entries.old parent) }
+    ensures relists { Relists entries.old entries.new parent name.now None }
+    ensures len { slab_len entries.new ≡ slab_len entries.old }
+{
+    let dentry = &mut entries[parent];
+    dentry.unlist(name);
+}
+
+// Counts one handle more on an entry that may be idle. Where as many hold it as can be counted, it fails and changes nothing.
+fn hold(entries: &mut Slab<Dentry>, key: usize) -> Result<(), AllocError>
+    requires { IsSome (get entries.old key) }
+    ensures ok { OnOk result (Counts entries.old entries.new key (held entries.old key + 1)) }
+    ensures err { OnErr result (SameEntries entries.old entries.new) }
+    ensures full { OnErr result (0 < held entries.old key) }
+{
+    let dentry = &mut entries[key];
+    dentry.hold()
+}
+
+/// Counts one handle less on a directory, and frees what nothing keeps then.
+pub fn close(entries: &mut Slab<Dentry>, key: usize)
+    requires tree { IsTree entries.old ROOT }
+    requires opened { IsSome (opened entries.old key) }
+    ensures tree { IsTree entries.new ROOT }
+    ensures closes { Closes entries.old entries.new key }
+{
+    release(entries, key);
+    prune(entries, key);
+}
+
+fn release(entries: &mut Slab<Dentry>, key: usize)
+    requires { 0 < held entries.old key }
+    ensures { Counts entries.old entries.new key (held entries.old key - 1) }
+{
+    let dentry = &mut entries[key];
+    dentry.holders -= 1;
+}
+
+// Frees an entry that may be idle, and those above it that are idle then.
+fn prune(entries: &mut Slab<Dentry>, from: usize)
+    requires { IsTree entries.old from }
+    ensures tree { IsTree entries.new ROOT }
+    ensures same { SameHandles entries.old entries.new }
+{
+    let mut key = from;
+    while let Some(parent) = free_idle(entries, key) {
+        key = parent;
+    }
+}
+
+// Frees an entry if it is idle, and gives its parent, which may be idle then.
+fn free_idle(entries: &mut Slab<Dentry>, key: usize) -> Option<usize>
+    requires { IsTree entries.old key }
+    ensures same { SameHandles entries.old entries.new }
+    ensures parent { IfSome result (λ parent. IsTree entries.new parent) }
+    ensures last { IfNone result (IsTree entries.new ROOT) }
+    ensures fewer { IfSome result (λ _. slab_len entries.new < slab_len entries.old) }
+{
+    if !entries.get(key)?.is_idle() {
+        return None;
+    }
+    match place_of(entries.try_remove(key)?) {
+        Place::In(parent, name) => {
+            unlist_child(entries, parent, &name);
+            Some(parent)
+        }
+        _ => None,
+    }
+}
+
+fn place_of(dentry: Dentry) -> Place
+    ensures { result ≡ dentry.place }
+{
+    dentry.place
+}
+
+/// Makes the directory that is open at a path a removed one, with these attributes.
+pub fn remove(entries: &mut Slab<Dentry>, path: &Path, attributes: Attributes)
+    requires tree { IsTree entries.old ROOT }
+    requires not_root { path.now ≢ [] }
+    requires below { NoneBelow entries.old path.now }
+    ensures tree { IsTree entries.new ROOT }
+    ensures removes { Removes entries.old entries.new path.now attributes }
+{
+    let Some(key) = find(entries, path) else {
+        return;
+    };
+    if let Place::In(parent, name) = displace(entries, key, attributes) {
+        unlist_child(entries, parent, &name);
+        prune(entries, parent);
+    }
+}
+
+fn displace(entries: &mut Slab<Dentry>, key: usize, attributes: Attributes) -> Place
+    requires { IsSome (get entries.old key) }
+    ensures was { place_at entries.old key ≡ Some result }
+    ensures displaces { Displaces entries.old entries.new key (place.Removed attributes) }
+{
+    let dentry = &mut entries[key];
+    mem::replace(&mut dentry.place, Place::Removed(attributes))
+}
+
+/// The names from a directory that stands somewhere up to the root.
+pub fn names_up(entries: &Slab<Dentry>, alloc: Global, key: usize) -> Result<Vec<Name>, AllocError>
+    requires { Stands entries.now key }
+    ensures { IfOk result (λ names. StandsAt entries.now key names.items) }
+{
+    let mut names = Vec::new(alloc);
+    let mut at = key;
+    while let Some((parent, name)) = entries[at].parent() {
+        names.push(name.clone()?)?;
+        at = parent;
+    }
+    Ok(names)
+}
+
+/// The path of these names, which stand with the last one first.
+pub fn path_down(alloc: Global, mut names: Vec<Name>) -> Result<Path, AllocError>
+    ensures { IfOk result (λ path. path ≡ names.items) }
+{
+    let mut path = Path::root(alloc);
+    while let Some(name) = names.pop() {
+        path.push(name)?;
+    }
+    Ok(path)
+}

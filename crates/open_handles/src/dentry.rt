@@ -1,0 +1,103 @@
+// One directory that is open, or has open ones below it.
+ghost use Rattle.std.specs.Prelude.{◌≡◌, ◌≢◌, ℕ, ◌+◌, ◌<◌, List, [], None, Some, IsTrue, ◌↔◌, OnOk, OnErr, IfSome, IfNone};
+ghost use Rattle.std.specs.Option.{option_copied};
+ghost use Rattle.open_handles.specs.declared.dentry.Place.TheVariants as place;
+ghost use Rattle.open_handles.specs.Steps.{IsIdle, left_attributes, Lists, SameDentry};
+
+use indexmap::IndexMap;
+use ov_base::{Attributes, Name};
+use std::alloc::{AllocError, Global};
+use std::hash::RandomState;
+
+/// The children of an entry by their names. The hash has random keys, against names that are picked to collide.
+pub type Children = IndexMap<Name, usize, RandomState>;
+
+/// Where a directory stands: as the root, under a name in another, or nowhere, with the attributes that it had when it was removed.
+#[derive(Drop)]
+pub enum Place {
+    Root,
+    In(usize, Name),
+    Removed(Attributes),
+}
+
+/// A directory, how many handles hold it, and those of its directories that have an entry.
+#[derive(Drop)]
+pub struct Dentry {
+    pub place: Place,
+    pub holders: usize,
+    pub children: Children,
+}
+
+impl Dentry {
+    /// The entry of a directory that no handle holds yet.
+    pub fn new(alloc: Global, keys: RandomState, place: Place) -> Dentry
+        ensures place { result.place ≡ place }
+        ensures holders { result.holders ≡ 0 }
+        ensures children { result.children.entries ≡ [] }
+    {
+        Dentry {
+            place,
+            holders: 0,
+            children: IndexMap::with_hasher(alloc, keys),
+        }
+    }
+
+    /// Whether nothing keeps the entry: it isn't the root, and neither a handle nor a child needs it.
+    pub fn is_idle(&self) -> bool
+        ensures { IsTrue result ↔ IsIdle self.now }
+    {
+        self.holders == 0 && self.children.is_empty() && !matches!(self.place, Place::Root)
+    }
+
+    /// The number of the directory in which it stands, and its name there.
+    pub fn parent(&self) -> Option<(usize, &Name)>
+        ensures some { IfSome result (λ up. self.now.place ≡ place.In up.0 up.1.now) }
+        ensures none { IfNone result ((d : ℕ) (n : List ℕ) → self.now.place ≢ place.In d n) }
+    {
+        match &self.place {
+            Place::In(parent, name) => Some((*parent, name)),
+            _ => None,
+        }
+    }
+
+    /// The attributes that it had when it was removed.
+    pub fn removed(&self) -> Option<&Attributes>
+        ensures { option_copied result ≡ left_attributes self.now.place }
+    {
+        match &self.place {
+            Place::Removed(attributes) => Some(attributes),
+            _ => None,
+        }
+    }
+
+    /// Lists a child at a name.
+    pub fn list(&mut self, name: Name, key: usize) -> Result<(), AllocError>
+        ensures ok { OnOk result (Lists self.old self.new name (Some key)) }
+        ensures err { OnErr result (SameDentry self.old self.new) }
+    {
+        self.children.insert(name, key)?;
+        Ok(())
+    }
+
+    /// Takes the child at a name off the list.
+    pub fn unlist(&mut self, name: &Name)
+        ensures { Lists self.old self.new name.now None }
+    {
+        let _ = self.children.swap_remove(name);
+    }
+
+    /// Counts one handle more. Where as many hold the entry as can be counted, it fails and changes nothing.
+    pub fn hold(&mut self) -> Result<(), AllocError>
+        ensures ok { OnOk result (self.new ≡ record self.old { holders = self.old.holders + 1 }) }
+        ensures err { OnErr result (self.new ≡ self.old) }
+        ensures full { OnErr result (0 < self.old.holders) }
+    {
+        match self.holders.checked_add(1) {
+            Some(holders) => {
+                self.holders = holders;
+                Ok(())
+            }
+            None => Err(AllocError),
+        }
+    }
+}

@@ -1,0 +1,167 @@
+-- Clients come on both sides.
+use Rattle.std.proofs.Common.{◌≡◌, ◌≢◌, ℕ, zero, suc, Bool, true, false, cond, ◌||◌, List, [], ◌∷◌, ◌++◌, Option, None, Result, Ok, Err, refl, sym, ap, ◌∙◌, subst, ◌⊎◌, inl, inr, is_some, length, replicate, slice_get, nat_eq, add-one}
+use Rattle.std.proofs.lemmas.Bool.{false≢true, cases_eq, eq-eqb, ne_eqb}
+use Rattle.std.proofs.lemmas.List.{length-replicate}
+use Rattle.std.specs.List.{list_any}
+use Rattle.std.specs.Option.{option_and_then}
+use Rattle.std.specs.Result.{IfOk, OnErr}
+use Rattle.std.specs.declared.alloc.AllocError.{AllocError}
+use Rattle.ov_base.specs.declared.errno.Errno.{Errno}
+use Rattle.std.specs.BTreeMap.{get}
+use Rattle.std.specs.Ordering.{nat_cmp}
+use Rattle.plain_model.specs.Layers.{AreLayers}
+use Rattle.plain_model.specs.Tree.{Tree}
+use Rattle.plain_model.specs.Machine.{Handle, Table, State, DESCRIPTORS_MAX, free_table, opening, handles_of, held_in, handle_of}
+use Rattle.plain_model.specs.Merging.{IsMerge}
+use Rattle.plain_model.specs.Watching.{Instance, silent}
+use Rattle.plain_model.specs.Runs.{joined, is_attached}
+use Rattle.layer_tree.specs.Tree.{layer_of}
+use Rattle.merged_lookup.specs.Merged.{layers_of, lowers_of}
+use Rattle.mount_laws.proofs.Looks.{law_of_beginning}
+use Rattle.overlay_core.specs.declared.clients.Clients.{Clients}
+use Rattle.open_handles.specs.declared.descriptors.Descriptors.{Descriptors}
+use Rattle.open_handles.specs.declared.descriptors.OpenDirectory.{OpenDirectory}
+use Rattle.overlay_core.specs.declared.mount.Mount.{Mount}
+use Rattle.overlay_core.specs.Attaching.{Attaches, IsSame, opened_by}
+use Rattle.open_handles.specs.Descriptors.{opened}
+use Rattle.overlay_core.specs.States.{IsSlot, AreTables, AreUnwatched, IsStateOf}
+use Rattle.overlay_core.proofs.Serving.{slot-as, carried, places-same}
+
+-- whether a table is of a client
+abbrev pub of : ℕ → Table → Bool
+of b k = nat_eq k.client b
+
+-- a client's table last
+any-last : (ks : List Table) (n b : ℕ) → list_any (of b) (ks ++ free_table n ∷ []) ≡ (list_any (of b) ks || nat_eq n b)
+any-last [] n b = by (nat_eq n b)
+  where
+    by : (x : Bool) → (x || false) ≡ (false || x)
+    by true = refl
+    by false = refl
+any-last (k ∷ ks) n b = ap (λ x. nat_eq k.client b || x) (any-last ks n b) ∙ by (nat_eq k.client b) (list_any (of b) ks) (nat_eq n b)
+  where
+    by : (x y z : Bool) → (x || (y || z)) ≡ ((x || y) || z)
+    by true y z = refl
+    by false y z = refl
+
+or-false : (x : Bool) → (x || false) ≡ x
+or-false true = refl
+or-false false = refl
+
+or-true : (x : Bool) → (x || true) ≡ true
+or-true true = refl
+or-true false = refl
+
+first-false : (x y : Bool) → (x || y) ≡ false → x ≡ false
+first-false true y h = h
+first-false false y h = refl
+
+second-false : (x y : Bool) → (x || y) ≡ false → y ≡ false
+second-false true y h = absurd (false≢true (sym h))
+second-false false y h = h
+
+handles-last-other : (ks : List Table) (n b : ℕ) → b ≢ n → handles_of (ks ++ free_table n ∷ []) b ≡ handles_of ks b
+handles-last-other [] n b h = ap (λ x. cond x (replicate DESCRIPTORS_MAX None) []) (ne_eqb n b (λ e. h (sym e)))
+handles-last-other (k ∷ ks) n b h = ap (cond (nat_eq k.client b) k.handles) (handles-last-other ks n b h)
+
+handles-last : (ks : List Table) (n : ℕ) → list_any (of n) ks ≡ false → handles_of (ks ++ free_table n ∷ []) n ≡ replicate DESCRIPTORS_MAX None
+handles-last [] n h = ap (λ x. cond x (replicate DESCRIPTORS_MAX None) []) (eq-eqb n n refl)
+handles-last (k ∷ ks) n h =
+    ap (λ x. cond x k.handles (handles_of (ks ++ free_table n ∷ []) n)) (first-false (nat_eq k.client n) (list_any (of n) ks) h)
+    ∙ handles-last ks n (second-false (nat_eq k.client n) (list_any (of n) ks) h)
+
+held-free : (k d : ℕ) → held_in (slice_get (replicate k None) d) ≡ None
+held-free zero d = refl
+held-free (suc k) zero = refl
+held-free (suc k) (suc d) = held-free k d
+
+-- instances without watches, one more
+unwatched-last : (es : List Instance) (e : Instance) → AreUnwatched es → e.watches ≡ [] → AreUnwatched (es ++ e ∷ [])
+unwatched-last [] e a h = (h, tt)
+unwatched-last (x ∷ es) e a h = (a.0, unwatched-last es e a.1 h)
+
+-- what a client has open, by its descriptors
+abbrev pub open_in : ℕ → Option Descriptors → Option OpenDirectory
+open_in d o = option_and_then (λ (x : Descriptors). opened x.slots.items d) o
+
+module _ (t : Tree) (clients : Clients) (ks : List Table) (a : AreTables t clients ks) (new : Clients) (n : ℕ) where
+  come : Attaches clients new n → AreTables t new (ks ++ free_table n ∷ [])
+  come h = record { attached = λ b. attached b (cases_eq b n); room = λ b. room b (cases_eq b n); slots = λ b d. slots b d (cases_eq b n) }
+    where
+      fresh : list_any (of n) ks ≡ false
+      fresh = a.attached n ∙ ap (λ (o : Option Descriptors). is_some o) h.fresh
+
+      attached : (b : ℕ) → (b ≡ n) ⊎ (b ≡ n → ⊥) → list_any (of b) (ks ++ free_table n ∷ []) ≡ is_some (get nat_cmp new.attached b)
+      attached b (inl e) = any-last ks n b ∙ ap (λ x. list_any (of b) ks || x) (eq-eqb n b (sym e)) ∙ or-true (list_any (of b) ks) ∙ sym (ap (λ z. is_some (get nat_cmp new.attached z)) e ∙ ap (λ (o : Option Descriptors). is_some o) h.there)
+      attached b (inr m) = any-last ks n b ∙ ap (λ x. list_any (of b) ks || x) (ne_eqb n b (λ e. m (sym e))) ∙ or-false (list_any (of b) ks) ∙ a.attached b ∙ sym (ap (λ (o : Option Descriptors). is_some o) (h.others b m))
+
+      room : (b : ℕ) → (b ≡ n) ⊎ (b ≡ n → ⊥) → length (handles_of (ks ++ free_table n ∷ []) b) ≡ cond (is_some (get nat_cmp new.attached b)) DESCRIPTORS_MAX 0
+      room b (inl e) =
+          subst (λ z. length (handles_of (ks ++ free_table n ∷ []) z) ≡ cond (is_some (get nat_cmp new.attached z)) DESCRIPTORS_MAX 0) (sym e)
+          (ap length (handles-last ks n fresh) ∙ length-replicate {A = Option Handle} DESCRIPTORS_MAX None ∙ sym (ap (λ (o : Option Descriptors). cond (is_some o) DESCRIPTORS_MAX 0) h.there))
+      room b (inr m) = ap length (handles-last-other ks n b m) ∙ a.room b ∙ sym (ap (λ (o : Option Descriptors). cond (is_some o) DESCRIPTORS_MAX 0) (h.others b m))
+
+      slots : (b d : ℕ) → (b ≡ n) ⊎ (b ≡ n → ⊥) → IsSlot t new.directories (opened_by new b d) (handle_of (ks ++ free_table n ∷ []) b d)
+      slots b d (inl e) =
+          subst (λ z. IsSlot t new.directories (opened_by new z d) (handle_of (ks ++ free_table n ∷ []) z d)) (sym e)
+          (slot-as t new.directories None _ None _
+          (sym (ap (open_in d) h.there ∙ ap (λ z. opened z d) h.none))
+          (sym (ap (λ z. held_in (slice_get z d)) (handles-last ks n fresh) ∙ held-free DESCRIPTORS_MAX d))
+          tt)
+      slots b d (inr m) = slot-as t new.directories _ _ _ _ refl (sym (ap (λ z. held_in (slice_get z d)) (handles-last-other ks n b m))) (carried t clients new (places-same clients new h.places) b d (handle_of ks b d) (ap (open_in d) (h.others b m)) (a.slots b d))
+
+-- a mount without clients stands for the opening state of the merge
+pub begins : (m : Mount) → ((n : ℕ) → get nat_cmp m.clients.attached n ≡ None) → m.clients.next ≡ 0 → (t : Tree) (redirects : Bool) → AreLayers (layers_of m.layers) → IsMerge (layer_of m.layers.upper) (lowers_of m.layers) t → IsStateOf m (opening t (record { redirects = redirects; read_only = false }))
+begins m none next t redirects a merge = record {
+  layers = law_of_beginning (layer_of m.layers.upper) (lowers_of m.layers) t redirects a merge;
+  arrived = next;
+  unwatched = tt;
+  tables = record {
+    attached = λ b. sym (ap (λ (o : Option Descriptors). is_some o) (none b));
+    room = λ b. sym (ap (λ (o : Option Descriptors). cond (is_some o) DESCRIPTORS_MAX 0) (none b));
+    slots = λ b d. slot-as t m.clients.directories None _ None _ (sym (ap (open_in d) (none b))) refl tt;
+  };
+}
+
+module _ (m : Mount) (s : State) (st : IsStateOf m s) (new : Clients) where
+  -- nothing changed
+  pub stays : IsSame m.clients new → IsStateOf (record m { clients = new }) s
+  stays h = record {
+    layers = st.layers;
+    arrived = h.next ∙ st.arrived;
+    unwatched = st.unwatched;
+    tables = record {
+      attached = λ b. st.tables.attached b ∙ sym (ap (λ (o : Option Descriptors). is_some o) (same b));
+      room = λ b. st.tables.room b ∙ sym (ap (λ (o : Option Descriptors). cond (is_some o) DESCRIPTORS_MAX 0) (same b));
+      slots = λ b d. carried s.tree m.clients new (places-same m.clients new h.places) b d (handle_of s.tables b d) (ap (open_in d) (same b)) (st.tables.slots b d);
+    };
+  }
+    where
+      same : (b : ℕ) → get nat_cmp new.attached b ≡ get nat_cmp m.clients.attached b
+      same b = rw h.attached refl
+
+  pub attaches : (n : ℕ) → Attaches m.clients new n → (tags : List ℕ) → (n ≡ s.arrived) × IsStateOf (record m { clients = new }) (joined s tags)
+  attaches n h tags =
+      let same : n ≡ s.arrived = h.next ∙ st.arrived in (
+        same,
+        record {
+          layers = record { layers = st.layers.layers; shows = st.layers.shows; kept = st.layers.kept; writable = st.layers.writable };
+          unwatched = unwatched-last s.instances (silent s.arrived tags) st.unwatched refl;
+          arrived = h.rises ∙ add-one n ∙ ap suc same;
+          tables = subst (λ z. AreTables s.tree new (s.tables ++ free_table z ∷ [])) same (come s.tree m.clients s.tables st.tables new n h);
+        },
+      )
+
+  pub tells : (n : ℕ) (b : Bool) → b ≡ is_some (get nat_cmp m.clients.attached n) → b ≡ is_attached s n
+  tells n b e = e ∙ sym (st.tables.attached n)
+
+module _ (m : Mount) (new : Clients) where
+  -- an attach by its result
+  pub attach-serves : (r : Result (Result ℕ Errno) AllocError) → IfOk r (λ a. IfOk a (Attaches m.clients new)) → IfOk r (λ a. IfOk a (λ n. (s : State) → IsStateOf m s → (tags : List ℕ) → (n ≡ s.arrived) × IsStateOf (record m { clients = new }) (joined s tags)))
+  attach-serves (Err e) h = tt
+  attach-serves (Ok (Err e)) h = tt
+  attach-serves (Ok (Ok n)) h = λ s st tags. attaches m s st new n h tags
+
+  pub attach-failed : (r : Result (Result ℕ Errno) AllocError) → OnErr r (IsSame m.clients new) → OnErr r ((s : State) → IsStateOf m s → IsStateOf (record m { clients = new }) s)
+  attach-failed (Err e) h = λ s st. stays m s st new h
+  attach-failed (Ok a) h = tt

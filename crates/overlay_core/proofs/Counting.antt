@@ -1,0 +1,109 @@
+-- The handles of all clients on a directory, after one client's descriptors changed.
+use Rattle.std.proofs.Common.{arith, ◌≡◌, ◌≢◌, ℕ, zero, suc, ◌+◌, ◌<◌, ◌≤◌, Bool, true, false, cond, List, [], ◌∷◌, Option, None, Some, refl, sym, ap, ◌∙◌, inl, inr, is_some, nat_eq, eqb-true}
+use Rattle.std.proofs.lemmas.Bool.{cases_eq}
+use Rattle.std.specs.Option.{option_and_then}
+use Rattle.open_handles.specs.declared.descriptors.Descriptors.{Descriptors}
+use Rattle.open_handles.specs.declared.descriptors.OpenDirectory.{OpenDirectory}
+use Rattle.open_handles.specs.Descriptors.{opened}
+use Rattle.open_handles.specs.Holding.{holds, handles_on}
+use Rattle.open_handles.proofs.Holding.{handles_on-some}
+use Rattle.overlay_core.specs.Held.{handles_by, handles_below}
+
+abbrev Found : Type 0
+Found = ℕ → Option Descriptors
+
+-- where each client has as many handles, all have
+pub below-same : (f g : Found) (n k : ℕ) → ((m : ℕ) → m < n → handles_by (g m) k ≡ handles_by (f m) k) → handles_below g n k ≡ handles_below f n k
+below-same f g zero k same = refl
+below-same f g (suc n) k same =
+    let here : handles_by (g n) k ≡ handles_by (f n) k = same n (omega arith) in
+    let rest : handles_below g n k ≡ handles_below f n k = below-same f g n k (λ m h. same m (omega arith)) in
+    omega arith
+
+-- where one client's change, the count changes as that client's
+pub below-changes : (f g : Found) (n c k : ℕ) → c < n → ((m : ℕ) → m ≢ c → g m ≡ f m) → handles_below g n k + handles_by (f c) k ≡ handles_below f n k + handles_by (g c) k
+below-changes f g zero c k h others = absurd (omega arith)
+below-changes f g (suc n) c k h others = elim (cases_eq n c) [
+  | inl e ↦
+      let rest : handles_below g n k ≡ handles_below f n k = below-same f g n k (λ m l. ap (λ o. handles_by o k) (others m (λ same. absurd (omega arith)))) in
+      let old : handles_by (f n) k ≡ handles_by (f c) k = ap (λ m. handles_by (f m) k) e in
+      let new : handles_by (g n) k ≡ handles_by (g c) k = ap (λ m. handles_by (g m) k) e in
+      omega arith
+  | inr off ↦
+      let rest = below-changes f g n c k (omega arith) others in
+      let here : handles_by (g n) k ≡ handles_by (f n) k = ap (λ o. handles_by o k) (others n off) in
+      omega arith
+]
+
+-- one client has no more than all
+pub below-one : (f : Found) (n c k : ℕ) → c < n → handles_by (f c) k ≤ handles_below f n k
+below-one f zero c k h = absurd (omega arith)
+below-one f (suc n) c k h = elim (cases_eq n c) [
+  | inl e ↦ let same : handles_by (f n) k ≡ handles_by (f c) k = ap (λ m. handles_by (f m) k) e in omega arith
+  | inr off ↦ let rest = below-one f n c k (omega arith) in omega arith
+]
+
+-- what a client has open counts
+pub below-some : (f : Found) (n c d : ℕ) (o : OpenDirectory) → c < n → option_and_then (λ (e : Descriptors). opened e.slots.items d) (f c) ≡ Some o → 0 < handles_below f n o.directory
+below-some f n c d o h is = by (f c) refl is
+  where
+    by : (x : Option Descriptors) → f c ≡ x → option_and_then (λ (e : Descriptors). opened e.slots.items d) x ≡ Some o → 0 < handles_below f n o.directory
+    by None e at = let no : None ≡ Some o = at in absurd (cc)
+    by (Some x) e at =
+        let some : 0 < handles_on x.slots.items o.directory = handles_on-some x.slots.items d o at in
+        let same : handles_by (f c) o.directory ≡ handles_on x.slots.items o.directory = ap (λ z. handles_by z o.directory) e in
+        let all = below-one f n c o.directory h in
+        omega arith
+
+-- whose descriptor is open is attached
+pub has-client : (f : Found) (c d : ℕ) (o : OpenDirectory) → option_and_then (λ (e : Descriptors). opened e.slots.items d) (f c) ≡ Some o → is_some (f c) ≡ true
+has-client f c d o is = by (f c) is
+  where
+    by : (x : Option Descriptors) → option_and_then (λ (e : Descriptors). opened e.slots.items d) x ≡ Some o → is_some x ≡ true
+    by None e = let no : None ≡ Some o = e in absurd (cc)
+    by (Some x) e = refl
+
+-- a handle on the directory of this number
+record Held (slots : List (Option OpenDirectory)) (k : ℕ) : Type 0 where
+  pub descriptor : ℕ
+  pub handle : OpenDirectory
+  pub there : opened slots descriptor ≡ Some handle
+  pub on : handle.directory ≡ k
+
+-- where slots hold a directory, one of them does
+slots-find : (slots : List (Option OpenDirectory)) (k : ℕ) → 0 < handles_on slots k → Held slots k
+slots-find [] k h = absurd (omega arith)
+slots-find (None ∷ slots) k h =
+    let rest = slots-find slots k (omega arith) in
+    record { descriptor = suc rest.descriptor; handle = rest.handle; there = rest.there; on = rest.on }
+slots-find (Some o ∷ slots) k h = by (λ more. slots-find slots k more) (nat_eq o.directory k) refl
+  where
+    by : (0 < handles_on slots k → Held slots k) → (b : Bool) → nat_eq o.directory k ≡ b → Held (Some o ∷ slots) k
+    by later true e = record { descriptor = 0; handle = o; there = refl; on = eqb-true o.directory k e }
+    by later false e =
+        let none : holds (Some o) k ≡ 0 = ap (λ b. cond {A = ℕ} b 1 0) e in
+        let rest = later (omega arith) in
+        record { descriptor = suc rest.descriptor; handle = rest.handle; there = rest.there; on = rest.on }
+
+-- a client's handle on the directory of this number
+pub record HeldBy (f : Found) (k : ℕ) : Type 0 where
+  pub client : ℕ
+  pub descriptor : ℕ
+  pub handle : OpenDirectory
+  pub there : option_and_then (λ (e : Descriptors). opened e.slots.items descriptor) (f client) ≡ Some handle
+  pub on : handle.directory ≡ k
+
+-- where clients hold a directory, one of them does
+pub below-find : (f : Found) (n k : ℕ) → 0 < handles_below f n k → HeldBy f k
+below-find f zero k h = absurd (omega arith)
+below-find f (suc n) k h = by (λ more. below-find f n k more) (f n) refl
+  where
+    by : (0 < handles_below f n k → HeldBy f k) → (x : Option Descriptors) → f n ≡ x → HeldBy f k
+    by later None e = let none : handles_by (f n) k ≡ 0 = ap (λ z. handles_by z k) e in later (omega arith)
+    by later (Some x) e = of (handles_on x.slots.items k) refl
+      where
+        of : (m : ℕ) → handles_on x.slots.items k ≡ m → HeldBy f k
+        of zero none = let same : handles_by (f n) k ≡ 0 = ap (λ z. handles_by z k) e ∙ none in later (omega arith)
+        of (suc m) some =
+            let found = slots-find x.slots.items k (omega arith) in
+            record { client = n; descriptor = found.descriptor; handle = found.handle; there = ap (λ z. option_and_then (λ (y : Descriptors). opened y.slots.items found.descriptor) z) e ∙ found.there; on = found.on }

@@ -1,0 +1,87 @@
+-- Open directories where the layers show them, and what closing and listing them does.
+use Rattle.std.proofs.Common.{◌≡◌, ℕ, Bool, true, ◌||◌, List, ◌∷◌, Option, None, Some, refl, sym, ap, ◌∙◌, subst, take, drop, nat_eq, nat_lt}
+use Rattle.std.proofs.lemmas.Bool.{false≢true}
+use Rattle.ov_base.specs.declared.call.Call.TheVariants as call
+use Rattle.ov_base.specs.declared.errno.Errno.TheVariants as errno
+use Rattle.ov_base.specs.declared.node_id.NodeId.{NodeId}
+use Rattle.ov_base.specs.declared.reply.Reply.TheVariants as reply
+use Rattle.plain_model.specs.Layers.{Path, Layer, Shown, Folder, Contents, shows, base, is_directory}
+use Rattle.plain_model.specs.Tree.{Node, Branch, Leaf, node_at, node_of, face, see, is_folder}
+use Rattle.plain_model.specs.Machine.{Handle, State, handle_of}
+use Rattle.plain_model.specs.Refusals.{when, refusal}
+use Rattle.plain_model.specs.Changes.{after, with_handle, listing, listed_on}
+use Rattle.plain_model.specs.Replies.{reply_of}
+use Rattle.mount_laws.specs.Looks.{IsMountOf, Closes, Lists}
+use Rattle.mount_laws.specs.Removed.{ClosesHidden, ListsRemoved}
+use Rattle.mount_laws.proofs.Lists.{law_of_list, law_of_close}
+use Rattle.mount_laws.proofs.Removed.{law_of_close_removed, law_of_list_removed}
+use Rattle.open_handles.specs.Dentries.{Dentries}
+use Rattle.open_handles.specs.Opened.{Location, At, Removed}
+use Rattle.open_handles.specs.declared.descriptors.OpenDirectory.{OpenDirectory}
+use Rattle.overlay_core.specs.States.{Stands, IsHandle}
+
+-- a node is a directory where the layers show one, and the other way round
+shown-if-folder : (o : Option Node) (b : Bool) (x : Option Shown) → face o ≡ see b x → is_folder o ≡ true → is_directory x ≡ true
+shown-if-folder None b x e f = absurd (false≢true f)
+shown-if-folder (Some (Leaf content a u l)) b x e f = absurd (false≢true f)
+shown-if-folder (Some (Branch a k names l)) b None e f = cc
+shown-if-folder (Some (Branch a k names l)) b (Some (Folder i j z)) e f = refl
+shown-if-folder (Some (Branch a k names l)) b (Some (Contents i j None)) e f = cc
+shown-if-folder (Some (Branch a k names l)) b (Some (Contents i j (Some inode))) e f = cc
+
+folder-if-shown : (o : Option Node) (b : Bool) (x : Option Shown) → face o ≡ see b x → is_directory x ≡ true → is_folder o ≡ true
+folder-if-shown o b None e f = absurd (false≢true f)
+folder-if-shown o b (Some (Contents i j inode)) e f = absurd (false≢true f)
+folder-if-shown None b (Some (Folder i j z)) e f = cc
+folder-if-shown (Some (Leaf content a u l)) b (Some (Folder i j z)) e f = cc
+folder-if-shown (Some (Branch a k names l)) b (Some (Folder i j z)) e f = refl
+
+-- the calls on a descriptor that is open, but for the names that are listed
+pub record Turns (s : State) (c fd : ℕ) (h : Handle) : Type 0 where
+  pub refused : (n : ℕ) → refusal s c (call.ListNames fd n) ≡ when (nat_eq n 0 || nat_lt 256 n) errno.EINVAL
+  pub answer : (n : ℕ) → reply_of s c (call.ListNames fd n) ≡ reply.Names (take n (drop h.place (listing s.tree h)))
+  pub state : (n : ℕ) → after s c (call.ListNames fd n) ≡ record s { tables = with_handle s.tables c fd (listed_on s.tree n (Some h)) }
+
+module _ (U : Layer) (lowers : List Layer) (s : State) (m : IsMountOf U lowers s) where
+  -- what is seen of the node at a path
+  seen : (p : Path) (d : NodeId) → node_at s.tree p ≡ Some d → face (s.tree d) ≡ see (base U lowers p) (shows 0 (U ∷ lowers) p)
+  seen p d e = sym (ap (λ z. face (node_of s.tree z)) e) ∙ m.shows.sights p
+
+  pub shown-directory : (p : Path) (d : NodeId) → node_at s.tree p ≡ Some d → is_folder (s.tree d) ≡ true → is_directory (shows 0 (U ∷ lowers) p) ≡ true
+  shown-directory p d e f = shown-if-folder (s.tree d) (base U lowers p) (shows 0 (U ∷ lowers) p) (seen p d e) f
+
+  pub directory-folder : (p : Path) (d : NodeId) → node_at s.tree p ≡ Some d → is_directory (shows 0 (U ∷ lowers) p) ≡ true → is_folder (s.tree d) ≡ true
+  directory-folder p d e f = folder-if-shown (s.tree d) (base U lowers p) (shows 0 (U ∷ lowers) p) (seen p d e) f
+
+  module _ (c fd : ℕ) (ds : Dentries) (o : OpenDirectory) (h : Handle) (on : handle_of s.tables c fd ≡ Some h) (is : IsHandle s.tree ds o h) where
+    -- a handle on a directory that has a path closes, and all else stays
+    closes-named : Closes s c fd → ClosesHidden U lowers s c fd h
+    closes-named law = record {
+      refused = law.refused;
+      answer = law.answer;
+      tables = ap (λ z. z.tables) law.state;
+      mounts = subst (IsMountOf U lowers) (sym law.state) (record { layers = m.layers; shows = m.shows; kept = m.kept; writable = m.writable });
+      paths = λ q. ap (λ z. node_at z.tree q) law.state;
+      others = λ d apart. ap (λ z. z.tree d) law.state;
+      held = λ k i g at. ap (λ z. z.tree g.node) law.state;
+    }
+
+    -- an open directory closes
+    pub closes : ClosesHidden U lowers s c fd h
+    closes = by is.location is.stands
+      where
+        by : (l : Location) → Stands s.tree l h.node → ClosesHidden U lowers s c fd h
+        by (At p) at = closes-named (law_of_close U lowers s m c fd p h (record { handle = on; at = at }))
+        by (Removed a) gone = law_of_close_removed U lowers s m c fd h on gone.hidden
+
+    -- an open directory lists
+    pub turns : Turns s c fd h
+    turns = by is.location is.stands
+      where
+        by : (l : Location) → Stands s.tree l h.node → Turns s c fd h
+        by (At p) at =
+            let law : Lists (U ∷ lowers) s c fd p h = law_of_list U lowers s m c fd p (shown-directory p h.node at is.directory) h (record { handle = on; at = at }) in
+            record { refused = law.refused; answer = law.answer; state = law.state }
+        by (Removed a) gone =
+            let law : ListsRemoved s c fd h = law_of_list_removed s c fd h on is.directory gone.empty in
+            record { refused = law.refused; answer = law.answer; state = law.state }

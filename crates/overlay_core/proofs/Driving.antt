@@ -1,0 +1,198 @@
+-- Runs grow at their end, and what a change of one job makes of counts.
+use Rattle.std.proofs.Common.{arith, ◌≡◌, ◌≢◌, ℕ, suc, zero, ◌+◌, ◌<◌, ◌≤◌, Bool, true, false, ◌||◌, List, [], ◌∷◌, ◌++◌, length, get_or, cond, Option, Some, None, refl, sym, ap, subst, ◌∙◌, slice_get, nat_eq, take, option_map, ◌⊎◌, inl, inr}
+use Rattle.std.proofs.Math.ListN.{set}
+use Rattle.std.proofs.lemmas.Option.{same_Some, slice_get_read, slice_get-map, slice_get_within}
+use Rattle.std.proofs.lemmas.List.{take_more}
+use Rattle.std.proofs.lemmas.Bool.{false≢true, cases_eq, eq-eqb, ne_eqb}
+use Rattle.std.specs.List.{list_any}
+use Rattle.ov_base.specs.declared.call.Call.{Call}
+use Rattle.ov_base.specs.declared.reply.Reply.{Reply}
+use Rattle.plain_model.specs.Machine.{State}
+use Rattle.plain_model.specs.Runs.{Called, Entry, Does, Run}
+use Rattle.overlay_core.specs.declared.clients.Clients.{Clients}
+use Rattle.overlay_core.specs.declared.job.Job.{Job}
+use Rattle.overlay_core.specs.declared.job.Standing.{Standing}
+use Rattle.overlay_core.specs.declared.job.Standing.TheVariants.{Open, Answered, GivenUp}
+use Rattle.overlay_core.specs.declared.mount.Mount.{Mount}
+use Rattle.overlay_core.specs.Agreement.{Stays, Goes}
+use Rattle.overlay_core.specs.Attaching.{KeepsAttached, is_attached}
+use Rattle.overlay_core.specs.Drives.{call_of, calls_of, AreOffered, AreEntries, Drives, Answers, one_if_open, one_if_answered, open_count, answered, answered_of, replies_to, PassesOver}
+use Rattle.overlay_core.specs.Jobs.{AnswersBy}
+use Rattle.overlay_core.specs.Offers.{is_offered}
+use Rattle.overlay_core.specs.Rules.{Nothing}
+
+-- what is set in a list stands there, and elsewhere what stood there
+slice_get-set_same : {X : Type 0} (xs : List X) (i : ℕ) (x : X) → i < length xs → slice_get (set xs i x) i ≡ Some x
+slice_get-set_same [] i x h = absurd (omega arith)
+slice_get-set_same (y ∷ xs) zero x h = refl
+slice_get-set_same (y ∷ xs) (suc i) x h = slice_get-set_same xs i x (omega arith)
+
+slice_get-set_other : {X : Type 0} (xs : List X) (i k : ℕ) (x : X) → k ≢ i → slice_get (set xs i x) k ≡ slice_get xs k
+slice_get-set_other [] i k x h = refl
+slice_get-set_other (y ∷ xs) zero zero x h = absurd (h refl)
+slice_get-set_other (y ∷ xs) zero (suc k) x h = refl
+slice_get-set_other (y ∷ xs) (suc i) zero x h = refl
+slice_get-set_other (y ∷ xs) (suc i) (suc k) x h = slice_get-set_other xs i k x (λ e. h (ap (λ n. suc n) e))
+
+-- one more entry, and one more deed of a run
+entries-more : (calls : List (ℕ × Call)) (rs : List (ℕ × Reply)) (es : List Entry) (i : ℕ) (r : Reply) (e : Entry) (call : Call) → AreEntries calls rs es → slice_get calls i ≡ Some (e.client, call) → e.deed ≡ Called call r → AreEntries calls (rs ++ (i, r) ∷ []) (es ++ e ∷ [])
+entries-more calls [] [] i r e call h at is = (call, at, is, tt)
+entries-more calls [] (x ∷ es) i r e call h at is = absurd h
+entries-more calls (x ∷ rs) [] i r e call h at is = absurd h
+entries-more calls (x ∷ rs) (y ∷ es) i r e call h at is = (h.0, h.1, h.2, entries-more calls rs es i r e call h.3 at is)
+
+run-more : (s : State) (es : List Entry) (t u : State) (e : Entry) → Run Nothing s es t → Does Nothing t e.client e.deed u → Run Nothing s (es ++ e ∷ []) u
+run-more s [] t u e h does = (u, subst (λ (x : State). Does Nothing x e.client e.deed u) h does, refl)
+run-more s (x ∷ es) t u e h does = (h.0, h.1, run-more h.0 es t u e h.2 does)
+
+pub drives-none : (calls : List (ℕ × Call)) (m : Mount) (rs : List (ℕ × Reply)) → rs ≡ [] → Drives calls m rs m
+drives-none calls m rs none s a = ([], subst (λ l. AreEntries calls l []) (sym none) tt, (s, refl, a))
+
+pub drives-more : (calls : List (ℕ × Call)) (l m n : Mount) (rs : List (ℕ × Reply)) (i : ℕ) (r : Reply) → AreOffered calls → Drives calls l rs m → Answers calls m i r n → Drives calls l (rs ++ (i, r) ∷ []) n
+drives-more calls l m n rs i r offered d a s h =
+    let x = d s h in
+    let goes : Goes m a.0 (Called a.1 r) n = a.3 (offered i a.0 a.1 a.2) in
+    let y = goes x.2.0 x.2.2 in
+    let e : Entry = record { client = a.0; number = 0; deed = Called a.1 r } in
+    (x.0 ++ e ∷ [], entries-more calls rs x.0 i r e a.1 x.1 a.2 refl, (y.0, run-more s x.0 x.2.0 y.0 e x.2.1 y.1, y.2))
+
+pub drives-stay : (calls : List (ℕ × Call)) (l m n : Mount) (rs : List (ℕ × Reply)) → Drives calls l rs m → Stays m n → Drives calls l rs n
+drives-stay calls l m n rs d h s a = let x = d s a in (x.0, x.1, (x.2.0, x.2.1, h x.2.0 x.2.2))
+
+at-most : (x : Standing) (n m : ℕ) → n ≤ m → one_if_open x + n ≤ suc m
+at-most Open n m h = omega arith
+at-most Answered n m h = omega arith
+at-most GivenUp n m h = omega arith
+
+pub open-at-most : (jobs : List Job) → open_count jobs ≤ length jobs
+open-at-most [] = omega arith
+open-at-most (j ∷ js) = at-most j.standing (open_count js) (length js) (open-at-most js)
+
+pub replies-more : (i : ℕ) (rs : List (ℕ × Reply)) (r : ℕ × Reply) → replies_to i (rs ++ r ∷ []) ≡ replies_to i rs + cond (nat_eq r.0 i) 1 0
+replies-more i [] r = omega arith
+replies-more i (x ∷ rs) r = omega (arith, replies-more i rs r)
+
+-- the count of open jobs after one of them changed
+open-set : (jobs : List Job) (i : ℕ) (j k : Job) → slice_get jobs i ≡ Some j → open_count (set jobs i k) + one_if_open j.standing ≡ open_count jobs + one_if_open k.standing
+open-set [] i j k h = cc
+open-set (x ∷ jobs) zero j k h = let e : one_if_open x.standing ≡ one_if_open j.standing = ap (λ (y : Job). one_if_open y.standing) (same_Some x j h) in omega arith
+open-set (x ∷ jobs) (suc i) j k h = omega (arith, open-set jobs i j k h)
+
+pub job-here : (jobs : List Job) (i : ℕ) (j : Job) → i < length jobs → j ≡ get_or jobs i j → slice_get jobs i ≡ Some j
+job-here jobs i j h e = slice_get_read jobs (length jobs) i j refl h e
+
+pub calls-set : (jobs : List Job) (i : ℕ) (j k : Job) → slice_get jobs i ≡ Some j → k.client ≡ j.client → k.call ≡ j.call → calls_of (set jobs i k) ≡ calls_of jobs
+calls-set [] i j k h p q = cc
+calls-set (x ∷ jobs) zero j k h p q =
+    let e : x ≡ j = same_Some x j h in
+    let client : k.client ≡ x.client = p ∙ sym (ap (λ (y : Job). y.client) e) in
+    let call : k.call ≡ x.call = q ∙ sym (ap (λ (y : Job). y.call) e) in
+    ap (λ (n : ℕ). (n, k.call) ∷ calls_of jobs) client ∙ ap (λ (d : Call). (x.client, d) ∷ calls_of jobs) call
+calls-set (x ∷ jobs) (suc i) j k h p q = ap (λ (l : List (ℕ × Call)). call_of x ∷ l) (calls-set jobs i j k h p q)
+
+pub call-here : (jobs : List Job) (i : ℕ) (j : Job) → slice_get jobs i ≡ Some j → slice_get (calls_of jobs) i ≡ Some (j.client, j.call)
+call-here jobs i j h = slice_get-map call_of jobs i ∙ ap (λ (o : Option Job). option_map call_of o) h
+
+-- a job that changed stands at its index
+set-here : (jobs : List Job) (n : ℕ) (j k : Job) → slice_get jobs n ≡ Some j → slice_get (set jobs n k) n ≡ Some k
+set-here jobs n j k h = slice_get-set_same jobs n k (slice_get_within jobs n j h)
+
+-- the job of one index is answered now, or is not
+pub once-done : (jobs : List Job) (n : ℕ) (j k : Job) → slice_get jobs n ≡ Some j → j.standing ≡ Open → k.standing ≡ Answered → (i : ℕ) → answered (set jobs n k) i ≡ answered jobs i + cond (nat_eq n i) 1 0
+once-done jobs n j k h stood done i = by (cases_eq n i)
+  where
+    by : (n ≡ i) ⊎ (n ≡ i → ⊥) → answered (set jobs n k) i ≡ answered jobs i + cond (nat_eq n i) 1 0
+    by (inl q) =
+        let new : answered (set jobs n k) i ≡ 1 = ap (answered (set jobs n k)) (sym q) ∙ ap answered_of (set-here jobs n j k h) ∙ ap one_if_answered done in
+        let old : answered jobs i ≡ 0 = ap (answered jobs) (sym q) ∙ ap answered_of h ∙ ap one_if_answered stood in
+        let one : cond {A = ℕ} (nat_eq n i) 1 0 ≡ 1 = ap (λ b. cond {A = ℕ} b 1 0) (eq-eqb n i q) in
+        omega arith
+    by (inr ne) =
+        let same : answered (set jobs n k) i ≡ answered jobs i = ap answered_of (slice_get-set_other jobs n i k (λ q. ne (sym q))) in
+        let none : cond {A = ℕ} (nat_eq n i) 1 0 ≡ 0 = ap (λ b. cond {A = ℕ} b 1 0) (ne_eqb n i ne) in
+        omega arith
+
+pub once-none : (jobs : List Job) (n : ℕ) (j k : Job) → slice_get jobs n ≡ Some j → j.standing ≡ Open → k.standing ≡ GivenUp → (i : ℕ) → answered (set jobs n k) i ≡ answered jobs i + 0
+once-none jobs n j k h stood given i = by (cases_eq n i)
+  where
+    by : (n ≡ i) ⊎ (n ≡ i → ⊥) → answered (set jobs n k) i ≡ answered jobs i + 0
+    by (inl q) =
+        let new : answered (set jobs n k) i ≡ 0 = ap (answered (set jobs n k)) (sym q) ∙ ap answered_of (set-here jobs n j k h) ∙ ap one_if_answered given in
+        let old : answered jobs i ≡ 0 = ap (answered jobs) (sym q) ∙ ap answered_of h ∙ ap one_if_answered stood in
+        omega arith
+    by (inr ne) =
+        let same : answered (set jobs n k) i ≡ answered jobs i = ap answered_of (slice_get-set_other jobs n i k (λ q. ne (sym q))) in
+        omega arith
+
+pub room-less : (jobs : List Job) (n : ℕ) (j k : Job) → slice_get jobs n ≡ Some j → j.standing ≡ Open → one_if_open k.standing ≡ 0 → open_count (set jobs n k) + 1 ≤ open_count jobs
+room-less jobs n j k h stood over = let one : one_if_open j.standing ≡ 1 = ap one_if_open stood in omega (arith, open-set jobs n j k h)
+
+-- a job that does not change
+passes-same : (clients : Clients) (o : Option Job) → PassesOver clients o o false
+passes-same clients (Some j) = (refl, λ is. (is, λ asked. absurd (false≢true asked)))
+passes-same clients None = tt
+
+pub passes-start : (clients : Clients) (jobs : List Job) (schedule : List ℕ) (i : ℕ) → PassesOver clients (slice_get jobs i) (slice_get jobs i) (list_any (λ x. nat_eq x i) (take 0 schedule))
+passes-start clients jobs schedule i = passes-same clients (slice_get jobs i)
+
+-- the job of one index ends
+pub passes-end : (clients : Clients) (jobs : List Job) (n : ℕ) (j k : Job) → slice_get jobs n ≡ Some j → k.client ≡ j.client → (k.standing ≡ Open → ⊥) → (i : ℕ) → PassesOver clients (slice_get jobs i) (slice_get (set jobs n k) i) (nat_eq n i)
+passes-end clients jobs n j k h client over i = by (cases_eq n i)
+  where
+    here : (a b : Option Job) → a ≡ Some j → b ≡ Some k → PassesOver clients a b (nat_eq n i)
+    here a b p q = rw (p, q) (client, λ is. absurd (over is))
+
+    by : (n ≡ i) ⊎ (n ≡ i → ⊥) → PassesOver clients (slice_get jobs i) (slice_get (set jobs n k) i) (nat_eq n i)
+    by (inl q) = here (slice_get jobs i) (slice_get (set jobs n k) i) (ap (slice_get jobs) (sym q) ∙ h) (ap (slice_get (set jobs n k)) (sym q) ∙ set-here jobs n j k h)
+    by (inr ne) =
+        subst (λ (o : Option Job). PassesOver clients (slice_get jobs i) o (nat_eq n i)) (sym (slice_get-set_other jobs n i k (λ q. ne (sym q))))
+        (subst (λ b. PassesOver clients (slice_get jobs i) (slice_get jobs i) b) (sym (ne_eqb n i ne)) (passes-same clients (slice_get jobs i)))
+
+-- a client that is not attached stays so, and what is asked of two parts of a schedule is asked of the whole
+passes-on : (clients between : Clients) (a b c : Option Job) (p q : Bool) → ((n : ℕ) → is_attached between n ≡ is_attached clients n) → PassesOver clients a b p → PassesOver between b c q → PassesOver clients a c (p || q)
+passes-on clients between (Some x) (Some y) (Some z) p q same h g = (
+  g.0 ∙ h.0,
+  λ is.
+      let second = g.1 is in
+      let first = h.1 second.0 in
+      (first.0, λ asked. by p q asked first.1 second.1),
+)
+  where
+    by : (p q : Bool) → (p || q) ≡ true → (p ≡ true → is_attached clients x.client ≡ false) → (q ≡ true → is_attached between y.client ≡ false) → is_attached clients x.client ≡ false
+    by true q asked f s = f refl
+    by false q asked f s = sym (ap (is_attached clients) h.0) ∙ sym (same y.client) ∙ s asked
+passes-on clients between (Some x) (Some y) None p q same h g = absurd g
+passes-on clients between (Some x) None c p q same h g = absurd h
+passes-on clients between None (Some y) c p q same h g = absurd h
+passes-on clients between None None (Some z) p q same h g = absurd g
+passes-on clients between None None None p q same h g = tt
+
+any-more : (i : ℕ) (xs : List ℕ) (x : ℕ) → list_any (λ y. nat_eq y i) (xs ++ x ∷ []) ≡ (list_any (λ y. nat_eq y i) xs || nat_eq x i)
+any-more i [] x = or-false (nat_eq x i)
+  where
+    or-false : (b : Bool) → (b || false) ≡ b
+    or-false true = refl
+    or-false false = refl
+any-more i (y ∷ xs) x = ap (λ b. nat_eq y i || b) (any-more i xs x) ∙ apart (nat_eq y i) (list_any (λ z. nat_eq z i) xs) (nat_eq x i)
+  where
+    apart : (a b c : Bool) → (a || (b || c)) ≡ ((a || b) || c)
+    apart true b c = refl
+    apart false b c = refl
+
+pub passes-more : (clients between : Clients) (a b c : List Job) (schedule : List ℕ) (at i : ℕ) → KeepsAttached clients between → at < length schedule → PassesOver clients (slice_get a i) (slice_get b i) (list_any (λ x. nat_eq x i) (take at schedule)) → PassesOver between (slice_get b i) (slice_get c i) (nat_eq (get_or schedule at 0) i) → PassesOver clients (slice_get a i) (slice_get c i) (list_any (λ x. nat_eq x i) (take (at + 1) schedule))
+passes-more clients between a b c schedule at i same within h g =
+    subst (λ asked. PassesOver clients (slice_get a i) (slice_get c i) asked)
+    (sym (ap (list_any (λ x. nat_eq x i)) (take_more schedule at 0 within) ∙ any-more i (take at schedule) (get_or schedule at 0)))
+    (passes-on clients between (slice_get a i) (slice_get b i) (slice_get c i) (list_any (λ x. nat_eq x i) (take at schedule)) (nat_eq (get_or schedule at 0) i) same.attached h g)
+
+-- the same clients are attached after two changes
+pub keeps-on : (a b c : Clients) → KeepsAttached a b → KeepsAttached b c → KeepsAttached a c
+keeps-on a b c h g = record { attached = λ n. g.attached n ∙ h.attached n; next = g.next ∙ h.next }
+
+-- a call that is offered is a step of the machine
+pub goes-offered : (old : Mount) (job : Job) (new : Mount) (r : Reply) → AnswersBy (is_offered job.call) old job new r → is_offered job.call ≡ true → Goes old job.client (Called job.call r) new
+goes-offered old job new r h is = subst (λ b. AnswersBy b old job new r) is h
+
+-- a job that counts as over is not open
+pub not-open : (j : Job) → one_if_open j.standing ≡ 0 → j.standing ≡ Open → ⊥
+not-open j none stood = let one : one_if_open j.standing ≡ 1 = ap one_if_open stood in omega arith

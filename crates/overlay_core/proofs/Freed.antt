@@ -1,0 +1,55 @@
+-- What a removal leaves once what lost its last name is freed.
+use Rattle.std.proofs.Common.{◌≡◌, ℕ, ◌∷◌, ◌++◌, sym, ap, ◌∙◌, subst, inl, inr}
+use Rattle.ov_base.specs.declared.call.Call.{Call}
+use Rattle.plain_model.specs.Layers.{Path, AreLayers}
+use Rattle.plain_model.specs.Machine.{State}
+use Rattle.plain_model.specs.Tree.{merged}
+use Rattle.mount_laws.specs.Removals.{Loses, Removes}
+use Rattle.layer_tree.specs.Tree.{layer_of, SameObjects}
+use Rattle.merged_lookup.specs.declared.layers.Layers.{Layers}
+use Rattle.merged_lookup.specs.Merged.{layers_of, lowers_of}
+use Rattle.copy_up.specs.Showing.{ShowsSame, StaysLayers, StaysMount, KeepsPath, KeepsOthers}
+use Rattle.copy_up.proofs.Keeping.{lowers-same}
+use Rattle.make_remove.specs.Removing.{TakesName}
+
+module _ (a b c : Layers) (p : Path) (held_same : SameObjects (layer_of b.upper) (layer_of c.upper)) (same : ShowsSame b c) where
+  others : KeepsOthers a b p → KeepsOthers a c p
+  others k = record { lowers = same.lowers ∙ k.lowers; paths = λ x out. by x (k.paths x out); bare = k.bare; below = λ n r. held_same (n ∷ r ++ p) ∙ k.below n r }
+    where
+      by : (x : Path) → KeepsPath a b p x → KeepsPath a c p x
+      by x (inl e) = inl (held_same x ∙ e)
+      by x (inr g) = inr (record { parent = g.parent; lacked = g.lacked; layer = g.layer; key = g.key; attributes = g.attributes; shown = g.shown; number = g.number; vacant = g.vacant; gained = held_same x ∙ g.gained })
+
+  -- the name is taken
+  pub takes-then : StaysLayers b c → TakesName a b p → TakesName a c p
+  takes-then keeps t = record { lowers = same.lowers ∙ t.lowers; left = held_same p ∙ t.left; loses = loses; others = others t.others }
+    where
+      sights : (x : Path) → merged (layer_of c.upper) (lowers_of a) x ≡ merged (layer_of b.upper) (lowers_of a) x
+      sights x =
+          let low : lowers_of b ≡ lowers_of a = lowers-same a b t.lowers in
+          sym (ap (λ Ls. merged (layer_of c.upper) Ls x) (lowers-same b c same.lowers ∙ low)) ∙ same.sights x ∙ ap (λ Ls. merged (layer_of b.upper) Ls x) low
+
+      loses : AreLayers (layers_of a) → Loses (layer_of a.upper) (layer_of c.upper) (lowers_of a) p
+      loses h =
+          let l : Loses (layer_of a.upper) (layer_of b.upper) (lowers_of a) p = t.loses h in
+          let kept : AreLayers (layers_of c) = keeps (l.layers.0, subst AreLayers (sym (lowers-same a b t.lowers)) l.layers.1) in
+          record {
+            layers = (kept.0, l.layers.1);
+            gone = sights p ∙ l.gone;
+            linked = λ q ne both. sights q ∙ l.linked q ne both;
+            others = λ q ne apart. sights q ∙ l.others q ne apart;
+            names = λ q k. (λ n. (l.names q k).0 (sym (held_same q) ∙ n), λ n. held_same q ∙ (l.names q k).1 n);
+          }
+
+-- the step is the machine's
+pub removes-then : (b c : Layers) → StaysMount b c → (s : State) (client : ℕ) (p : Path) (removal : Call) → Removes (layer_of b.upper) (lowers_of b) s client p removal → Removes (layer_of c.upper) (lowers_of c) s client p removal
+removes-then b c mounts s client p removal r = record {
+  answer = r.answer;
+  mounts = mounts _ r.mounts;
+  tables = r.tables;
+  gone = r.gone;
+  stays = r.stays;
+  hidden = r.hidden;
+  held = r.held;
+  empty = r.empty;
+}

@@ -1,0 +1,211 @@
+-- As many handles hold a directory as its count says, after one client's descriptors changed.
+use Rattle.std.proofs.Common.{arith, ◌≡◌, ◌≢◌, ℕ, zero, suc, ◌+◌, ◌<◌, Bool, true, false, cond, List, Option, None, Some, IsSome, Result, Ok, Err, refl, sym, ap, ◌∙◌, subst, inl, inr, ◌⊎◌, is_some, option_map, nat_eq, eq-eqb}
+use Rattle.std.proofs.lemmas.Bool.{cases_eq, ne_eqb}
+use Rattle.std.specs.Option.{option_and_then}
+use Rattle.std.specs.BTreeMap.{get}
+use Rattle.std.specs.Ordering.{nat_cmp}
+use Rattle.std.specs.declared.alloc.AllocError.{AllocError}
+use Rattle.plain_model.specs.Layers.{Name, Path}
+use Rattle.open_handles.specs.declared.descriptors.Descriptors.{Descriptors}
+use Rattle.open_handles.specs.declared.descriptors.OpenDirectory.{OpenDirectory}
+use Rattle.open_handles.specs.Dentries.{Dentries}
+use Rattle.open_handles.specs.Descriptors.{opened, SetsSlot}
+use Rattle.open_handles.specs.Listings.{ChangesSlot, Closes, GivesNames, after_names}
+use Rattle.ov_base.specs.declared.errno.Errno.TheVariants.{EBADF}
+use Rattle.overlay_core.specs.Attaching.{opened_by, ChangesClient}
+use Rattle.open_handles.specs.Holding.{holds, handles_on}
+use Rattle.open_handles.specs.Opened as places
+use Rattle.open_handles.specs.Opened.{Location, At, holders, SameHandles}
+use Rattle.open_handles.proofs.Holding.{handles_on-opens, handles_on-closes, handles_on-changes}
+use Rattle.overlay_core.specs.declared.clients.Clients.{Clients}
+use Rattle.overlay_core.specs.Held.{handles_by, handles_below}
+use Rattle.overlay_core.specs.Opening.{OpensAt}
+use Rattle.overlay_core.proofs.Counting.{below-changes, below-some}
+
+-- a handle holds its directory, and no other
+holds-own : (o : OpenDirectory) (k : ℕ) → k ≡ o.directory → holds (Some o) k ≡ 1
+holds-own o k e = ap (λ (b : Bool). cond {A = ℕ} b 1 0) (eq-eqb o.directory k (sym e))
+
+holds-other : (o : OpenDirectory) (k : ℕ) → (k ≡ o.directory → ⊥) → holds (Some o) k ≡ 0
+holds-other o k off = ap (λ (b : Bool). cond {A = ℕ} b 1 0) (ne_eqb o.directory k (λ e. off (sym e)))
+
+-- what counts as held isn't gone
+pub kept-located : (n : ℕ) (o : Option Location) → 0 < n → cond (nat_eq n 0) None o ≡ o
+kept-located n o h = ap (λ b. cond b None o) (ne_eqb n 0 (λ e. absurd (omega arith)))
+
+-- a count goes up by one and down again
+pub open-and-close : (old mid new : Dentries) (p : Path) (k : ℕ) → (IsSome (places.opened old k) → 0 < holders old k) → (0 < holders old k → IsSome (places.opened old k)) → places.Opens old mid p k → places.Closes mid new k → SameHandles old new
+open-and-close old mid new p k some there opens closes = record { located = λ j. located j (cases_eq j k); counted = λ j. counted j (cases_eq j k) }
+  where
+    count : holders new k ≡ holders old k
+    count = let up = opens.counted in let down = closes.counted in omega arith
+
+    counted : (j : ℕ) → (j ≡ k) ⊎ (j ≡ k → ⊥) → holders new j ≡ holders old j
+    counted j (inl e) = ap (holders new) e ∙ count ∙ sym (ap (holders old) e)
+    counted j (inr off) = closes.others.counted j off ∙ opens.others.counted j off
+
+    here : places.opened new k ≡ places.opened old k
+    here = elim (opens.was) [
+      | inl stood ↦
+          let more : 0 < holders old k = some (subst IsSome (sym stood) refl) in
+          closes.located ∙ kept-located (holders new k) (places.opened mid k) (omega (arith, count, more)) ∙ opens.located ∙ sym stood
+      | inr none ↦ by (holders old k) refl none
+    ]
+      where
+        by : (n : ℕ) → holders old k ≡ n → places.opened old k ≡ None → places.opened new k ≡ places.opened old k
+        by zero e none = closes.located ∙ ap (λ m. cond (nat_eq m 0) None (places.opened mid k)) (count ∙ e) ∙ sym none
+        by (suc n) e none = let no : IsSome {T = Location} None = subst IsSome none (there (omega arith)) in absurd (cc)
+
+    located : (j : ℕ) → (j ≡ k) ⊎ (j ≡ k → ⊥) → places.opened new j ≡ places.opened old j
+    located j (inl e) = ap (places.opened new) e ∙ here ∙ sym (ap (places.opened old) e)
+    located j (inr off) = closes.others.located j off ∙ opens.others.located j off
+
+module _ (old : Clients) (c : ℕ) (before : Descriptors) (was : get nat_cmp old.attached c ≡ Some before) (g : ℕ → Option Descriptors) (after : Descriptors) (is : g c ≡ Some after) (others : (m : ℕ) → m ≢ c → g m ≡ get nat_cmp old.attached m) where
+  abbrev f : ℕ → Option Descriptors
+  f = get nat_cmp old.attached
+
+  inside : c < old.next
+  inside = old.rising c (ap (λ (o : Option Descriptors). is_some o) was)
+
+  -- who is attached has a number below the next
+  pub rises : (n : ℕ) → is_some (g n) ≡ true → n < old.next
+  rises n there = elim (cases_eq n c) [
+    | inl e ↦ let below = inside in omega arith
+    | inr off ↦ old.rising n (sym (ap (λ (o : Option Descriptors). is_some o) (others n off)) ∙ there)
+  ]
+
+  count : (k : ℕ) → handles_below g old.next k + handles_on before.slots.items k ≡ handles_below f old.next k + handles_on after.slots.items k
+  count k =
+      let all = below-changes f g old.next c k inside others in
+      let first : handles_by (f c) k ≡ handles_on before.slots.items k = ap (λ o. handles_by o k) was in
+      let second : handles_by (g c) k ≡ handles_on after.slots.items k = ap (λ o. handles_by o k) is in
+      omega arith
+
+  -- the slots stay
+  pub held-same : after.slots.items ≡ before.slots.items → (new : Dentries) → SameHandles old.directories new → (k : ℕ) → holders new k ≡ handles_below g old.next k
+  held-same same new handles k =
+      let all = count k in
+      let kept : handles_on after.slots.items k ≡ handles_on before.slots.items k = ap (λ s. handles_on s k) same in
+      let held = old.held k in
+      let counted = handles.counted k in
+      omega arith
+
+  -- a listing changes
+  pub held-listing : (d : ℕ) (change : OpenDirectory → OpenDirectory) → ((o : OpenDirectory) → (change o).directory ≡ o.directory) → ChangesSlot before.slots.items after.slots.items d change → (k : ℕ) → holders old.directories k ≡ handles_below g old.next k
+  held-listing d change keeps changes k =
+      let all = count k in
+      let kept = handles_on-changes before.slots.items after.slots.items d k change keeps changes in
+      let held = old.held k in
+      omega arith
+
+  pub held-gives : (d n : ℕ) (r : Result (List Name) AllocError) → GivesNames before.slots.items after.slots.items d n r → (k : ℕ) → holders old.directories k ≡ handles_below g old.next k
+  held-gives d n (Ok names) gives = held-listing d (after_names n) (λ o. refl) gives.left
+  held-gives d n (Err e) gives = held-same gives.err old.directories (record { located = λ j. refl; counted = λ j. refl })
+
+  -- a descriptor opens
+  pub held-opens : (d : ℕ) (p : Path) (o : OpenDirectory) (new : Dentries) → opened before.slots.items d ≡ None → SetsSlot before.slots.items after.slots.items d (Some o) → places.Opens old.directories new p o.directory → (k : ℕ) → holders new k ≡ handles_below g old.next k
+  held-opens d p o new free sets opens k =
+      let all = count k in
+      let more = handles_on-opens before.slots.items after.slots.items d k o free sets in
+      let held = old.held k in
+      elim (cases_eq k o.directory) [
+        | inl e ↦
+            let one = holds-own o k e in
+            let up : holders new k ≡ holders old.directories k + 1 = ap (holders new) e ∙ opens.counted ∙ sym (ap (λ j. holders old.directories j + 1) e) in
+            omega arith
+        | inr off ↦
+            let none = holds-other o k off in
+            let same = opens.others.counted k off in
+            omega arith
+      ]
+
+  -- what has a number that is open keeps its place
+  pub placed-opens : (p : Path) (j : ℕ) (new : Dentries) → places.Opens old.directories new p j → (k : ℕ) (l : Location) → places.opened old.directories k ≡ Some l → places.opened new k ≡ Some l
+  placed-opens p j new opens k l at = elim (cases_eq k j) [
+    | inl e ↦ elim (opens.was) [
+      | inl stood ↦ ap (places.opened new) e ∙ opens.located ∙ sym stood ∙ sym (ap (places.opened old.directories) e) ∙ at
+      | inr none ↦ let no : Some l ≡ None = sym at ∙ ap (places.opened old.directories) e ∙ none in absurd (cc)
+    ]
+    | inr off ↦ opens.others.located k off ∙ at
+  ]
+
+  -- a descriptor closes
+  module _ (d : ℕ) (o : OpenDirectory) (stood : opened before.slots.items d ≡ Some o) where
+    -- its directory is held
+    pub held-some : 0 < holders old.directories o.directory
+    held-some =
+        let some = below-some f old.next c d o inside (ap (option_and_then (λ (x : Descriptors). opened x.slots.items d)) was ∙ stood) in
+        let held = old.held o.directory in
+        omega arith
+
+    module _ (new : Dentries) (sets : SetsSlot before.slots.items after.slots.items d None) (closes : places.Closes old.directories new o.directory) where
+      pub held-closes : (k : ℕ) → holders new k ≡ handles_below g old.next k
+      held-closes k =
+          let all = count k in
+          let less = handles_on-closes before.slots.items after.slots.items d k sets in
+          let own : holds (opened before.slots.items d) k ≡ holds (Some o) k = ap (λ x. holds x k) stood in
+          let held = old.held k in
+          elim (cases_eq k o.directory) [
+            | inl e ↦
+                let one = holds-own o k e in
+                let down : holders new k + 1 ≡ holders old.directories k = ap (λ j. holders new j + 1) e ∙ closes.counted ∙ sym (ap (holders old.directories) e) in
+                omega arith
+            | inr off ↦
+                let none = holds-other o k off in
+                let same = closes.others.counted k off in
+                omega arith
+          ]
+
+      -- what another handle holds stands where it stood
+      pub placed-closes : (b e : ℕ) (x : OpenDirectory) (l : Location) → option_and_then (λ (z : Descriptors). opened z.slots.items e) (g b) ≡ Some x → places.opened old.directories x.directory ≡ Some l → places.opened new x.directory ≡ Some l
+      placed-closes b e x l there at =
+          let some = below-some g old.next b e x (rises b (is-there (g b) there)) there in
+          let held = held-closes x.directory in
+          let more : 0 < holders new x.directory = omega arith in
+          elim (cases_eq x.directory o.directory) [
+            | inl same ↦ ap (places.opened new) same ∙ closes.located ∙ kept-located (holders new o.directory) (places.opened old.directories o.directory) (subst (λ j. 0 < holders new j) same more) ∙ sym (ap (places.opened old.directories) same) ∙ at
+            | inr off ↦ closes.others.located x.directory off ∙ at
+          ]
+        where
+          is-there : (z : Option Descriptors) → option_and_then (λ (y : Descriptors). opened y.slots.items e) z ≡ Some x → is_some z ≡ true
+          is-there None h = let no : None ≡ Some x = h in absurd (cc)
+          is-there (Some y) h = refl
+
+-- an open that wanted memory for the directory
+pub opens-failed : (old new : Clients) (c : ℕ) (p : Path) (e : AllocError) → IsSome (get nat_cmp old.attached c) → new.attached ≡ old.attached → SameHandles old.directories new.directories → new.next ≡ old.next → OpensAt old new c p (Err e)
+opens-failed old new c p e there same handles next = by (get nat_cmp old.attached c) refl there
+  where
+    by : (o : Option Descriptors) → get nat_cmp old.attached c ≡ o → IsSome o → OpensAt old new c p (Err e)
+    by None is h = let no : false ≡ true = h in absurd (cc)
+    by (Some x) is h = record {
+      handle = record { directory = 0; listing = None };
+      fresh = refl;
+      stands = tt;
+      changes = record {
+        before = x;
+        was = is;
+        after = x;
+        is = ap (λ z. get nat_cmp z c) same ∙ is;
+        changes = record { lowest = tt; opens = tt; full = tt; refused = tt; err = refl };
+        others = λ m off. ap (λ z. get nat_cmp z m) same;
+        places = λ b d o l stood at. handles.located o.directory ∙ at;
+        next = next;
+      };
+    }
+
+-- a descriptor that isn't open is not closed
+pub closes-bad : (clients : Clients) (c d : ℕ) → IsSome (get nat_cmp clients.attached c) → opened_by clients c d ≡ None → ChangesClient clients clients c (λ x y. Closes x y d (Err EBADF))
+closes-bad clients c d there none = by (get nat_cmp clients.attached c) refl there
+  where
+    by : (o : Option Descriptors) → get nat_cmp clients.attached c ≡ o → IsSome o → ChangesClient clients clients c (λ x y. Closes x y d (Err EBADF))
+    by None is h = let no : false ≡ true = h in absurd (cc)
+    by (Some x) is h = record {
+      before = x;
+      was = is;
+      after = x;
+      is = is;
+      changes = record { closes = tt; was_open = tt; not_open = (refl, ap (option_and_then (λ (y : Descriptors). opened y.slots.items d)) (sym is) ∙ none); refused = refl };
+      others = λ m off. refl;
+      places = λ b e o l stood at. at;
+      next = refl;
+    }

@@ -1,0 +1,16 @@
+pub mod Shown
+pub mod Counting
+pub mod Holding
+pub mod Ending
+pub mod Serving
+pub mod Directories
+pub mod Answering
+pub mod Changing
+pub mod Linking
+pub mod Paging
+pub mod Coming
+pub mod Leaving
+pub mod Freed
+pub mod Agreeing
+pub mod Flags
+pub mod Driving

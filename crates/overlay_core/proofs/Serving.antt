@@ -1,0 +1,302 @@
+-- The descriptors of a mount are those of the machine's tables.
+use Rattle.std.proofs.Common.{arith, ◌≡◌, ◌≢◌, ℕ, zero, suc, ◌<◌, Bool, true, false, cond, ◌||◌, List, [], ◌∷◌, Option, None, Some, refl, sym, ap, ◌∙◌, subst, ◌⊎◌, inl, inr, is_some, is_none, length, slice_get, slice_set, length-set, nat_eq}
+use Rattle.std.proofs.lemmas.Bool.{false≢true, cases_Bool, cases_eq, eqb-true, ne_eqb, lt-ltb, le-ltb}
+use Rattle.std.proofs.lemmas.Option.{slice_get_within}
+use Rattle.std.specs.List.{list_any, position, position_or_len}
+use Rattle.std.specs.Option.{option_and_then}
+use Rattle.std.specs.BTreeMap.{get}
+use Rattle.std.specs.Ordering.{nat_cmp}
+use Rattle.ov_base.specs.declared.node_id.NodeId.{NodeId}
+use Rattle.plain_model.specs.Layers.{Path}
+use Rattle.plain_model.specs.Tree.{Tree, node_at, is_folder}
+use Rattle.plain_model.specs.Machine.{Handle, Table, DESCRIPTORS_MAX, handles_of, held_in, handle_of, lowest_free}
+use Rattle.plain_model.specs.Changes.{names_in, with_handle}
+use Rattle.overlay_core.specs.declared.clients.Clients.{Clients}
+use Rattle.open_handles.specs.declared.descriptors.Descriptors.{Descriptors}
+use Rattle.open_handles.specs.Dentries.{Dentries}
+use Rattle.open_handles.specs.Opened as places
+use Rattle.open_handles.specs.Opened.{Location, At, Removed}
+use Rattle.open_handles.specs.declared.descriptors.OpenDirectory.{OpenDirectory}
+use Rattle.overlay_core.specs.Attaching.{KeepsAttached, KeepsPlaces, is_attached, opened_by, ChangesClient}
+use Rattle.open_handles.specs.Descriptors.{opened, IsFull, IsLowestFree, SetsSlot}
+use Rattle.overlay_core.specs.States.{Stands, IsHandle, IsSlot, AreTables}
+
+-- one element of a list after it is set, and the others
+get-set : {A : Type 0} (xs : List A) (i : ℕ) (v : A) → i < length xs → slice_get (slice_set xs i v) i ≡ Some v
+get-set [] i v h = absurd (omega arith)
+get-set (x ∷ xs) zero v h = refl
+get-set (x ∷ xs) (suc i) v h = get-set xs i v (omega arith)
+
+pub get-others : {A : Type 0} (xs : List A) (i j : ℕ) (v : A) → j ≢ i → slice_get (slice_set xs i v) j ≡ slice_get xs j
+get-others [] i j v h = refl
+get-others (x ∷ xs) zero zero v h = absurd (h refl)
+get-others (x ∷ xs) zero (suc j) v h = refl
+get-others (x ∷ xs) (suc i) zero v h = refl
+get-others (x ∷ xs) (suc i) (suc j) v h = get-others xs i j v (λ e. h (ap suc e))
+
+-- a table with a descriptor set
+abbrev set_in : ℕ → ℕ → Option Handle → Table → Table
+set_in c fd h k = cond (nat_eq k.client c) (record k { handles = slice_set k.handles fd h }) k
+
+same-client : (c fd : ℕ) (h : Option Handle) (k : Table) → (set_in c fd h k).client ≡ k.client
+same-client c fd h k = by (nat_eq k.client c)
+  where
+    by : (b : Bool) → (cond b (record k { handles = slice_set k.handles fd h }) k).client ≡ k.client
+    by true = refl
+    by false = refl
+
+-- the handles of a client after one is set, and of the others
+pub handles-set : (ks : List Table) (c fd : ℕ) (h : Option Handle) → handles_of (with_handle ks c fd h) c ≡ slice_set (handles_of ks c) fd h
+handles-set [] c fd h = refl
+handles-set (k ∷ ks) c fd h = by (handles-set ks c fd h) (cases_Bool (nat_eq k.client c))
+  where
+    by : handles_of (with_handle ks c fd h) c ≡ slice_set (handles_of ks c) fd h → (nat_eq k.client c ≡ true) ⊎ (nat_eq k.client c ≡ false) → cond (nat_eq (set_in c fd h k).client c) (set_in c fd h k).handles (handles_of (with_handle ks c fd h) c) ≡ slice_set (cond (nat_eq k.client c) k.handles (handles_of ks c)) fd h
+    by rest (inl e) = rw (e, e) refl
+    by rest (inr e) = rw (e, e) rest
+
+pub handles-others : (ks : List Table) (c fd b : ℕ) (h : Option Handle) → b ≢ c → handles_of (with_handle ks c fd h) b ≡ handles_of ks b
+handles-others [] c fd b h n = refl
+handles-others (k ∷ ks) c fd b h n = by (handles-others ks c fd b h n) (cases_Bool (nat_eq k.client c))
+  where
+    by : handles_of (with_handle ks c fd h) b ≡ handles_of ks b → (nat_eq k.client c ≡ true) ⊎ (nat_eq k.client c ≡ false) → cond (nat_eq (set_in c fd h k).client b) (set_in c fd h k).handles (handles_of (with_handle ks c fd h) b) ≡ cond (nat_eq k.client b) k.handles (handles_of ks b)
+    by rest (inl e) =
+        let other : nat_eq k.client b ≡ false = ne_eqb k.client b (λ f. n (sym f ∙ eqb-true k.client c e)) in
+        rw (e, other) rest
+    by rest (inr e) = rw e (ap (cond (nat_eq k.client b) k.handles) rest)
+
+pub attached-same : (ks : List Table) (c fd b : ℕ) (h : Option Handle) → list_any (λ (k : Table). nat_eq k.client b) (with_handle ks c fd h) ≡ list_any (λ (k : Table). nat_eq k.client b) ks
+attached-same [] c fd b h = refl
+attached-same (k ∷ ks) c fd b h = λ i. (nat_eq (same-client c fd h k i) b) || (attached-same ks c fd b h i)
+
+-- slots that are alike
+pub slot-as : (t : Tree) (ds : Dentries) (a b : Option OpenDirectory) (x y : Option Handle) → a ≡ b → x ≡ y → IsSlot t ds a x → IsSlot t ds b y
+slot-as t ds a b x y e f s = subst (λ z. IsSlot t ds z y) e (subst (λ z. IsSlot t ds a z) f s)
+
+-- slots of directories that stand where they stood
+pub slot-placed : (t : Tree) (ds es : Dentries) (a : Option OpenDirectory) (x : Option Handle) → ((o : OpenDirectory) (l : Location) → a ≡ Some o → places.opened ds o.directory ≡ Some l → places.opened es o.directory ≡ Some l) → IsSlot t ds a x → IsSlot t es a x
+slot-placed t ds es None None f s = tt
+slot-placed t ds es None (Some h) f s = absurd s
+slot-placed t ds es (Some o) None f s = absurd s
+slot-placed t ds es (Some o) (Some h) f s = record {
+  location = s.location;
+  located = f o s.location refl s.located;
+  stands = s.stands;
+  directory = s.directory;
+  access = s.access;
+  left = s.left;
+}
+
+-- a descriptor that stays open, on a directory that stands where it stood
+pub carried : (t : Tree) (clients new : Clients) → KeepsPlaces clients new → (b d : ℕ) (x : Option Handle) → opened_by new b d ≡ opened_by clients b d → IsSlot t clients.directories (opened_by clients b d) x → IsSlot t new.directories (opened_by new b d) x
+carried t clients new kept b d x same s =
+    slot-as t new.directories _ _ _ _ (sym same) refl
+    (slot-placed t clients.directories new.directories (opened_by clients b d) x (λ o l e f. kept b d o l (same ∙ e) f) s)
+
+-- where the open directories are the same, they stand where they stood
+pub places-same : (clients new : Clients) → new.directories ≡ clients.directories → KeepsPlaces clients new
+places-same clients new same c d o l is at = ap (λ z. places.opened z o.directory) same ∙ at
+
+pub slot-some : (t : Tree) (ds : Dentries) (a : Option OpenDirectory) (x : Option Handle) → IsSlot t ds a x → is_some a ≡ is_some x
+slot-some t ds None None s = refl
+slot-some t ds None (Some h) s = absurd s
+slot-some t ds (Some o) None s = absurd s
+slot-some t ds (Some o) (Some h) s = refl
+
+held-some : (o : Option Handle) → held_in (Some o) ≡ o
+held-some None = refl
+held-some (Some h) = refl
+
+-- an open descriptor has a handle
+pub slot-open : (t : Tree) (ds : Dentries) (a : Option OpenDirectory) (x : Option Handle) (o : OpenDirectory) → IsSlot t ds a x → a ≡ Some o → (h : Handle) × (x ≡ Some h) × IsHandle t ds o h
+slot-open t ds None x o s e = cc
+slot-open t ds (Some a) None o s e = absurd s
+slot-open t ds (Some a) (Some h) o s e =
+    let same : a ≡ o = cc in
+    (h, refl, subst (λ z. IsHandle t ds z h) same s)
+
+-- a closed one has none
+pub slot-closed : (t : Tree) (ds : Dentries) (a : Option OpenDirectory) (x : Option Handle) → IsSlot t ds a x → a ≡ None → x ≡ None
+slot-closed t ds None None s e = refl
+slot-closed t ds None (Some h) s e = absurd s
+slot-closed t ds (Some a) x s e = cc
+
+-- a directory stands in another tree where it did, if its paths and its node are the same
+stands-same : (t u : Tree) → ((q : Path) → node_at u q ≡ node_at t q) → (l : Location) (d : NodeId) → u d ≡ t d → Stands t l d → Stands u l d
+stands-same t u paths (At p) d same s = paths p ∙ s
+stands-same t u paths (Removed a) d same s = record { hidden = λ p e. s.hidden p (sym (paths p) ∙ e); empty = ap names_in same ∙ s.empty }
+
+-- and so is a handle on it
+pub handle-same : (t u : Tree) (ds : Dentries) → ((q : Path) → node_at u q ≡ node_at t q) → (o : OpenDirectory) (h : Handle) → u h.node ≡ t h.node → IsHandle t ds o h → IsHandle u ds o h
+handle-same t u ds paths o h same x = record {
+  location = x.location;
+  located = x.located;
+  stands = stands-same t u paths x.location h.node same x.stands;
+  directory = ap is_folder same ∙ x.directory;
+  access = x.access;
+  left = x.left;
+}
+
+-- a slot in another tree, where its handle is one there
+pub slot-moved : (t u : Tree) (ds : Dentries) (a : Option OpenDirectory) (x : Option Handle) → ((o : OpenDirectory) (h : Handle) → a ≡ Some o → x ≡ Some h → IsHandle t ds o h → IsHandle u ds o h) → IsSlot t ds a x → IsSlot u ds a x
+slot-moved t u ds None None f s = tt
+slot-moved t u ds None (Some h) f s = absurd s
+slot-moved t u ds (Some o) None f s = absurd s
+slot-moved t u ds (Some o) (Some h) f s = f o h refl refl s
+
+-- the lowest free descriptor
+lowest-at : (hs : List (Option Handle)) (d : ℕ) → d < length hs → held_in (slice_get hs d) ≡ None → ((k : ℕ) → k < d → is_some (held_in (slice_get hs k)) ≡ true) → position_or_len is_none hs ≡ d
+lowest-at [] d h e b = absurd (omega arith)
+lowest-at (None ∷ hs) zero h e b = refl
+lowest-at (Some x ∷ hs) zero h e b = cc
+lowest-at (None ∷ hs) (suc d) h e b = absurd (false≢true (b 0 (omega arith)))
+lowest-at (Some x ∷ hs) (suc d) h e b =
+    let rest : position_or_len is_none hs ≡ d = lowest-at hs d (omega arith) e (λ k l. b (suc k) (omega arith)) in
+    omega arith
+
+none-free : (hs : List (Option Handle)) → ((k : ℕ) → k < length hs → is_some (held_in (slice_get hs k)) ≡ true) → position_or_len is_none hs ≡ length hs
+none-free [] b = refl
+none-free (None ∷ hs) b = absurd (false≢true (b 0 (omega arith)))
+none-free (Some x ∷ hs) b =
+    let rest : position_or_len is_none hs ≡ length hs = none-free hs (λ k l. b (suc k) (omega arith)) in
+    omega arith
+
+position-lowest : (hs : List (Option Handle)) (d : ℕ) → d < length hs → position_or_len is_none hs ≡ d → position is_none hs ≡ Some d
+position-lowest hs d h e = rw (e, lt-ltb d (length hs) h) refl
+
+position-none : (hs : List (Option Handle)) → position_or_len is_none hs ≡ length hs → position is_none hs ≡ None
+position-none hs e = rw (e, le-ltb (length hs) (length hs) (omega arith)) refl
+
+-- whether a client is attached
+abbrev there : Option Descriptors → Bool
+there o = is_some o
+
+-- what a client has open under a descriptor
+opened-is : (clients : Clients) (c d : ℕ) (ds : Descriptors) → get nat_cmp clients.attached c ≡ Some ds → opened_by clients c d ≡ opened ds.slots.items d
+opened-is clients c d ds e = ap (option_and_then (λ (x : Descriptors). opened x.slots.items d)) e
+
+-- the same clients are attached, with the same directories open, and the next number is the same
+pub record SameClients (old new : Clients) : Type 0 where
+  pub attached : (c : ℕ) → is_some (get nat_cmp new.attached c) ≡ is_some (get nat_cmp old.attached c)
+  pub opened : (c d : ℕ) → opened_by new c d ≡ opened_by old c d
+  pub places : KeepsPlaces old new
+  pub next : new.next ≡ old.next
+
+-- where one client's descriptors change the same clients are attached
+pub keeps-attached : (old new : Clients) (c : ℕ) (P : List (Option OpenDirectory) → List (Option OpenDirectory) → Type 0) → ChangesClient old new c P → KeepsAttached old new
+keeps-attached old new c P h = record { attached = same; next = h.next }
+  where
+    same : (b : ℕ) → is_attached new b ≡ is_attached old b
+    same b = by (cases_eq b c)
+      where
+        by : (b ≡ c) ⊎ (b ≡ c → ⊥) → is_attached new b ≡ is_attached old b
+        by (inl e) = rw e (ap there h.is ∙ sym (ap there h.was))
+        by (inr n) = ap there (h.others b n)
+
+-- a client's descriptors stay as they are
+pub same-clients : (clients new : Clients) (c : ℕ) → ChangesClient clients new c (λ x y. y ≡ x) → SameClients clients new
+same-clients clients new c h = record { attached = same; opened = opens; places = h.places; next = h.next }
+  where
+    same : (b : ℕ) → is_some (get nat_cmp new.attached b) ≡ is_some (get nat_cmp clients.attached b)
+    same b = by (cases_eq b c)
+      where
+        by : (b ≡ c) ⊎ (b ≡ c → ⊥) → is_some (get nat_cmp new.attached b) ≡ is_some (get nat_cmp clients.attached b)
+        by (inl e) = rw e (ap there h.is ∙ sym (ap there h.was))
+        by (inr n) = ap there (h.others b n)
+
+    opens : (b d : ℕ) → opened_by new b d ≡ opened_by clients b d
+    opens b d = by (cases_eq b c)
+      where
+        by : (b ≡ c) ⊎ (b ≡ c → ⊥) → opened_by new b d ≡ opened_by clients b d
+        by (inl e) = rw e (opened-is new c d h.after h.is ∙ ap (λ s. opened s d) h.changes ∙ sym (opened-is clients c d h.before h.was))
+        by (inr n) = ap (option_and_then (λ (x : Descriptors). opened x.slots.items d)) (h.others b n)
+
+module _ (t : Tree) (clients : Clients) (ks : List Table) (a : AreTables t clients ks) where
+  -- the tables of another tree, where each handle is one there
+  pub tables-moved : (u : Tree) → ((c d : ℕ) (o : OpenDirectory) (h : Handle) → opened_by clients c d ≡ Some o → handle_of ks c d ≡ Some h → IsHandle t clients.directories o h → IsHandle u clients.directories o h) → AreTables u clients ks
+  tables-moved u f = record { attached = a.attached; room = a.room; slots = λ c d. slot-moved t u clients.directories _ _ (f c d) (a.slots c d) }
+
+  -- how many descriptors an attached client has
+  pub room-of : (c : ℕ) → is_some (get nat_cmp clients.attached c) ≡ true → length (handles_of ks c) ≡ DESCRIPTORS_MAX
+  room-of c e = a.room c ∙ ap (λ b. cond b DESCRIPTORS_MAX 0) e
+
+  -- an open descriptor is below 64
+  pub in-room : (c d : ℕ) (h : Handle) → handle_of ks c d ≡ Some h → d < length (handles_of ks c)
+  in-room c d h e = by (slice_get (handles_of ks c) d) refl e
+    where
+      by : (o : Option (Option Handle)) → slice_get (handles_of ks c) d ≡ o → held_in o ≡ Some h → d < length (handles_of ks c)
+      by None is e = cc
+      by (Some o) is e = slice_get_within (handles_of ks c) d o is
+
+  -- the machine gives the lowest free descriptor
+  pub free-lowest : (c d : ℕ) (ds : Descriptors) → get nat_cmp clients.attached c ≡ Some ds → IsLowestFree ds.slots.items d → lowest_free ks c ≡ Some d
+  free-lowest c d ds e l =
+      let long : length (handles_of ks c) ≡ DESCRIPTORS_MAX = room-of c (ap is_some e) in
+      let inside : d < length (handles_of ks c) = rw long l.in_range in
+      position-lowest (handles_of ks c) d inside
+      (lowest-at (handles_of ks c) d inside
+      (slot-closed t clients.directories _ _ (a.slots c d) (opened-is clients c d ds e ∙ l.free))
+      (λ k h. sym (slot-some t clients.directories _ _ (a.slots c k)) ∙ ap is_some (opened-is clients c k ds e) ∙ l.lowest k h))
+
+  -- it gives none where all are open
+  pub free-none : (c : ℕ) (ds : Descriptors) → get nat_cmp clients.attached c ≡ Some ds → IsFull ds.slots.items → lowest_free ks c ≡ None
+  free-none c ds e full =
+      let long : length (handles_of ks c) ≡ DESCRIPTORS_MAX = room-of c (ap is_some e) in
+      position-none (handles_of ks c)
+      (none-free (handles_of ks c)
+      (λ k h. sym (slot-some t clients.directories _ _ (a.slots c k)) ∙ ap is_some (opened-is clients c k ds e) ∙ full k (rw long at h)))
+
+  module _ (new : Clients) where
+    -- the clients and their descriptors stay as they are
+    pub tables-same : SameClients clients new → AreTables t new ks
+    tables-same h = record {
+      attached = λ b. a.attached b ∙ sym (h.attached b);
+      room = λ b. a.room b ∙ sym (ap (λ z. cond z DESCRIPTORS_MAX 0) (h.attached b));
+      slots = λ b d. carried t clients new h.places b d (handle_of ks b d) (h.opened b d) (a.slots b d);
+    }
+
+    -- one descriptor is set on both sides
+    pub tables-set : (c fd : ℕ) (o : Option OpenDirectory) (x : Option Handle) → ChangesClient clients new c (λ b y. SetsSlot b y fd o) → fd < DESCRIPTORS_MAX → IsSlot t new.directories o x → AreTables t new (with_handle ks c fd x)
+    tables-set c fd o x h inside slot = record {
+      attached = λ b. attached-same ks c fd b x ∙ a.attached b ∙ sym (same b);
+      room = λ b. long b ∙ a.room b ∙ sym (ap (λ z. cond z DESCRIPTORS_MAX 0) (same b));
+      slots = slots;
+    }
+      where
+        same : (b : ℕ) → is_some (get nat_cmp new.attached b) ≡ is_some (get nat_cmp clients.attached b)
+        same b = by (cases_eq b c)
+          where
+            by : (b ≡ c) ⊎ (b ≡ c → ⊥) → is_some (get nat_cmp new.attached b) ≡ is_some (get nat_cmp clients.attached b)
+            by (inl e) = rw e (ap there h.is ∙ sym (ap there h.was))
+            by (inr n) = ap there (h.others b n)
+
+        long : (b : ℕ) → length (handles_of (with_handle ks c fd x) b) ≡ length (handles_of ks b)
+        long b = by (cases_eq b c)
+          where
+            by : (b ≡ c) ⊎ (b ≡ c → ⊥) → length (handles_of (with_handle ks c fd x) b) ≡ length (handles_of ks b)
+            by (inl e) = rw e (ap length (handles-set ks c fd x) ∙ length-set (handles_of ks c) fd x)
+            by (inr n) = ap length (handles-others ks c fd b x n)
+
+        within : fd < length (handles_of ks c)
+        within = rw (room-of c (ap is_some h.was)) inside
+
+        here : (d : ℕ) → (d ≡ fd) ⊎ (d ≡ fd → ⊥) → IsSlot t new.directories (opened_by new c d) (handle_of (with_handle ks c fd x) c d)
+        here d (inl e) =
+            subst (λ z. IsSlot t new.directories (opened_by new c z) (handle_of (with_handle ks c fd x) c z)) (sym e)
+            (slot-as t new.directories _ _ _ _
+            (sym (opened-is new c fd h.after h.is ∙ h.changes.here))
+            (sym (ap (λ z. held_in (slice_get z fd)) (handles-set ks c fd x) ∙ ap held_in (get-set (handles_of ks c) fd x within) ∙ held-some x))
+            slot)
+        here d (inr n) =
+            slot-as t new.directories _ _ _ _ refl
+            (sym (ap (λ z. held_in (slice_get z d)) (handles-set ks c fd x) ∙ ap held_in (get-others (handles_of ks c) fd d x n)))
+            (carried t clients new h.places c d (handle_of ks c d) (opened-is new c d h.after h.is ∙ h.changes.others d n ∙ sym (opened-is clients c d h.before h.was)) (a.slots c d))
+
+        slots : (b d : ℕ) → IsSlot t new.directories (opened_by new b d) (handle_of (with_handle ks c fd x) b d)
+        slots b d = by (cases_eq b c)
+          where
+            by : (b ≡ c) ⊎ (b ≡ c → ⊥) → IsSlot t new.directories (opened_by new b d) (handle_of (with_handle ks c fd x) b d)
+            by (inl e) = subst (λ z. IsSlot t new.directories (opened_by new z d) (handle_of (with_handle ks c fd x) z d)) (sym e) (here d (cases_eq d fd))
+            by (inr n) =
+                slot-as t new.directories _ _ _ _ refl
+                (sym (ap (λ z. held_in (slice_get z d)) (handles-others ks c fd b x n)))
+                (carried t clients new h.places b d (handle_of ks b d) (ap (option_and_then (λ (z : Descriptors). opened z.slots.items d)) (h.others b n)) (a.slots b d))

@@ -1,0 +1,26 @@
+use Rattle.ov_base.specs.declared.call.Call.TheVariants as call
+use Rattle.std.proofs.Common.{◌≡◌, ◌∙◌, None, sym, refl}
+use mathlib.Core.Logic.{∥∥₁_elim}
+use mathlib.Core.HLevel.{⊥_prop}
+use Rattle.overlay_core.proofs.Changing.{none-below, rmdir-open, rmdir-unopened, refused}
+use Rattle.overlay_core.proofs.mount.Mount.rmdir.Goals as goal
+use Rattle.overlay_core.proofs.mount.Mount.rmdir.Goals.{in-Some, in_default}
+
+pub returns-in-Err-clause-serves : goal.returns-in-Err-clause-serves
+returns-in-Err-clause-serves c = λ s st client.
+    refused c.args.self.now s st c.rmdir_and_free.new.layers client (call.Rmdir c.args.path.now) c.in-Err.errno
+    (rw c.in-Err.is at c.in_ok-rmdir_and_free.ensures.refuses s st.layers client)
+    (rw c.in-Err.is at c.in_ok-rmdir_and_free.ensures.unchanged)
+
+pub remove-requires-clause-below : goal.remove-requires-clause-below
+remove-requires-clause-below c = λ k n r is. ∥∥₁_elim c.requires ⊥_prop (λ x. none-below c.args.self.now x.0 x.1 c.rmdir_and_free.new.layers c.args.path.now (rw c.in-Ok.is at c.in_ok-rmdir_and_free.ensures.bare) c.lawful.ensures.held k n r is)
+
+pub returns-after-attributes-3-clause-serves : goal.returns-after-attributes-3-clause-serves
+returns-after-attributes-3-clause-serves c = λ s st client.
+    let allowed = rw c.in-Ok.is at c.in_ok-rmdir_and_free.ensures.allowed in
+    let bare = rw c.in-Ok.is at c.in_ok-rmdir_and_free.ensures.bare in
+    let steps = rw c.in-Ok.is at c.in_ok-rmdir_and_free.ensures.steps s st.layers client in
+    elim c.match-attributes-3.branch [
+      | in-Some w ↦ rw w.self-is (rmdir-open c.args.self.now s st c.rmdir_and_free.new.layers client c.args.path.now w.in-Some.attributes w.remove.new.self allowed bare w.remove.ensures steps)
+      | in_default w ↦ rw w.self-is (rmdir-unopened c.args.self.now s st c.rmdir_and_free.new.layers client c.args.path.now allowed bare (rw w.in_default.is at c.in_ok-attributes.ensures allowed) steps)
+    ]

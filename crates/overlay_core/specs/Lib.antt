@@ -1,0 +1,13 @@
+pub mod Status
+pub mod Attaching
+pub mod Held
+pub mod Offers
+pub mod Rules
+pub mod Keeping
+pub mod Opening
+pub mod States
+pub mod Removing
+pub mod Agreement
+pub mod Mounting
+pub mod Jobs
+pub mod Drives

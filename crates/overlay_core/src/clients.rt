@@ -1,0 +1,218 @@
+// The attached clients.
+ghost use Rattle.std.specs.Prelude.{◌≡◌, ◌≢◌, ◌+◌, ◌<◌, ◌^◌, ℕ, true, false, Some, None, IfOk, IfErr, OnOk, OnErr, IsSome, is_some, [], option_copied};
+ghost use Rattle.std.specs.Option.{option_and_then};
+ghost use Rattle.std.specs.BTreeMap.{get, btree_map_len};
+ghost use Rattle.std.specs.Ordering.{nat_cmp};
+ghost use Rattle.open_handles.specs.Opened.{opened, holders, NoneBelow};
+ghost use Rattle.overlay_core.specs.Held.{handles_below};
+
+use crate::closing::close_all;
+use dir_listing::Cursor;
+use open_handles::{Descriptors, OpenDirectories, OpenDirectory};
+use ov_base::{Attributes, Errno, NameList, Path};
+use std::alloc::{AllocError, Global};
+use std::collections::BTreeMap;
+use std::hash::RandomState;
+
+/// The most clients that are attached at a time.
+pub const CLIENTS_MAX: usize = 64;
+
+/// The attached clients by number, and the directories that they have open. Numbers start at 0, rise and aren't used again. As many
+/// handles hold a directory as its count says.
+#[derive(Drop)]
+pub struct Clients {
+    attached: BTreeMap<u64, Descriptors>,
+    next: u64,
+    directories: OpenDirectories,
+    ghost rising: { (n : ℕ) → is_some (get nat_cmp attached n) ≡ true → n < next },
+    ghost held: { (k : ℕ) → holders directories k ≡ handles_below (get nat_cmp attached) next k },
+}
+
+impl Clients {
+    ghost use Rattle.overlay_core.specs.Attaching.{HasNoRoom, Attaches, Detaches, IsSame, ChangesClient, opened_by, path_of};
+    ghost use Rattle.overlay_core.specs.Opening.{OpensAt};
+    ghost use Rattle.overlay_core.specs.Removing.{IsOpenNowhere, RemovesOpen};
+    ghost use Rattle.open_handles.specs.Listings.{ChangesSlot, Closes, GivesNames, with_listing};
+
+    /// No clients. The names of open directories are hashed with these keys.
+    pub fn new(alloc: Global, keys: RandomState) -> Result<Clients, AllocError>
+        ensures none { IfOk result (λ clients. (n : ℕ) → get nat_cmp clients.attached n ≡ None) }
+        ensures first { IfOk result (λ clients. clients.next ≡ 0) }
+    {
+        let directories = OpenDirectories::new(alloc, keys)?;
+        directories.lawful();
+        Ok(Clients {
+            attached: BTreeMap::new(alloc),
+            next: 0,
+            directories,
+        })
+    }
+
+    /// What always holds, for those who reason about it; it does nothing.
+    pub fn lawful(&self)
+        ensures held { (k : ℕ) → IsSome (opened self.now.directories k) → 0 < handles_below (get nat_cmp self.now.attached) self.now.next k }
+    {
+        self.directories.lawful();
+    }
+
+    /// Attaches a client, which has no descriptors, and gives its number. Where 64 are attached it is ENFILE. Any failure changes nothing.
+    pub fn attach(&mut self, alloc: Global) -> Result<Result<u64, Errno>, AllocError>
+        requires { self.old.next + 1 < 2 ^ 64 }
+        ensures attached { IfOk result (λ attaching. IfOk attaching (Attaches self.old self.new)) }
+        ensures refusal { IfOk result (λ attaching. IfErr attaching (λ errno. errno ≡ Errno.ENFILE)) }
+        ensures full { IfOk result (λ attaching. OnErr attaching (HasNoRoom self.old)) }
+        ensures room { IfOk result (λ attaching. OnOk attaching (btree_map_len self.old.attached < 64)) }
+        ensures refused { IfOk result (λ attaching. OnErr attaching (self.new ≡ self.old)) }
+        ensures err { OnErr result (IsSame self.old self.new) }
+    {
+        if self.attached.len() >= CLIENTS_MAX {
+            return Ok(Err(Errno::ENFILE));
+        }
+        let number = self.next;
+        self.attached.insert(number, Descriptors::new(alloc))?;
+        self.next = number + 1;
+        Ok(Ok(number))
+    }
+
+    /// Detaches a client, which closes its descriptors in rising order.
+    pub fn detach(&mut self, client: u64)
+        ensures { Detaches self.old self.new client }
+    {
+        self.directories.lawful();
+        if let Some(descriptors) = self.attached.remove(&client) {
+            let slots = descriptors.into_slots();
+            close_all(&mut self.directories, slots.as_slice());
+        }
+    }
+
+    /// How many clients are attached.
+    pub fn len(&self) -> usize
+        ensures { result ≡ btree_map_len self.now.attached }
+    {
+        self.attached.len()
+    }
+
+    /// The descriptors of a client; none where it isn't attached.
+    pub fn get(&self, client: u64) -> Option<&Descriptors>
+        ensures { option_copied result ≡ get nat_cmp self.now.attached client }
+    {
+        self.attached.get(&client)
+    }
+
+    /// What a client has open under a descriptor.
+    pub fn opened(&self, client: u64, descriptor: u32) -> Option<&OpenDirectory>
+        ensures { option_copied result ≡ opened_by self.now client descriptor }
+    {
+        self.attached.get(&client)?.get(descriptor)
+    }
+
+    /// Opens the directory at a path under the lowest free descriptor of a client and gives it. Where 64 are open it is EMFILE.
+    pub fn open(&mut self, client: u64, path: &Path) -> Result<Result<u32, Errno>, AllocError>
+        requires { IsSome (get nat_cmp self.old.attached client) }
+        ensures { OpensAt self.old self.new client path.now result }
+    {
+        self.directories.lawful();
+        let directory = match self.directories.open(path) {
+            Ok(directory) => directory,
+            Err(fault) => return Err(fault),
+        };
+        let handle = OpenDirectory {
+            directory,
+            listing: Cursor::new(),
+        };
+        match self.attached.get_mut(&client).unwrap().open(handle) {
+            Ok(Ok(descriptor)) => Ok(Ok(descriptor)),
+            Ok(Err(errno)) => {
+                self.directories.close(directory);
+                Ok(Err(errno))
+            }
+            Err(fault) => {
+                self.directories.close(directory);
+                Err(fault)
+            }
+        }
+    }
+
+    /// The path of the directory that a client has open under a descriptor; none where it was removed.
+    pub fn path(
+        &self,
+        alloc: Global,
+        client: u64,
+        descriptor: u32,
+    ) -> Result<Option<Path>, AllocError>
+        requires { IsSome (opened_by self.now client descriptor) }
+        ensures { IfOk result (λ path. path ≡ option_and_then (path_of self.now) (opened_by self.now client descriptor)) }
+    {
+        self.directories.lawful();
+        let handle = self.opened(client, descriptor).unwrap();
+        self.directories.path(alloc, handle.directory)
+    }
+
+    /// Whether a client has the directory at a path open.
+    pub fn is_open_at(&self, path: &Path) -> bool
+        ensures { result ≡ false → IsOpenNowhere self.now path.now }
+    {
+        self.directories.find(path).is_some()
+    }
+
+    /// Makes the directory that is open at a path a removed one, with the attributes that it has.
+    pub fn remove(&mut self, path: &Path, attributes: Attributes)
+        requires not_root { path.now ≢ [] }
+        requires below { NoneBelow self.old.directories path.now }
+        ensures { RemovesOpen self.old self.new path.now attributes }
+    {
+        self.directories.remove(path, attributes);
+    }
+
+    /// Keeps a listing of an open directory of a client.
+    pub fn keep_listing(&mut self, client: u64, descriptor: u32, listing: Cursor)
+        requires { IsSome (opened_by self.old client descriptor) }
+        ensures { ChangesClient self.old self.new client (λ before after. ChangesSlot before after descriptor (with_listing listing)) }
+    {
+        self.attached
+            .get_mut(&client)
+            .unwrap()
+            .keep_listing(descriptor, listing);
+    }
+
+    /// Lets the listing of an open directory of a client go.
+    pub fn rewind(&mut self, client: u64, descriptor: u32)
+        requires { IsSome (opened_by self.old client descriptor) }
+        ensures { ChangesClient self.old self.new client (λ before after. ChangesSlot before after descriptor (with_listing None)) }
+    {
+        self.attached.get_mut(&client).unwrap().rewind(descriptor);
+    }
+
+    /// Gives the next names of the listing of an open directory of a client, at most so many. Want of memory gives none and changes
+    /// nothing.
+    pub fn next_names(
+        &mut self,
+        alloc: Global,
+        client: u64,
+        descriptor: u32,
+        count: usize,
+    ) -> Result<NameList, AllocError>
+        requires { IsSome (opened_by self.old client descriptor) }
+        ensures { ChangesClient self.old self.new client (λ before after. GivesNames before after descriptor count result) }
+    {
+        self.attached
+            .get_mut(&client)
+            .unwrap()
+            .next_names(alloc, descriptor, count)
+    }
+
+    /// Closes a descriptor of a client. One that isn't open is EBADF.
+    pub fn close(&mut self, client: u64, descriptor: u32) -> Result<(), Errno>
+        requires { IsSome (get nat_cmp self.old.attached client) }
+        ensures { ChangesClient self.old self.new client (λ before after. Closes before after descriptor result) }
+    {
+        let Some(handle) = self.opened(client, descriptor) else {
+            return Err(Errno::EBADF);
+        };
+        let directory = handle.directory;
+        let _ = self.attached.get_mut(&client).unwrap().take(descriptor);
+        self.directories.lawful();
+        self.directories.close(directory);
+        Ok(())
+    }
+}

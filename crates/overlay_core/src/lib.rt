@@ -1,0 +1,17 @@
+//! The core: a mount with the clients on it, whose calls are steps of the plain machine.
+#![tactic(auto)]
+
+mod clients;
+mod closing;
+mod job;
+mod mount;
+mod mounted;
+mod removals;
+mod schedule;
+mod status;
+
+pub use job::{Job, Standing};
+pub use mount::Mount;
+pub use mounted::{Core, MountFault, Turn, Unmounted};
+pub use schedule::drive;
+pub use status::{status_at, status_of};

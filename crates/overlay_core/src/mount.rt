@@ -1,0 +1,397 @@
+// A mount and the clients on it: what each call does, by the plain machine, where nobody watches.
+ghost use Rattle.std.specs.Prelude.{◌≡◌, ◌<◌, ◌+◌, ◌^◌, ℕ, Bool, false, List, Some, None, Ok, IsOk, IfOk, IfErr, OnOk, OnErr, IsSome, IsSomeAnd, IfNone, is_some, MatchResult, option_copied, true};
+ghost use Rattle.plain_model.specs.Layers.{AreLayers};
+ghost use Rattle.layer_tree.specs.Tree.{layer_of, inode_of};
+ghost use Rattle.merged_lookup.specs.Merged.{layers_of, lowers_of};
+ghost use Rattle.overlay_core.specs.Opening as opening;
+ghost use Rattle.overlay_core.specs.States.{AreNamesIn};
+ghost use Rattle.overlay_core.specs.Opening.{directory_fault};
+ghost use Rattle.overlay_core.specs.Status.{stat_at, readlink_reply, target_reply};
+ghost use Rattle.std.specs.Option.{option_and_then};
+ghost use Rattle.mount_laws.specs.Leaves.{inode_target};
+
+use crate::clients::Clients;
+use crate::removals::{rmdir_and_free, unlink_and_free};
+use crate::status::{attributes_at, status_at};
+use dir_listing::{Cursor, names};
+use layer_tree::{Inode, Node};
+use make_remove::{mkdir, symlink};
+use merged_lookup::{Found, Layers};
+use ov_base::{Attributes, Bytes, Call, Content, Errno, NameList, OpenFlags, Path, Reply};
+use std::alloc::{AllocError, Global};
+use std::hash::RandomState;
+
+/// The most names that one `list` gives.
+const LIST_MAX: u32 = 256;
+
+/// The twelve bits of a mode.
+const MODE_BITS: u32 = 0o7777;
+
+/// The layers of a mount and the clients attached to it.
+#[derive(Drop)]
+pub struct Mount {
+    layers: Layers,
+    clients: Clients,
+    alloc: Global,
+}
+
+impl Mount {
+    ghost use Rattle.std.specs.BTreeMap.{get, btree_map_len};
+    ghost use Rattle.std.specs.Ordering.{nat_cmp};
+    ghost use Rattle.plain_model.specs.Machine as machine;
+    ghost use Rattle.plain_model.specs.Machine.{MountOptions, State};
+    ghost use Rattle.plain_model.specs.Tree.{Tree};
+    ghost use Rattle.plain_model.specs.Merging.{IsMerge};
+    ghost use Rattle.plain_model.specs.Runs as runs;
+    ghost use Rattle.plain_model.specs.Runs.{joined, without_instance, without_table, Leaves};
+    ghost use Rattle.plain_model.specs.Refusals.{refusal};
+    ghost use Rattle.overlay_core.specs.Attaching as attaching;
+    ghost use Rattle.overlay_core.specs.Attaching.{HasNoRoom, Attaches, Detaches, IsSame, KeepsAttached, opened_by};
+    ghost use Rattle.overlay_core.specs.States.{HasStateOf, IsStateOf, Serves, StaysState, Pages};
+    ghost use Rattle.overlay_core.specs.Removing.{IsOpenNowhere};
+    ghost use Rattle.mount_laws.specs.Removals.{rmdir_fault};
+    ghost use Rattle.overlay_core.specs.Opening.{seek_fault};
+    ghost use Rattle.overlay_core.specs.Rules.{Nothing};
+    ghost use Rattle.overlay_core.specs.Offers.{is_offered, reads_directory};
+    ghost use Rattle.overlay_core.specs.Keeping.{UnlessChange, takes_no_memory};
+    ghost use Rattle.copy_up.specs.Showing.{StaysThin};
+
+    /// A mount of these layers without a client. The names of open directories are hashed with these keys.
+    pub(crate) fn new(alloc: Global, keys: RandomState, layers: Layers) -> Result<Mount, AllocError>
+        ensures layers { IfOk result (λ mount. mount.layers ≡ layers) }
+        ensures none { IfOk result (λ mount. (n : ℕ) → get nat_cmp mount.clients.attached n ≡ None) }
+        ensures first { IfOk result (λ mount. mount.clients.next ≡ 0) }
+        ensures begins { IfOk result (λ mount. (t : Tree) (redirects : Bool) → AreLayers (layers_of layers) → IsMerge (layer_of layers.upper) (lowers_of layers) t → IsStateOf mount (machine.opening t (record { redirects = redirects; read_only = false }))) }
+    {
+        Ok(Mount {
+            layers,
+            clients: Clients::new(alloc, keys)?,
+            alloc,
+        })
+    }
+
+    /// The layers as they are now.
+    pub(crate) fn layers(&self) -> &Layers
+        ensures { result.now ≡ self.now.layers }
+    {
+        &self.layers
+    }
+
+    /// Attaches a client and gives its number. Where 64 are attached it is ENFILE.
+    pub(crate) fn attach(&mut self) -> Result<Result<u64, Errno>, AllocError>
+        requires { self.old.clients.next + 1 < 2 ^ 64 }
+        ensures attached { IfOk result (λ attaching. IfOk attaching (λ n. (s : State) → IsStateOf self.old s → (tags : List ℕ) → (n ≡ s.arrived) × IsStateOf self.new (joined s tags))) }
+        ensures refusal { IfOk result (λ attaching. IfErr attaching (λ errno. errno ≡ Errno.ENFILE)) }
+        ensures full { IfOk result (λ attaching. OnErr attaching (HasNoRoom self.old.clients)) }
+        ensures room { IfOk result (λ attaching. OnOk attaching (btree_map_len self.old.clients.attached < 64)) }
+        ensures refused { IfOk result (λ attaching. OnErr attaching (self.new ≡ self.old)) }
+        ensures err { OnErr result ((s : State) → IsStateOf self.old s → IsStateOf self.new s) }
+        ensures clients { IfOk result (λ attaching. IfOk attaching (Attaches self.old.clients self.new.clients)) }
+        ensures no_memory { OnErr result (IsSame self.old.clients self.new.clients) }
+        ensures layers { self.new.layers ≡ self.old.layers }
+    {
+        self.clients.attach(self.alloc)
+    }
+
+    /// Whether a client of this number is attached.
+    pub(crate) fn is_attached(&self, client: u64) -> bool
+        ensures there { result ≡ attaching.is_attached self.now.clients client }
+        ensures state { (s : State) → IsStateOf self.now s → result ≡ runs.is_attached s client }
+    {
+        self.clients.get(client).is_some()
+    }
+
+    /// How many clients are attached.
+    pub(crate) fn clients_attached(&self) -> u64
+        ensures { result ≡ btree_map_len self.now.clients.attached }
+    {
+        self.clients.len() as u64
+    }
+
+    /// Detaches a client, which closes its descriptors.
+    pub(crate) fn detach(&mut self, client: u64)
+        ensures leaves { (s : State) → IsStateOf self.old s → (t : State) × Leaves Nothing s client t × IsStateOf self.new t }
+        ensures clients { Detaches self.old.clients self.new.clients client }
+        ensures layers { self.new.layers ≡ self.old.layers }
+    {
+        self.clients.detach(client);
+    }
+
+    /// Makes a call of a client that is attached. Offered are stat, readlink, mkdir, symlink, open of a directory for reading, unlink,
+    /// rmdir, seek, list and close; another is EOPNOTSUPP and changes nothing. Want of memory leaves all that is shown as it was.
+    pub(crate) fn perform(&mut self, client: u64, call: &Call) -> Result<Reply, AllocError>
+        requires there { IsSome (get nat_cmp self.old.clients.attached client) }
+        requires state { ∥ HasStateOf self.old ∥₁ }
+        ensures serves { IfOk result (λ reply. is_offered call.now ≡ true → (s : State) → IsStateOf self.old s → Serves (refusal s client call.now) s client call.now reply self.new) }
+        ensures unoffered { IfOk result (λ reply. is_offered call.now ≡ false → (reply ≡ Reply.Refused Errno.EOPNOTSUPP) × (self.new ≡ self.old)) }
+        ensures err { OnErr result (StaysState self.old self.new) }
+        ensures memory { takes_no_memory call.now ≡ true → IsOk result }
+        ensures clients { KeepsAttached self.old.clients self.new.clients }
+        ensures layers { UnlessChange call.now (self.new.layers ≡ self.old.layers) }
+        ensures lowers { self.new.layers.lowers ≡ self.old.layers.lowers }
+        ensures thin { StaysThin self.old.layers self.new.layers }
+    {
+        match call {
+            Call::Stat { path } => Ok(self.stat(path)),
+            Call::Readlink { path } => self.readlink(path),
+            Call::Mkdir { path, mode } => self.mkdir(path, *mode),
+            Call::Symlink { target, path } => self.symlink(target, path),
+            Call::Unlink { path } => self.unlink(path),
+            Call::Rmdir { path } => self.rmdir(path),
+            Call::Open { path, flags, mode } => self.open(client, path, *flags, *mode),
+            Call::Seek {
+                descriptor,
+                offset,
+                whence,
+            } => Ok(self.seek(client, *descriptor, *offset, *whence)),
+            Call::ListNames { descriptor, count } => self.list(client, *descriptor, *count),
+            Call::Close { descriptor } => Ok(self.close(client, *descriptor)),
+            _ => Ok(Reply::Refused(Errno::EOPNOTSUPP)),
+        }
+    }
+
+    fn stat(&self, path: &Path) -> Reply
+        ensures { (s : State) → IsStateOf self.now s → (c : ℕ) → Serves (refusal s c (Call.Stat path.now)) s c (Call.Stat path.now) result self.now }
+    {
+        match status_at(&self.layers, path) {
+            Ok(status) => Reply::Status(status),
+            Err(errno) => Reply::Refused(errno),
+        }
+    }
+
+    fn readlink(&self, path: &Path) -> Result<Reply, AllocError>
+        ensures { IfOk result (λ reply. (s : State) → IsStateOf self.now s → (c : ℕ) → Serves (refusal s c (Call.Readlink path.now)) s c (Call.Readlink path.now) reply self.now) }
+    {
+        match self.layers.walk(path) {
+            Ok(Found::Inode(place)) => read_link(self.layers.node(place)),
+            Ok(Found::Directory(_)) => Ok(Reply::Refused(Errno::EINVAL)),
+            Err(errno) => Ok(Reply::Refused(errno)),
+        }
+    }
+
+    fn mkdir(&mut self, path: &Path, mode: u32) -> Result<Reply, AllocError>
+        ensures serves { IfOk result (λ reply. (s : State) → IsStateOf self.old s → (c : ℕ) → Serves (refusal s c (Call.Mkdir path.now mode)) s c (Call.Mkdir path.now mode) reply self.new) }
+        ensures err { OnErr result (StaysState self.old self.new) }
+        ensures clients { self.new.clients ≡ self.old.clients }
+        ensures lowers { self.new.layers.lowers ≡ self.old.layers.lowers }
+        ensures thin { StaysThin self.old.layers self.new.layers }
+    {
+        match mkdir(self.alloc, &mut self.layers, path, mode)? {
+            Ok(()) => Ok(Reply::Done),
+            Err(errno) => Ok(Reply::Refused(errno)),
+        }
+    }
+
+    fn symlink(&mut self, target: &Bytes, path: &Path) -> Result<Reply, AllocError>
+        ensures serves { IfOk result (λ reply. (s : State) → IsStateOf self.old s → (c : ℕ) → Serves (refusal s c (Call.Symlink target.now path.now)) s c (Call.Symlink target.now path.now) reply self.new) }
+        ensures err { OnErr result (StaysState self.old self.new) }
+        ensures clients { self.new.clients ≡ self.old.clients }
+        ensures lowers { self.new.layers.lowers ≡ self.old.layers.lowers }
+        ensures thin { StaysThin self.old.layers self.new.layers }
+    {
+        match symlink(self.alloc, &mut self.layers, target.clone()?, path)? {
+            Ok(()) => Ok(Reply::Done),
+            Err(errno) => Ok(Reply::Refused(errno)),
+        }
+    }
+
+    fn unlink(&mut self, path: &Path) -> Result<Reply, AllocError>
+        ensures serves { IfOk result (λ reply. (s : State) → IsStateOf self.old s → (c : ℕ) → Serves (refusal s c (Call.Unlink path.now)) s c (Call.Unlink path.now) reply self.new) }
+        ensures err { OnErr result (StaysState self.old self.new) }
+        ensures clients { self.new.clients ≡ self.old.clients }
+        ensures lowers { self.new.layers.lowers ≡ self.old.layers.lowers }
+        ensures thin { StaysThin self.old.layers self.new.layers }
+    {
+        match unlink_and_free(&mut self.layers, path)? {
+            Ok(()) => Ok(Reply::Done),
+            Err(errno) => Ok(Reply::Refused(errno)),
+        }
+    }
+
+    fn rmdir(&mut self, path: &Path) -> Result<Reply, AllocError>
+        requires { ∥ HasStateOf self.old ∥₁ }
+        ensures serves { IfOk result (λ reply. (s : State) → IsStateOf self.old s → (c : ℕ) → Serves (refusal s c (Call.Rmdir path.now)) s c (Call.Rmdir path.now) reply self.new) }
+        ensures err { OnErr result (StaysState self.old self.new) }
+        ensures clients { KeepsAttached self.old.clients self.new.clients }
+        ensures lowers { self.new.layers.lowers ≡ self.old.layers.lowers }
+        ensures thin { StaysThin self.old.layers self.new.layers }
+    {
+        self.clients.lawful();
+        let attributes = self.attributes_left(path)?;
+        match rmdir_and_free(&mut self.layers, path)? {
+            Ok(()) => {
+                if let Some(attributes) = attributes {
+                    self.clients.remove(path, attributes);
+                }
+                Ok(Reply::Done)
+            }
+            Err(errno) => Ok(Reply::Refused(errno)),
+        }
+    }
+
+    // A copy of the attributes of the directory at a path, where it is open, for the handles that hold it once it is removed.
+    fn attributes_left(&self, path: &Path) -> Result<Option<Attributes>, AllocError>
+        ensures { IfOk result (λ left. IfNone left (rmdir_fault (layers_of self.now.layers) path.now false ≡ None → IsOpenNowhere self.now.clients path.now)) }
+    {
+        if !self.clients.is_open_at(path) {
+            return Ok(None);
+        }
+        match self.layers.walk(path) {
+            Ok(Found::Directory(stack)) => {
+                Ok(Some(attributes_at(&self.layers, stack.top()).clone()?))
+            }
+            _ => Ok(None),
+        }
+    }
+
+    fn open(
+        &mut self,
+        client: u64,
+        path: &Path,
+        flags: OpenFlags,
+        mode: u32,
+    ) -> Result<Reply, AllocError>
+        requires { IsSome (get nat_cmp self.old.clients.attached client) }
+        ensures serves { IfOk result (λ reply. reads_directory flags ≡ true → (s : State) → IsStateOf self.old s → Serves (refusal s client (Call.Open path.now flags mode)) s client (Call.Open path.now flags mode) reply self.new) }
+        ensures unoffered { IfOk result (λ reply. reads_directory flags ≡ false → (reply ≡ Reply.Refused Errno.EOPNOTSUPP) × (self.new ≡ self.old)) }
+        ensures err { OnErr result (StaysState self.old self.new) }
+        ensures clients { KeepsAttached self.old.clients self.new.clients }
+        ensures layers { self.new.layers ≡ self.old.layers }
+    {
+        if let Err(errno) = self.may_open(path, flags, mode) {
+            return Ok(Reply::Refused(errno));
+        }
+        match self.clients.open(client, path)? {
+            Ok(descriptor) => Ok(Reply::Descriptor(descriptor)),
+            Err(errno) => Ok(Reply::Refused(errno)),
+        }
+    }
+
+    // Whether a directory stands there that these flags and this mode open; a symbolic link isn't followed.
+    fn may_open(&self, path: &Path, flags: OpenFlags, mode: u32) -> Result<(), Errno>
+        ensures { MatchResult result (λ _. directory_fault (layers_of self.now.layers) path.now flags mode ≡ None) (λ e. directory_fault (layers_of self.now.layers) path.now flags mode ≡ Some e) }
+    {
+        if !reads_directory(flags) {
+            return Err(Errno::EOPNOTSUPP);
+        }
+        if mode > MODE_BITS {
+            return Err(Errno::EINVAL);
+        }
+        match self.layers.walk(path)? {
+            Found::Directory(_) => Ok(()),
+            Found::Inode(place) => Err(self.layers.blocked(place)),
+        }
+    }
+
+    fn seek(&mut self, client: u64, descriptor: u32, offset: i64, whence: u8) -> Reply
+        ensures serves { (s : State) → IsStateOf self.old s → Serves (refusal s client (Call.Seek descriptor offset whence)) s client (Call.Seek descriptor offset whence) result self.new }
+        ensures clients { KeepsAttached self.old.clients self.new.clients }
+        ensures layers { self.new.layers ≡ self.old.layers }
+    {
+        if let Some(errno) = self.seek_refusal(client, descriptor, offset, whence) {
+            return Reply::Refused(errno);
+        }
+        self.clients.rewind(client, descriptor);
+        Reply::Place(0)
+    }
+
+    // Why a seek is refused: nothing is open, or it isn't to the start of the directory.
+    fn seek_refusal(&self, client: u64, descriptor: u32, offset: i64, whence: u8) -> Option<Errno>
+        ensures { result ≡ seek_fault (opened_by self.now.clients client descriptor) offset whence }
+    {
+        if self.clients.opened(client, descriptor).is_none() {
+            return Some(Errno::EBADF);
+        }
+        if offset != 0 || whence != 0 {
+            return Some(Errno::EINVAL);
+        }
+        None
+    }
+
+    fn list(&mut self, client: u64, descriptor: u32, count: u32) -> Result<Reply, AllocError>
+        ensures serves { IfOk result (λ reply. (s : State) → IsStateOf self.old s → Serves (refusal s client (Call.ListNames descriptor count)) s client (Call.ListNames descriptor count) reply self.new) }
+        ensures err { OnErr result (StaysState self.old self.new) }
+        ensures clients { KeepsAttached self.old.clients self.new.clients }
+        ensures layers { self.new.layers ≡ self.old.layers }
+    {
+        if self.clients.opened(client, descriptor).is_none() {
+            return Ok(Reply::Refused(Errno::EBADF));
+        }
+        if count == 0 || count > LIST_MAX {
+            return Ok(Reply::Refused(Errno::EINVAL));
+        }
+        let names = self.page(client, descriptor, count as usize)?;
+        Ok(Reply::Names(names))
+    }
+
+    // Gives the next names of the listing of an open directory, at most so many. The first call makes the listing.
+    fn page(&mut self, client: u64, descriptor: u32, count: usize) -> Result<NameList, AllocError>
+        requires { IsSome (opened_by self.old.clients client descriptor) }
+        ensures pages { IfOk result (λ names. Pages self.old self.new client descriptor count names) }
+        ensures err { OnErr result (StaysState self.old self.new) }
+        ensures clients { KeepsAttached self.old.clients self.new.clients }
+        ensures layers { self.new.layers ≡ self.old.layers }
+    {
+        let directory = self.clients.opened(client, descriptor).unwrap();
+        if directory.listing.is_listed() {
+            return self
+                .clients
+                .next_names(self.alloc, client, descriptor, count);
+        }
+        let path = self.clients.path(self.alloc, client, descriptor)?;
+        let mut listing = listing_of(self.alloc, &self.layers, path)?;
+        let names = listing.next(self.alloc, count)?;
+        self.clients.keep_listing(client, descriptor, listing);
+        Ok(names)
+    }
+
+    fn close(&mut self, client: u64, descriptor: u32) -> Reply
+        requires { IsSome (get nat_cmp self.old.clients.attached client) }
+        ensures serves { (s : State) → IsStateOf self.old s → Serves (refusal s client (Call.Close descriptor)) s client (Call.Close descriptor) result self.new }
+        ensures clients { KeepsAttached self.old.clients self.new.clients }
+        ensures layers { self.new.layers ≡ self.old.layers }
+    {
+        match self.clients.close(client, descriptor) {
+            Ok(()) => Reply::Done,
+            Err(errno) => Reply::Refused(errno),
+        }
+    }
+}
+
+// Whether the flags are those of a directory that is opened for reading.
+fn reads_directory(flags: OpenFlags) -> bool
+    ensures { result ≡ opening.reads_directory flags }
+{
+    let changes = flags.writes || flags.create || flags.exclusive || flags.truncate;
+    flags.reads && flags.directory && !changes && !flags.append && !flags.unknown
+}
+
+// The reply to readlink of a file or symbolic link: a file is EINVAL.
+fn read_link(node: Option<&Node>) -> Result<Reply, AllocError>
+    ensures { IfOk result (λ reply. reply ≡ target_reply (inode_target (option_and_then inode_of (option_copied node.entry)))) }
+{
+    match node {
+        Some(
+            Node::Inode(
+                Inode {
+                    content: Content::SymbolicLink(target),
+                    ..
+                },
+            ),
+        ) => Ok(Reply::Target(target.clone()?)),
+        _ => Ok(Reply::Refused(Errno::EINVAL)),
+    }
+}
+
+// A listing of the names in the directory at a path now; one that was removed has no path, and no names.
+fn listing_of(alloc: Global, layers: &Layers, path: Option<Path>) -> Result<Cursor, AllocError>
+    ensures { IfOk result (λ listing. IsSomeAnd listing (AreNamesIn (layers_of layers.now) path)) }
+{
+    let Some(path) = path else {
+        return Ok(Cursor::over(Vec::new(alloc)));
+    };
+    match layers.walk(&path) {
+        Ok(Found::Directory(stack)) => Ok(Cursor::over(names(alloc, layers, &stack)?)),
+        _ => Ok(Cursor::over(Vec::new(alloc))),
+    }
+}

@@ -1,0 +1,82 @@
+// `unlink` and `rmdir`, where what loses its last name is freed at once.
+ghost use Rattle.std.specs.Prelude.{◌≡◌, ℕ, Bool, false, Some, None, IfOk, IfErr, OnOk, OnErr};
+ghost use Rattle.ov_base.specs.declared.call.Call.TheVariants as call;
+ghost use Rattle.plain_model.specs.Machine.{State};
+ghost use Rattle.plain_model.specs.Refusals.{refusal};
+ghost use Rattle.mount_laws.specs.Looks.{IsMountOf};
+ghost use Rattle.mount_laws.specs.Removals.{unlink_fault, rmdir_fault, ShowsNoName, Removes};
+ghost use Rattle.dir_listing.specs.Shown.{TellsNames};
+ghost use Rattle.layer_tree.specs.Tree.{layer_of, SameObjects};
+ghost use Rattle.layer_tree.specs.Nameless.{IsNameless};
+ghost use Rattle.merged_lookup.specs.Merged.{layers_of, lowers_of};
+ghost use Rattle.copy_up.specs.Showing.{ShowsSame, StaysLayers, StaysMount, StaysThin};
+ghost use Rattle.make_remove.specs.Removing.{TakesName};
+
+use make_remove::{free, rmdir, unlink};
+use merged_lookup::Layers;
+use ov_base::{Errno, Path};
+use std::alloc::AllocError;
+
+/// `unlink`, which frees the inode whose last name this was.
+pub(crate) fn unlink_and_free(
+    layers: &mut Layers,
+    path: &Path,
+) -> Result<Result<(), Errno>, AllocError>
+    ensures refused { IfOk result (λ r. IfErr r (λ e. unlink_fault (layers_of layers.old) path.now ≡ Some e)) }
+    ensures unchanged { IfOk result (λ r. OnErr r (layers.new ≡ layers.old)) }
+    ensures allowed { IfOk result (λ r. OnOk r (unlink_fault (layers_of layers.old) path.now ≡ None)) }
+    ensures takes { IfOk result (λ r. OnOk r (TakesName layers.old layers.new path.now)) }
+    ensures steps { IfOk result (λ r. OnOk r ((s : State) → IsMountOf (layer_of layers.old.upper) (lowers_of layers.old) s → (c : ℕ) → Removes (layer_of layers.new.upper) (lowers_of layers.new) s c path.now (call.Unlink path.now))) }
+    ensures keeps { StaysLayers layers.old layers.new }
+    ensures thin { StaysThin layers.old layers.new }
+    ensures no_memory { OnErr result (ShowsSame layers.old layers.new) }
+    ensures mounts { OnErr result (StaysMount layers.old layers.new) }
+{
+    match unlink(layers, path)? {
+        Ok(key) => {
+            free_released(layers, key);
+            Ok(Ok(()))
+        }
+        Err(errno) => Ok(Err(errno)),
+    }
+}
+
+/// `rmdir`, which frees the upper's directory.
+pub(crate) fn rmdir_and_free(
+    layers: &mut Layers,
+    path: &Path,
+) -> Result<Result<(), Errno>, AllocError>
+    ensures refused { IfOk result (λ r. IfErr r (λ e. (full : Bool) → TellsNames (layers_of layers.old) path.now full → rmdir_fault (layers_of layers.old) path.now full ≡ Some e)) }
+    ensures refuses { IfOk result (λ r. IfErr r (λ e. (s : State) → IsMountOf (layer_of layers.old.upper) (lowers_of layers.old) s → (c : ℕ) → refusal s c (call.Rmdir path.now) ≡ Some e)) }
+    ensures unchanged { IfOk result (λ r. OnErr r (layers.new ≡ layers.old)) }
+    ensures allowed { IfOk result (λ r. OnOk r (rmdir_fault (layers_of layers.old) path.now false ≡ None)) }
+    ensures bare { IfOk result (λ r. OnOk r (ShowsNoName (layers_of layers.old) path.now)) }
+    ensures takes { IfOk result (λ r. OnOk r (TakesName layers.old layers.new path.now)) }
+    ensures steps { IfOk result (λ r. OnOk r ((s : State) → IsMountOf (layer_of layers.old.upper) (lowers_of layers.old) s → (c : ℕ) → Removes (layer_of layers.new.upper) (lowers_of layers.new) s c path.now (call.Rmdir path.now))) }
+    ensures keeps { StaysLayers layers.old layers.new }
+    ensures thin { StaysThin layers.old layers.new }
+    ensures no_memory { OnErr result (ShowsSame layers.old layers.new) }
+    ensures mounts { OnErr result (StaysMount layers.old layers.new) }
+{
+    match rmdir(layers, path)? {
+        Ok(key) => {
+            free_released(layers, key);
+            Ok(Ok(()))
+        }
+        Err(errno) => Ok(Err(errno)),
+    }
+}
+
+// Frees what lost its last name, if anything did.
+fn free_released(layers: &mut Layers, released: Option<usize>)
+    requires { (key : ℕ) → released ≡ Some key → IsNameless layers.old.upper key }
+    ensures held { SameObjects (layer_of layers.old.upper) (layer_of layers.new.upper) }
+    ensures same { ShowsSame layers.old layers.new }
+    ensures keeps { StaysLayers layers.old layers.new }
+    ensures mounts { StaysMount layers.old layers.new }
+    ensures thin { StaysThin layers.old layers.new }
+{
+    if let Some(key) = released {
+        free(layers, key);
+    }
+}

@@ -1,9 +1,0 @@
-pub mod Descriptors
-pub mod Status
-pub mod Listings
-pub mod Clients
-pub mod Attaching
-pub mod Mounts
-pub mod Opening
-pub mod States
-pub mod Removing
