@@ -75,9 +75,9 @@ parent-held t [] n h = refl
 parent-held t (m ∷ p) n h = step-held t (key_at t p) m n (some-first (seen_entry t) (entry_at t (n ∷ m ∷ p)) h)
 
 -- places by the cut of the layer above them
-pub descend-unless : (f : ℕ) (ts : List Tree) (c : Bool) (s : List Place) (n : Name) → descend f ts (unless_cut c s) n ≡ unless_cut c (descend f ts s n)
-descend-unless f ts true s n = refl
-descend-unless f ts false s n = refl
+pub descend-unless : (ts : List Tree) (c : Bool) (s : List Place) (n : Name) → descend ts (unless_cut c s) n ≡ unless_cut c (descend ts s n)
+descend-unless ts true s n = refl
+descend-unless ts false s n = refl
 
 -- one name on at layer i, where o is held at the name and q is the directory's spelling
 onward-level : (i : ℕ) (Ls : List Layer) (q : Path) (n : Name) (c : Bool) (o : Option Object) (rest : Name → List Place) → ((m : Name) → rest m ≡ unless_cut c (places_at (suc i) Ls (m ∷ q))) → onward o i n rest (places_at (suc i) Ls) ≡ level i o (unless_cut (cut o c) (places_at (suc i) Ls (spell o n q)))
@@ -91,38 +91,34 @@ onward-level i Ls q n c (Some (Directory k a false None)) rest h = ap (λ z. rec
 onward-level i Ls q n c (Some (Directory k a false (Some (redirect.Single m)))) rest h = ap (λ z. record { layer = i; key = k } ∷ z) (h m)
 onward-level i Ls q n c (Some (Directory k a false (Some (redirect.Absolute r)))) rest h = refl
 
-not-less : (f i : ℕ) → f ≤ i → nat_lt i f ≡ false
-not-less f i h = grind arith
-
-module _ (f i : ℕ) (ts : List Tree) (t : Tree) (us : List Tree) (within : f ≤ i) (at : slice_get ts i ≡ Some t) (past : drop (suc i) ts ≡ us) (p q : Path) (n : Name) (c : Bool) (rest : (m : Name) → descend f ts (places_at (suc i) (map layer_of us) q) m ≡ places_at (suc i) (map layer_of us) (m ∷ q)) where
+module _ (i : ℕ) (ts : List Tree) (t : Tree) (us : List Tree) (at : slice_get ts i ≡ Some t) (past : drop (suc i) ts ≡ us) (p q : Path) (n : Name) (c : Bool) (rest : (m : Name) → descend ts (places_at (suc i) (map layer_of us) q) m ≡ places_at (suc i) (map layer_of us) (m ∷ q)) where
   -- from the directory of this layer
-  descend-here : (k : ℕ) (o : Option Object) → holds_in t k n ≡ o → descend f ts (record { layer = i; key = k } ∷ unless_cut c (places_at (suc i) (map layer_of us) q)) n ≡ level i o (unless_cut (cut o c) (places_at (suc i) (map layer_of us) (spell o n q)))
+  descend-here : (k : ℕ) (o : Option Object) → holds_in t k n ≡ o → descend ts (record { layer = i; key = k } ∷ unless_cut c (places_at (suc i) (map layer_of us) q)) n ≡ level i o (unless_cut (cut o c) (places_at (suc i) (map layer_of us) (spell o n q)))
   descend-here k o e =
-      let rests : Name → List Place = λ m. descend f ts (unless_cut c (places_at (suc i) (map layer_of us) q)) m in
-      ap (λ b. cond b [] (onward_in (slice_get ts i) ts (record { layer = i; key = k }) n rests)) (not-less f i within)
-      ∙ ap (λ x. onward_in x ts (record { layer = i; key = k }) n rests) at
+      let rests : Name → List Place = λ m. descend ts (unless_cut c (places_at (suc i) (map layer_of us) q)) m in
+      ap (λ x. onward_in x ts (record { layer = i; key = k }) n rests) at
       ∙ ap (λ x. onward x i n rests (anew ts i)) e
       ∙ ap (λ j. onward o i n rests (places_from j ts)) (add-one i)
       ∙ ap (λ vs. onward o i n rests (λ r. places_at (suc i) (map layer_of vs) r)) past
-      ∙ onward-level i (map layer_of us) q n c o rests (λ m. descend-unless f ts c (places_at (suc i) (map layer_of us) q) m ∙ ap (unless_cut c) (rest m))
+      ∙ onward-level i (map layer_of us) q n c o rests (λ m. descend-unless ts c (places_at (suc i) (map layer_of us) q) m ∙ ap (unless_cut c) (rest m))
 
   -- u is held at p and o at n in p
-  descend-level : (u o : Option Object) → (is_some o ≡ true → holds_directory u ≡ true) → (hides u ≡ true → c ≡ true) → ((k : ℕ) (a : Attributes) (b : Bool) (r : Option Redirect) → u ≡ Some (Directory k a b r) → holds_in t k n ≡ o) → descend f ts (level i u (unless_cut c (places_at (suc i) (map layer_of us) q))) n ≡ level i o (unless_cut (cut o c) (places_at (suc i) (map layer_of us) (spell o n q)))
+  descend-level : (u o : Option Object) → (is_some o ≡ true → holds_directory u ≡ true) → (hides u ≡ true → c ≡ true) → ((k : ℕ) (a : Attributes) (b : Bool) (r : Option Redirect) → u ≡ Some (Directory k a b r) → holds_in t k n ≡ o) → descend ts (level i u (unless_cut c (places_at (suc i) (map layer_of us) q))) n ≡ level i o (unless_cut (cut o c) (places_at (suc i) (map layer_of us) (spell o n q)))
   descend-level (Some (Directory k a b r)) o up hidden is = descend-here k o (is k a b r refl)
-  descend-level None None up hidden is = descend-unless f ts c (places_at (suc i) (map layer_of us) q) n ∙ ap (unless_cut c) (rest n)
-  descend-level (Some (Named k)) None up hidden is = descend-unless f ts c (places_at (suc i) (map layer_of us) q) n ∙ ap (unless_cut c) (rest n)
-  descend-level (Some Whiteout) None up hidden is = descend-unless f ts c (places_at (suc i) (map layer_of us) q) n ∙ ap (unless_cut c) (rest n)
+  descend-level None None up hidden is = descend-unless ts c (places_at (suc i) (map layer_of us) q) n ∙ ap (unless_cut c) (rest n)
+  descend-level (Some (Named k)) None up hidden is = descend-unless ts c (places_at (suc i) (map layer_of us) q) n ∙ ap (unless_cut c) (rest n)
+  descend-level (Some Whiteout) None up hidden is = descend-unless ts c (places_at (suc i) (map layer_of us) q) n ∙ ap (unless_cut c) (rest n)
   descend-level None (Some x) up hidden is = absurd (false≢true (up refl))
   descend-level (Some (Named k)) (Some x) up hidden is = absurd (false≢true (up refl))
   descend-level (Some Whiteout) (Some x) up hidden is = absurd (false≢true (up refl))
 
 -- the descent from the places of a directory leads to those of a name in it
-pub descend-places : (f i : ℕ) (ts us : List Tree) → f ≤ i → drop i ts ≡ us → (p : Path) (n : Name) → descend f ts (places_at i (map layer_of us) p) n ≡ places_at i (map layer_of us) (n ∷ p)
-descend-places f i ts [] within e p n = refl
-descend-places f i ts (t ∷ us) within e p n =
+pub descend-places : (i : ℕ) (ts us : List Tree) → drop i ts ≡ us → (p : Path) (n : Name) → descend ts (places_at i (map layer_of us) p) n ≡ places_at i (map layer_of us) (n ∷ p)
+descend-places i ts [] e p n = refl
+descend-places i ts (t ∷ us) e p n =
     let d : (slice_get ts i ≡ Some t) × (drop (suc i) ts ≡ us) = drop-get ts i t us e in
-    descend-level f i ts t us within d.0 d.1 p (below (layer_of t) p) n (cuts (layer_of t) p)
-    (λ m. descend-places f (suc i) ts us (omega arith) d.1 (below (layer_of t) p) m)
+    descend-level i ts t us d.0 d.1 p (below (layer_of t) p) n (cuts (layer_of t) p)
+    (λ m. descend-places (suc i) ts us d.1 (below (layer_of t) p) m)
     (held (layer_of t) p) (held (layer_of t) (n ∷ p)) (parent-held t p n) (hides-cuts (layer_of t) p)
     (λ k a b r h. sym (held-in t p k n (key-of t p k a b r h)))
 
@@ -220,13 +216,13 @@ roots-step i ts done all h e =
     ∙ e
 
 -- one name of a path on, in the layers from i on
-pub walk-step : (i : ℕ) (ts : List Tree) (s : List Place) (p : Path) (n : Name) → length ts ≤ 17 → s ≡ places_from i ts p → (length (descend i ts s n) ≤ 17) × (descend i ts s n ≡ places_from i ts (n ∷ p))
+pub walk-step : (i : ℕ) (ts : List Tree) (s : List Place) (p : Path) (n : Name) → length ts ≤ 17 → s ≡ places_from i ts p → (length (descend ts s n) ≤ 17) × (descend ts s n ≡ places_from i ts (n ∷ p))
 walk-step i ts s p n few e =
-    let next : descend i ts s n ≡ places_from i ts (n ∷ p) = ap (λ s. descend i ts s n) e ∙ descend-places i i ts (drop i ts) (omega arith) refl p n in
+    let next : descend ts s n ≡ places_from i ts (n ∷ p) = ap (λ s. descend ts s n) e ∙ descend-places i ts (drop i ts) refl p n in
     let short : length (places_at i (map layer_of (drop i ts)) (n ∷ p)) ≤ length (map layer_of (drop i ts)) = length-places i (map layer_of (drop i ts)) (n ∷ p) in
     let same : length (map layer_of (drop i ts)) ≡ length (drop i ts) = simp length-map in
     let fewer : length (drop i ts) ≡ length ts - i = length-drop i ts in
-    let e_len : length (descend i ts s n) ≡ length (places_at i (map layer_of (drop i ts)) (n ∷ p)) = ap length next in
+    let e_len : length (descend ts s n) ≡ length (places_at i (map layer_of (drop i ts)) (n ∷ p)) = ap length next in
     (omega arith, next)
 
 -- the names up to one more, last first

@@ -1,7 +1,8 @@
 -- What one step, and a walk of several, show.
 use Rattle.std.proofs.Common.{◌≡◌, ℕ, suc, ◌<◌, ◌≤◌, ◌+◌, ◌++◌, Bool, true, false, not, List, [], ◌∷◌, Option, None, Some, refl, sym, ap, ◌∙◌, subst, is_some, length, map, slice_get, drop, take, reverse, arith, nat_eq, cond, get_or, MatchOption}
-use Rattle.std.proofs.lemmas.List.{reverse-reverse, reverse-append, length-reverse, take-append-drop, length-map}
-use Rattle.std.specs.Option.{option_and_then}
+use Rattle.std.proofs.lemmas.Bool.{false≢true}
+use Rattle.std.proofs.lemmas.List.{reverse-reverse, reverse-append, length-reverse, take-append-drop}
+use Rattle.std.specs.Option.{option_and_then, option_map}
 use Rattle.slab.specs.Slab.{get}
 use Rattle.ov_base.specs.declared.attributes.Attributes.{Attributes}
 use Rattle.ov_base.specs.declared.errno.Errno.{Errno}
@@ -11,11 +12,11 @@ use Rattle.layer_tree.specs.Tree.{Tree, layer_of, inode_at, inode_of}
 use Rattle.merged_lookup.specs.declared.stack.Place.{Place}
 use Rattle.merged_lookup.specs.declared.stack.Stack.{Stack}
 use Rattle.merged_lookup.specs.declared.layers.Layers.{Layers}
-use Rattle.merged_lookup.specs.declared.found.Found.{Found}
-use Rattle.merged_lookup.specs.declared.found.Found.TheVariants as found
-use Rattle.merged_lookup.specs.Merged.{trees, layers_of, IsStackOf, ShowsDirectory, ShowsInode, ShowsNothing, IsAnswer, level, unless_cut, places_at, top_of, fault, or_else, way_fault, inode_fault, node_in}
-use Rattle.merged_lookup.specs.Descent.{places_from, descend, first, without_upper}
-use Rattle.merged_lookup.proofs.Descending.{IsTop, top-shown, place_of, first-places, first-unless, shown-inode, shown-none, walk-step, descend-places, descend-unless, length-places, drop-get, reverse-more}
+use Rattle.merged_lookup.specs.declared.found.Topmost.{Topmost}
+use Rattle.merged_lookup.specs.declared.found.Topmost.TheVariants as shown
+use Rattle.merged_lookup.specs.Merged.{trees, layers_of, IsStackOf, ShowsDirectory, ShowsInode, ShowsNothing, IsTopmost, level, unless_cut, places_at, top_of, fault, or_else, way_fault, inode_fault, node_in, place_fault}
+use Rattle.merged_lookup.specs.Descent.{places_from, descend, first, place_shown, leads, without_upper}
+use Rattle.merged_lookup.proofs.Descending.{IsTop, top-shown, place_of, first-places, first-unless, shown-inode, shown-none, walk-step, descend-places, descend-unless, drop-get, reverse-more}
 
 -- the first of some places is the directory shown
 pub top-of : (s : List Place) (x : Option Shown) → 0 < length s → IsTop s x → (a : Attributes) × (x ≡ Some (Folder (top_of s).layer (top_of s).key a))
@@ -27,10 +28,14 @@ pub no-top : (s : List Place) (x : Option Shown) → length s ≡ 0 → IsTop s 
 no-top [] x h t = t
 no-top (d ∷ ds) x h t = absurd (omega (arith, h))
 
+empty : (s : List Place) → length s ≡ 0 → s ≡ []
+empty [] h = refl
+empty (d ∷ ds) h = absurd (omega (arith, h))
+
 -- the answers that a step is put together of
-module _ (ts : List Tree) (s : List Place) (p : Path) (n : Name) (few : length ts ≤ 17) (is : s ≡ places_at 0 (map layer_of ts) p) (reached : List Place) (exact : length (descend 0 ts s n) ≤ 17 → reached ≡ descend 0 ts s n) where
+module _ (ts : List Tree) (s : List Place) (p : Path) (n : Name) (few : length ts ≤ 17) (is : s ≡ places_at 0 (map layer_of ts) p) (reached : List Place) (exact : length (descend ts s n) ≤ 17 → reached ≡ descend ts s n) where
   reached-is : reached ≡ places_at 0 (map layer_of ts) (n ∷ p)
-  reached-is = let w : (length (descend 0 ts s n) ≤ 17) × (descend 0 ts s n ≡ places_from 0 ts (n ∷ p)) = walk-step 0 ts s p n few is in exact w.0 ∙ w.1
+  reached-is = let w : (length (descend ts s n) ≤ 17) × (descend ts s n ≡ places_from 0 ts (n ∷ p)) = walk-step 0 ts s p n few is in exact w.0 ∙ w.1
 
   top-is : IsTop reached (shows 0 (map layer_of ts) (n ∷ p))
   top-is = let P : List Place → Type 0 = λ z. IsTop z (shows 0 (map layer_of ts) (n ∷ p)) in subst P (sym reached-is) (top-shown 0 (map layer_of ts) (n ∷ p))
@@ -49,26 +54,40 @@ module _ (ts : List Tree) (s : List Place) (p : Path) (n : Name) (few : length t
   step-nothing : first ts s n ≡ None → shows 0 (map layer_of ts) (n ∷ p) ≡ None
   step-nothing e = shown-none (shows 0 (map layer_of ts) (n ∷ p)) (sym first-is ∙ e)
 
-module _ (l : Layers) (s : Stack) (asked : List Place) (same : asked ≡ s.places.items) (n : Name) (few : length (trees l) ≤ 17) (reached : List Place) (exact : length (descend 0 (trees l) asked n) ≤ 17 → reached ≡ descend 0 (trees l) asked n) (p : Path) (is : IsStackOf l p s) where
+module _ (l : Layers) (s : List Place) (n : Name) (few : length (trees l) ≤ 17) (reached : List Place) (exact : length (descend (trees l) s n) ≤ 17 → reached ≡ descend (trees l) s n) (p : Path) (is : s ≡ places_at 0 (layers_of l) p) where
   pub step-directory : 0 < length reached → ShowsDirectory l (n ∷ p) reached
   step-directory h =
-      let t : (a : Attributes) × (shows 0 (map layer_of (trees l)) (n ∷ p) ≡ Some (Folder (top_of reached).layer (top_of reached).key a)) = step-top (trees l) asked p n few (same ∙ is.places) reached exact h in
-      record { attributes = t.0; shown = t.1; places = reached-is (trees l) asked p n few (same ∙ is.places) reached exact }
+      let t : (a : Attributes) × (shows 0 (map layer_of (trees l)) (n ∷ p) ≡ Some (Folder (top_of reached).layer (top_of reached).key a)) = step-top (trees l) s p n few is reached exact h in
+      record { attributes = t.0; shown = t.1; places = reached-is (trees l) s p n few is reached exact }
 
-  pub step-inode : (d : Place) → length reached ≡ 0 → first (trees l) asked n ≡ Some d → ShowsInode l (n ∷ p) d
-  step-inode d h e =
-      let t : (i : Option Inode) × (shows 0 (map layer_of (trees l)) (n ∷ p) ≡ Some (Contents d.layer d.key i)) = step-first (trees l) asked p n few (same ∙ is.places) reached exact d h e in
+  -- an inode where no directory is reached
+  reached-none : (o : Option Place) → length reached ≡ 0 → (length (descend (trees l) s n) ≤ 17 → reached ≡ [] → o ≡ first (trees l) s n) → o ≡ first (trees l) s n
+  reached-none o h e = e (walk-step 0 (trees l) s p n few is).0 (empty reached h)
+
+  pub step-inode : (d : Place) (o : Option Place) → o ≡ Some d → length reached ≡ 0 → (length (descend (trees l) s n) ≤ 17 → reached ≡ [] → o ≡ first (trees l) s n) → ShowsInode l (n ∷ p) d
+  step-inode d o is_d h e =
+      let t : (i : Option Inode) × (shows 0 (map layer_of (trees l)) (n ∷ p) ≡ Some (Contents d.layer d.key i)) = step-first (trees l) s p n few is reached exact d h (sym (reached-none o h e) ∙ is_d) in
       record { inode = t.0; shown = t.1 }
 
-  pub step-none : first (trees l) asked n ≡ None → ShowsNothing l (n ∷ p)
-  step-none e = record { shown = step-nothing (trees l) asked p n few (same ∙ is.places) reached exact e }
+  pub step-none : (o : Option Place) → o ≡ None → length reached ≡ 0 → (length (descend (trees l) s n) ≤ 17 → reached ≡ [] → o ≡ first (trees l) s n) → ShowsNothing l (n ∷ p)
+  step-none o none h e = record { shown = step-nothing (trees l) s p n few is reached exact (sym (reached-none o h e) ∙ none) }
 
--- an answer that is an inode, and one that is nothing
-pub answer-inode : (l : Layers) (p : Path) (o : Option Found) (d : Place) → o ≡ Some (found.Inode d) → IsAnswer l p o → ShowsInode l p d
-answer-inode l p o d e h = let P : Option Found → Type 0 = IsAnswer l p in subst P e h
+-- what is shown is the directory at its place
+shown-folder : (x : Option Shown) (d : Place) → is_directory x ≡ true → place_of x ≡ Some d → (a : Attributes) × (x ≡ Some (Folder d.layer d.key a))
+shown-folder None d f h = absurd (cc)
+shown-folder (Some (Folder i k a)) d f h = (a, cc)
+shown-folder (Some (Contents i k x)) d f h = absurd (false≢true f)
 
-pub answer-none : (l : Layers) (p : Path) (o : Option Found) → o ≡ None → IsAnswer l p o → ShowsNothing l p
-answer-none l p o e h = let P : Option Found → Type 0 = IsAnswer l p in subst P e h
+topmost-by : (l : Layers) (p : Path) (o : Option Topmost) → leads o ≡ is_directory (shows 0 (layers_of l) p) → option_map place_shown o ≡ place_of (shows 0 (layers_of l) p) → IsTopmost l p o
+topmost-by l p None b e = record { shown = shown-none (shows 0 (layers_of l) p) (sym e) }
+topmost-by l p (Some (shown.Directory d)) b e = shown-folder (shows 0 (layers_of l) p) d (sym b) (sym e)
+topmost-by l p (Some (shown.Inode d)) b e =
+    let t : (i : Option Inode) × (shows 0 (layers_of l) p ≡ Some (Contents d.layer d.key i)) = shown-inode (shows 0 (layers_of l) p) d (sym b) (sym e) in
+    record { inode = t.0; shown = t.1 }
+
+pub is_some-shown : (o : Option Topmost) → is_some o ≡ is_some (option_map place_shown o)
+is_some-shown None = refl
+is_some-shown (Some t) = refl
 
 is_some-place : (x : Option Shown) → is_some (place_of x) ≡ is_some x
 is_some-place None = refl
@@ -171,30 +190,28 @@ directory-top : (s : List Place) (x : Option Shown) → IsTop s x → not (nat_e
 directory-top [] x h = sym h
 directory-top (d ∷ ds) x h = ap not (suc-not-zero (length ds)) ∙ sym (ap is_directory h.1)
 
-length-unless : (c : Bool) (s : List Place) (m : ℕ) → length s ≤ m → length (unless_cut c s) ≤ m
-length-unless true s m h = omega arith
-length-unless false s m h = h
+-- the topmost object that a name leads to from the places of a merged directory is what it shows there
+pub topmost-shown : (l : Layers) (s : List Place) (n : Name) → length (trees l) ≤ 17 → (p : Path) → s ≡ places_at 0 (layers_of l) p → (o : Option Topmost) → option_map place_shown o ≡ first (trees l) s n → leads o ≡ not (nat_eq (length (descend (trees l) s n)) 0) → IsTopmost l (n ∷ p) o
+topmost-shown l s n few p is o e b =
+    let next : (length (descend (trees l) s n) ≤ 17) × (descend (trees l) s n ≡ places_from 0 (trees l) (n ∷ p)) = walk-step 0 (trees l) s p n few is in
+    topmost-by l (n ∷ p) o
+    (b ∙ ap (λ z. not (nat_eq (length z) 0)) next.1 ∙ directory-top (places_from 0 (trees l) (n ∷ p)) (shows 0 (layers_of l) (n ∷ p)) (top-shown 0 (layers_of l) (n ∷ p)))
+    (e ∙ ap (λ z. first (trees l) z n) is ∙ first-places 0 (trees l) (trees l) refl p n)
 
 -- what the lower layers show under a name is asked from the places below the upper
-module _ (t : Tree) (us : List Tree) (s : List Place) (p : Path) (n : Name) (few : length us ≤ 16) (is : s ≡ places_at 0 (map layer_of (t ∷ us)) p) (reached : List Place) (exact : length (descend 1 (t ∷ us) (without_upper s) n) ≤ 17 → reached ≡ descend 1 (t ∷ us) (without_upper s) n) where
-  under-is : descend 1 (t ∷ us) (without_upper s) n ≡ unless_cut (cuts (layer_of t) p) (places_at 1 (map layer_of us) (n ∷ below (layer_of t) p))
+module _ (t : Tree) (us : List Tree) (s : List Place) (p : Path) (n : Name) (is : s ≡ places_at 0 (map layer_of (t ∷ us)) p) where
+  under-is : descend (t ∷ us) (without_upper s) n ≡ unless_cut (cuts (layer_of t) p) (places_at 1 (map layer_of us) (n ∷ below (layer_of t) p))
   under-is =
       let lower : List Place = unless_cut (cuts (layer_of t) p) (places_at 1 (map layer_of us) (below (layer_of t) p)) in
       let start : without_upper s ≡ lower = ap without_upper is ∙ without-level (held (layer_of t) p) lower (head-unless (cuts (layer_of t) p) (places_at 1 (map layer_of us) (below (layer_of t) p)) (head-places 1 (map layer_of us) (below (layer_of t) p))) in
-      ap (λ z. descend 1 (t ∷ us) z n) start
-      ∙ descend-unless 1 (t ∷ us) (cuts (layer_of t) p) (places_at 1 (map layer_of us) (below (layer_of t) p)) n
-      ∙ ap (unless_cut (cuts (layer_of t) p)) (descend-places 1 1 (t ∷ us) us (omega arith) refl (below (layer_of t) p) n)
+      ap (λ z. descend (t ∷ us) z n) start
+      ∙ descend-unless (t ∷ us) (cuts (layer_of t) p) (places_at 1 (map layer_of us) (below (layer_of t) p)) n
+      ∙ ap (unless_cut (cuts (layer_of t) p)) (descend-places 1 (t ∷ us) us refl (below (layer_of t) p) n)
 
-  under-few : length (unless_cut (cuts (layer_of t) p) (places_at 1 (map layer_of us) (n ∷ below (layer_of t) p))) ≤ 17
-  under-few =
-      let all : length (places_at 1 (map layer_of us) (n ∷ below (layer_of t) p)) ≤ length (map layer_of us) = length-places 1 (map layer_of us) (n ∷ below (layer_of t) p) in
-      let same : length (map layer_of us) ≡ length us = simp length-map in
-      length-unless (cuts (layer_of t) p) (places_at 1 (map layer_of us) (n ∷ below (layer_of t) p)) 17 (omega arith)
-
-  pub under-directory : not (nat_eq (length reached) 0) ≡ is_directory (under (layer_of t) (map layer_of us) n p)
-  under-directory =
-      let short : length (descend 1 (t ∷ us) (without_upper s) n) ≤ 17 = let P : List Place → Type 0 = λ z. length z ≤ 17 in subst P (sym under-is) under-few in
-      ap (λ z. not (nat_eq (length z) 0)) (exact short ∙ under-is)
+  pub under-directory : (o : Option Topmost) → leads o ≡ not (nat_eq (length (descend (t ∷ us) (without_upper s) n)) 0) → leads o ≡ is_directory (under (layer_of t) (map layer_of us) n p)
+  under-directory o b =
+      b
+      ∙ ap (λ z. not (nat_eq (length z) 0)) under-is
       ∙ directory-top (unless_cut (cuts (layer_of t) p) (places_at 1 (map layer_of us) (n ∷ below (layer_of t) p))) (unless (cuts (layer_of t) p) (shows 1 (map layer_of us) (n ∷ below (layer_of t) p)))
       (top-unless (cuts (layer_of t) p) (places_at 1 (map layer_of us) (n ∷ below (layer_of t) p)) (shows 1 (map layer_of us) (n ∷ below (layer_of t) p)) (top-shown 1 (map layer_of us) (n ∷ below (layer_of t) p)))
 
@@ -214,6 +231,11 @@ nothing-fault l p h = ap fault h.shown
 
 pub inode-fault : (l : Layers) (p : Path) (d : Place) → ShowsInode l p d → fault (shows 0 (layers_of l) p) ≡ Some (inode_fault (option_and_then inode_of (node_in (trees l) d)))
 inode-fault l p d h = ap fault h.shown ∙ ap (λ i. Some (inode_fault i)) (sym (inode-shown 0 (trees l) (trees l) refl p d.layer d.key h.inode h.shown))
+
+-- why a name leads to no directory
+pub step-fault : (l : Layers) (s : List Place) (n : Name) → length (trees l) ≤ 17 → (reached : List Place) → (length (descend (trees l) s n) ≤ 17 → reached ≡ descend (trees l) s n) → (p : Path) → s ≡ places_at 0 (layers_of l) p → (o : Option Place) → length reached ≡ 0 → (length (descend (trees l) s n) ≤ 17 → reached ≡ [] → o ≡ first (trees l) s n) → fault (shows 0 (layers_of l) (n ∷ p)) ≡ Some (place_fault (trees l) o)
+step-fault l s n few reached exact p is None h e = nothing-fault l (n ∷ p) (step-none l s n few reached exact p is None refl h e)
+step-fault l s n few reached exact p is (Some d) h e = inode-fault l (n ∷ p) d (step-inode l s n few reached exact p is d (Some d) refl h e)
 
 pub directory-fault : (l : Layers) (p : Path) (s : List Place) → ShowsDirectory l p s → fault (shows 0 (layers_of l) p) ≡ None
 directory-fault l p s h = ap fault h.shown

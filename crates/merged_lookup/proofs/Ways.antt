@@ -19,7 +19,7 @@ some-length (d ∷ ds) h = omega arith
 
 -- a name leads to a directory from a directory alone
 parent-reached : (ts : List Tree) (n : Name) (p : Path) → places_from 0 ts (n ∷ p) ≢ [] → places_from 0 ts p ≢ []
-parent-reached ts n p h = λ e. h (sym (descend-places 0 0 ts ts (omega arith) refl p n) ∙ ap (λ s. descend 0 ts s n) e)
+parent-reached ts n p h = λ e. h (sym (descend-places 0 ts ts refl p n) ∙ ap (λ s. descend ts s n) e)
 
 -- a path that reaches a directory shows one
 reached-fault : (l : Layers) (p : Path) → places_from 0 (trees l) p ≢ [] → fault (shows 0 (layers_of l) p) ≡ None

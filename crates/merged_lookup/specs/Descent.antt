@@ -1,11 +1,13 @@
 -- One name on from the places of a merged directory, by keys.
-use Rattle.std.specs.Prelude.{◌≡◌, ℕ, ◌+◌, true, false, cond, List, [], ◌∷◌, Option, None, Some, map, drop, slice_get, nat_lt, nat_eq}
+use Rattle.std.specs.Prelude.{◌≡◌, ℕ, ◌+◌, Bool, true, false, cond, List, [], ◌∷◌, Option, None, Some, map, drop, slice_get, nat_eq}
 use Rattle.std.specs.Option.{option_and_then}
 use Rattle.ov_base.specs.declared.redirect.Redirect.{Redirect}
 use Rattle.ov_base.specs.declared.redirect.Redirect.TheVariants as redirect
 use Rattle.plain_model.specs.Layers.{Name, Path, Object, Directory, Named, Whiteout}
 use Rattle.layer_tree.specs.Tree.{Tree, layer_of, entry, seen_entry}
 use Rattle.merged_lookup.specs.declared.stack.Place.{Place}
+use Rattle.merged_lookup.specs.declared.found.Topmost.{Topmost}
+use Rattle.merged_lookup.specs.declared.found.Topmost.TheVariants as shown
 use Rattle.merged_lookup.specs.declared.onward.Onward.{Onward}
 use Rattle.merged_lookup.specs.declared.onward.Onward.TheVariants as way
 use Rattle.merged_lookup.specs.Merged.{places_at}
@@ -72,10 +74,10 @@ abbrev pub onward_in : Option Tree → List Tree → Place → Name → (Name �
 onward_in None ts d n rest = []
 onward_in (Some t) ts d n rest = onward (holds_in t d.key n) d.layer n rest (anew ts d.layer)
 
--- the places that a name leads to from places of layers from `floor` on
-abbrev pub descend : ℕ → List Tree → List Place → Name → List Place
-descend floor ts [] n = []
-descend floor ts (d ∷ ds) n = cond (nat_lt d.layer floor) [] (onward_in (slice_get ts d.layer) ts d n (descend floor ts ds))
+-- the places that a name leads to from places
+abbrev pub descend : List Tree → List Place → Name → List Place
+descend ts [] n = []
+descend ts (d ∷ ds) n = onward_in (slice_get ts d.layer) ts d n (descend ts ds)
 
 -- the topmost object at a name in this tree, where s is that in the layers below
 abbrev pub topmost_in : Option Tree → Place → Name → Option Place → Option Place
@@ -86,6 +88,17 @@ topmost_in (Some t) d n s = topmost (holds_in t d.key n) d.layer s
 abbrev pub first : List Tree → List Place → Name → Option Place
 first ts [] n = None
 first ts (d ∷ ds) n = topmost_in (slice_get ts d.layer) d n (first ts ds n)
+
+-- the place of the topmost object
+abbrev pub place_shown : Topmost → Place
+place_shown (shown.Directory d) = d
+place_shown (shown.Inode d) = d
+
+-- whether that is a directory
+abbrev pub leads : Option Topmost → Bool
+leads (Some (shown.Directory d)) = true
+leads (Some (shown.Inode d)) = false
+leads None = false
 
 -- the places without that of the upper
 abbrev pub without_upper : List Place → List Place

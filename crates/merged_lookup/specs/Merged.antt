@@ -6,15 +6,18 @@ use Rattle.slab.specs.Slab.{get}
 use Rattle.ov_base.specs.declared.attributes.Attributes.{Attributes}
 use Rattle.plain_model.specs.Layers.{Path, Object, Directory, Inode, Layer, held, below, cuts, Folder, Contents, shows}
 pub use Rattle.mount_laws.specs.Looks.{inode_fault, fault, or_else, way_fault, parents_fault, absent, walk_fault}
-use Rattle.layer_tree.specs.Tree.{Tree, layer_of}
+use Rattle.ov_base.specs.declared.errno.Errno.{Errno}
+use Rattle.ov_base.specs.declared.errno.Errno.TheVariants.{ENOENT}
+use Rattle.layer_tree.specs.Tree.{Tree, layer_of, inode_of}
 use Rattle.layer_tree.specs.declared.node.Node.{Node}
 use Rattle.merged_lookup.specs.declared.stack.Place.{Place}
 use Rattle.merged_lookup.specs.declared.stack.Stack.{Stack}
 use Rattle.merged_lookup.specs.declared.layers.Layers.{Layers}
 use Rattle.merged_lookup.specs.declared.found.Found.{Found}
 use Rattle.merged_lookup.specs.declared.found.Found.TheVariants as found
-use Rattle.merged_lookup.specs.declared.found.Look.{Look}
-use Rattle.merged_lookup.specs.declared.found.Look.TheVariants as look
+use Rattle.merged_lookup.specs.declared.found.Parent.{Parent}
+use Rattle.merged_lookup.specs.declared.found.Topmost.{Topmost}
+use Rattle.merged_lookup.specs.declared.found.Topmost.TheVariants as shown
 
 -- the layers of a mount, the upper first, as trees under keys
 abbrev pub trees : Layers → List Tree
@@ -86,7 +89,19 @@ abbrev pub parent : Path → Path
 parent [] = []
 parent (n ∷ p) = p
 
--- what a look finds, its parents being directories
-abbrev pub IsLook : Layers → Path → Look → Type 0
-IsLook l p (look.Found f) = IsFound l p f
-IsLook l p (look.Absent s) = ShowsNothing l p × IsStackOf l (parent p) s
+-- this is the directory in which the last name of a path stands, and that name
+pub record IsParentOf (l : Layers) (p : Path) (o : Parent) : Type 0 where
+  pub way : parents_fault (layers_of l) p ≡ None
+  pub path : p ≡ o.name.now ∷ parent p
+  pub stack : IsStackOf l (parent p) o.stack
+
+-- the topmost object at a path, if anything is shown: of a directory, or the file or symbolic link
+abbrev pub IsTopmost : Layers → Path → Option Topmost → Type 0
+IsTopmost l p None = ShowsNothing l p
+IsTopmost l p (Some (shown.Directory d)) = (a : Attributes) × (shows 0 (layers_of l) p ≡ Some (Folder d.layer d.key a))
+IsTopmost l p (Some (shown.Inode d)) = ShowsInode l p d
+
+-- why a walk can't go on from what is no directory: an inode at this place, or nothing
+abbrev pub place_fault : List Tree → Option Place → Errno
+place_fault ts None = ENOENT
+place_fault ts (Some d) = inode_fault (option_and_then inode_of (node_in ts d))

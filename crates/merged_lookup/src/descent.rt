@@ -1,11 +1,12 @@
 // The way of a name down the layers.
-ghost use Rattle.std.specs.Prelude.{◌≡◌, ◌+◌, ◌<◌, ◌≤◌, List, [], ◌∷◌, ◌++◌, ℕ, Option, length, drop, map};
+ghost use Rattle.std.specs.Prelude.{◌≡◌, ◌+◌, ◌<◌, ◌≤◌, List, [], ◌∷◌, ◌++◌, ℕ, Option, length, drop, map, take, slice_set, option_map, not, nat_eq};
 ghost use Rattle.arrayvec.specs.ArrayVec.{array_vec_len};
 ghost use Rattle.merged_lookup.specs.Merged.{trees};
 ghost use Rattle.merged_lookup.specs.Descent as down;
-ghost use Rattle.merged_lookup.specs.Descent.{places_from};
+ghost use Rattle.merged_lookup.specs.Descent.{places_from, place_shown, leads};
 
 use crate::crossing::walk_below;
+use crate::found::Topmost;
 use crate::layers::Layers;
 use crate::onward::{Onward, onward_in};
 use crate::stack::{Place, Places};
@@ -23,52 +24,82 @@ pub(crate) fn roots(layers: &Layers, first: usize) -> Places
     places
 }
 
-// The directories that a name leads to from these places, of layers from `floor` on. Where an absolute redirect led to some of them, for
-// which the layers below were crossed, `crossed` is set.
-pub(crate) fn descend(
+// The same places once more.
+pub(crate) fn copied(places: &Places) -> Places
+    ensures { result.items ≡ places.now.items }
+{
+    let mut copy = Places::new();
+    let _ = copy.try_extend_from_slice(places.as_slice());
+    copy
+}
+
+// One name on, in place: these places become those of the directories that the name leads to. Where it leads to none it gives the file or
+// symbolic link that the name shows, if any. Where an absolute redirect led to some, for which the layers below were crossed, `crossed` is set.
+pub(crate) fn enter(
     layers: &Layers,
-    floor: usize,
-    places: &[Place],
+    places: &mut Places,
     name: &Name,
     crossed: &mut bool,
-) -> Places
-    ensures { length (down.descend floor (trees layers.now) places.now name.now) ≤ 17 → result.items ≡ down.descend floor (trees layers.now) places.now name.now }
+) -> Option<Place>
+    ensures reached { length (down.descend (trees layers.now) places.old.items name.now) ≤ 17 → places.new.items ≡ down.descend (trees layers.now) places.old.items name.now }
+    ensures inode { length (down.descend (trees layers.now) places.old.items name.now) ≤ 17 → places.new.items ≡ [] → result ≡ down.first (trees layers.now) places.old.items name.now }
 {
-    let mut reached = Places::new();
+    let mut kept = 0;
     let mut asked = name;
-    for place in places {
-        if place.layer < floor {
-            return reached;
-        }
+    let count = places.len();
+    for index in 0..count {
+        let place = places.as_slice()[index];
         let Some(layer) = layers.layer(place.layer) else {
-            return reached;
+            places.truncate(kept);
+            return None;
         };
         match onward_in(layer, place.key, asked) {
             Onward::Through => {}
-            Onward::Whiteout | Onward::Inode(_) => return reached,
+            Onward::Whiteout => {
+                places.truncate(kept);
+                return None;
+            }
+            Onward::Inode(key) => {
+                places.truncate(kept);
+                return Some(Place { key, ..place });
+            }
             Onward::Last(key) => {
-                reach(&mut reached, place.layer, key);
-                return reached;
+                end(places, kept, Place { key, ..place });
+                return None;
             }
             Onward::By(key, other) => {
-                reach(&mut reached, place.layer, key);
+                put(places, kept, Place { key, ..place });
+                kept += 1;
                 asked = other;
             }
             Onward::From(key, path) => {
-                reach(&mut reached, place.layer, key);
-                append(&mut reached, &walk_below(layers, place.layer + 1, path));
+                end(places, kept, Place { key, ..place });
+                append(places, &walk_below(layers, place.layer + 1, path));
                 *crossed = true;
-                return reached;
+                return None;
             }
         }
     }
-    reached
+    places.truncate(kept);
+    None
 }
 
-fn reach(places: &mut Places, layer: usize, key: usize)
-    ensures { array_vec_len places.old < 17 → places.new.items ≡ places.old.items ++ record { layer = layer; key = key } ∷ [] }
+// Puts a place over the one that is there.
+fn put(places: &mut Places, at: usize, place: Place)
+    requires { at < array_vec_len places.old }
+    ensures { places.new.items ≡ slice_set places.old.items at place }
 {
-    let _ = places.try_push(Place { layer, key });
+    places.as_mut_slice()[at] = place;
+}
+
+// Ends the places by this one, over the one that is there.
+fn end(places: &mut Places, at: usize, place: Place)
+    requires within { at < array_vec_len places.old }
+    requires room { at < 17 }
+    ensures { places.new.items ≡ take at places.old.items ++ place ∷ [] }
+{
+    places.truncate(at);
+    places.push(place);
 }
 
 fn append(places: &mut Places, rest: &Places)
@@ -78,16 +109,18 @@ fn append(places: &mut Places, rest: &Places)
 }
 
 // The object that a name shows in these places: what the topmost one that has the name has there, unless it is a whiteout.
-pub(crate) fn first_object(layers: &Layers, places: &[Place], name: &Name) -> Option<Place>
-    ensures { result ≡ down.first (trees layers.now) places.now name.now }
+pub(crate) fn topmost(layers: &Layers, places: &[Place], name: &Name) -> Option<Topmost>
+    ensures place { option_map place_shown result ≡ down.first (trees layers.now) places.now name.now }
+    ensures directory { leads result ≡ not (nat_eq (length (down.descend (trees layers.now) places.now name.now)) 0) }
 {
     for place in places {
-        let layer = place.layer;
-        match onward_in(layers.layer(layer)?, place.key, name) {
+        match onward_in(layers.layer(place.layer)?, place.key, name) {
             Onward::Through => {}
             Onward::Whiteout => return None,
-            Onward::Inode(key) | Onward::Last(key) | Onward::By(key, _) | Onward::From(key, _) =>
-                return Some(Place { layer, key }),
+            Onward::Inode(key) => return Some(Topmost::Inode(Place { key, ..*place })),
+            Onward::Last(key) | Onward::By(key, _) | Onward::From(key, _) => return Some(
+                Topmost::Directory(Place { key, ..*place }),
+            ),
         }
     }
     None

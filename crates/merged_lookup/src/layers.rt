@@ -6,10 +6,10 @@ ghost use Rattle.plain_model.specs.Layers.{Path, shows, is_directory, under};
 ghost use Rattle.layer_tree.specs.Tree.{layer_of, inode_of};
 
 use crate::crossing::cross_all;
-use crate::descent::{below_upper, descend, first_object, roots};
-use crate::found::{Found, Look};
-use crate::stack::{Place, Stack};
-use layer_tree::{Inode, Layer, Node};
+use crate::descent::{below_upper, copied, enter, roots, topmost};
+use crate::found::{Found, Parent, Topmost};
+use crate::stack::{Place, Places, Stack};
+use layer_tree::{Inode, Layer, Node, ROOT};
 use ov_base::{Content, Errno, Name, Path};
 
 /// The most layers of a mount: the upper and 16 lower ones.
@@ -25,7 +25,7 @@ pub struct Layers {
 }
 
 impl Layers {
-    ghost use Rattle.merged_lookup.specs.Merged.{trees, node_in, layers_of, lowers_of, IsStackOf, IsAnswer, IsFound, IsLook, parents_fault, walk_fault, way_fault, inode_fault};
+    ghost use Rattle.merged_lookup.specs.Merged.{trees, node_in, layers_of, lowers_of, places_at, IsStackOf, IsAnswer, IsFound, IsTopmost, IsParentOf, parents_fault, walk_fault, way_fault, inode_fault, place_fault};
     ghost use Rattle.merged_lookup.specs.Descent.{first, places_from};
     ghost use Rattle.merged_lookup.specs.Changing.{LendsUpper};
     ghost use Rattle.std.specs.Borrow.{sem};
@@ -93,19 +93,26 @@ impl Layers {
     pub fn step(&self, stack: &Stack, name: &Name) -> Option<Found>
         ensures { (p : Path) → IsStackOf self.now p stack.now → IsAnswer self.now (name.now ∷ p) result }
     {
-        self.step_on(stack, name, &mut false)
+        self.found(copied(&stack.places), name)
     }
 
-    /// `step`, which sets `crossed` where it crossed the layers.
-    fn step_on(&self, stack: &Stack, name: &Name, crossed: &mut bool) -> Option<Found>
-        ensures { (p : Path) → IsStackOf self.now p stack.now → IsAnswer self.now (name.now ∷ p) result }
+    // What a name shows in the merged directory of these places.
+    fn found(&self, places: Places, name: &Name) -> Option<Found>
+        ensures { (p : Path) → places.items ≡ places_at 0 (layers_of self.now) p → IsAnswer self.now (name.now ∷ p) result }
     {
-        let asked = stack.places();
-        let places = descend(self, 0, asked, name, crossed);
+        let mut places = places;
+        let inode = enter(self, &mut places, name, &mut false);
         if !places.is_empty() {
             return Some(Found::Directory(Stack { places }));
         }
-        Some(Found::Inode(first_object(self, asked, name)?))
+        Some(Found::Inode(inode?))
+    }
+
+    /// What a name shows in a merged directory, by the topmost object there.
+    pub fn topmost(&self, stack: &Stack, name: &Name) -> Option<Topmost>
+        ensures { (p : Path) → IsStackOf self.now p stack.now → IsTopmost self.now (name.now ∷ p) result }
+    {
+        topmost(self, stack.places(), name)
     }
 
     /// Whether a name shows something in a merged directory.
@@ -113,34 +120,52 @@ impl Layers {
         ensures shown { (p : Path) → IsStackOf self.now p stack.now → result ≡ is_some (shows 0 (layers_of self.now) (name.now ∷ p)) }
         ensures by_places { result ≡ is_some (first (trees self.now) stack.now.places.items name.now) }
     {
-        first_object(self, stack.places(), name).is_some()
+        topmost(self, stack.places(), name).is_some()
     }
 
-    /// What a path shows. On the way to its last name a name that shows nothing is ENOENT, a file ENOTDIR and a symbolic link
-    /// ELOOP.
-    pub fn look(&self, path: &Path) -> Result<Look, Errno>
-        ensures found { IfOk result (λ l. (parents_fault (layers_of self.now) path.now ≡ None) × IsLook self.now path.now l) }
+    /// The merged directory in which the last name of a path stands, with that name; none for the root. On the way to the last name a
+    /// name that shows nothing is ENOENT, a file ENOTDIR and a symbolic link ELOOP.
+    pub fn parent_of<'a>(&self, path: &'a Path) -> Result<Option<Parent<'a>>, Errno>
+        ensures found { IfOk result (λ found. MatchOption found (path.now ≡ []) (IsParentOf self.now path.now)) }
         ensures refused { IfErr result (λ e. parents_fault (layers_of self.now) path.now ≡ Some e) }
     {
         let Some((name, parents)) = split_last(path) else {
-            return Ok(Look::Found(Found::Directory(self.root())));
+            return Ok(None);
         };
-        let parent = self.directory(parents)?;
-        match self.step(&parent, name) {
-            Some(found) => Ok(Look::Found(found)),
-            None => Ok(Look::Absent(parent)),
-        }
+        let stack = self.directory(parents)?;
+        Ok(Some(Parent { stack, name }))
     }
 
-    /// `look` for a path that is to show something, else it is ENOENT.
+    /// What a path shows. The way is refused as by `parent_of`; where nothing is shown it is ENOENT.
     pub fn walk(&self, path: &Path) -> Result<Found, Errno>
         ensures found { IfOk result (λ f. IsFound self.now path.now f) }
         ensures refused { IfErr result (λ e. walk_fault (layers_of self.now) path.now ≡ Some e) }
         ensures answers { IsOk result ↔ (walk_fault (layers_of self.now) path.now ≡ None) }
     {
-        match self.look(path)? {
-            Look::Found(found) => Ok(found),
-            Look::Absent(_) => Err(Errno::ENOENT),
+        match self.parent_of(path)? {
+            None => Ok(Found::Directory(self.root())),
+            Some(parent) => match self.found(parent.stack.places, parent.name) {
+                Some(found) => Ok(found),
+                None => Err(Errno::ENOENT),
+            },
+        }
+    }
+
+    /// `walk` to the topmost object that a path shows, without the directories below it.
+    pub fn walk_topmost(&self, path: &Path) -> Result<Topmost, Errno>
+        ensures found { IfOk result (λ top. IsTopmost self.now path.now (Some top)) }
+        ensures refused { IfErr result (λ e. walk_fault (layers_of self.now) path.now ≡ Some e) }
+        ensures answers { IsOk result ↔ (walk_fault (layers_of self.now) path.now ≡ None) }
+    {
+        match self.parent_of(path)? {
+            None => Ok(Topmost::Directory(Place {
+                layer: 0,
+                key: ROOT,
+            })),
+            Some(parent) => match self.topmost(&parent.stack, parent.name) {
+                Some(shown) => Ok(shown),
+                None => Err(Errno::ENOENT),
+            },
         }
     }
 
@@ -149,22 +174,30 @@ impl Layers {
         ensures found { IfOk result (λ s. (way_fault (layers_of self.now) (reverse names.now) ≡ None) × IsStackOf self.now (reverse names.now) s) }
         ensures refused { IfErr result (λ e. way_fault (layers_of self.now) (reverse names.now) ≡ Some e) }
     {
-        let mut stack = self.root();
+        let mut places = roots(self, 0);
         let mut crossed = false;
         for name in names {
             let mut again = false;
-            let found = self.step_on(&stack, name, &mut again);
+            let inode = enter(self, &mut places, name, &mut again);
             if crossed && again {
                 return self.directory_at_once(names);
             }
             crossed |= again;
-            match found {
-                Some(Found::Directory(next)) => stack = next,
-                Some(Found::Inode(place)) => return Err(self.blocked(place)),
-                None => return Err(Errno::ENOENT),
+            if places.is_empty() {
+                return Err(self.fault_at(inode));
             }
         }
-        Ok(stack)
+        Ok(Stack { places })
+    }
+
+    // Why a name leads to no directory: an inode that it shows, or nothing.
+    fn fault_at(&self, inode: Option<Place>) -> Errno
+        ensures { result ≡ place_fault (trees self.now) inode }
+    {
+        match inode {
+            Some(place) => self.blocked(place),
+            None => Errno::ENOENT,
+        }
     }
 
     /// `directory`, whatever redirects are on the way: by one crossing of the layers, and a few more where there is no directory.
@@ -186,8 +219,8 @@ impl Layers {
     {
         let directories = self.directories_on(names);
         let parent = cross_all(self, 0, &names[..directories]);
-        match first_object(self, parent.as_slice(), &names[directories]) {
-            Some(place) => self.blocked(place),
+        match topmost(self, parent.as_slice(), &names[directories]) {
+            Some(shown) => self.blocked(shown.place()),
             None => Errno::ENOENT,
         }
     }
@@ -233,14 +266,17 @@ impl Layers {
     pub fn lowers_show_directory(&self, parent: &Stack, name: &Name) -> bool
         ensures { (p : Path) → IsStackOf self.now p parent.now → result ≡ is_directory (under (layer_of self.now.upper) (lowers_of self.now) name.now p) }
     {
-        !descend(self, 1, below_upper(parent.places()), name, &mut false).is_empty()
+        match topmost(self, below_upper(parent.places()), name) {
+            Some(shown) => shown.is_directory(),
+            None => false,
+        }
     }
 
     /// Whether the lower layers show something at a name of a merged directory, whatever the upper has there.
     pub fn lowers_show(&self, parent: &Stack, name: &Name) -> bool
         ensures { (p : Path) → IsStackOf self.now p parent.now → result ≡ is_some (under (layer_of self.now.upper) (lowers_of self.now) name.now p) }
     {
-        first_object(self, below_upper(parent.places()), name).is_some()
+        topmost(self, below_upper(parent.places()), name).is_some()
     }
 }
 

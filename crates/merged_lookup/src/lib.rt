@@ -11,6 +11,6 @@ mod onward;
 mod spelling;
 mod stack;
 
-pub use found::{Found, Look};
+pub use found::{Found, Parent, Topmost};
 pub use layers::{LAYERS_MAX, Layers, split_last};
 pub use stack::{Place, Stack};

@@ -1,23 +1,25 @@
-use Rattle.std.proofs.Common.{rules, ◌≡◌, ◌∷◌, Some, take, reverse, sym, ◌∙◌, ap}
-use Rattle.ov_base.specs.declared.errno.Errno.TheVariants as errno
-use Rattle.merged_lookup.specs.declared.found.Found.TheVariants as found
-use Rattle.merged_lookup.specs.Merged.{ShowsInode, ShowsNothing}
-use Rattle.merged_lookup.proofs.Looking.{answer-inode, answer-none, fault-at, nothing-fault, inode-fault}
+use Rattle.std.proofs.Common.{◌≡◌, ◌≤◌, ◌<◌, ◌∷◌, Some, length, take, reverse, arith, sym, ◌∙◌, ap}
+use Rattle.merged_lookup.specs.Merged.{trees, layers_of, places_at, ShowsDirectory}
+use Rattle.merged_lookup.proofs.Descending.{reverse-more}
+use Rattle.merged_lookup.proofs.Looking.{step-directory, step-fault, fault-at, fault-next}
 use Rattle.merged_lookup.proofs.layers.Layers.directory.Goals as goal
 
-pub returns-in-Some-Inode-clause-refused : goal.returns-in-Some-Inode-clause-refused
-returns-in-Some-Inode-clause-refused c =
+pub returns-then-is_empty-clause-refused : goal.returns-then-is_empty-clause-refused
+returns-then-is_empty-clause-refused c =
     let before = reverse (take c.loop-name.name-index c.args.names.now) in
-    let way = c.name-item.result ∷ before in
-    let is : c.step_on-found.result ≡ Some (found.Inode c.in-Some-Inode.place) = search rules in
-    let shown : ShowsInode c.args.self.now way c.in-Some-Inode.place = answer-inode c.args.self.now way c.step_on-found.result c.in-Some-Inode.place is (c.step_on-found.ensures before c.loop-name.invariant.1) in
-    fault-at c.args.self.now c.args.names.now c.loop-name.name-index c.name-item.result c.blocked.result c.loop-name-test.true c.name-item.is c.loop-name.invariant.0
-    (inode-fault c.args.self.now way c.in-Some-Inode.place shown ∙ ap Some (sym c.blocked.ensures))
+    let few : length (trees c.args.self.now) ≤ 17 = omega (arith, c.args.self.now.few_lowers) in
+    let none : length c.enter-inode.new.places.items ≡ 0 = grind arith in
+    fault-at c.args.self.now c.args.names.now c.loop-name.name-index c.name-item.result c.fault_at.result c.loop-name-test.true c.name-item.is c.loop-name.invariant.way
+    (step-fault c.args.self.now c.loop-name.places.items c.name-item.result few c.enter-inode.new.places.items c.enter-inode.ensures.reached before c.loop-name.invariant.places c.enter-inode.result none c.enter-inode.ensures.inode ∙ ap Some (sym c.fault_at.ensures))
 
-pub returns-in-None-clause-refused : goal.returns-in-None-clause-refused
-returns-in-None-clause-refused c =
+pub loop-name-preserved : goal.loop-name-preserved
+loop-name-preserved c =
     let before = reverse (take c.loop-name.name-index c.args.names.now) in
-    let way = c.name-item.result ∷ before in
-    let shown : ShowsNothing c.args.self.now way = answer-none c.args.self.now way c.step_on-found.result c.in-None.is (c.step_on-found.ensures before c.loop-name.invariant.1) in
-    fault-at c.args.self.now c.args.names.now c.loop-name.name-index c.name-item.result errno.ENOENT c.loop-name-test.true c.name-item.is c.loop-name.invariant.0
-    (nothing-fault c.args.self.now way shown)
+    let few : length (trees c.args.self.now) ≤ 17 = omega (arith, c.args.self.now.few_lowers) in
+    let some : 0 < length c.enter-inode.new.places.items = grind arith in
+    let shown : ShowsDirectory c.args.self.now (c.name-item.result ∷ before) c.enter-inode.new.places.items = step-directory c.args.self.now c.loop-name.places.items c.name-item.result few c.enter-inode.new.places.items c.enter-inode.ensures.reached before c.loop-name.invariant.places some in
+    record {
+      way = fault-next c.args.self.now c.args.names.now c.loop-name.name-index c.name-item.result c.enter-inode.new.places.items c.loop-name-test.true c.name-item.is c.loop-name.invariant.way shown;
+      places = shown.places ∙ sym (ap (places_at 0 (layers_of c.args.self.now)) (reverse-more c.args.names.now c.loop-name.name-index c.name-item.result c.loop-name-test.true c.name-item.is));
+      some = some;
+    }

@@ -1,8 +1,11 @@
-use Rattle.std.proofs.Common.{◌≡◌, None, reverse, take}
-use Rattle.merged_lookup.specs.Merged.{layers_of, way_fault, IsStackOf}
+use Rattle.std.proofs.Common.{◌≡◌, ◌<◌, None, length, reverse, take}
+use Rattle.merged_lookup.specs.Merged.{layers_of, places_at, way_fault}
 use Rattle.merged_lookup.proofs.layers.Layers.directory.Given as goal
 
 abbrev pub invariant-loop-name : goal.invariant-loop-name
 invariant-loop-name l =
-    (way_fault (layers_of l.self) (reverse (take l.name-index l.names)) ≡ None)
-    × IsStackOf l.self (reverse (take l.name-index l.names)) l.stack
+    record {
+      way : way_fault (layers_of l.self) (reverse (take l.name-index l.names)) ≡ None;
+      places : l.places.items ≡ places_at 0 (layers_of l.self) (reverse (take l.name-index l.names));
+      some : 0 < length l.places.items;
+    }

@@ -1,8 +1,0 @@
-use Rattle.std.proofs.Common.{◌≡◌, drop}
-use Rattle.merged_lookup.specs.Merged.{trees}
-use Rattle.merged_lookup.specs.Descent as down
-use Rattle.merged_lookup.proofs.descent.first_object.Given as goal
-
-abbrev pub invariant-loop-place : goal.invariant-loop-place
-invariant-loop-place l =
-    down.first (trees l.layers) l.places l.name ≡ down.first (trees l.layers) (drop l.place-index l.places) l.name
