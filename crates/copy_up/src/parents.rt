@@ -14,9 +14,36 @@ use merged_lookup::{Found, Layers, Place, Stack};
 use ov_base::{Attributes, Name};
 use std::alloc::{AllocError, Global};
 
-/// The merged directory at these names from the root down, where the upper has one. Those that it lacks are placed first, from the
-/// root down, with the attributes that they show. It fails only for want of memory; what is shown stays the same in each case.
-pub fn place_parents(layers: &mut Layers, names: &[Name]) -> Result<Stack, AllocError>
+/// The merged directory at these names from the root down, where the upper has one: the one that is given, if the upper has it. Those that
+/// the upper lacks are placed first, from the root down, with the attributes that they show. It fails only for want of memory; what is shown
+/// stays the same in each case.
+pub fn place_parents(
+    layers: &mut Layers,
+    directory: Stack,
+    names: &[Name],
+) -> Result<Stack, AllocError>
+    requires way { way_fault (layers_of layers.old) (reverse names.now) ≡ None }
+    requires directory { IsStackOf layers.old (reverse names.now) directory }
+    ensures same { ShowsSame layers.old layers.new }
+    ensures stack { IfOk result (λ s. IsStackOf layers.new (reverse names.now) s) }
+    ensures upper { IfOk result (λ s. (top_of s.places.items).layer ≡ 0) }
+    ensures keeps { StaysLayers layers.old layers.new }
+    ensures mounts { StaysMount layers.old layers.new }
+    ensures thin { StaysThin layers.old layers.new }
+    ensures names { (p : Path) (k : ℕ) → (held.held (layer_of layers.new.upper) p ≡ Some (held.Named k)) ↔ (held.held (layer_of layers.old.upper) p ≡ Some (held.Named k)) }
+    ensures inodes { (k : ℕ) → inode_at layers.new.upper k ≡ inode_at layers.old.upper k }
+    ensures holds { (p : Path) (o : held.Object) → held.held (layer_of layers.old.upper) p ≡ Some o → held.held (layer_of layers.new.upper) p ≡ Some o }
+    ensures gains { (n : held.Name) → GainsParents layers.old layers.new (n ∷ reverse names.now) }
+{
+    let top = directory.top();
+    if top.layer == 0 {
+        return Ok(directory);
+    }
+    place_from_root(layers, names)
+}
+
+// `place_parents`, name by name.
+fn place_from_root(layers: &mut Layers, names: &[Name]) -> Result<Stack, AllocError>
     requires { way_fault (layers_of layers.old) (reverse names.now) ≡ None }
     ensures same { ShowsSame layers.old layers.new }
     ensures stack { IfOk result (λ s. IsStackOf layers.new (reverse names.now) s) }

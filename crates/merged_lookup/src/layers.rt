@@ -25,7 +25,7 @@ pub struct Layers {
 }
 
 impl Layers {
-    ghost use Rattle.merged_lookup.specs.Merged.{trees, node_in, layers_of, lowers_of, places_at, IsStackOf, IsAnswer, IsFound, IsTopmost, IsParentOf, parents_fault, walk_fault, way_fault, inode_fault, place_fault};
+    ghost use Rattle.merged_lookup.specs.Merged.{trees, node_in, layers_of, lowers_of, places_at, IsStackOf, IsAnswer, IsFound, IsTopmost, IsParentOf, parent, parents_fault, walk_fault, way_fault, inode_fault, place_fault};
     ghost use Rattle.merged_lookup.specs.Descent.{first, places_from};
     ghost use Rattle.merged_lookup.specs.Changing.{LendsUpper};
     ghost use Rattle.std.specs.Borrow.{sem};
@@ -142,10 +142,21 @@ impl Layers {
         ensures refused { IfErr result (λ e. walk_fault (layers_of self.now) path.now ≡ Some e) }
         ensures answers { IsOk result ↔ (walk_fault (layers_of self.now) path.now ≡ None) }
     {
+        let (_, found) = self.walk_in(path)?;
+        Ok(found)
+    }
+
+    /// `walk`, with the merged directory in which the last name stands; the root's is the root.
+    pub fn walk_in(&self, path: &Path) -> Result<(Stack, Found), Errno>
+        ensures parent { IfOk result (λ w. IsStackOf self.now (parent path.now) w.0) }
+        ensures found { IfOk result (λ w. IsFound self.now path.now w.1) }
+        ensures refused { IfErr result (λ e. walk_fault (layers_of self.now) path.now ≡ Some e) }
+        ensures answers { IsOk result ↔ (walk_fault (layers_of self.now) path.now ≡ None) }
+    {
         match self.parent_of(path)? {
-            None => Ok(Found::Directory(self.root())),
-            Some(parent) => match self.found(parent.stack.places, parent.name) {
-                Some(found) => Ok(found),
+            None => Ok((self.root(), Found::Directory(self.root()))),
+            Some(parent) => match self.step(&parent.stack, parent.name) {
+                Some(found) => Ok((parent.stack, found)),
                 None => Err(Errno::ENOENT),
             },
         }

@@ -3,7 +3,7 @@ use Rattle.merged_lookup.specs.Merged.{places_at, layers_of}
 use Rattle.merged_lookup.proofs.Descending.{reverse-more}
 use Rattle.copy_up.proofs.Frames.{gains-then}
 use Rattle.copy_up.proofs.Keeping.{is-parent, same-then, stays-then, directory-same, way-shows}
-use Rattle.copy_up.proofs.parents.place_parents.Goals as goal
+use Rattle.copy_up.proofs.parents.place_from_root.Goals as goal
 
 pub place_parent-requires-clause-shown : goal.place_parent-requires-clause-shown
 place_parent-requires-clause-shown c =

@@ -2,7 +2,7 @@ use Rattle.std.proofs.Common.{◌≡◌, ◌∷◌, take, reverse}
 use Rattle.plain_model.specs.Layers.{Name}
 use Rattle.merged_lookup.specs.Merged.{IsStackOf, top_of}
 use Rattle.copy_up.specs.Showing.{ShowsSame, Stays, GainsParents}
-use Rattle.copy_up.proofs.parents.place_parents.Given as goal
+use Rattle.copy_up.proofs.parents.place_from_root.Given as goal
 
 abbrev pub invariant-loop-name : goal.invariant-loop-name
 invariant-loop-name l =
