@@ -1,13 +1,13 @@
 // `mkdir`.
 ghost use Rattle.std.specs.Prelude.{◌≡◌, Some, None, IfOk, IfErr, OnOk, OnErr};
 ghost use Rattle.plain_model.specs.Layers.{shows};
-ghost use Rattle.merged_lookup.specs.Merged.{layers_of, parents_fault};
+ghost use Rattle.merged_lookup.specs.Merged.{layers_of, parents_fault, parent, IsStackOf};
 ghost use Rattle.copy_up.specs.Showing.{ShowsSame, GainsParents, StaysLayers, StaysMount, StaysThin};
 ghost use Rattle.make_remove.specs.Making.{MakesDirectory, MkdirSteps, mkdir_fault};
 
 use crate::objects::{MODE_BITS, new_attributes, vacant};
 use copy_up::{insert_directory, place_parents};
-use merged_lookup::{Layers, split_last};
+use merged_lookup::{Layers, Stack, split_last};
 use ov_base::{Errno, Path};
 use std::alloc::{AllocError, Global};
 
@@ -34,15 +34,23 @@ pub fn mkdir(
     if mode > MODE_BITS {
         return Ok(Err(Errno::EINVAL));
     }
-    if let Err(errno) = vacant(layers, path) {
-        return Ok(Err(errno));
-    }
-    make(alloc, layers, path, mode)?;
+    let directory = match vacant(layers, path) {
+        Ok(directory) => directory,
+        Err(errno) => return Ok(Err(errno)),
+    };
+    make(alloc, layers, directory, path, mode)?;
     Ok(Ok(()))
 }
 
-// Makes a directory where nothing is shown.
-fn make(alloc: Global, layers: &mut Layers, path: &Path, mode: u32) -> Result<(), AllocError>
+// Makes a directory in this merged one, where nothing is shown.
+fn make(
+    alloc: Global,
+    layers: &mut Layers,
+    directory: Stack,
+    path: &Path,
+    mode: u32,
+) -> Result<(), AllocError>
+    requires directory { IsStackOf layers.old (parent path.now) directory }
     requires parents { parents_fault (layers_of layers.old) path.now ≡ None }
     requires absent { shows 0 (layers_of layers.old) path.now ≡ None }
     requires allowed { mkdir_fault (layers_of layers.old) path.now mode ≡ None }
@@ -57,7 +65,7 @@ fn make(alloc: Global, layers: &mut Layers, path: &Path, mode: u32) -> Result<()
     let Some((name, parents)) = split_last(path) else {
         unreachable!()
     };
-    let parent = place_parents(layers, parents)?;
+    let parent = place_parents(layers, directory, parents)?;
     let opaque = layers.lowers_show_directory(&parent, name);
     let attributes = new_attributes(alloc, mode);
     let dir = parent.top();

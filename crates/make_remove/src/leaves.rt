@@ -6,7 +6,7 @@ ghost use Rattle.mount_laws.specs.Leaves.{PlacesLeaf, symlink_fault};
 ghost use Rattle.slab.specs.Slab.{get};
 ghost use Rattle.layer_tree.specs.Nameless.{KeepsObjects};
 ghost use Rattle.layer_tree.specs.Tree.{layer_of, SameObjects};
-ghost use Rattle.merged_lookup.specs.Merged.{layers_of, parents_fault};
+ghost use Rattle.merged_lookup.specs.Merged.{layers_of, parents_fault, parent, IsStackOf};
 ghost use Rattle.copy_up.specs.Showing.{ShowsSame, GainsParents, HasPlace, StaysLayers, StaysMount, StaysThin};
 ghost use Rattle.make_remove.specs.Making as made;
 ghost use Rattle.make_remove.specs.Making.{mkdir_fault};
@@ -16,7 +16,7 @@ ghost use Rattle.ov_base.specs.declared.bytes.Content.TheVariants as content;
 use crate::objects::{MODE_BITS, new_attributes, vacant};
 use copy_up::place_parents;
 use layer_tree::{Layer, Object};
-use merged_lookup::{Layers, split_last};
+use merged_lookup::{Layers, Stack, split_last};
 use ov_base::{Attributes, Bytes, Content, Errno, Name, Path};
 use std::alloc::{AllocError, Global};
 
@@ -49,11 +49,12 @@ pub fn symlink(
     if let Err(errno) = check_target(&target) {
         return Ok(Err(errno));
     }
-    if let Err(errno) = vacant(layers, path) {
-        return Ok(Err(errno));
-    }
+    let directory = match vacant(layers, path) {
+        Ok(directory) => directory,
+        Err(errno) => return Ok(Err(errno)),
+    };
     let attributes = new_attributes(alloc, LINK_MODE);
-    make_leaf(layers, path, Content::SymbolicLink(target), attributes)?;
+    make_leaf(layers, directory, path, Content::SymbolicLink(target), attributes)?;
     Ok(Ok(()))
 }
 
@@ -102,21 +103,24 @@ pub fn create(
     if mode > MODE_BITS {
         return Ok(Err(Errno::EINVAL));
     }
-    if let Err(errno) = vacant(layers, path) {
-        return Ok(Err(errno));
-    }
+    let directory = match vacant(layers, path) {
+        Ok(directory) => directory,
+        Err(errno) => return Ok(Err(errno)),
+    };
     let content = Content::File(Bytes::new(alloc));
-    make_leaf(layers, path, content, new_attributes(alloc, mode))?;
+    make_leaf(layers, directory, path, content, new_attributes(alloc, mode))?;
     Ok(Ok(()))
 }
 
-// Makes a file or symbolic link where nothing is shown.
+// Makes a file or symbolic link in this merged directory, where nothing is shown.
 fn make_leaf(
     layers: &mut Layers,
+    directory: Stack,
     path: &Path,
     content: Content,
     attributes: Attributes,
 ) -> Result<(), AllocError>
+    requires directory { IsStackOf layers.old (parent path.now) directory }
     requires parents { parents_fault (layers_of layers.old) path.now ≡ None }
     requires absent { shows 0 (layers_of layers.old) path.now ≡ None }
     ensures made { OnOk result (MakesLeaf layers.old layers.new path.now content attributes) }
@@ -129,7 +133,7 @@ fn make_leaf(
     let Some((name, parents)) = split_last(path) else {
         unreachable!()
     };
-    let parent = place_parents(layers, parents)?;
+    let parent = place_parents(layers, directory, parents)?;
     let dir = parent.top();
     insert_leaf(layers, dir.key, name, content, attributes)?;
     Ok(())

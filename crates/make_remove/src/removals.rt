@@ -11,14 +11,14 @@ ghost use Rattle.layer_tree.specs.Nameless.{IsNameless, KeepsObjects};
 ghost use Rattle.layer_tree.specs.Table.{object_key};
 ghost use Rattle.layer_tree.specs.Tree.{layer_of, inode_at, with_less, entry, child, key_at, IsDirectory, HoldsNoObjects, ReplacesPath, Unbinds, SameTree, SameObjects, IsTree};
 ghost use Rattle.layer_tree.specs.declared.name_table.Entry.TheVariants as bound;
-ghost use Rattle.merged_lookup.specs.Merged.{layers_of, lowers_of, way_fault};
+ghost use Rattle.merged_lookup.specs.Merged.{layers_of, lowers_of, way_fault, IsStackOf};
 ghost use Rattle.copy_up.specs.Showing.{ShowsSame, GainsParents, Stays, StaysLayers, StaysMount, StaysThin};
 ghost use Rattle.make_remove.specs.Removing.{unlink_fault, rmdir_fault, ShowsNoName, TakesAway, Removes, TellsNames, TakesName, Unnames, released_by, has_more};
 
 use copy_up::place_parents;
 use dir_listing::shows_names;
 use layer_tree::{Entry, Layer, Node};
-use merged_lookup::{Found, Layers, split_last};
+use merged_lookup::{Found, Layers, Stack, split_last};
 use ov_base::{Errno, Name, Path};
 use std::alloc::AllocError;
 
@@ -45,12 +45,14 @@ pub fn unlink(layers: &mut Layers, path: &Path) -> Result<Result<Option<usize>, 
     let Some((name, parents)) = split_last(path) else {
         return Ok(Err(ROOT_REFUSAL));
     };
-    match layers.walk(path) {
-        Ok(Found::Inode(_)) => {}
-        Ok(Found::Directory(_)) => return Ok(Err(Errno::EISDIR)),
+    let (directory, found) = match layers.walk_in(path) {
+        Ok(walked) => walked,
         Err(errno) => return Ok(Err(errno)),
-    }
-    let key = take_away(layers, parents, name)?;
+    };
+    let Found::Inode(_) = found else {
+        return Ok(Err(Errno::EISDIR));
+    };
+    let key = take_away(layers, directory, parents, name)?;
     Ok(Ok(key))
 }
 
@@ -75,25 +77,29 @@ pub fn rmdir(layers: &mut Layers, path: &Path) -> Result<Result<Option<usize>, E
     let Some((name, parents)) = split_last(path) else {
         return Ok(Err(ROOT_REFUSAL));
     };
-    let stack = match layers.walk(path) {
-        Ok(Found::Directory(stack)) => stack,
-        Ok(Found::Inode(_)) => return Ok(Err(Errno::ENOTDIR)),
+    let (directory, found) = match layers.walk_in(path) {
+        Ok(walked) => walked,
         Err(errno) => return Ok(Err(errno)),
+    };
+    let Found::Directory(stack) = found else {
+        return Ok(Err(Errno::ENOTDIR));
     };
     if shows_names(layers, &stack) {
         return Ok(Err(Errno::ENOTEMPTY));
     }
-    let key = take_away(layers, parents, name)?;
+    let key = take_away(layers, directory, parents, name)?;
     Ok(Ok(key))
 }
 
-// Takes away what a name shows and in which no name is shown, and gives the key of what lost its last name.
+// Takes away what a name of this merged directory shows and in which no name is shown, and gives the key of what lost its last name.
 fn take_away(
     layers: &mut Layers,
+    directory: Stack,
     parents: &[Name],
     name: &Name,
 ) -> Result<Option<usize>, AllocError>
     requires parents { way_fault (layers_of layers.old) (reverse parents.now) ≡ None }
+    requires directory { IsStackOf layers.old (reverse parents.now) directory }
     requires bare { ShowsNoName (layers_of layers.old) (name.now ∷ reverse parents.now) }
     ensures takes { OnOk result (TakesName layers.old layers.new (name.now ∷ reverse parents.now)) }
     ensures keeps { OnOk result (StaysLayers layers.old layers.new) }
@@ -103,7 +109,7 @@ fn take_away(
     ensures unnames { IfOk result (λ released. Unnames layers.old layers.new (name.now ∷ reverse parents.now) released) }
     ensures parents { OnErr result (GainsParents layers.old layers.new (name.now ∷ reverse parents.now)) }
 {
-    let parent = place_parents(layers, parents)?;
+    let parent = place_parents(layers, directory, parents)?;
     let covered = layers.lowers_show(&parent, name);
     let dir = parent.top();
     lawful(layers);

@@ -9,5 +9,5 @@ use Rattle.make_remove.proofs.leaves.symlink.Goals as goal
 pub returns-clause-steps : goal.returns-clause-steps
 returns-clause-steps c =
     symlink-steps c.args.layers.now c.make_leaf.new.layers c.args.target c.args.path.now
-    (symlink-fine (layers_of c.args.layers.now) c.args.target c.args.path.now c.in_default.ensures c.in_default-vacant.ensures.cases)
+    (symlink-fine (layers_of c.args.layers.now) c.args.target c.args.path.now c.in_default.ensures c.in-Ok.ensures.cases)
     (subst (λ (a : Attributes). MakesLeaf c.args.layers.now c.make_leaf.new.layers c.args.path.now (content.SymbolicLink c.args.target) a) c.new_attributes-attributes.ensures c.in_ok-make_leaf.ensures.made)

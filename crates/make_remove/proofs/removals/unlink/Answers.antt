@@ -9,14 +9,14 @@ use Rattle.make_remove.proofs.removals.unlink.Goals as goal
 
 pub take_away-requires-clause-bare : goal.take_away-requires-clause-bare
 take_away-requires-clause-bare c =
-    let file = found-inode c.args.layers.now c.args.path.now c.in-Ok-Inode.field-0 c.in-Ok-Inode.field-0-0 c.in-Ok-Inode.field-0-is c.in-Ok-Inode.ensures.found in
+    let file = found-inode c.args.layers.now c.args.path.now c.in-Ok.walked.1 c.in-Inode.field-0 c.in-Inode.is c.in-Ok.ensures.found in
     let P : Path → Type 0 = λ p. ShowsNoName (layers_of c.args.layers.now) p in
     subst P c.in-Some.ensures (unshown-in (trees c.args.layers.now) c.args.path.now file)
 
 pub returns-clause-steps : goal.returns-clause-steps
 returns-clause-steps c =
-    unlink-step c.args.layers.now c.take_away.new.layers c.args.path.now (reverse c.in-Some.parents.now) c.in-Some.name.now c.in-Some.ensures (c.in-Ok-Inode.ensures.answers.0 refl)
-    (found-inode c.args.layers.now c.args.path.now c.in-Ok-Inode.field-0 c.in-Ok-Inode.field-0-0 c.in-Ok-Inode.field-0-is c.in-Ok-Inode.ensures.found) c.in_ok-key.ensures.takes
+    unlink-step c.args.layers.now c.take_away.new.layers c.args.path.now (reverse c.in-Some.parents.now) c.in-Some.name.now c.in-Some.ensures (c.in-Ok.ensures.answers.0 refl)
+    (found-inode c.args.layers.now c.args.path.now c.in-Ok.walked.1 c.in-Inode.field-0 c.in-Inode.is c.in-Ok.ensures.found) c.in_ok-key.ensures.takes
 
 pub returns-clause-unnames : goal.returns-clause-unnames
 returns-clause-unnames c = subst (λ p. Unnames c.args.layers.now c.take_away.new.layers p c.in_ok-key.key) (sym c.in-Some.ensures) c.in_ok-key.ensures.unnames
