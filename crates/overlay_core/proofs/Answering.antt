@@ -35,11 +35,10 @@ use Rattle.mount_laws.proofs.Lists.{law_of_list, law_of_bad_descriptors}
 use Rattle.mount_laws.proofs.Removed.{law_of_list_removed}
 use Rattle.mount_laws.proofs.Seeks.{at-start, law_of_seek}
 use Rattle.overlay_core.specs.declared.clients.Clients.{Clients}
-use Rattle.open_handles.specs.Dentries.{Dentries}
 use Rattle.open_handles.specs.Opened.{Location, At, Removed, path_in}
 use Rattle.open_handles.specs.declared.descriptors.OpenDirectory.{OpenDirectory}
 use Rattle.overlay_core.specs.declared.mount.Mount.{Mount}
-use Rattle.overlay_core.specs.Attaching.{KeepsPlaces, opened_by, path_of, ChangesClient}
+use Rattle.overlay_core.specs.Attaching.{opened_by, path_of, ChangesClient}
 use Rattle.open_handles.specs.declared.descriptors.Descriptors.{Descriptors}
 use Rattle.open_handles.specs.Descriptors.{opened, SetsSlot}
 use Rattle.open_handles.specs.Listings.{ChangesSlot, Closes, GivesNames, with_listing}

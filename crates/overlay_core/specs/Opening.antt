@@ -1,5 +1,5 @@
 -- Why an open of a directory is refused, before its client's descriptors are asked for, what it opens, and why a seek in one is refused.
-use Rattle.std.specs.Prelude.{OnOk, IfOk, OnErr, ◌≡◌, ℕ, ℤ, nat_abs, nat_eq, not, ◌&&◌, List, Option, None, Some, Result}
+use Rattle.std.specs.Prelude.{OnOk, IfOk, ◌≡◌, ℕ, ℤ, nat_abs, nat_eq, not, ◌&&◌, List, Option, None, Some, Result}
 use Rattle.std.specs.declared.alloc.AllocError.{AllocError}
 use Rattle.ov_base.specs.declared.call.OpenFlags.{OpenFlags}
 use Rattle.ov_base.specs.declared.errno.Errno.{Errno}

@@ -16,7 +16,7 @@ use crate::status::{attributes_at, status_at};
 use dir_listing::{Cursor, names};
 use layer_tree::{Inode, Node};
 use make_remove::{mkdir, symlink};
-use merged_lookup::{Found, Layers};
+use merged_lookup::{Found, Layers, Topmost};
 use ov_base::{Attributes, Bytes, Call, Content, Errno, NameList, OpenFlags, Path, Reply};
 use std::alloc::{AllocError, Global};
 use std::hash::RandomState;
@@ -128,6 +128,7 @@ impl Mount {
         ensures memory { takes_no_memory call.now ≡ true → IsOk result }
         ensures clients { KeepsAttached self.old.clients self.new.clients }
         ensures layers { UnlessChange call.now (self.new.layers ≡ self.old.layers) }
+        ensures refused { IfOk result (λ reply. (errno : Errno) → reply ≡ Reply.Refused errno → self.new.layers ≡ self.old.layers) }
         ensures lowers { self.new.layers.lowers ≡ self.old.layers.lowers }
         ensures thin { StaysThin self.old.layers self.new.layers }
     {
@@ -162,9 +163,9 @@ impl Mount {
     fn readlink(&self, path: &Path) -> Result<Reply, AllocError>
         ensures { IfOk result (λ reply. (s : State) → IsStateOf self.now s → (c : ℕ) → Serves (refusal s c (Call.Readlink path.now)) s c (Call.Readlink path.now) reply self.now) }
     {
-        match self.layers.walk(path) {
-            Ok(Found::Inode(place)) => read_link(self.layers.node(place)),
-            Ok(Found::Directory(_)) => Ok(Reply::Refused(Errno::EINVAL)),
+        match self.layers.walk_topmost(path) {
+            Ok(Topmost::Inode(place)) => read_link(self.layers.node(place)),
+            Ok(Topmost::Directory(_)) => Ok(Reply::Refused(Errno::EINVAL)),
             Err(errno) => Ok(Reply::Refused(errno)),
         }
     }
@@ -173,6 +174,7 @@ impl Mount {
         ensures serves { IfOk result (λ reply. (s : State) → IsStateOf self.old s → (c : ℕ) → Serves (refusal s c (Call.Mkdir path.now mode)) s c (Call.Mkdir path.now mode) reply self.new) }
         ensures err { OnErr result (StaysState self.old self.new) }
         ensures clients { self.new.clients ≡ self.old.clients }
+        ensures refused { IfOk result (λ reply. (errno : Errno) → reply ≡ Reply.Refused errno → self.new.layers ≡ self.old.layers) }
         ensures lowers { self.new.layers.lowers ≡ self.old.layers.lowers }
         ensures thin { StaysThin self.old.layers self.new.layers }
     {
@@ -186,6 +188,7 @@ impl Mount {
         ensures serves { IfOk result (λ reply. (s : State) → IsStateOf self.old s → (c : ℕ) → Serves (refusal s c (Call.Symlink target.now path.now)) s c (Call.Symlink target.now path.now) reply self.new) }
         ensures err { OnErr result (StaysState self.old self.new) }
         ensures clients { self.new.clients ≡ self.old.clients }
+        ensures refused { IfOk result (λ reply. (errno : Errno) → reply ≡ Reply.Refused errno → self.new.layers ≡ self.old.layers) }
         ensures lowers { self.new.layers.lowers ≡ self.old.layers.lowers }
         ensures thin { StaysThin self.old.layers self.new.layers }
     {
@@ -199,6 +202,7 @@ impl Mount {
         ensures serves { IfOk result (λ reply. (s : State) → IsStateOf self.old s → (c : ℕ) → Serves (refusal s c (Call.Unlink path.now)) s c (Call.Unlink path.now) reply self.new) }
         ensures err { OnErr result (StaysState self.old self.new) }
         ensures clients { self.new.clients ≡ self.old.clients }
+        ensures refused { IfOk result (λ reply. (errno : Errno) → reply ≡ Reply.Refused errno → self.new.layers ≡ self.old.layers) }
         ensures lowers { self.new.layers.lowers ≡ self.old.layers.lowers }
         ensures thin { StaysThin self.old.layers self.new.layers }
     {
@@ -213,6 +217,7 @@ impl Mount {
         ensures serves { IfOk result (λ reply. (s : State) → IsStateOf self.old s → (c : ℕ) → Serves (refusal s c (Call.Rmdir path.now)) s c (Call.Rmdir path.now) reply self.new) }
         ensures err { OnErr result (StaysState self.old self.new) }
         ensures clients { KeepsAttached self.old.clients self.new.clients }
+        ensures refused { IfOk result (λ reply. (errno : Errno) → reply ≡ Reply.Refused errno → self.new.layers ≡ self.old.layers) }
         ensures lowers { self.new.layers.lowers ≡ self.old.layers.lowers }
         ensures thin { StaysThin self.old.layers self.new.layers }
     {
@@ -236,9 +241,9 @@ impl Mount {
         if !self.clients.is_open_at(path) {
             return Ok(None);
         }
-        match self.layers.walk(path) {
-            Ok(Found::Directory(stack)) => {
-                Ok(Some(attributes_at(&self.layers, stack.top()).clone()?))
+        match self.layers.walk_topmost(path) {
+            Ok(Topmost::Directory(place)) => {
+                Ok(Some(attributes_at(&self.layers, place).clone()?))
             }
             _ => Ok(None),
         }
@@ -277,9 +282,9 @@ impl Mount {
         if mode > MODE_BITS {
             return Err(Errno::EINVAL);
         }
-        match self.layers.walk(path)? {
-            Found::Directory(_) => Ok(()),
-            Found::Inode(place) => Err(self.layers.blocked(place)),
+        match self.layers.walk_topmost(path)? {
+            Topmost::Directory(_) => Ok(()),
+            Topmost::Inode(place) => Err(self.layers.blocked(place)),
         }
     }
 

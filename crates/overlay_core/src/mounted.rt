@@ -158,6 +158,7 @@ impl Core {
         ensures finished { self.new.finished ≡ finished_after result self.old.finished }
         ensures clients { KeepsAttached self.old.mount.clients self.new.mount.clients }
         ensures layers { UnlessChange job.old.call (self.new.mount.layers ≡ self.old.mount.layers) }
+        ensures refused { (errno : Errno) → result ≡ Turn.Done (Reply.Refused errno) → self.new.mount.layers ≡ self.old.mount.layers }
         ensures lowers { self.new.mount.layers.lowers ≡ self.old.mount.layers.lowers }
         ensures thin { StaysThin self.old.mount.layers self.new.mount.layers }
         ensures options { self.new.options ≡ self.old.options }

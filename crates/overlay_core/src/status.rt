@@ -10,7 +10,7 @@ ghost use Rattle.layer_tree.specs.Tree.{inode_of};
 ghost use Rattle.merged_lookup.specs.Merged.{layers_of};
 
 use layer_tree::{Inode, Node};
-use merged_lookup::{Found, Layers, Place};
+use merged_lookup::{Layers, Place, Topmost};
 use ov_base::{Attributes, Content, Errno, ObjectKind, Path, Stat};
 
 /// What stat(2) answers at a path. On the way to its last name a name that shows nothing is ENOENT, a file ENOTDIR and a symbolic
@@ -18,9 +18,9 @@ use ov_base::{Attributes, Content, Errno, ObjectKind, Path, Stat};
 pub fn status_at(layers: &Layers, path: &Path) -> Result<Stat, Errno>
     ensures { result ≡ stat_at (layers_of layers.now) path.now }
 {
-    match layers.walk(path)? {
-        Found::Directory(stack) => Ok(directory_status(layers, stack.top())),
-        Found::Inode(place) => inode_status(layers.node(place)),
+    match layers.walk_topmost(path)? {
+        Topmost::Directory(place) => Ok(directory_status(layers, place)),
+        Topmost::Inode(place) => inode_status(layers.node(place)),
     }
 }
 

@@ -1,4 +1,4 @@
-use Rattle.std.proofs.Common.{◌≡◌, ◌+◌, ℕ, Some, sym, ap, ◌∙◌, subst, take, get_or}
+use Rattle.std.proofs.Common.{◌+◌, ℕ, ap, ◌∙◌, take}
 use Rattle.open_handles.specs.Holding.{holds, handles_on}
 use Rattle.overlay_core.proofs.Ending.{closes-none, closes-more, closes-free, next-open, on-more}
 use Rattle.overlay_core.proofs.closing.close_all.Goals as goal

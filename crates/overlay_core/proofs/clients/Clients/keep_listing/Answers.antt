@@ -1,8 +1,8 @@
-use Rattle.std.proofs.Common.{rules, ◌≡◌, ◌≢◌, ℕ, Some, None, refl}
+use Rattle.std.proofs.Common.{rules, ◌≡◌, ◌≢◌, ℕ, Some, refl}
 use Rattle.std.specs.BTreeMap.{get}
 use Rattle.std.specs.Ordering.{nat_cmp}
 use Rattle.open_handles.specs.Listings.{with_listing}
-use Rattle.overlay_core.proofs.Holding.{rises, held-listing, held-gives}
+use Rattle.overlay_core.proofs.Holding.{rises, held-listing}
 use Rattle.overlay_core.proofs.clients.Clients.keep_listing.Goals as goal
 
 pub returns : goal.returns

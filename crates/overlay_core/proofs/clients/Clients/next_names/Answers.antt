@@ -1,8 +1,7 @@
-use Rattle.std.proofs.Common.{rules, ◌≡◌, ◌≢◌, ℕ, Some, None, refl}
+use Rattle.std.proofs.Common.{rules, ◌≡◌, ◌≢◌, ℕ, Some}
 use Rattle.std.specs.BTreeMap.{get}
 use Rattle.std.specs.Ordering.{nat_cmp}
-use Rattle.open_handles.specs.Listings.{with_listing}
-use Rattle.overlay_core.proofs.Holding.{rises, held-listing, held-gives}
+use Rattle.overlay_core.proofs.Holding.{rises, held-gives}
 use Rattle.overlay_core.proofs.clients.Clients.next_names.Goals as goal
 
 pub returns : goal.returns

@@ -1,4 +1,4 @@
-use Rattle.std.proofs.Common.{arith, ◌≡◌, ◌+◌, Some, sym, ap, ◌∙◌, rules, is_some}
+use Rattle.std.proofs.Common.{arith, ◌≡◌, Some, sym}
 use Rattle.std.specs.BTreeMap.{get}
 use Rattle.std.specs.Ordering.{nat_cmp}
 use Rattle.overlay_core.specs.Attaching.{opened_by}

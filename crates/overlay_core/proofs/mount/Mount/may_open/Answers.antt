@@ -12,6 +12,6 @@ returns-in-Inode c =
     let offered : reads_directory c.args.flags ≡ true = search rules in
     ap (λ b. or_else (when (not b) EOPNOTSUPP) (place_fault (layers_of c.args.self.now.layers) c.args.path.now c.args.mode)) offered
     ∙ place-inode c.args.self.now.layers c.args.path.now c.args.mode c.in-Inode.place c.blocked.result c.if-mode-gt-MODE_BITS.false
-    (c.in_ok-walk.ensures.answers.0 refl)
-    (rw c.in-Inode.is at c.in_ok-walk.ensures.found)
+    (c.in_ok-walk_topmost.ensures.answers.0 refl)
+    (rw c.in-Inode.is at c.in_ok-walk_topmost.ensures.found)
     c.blocked.ensures

@@ -1,5 +1,4 @@
 use Rattle.ov_base.specs.declared.call.Call.TheVariants as call
-use Rattle.std.proofs.Common.{◌≡◌, ◌∙◌, None, sym, refl}
 use mathlib.Core.Logic.{∥∥₁_elim}
 use mathlib.Core.HLevel.{⊥_prop}
 use Rattle.overlay_core.proofs.Changing.{none-below, rmdir-open, rmdir-unopened, refused}
