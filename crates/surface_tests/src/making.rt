@@ -2,7 +2,7 @@
 use crate::fixtures::{mount, path, seen};
 use copy_up::{Need, need_at, place_dir, place_parents};
 use make_remove::create;
-use merged_lookup::{Layers, Look, split_last};
+use merged_lookup::{Layers, split_last};
 use ov_base::{Errno, Path};
 use std::hash::RandomState;
 use std::process::Abort;
@@ -39,7 +39,7 @@ fn makes_files(rt: HostRuntime) -> Result<(), Fail> {
 
 // Places the topmost parent that the upper lacks, and gives its number of names, 0 where none is lacking.
 fn place_next(rt: &impl Abort, layers: &mut Layers, path: &Path) -> usize {
-    let Ok(Look::Absent(_)) = layers.look(path) else {
+    let Ok(_) = layers.parent_of(path) else {
         return usize::MAX;
     };
     match need_at(layers, path) {
@@ -70,11 +70,11 @@ fn places_one_parent_at_a_time(rt: HostRuntime) -> Result<(), Fail> {
 
 // The layer of the directory that a path is in, once all its parents are placed.
 fn place_all(layers: &mut Layers, path: &Path) -> Option<usize> {
-    let Ok(_) = layers.look(path) else {
+    let Ok(Some(parent)) = layers.parent_of(path) else {
         return None;
     };
     let (_, parents) = split_last(path)?;
-    match place_parents(layers, parents) {
+    match place_parents(layers, parent.stack, parents) {
         Ok(stack) => Some(stack.top().layer),
         Err(_) => None,
     }
