@@ -8,6 +8,15 @@ use std::test::Fail;
 
 const DIRECTORY: &str = "layer = [{}, {entry = [{path = '/d', kind = 'dir'}]}]";
 
+// Gives up what is left of jobs, the last one first.
+fn drop_all(core: &mut Core, jobs: Vec<Job>) {
+    let mut jobs = jobs;
+    'jobs: while let Some(job) = jobs.pop() {
+        let _ = core.drop_job(job);
+    }
+    jobs.destroy_empty();
+}
+
 #[test]
 fn answers_jobs_in_the_order_of_finishing(rt: HostRuntime) -> Result<(), Fail> {
     let alloc = rt.alloc();
@@ -21,19 +30,12 @@ fn answers_jobs_in_the_order_of_finishing(rt: HostRuntime) -> Result<(), Fail> {
     };
     let made = path(&rt, alloc, "/d/x");
     let looked_up = path(&rt, alloc, "/d/x");
-    let make = Job::new(
-        client,
-        Call::Mkdir {
-            path: made,
-            mode: 0o700,
-        },
-    );
-    let look_up = Job::new(client, Call::Stat { path: looked_up });
-    let mut jobs = [make, look_up];
-    let outcome = drive(alloc, &mut core, &mut jobs, &[1, 7, 0, 1]);
-    let [make, look_up] = jobs;
-    let _ = core.drop_job(make);
-    let _ = core.drop_job(look_up);
+    let mode = 0o700;
+    let mut jobs = Vec::with_capacity(alloc, 2)?;
+    jobs.push_reserved(Job::new(client, Call::Mkdir { path: made, mode }));
+    jobs.push_reserved(Job::new(client, Call::Stat { path: looked_up }));
+    let outcome = drive(alloc, &mut core, jobs.as_mut_slice(), &[1, 7, 0, 1]);
+    drop_all(&mut core, jobs);
     let replies = outcome?;
     let mut indexes = [9, 9];
     for (place, (index, reply)) in replies.as_slice().iter().enumerate() {
