@@ -1,5 +1,5 @@
 -- A hash table of names, seen as a finite map.
-use Rattle.std.proofs.Common.{◌≡◌, ℕ, length, arith, List, [], ◌∷◌, Bool, true, false, cond, Option, Some, None, refl, sym, ap, ◌∙◌, ◌+◌, get_or, true≢false}
+use Rattle.std.proofs.Common.{◌≡◌, ℕ, zero, suc, length, slice_get, drop, arith, List, [], ◌∷◌, Bool, true, false, cond, Option, Some, None, refl, sym, ap, ◌∙◌, ◌+◌, get_or, true≢false}
 use Rattle.std.specs.Prelude.{nat_eq}
 use Rattle.std.specs.Ordering.{nat_cmp, is_eq, is_lt, ordering_reverse}
 use Rattle.std.specs.declared.cmp.Ordering.{Ordering}
@@ -98,3 +98,20 @@ unmade_entry h t name none is = sym (ap (λ (t : Table). entry_in t name) (unmad
 pub unmade_remove : (h : Option (Box Table)) (t : Table) (name : List ℕ) → h ≡ None → table_in h ≡ t → (table_in h).entries ≡ map.remove t.entries name
 unmade_remove h t name none is =
     ap (λ (o : Option (Box Table)). (table_in o).entries) none ∙ sym (remove_none name) ∙ sym (ap (λ (t : Table). map.remove t.entries name) (unmade h t none is))
+
+-- a look-up from an entry on: the entry's name is the one that is asked, or it isn't
+pub lookup-here : (es : List (List ℕ × Entry)) (i : ℕ) (q : List ℕ) (e : List ℕ × Entry) → slice_get es i ≡ Some e → name_eq q e.0 ≡ true → lookup (name_eq q) (drop i es) ≡ Some e.1
+lookup-here [] zero q e at h = cc
+lookup-here [] (suc i) q e at h = cc
+lookup-here (x ∷ xs) zero q e at h =
+    let is : x ≡ e = cc in
+    ap (λ (z : List ℕ × Entry). cond (name_eq q z.0) (Some z.1) (lookup (name_eq q) xs)) is ∙ ap (λ b. cond b (Some e.1) (lookup (name_eq q) xs)) h
+lookup-here (x ∷ xs) (suc i) q e at h = lookup-here xs i q e at h
+
+pub lookup-past : (es : List (List ℕ × Entry)) (i : ℕ) (q : List ℕ) (e : List ℕ × Entry) → slice_get es i ≡ Some e → name_eq q e.0 ≡ false → lookup (name_eq q) (drop i es) ≡ lookup (name_eq q) (drop (suc i) es)
+lookup-past [] zero q e at h = cc
+lookup-past [] (suc i) q e at h = cc
+lookup-past (x ∷ xs) zero q e at h =
+    let is : x ≡ e = cc in
+    ap (λ (z : List ℕ × Entry). cond (name_eq q z.0) (Some z.1) (lookup (name_eq q) xs)) is ∙ ap (λ b. cond b (Some e.1) (lookup (name_eq q) xs)) h
+lookup-past (x ∷ xs) (suc i) q e at h = lookup-past xs i q e at h

@@ -17,6 +17,9 @@ use std::alloc::{AllocError, Global};
 use std::hash::RandomState;
 use std::marker::Model;
 
+// So few names are compared one by one with the one that is asked, which takes less time than its hash.
+const FEW_NAMES: usize = 4;
+
 /// Names, each with its entry. The hash has random keys, against names that are picked to collide.
 #[derive(Drop)]
 pub(crate) struct HashedNames {
@@ -49,7 +52,24 @@ impl HashedNames {
     pub(crate) fn get(&self, name: &Name) -> Option<Entry>
         ensures { result ≡ entry_in self.now name.now }
     {
+        if self.table.len() <= FEW_NAMES {
+            return self.find(name);
+        }
         self.table.get(name).copied()
+    }
+
+    // `get`, name by name.
+    fn find(&self, name: &Name) -> Option<Entry>
+        ensures { result ≡ entry_in self.now name.now }
+    {
+        let entries = self.table.as_slice();
+        for index in 0..entries.len() {
+            let (other, entry) = entries.get_index(index)?;
+            if name == other {
+                return Some(*entry);
+            }
+        }
+        None
     }
 
     /// Makes room for so many more names.
