@@ -1,5 +1,5 @@
 -- The descent by keys leads from the places of a directory to those of a name in it.
-use Rattle.std.proofs.Common.{◌≡◌, ℕ, zero, suc, ◌≤◌, ◌<◌, ◌+◌, Bool, true, false, cond, List, [], ◌∷◌, Option, None, Some, refl, sym, ap, ◌∙◌, add-one, is_some, length, drop, nat_lt, arith, map, slice_get, ◌++◌, ◌-◌, append_assoc, length-drop, take, reverse, get_or}
+use Rattle.std.proofs.Common.{◌≡◌, ℕ, zero, suc, ◌≤◌, ◌<◌, ◌+◌, Bool, true, false, List, [], ◌∷◌, Option, None, Some, refl, sym, ap, ◌∙◌, add-one, is_some, length, drop, arith, map, slice_get, ◌++◌, ◌-◌, append_assoc, length-drop, take, reverse, get_or}
 use Rattle.std.proofs.lemmas.Bool.{false≢true}
 use Rattle.std.proofs.lemmas.List.{take_more, reverse-append, length-map}
 use Rattle.std.specs.Option.{option_and_then, option_map}
