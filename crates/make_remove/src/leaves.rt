@@ -54,7 +54,13 @@ pub fn symlink(
         Err(errno) => return Ok(Err(errno)),
     };
     let attributes = new_attributes(alloc, LINK_MODE);
-    make_leaf(layers, directory, path, Content::SymbolicLink(target), attributes)?;
+    make_leaf(
+        layers,
+        directory,
+        path,
+        Content::SymbolicLink(target),
+        attributes,
+    )?;
     Ok(Ok(()))
 }
 
@@ -108,7 +114,13 @@ pub fn create(
         Err(errno) => return Ok(Err(errno)),
     };
     let content = Content::File(Bytes::new(alloc));
-    make_leaf(layers, directory, path, content, new_attributes(alloc, mode))?;
+    make_leaf(
+        layers,
+        directory,
+        path,
+        content,
+        new_attributes(alloc, mode),
+    )?;
     Ok(Ok(()))
 }
 
