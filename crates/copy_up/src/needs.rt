@@ -8,7 +8,7 @@ ghost use Rattle.copy_up.specs.Needs.{IsNeed, first_names};
 
 use crate::parents::{directory_in, place_parent};
 use layer_tree::{Entry, ROOT};
-use merged_lookup::{Layers, Stack, split_last};
+use merged_lookup::{Layers, Stack};
 use ov_base::{Name, Path};
 use std::alloc::AllocError;
 
@@ -23,7 +23,7 @@ pub enum Need {
 pub fn need_at(layers: &Layers, path: &Path) -> Need
     ensures { IsNeed (layer_of layers.now.upper) path.now result }
 {
-    let Some((_, parents)) = split_last(path) else {
+    let Some((_, parents)) = path.split_last() else {
         return Need::Nothing;
     };
     let mut dir = ROOT;

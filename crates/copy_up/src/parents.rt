@@ -9,10 +9,10 @@ ghost use Rattle.layer_tree.specs.Tree.{layer_of, inode_at, SetsPath, SameObject
 ghost use Rattle.merged_lookup.specs.Merged.{layers_of, way_fault, top_of, IsStackOf, ShowsDirectory};
 ghost use Rattle.copy_up.specs.Showing.{ShowsSame, HasPlace, GainsParent, IsParent, GainsParents, Stays, StaysLayers, StaysMount, StaysThin};
 
-use layer_tree::{Layer, Marks, Node, Object};
-use merged_lookup::{Found, Layers, Place, Stack};
+use layer_tree::{Layer, Marks, Object};
+use merged_lookup::{Found, Layers, Stack};
 use ov_base::{Attributes, Name};
-use std::alloc::{AllocError, Global};
+use std::alloc::AllocError;
 
 /// The merged directory at these names from the root down, where the upper has one: the one that is given, if the upper has it. Those that
 /// the upper lacks are placed first, from the root down, with the attributes that they show. It fails only for want of memory; what is shown
@@ -84,7 +84,7 @@ pub(crate) fn place_parent(
     if place.layer == 0 {
         return Ok(found);
     }
-    let attributes = attributes_at(layers, place)?;
+    let attributes = layers.attributes_at(place).clone()?;
     let dir = parent.top();
     insert_directory(layers, dir.key, name, attributes, false)?;
     let placed = directory_in(layers, parent, name);
@@ -98,21 +98,6 @@ pub(crate) fn directory_in(layers: &Layers, parent: &Stack, name: &Name) -> Stac
 {
     match layers.step(parent, name) {
         Some(Found::Directory(stack)) => stack,
-        _ => unreachable!(),
-    }
-}
-
-// A copy of the attributes of a directory.
-fn attributes_at(layers: &Layers, place: Place) -> Result<Attributes, AllocError>
-    requires { (p : Path) × (a : Attributes) × (shows 0 (layers_of layers.now) p ≡ Some (held.Folder place.layer place.key a)) }
-    ensures { IfOk result (λ copy. (p : Path) (a : Attributes) → shows 0 (layers_of layers.now) p ≡ Some (held.Folder place.layer place.key a) → copy ≡ a) }
-{
-    let Some(layer) = layers.layer(place.layer) else {
-        unreachable!()
-    };
-    layer.lawful();
-    match layer.node(place.key) {
-        Some(Node::Directory(directory)) => Ok(directory.attributes.clone()?),
         _ => unreachable!(),
     }
 }

@@ -1,12 +1,13 @@
 -- A file or link that is made in a directory whose missing parents were placed.
-use Rattle.std.proofs.Common.{◌≡◌, ◌↔◌, ◌≤◌, ℕ, false, cond, List, [], ◌∷◌, ◌++◌, Option, None, Some, refl, sym, ap, ◌∙◌, subst, length, nat_lt, nat_eq, arith}
+use Rattle.std.proofs.Common.{◌≡◌, ◌↔◌, ◌≤◌, ◌<◌, ℕ, Bool, true, false, not, ◌&&◌, cond, List, [], ◌∷◌, ◌++◌, Option, None, Some, Ok, Err, refl, sym, ap, ◌∙◌, subst, length, nat_lt, nat_le, nat_eq, arith}
+use Rattle.std.proofs.lemmas.Bool.{le-ltb, leb-true, ltb-true}
 use Rattle.std.specs.Option.{option_and_then}
 use Rattle.ov_base.specs.declared.attributes.Attributes.{Attributes}
 use Rattle.ov_base.specs.declared.bytes.Content.{Content}
 use Rattle.ov_base.specs.declared.bytes.Content.TheVariants as content
 use Rattle.plain_model.specs.Layers.{Name, Path, Named, Inode, Layer, held, shows, same_path, through, IsLayer, AreLayers}
 use Rattle.plain_model.specs.Tree.{IsThin, Own, SeenLeaf, merged}
-use Rattle.ov_base.specs.declared.errno.Errno.{Errno}
+use Rattle.ov_base.specs.Targets.{target_fault, target_of}
 use Rattle.ov_base.specs.declared.errno.Errno.TheVariants as errno
 use Rattle.plain_model.specs.Refusals.{when, has_nul}
 use Rattle.mount_laws.specs.Looks.{or_else}
@@ -27,7 +28,7 @@ use Rattle.copy_up.proofs.Frames.{others-then}
 use Rattle.copy_up.proofs.Placing.{nothing-held, free-absent}
 use Rattle.copy_up.proofs.Keeping.{lowers-same}
 use Rattle.make_remove.specs.Making.{mkdir_fault, new_attributes, vacancy_fault}
-use Rattle.make_remove.specs.Leaves.{MakesLeaf, SymlinkSteps, CreateSteps, target_fault}
+use Rattle.make_remove.specs.Leaves.{MakesLeaf, SymlinkSteps, CreateSteps}
 use Rattle.make_remove.proofs.Making.{free-directory}
 
 -- a new inode of one name
@@ -85,15 +86,21 @@ leaf-made start old new same stays names low keep p n q key c a e absent placed 
 pub leaf-thin : (start old new : Layers) → ShowsSame start old → StaysLayers start old → ((x : Path) (k : ℕ) → (held (layer_of old.upper) x ≡ Some (Named k)) ↔ (held (layer_of start.upper) x ≡ Some (Named k))) → new.lowers ≡ old.lowers → (IsLayer (layer_of old.upper) → IsLayer (layer_of new.upper)) → (p : Path) (n : Name) (q : Path) (key : ℕ) (c : Content) (a : Attributes) → p ≡ n ∷ q → shows 0 (layers_of start) p ≡ None → PlacesLeaf (layer_of old.upper) (layer_of new.upper) (n ∷ q) key (leaf_of c a) → StaysThin start old → StaysThin start new
 leaf-thin start old new same stays names low keep p n q key c a e absent placed thin = thin-at start old new same stays names low keep n q key c a (sym (ap (shows 0 (layers_of start)) e) ∙ absent) placed thin
 
-or-chain : (a b c d : Option Errno) → or_else a (or_else b c) ≡ None → d ≡ None → or_else a (or_else b (or_else c d)) ≡ None
-or-chain None None None d h e = e
-or-chain None None (Some x) d h e = h
-or-chain None (Some x) c d h e = h
-or-chain (Some x) b c d h e = h
+not-zero : (n : ℕ) → 0 < n → nat_eq n 0 ≡ false
+not-zero n h = grind arith
 
--- a link with a target that it may have, where something may be made
-pub symlink-fine : (Ls : List Layer) (target : List ℕ) (p : Path) → target_fault target ≡ None → vacancy_fault Ls p ≡ None → symlink_fault Ls target p ≡ None
-symlink-fine Ls target p h e = or-chain (when (nat_lt 4095 (length target)) errno.ENAMETOOLONG) (when (nat_eq (length target) 0) errno.ENOENT) (when (has_nul target) errno.EINVAL) (vacancy_fault Ls p) h e
+-- a link of a target, where something may be made
+pub symlink-fine : (Ls : List Layer) (target : List ℕ) (p : Path) → target_of target ≡ Ok target → vacancy_fault Ls p ≡ None → symlink_fault Ls target p ≡ None
+symlink-fine Ls target p h e = of (nat_lt 0 (length target)) (nat_le (length target) 4095) (has_nul target) refl refl refl h
+  where
+    of : (a b c : Bool) → nat_lt 0 (length target) ≡ a → nat_le (length target) 4095 ≡ b → has_nul target ≡ c → cond (a && b && not c) (Ok target) (Err (target_fault target)) ≡ Ok target → symlink_fault Ls target p ≡ None
+    of false b c some short plain told = cc
+    of true false c some short plain told = cc
+    of true true true some short plain told = cc
+    of true true false some short plain told =
+        let long : nat_lt 4095 (length target) ≡ false = le-ltb 4095 (length target) (leb-true (length target) 4095 short) in
+        let bare : nat_eq (length target) 0 ≡ false = not-zero (length target) (ltb-true 0 (length target) some) in
+        rw (long, bare, plain) e
 
 -- symlink is the machine's step where the link is made
 pub symlink-steps : (old new : Layers) (target : List ℕ) (p : Path) → symlink_fault (layers_of old) target p ≡ None → MakesLeaf old new p (content.SymbolicLink target) (new_attributes 0o777) → SymlinkSteps old new target p

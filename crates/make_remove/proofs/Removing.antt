@@ -26,7 +26,8 @@ use Rattle.merged_lookup.proofs.Looking.{head-places, head-unless}
 use Rattle.copy_up.specs.Showing.{is_object, ShowsSame, StaysLayers, GainsParents}
 use Rattle.copy_up.proofs.Frames.{others-then}
 use Rattle.copy_up.proofs.Keeping.{lowers-same, linked-by}
-use Rattle.copy_up.proofs.Nodes.{IsDirectoryWith, held-node, table-some}
+use Rattle.merged_lookup.proofs.Folders.{IsDirectoryWith, held-node}
+use Rattle.copy_up.proofs.Nodes.{table-some}
 use Rattle.copy_up.proofs.Placing.{IsHeldDirectory, top-held, parents-shown, nothing-held, free-absent}
 use Rattle.make_remove.specs.Removing.{unlink_fault, rmdir_fault, ShowsNoName, TakesAway, Loses, Removes, TellsNames, TakesName, left_behind}
 use Rattle.make_remove.proofs.Making.{under-same, free-directory}

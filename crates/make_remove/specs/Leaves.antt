@@ -17,13 +17,6 @@ use Rattle.merged_lookup.specs.declared.layers.Layers.{Layers}
 use Rattle.merged_lookup.specs.Merged.{layers_of, lowers_of}
 use Rattle.copy_up.specs.Showing.{KeepsOthers}
 
--- why a link can't have this target
-abbrev pub target_fault : List ℕ → Option Errno
-target_fault target =
-    or_else (when (nat_lt 4095 (length target)) errno.ENAMETOOLONG)
-    (or_else (when (nat_eq (length target) 0) errno.ENOENT)
-    (when (has_nul target) errno.EINVAL))
-
 -- The upper holds a new file or link at the path, in place of a whiteout where one stood there; it is all that is shown anew.
 -- Its number was no other object's; what the upper holds elsewhere, and what stands under its keys, stays, but for missing parents that
 -- it gained.

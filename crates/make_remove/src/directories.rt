@@ -5,20 +5,19 @@ ghost use Rattle.merged_lookup.specs.Merged.{layers_of, parents_fault, parent, I
 ghost use Rattle.copy_up.specs.Showing.{ShowsSame, GainsParents, StaysLayers, StaysMount, StaysThin};
 ghost use Rattle.make_remove.specs.Making.{MakesDirectory, MkdirSteps, mkdir_fault};
 
-use crate::objects::{MODE_BITS, new_attributes, vacant};
+use crate::objects::{new_attributes, vacant};
 use copy_up::{insert_directory, place_parents};
-use merged_lookup::{Layers, Stack, split_last};
-use ov_base::{Errno, Path};
+use merged_lookup::{Layers, Stack};
+use ov_base::{Errno, Mode, Path};
 use std::alloc::{AllocError, Global};
 
-/// Makes a directory with this mode, owner 0, group 0 and no user attributes, as mkdir(2). A mode over 0o7777 is EINVAL; on the way
-/// to the last name a name that shows nothing is ENOENT, a file ENOTDIR and a symbolic link ELOOP; where something is shown it is
-/// EEXIST. A refusal changes nothing, and want of memory changes nothing that is shown.
+/// Makes a directory with this mode, owner 0, group 0 and no user attributes, as mkdir(2). On the way to the last name a name that
+/// shows nothing is ENOENT, a file ENOTDIR and a symbolic link ELOOP; where something is shown it is EEXIST. A refusal changes nothing, and want of memory changes nothing that is shown.
 pub fn mkdir(
     alloc: Global,
     layers: &mut Layers,
     path: &Path,
-    mode: u32,
+    mode: Mode,
 ) -> Result<Result<(), Errno>, AllocError>
     ensures refused { IfOk result (λ r. IfErr r (λ e. mkdir_fault (layers_of layers.old) path.now mode ≡ Some e)) }
     ensures unchanged { IfOk result (λ r. OnErr r (layers.new ≡ layers.old)) }
@@ -31,9 +30,7 @@ pub fn mkdir(
     ensures keeps { StaysLayers layers.old layers.new }
     ensures thin { StaysThin layers.old layers.new }
 {
-    if mode > MODE_BITS {
-        return Ok(Err(Errno::EINVAL));
-    }
+    mode.lawful();
     let directory = match vacant(layers, path) {
         Ok(directory) => directory,
         Err(errno) => return Ok(Err(errno)),
@@ -48,7 +45,7 @@ fn make(
     layers: &mut Layers,
     directory: Stack,
     path: &Path,
-    mode: u32,
+    mode: Mode,
 ) -> Result<(), AllocError>
     requires directory { IsStackOf layers.old (parent path.now) directory }
     requires parents { parents_fault (layers_of layers.old) path.now ≡ None }
@@ -62,7 +59,7 @@ fn make(
     ensures keeps { StaysLayers layers.old layers.new }
     ensures thin { StaysThin layers.old layers.new }
 {
-    let Some((name, parents)) = split_last(path) else {
+    let Some((name, parents)) = path.split_last() else {
         unreachable!()
     };
     let parent = place_parents(layers, directory, parents)?;

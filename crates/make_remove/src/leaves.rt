@@ -1,7 +1,6 @@
 // `symlink`, and making a file.
-ghost use Rattle.std.specs.Prelude.{◌≡◌, ◌∷◌, [], ℕ, Some, None, IfOk, IfErr, OnOk, OnErr, MatchResult};
+ghost use Rattle.std.specs.Prelude.{◌≡◌, ◌∷◌, [], ℕ, Some, None, IfOk, IfErr, OnOk, OnErr};
 ghost use Rattle.plain_model.specs.Layers.{Path as Names, shows, AreLayers, IsLayer};
-ghost use Rattle.plain_model.specs.Refusals as rule;
 ghost use Rattle.mount_laws.specs.Leaves.{PlacesLeaf, symlink_fault};
 ghost use Rattle.slab.specs.Slab.{get};
 ghost use Rattle.layer_tree.specs.Nameless.{KeepsObjects};
@@ -10,29 +9,22 @@ ghost use Rattle.merged_lookup.specs.Merged.{layers_of, parents_fault, parent, I
 ghost use Rattle.copy_up.specs.Showing.{ShowsSame, GainsParents, HasPlace, StaysLayers, StaysMount, StaysThin};
 ghost use Rattle.make_remove.specs.Making as made;
 ghost use Rattle.make_remove.specs.Making.{mkdir_fault};
-ghost use Rattle.make_remove.specs.Leaves.{MakesLeaf, SymlinkSteps, CreateSteps, target_fault};
+ghost use Rattle.make_remove.specs.Leaves.{MakesLeaf, SymlinkSteps, CreateSteps};
 ghost use Rattle.ov_base.specs.declared.bytes.Content.TheVariants as content;
 
-use crate::objects::{MODE_BITS, new_attributes, vacant};
+use crate::objects::{new_attributes, vacant};
 use copy_up::place_parents;
 use layer_tree::{Layer, Object};
-use merged_lookup::{Layers, Stack, split_last};
-use ov_base::{Attributes, Bytes, Content, Errno, Name, Path};
+use merged_lookup::{Layers, Stack};
+use ov_base::{Attributes, Bytes, Content, Errno, LinkTarget, Mode, Name, Path};
 use std::alloc::{AllocError, Global};
 
-/// The most bytes of a link's target, as Linux's `PATH_MAX` without the NUL.
-const TARGET_MAX: usize = 4095;
-
-/// The mode of a symbolic link.
-const LINK_MODE: u32 = 0o777;
-
-/// Makes a symbolic link of this target, with mode 0777, owner 0, group 0 and no user attributes, as symlink(2). A target over 4,095
-/// bytes is ENAMETOOLONG, an empty one ENOENT, one with a NUL EINVAL; then the way to the last name is refused as `mkdir`'s, and
-/// where something is shown it is EEXIST. A refusal changes nothing, and want of memory changes nothing that is shown.
+/// Makes a symbolic link of this target, with mode 0777, owner 0, group 0 and no user attributes, as symlink(2). The way to the last
+/// name is refused as `mkdir`'s, and where something is shown it is EEXIST. A refusal changes nothing, and want of memory changes nothing that is shown.
 pub fn symlink(
     alloc: Global,
     layers: &mut Layers,
-    target: Bytes,
+    target: LinkTarget,
     path: &Path,
 ) -> Result<Result<(), Errno>, AllocError>
     ensures refused { IfOk result (λ r. IfErr r (λ e. symlink_fault (layers_of layers.old) target path.now ≡ Some e)) }
@@ -46,14 +38,12 @@ pub fn symlink(
     ensures keeps { StaysLayers layers.old layers.new }
     ensures thin { StaysThin layers.old layers.new }
 {
-    if let Err(errno) = check_target(&target) {
-        return Ok(Err(errno));
-    }
+    target.lawful();
     let directory = match vacant(layers, path) {
         Ok(directory) => directory,
         Err(errno) => return Ok(Err(errno)),
     };
-    let attributes = new_attributes(alloc, LINK_MODE);
+    let attributes = new_attributes(alloc, Mode::of_links());
     make_leaf(
         layers,
         directory,
@@ -64,36 +54,13 @@ pub fn symlink(
     Ok(Ok(()))
 }
 
-// Whether a link may have this target.
-fn check_target(target: &Bytes) -> Result<(), Errno>
-    ensures { MatchResult result (λ _. target_fault target.now ≡ None) (λ e. target_fault target.now ≡ Some e) }
-{
-    let bytes = target.as_slice();
-    if bytes.len() > TARGET_MAX {
-        return Err(Errno::ENAMETOOLONG);
-    }
-    if bytes.is_empty() {
-        return Err(Errno::ENOENT);
-    }
-    if has_nul(bytes) {
-        return Err(Errno::EINVAL);
-    }
-    Ok(())
-}
-
-fn has_nul(bytes: &[u8]) -> bool
-    ensures { result ≡ rule.has_nul bytes.now }
-{
-    bytes.iter().any(|byte| *byte == 0)
-}
-
 /// Makes an empty file with this mode, owner 0, group 0 and no user attributes. It is refused as `mkdir` is. A refusal changes nothing,
 /// and want of memory changes nothing that is shown.
 pub fn create(
     alloc: Global,
     layers: &mut Layers,
     path: &Path,
-    mode: u32,
+    mode: Mode,
 ) -> Result<Result<(), Errno>, AllocError>
     ensures refused { IfOk result (λ r. IfErr r (λ e. mkdir_fault (layers_of layers.old) path.now mode ≡ Some e)) }
     ensures unchanged { IfOk result (λ r. OnErr r (layers.new ≡ layers.old)) }
@@ -106,9 +73,7 @@ pub fn create(
     ensures keeps { StaysLayers layers.old layers.new }
     ensures thin { StaysThin layers.old layers.new }
 {
-    if mode > MODE_BITS {
-        return Ok(Err(Errno::EINVAL));
-    }
+    mode.lawful();
     let directory = match vacant(layers, path) {
         Ok(directory) => directory,
         Err(errno) => return Ok(Err(errno)),
@@ -142,7 +107,7 @@ fn make_leaf(
     ensures keeps { StaysLayers layers.old layers.new }
     ensures thin { StaysThin layers.old layers.new }
 {
-    let Some((name, parents)) = split_last(path) else {
+    let Some((name, parents)) = path.split_last() else {
         unreachable!()
     };
     let parent = place_parents(layers, directory, parents)?;

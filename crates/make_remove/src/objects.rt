@@ -6,11 +6,8 @@ ghost use Rattle.make_remove.specs.Making as made;
 ghost use Rattle.make_remove.specs.Making.{vacancy_fault};
 
 use merged_lookup::{Layers, Stack};
-use ov_base::{Attributes, Errno, Path, UserAttributes};
+use ov_base::{Attributes, Errno, Mode, Path, UserAttributes};
 use std::alloc::Global;
-
-/// The twelve bits of a mode.
-pub(crate) const MODE_BITS: u32 = 0o7777;
 
 // The merged directory in which an object may be made at a path: its parents lead to it, and nothing is shown at the last name.
 pub(crate) fn vacant(layers: &Layers, path: &Path) -> Result<Stack, Errno>
@@ -29,7 +26,7 @@ pub(crate) fn vacant(layers: &Layers, path: &Path) -> Result<Stack, Errno>
 }
 
 // The attributes of a new object: this mode, owner 0, group 0 and no user attributes.
-pub(crate) fn new_attributes(alloc: Global, mode: u32) -> Attributes
+pub(crate) fn new_attributes(alloc: Global, mode: Mode) -> Attributes
     ensures { result ≡ made.new_attributes mode }
 {
     Attributes {

@@ -18,7 +18,7 @@ ghost use Rattle.make_remove.specs.Removing.{unlink_fault, rmdir_fault, ShowsNoN
 use copy_up::place_parents;
 use dir_listing::shows_names;
 use layer_tree::{Entry, Layer, Node};
-use merged_lookup::{Found, Layers, Stack, split_last};
+use merged_lookup::{Found, Layers, Stack};
 use ov_base::{Errno, Name, Path};
 use std::alloc::AllocError;
 
@@ -42,7 +42,7 @@ pub fn unlink(layers: &mut Layers, path: &Path) -> Result<Result<Option<usize>, 
     ensures unnames { IfOk result (λ r. IfOk r (λ released. Unnames layers.old layers.new path.now released)) }
     ensures parents { OnErr result (GainsParents layers.old layers.new path.now) }
 {
-    let Some((name, parents)) = split_last(path) else {
+    let Some((name, parents)) = path.split_last() else {
         return Ok(Err(ROOT_REFUSAL));
     };
     let (directory, found) = match layers.walk_in(path) {
@@ -74,7 +74,7 @@ pub fn rmdir(layers: &mut Layers, path: &Path) -> Result<Result<Option<usize>, E
     ensures unnames { IfOk result (λ r. IfOk r (λ released. Unnames layers.old layers.new path.now released)) }
     ensures parents { OnErr result (GainsParents layers.old layers.new path.now) }
 {
-    let Some((name, parents)) = split_last(path) else {
+    let Some((name, parents)) = path.split_last() else {
         return Ok(Err(ROOT_REFUSAL));
     };
     let (directory, found) = match layers.walk_in(path) {

@@ -1,4 +1,5 @@
 pub mod Descending
+pub mod Folders
 pub mod Looking
 pub mod Passing
 pub mod Rows

@@ -1,7 +1,7 @@
 -- What one step, and a walk of several, show.
-use Rattle.std.proofs.Common.{◌≡◌, ℕ, suc, ◌<◌, ◌≤◌, ◌+◌, ◌++◌, Bool, true, false, not, List, [], ◌∷◌, Option, None, Some, refl, sym, ap, ◌∙◌, subst, is_some, length, map, slice_get, drop, take, reverse, arith, nat_eq, cond, get_or, MatchOption}
+use Rattle.std.proofs.Common.{◌≡◌, ℕ, suc, ◌<◌, ◌≤◌, ◌+◌, ◌++◌, Bool, true, false, not, List, [], ◌∷◌, Option, None, Some, refl, sym, ap, ◌∙◌, subst, is_some, length, map, slice_get, drop, take, reverse, arith, nat_eq, cond, get_or}
 use Rattle.std.proofs.lemmas.Bool.{false≢true}
-use Rattle.std.proofs.lemmas.List.{reverse-reverse, reverse-append, length-reverse, take-append-drop}
+use Rattle.std.proofs.lemmas.List.{reverse-append, take-append-drop}
 use Rattle.std.specs.Option.{option_and_then, option_map}
 use Rattle.slab.specs.Slab.{get}
 use Rattle.ov_base.specs.declared.attributes.Attributes.{Attributes}
@@ -132,14 +132,6 @@ way-more Ls (n ∷ r) p e h = ap (λ z. or_else z (fault (shows 0 Ls (n ∷ (r +
 pub way-next : (Ls : List Layer) (p : Path) (n : Name) (e : Option Errno) → way_fault Ls p ≡ None → fault (shows 0 Ls (n ∷ p)) ≡ e → way_fault Ls (n ∷ p) ≡ e
 way-next Ls p n e h f = ap (λ z. or_else z (fault (shows 0 Ls (n ∷ p)))) h ∙ f
 
--- a path by its names from the root
-pub path-split : (p : Path) (parents : List Name) (n : Name) → reverse p ≡ parents ++ n ∷ [] → p ≡ n ∷ reverse parents
-path-split p parents n e = sym (reverse-reverse p) ∙ ap reverse e ∙ reverse-append parents (n ∷ [])
-
-pub path-none : (p : Path) → length (reverse p) ≡ 0 → p ≡ []
-path-none [] h = refl
-path-none (n ∷ p) h = absurd (omega (arith, h, length-reverse (n ∷ p)))
-
 -- the names after some of them, before those, last first
 pub reverse-parts : (names : List Name) (i : ℕ) → reverse names ≡ reverse (drop i names) ++ reverse (take i names)
 reverse-parts names i = ap reverse (sym (take-append-drop i names)) ∙ reverse-append (take i names) (drop i names)
@@ -258,7 +250,3 @@ root-shown l s is =
       shown = ap (λ z. Some (Folder (top_of z).layer (top_of z).key (layer_of l.upper).root)) (sym is.places);
       places = is.places;
     }
-
-pub match-map : {T : Type 0} (P R : Type 0) (Q S : T → Type 0) (o : Option T) → (P → R) → ((x : T) → Q x → S x) → MatchOption o P Q → MatchOption o R S
-match-map P R Q S None f g h = f h
-match-map P R Q S (Some x) f g h = g x h

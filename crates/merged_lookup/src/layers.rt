@@ -2,6 +2,8 @@
 ghost use Rattle.std.specs.Prelude.{◌≡◌, ◌≢◌, ◌+◌, ◌<◌, ◌≤◌, ◌∷◌, [], List, ℕ, Option, length, slice_get, Some, None, is_some, IsOk, IfOk, IfErr, MatchOption, ◌↔◌, reverse, take};
 ghost use Rattle.std.specs.Vec.{vec_len};
 ghost use Rattle.std.specs.Option.{option_copied, option_and_then};
+ghost use Rattle.ov_base.specs.declared.attributes.Attributes.{Attributes};
+ghost use Rattle.plain_model.specs.Layers as held;
 ghost use Rattle.plain_model.specs.Layers.{Path, shows, is_directory, under};
 ghost use Rattle.layer_tree.specs.Tree.{layer_of, inode_of};
 
@@ -10,7 +12,7 @@ use crate::descent::{below_upper, copied, enter, roots, topmost};
 use crate::found::{Found, Parent, Topmost};
 use crate::stack::{Place, Places, Stack};
 use layer_tree::{Inode, Layer, Node, ROOT};
-use ov_base::{Content, Errno, Name, Path};
+use ov_base::{Attributes, Content, Errno, Name, Path};
 
 /// The most layers of a mount: the upper and 16 lower ones.
 pub const LAYERS_MAX: usize = 17;
@@ -89,6 +91,21 @@ impl Layers {
         self.layer(place.layer)?.node(place.key)
     }
 
+    /// The attributes of the directory that is shown at a place.
+    pub fn attributes_at(&self, place: Place) -> &Attributes
+        requires { (p : Path) × (a : Attributes) × (shows 0 (layers_of self.now) p ≡ Some (held.Folder place.layer place.key a)) }
+        ensures { (p : Path) (a : Attributes) → shows 0 (layers_of self.now) p ≡ Some (held.Folder place.layer place.key a) → result.now ≡ a }
+    {
+        let Some(layer) = self.layer(place.layer) else {
+            unreachable!()
+        };
+        layer.lawful();
+        match layer.node(place.key) {
+            Some(Node::Directory(directory)) => &directory.attributes,
+            _ => unreachable!(),
+        }
+    }
+
     /// What a name shows in a merged directory.
     pub fn step(&self, stack: &Stack, name: &Name) -> Option<Found>
         ensures { (p : Path) → IsStackOf self.now p stack.now → IsAnswer self.now (name.now ∷ p) result }
@@ -129,7 +146,7 @@ impl Layers {
         ensures found { IfOk result (λ found. MatchOption found (path.now ≡ []) (IsParentOf self.now path.now)) }
         ensures refused { IfErr result (λ e. parents_fault (layers_of self.now) path.now ≡ Some e) }
     {
-        let Some((name, parents)) = split_last(path) else {
+        let Some((name, parents)) = path.split_last() else {
             return Ok(None);
         };
         let stack = self.directory(parents)?;
@@ -289,11 +306,4 @@ impl Layers {
     {
         topmost(self, below_upper(parent.places()), name).is_some()
     }
-}
-
-/// The last name of a path, and the names before it from the root down; none for the root.
-pub fn split_last(path: &Path) -> Option<(&Name, &[Name])>
-    ensures { MatchOption result (path.now ≡ []) (λ split. path.now ≡ split.0.now ∷ reverse split.1.now) }
-{
-    path.names().split_last()
 }

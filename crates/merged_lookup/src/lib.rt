@@ -12,5 +12,5 @@ mod spelling;
 mod stack;
 
 pub use found::{Found, Parent, Topmost};
-pub use layers::{LAYERS_MAX, Layers, split_last};
+pub use layers::{LAYERS_MAX, Layers};
 pub use stack::{Place, Stack};

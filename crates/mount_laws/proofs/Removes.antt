@@ -16,7 +16,7 @@ use Rattle.plain_model.proofs.Merged.{named-seen}
 use Rattle.plain_model.proofs.Paths.{place, paths_tell, ids_tell}
 use Rattle.plain_model.proofs.Walks.{lead-outside, lead-at}
 use Rattle.mount_laws.specs.Looks.{parents_fault, walk_fault, IsMountOf, IsHidden, KeepsHidden}
-use Rattle.mount_laws.specs.Removals.{ShowsNoName, fewer, Loses, LawOfUnlinked, LawOfRemovedDirectory}
+use Rattle.mount_laws.specs.Removals.{folder_attributes, ShowsNoName, fewer, Loses, LawOfUnlinked, LawOfRemovedDirectory}
 use Rattle.mount_laws.proofs.Handles.{not-same, held-by}
 use Rattle.mount_laws.proofs.Links.{first-none, second-none}
 use Rattle.mount_laws.proofs.Looks.{none-of, at-some, shown-there}
@@ -150,15 +150,15 @@ face-named n None = refl
 face-named n (Some (Branch a b names c)) = refl
 face-named n (Some (Leaf content a u l)) = refl
 
-folder-named : (n : Name) (o : Option Node) → is_folder (with_name n None o) ≡ is_folder o
-folder-named n None = refl
-folder-named n (Some (Branch a b names c)) = refl
-folder-named n (Some (Leaf content a u l)) = refl
+attributes-named : (n : Name) (o : Option Node) → folder_attributes (with_name n None o) ≡ folder_attributes o
+attributes-named n None = refl
+attributes-named n (Some (Branch a b names c)) = refl
+attributes-named n (Some (Leaf content a u l)) = refl
 
-folder-fewer : (o : Option Node) → is_folder (over_node one_fewer o) ≡ is_folder o
-folder-fewer None = refl
-folder-fewer (Some (Branch a b names c)) = refl
-folder-fewer (Some (Leaf content a u l)) = refl
+attributes-fewer : (o : Option Node) → folder_attributes (over_node one_fewer o) ≡ folder_attributes o
+attributes-fewer None = refl
+attributes-fewer (Some (Branch a b names c)) = refl
+attributes-fewer (Some (Leaf content a u l)) = refl
 
 -- a name of the upper's fewer is seen as one
 face-fewer : (o : Option Node) (i : Option Inode) → face o ≡ see_inode 0 i → face (over_node one_fewer o) ≡ fewer (face o)
@@ -185,7 +185,7 @@ pub record Dropped (V : Layer) (lowers : List Layer) (s : State) (p : Path) (u :
   pub gone : node_at u p ≡ None
   pub stays : (q : Path) → q ≢ p → node_at u q ≡ node_at s.tree q
   pub hidden : KeepsHidden s.tree u
-  pub held : (k fd : ℕ) (h : Handle) → handle_of s.tables k fd ≡ Some h → is_folder (u h.node) ≡ is_folder (s.tree h.node)
+  pub held : (k fd : ℕ) (h : Handle) → handle_of s.tables k fd ≡ Some h → folder_attributes (u h.node) ≡ folder_attributes (s.tree h.node)
   pub empty : (d : NodeId) → node_at s.tree p ≡ Some d → is_folder (s.tree d) ≡ true → (names_in (u d) ≡ []) × IsHidden u d
 
 -- the object at n in q goes, in which no name is shown
@@ -290,15 +290,15 @@ module _ (U V : Layer) (lowers : List Layer) (s : State) (m : IsMountOf U lowers
         not-it : (z : NodeId) (y : Path) → node_at s.tree y ≡ Some z → same_id z x ≡ false
         not-it z y h = elim (cases_Bool (same_id z x)) [ inl s ↦ absurd (hid y (h ∙ ap Some ((ids_tell z x).0 s))) | inr s ↦ s ]
 
-    held-there : (k fd : ℕ) (h : Handle) → handle_of s.tables k fd ≡ Some h → is_folder (rest h.node) ≡ is_folder (s.tree h.node)
+    held-there : (k fd : ℕ) (h : Handle) → handle_of s.tables k fd ≡ Some h → folder_attributes (rest h.node) ≡ folder_attributes (s.tree h.node)
     held-there k fd h on = elim (cases_Bool (same_id e h.node)) [
       | inl same ↦
           let is : e ≡ h.node = (ids_tell e h.node).0 same in
-          ap (λ x. is_folder (rest x)) (sym is)
-          ∙ ap is_folder (still-held s.tree s.tables n q d e at folder leads only bare (ap (is_held s.tables) is ∙ held-by s.tables k fd h on))
-          ∙ folder-fewer (s.tree e)
-          ∙ ap (λ x. is_folder (s.tree x)) is
-      | inr away ↦ other-fact s.tree s.tables n q d e at folder leads only bare is_folder (folder-named n) h.node away
+          ap (λ x. folder_attributes (rest x)) (sym is)
+          ∙ ap folder_attributes (still-held s.tree s.tables n q d e at folder leads only bare (ap (is_held s.tables) is ∙ held-by s.tables k fd h on))
+          ∙ attributes-fewer (s.tree e)
+          ∙ ap (λ x. folder_attributes (s.tree x)) is
+      | inr away ↦ other-fact s.tree s.tables n q d e at folder leads only bare folder_attributes (attributes-named n) h.node away
     ]
 
     empty-there : (x : NodeId) → node_at s.tree path ≡ Some x → is_folder (s.tree x) ≡ true → (names_in (rest x) ≡ []) × IsHidden rest x

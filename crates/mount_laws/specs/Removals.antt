@@ -1,6 +1,7 @@
 -- What unlink and rmdir do on the merge of layers, told by what the layers show (overlayfs.rst, "whiteouts and opaque directories";
 -- POSIX.1-2017, unlink() and rmdir(), as Linux's namei.c asks for their errors).
 use Rattle.std.specs.Prelude.{◌≡◌, ◌≢◌, ◌↔◌, ℕ, ◌-◌, ◌<◌, Bool, true, false, not, cond, List, [], ◌∷◌, ◌++◌, Option, None, Some, is_some}
+use Rattle.ov_base.specs.declared.attributes.Attributes.{Attributes}
 use Rattle.ov_base.specs.declared.call.Call.{Call}
 use Rattle.ov_base.specs.declared.call.Call.TheVariants as call
 use Rattle.ov_base.specs.declared.errno.Errno.{Errno}
@@ -9,7 +10,7 @@ use Rattle.ov_base.specs.declared.node_id.NodeId.{NodeId}
 use Rattle.ov_base.specs.declared.reply.Reply.TheVariants as reply
 use Rattle.plain_model.specs.Layers.{Name, Path, Object, Named, Whiteout, Inode, Layer, held, shows, under, is_directory, AreLayers}
 use Rattle.plain_model.specs.Laws.{IsOutside}
-use Rattle.plain_model.specs.Tree.{node_at, Sight, SeenLeaf, merged, AreLinked, is_folder}
+use Rattle.plain_model.specs.Tree.{Node, Branch, node_at, Sight, SeenLeaf, merged, AreLinked, is_folder}
 use Rattle.plain_model.specs.Machine.{Handle, State, is_root, handle_of}
 use Rattle.plain_model.specs.Refusals.{when, refusal}
 use Rattle.plain_model.specs.Changes.{names_in, after}
@@ -79,8 +80,14 @@ LawOfTakenAway =
     (n : Name) (p : Path) → ShowsNoName (U ∷ lowers) (n ∷ p) →
     TakesAway U V (n ∷ p) (left_behind U lowers n p) → Loses U V lowers (n ∷ p)
 
+-- the attributes of a directory; any other node has none
+abbrev pub folder_attributes : Option Node → Option Attributes
+folder_attributes (Some (Branch a b names c)) = Some a
+folder_attributes _ = None
+
 -- The call takes p away: it makes the mount one of the upper that loses p, other paths lead where they led, and no handle changes.
--- Directories that a handle is open on stay directories; one that p led to has no names, and no path leads to it.
+-- Directories that a handle is open on stay directories and keep their attributes; one that p led to has no names, and no path leads to
+-- it.
 pub record Removes (V : Layer) (lowers : List Layer) (s : State) (c : ℕ) (p : Path) (removal : Call) : Type 0 where
   pub answer : reply_of s c removal ≡ reply.Done
   pub mounts : IsMountOf V lowers (after s c removal)
@@ -88,7 +95,7 @@ pub record Removes (V : Layer) (lowers : List Layer) (s : State) (c : ℕ) (p : 
   pub gone : node_at (after s c removal).tree p ≡ None
   pub stays : (q : Path) → q ≢ p → node_at (after s c removal).tree q ≡ node_at s.tree q
   pub hidden : KeepsHidden s.tree (after s c removal).tree
-  pub held : (k fd : ℕ) (h : Handle) → handle_of s.tables k fd ≡ Some h → is_folder ((after s c removal).tree h.node) ≡ is_folder (s.tree h.node)
+  pub held : (k fd : ℕ) (h : Handle) → handle_of s.tables k fd ≡ Some h → folder_attributes ((after s c removal).tree h.node) ≡ folder_attributes (s.tree h.node)
   pub empty : (d : NodeId) → node_at s.tree p ≡ Some d → is_folder (s.tree d) ≡ true → (names_in ((after s c removal).tree d) ≡ []) × IsHidden (after s c removal).tree d
 
 abbrev pub LawOfUnlinked : Type 0

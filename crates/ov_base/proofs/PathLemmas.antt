@@ -1,7 +1,8 @@
--- How the pieces of a path text follow one another.
-use Rattle.std.proofs.Common.{◌≡◌, ◌+◌, ◌<◌, ℕ, List, [], ◌∷◌, Option, Some, None, Bool, true, false, cond, Result, Ok, Err, nat_eq, nat_lt, ◌≤◌, position, take, drop, length, refl, sym, ap, ◌∙◌, arith}
+-- How the pieces of a path text follow one another, and a path by its last name.
+use Rattle.std.proofs.Common.{◌≡◌, ◌++◌, ◌+◌, ◌<◌, ℕ, List, [], ◌∷◌, Option, Some, None, Bool, true, false, cond, Result, Ok, Err, nat_eq, nat_lt, ◌≤◌, position, take, drop, length, reverse, MatchOption, refl, sym, ap, ◌∙◌, arith}
 use Rattle.std.specs.List.{position_or_len}
 use Rattle.std.proofs.lemmas.Bool.{ltb-true, ltb-false}
+use Rattle.std.proofs.lemmas.List.{reverse-reverse, reverse-append, length-reverse}
 use Rattle.std.proofs.lemmas.List.Sums.{fails_before_first}
 use Rattle.std.proofs.lemmas.List.Splits.{slice_split_none, slice_split_first}
 use Rattle.ov_base.specs.declared.errno.Errno.{Errno}
@@ -56,3 +57,16 @@ pub below-next : (p : List (List ℕ)) (name piece : List ℕ) (rest : List (Lis
 below-next p name piece rest e =
     let on = below-Ok (is_name piece) name piece (name_fault piece) (path_below (piece ∷ p) rest) e in
     on.0 ∙ ap (λ (n : List ℕ). path_below (n ∷ p) rest) (sym on.1)
+
+-- a path by its names from the root
+pub path-split : (p parents : List (List ℕ)) (n : List ℕ) → reverse p ≡ parents ++ n ∷ [] → p ≡ n ∷ reverse parents
+path-split p parents n e = sym (reverse-reverse p) ∙ ap reverse e ∙ reverse-append parents (n ∷ [])
+
+pub path-none : (p : List (List ℕ)) → length (reverse p) ≡ 0 → p ≡ []
+path-none [] h = refl
+path-none (n ∷ p) h = absurd (omega (arith, h, length-reverse (n ∷ p)))
+
+-- what holds of an answer follows from what its search tells
+pub match-map : {T : Type 0} (P R : Type 0) (Q S : T → Type 0) (o : Option T) → (P → R) → ((x : T) → Q x → S x) → MatchOption o P Q → MatchOption o R S
+match-map P R Q S None f g h = f h
+match-map P R Q S (Some x) f g h = g x h

@@ -1,4 +1,6 @@
 pub mod Errnos
+pub mod Modes
 pub mod Names
 pub mod Paths
 pub mod StoredNames
+pub mod Targets

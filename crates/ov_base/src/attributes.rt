@@ -2,6 +2,7 @@
 ghost use Rattle.std.specs.Prelude.{◌≡◌, []};
 
 use crate::bytes::Bytes;
+use crate::mode::Mode;
 use std::alloc::{AllocError, Global};
 use std::marker::Model;
 
@@ -52,8 +53,7 @@ impl Clone for UserAttributes {
 /// Mode, owner and user attributes of an object.
 #[derive(Drop)]
 pub struct Attributes {
-    /// The twelve mode bits.
-    pub mode: u32,
+    pub mode: Mode,
     pub uid: u32,
     pub gid: u32,
     pub user: UserAttributes,

@@ -5,11 +5,12 @@ ghost use Rattle.std.specs.Cmp.Rules.{comparing, hashing};
 ghost use Rattle.std.specs.Hash as fed;
 ghost use Rattle.std.proofs.Common.{rules};
 
+use crate::link_target::LinkTarget;
 use std::alloc::{AllocError, Global};
 use std::hash::{Hash, Hasher};
 use std::marker::Model;
 
-/// The bytes of a file, of a link's target, or of an attribute's name or value.
+/// The bytes of a file, or of an attribute's name or value.
 #[derive(Drop)]
 pub struct Bytes {
     bytes: Vec<u8>,
@@ -131,5 +132,5 @@ impl Texts {
 #[derive(Drop)]
 pub enum Content {
     File(Bytes),
-    SymbolicLink(Bytes),
+    SymbolicLink(LinkTarget),
 }

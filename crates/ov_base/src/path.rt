@@ -1,5 +1,5 @@
 // Paths from the root.
-ghost use Rattle.std.specs.Prelude.{◌≡◌, ◌∷◌, [], ◌<◌, IfOk, IfSome, OnErr, reverse, length, nat_eq, position};
+ghost use Rattle.std.specs.Prelude.{◌≡◌, ◌∷◌, [], ◌<◌, IfOk, IfSome, MatchOption, OnErr, reverse, length, nat_eq, position};
 ghost use Rattle.ov_base.specs.Paths.{path_of_text, path_below, pieces};
 
 use crate::errno::Errno;
@@ -55,6 +55,13 @@ impl Path {
         ensures { result.now ≡ reverse self.now }
     {
         self.names.as_slice()
+    }
+
+    /// The last name, and the names before it from the root down; none for the root.
+    pub fn split_last(&self) -> Option<(&Name, &[Name])>
+        ensures { MatchOption result (self.now ≡ []) (λ split. self.now ≡ split.0.now ∷ reverse split.1.now) }
+    {
+        self.names().split_last()
     }
 
     /// Goes on to a name in the directory of this path.

@@ -101,7 +101,7 @@ impl fmt::Display for TargetWords<'_> {
         match self.0 {
             Content::File(_) => Ok(()),
             Content::SymbolicLink(target) => {
-                let target = Escaped(target.as_slice());
+                let target = Escaped(target.as_bytes().as_slice());
                 write!(f, " -> {target}")
             }
         }

@@ -2,7 +2,6 @@
 use Rattle.std.proofs.Common.{◌≡◌, ◌≢◌, ◌⊎◌, inl, inr, ℕ, Bool, true, false, not, List, [], ◌∷◌, ◌++◌, Option, Some, None, is_some, Result, Ok, Err, cond, ◌&&◌, length, reverse, arith, refl, sym, ap, subst, ◌∙◌, true≢false}
 use Rattle.std.specs.Option.{ok_or}
 use Rattle.std.proofs.lemmas.Bool.{cases_Bool, both_ways}
-use Rattle.std.proofs.lemmas.List.{reverse-reverse, reverse-append, length-reverse}
 use Rattle.toml.specs.Data.{Data, Members, as_table}
 use Rattle.ov_base.specs.declared.attributes.Attributes.{Attributes}
 use Rattle.plain_model.specs.Layers.{Name, Path, Object, Layer, Inode, IsLayer, held, holds_directory, same_path}
@@ -101,14 +100,6 @@ pub spelled-is : (before : List Entry) (d : Data) (m : Members) (p : Path) (i : 
 spelled-is before d m p i t r =
     ap (λ (o : Option Members). and_then (ok_or o fault.Kind) (λ m. and_then (read m) (λ e. with_entry before e.0 e.1))) t
     ∙ ap (λ (x : Result (Path × Item) EntryFault). and_then x (λ e. with_entry before e.0 e.1)) r
-
--- a path by its names from the root
-pub path-split : (p : Path) (parents : List Name) (n : Name) → reverse p ≡ parents ++ n ∷ [] → p ≡ n ∷ reverse parents
-path-split p parents n e = sym (reverse-reverse p) ∙ ap reverse e ∙ reverse-append parents (n ∷ [])
-
-pub path-none : (p : Path) → length (reverse p) ≡ 0 → p ≡ []
-path-none [] h = refl
-path-none (n ∷ p) h = absurd (omega (arith, h, length-reverse (n ∷ p)))
 
 abbrev checked : Bool → Result (Unit {0}) EntryFault
 checked b = cond b (Ok tt) (Err fault.Exists)

@@ -14,11 +14,12 @@ use Rattle.ov_base.specs.Names.{is_name}
 use Rattle.ov_base.specs.Paths.{path_of_text}
 use Rattle.plain_model.specs.Layers.{Name, Path, Object, Directory, Named, Inode, Layer, held, same_path}
 use Rattle.plain_model.specs.Limits.{AreAttributesWithin, IsTargetWithin, IsContentWithin, IsRedirectWithin, IsWithinLimits, text_length, HasShortPaths}
+use Rattle.ov_base.specs.Targets.{is_target}
 use Rattle.plain_model.specs.Refusals.{has_nul, bad_attribute}
 use Rattle.plain_model.proofs.Paths.{paths_tell}
 use Rattle.layer_tree.specs.declared.node.Marks.{Marks}
 use Rattle.layer_tree.specs.declared.node.Object.TheVariants as object
-use Rattle.ov_wire.specs.ManifestEntries.{text_at, within, number_in, number_at, path_of, attributes_of, bytes_of, is_target, target_of, redirect_to, redirect_spelled, redirect_in, opaque_of, marks_of, item_of}
+use Rattle.ov_wire.specs.ManifestEntries.{text_at, within, number_in, number_at, path_of, attributes_of, bytes_of, target_of, redirect_to, redirect_spelled, redirect_in, opaque_of, marks_of, item_of}
 use Rattle.ov_wire.specs.Manifests.{entries_in}
 use Rattle.ov_wire.specs.ManifestLayers.{Entry, put_at, is_directory, has_directory, with_entry, with_spelled, numbered, entries_from, root_of, Stands, IsAsSaid, AreSpelled}
 use Rattle.ov_wire.specs.declared.manifest.entry.EntryKind.{EntryKind}

@@ -9,7 +9,7 @@ use Rattle.ov_base.specs.Paths.{path_of_text}
 use Rattle.ov_base.specs.declared.errno.Errno.{Errno}
 use Rattle.ov_base.specs.declared.redirect.Redirect.{Redirect}
 use Rattle.ov_base.specs.declared.redirect.Redirect.TheVariants as redirect
-use Rattle.plain_model.specs.Refusals.{has_nul}
+use Rattle.ov_base.specs.Targets.{is_target}
 use Rattle.ov_base.specs.declared.attributes.Attributes.{Attributes}
 use Rattle.ov_base.specs.declared.bytes.Content.TheVariants as content
 use Rattle.layer_tree.specs.Tree.{leads_on, seen_object}
@@ -121,10 +121,6 @@ attributes_of default_mode entry =
 -- the bytes that an entry gives, at most 1,048,576
 abbrev pub bytes_of : Members → Result (List ℕ) EntryFault
 bytes_of entry = let text = unwrap_or (text_at (codes "text") entry) [] in if nat_lt 1048576 (length text) then Err fault.Value else Ok text
-
--- symlink(2) takes a target of 1 to 4,095 bytes without a NUL
-abbrev pub is_target : List ℕ → Bool
-is_target target = nat_lt 0 (length target) && nat_le (length target) 4095 && not (has_nul target)
 
 -- the target that an entry gives
 abbrev pub target_of : Members → Result (List ℕ) EntryFault

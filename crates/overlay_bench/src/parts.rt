@@ -6,7 +6,7 @@ use crate::trees::{DIRECTORIES, bare, deep};
 use dir_listing::names;
 use layer_tree::{Layer, Object, ROOT};
 use merged_lookup::Layers;
-use ov_base::{Attributes, Bytes, Content, Name, Path, UserAttributes};
+use ov_base::{Attributes, Bytes, Content, Mode, Name, Path, UserAttributes};
 use std::alloc::{AllocError, Global};
 use std::hash::RandomState;
 use std::io;
@@ -110,7 +110,7 @@ fn put_file(alloc: Global, layer: &mut Layer, name: Name) -> Result<(), AllocErr
         return Ok(());
     }
     let attributes = Attributes {
-        mode: 0o644,
+        mode: Mode::of_files(),
         uid: 0,
         gid: 0,
         user: UserAttributes::new(alloc),

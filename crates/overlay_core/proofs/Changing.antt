@@ -12,7 +12,7 @@ use Rattle.ov_base.specs.declared.attributes.Attributes.{Attributes}
 use Rattle.ov_base.specs.declared.node_id.NodeId.{NodeId}
 use Rattle.ov_base.specs.declared.node_id.NodeId.TheVariants.{New}
 use Rattle.ov_base.specs.declared.reply.Reply.TheVariants as reply
-use Rattle.plain_model.specs.Layers.{Name, Path, Layer, shows, is_directory, same_path}
+use Rattle.plain_model.specs.Layers.{Name, Path, Layer, shows, base, is_directory, same_path}
 use Rattle.plain_model.specs.Tree.{same_id, Node, Branch, Leaf, Tree, names_of, entry, node_at, put, with_name, is_folder}
 use Rattle.plain_model.specs.Machine.{Handle, Table, State, is_root, handle_of}
 use Rattle.plain_model.specs.Refusals.{when, refusal}
@@ -23,7 +23,7 @@ use Rattle.merged_lookup.specs.declared.layers.Layers.{Layers}
 use Rattle.merged_lookup.specs.Merged.{layers_of, lowers_of}
 use Rattle.mount_laws.specs.Looks.{or_else, walk_fault, IsMountOf, KeepsHidden, Makes, mkdir_fault}
 use Rattle.mount_laws.specs.Leaves.{MakesLink, symlink_fault}
-use Rattle.mount_laws.specs.Removals.{Removes, unlink_fault, rmdir_fault, ShowsNoName}
+use Rattle.mount_laws.specs.Removals.{folder_attributes, Removes, unlink_fault, rmdir_fault, ShowsNoName}
 use Rattle.mount_laws.proofs.Looks.{law_of_mkdir}
 use Rattle.mount_laws.proofs.Refusing.{law_of_symlink, law_of_unlink, law_of_rmdir}
 use Rattle.overlay_core.specs.declared.clients.Clients.{Clients}
@@ -36,12 +36,12 @@ use Rattle.open_handles.specs.declared.descriptors.OpenDirectory.{OpenDirectory}
 use Rattle.overlay_core.specs.declared.mount.Mount.{Mount}
 use Rattle.overlay_core.specs.Attaching.{opened_by}
 use Rattle.overlay_core.specs.Held.{handles_below}
-use Rattle.overlay_core.specs.Removing.{IsOpenNowhere, RemovesOpen}
+use Rattle.overlay_core.specs.Removing.{IsOpenNowhere, HasAttributes, RemovesOpen}
 use Rattle.overlay_core.specs.States.{Stands, IsHandle, IsSlot, AreTables, IsStateOf, Serves}
 use Rattle.overlay_core.proofs.Answering.{serve-refused, serve-done}
 use Rattle.overlay_core.proofs.Counting.{below-find}
 use Rattle.overlay_core.proofs.Serving.{slot-as, slot-open, tables-moved}
-use Rattle.overlay_core.proofs.Directories.{shown-directory}
+use Rattle.overlay_core.proofs.Directories.{seen, shown-attributes, shown-directory}
 
 -- a directory is there
 folder-some : (o : Option Node) → is_folder o ≡ true → is_some o ≡ true
@@ -77,7 +77,7 @@ module _ (t u : Tree) (stays : (q : Path) (d : NodeId) → node_at t q ≡ Some 
   stands-on (At p) d f at = stays p d at
   stands-on (Removed a) d f gone =
       let kept = hidden d (folder-some (t d) f) gone.hidden in
-      record { hidden = kept.1; empty = ap names_in kept.0 ∙ gone.empty }
+      record { hidden = kept.1; empty = ap names_in kept.0 ∙ gone.empty; attributes = ap folder_attributes kept.0 ∙ gone.attributes }
 
   pub handle-on : (ds : Dentries) (o : OpenDirectory) (h : Handle) → IsHandle t ds o h → IsHandle u ds o h
   handle-on ds o h is = record {
@@ -96,6 +96,14 @@ unlinked-none false (Some x) d e = cc
 unlinked-none false None true e = cc
 unlinked-none false None false e = refl
 
+-- what has the attributes of a directory is one
+still-folder : (o q : Option Node) → folder_attributes q ≡ folder_attributes o → is_folder o ≡ true → is_folder q ≡ true
+still-folder None q e f = absurd (false≢true f)
+still-folder (Some (Leaf content a u l)) q e f = absurd (false≢true f)
+still-folder (Some (Branch a b names l)) None e f = cc
+still-folder (Some (Branch a b names l)) (Some (Leaf content z u m)) e f = cc
+still-folder (Some (Branch a b names l)) (Some (Branch z k ns m)) e f = refl
+
 -- open directories where one is removed
 module _ (s : State) (c : ℕ) (p : Path) (k : Call) (V : Layer) (lowers : List Layer) (x : Removes V lowers s c p k) where
   abbrev t : Tree
@@ -106,37 +114,38 @@ module _ (s : State) (c : ℕ) (p : Path) (k : Call) (V : Layer) (lowers : List 
   apart-on (At q) d away f at = x.stays q (λ e. away (ap At e)) ∙ at
   apart-on (Removed a) d away f gone =
       let kept = x.hidden d (folder-some (s.tree d) f) gone.hidden in
-      record { hidden = kept.1; empty = ap names_in kept.0 ∙ gone.empty }
+      record { hidden = kept.1; empty = ap names_in kept.0 ∙ gone.empty; attributes = ap folder_attributes kept.0 ∙ gone.attributes }
 
   pub handle-apart : (ds : Dentries) (b fd : ℕ) (o : OpenDirectory) (h : Handle) → handle_of s.tables b fd ≡ Some h → (is : IsHandle s.tree ds o h) → is.location ≢ At p → IsHandle t ds o h
   handle-apart ds b fd o h on is away = record {
     location = is.location;
     located = is.located;
     stands = apart-on is.location h.node away is.directory is.stands;
-    directory = x.held b fd h on ∙ is.directory;
+    directory = still-folder (s.tree h.node) (t h.node) (x.held b fd h on) is.directory;
     access = is.access;
     left = is.left;
   }
 
-  -- the one itself, and others
-  stands-marked : (a : Attributes) (l : Location) (d : NodeId) → is_folder (s.tree d) ≡ true → Stands s.tree l d → Stands t (after_removal p a l) d
-  stands-marked a (At q) d f at = by (same_path p q) refl
+  -- the one itself, which has these attributes, and others
+  stands-marked : (a : Attributes) (l : Location) (d : NodeId) → ((e : NodeId) → node_at s.tree p ≡ Some e → folder_attributes (s.tree e) ≡ Some a) → folder_attributes (t d) ≡ folder_attributes (s.tree d) → is_folder (s.tree d) ≡ true → Stands s.tree l d → Stands t (after_removal p a l) d
+  stands-marked a (At q) d has same f at = by (same_path p q) refl
     where
       by : (b : Bool) → same_path p q ≡ b → Stands t (cond b (Removed a) (At q)) d
       by true here =
-          let none = x.empty d (ap (node_at s.tree) ((paths_tell p q).0 here) ∙ at) f in
-          record { hidden = none.1; empty = none.0 }
+          let there = ap (node_at s.tree) ((paths_tell p q).0 here) ∙ at in
+          let none = x.empty d there f in
+          record { hidden = none.1; empty = none.0; attributes = same ∙ has d there }
       by false away = x.stays q (λ e. false≢true (sym away ∙ (paths_tell p q).1 (sym e))) ∙ at
-  stands-marked a (Removed b) d f gone =
+  stands-marked a (Removed b) d has same f gone =
       let kept = x.hidden d (folder-some (s.tree d) f) gone.hidden in
-      record { hidden = kept.1; empty = ap names_in kept.0 ∙ gone.empty }
+      record { hidden = kept.1; empty = ap names_in kept.0 ∙ gone.empty; attributes = ap folder_attributes kept.0 ∙ gone.attributes }
 
-  pub handle-marked : (a : Attributes) (ds es : Dentries) → places.Removes ds es p a → (b fd : ℕ) (o : OpenDirectory) (h : Handle) → handle_of s.tables b fd ≡ Some h → IsHandle s.tree ds o h → IsHandle t es o h
-  handle-marked a ds es removes b fd o h on is = record {
+  pub handle-marked : (a : Attributes) (ds es : Dentries) → ((e : NodeId) → node_at s.tree p ≡ Some e → folder_attributes (s.tree e) ≡ Some a) → places.Removes ds es p a → (b fd : ℕ) (o : OpenDirectory) (h : Handle) → handle_of s.tables b fd ≡ Some h → IsHandle s.tree ds o h → IsHandle t es o h
+  handle-marked a ds es has removes b fd o h on is = record {
     location = after_removal p a is.location;
     located = removes.located o.directory ∙ ap (option_map (after_removal p a)) is.located;
-    stands = stands-marked a is.location h.node is.directory is.stands;
-    directory = x.held b fd h on ∙ is.directory;
+    stands = stands-marked a is.location h.node has (x.held b fd h on) is.directory is.stands;
+    directory = still-folder (s.tree h.node) (t h.node) (x.held b fd h on) is.directory;
     access = is.access;
     left = is.left;
   }
@@ -277,12 +286,16 @@ module _ (m : Mount) (s : State) (st : IsStateOf m s) (new : Layers) where
         unwatched = st.unwatched;
       })
 
+  -- the node at the path of a directory that is shown has its attributes
+  folder-has : (p : Path) (a : Attributes) → HasAttributes Ls p a → (e : NodeId) → node_at s.tree p ≡ Some e → folder_attributes (s.tree e) ≡ Some a
+  folder-has p a has e at = shown-attributes (s.tree e) (base U lowers p) (shows 0 Ls p) a has (seen U lowers s st.layers p e at)
+
   -- rmdir of a directory that is open
-  pub rmdir-open : (c : ℕ) (p : Path) (a : Attributes) (clients : Clients) → rmdir_fault Ls p false ≡ None → ShowsNoName Ls p → RemovesOpen m.clients clients p a → Removes (layer_of new.upper) (lowers_of new) s c p (call.Rmdir p) → Serves (refusal s c (call.Rmdir p)) s c (call.Rmdir p) reply.Done (record m { layers = new; clients = clients })
-  rmdir-open c p a clients ok bare marks x =
+  pub rmdir-open : (c : ℕ) (p : Path) (a : Attributes) (clients : Clients) → HasAttributes Ls p a → rmdir_fault Ls p false ≡ None → ShowsNoName Ls p → RemovesOpen m.clients clients p a → Removes (layer_of new.upper) (lowers_of new) s c p (call.Rmdir p) → Serves (refusal s c (call.Rmdir p)) s c (call.Rmdir p) reply.Done (record m { layers = new; clients = clients })
+  rmdir-open c p a clients has ok bare marks x =
       rmdir-done c p clients ok bare
       (tables-marked s.tree (after s c (call.Rmdir p)).tree m.clients clients p a s.tables st.tables marks
-      (λ b fd o h on is. handle-marked s c p (call.Rmdir p) (layer_of new.upper) (lowers_of new) x a m.clients.directories clients.directories marks.places b fd o h on is))
+      (λ b fd o h on is. handle-marked s c p (call.Rmdir p) (layer_of new.upper) (lowers_of new) x a m.clients.directories clients.directories (folder-has p a has) marks.places b fd o h on is))
       marks.next x
 
   -- and of one that isn't

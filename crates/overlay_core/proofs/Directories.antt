@@ -1,6 +1,7 @@
 -- Open directories where the layers show them, and what closing and listing them does.
 use Rattle.std.proofs.Common.{◌≡◌, ℕ, Bool, true, ◌||◌, List, ◌∷◌, Option, None, Some, refl, sym, ap, ◌∙◌, subst, take, drop, nat_eq, nat_lt}
 use Rattle.std.proofs.lemmas.Bool.{false≢true}
+use Rattle.ov_base.specs.declared.attributes.Attributes.{Attributes}
 use Rattle.ov_base.specs.declared.call.Call.TheVariants as call
 use Rattle.ov_base.specs.declared.errno.Errno.TheVariants as errno
 use Rattle.ov_base.specs.declared.node_id.NodeId.{NodeId}
@@ -12,6 +13,7 @@ use Rattle.plain_model.specs.Refusals.{when, refusal}
 use Rattle.plain_model.specs.Changes.{after, with_handle, listing, listed_on}
 use Rattle.plain_model.specs.Replies.{reply_of}
 use Rattle.mount_laws.specs.Looks.{IsMountOf, Closes, Lists}
+use Rattle.mount_laws.specs.Removals.{folder_attributes}
 use Rattle.mount_laws.specs.Removed.{ClosesHidden, ListsRemoved}
 use Rattle.mount_laws.proofs.Lists.{law_of_list, law_of_close}
 use Rattle.mount_laws.proofs.Removed.{law_of_close_removed, law_of_list_removed}
@@ -36,6 +38,14 @@ folder-if-shown None b (Some (Folder i j z)) e f = cc
 folder-if-shown (Some (Leaf content a u l)) b (Some (Folder i j z)) e f = cc
 folder-if-shown (Some (Branch a k names l)) b (Some (Folder i j z)) e f = refl
 
+-- a node has the attributes of the directory that the layers show
+pub shown-attributes : (o : Option Node) (b : Bool) (x : Option Shown) (a : Attributes) → (i k : ℕ) × (x ≡ Some (Folder i k a)) → face o ≡ see b x → folder_attributes o ≡ Some a
+shown-attributes o b None a h e = cc
+shown-attributes o b (Some (Contents i j inode)) a h e = cc
+shown-attributes None b (Some (Folder i j z)) a h e = cc
+shown-attributes (Some (Leaf content y u l)) b (Some (Folder i j z)) a h e = cc
+shown-attributes (Some (Branch y k names l)) b (Some (Folder i j z)) a h e = cc
+
 -- the calls on a descriptor that is open, but for the names that are listed
 pub record Turns (s : State) (c fd : ℕ) (h : Handle) : Type 0 where
   pub refused : (n : ℕ) → refusal s c (call.ListNames fd n) ≡ when (nat_eq n 0 || nat_lt 256 n) errno.EINVAL
@@ -44,7 +54,7 @@ pub record Turns (s : State) (c fd : ℕ) (h : Handle) : Type 0 where
 
 module _ (U : Layer) (lowers : List Layer) (s : State) (m : IsMountOf U lowers s) where
   -- what is seen of the node at a path
-  seen : (p : Path) (d : NodeId) → node_at s.tree p ≡ Some d → face (s.tree d) ≡ see (base U lowers p) (shows 0 (U ∷ lowers) p)
+  pub seen : (p : Path) (d : NodeId) → node_at s.tree p ≡ Some d → face (s.tree d) ≡ see (base U lowers p) (shows 0 (U ∷ lowers) p)
   seen p d e = sym (ap (λ z. face (node_of s.tree z)) e) ∙ m.shows.sights p
 
   pub shown-directory : (p : Path) (d : NodeId) → node_at s.tree p ≡ Some d → is_folder (s.tree d) ≡ true → is_directory (shows 0 (U ∷ lowers) p) ≡ true

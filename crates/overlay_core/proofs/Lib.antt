@@ -8,6 +8,7 @@ pub mod Answering
 pub mod Changing
 pub mod Linking
 pub mod Paging
+pub mod Parsed
 pub mod Coming
 pub mod Leaving
 pub mod Freed

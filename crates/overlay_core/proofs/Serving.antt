@@ -15,6 +15,7 @@ use Rattle.overlay_core.specs.declared.clients.Clients.{Clients}
 use Rattle.open_handles.specs.declared.descriptors.Descriptors.{Descriptors}
 use Rattle.open_handles.specs.Dentries.{Dentries}
 use Rattle.open_handles.specs.Opened as places
+use Rattle.mount_laws.specs.Removals.{folder_attributes}
 use Rattle.open_handles.specs.Opened.{Location, At, Removed}
 use Rattle.open_handles.specs.declared.descriptors.OpenDirectory.{OpenDirectory}
 use Rattle.overlay_core.specs.Attaching.{KeepsAttached, KeepsPlaces, is_attached, opened_by, ChangesClient}
@@ -123,7 +124,7 @@ slot-closed t ds (Some a) x s e = cc
 -- a directory stands in another tree where it did, if its paths and its node are the same
 stands-same : (t u : Tree) → ((q : Path) → node_at u q ≡ node_at t q) → (l : Location) (d : NodeId) → u d ≡ t d → Stands t l d → Stands u l d
 stands-same t u paths (At p) d same s = paths p ∙ s
-stands-same t u paths (Removed a) d same s = record { hidden = λ p e. s.hidden p (sym (paths p) ∙ e); empty = ap names_in same ∙ s.empty }
+stands-same t u paths (Removed a) d same s = record { hidden = λ p e. s.hidden p (sym (paths p) ∙ e); empty = ap names_in same ∙ s.empty; attributes = ap folder_attributes same ∙ s.attributes }
 
 -- and so is a handle on it
 pub handle-same : (t u : Tree) (ds : Dentries) → ((q : Path) → node_at u q ≡ node_at t q) → (o : OpenDirectory) (h : Handle) → u h.node ≡ t h.node → IsHandle t ds o h → IsHandle u ds o h

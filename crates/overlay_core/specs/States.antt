@@ -3,6 +3,7 @@ use Rattle.std.specs.Prelude.{◌≡◌, ℕ, true, cond, List, [], ◌∷◌, O
 use Rattle.std.specs.List.{list_any}
 use Rattle.std.specs.BTreeMap.{get}
 use Rattle.std.specs.Ordering.{nat_cmp}
+use Rattle.ov_base.specs.declared.attributes.Attributes.{Attributes}
 use Rattle.ov_base.specs.declared.call.Call.{Call}
 use Rattle.ov_base.specs.declared.errno.Errno.{Errno}
 use Rattle.ov_base.specs.declared.node_id.NodeId.{NodeId}
@@ -17,6 +18,7 @@ use Rattle.plain_model.specs.Replies.{reply_of}
 use Rattle.layer_tree.specs.Tree.{layer_of}
 use Rattle.merged_lookup.specs.Merged.{layers_of, lowers_of}
 use Rattle.mount_laws.specs.Looks.{walk_fault, IsMountOf, IsHidden, listing_handle, AreShown}
+use Rattle.mount_laws.specs.Removals.{folder_attributes}
 use Rattle.open_handles.specs.declared.descriptors.OpenDirectory.{OpenDirectory}
 use Rattle.open_handles.specs.Dentries.{Dentries}
 use Rattle.open_handles.specs.Descriptors.{SetsSlot}
@@ -32,15 +34,16 @@ IsLeft (Some left) (Some listed) place = left ≡ drop place listed
 IsLeft None (Some listed) place = ⊥
 IsLeft (Some left) None place = ⊥
 
--- a directory that was removed: no path leads to it, and it has no names
-pub record IsRemoved (t : Tree) (d : NodeId) : Type 0 where
+-- a directory that was removed: no path leads to it, it has no names, and its attributes are those that were kept
+pub record IsRemoved (t : Tree) (a : Attributes) (d : NodeId) : Type 0 where
   pub hidden : IsHidden t d
   pub empty : names_in (t d) ≡ []
+  pub attributes : folder_attributes (t d) ≡ Some a
 
 -- a directory is where it is said to be
 abbrev pub Stands : Tree → Location → NodeId → Type 0
 Stands t (At p) d = node_at t p ≡ Some d
-Stands t (Removed a) d = IsRemoved t d
+Stands t (Removed a) d = IsRemoved t a d
 
 -- a handle for reading on the directory of its number, whose listing is as far on
 pub record IsHandle (t : Tree) (directories : Dentries) (o : OpenDirectory) (h : Handle) : Type 0 where

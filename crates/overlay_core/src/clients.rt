@@ -31,7 +31,7 @@ pub struct Clients {
 impl Clients {
     ghost use Rattle.overlay_core.specs.Attaching.{HasNoRoom, Attaches, Detaches, IsSame, ChangesClient, opened_by, path_of};
     ghost use Rattle.overlay_core.specs.Opening.{OpensAt};
-    ghost use Rattle.overlay_core.specs.Removing.{IsOpenNowhere, RemovesOpen};
+    ghost use Rattle.overlay_core.specs.Removing.{IsOpenNowhere, IsOpenAt, RemovesOpen};
     ghost use Rattle.open_handles.specs.Listings.{ChangesSlot, Closes, GivesNames, with_listing};
 
     /// No clients. The names of open directories are hashed with these keys.
@@ -150,7 +150,8 @@ impl Clients {
 
     /// Whether a client has the directory at a path open.
     pub fn is_open_at(&self, path: &Path) -> bool
-        ensures { result ≡ false → IsOpenNowhere self.now path.now }
+        ensures shut { result ≡ false → IsOpenNowhere self.now path.now }
+        ensures open { result ≡ true → IsOpenAt self.now path.now }
     {
         self.directories.find(path).is_some()
     }

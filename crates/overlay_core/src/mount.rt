@@ -1,5 +1,5 @@
 // A mount and the clients on it: what each call does, by the plain machine, where nobody watches.
-ghost use Rattle.std.specs.Prelude.{◌≡◌, ◌<◌, ◌+◌, ◌^◌, ℕ, Bool, false, List, Some, None, Ok, IsOk, IfOk, IfErr, OnOk, OnErr, IsSome, IsSomeAnd, IfNone, is_some, MatchResult, option_copied, true};
+ghost use Rattle.std.specs.Prelude.{◌≡◌, ◌<◌, ◌+◌, ◌^◌, ℕ, Bool, false, List, Some, None, Ok, IsOk, IfOk, IfErr, OnOk, OnErr, IsSome, IsSomeAnd, IfNone, IfSome, is_some, MatchResult, option_copied, true};
 ghost use Rattle.plain_model.specs.Layers.{AreLayers};
 ghost use Rattle.layer_tree.specs.Tree.{layer_of, inode_of};
 ghost use Rattle.merged_lookup.specs.Merged.{layers_of, lowers_of};
@@ -12,20 +12,19 @@ ghost use Rattle.mount_laws.specs.Leaves.{inode_target};
 
 use crate::clients::Clients;
 use crate::removals::{rmdir_and_free, unlink_and_free};
-use crate::status::{attributes_at, status_at};
+use crate::status::status_at;
 use dir_listing::{Cursor, names};
 use layer_tree::{Inode, Node};
 use make_remove::{mkdir, symlink};
 use merged_lookup::{Found, Layers, Topmost};
-use ov_base::{Attributes, Bytes, Call, Content, Errno, NameList, OpenFlags, Path, Reply};
+use ov_base::{
+    Attributes, Bytes, Call, Content, Errno, LinkTarget, Mode, NameList, OpenFlags, Path, Reply,
+};
 use std::alloc::{AllocError, Global};
 use std::hash::RandomState;
 
 /// The most names that one `list` gives.
 const LIST_MAX: u32 = 256;
-
-/// The twelve bits of a mode.
-const MODE_BITS: u32 = 0o7777;
 
 /// The layers of a mount and the clients attached to it.
 #[derive(Drop)]
@@ -48,7 +47,7 @@ impl Mount {
     ghost use Rattle.overlay_core.specs.Attaching as attaching;
     ghost use Rattle.overlay_core.specs.Attaching.{HasNoRoom, Attaches, Detaches, IsSame, KeepsAttached, opened_by};
     ghost use Rattle.overlay_core.specs.States.{HasStateOf, IsStateOf, Serves, StaysState, Pages};
-    ghost use Rattle.overlay_core.specs.Removing.{IsOpenNowhere};
+    ghost use Rattle.overlay_core.specs.Removing.{IsOpenNowhere, HasAttributes};
     ghost use Rattle.mount_laws.specs.Removals.{rmdir_fault};
     ghost use Rattle.overlay_core.specs.Opening.{seek_fault};
     ghost use Rattle.overlay_core.specs.Rules.{Nothing};
@@ -178,6 +177,10 @@ impl Mount {
         ensures lowers { self.new.layers.lowers ≡ self.old.layers.lowers }
         ensures thin { StaysThin self.old.layers self.new.layers }
     {
+        let mode = match Mode::parse(mode) {
+            Ok(mode) => mode,
+            Err(errno) => return Ok(Reply::Refused(errno)),
+        };
         match mkdir(self.alloc, &mut self.layers, path, mode)? {
             Ok(()) => Ok(Reply::Done),
             Err(errno) => Ok(Reply::Refused(errno)),
@@ -192,7 +195,11 @@ impl Mount {
         ensures lowers { self.new.layers.lowers ≡ self.old.layers.lowers }
         ensures thin { StaysThin self.old.layers self.new.layers }
     {
-        match symlink(self.alloc, &mut self.layers, target.clone()?, path)? {
+        let target = match LinkTarget::parse(target.clone()?) {
+            Ok(target) => target,
+            Err(errno) => return Ok(Reply::Refused(errno)),
+        };
+        match symlink(self.alloc, &mut self.layers, target, path)? {
             Ok(()) => Ok(Reply::Done),
             Err(errno) => Ok(Reply::Refused(errno)),
         }
@@ -236,14 +243,15 @@ impl Mount {
 
     // A copy of the attributes of the directory at a path, where it is open, for the handles that hold it once it is removed.
     fn attributes_left(&self, path: &Path) -> Result<Option<Attributes>, AllocError>
-        ensures { IfOk result (λ left. IfNone left (rmdir_fault (layers_of self.now.layers) path.now false ≡ None → IsOpenNowhere self.now.clients path.now)) }
+        ensures left { IfOk result (λ left. IfSome left (HasAttributes (layers_of self.now.layers) path.now)) }
+        ensures none { IfOk result (λ left. IfNone left (rmdir_fault (layers_of self.now.layers) path.now false ≡ None → IsOpenNowhere self.now.clients path.now)) }
     {
         if !self.clients.is_open_at(path) {
             return Ok(None);
         }
         match self.layers.walk_topmost(path) {
             Ok(Topmost::Directory(place)) => {
-                Ok(Some(attributes_at(&self.layers, place).clone()?))
+                Ok(Some(self.layers.attributes_at(place).clone()?))
             }
             _ => Ok(None),
         }
@@ -279,9 +287,7 @@ impl Mount {
         if !reads_directory(flags) {
             return Err(Errno::EOPNOTSUPP);
         }
-        if mode > MODE_BITS {
-            return Err(Errno::EINVAL);
-        }
+        Mode::parse(mode)?;
         match self.layers.walk_topmost(path)? {
             Topmost::Directory(_) => Ok(()),
             Topmost::Inode(place) => Err(self.layers.blocked(place)),
@@ -383,7 +389,7 @@ fn read_link(node: Option<&Node>) -> Result<Reply, AllocError>
                     ..
                 },
             ),
-        ) => Ok(Reply::Target(target.clone()?)),
+        ) => Ok(Reply::Target(target.as_bytes().clone()?)),
         _ => Ok(Reply::Refused(Errno::EINVAL)),
     }
 }

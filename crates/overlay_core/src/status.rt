@@ -29,22 +29,7 @@ fn directory_status(layers: &Layers, place: Place) -> Stat
     requires { (p : Path) × (a : Attributes) × (shows 0 (layers_of layers.now) p ≡ Some (held.Folder place.layer place.key a)) }
     ensures { (p : Path) (a : Attributes) → shows 0 (layers_of layers.now) p ≡ Some (held.Folder place.layer place.key a) → result ≡ status.stat_with ObjectKind.Directory a 0 1 }
 {
-    status_with(ObjectKind::Directory, attributes_at(layers, place), 0, 1)
-}
-
-/// The attributes of the directory that is shown at a place.
-pub(crate) fn attributes_at(layers: &Layers, place: Place) -> &Attributes
-    requires { (p : Path) × (a : Attributes) × (shows 0 (layers_of layers.now) p ≡ Some (held.Folder place.layer place.key a)) }
-    ensures { (p : Path) (a : Attributes) → shows 0 (layers_of layers.now) p ≡ Some (held.Folder place.layer place.key a) → result.now ≡ a }
-{
-    let Some(layer) = layers.layer(place.layer) else {
-        unreachable!()
-    };
-    layer.lawful();
-    match layer.node(place.key) {
-        Some(Node::Directory(directory)) => &directory.attributes,
-        _ => unreachable!(),
-    }
+    status_with(ObjectKind::Directory, layers.attributes_at(place), 0, 1)
 }
 
 fn inode_status(node: Option<&Node>) -> Result<Stat, Errno>
@@ -84,7 +69,7 @@ fn status_with(kind: ObjectKind, attributes: &Attributes, size: u64, links: u32)
 {
     Stat {
         kind,
-        mode: attributes.mode,
+        mode: attributes.mode.bits(),
         uid: attributes.uid,
         gid: attributes.gid,
         size,
@@ -106,7 +91,7 @@ fn size_of(content: &Content) -> u64
 {
     match content {
         Content::File(bytes) => bytes.as_slice().len() as u64,
-        Content::SymbolicLink(target) => target.as_slice().len() as u64,
+        Content::SymbolicLink(target) => target.as_bytes().as_slice().len() as u64,
     }
 }
 

@@ -16,10 +16,10 @@ use crate::id::Id;
 use crate::names::Names;
 use crate::node::{Node, Origin, is_named};
 use crate::reference::Reference;
-use ov_base::{Attributes, Bytes, Content, Path, Reply, UserAttributes};
+use ov_base::{Attributes, Bytes, Content, LinkTarget, Mode, Path, Reply, UserAttributes};
 use std::alloc::{AllocError, Global};
 
-fn fresh(alloc: Global, mode: u32) -> Attributes
+fn fresh(alloc: Global, mode: Mode) -> Attributes
     ensures { result ≡ fresh mode }
 {
     Attributes {
@@ -30,7 +30,7 @@ fn fresh(alloc: Global, mode: u32) -> Attributes
     }
 }
 
-fn new_directory(alloc: Global, mode: u32) -> Node
+fn new_directory(alloc: Global, mode: Mode) -> Node
     ensures { node_of result ≡ plain.Branch (fresh mode) false map.empty 1 }
 {
     Node::Directory {
@@ -41,12 +41,12 @@ fn new_directory(alloc: Global, mode: u32) -> Node
     }
 }
 
-fn new_link(alloc: Global, target: Bytes) -> Node
+fn new_link(alloc: Global, target: LinkTarget) -> Node
     ensures { node_of result ≡ plain.Leaf (content.SymbolicLink target) (fresh 0o777) plain.Own 1 }
 {
     Node::Leaf {
         content: Content::SymbolicLink(target),
-        attributes: fresh(alloc, 0o777),
+        attributes: fresh(alloc, Mode::of_links()),
         origin: Origin::Own,
         count: 1,
     }
@@ -113,6 +113,9 @@ impl Reference {
         if let Some(errno) = self.mkdir_refusal(client, path, mode)? {
             return Ok(Some(Reply::Refused(errno)));
         }
+        let Ok(mode) = Mode::parse(mode) else {
+            unreachable!()
+        };
         self.make(path, new_directory(self.alloc, mode))?;
         self.serial += 1;
         Ok(Some(Reply::Done))
@@ -133,7 +136,9 @@ impl Reference {
         if let Some(errno) = self.symlink_refusal(client, target, path)? {
             return Ok(Some(Reply::Refused(errno)));
         }
-        let target = target.clone()?;
+        let Ok(target) = LinkTarget::parse(target.clone()?) else {
+            unreachable!()
+        };
         self.make(path, new_link(self.alloc, target))?;
         self.serial += 1;
         Ok(Some(Reply::Done))

@@ -127,7 +127,7 @@ fn stat_by(kind: ObjectKind, attributes: &Attributes, size: u64, links: u32) -> 
 {
     Reply::Status(Stat {
         kind,
-        mode: attributes.mode,
+        mode: attributes.mode.bits(),
         uid: attributes.uid,
         gid: attributes.gid,
         size,
@@ -180,7 +180,7 @@ pub fn stat_of(node: Option<&Node>) -> Reply
                 Content::SymbolicLink(target) => stat_by(
                     ObjectKind::SymbolicLink,
                     attributes,
-                    target.as_slice().len() as u64,
+                    target.as_bytes().as_slice().len() as u64,
                     links,
                 ),
             }
@@ -195,7 +195,7 @@ pub fn bytes_of(alloc: Global, node: Option<&Node>) -> Result<Bytes, AllocError>
     match node {
         Some(Node::Leaf { content, .. }) => match content {
             Content::File(bytes) => bytes.clone(),
-            Content::SymbolicLink(target) => target.clone(),
+            Content::SymbolicLink(target) => target.as_bytes().clone(),
         },
         _ => Ok(Bytes::new(alloc)),
     }

@@ -2,7 +2,7 @@
 use crate::entries::{Entry, Kind, layers_of};
 use crate::merged::{Shown, shown_below};
 use crate::plain_layer::PlainLayer;
-use ov_base::{Attributes, Bytes, Content, Path, UserAttributes};
+use ov_base::{Attributes, Bytes, Content, LinkTarget, Mode, Path, UserAttributes};
 use plain_reference::{Builder, Origin, Reference};
 use std::alloc::{AllocError, Global};
 
@@ -43,7 +43,7 @@ fn root_attributes(alloc: Global, upper: &PlainLayer<'_>) -> Attributes {
     match upper.held("") {
         Some(entry) => attributes(alloc, &entry),
         None => Attributes {
-            mode: 0o755,
+            mode: Mode::of_directories(),
             uid: 0,
             gid: 0,
             user: UserAttributes::new(alloc),
@@ -69,17 +69,19 @@ fn put(alloc: Global, builder: &mut Builder, shown: &Shown<'_>) -> Result<(), Al
     if shown.entry.kind == Kind::Directory {
         builder.directory(&path, attributes, shown.is_base)
     } else {
-        let content = content_of(alloc, &shown.entry)?;
+        let Some(content) = content_of(alloc, &shown.entry)? else {
+            return Ok(());
+        };
         builder.leaf(&path, content, attributes, origin_of(shown.is_upper))
     }
 }
 
-fn content_of(alloc: Global, entry: &Entry<'_>) -> Result<Content, AllocError> {
+fn content_of(alloc: Global, entry: &Entry<'_>) -> Result<Option<Content>, AllocError> {
     let bytes = Bytes::from_slice(alloc, entry.text.as_bytes())?;
     if entry.kind == Kind::SymbolicLink {
-        Ok(Content::SymbolicLink(bytes))
+        Ok(LinkTarget::parse(bytes).ok().map(Content::SymbolicLink))
     } else {
-        Ok(Content::File(bytes))
+        Ok(Some(Content::File(bytes)))
     }
 }
 

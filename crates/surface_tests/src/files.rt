@@ -4,7 +4,7 @@ ghost use Rattle.layer_tree.specs.Tree.{child};
 
 use crate::fixtures::{path, read};
 use layer_tree::{Entry, Layer, Node, Object, ROOT};
-use ov_base::{Attributes, Bytes, Content, Name, UserAttributes};
+use ov_base::{Attributes, Bytes, Content, LinkTarget, Mode, Name, UserAttributes};
 use std::alloc::{AllocError, Global};
 use std::hash::RandomState;
 use std::process::Abort;
@@ -85,14 +85,17 @@ fn insert_link(
     let f = name(rt, alloc)?;
     assert!(rt; layer.is_directory(dir));
     assert!(rt; layer.entry(dir, &f).is_none());
-    let target = Bytes::from_slice(alloc, b"/d".as_slice())?;
+    let target = LinkTarget::parse(Bytes::from_slice(alloc, b"/d".as_slice())?);
     let attributes = Attributes {
-        mode: 0o777,
+        mode: Mode::of_links(),
         uid: 0,
         gid: 0,
         user: UserAttributes::new(alloc),
     };
-    let link = Object::Inode(Content::SymbolicLink(target), attributes);
+    let link = Object::Inode(
+        Content::SymbolicLink(target.expect(rt, "a target")),
+        attributes,
+    );
     Ok(layer.insert(dir, f, link)?)
 }
 

@@ -41,8 +41,8 @@ pub fn seen(layers: &Layers, path: &Path) -> Result<(usize, usize, u32), Errno> 
         Found::Inode(place) => (place, 0),
     };
     match layers.node(place) {
-        Some(Node::Directory(directory)) => Ok((place.layer, count, directory.attributes.mode)),
-        Some(Node::Inode(inode)) => Ok((place.layer, count, inode.attributes.mode)),
+        Some(Node::Directory(directory)) => Ok((place.layer, count, directory.attributes.mode.bits())),
+        Some(Node::Inode(inode)) => Ok((place.layer, count, inode.attributes.mode.bits())),
         None => Err(Errno::ENOENT),
     }
 }

@@ -2,8 +2,8 @@
 use crate::fixtures::{mount, path, seen};
 use copy_up::{Need, need_at, place_dir, place_parents};
 use make_remove::create;
-use merged_lookup::{Layers, split_last};
-use ov_base::{Errno, Path};
+use merged_lookup::Layers;
+use ov_base::{Errno, Mode, Path};
 use std::hash::RandomState;
 use std::process::Abort;
 use std::test::Fail;
@@ -23,7 +23,10 @@ fn makes_files(rt: HostRuntime) -> Result<(), Fail> {
         ("/x/f", 0o640, Err(Errno::ENOENT)),
         ("/g", 0o10000, Err(Errno::EINVAL)),
     ] {
-        let made = create(alloc, &mut layers, &path(&rt, alloc, text), mode)?;
+        let made = match Mode::parse(mode) {
+            Ok(mode) => create(alloc, &mut layers, &path(&rt, alloc, text), mode)?,
+            Err(errno) => Err(errno),
+        };
         assert!(rt; made == wanted, "{text}");
     }
     for (text, wanted) in [
@@ -73,7 +76,7 @@ fn place_all(layers: &mut Layers, path: &Path) -> Option<usize> {
     let Ok(Some(parent)) = layers.parent_of(path) else {
         return None;
     };
-    let (_, parents) = split_last(path)?;
+    let (_, parents) = path.split_last()?;
     match place_parents(layers, parent.stack, parents) {
         Ok(stack) => Some(stack.top().layer),
         Err(_) => None,

@@ -11,27 +11,12 @@ ghost use Rattle.ov_wire.specs.ManifestEntries as spec;
 
 use super::fault::{EntryError, EntryFault};
 use layer_tree::{Marks, Object};
-use ov_base::{Attributes, Bytes, Content, Name, Path, Redirect, UserAttributes};
+use ov_base::{Attributes, Bytes, Content, LinkTarget, Mode, Name, Path, Redirect, UserAttributes};
 use std::alloc::Global;
 use toml::{Table, Value};
 
-/// The twelve mode bits.
-const MODE_MOST: u32 = 0o7777;
-
-/// The mode of a directory that gives none, the root too.
-const DIRECTORY_MODE: u32 = 0o755;
-
-/// The mode of a file that gives none.
-const FILE_MODE: u32 = 0o644;
-
-/// The mode of every symbolic link.
-const LINK_MODE: u32 = 0o777;
-
 /// The most bytes of a file.
 const FILE_MOST: usize = 1_048_576;
-
-/// The most bytes of a symbolic link's target, as Linux's `PATH_MAX` without the NUL.
-const TARGET_MOST: usize = 4_095;
 
 /// The kinds of entries.
 #[derive(Clone, Copy, Debug, PartialEq, Eq)]
@@ -186,12 +171,12 @@ fn item_of(alloc: Global, kind: EntryKind, entry: &Table) -> Result<Item, EntryE
             Ok(Item::Object(Object::Directory(attributes, marks)))
         }
         EntryKind::File => {
-            let attributes = attributes_of(alloc, entry, FILE_MODE)?;
+            let attributes = attributes_of(alloc, entry, Mode::of_files())?;
             let content = Content::File(bytes_of(alloc, entry)?);
             Ok(Item::Object(Object::Inode(content, attributes)))
         }
         EntryKind::SymbolicLink => {
-            let attributes = attributes_of(alloc, entry, LINK_MODE)?;
+            let attributes = attributes_of(alloc, entry, Mode::of_links())?;
             let content = Content::SymbolicLink(target_of(alloc, entry)?);
             Ok(Item::Object(Object::Inode(content, attributes)))
         }
@@ -255,7 +240,7 @@ fn redirect_to(alloc: Global, text: &[u8]) -> Result<Redirect, EntryError>
 pub(super) fn directory_attributes(alloc: Global, entry: &Table) -> Result<Attributes, EntryFault>
     ensures { result ≡ spec.attributes_of 493 (table_view entry.now) }
 {
-    attributes_of(alloc, entry, DIRECTORY_MODE)
+    attributes_of(alloc, entry, Mode::of_directories())
 }
 
 // The attributes of a root that no entry sets.
@@ -263,17 +248,17 @@ pub(super) fn default_attributes(alloc: Global) -> Attributes
     ensures { result ≡ record { mode = 493; uid = 0; gid = 0; user = [] } }
 {
     Attributes {
-        mode: DIRECTORY_MODE,
+        mode: Mode::of_directories(),
         uid: 0,
         gid: 0,
         user: UserAttributes::new(alloc),
     }
 }
 
-fn attributes_of(alloc: Global, entry: &Table, default_mode: u32) -> Result<Attributes, EntryFault>
+fn attributes_of(alloc: Global, entry: &Table, default_mode: Mode) -> Result<Attributes, EntryFault>
     ensures { result ≡ spec.attributes_of default_mode (table_view entry.now) }
 {
-    let mode = number_at(entry, "mode", MODE_MOST, default_mode)?;
+    let mode = mode_at(entry, default_mode)?;
     let uid = number_at(entry, "uid", u32::MAX, 0)?;
     let gid = number_at(entry, "gid", u32::MAX, 0)?;
     Ok(Attributes {
@@ -282,6 +267,18 @@ fn attributes_of(alloc: Global, entry: &Table, default_mode: u32) -> Result<Attr
         gid,
         user: UserAttributes::new(alloc),
     })
+}
+
+// The mode at the key `mode`; `default` without one.
+fn mode_at(entry: &Table, default: Mode) -> Result<Mode, EntryFault>
+    ensures { result ≡ spec.number_at (codes "mode") 4095 default (table_view entry.now) }
+{
+    default.lawful();
+    let bits = number_at(entry, "mode", u32::MAX, default.bits())?;
+    match Mode::parse(bits) {
+        Ok(mode) => Ok(mode),
+        Err(_) => Err(EntryFault::Value),
+    }
 }
 
 // The bytes of an entry of kind `file`.
@@ -296,21 +293,14 @@ fn bytes_of(alloc: Global, entry: &Table) -> Result<Bytes, EntryError>
 }
 
 // The target of an entry of kind `symlink`.
-fn target_of(alloc: Global, entry: &Table) -> Result<Bytes, EntryError>
+fn target_of(alloc: Global, entry: &Table) -> Result<LinkTarget, EntryError>
     ensures { Answers result (spec.target_of (table_view entry.now)) }
 {
     let text = text_at(entry, "target").unwrap_or("");
-    if !is_target(text.as_bytes()) {
-        return Err(EntryError::Fault(EntryFault::Value));
+    match LinkTarget::parse(Bytes::from_slice(alloc, text.as_bytes())?) {
+        Ok(target) => Ok(target),
+        Err(_) => Err(EntryError::Fault(EntryFault::Value)),
     }
-    Ok(Bytes::from_slice(alloc, text.as_bytes())?)
-}
-
-// Whether symlink(2) takes a target: 1 to 4,095 bytes without a NUL.
-fn is_target(target: &[u8]) -> bool
-    ensures { result ≡ spec.is_target target.now }
-{
-    !target.is_empty() && target.len() <= TARGET_MOST && !target.contains(&0)
 }
 
 // The whole number at a key, which may be at most `most`; `default` without one.

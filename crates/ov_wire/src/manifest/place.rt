@@ -98,7 +98,7 @@ fn put(layer: &mut Layer, root_is_set: bool, path: &Path, item: Item) -> Result<
     ensures keeps { IsLayer (layer_of layer.old) → IsLayer (layer_of layer.new) }
     ensures places { (a : RootAttributes) (before : List PutEntry) → IsDraft (layer_of layer.old) a root_is_set before → Places (λ is_set. is_set) (layer_of layer.new) a (with_entry before path.now item) result }
 {
-    let Some((name, parents)) = path.names().split_last() else {
+    let Some((name, parents)) = path.split_last() else {
         check_root(root_is_set, &item)?;
         return Ok(true);
     };

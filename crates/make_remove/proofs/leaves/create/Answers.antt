@@ -10,6 +10,6 @@ use Rattle.make_remove.proofs.leaves.create.Goals as goal
 pub returns-clause-steps : goal.returns-clause-steps
 returns-clause-steps c =
     create-steps c.args.layers.now c.make_leaf.new.layers c.args.path.now c.args.mode
-    (mkdir-fine (layers_of c.args.layers.now) c.args.path.now c.args.mode c.if-mode-gt-MODE_BITS.false c.in-Ok.ensures.cases)
+    (mkdir-fine (layers_of c.args.layers.now) c.args.path.now c.args.mode c.lawful.ensures c.in-Ok.ensures.cases)
     (subst (λ bytes. MakesLeaf c.args.layers.now c.make_leaf.new.layers c.args.path.now (content.File bytes) (new_attributes c.args.mode)) c.new.ensures
     (subst (λ (a : Attributes). MakesLeaf c.args.layers.now c.make_leaf.new.layers c.args.path.now (content.File c.new.result) a) c.new_attributes.ensures c.in_ok-make_leaf.ensures.made))

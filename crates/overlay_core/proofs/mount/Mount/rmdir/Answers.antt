@@ -20,6 +20,6 @@ returns-after-attributes-3-clause-serves c = λ s st client.
     let bare = rw c.in-Ok.is at c.in_ok-rmdir_and_free.ensures.bare in
     let steps = rw c.in-Ok.is at c.in_ok-rmdir_and_free.ensures.steps s st.layers client in
     elim c.match-attributes-3.branch [
-      | in-Some w ↦ rw w.self-is (rmdir-open c.args.self.now s st c.rmdir_and_free.new.layers client c.args.path.now w.in-Some.attributes w.remove.new.self allowed bare w.remove.ensures steps)
-      | in_default w ↦ rw w.self-is (rmdir-unopened c.args.self.now s st c.rmdir_and_free.new.layers client c.args.path.now allowed bare (rw w.in_default.is at c.in_ok-attributes.ensures allowed) steps)
+      | in-Some w ↦ rw w.self-is (rmdir-open c.args.self.now s st c.rmdir_and_free.new.layers client c.args.path.now w.in-Some.attributes w.remove.new.self (rw w.in-Some.is at c.in_ok-attributes.ensures.left) allowed bare w.remove.ensures steps)
+      | in_default w ↦ rw w.self-is (rmdir-unopened c.args.self.now s st c.rmdir_and_free.new.layers client c.args.path.now allowed bare (rw w.in_default.is at c.in_ok-attributes.ensures.none allowed) steps)
     ]

@@ -1,16 +1,26 @@
 use Rattle.ov_base.specs.declared.call.Call.TheVariants as call
 use Rattle.mount_laws.proofs.Refusing.{law_of_symlink}
-use Rattle.std.proofs.Common.{◌∙◌}
+use Rattle.std.proofs.Common.{◌∙◌, refl}
 use Rattle.layer_tree.specs.Tree.{layer_of}
 use Rattle.merged_lookup.specs.Merged.{lowers_of}
+use Rattle.overlay_core.proofs.Parsed.{target-fault}
 use Rattle.overlay_core.proofs.Changing.{symlink-done, refused}
 use Rattle.overlay_core.proofs.mount.Mount.symlink.Goals as goal
 
-pub returns-in-Ok-clause-serves : goal.returns-in-Ok-clause-serves
-returns-in-Ok-clause-serves c = λ s st client. symlink-done c.args.self.now s st c.symlink.new.layers client c.args.target.now c.args.path.now (rw (c.in-Ok.is, c.in_ok-clone.ensures.cases) at c.in_ok-symlink.ensures.allowed) (rw (c.in-Ok.is, c.in_ok-clone.ensures.cases) at c.in_ok-symlink.ensures.steps s st.layers client)
-
 pub returns-in-Err-clause-serves : goal.returns-in-Err-clause-serves
 returns-in-Err-clause-serves c = λ s st client.
-    refused c.args.self.now s st c.symlink.new.layers client (call.Symlink c.args.target.now c.args.path.now) c.in-Err.errno
-    (law_of_symlink (layer_of c.args.self.now.layers.upper) (lowers_of c.args.self.now.layers) s st.layers client c.args.target.now c.args.path.now ∙ (rw (c.in-Err.is, c.in_ok-clone.ensures.cases) at c.in_ok-symlink.ensures.refused))
-    (rw c.in-Err.is at c.in_ok-symlink.ensures.unchanged)
+    refused c.args.self.now s st c.args.self.now.layers client (call.Symlink c.args.target.now c.args.path.now) c.in-Err.errno
+    (law_of_symlink (layer_of c.args.self.now.layers.upper) (lowers_of c.args.self.now.layers) s st.layers client c.args.target.now c.args.path.now ∙ target-fault c.args.target.now c.in-Err.errno _ (rw (c.in-Err.is, c.in_ok-clone.ensures.cases) at c.parse.ensures.told))
+    refl
+
+pub returns-in-Ok-2-clause-serves : goal.returns-in-Ok-2-clause-serves
+returns-in-Ok-2-clause-serves c = λ s st client.
+    let same = (rw c.in-Ok.is at c.parse.ensures.same) ∙ c.in_ok-clone.ensures.cases in
+    symlink-done c.args.self.now s st c.symlink.new.layers client c.args.target.now c.args.path.now (rw (c.in-Ok-2.is, same) at c.in_ok-symlink.ensures.allowed) (rw (c.in-Ok-2.is, same) at c.in_ok-symlink.ensures.steps s st.layers client)
+
+pub returns-in-Err-2-clause-serves : goal.returns-in-Err-2-clause-serves
+returns-in-Err-2-clause-serves c = λ s st client.
+    let same = (rw c.in-Ok.is at c.parse.ensures.same) ∙ c.in_ok-clone.ensures.cases in
+    refused c.args.self.now s st c.symlink.new.layers client (call.Symlink c.args.target.now c.args.path.now) c.in-Err-2.errno
+    (law_of_symlink (layer_of c.args.self.now.layers.upper) (lowers_of c.args.self.now.layers) s st.layers client c.args.target.now c.args.path.now ∙ (rw (c.in-Err-2.is, same) at c.in_ok-symlink.ensures.refused))
+    (rw c.in-Err-2.is at c.in_ok-symlink.ensures.unchanged)
