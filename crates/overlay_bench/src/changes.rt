@@ -5,7 +5,7 @@ use crate::mounts::{flat_layers, layers_of, path_of, path_to};
 use crate::trees::chained;
 use make_remove::{create, free, mkdir, unlink};
 use merged_lookup::Layers;
-use ov_base::Path;
+use ov_base::{Mode, Path};
 use std::alloc::{AllocError, Global};
 use std::hash::RandomState;
 use std::io;
@@ -35,7 +35,7 @@ fn create_often(
 ) -> Result<u32, AllocError> {
     let mut done = 0u32;
     for _ in 0..count {
-        if create(alloc, layers, path, 0o644)?.is_ok() && unlink_and_free(layers, path)? {
+        if create(alloc, layers, path, Mode::of_files())?.is_ok() && unlink_and_free(layers, path)? {
             done = done.saturating_add(1);
         }
     }
@@ -117,7 +117,7 @@ fn chain_paths(alloc: Global, chains: u32) -> Result<Vec<Path>, AllocError> {
 fn make_all(alloc: Global, layers: &mut Layers, paths: &[Path]) -> Result<u32, AllocError> {
     let mut done = 0u32;
     for path in paths {
-        if mkdir(alloc, layers, path, 0o755)?.is_ok() {
+        if mkdir(alloc, layers, path, Mode::of_directories())?.is_ok() {
             done = done.saturating_add(1);
         }
     }

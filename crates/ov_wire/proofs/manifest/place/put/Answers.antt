@@ -1,4 +1,4 @@
-use Rattle.std.proofs.Common.{◌≡◌, ◌∷◌, List, Bool, Err, Ok, true, reverse, rules, sym, subst}
+use Rattle.std.proofs.Common.{◌≡◌, ◌∷◌, List, Bool, Err, Ok, true, reverse, rules, sym, subst, ◌∙◌}
 use Rattle.layer_tree.specs.Tree.{layer_of}
 use Rattle.ov_wire.specs.ManifestLayers.{Entry, with_entry}
 use Rattle.ov_wire.specs.Drafts.{IsDraft, Places}
