@@ -73,6 +73,31 @@ fn make_all(core: &mut Core, client: u64, calls: Vec<Call>) -> Result<u32, Alloc
     Ok(done)
 }
 
+/// Removing names of a series by `unlink`, so many, each once.
+pub fn measure_unlink<C: Clock>(
+    clock: &C,
+    alloc: Global,
+    keys: RandomState,
+    manifest: &ManifestText,
+    series: Series<'_>,
+    count: u32,
+) -> io::Result<(u64, u32)> {
+    let (mut core, client) = mounted(alloc, keys, manifest)?;
+    let calls = unlinks(alloc, series, count.min(series.names))?;
+    let start = Instant::now(clock)?;
+    let done = remove_all(&mut core, client, calls)?;
+    Ok((since(clock, start)?, done))
+}
+
+fn unlinks(alloc: Global, series: Series<'_>, count: u32) -> Result<Vec<Call>, AllocError> {
+    let mut calls = Vec::with_capacity(alloc, count as usize)?;
+    for number in 0..count {
+        let path = path_to(alloc, series.parent, series.first, number)?;
+        calls.push(Call::Unlink { path })?;
+    }
+    Ok(calls)
+}
+
 /// Opening a directory, listing all its names and closing it, so often.
 pub fn measure_list<C: Clock>(
     clock: &C,

@@ -1,10 +1,9 @@
 // Names that collide under a hash of fixed keys, and others.
 use crate::loads::since;
-use crate::mounts::layers_of;
-use crate::parts::insert_all;
+use crate::mounts::{made, mounted};
 use crate::trees::bare;
-use indexmap::IndexMap;
-use ov_base::Name;
+use ov_base::{Call, Path, Reply};
+use overlay_core::Core;
 use std::alloc::{AllocError, Global};
 use std::hash::RandomState;
 use std::io;
@@ -27,33 +26,32 @@ pub enum Names {
     Others,
 }
 
-fn all_of(alloc: Global, names: Names, count: u32) -> Result<Vec<Name>, AllocError> {
-    match names {
-        Names::Colliding => names_with(alloc, count, &COLLIDING_END),
-        Names::Others => names_with(alloc, count, &OTHER_END),
-    }
-}
-
-// So many names, each the digits of its number and these bytes.
-fn names_with(alloc: Global, count: u32, end: &[u8; 8]) -> Result<Vec<Name>, AllocError> {
-    let mut names = Vec::with_capacity(alloc, count as usize)?;
+// Calls that make a directory at each of so many names of the root.
+fn making(alloc: Global, names: Names, count: u32) -> Result<Vec<Call>, AllocError> {
+    let end = match names {
+        Names::Colliding => &COLLIDING_END,
+        Names::Others => &OTHER_END,
+    };
+    let mut calls = Vec::with_capacity(alloc, count as usize)?;
     for number in 0..count {
-        names.push(name_with(alloc, number, end)?)?;
+        let path = path_with(alloc, number, end)?;
+        calls.push(Call::Mkdir { path, mode: 0o755 })?;
     }
-    Ok(names)
+    Ok(calls)
 }
 
-fn name_with(alloc: Global, number: u32, end: &[u8; 8]) -> Result<Name, AllocError> {
-    let digits = format!(in alloc; "{number:08x}")?;
+// The path of one name: the digits of a number and these bytes.
+fn path_with(alloc: Global, number: u32, end: &[u8; 8]) -> Result<Path, AllocError> {
+    let digits = format!(in alloc; "/{number:08x}")?;
     let mut bytes = Vec::from_slice(alloc, digits.as_bytes())?;
     bytes.extend_from_slice(end)?;
-    match Name::parse(alloc, bytes.as_slice())? {
-        Ok(name) => Ok(name),
+    match Path::parse(alloc, bytes.as_slice())? {
+        Ok(path) => Ok(path),
         Err(_) => Err(AllocError),
     }
 }
 
-/// The nanoseconds that so many names took into one directory of a layer, and how many they were.
+/// The nanoseconds that so many names took into the root of a mount, each by a call, and how many they were.
 pub fn measure_directory<C: Clock>(
     clock: &C,
     alloc: Global,
@@ -61,32 +59,19 @@ pub fn measure_directory<C: Clock>(
     names: Names,
     count: u32,
 ) -> io::Result<(u64, u32)> {
-    let all = all_of(alloc, names, count)?;
-    let mut layers = layers_of(alloc, keys, &bare(alloc)?)?;
+    let (mut core, client) = mounted(alloc, keys, &bare(alloc)?)?;
+    let calls = making(alloc, names, count)?;
     let start = Instant::now(clock)?;
-    let done = insert_all(alloc, layers.upper_mut(), &all)?;
+    let done = make_all(&mut core, client, calls)?;
     Ok((since(clock, start)?, done))
 }
 
-/// The same for a table of fixed keys alone, in which colliding names are sought among one another.
-pub fn measure_fixed<C: Clock>(
-    clock: &C,
-    alloc: Global,
-    names: Names,
-    count: u32,
-) -> io::Result<(u64, u32)> {
-    let all = all_of(alloc, names, count)?;
-    let mut table = IndexMap::new(alloc);
-    let start = Instant::now(clock)?;
-    let done = insert_fixed(&mut table, &all)?;
-    Ok((since(clock, start)?, done))
-}
-
-fn insert_fixed(table: &mut IndexMap<Name, u32>, names: &[Name]) -> Result<u32, AllocError> {
+fn make_all(core: &mut Core, client: u64, calls: Vec<Call>) -> Result<u32, AllocError> {
     let mut done = 0u32;
-    for name in names {
-        table.insert(name.clone()?, done)?;
-        done = done.saturating_add(1);
+    for call in calls {
+        if matches!(made(core, client, call)?, Reply::Done) {
+            done = done.saturating_add(1);
+        }
     }
     Ok(done)
 }

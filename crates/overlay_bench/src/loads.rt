@@ -1,9 +1,7 @@
 // The loads by their names, each timed by the monotonic clock.
-use crate::calls::{Kind, Series, measure_list, measure_made, measure_stat};
-use crate::changes::{measure_create, measure_parents, measure_whiteout};
-use crate::colliding::{Names, measure_directory, measure_fixed};
+use crate::calls::{Kind, Series, measure_list, measure_made, measure_stat, measure_unlink};
+use crate::colliding::{Names, measure_directory};
 use crate::manifests::nested;
-use crate::parts::{measure_find, measure_insert, measure_names, measure_walk};
 use crate::redirects::{DEPTH, Shape, redirected};
 use crate::trees::{DIRECTORIES, FILES, MERGED, OBJECTS, WIDE, deep, served};
 use std::alloc::Global;
@@ -15,24 +13,8 @@ use std::time::Instant;
 /// What is measured.
 #[derive(Clone, Copy)]
 pub enum Load {
-    /// A path of four names in one layer of 10,000 objects.
-    Find,
-    /// The same path over so many layers.
-    Walk(u32),
-    /// So many names into one directory.
-    Insert,
-    /// The names of a directory of 10,000, over two layers.
-    Names,
-    /// A name made and removed in a directory of so many names.
-    Create(u32),
-    /// A lower name removed in a directory of so many names.
-    Whiteout(u32),
-    /// A directory made below four that only a lower layer has.
-    Parents,
-    /// So many names into one directory, by the system's keys.
+    /// So many directories made in one.
     Directory(Names),
-    /// The same names into a table of fixed keys.
-    Fixed(Names),
     /// A call of a client on a mount of so many lower layers.
     Called(Called, u32),
     /// `stat` below nested directories with redirects, of the file there or of a name that isn't.
@@ -58,28 +40,16 @@ pub enum Called {
     Symlink,
     /// A directory made and removed at depth 4, where each layer has about 10,000 names.
     Mkdir,
+    /// A name of the lowest layer removed in a directory of 10,000, each time another one, so that a whiteout is left.
+    Whiteout,
 }
 
 impl Load {
     /// The load of a word of the command line, for calls over so many lower layers.
     pub fn named(word: &str, lowers: u32) -> Option<Load> {
         match word {
-            "find" => Some(Load::Find),
-            "walk" => Some(Load::Walk(2)),
-            "walk16" => Some(Load::Walk(16)),
-            "insert" => Some(Load::Insert),
-            "names" => Some(Load::Names),
-            "create1k" => Some(Load::Create(1_000)),
-            "create" => Some(Load::Create(OBJECTS)),
-            "create100k" => Some(Load::Create(100_000)),
-            "whiteout1k" => Some(Load::Whiteout(1_000)),
-            "whiteout" => Some(Load::Whiteout(OBJECTS)),
-            "whiteout100k" => Some(Load::Whiteout(100_000)),
-            "parents" => Some(Load::Parents),
             "collide" => Some(Load::Directory(Names::Colliding)),
             "others" => Some(Load::Directory(Names::Others)),
-            "collide_fixed" => Some(Load::Fixed(Names::Colliding)),
-            "others_fixed" => Some(Load::Fixed(Names::Others)),
             _ => match redirect_named(word) {
                 Some(load) => Some(load),
                 None => Some(Load::Called(call_named(word)?, lowers)),
@@ -98,6 +68,7 @@ fn call_named(word: &str) -> Option<Called> {
         "list_10k" => Some(Called::ListWide),
         "symlink" => Some(Called::Symlink),
         "mkdir" => Some(Called::Mkdir),
+        "whiteout" => Some(Called::Whiteout),
         _ => None,
     }
 }
@@ -123,15 +94,7 @@ pub fn measure<C: Clock>(
     count: u32,
 ) -> io::Result<(u64, u32)> {
     match load {
-        Load::Find => measure_find(clock, alloc, keys, count),
-        Load::Walk(layers) => measure_walk(clock, alloc, keys, layers, count),
-        Load::Insert => measure_insert(clock, alloc, keys, count),
-        Load::Names => measure_names(clock, alloc, keys, OBJECTS, count),
-        Load::Create(names) => measure_create(clock, alloc, keys, names, count),
-        Load::Whiteout(names) => measure_whiteout(clock, alloc, keys, names, count),
-        Load::Parents => measure_parents(clock, alloc, keys, count),
         Load::Directory(names) => measure_directory(clock, alloc, keys, names, count),
-        Load::Fixed(names) => measure_fixed(clock, alloc, names, count),
         Load::Called(called, lowers) => measure_call(clock, alloc, keys, called, lowers, count),
         Load::Redirected(shape, found) => measure_redirected(
             clock, alloc, keys, shape, found, count,
@@ -163,6 +126,14 @@ fn measure_call<C: Clock>(
         Called::Mkdir => {
             let (parent, kind) = (parent.as_str(), Kind::Directory);
             return measure_made(clock, alloc, keys, &manifest, parent, kind, count);
+        }
+        Called::Whiteout => {
+            let series = Series {
+                parent: WIDE,
+                first: "name-",
+                names: OBJECTS,
+            };
+            return measure_unlink(clock, alloc, keys, &manifest, series, count);
         }
         Called::Stat => ("name-", 1),
         Called::StatMany => ("name-", FILES),

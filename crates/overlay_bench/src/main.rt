@@ -1,13 +1,11 @@
-//! Measures whole calls and their parts, in nanoseconds an operation.
+//! Measures whole calls, in nanoseconds an operation.
 #![tactic(auto)]
 
 mod calls;
-mod changes;
 mod colliding;
 mod loads;
 mod manifests;
 mod mounts;
-mod parts;
 mod redirects;
 mod trees;
 
@@ -18,10 +16,9 @@ use std::rt::{Clock, Env};
 use std::{env, io};
 
 const USAGE: &str = "usage: overlay_bench LOAD COUNT [LOWERS]
-calls of a client over LOWERS lower layers, 16 if not given: stat stat_many absent absent_new list list_10k symlink mkdir
-names of one directory that collide under fixed keys, others, and the same under fixed keys: collide others collide_fixed others_fixed
-stat below redirects in 17 layers: chains chains_absent chains_past chains_past_named chains_single chains_longer
-parts of calls: find walk walk16 insert names create1k create create100k whiteout1k whiteout whiteout100k parents";
+calls of a client over LOWERS lower layers, 16 if not given: stat stat_many absent absent_new list list_10k symlink mkdir whiteout
+directories made in one, by names that collide under fixed keys and by others: collide others
+stat below redirects in 17 layers: chains chains_absent chains_past chains_past_named chains_single chains_longer";
 
 /// The most lower layers of a mount, and as many as a call has where the command line says nothing of them.
 const LOWERS: u32 = 16;

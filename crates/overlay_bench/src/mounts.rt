@@ -1,8 +1,5 @@
 // Mounts of the layers that manifests spell.
-
 use crate::manifests::{ManifestText, child};
-use crate::trees::flat;
-use merged_lookup::Layers;
 use ov_base::{Call, Path, Reply};
 use ov_wire::manifest_of;
 use overlay_core::{Core, Job, Turn};
@@ -11,29 +8,6 @@ use std::hash::RandomState;
 
 /// More attaches, calls and detaches than are ever measured.
 const DEEDS_MAX: u64 = 1 << 62;
-
-/// The layers of a manifest; a fault of it is answered as want of memory is.
-pub fn layers_of(
-    alloc: Global,
-    keys: RandomState,
-    manifest: &ManifestText,
-) -> Result<Layers, AllocError> {
-    match manifest_of(alloc, keys, manifest.as_bytes()) {
-        Ok((upper, lowers, _)) => Ok(Layers::new(upper, lowers)),
-        Err(_) => Err(AllocError),
-    }
-}
-
-/// Two layers, of which the upper or the lower one has so many empty files at its root.
-pub fn flat_layers(
-    alloc: Global,
-    keys: RandomState,
-    files: u32,
-    in_upper: bool,
-) -> Result<Layers, AllocError> {
-    let manifest = flat(alloc, files, in_upper)?;
-    layers_of(alloc, keys, &manifest)
-}
 
 /// The mount of a manifest with a client, whose number follows; what is no mount is answered as want of memory is.
 pub fn mounted(

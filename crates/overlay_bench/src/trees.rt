@@ -25,20 +25,6 @@ pub fn bare(alloc: Global) -> Result<ManifestText, AllocError> {
     Ok(manifest)
 }
 
-/// Two layers, of which the upper or the lower one has so many empty files at its root.
-pub fn flat(alloc: Global, files: u32, in_upper: bool) -> Result<ManifestText, AllocError> {
-    let mut manifest = ManifestText::new(alloc);
-    manifest.layer()?;
-    if in_upper {
-        files_in(alloc, &mut manifest, "", files)?;
-    }
-    manifest.layer()?;
-    if !in_upper {
-        files_in(alloc, &mut manifest, "", files)?;
-    }
-    Ok(manifest)
-}
-
 /// So many layers, each of `OBJECTS` objects: three directories, and the files in the last.
 pub fn deep(alloc: Global, layers: u32) -> Result<ManifestText, AllocError> {
     let mut manifest = ManifestText::new(alloc);
@@ -47,20 +33,6 @@ pub fn deep(alloc: Global, layers: u32) -> Result<ManifestText, AllocError> {
         nested_in(alloc, &mut manifest, DIRECTORIES)?;
         let last = nested(alloc, DIRECTORIES)?;
         files_in(alloc, &mut manifest, last.as_str(), OBJECTS - DIRECTORIES)?;
-    }
-    Ok(manifest)
-}
-
-/// An empty upper over a layer of so many chains of four directories.
-pub fn chained(alloc: Global, chains: u32) -> Result<ManifestText, AllocError> {
-    let mut manifest = bare(alloc)?;
-    for number in 0..chains {
-        let mut path = child(alloc, "", "dirs-", number)?;
-        manifest.directory(path.as_str())?;
-        for depth in 1..4 {
-            path = child(alloc, path.as_str(), "dirs-", depth)?;
-            manifest.directory(path.as_str())?;
-        }
     }
     Ok(manifest)
 }
