@@ -1,6 +1,5 @@
 // What the entries of a manifest say, read for the slow reference alone.
 use crate::plain_layer::PlainLayer;
-use ov_base::Mode;
 use std::alloc::{AllocError, Global};
 use toml::{Table, Value};
 
@@ -18,7 +17,7 @@ pub enum Kind {
 pub struct Entry<'a> {
     pub path: &'a str,
     pub kind: Kind,
-    pub mode: Mode,
+    pub mode: u32,
     pub uid: u32,
     pub gid: u32,
     /// The bytes of a file, the target of a symbolic link.
@@ -72,7 +71,7 @@ fn entry_of(entry: &Value) -> Option<Entry<'_>> {
     Some(Entry {
         path: path_in(text_at(table, "path")?),
         kind,
-        mode: mode_of(kind, table)?,
+        mode: number_at(table, "mode", mode_unless_told(kind))?,
         uid: number_at(table, "uid", 0)?,
         gid: number_at(table, "gid", 0)?,
         text: text_of(kind, table),
@@ -110,13 +109,12 @@ fn kind_named(kind: &str) -> Option<Kind> {
     }
 }
 
-fn mode_of(kind: Kind, table: &Table) -> Option<Mode> {
-    let without = match kind {
+fn mode_unless_told(kind: Kind) -> u32 {
+    match kind {
         Kind::Directory => 0o755,
         Kind::SymbolicLink => 0o777,
         Kind::File | Kind::Whiteout => 0o644,
-    };
-    Mode::parse(number_at(table, "mode", without)?).ok()
+    }
 }
 
 fn number_at(table: &Table, key: &str, without: u32) -> Option<u32> {

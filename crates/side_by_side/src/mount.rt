@@ -28,7 +28,9 @@ fn mount_over(alloc: Global, layers: &[PlainLayer<'_>]) -> Result<Option<PlainMo
     let Some(upper) = layers.first() else {
         return Ok(None);
     };
-    let root = root_attributes(alloc, upper);
+    let Some(root) = root_attributes(alloc, upper) else {
+        return Ok(None);
+    };
     let mut builder = Builder::new(alloc, root, false)?;
     for shown in shown_below(alloc, layers)?.as_slice() {
         put(alloc, &mut builder, shown)?;
@@ -39,25 +41,29 @@ fn mount_over(alloc: Global, layers: &[PlainLayer<'_>]) -> Result<Option<PlainMo
     }))
 }
 
-fn root_attributes(alloc: Global, upper: &PlainLayer<'_>) -> Attributes {
+fn root_attributes(alloc: Global, upper: &PlainLayer<'_>) -> Option<Attributes> {
     match upper.held("") {
         Some(entry) => attributes(alloc, &entry),
-        None => Attributes {
+        None => Some(Attributes {
             mode: Mode::of_directories(),
             uid: 0,
             gid: 0,
             user: UserAttributes::new(alloc),
-        },
+        }),
     }
 }
 
-fn attributes(alloc: Global, entry: &Entry<'_>) -> Attributes {
-    Attributes {
-        mode: entry.mode,
+// None where the mode is none.
+fn attributes(alloc: Global, entry: &Entry<'_>) -> Option<Attributes> {
+    let Ok(mode) = Mode::parse(entry.mode) else {
+        return None;
+    };
+    Some(Attributes {
+        mode,
         uid: entry.uid,
         gid: entry.gid,
         user: UserAttributes::new(alloc),
-    }
+    })
 }
 
 // Puts what is shown at a path, whose parent is there.
@@ -65,7 +71,9 @@ fn put(alloc: Global, builder: &mut Builder, shown: &Shown<'_>) -> Result<(), Al
     let Ok(path) = Path::parse(alloc, shown.path.as_bytes())? else {
         return Ok(());
     };
-    let attributes = attributes(alloc, &shown.entry);
+    let Some(attributes) = attributes(alloc, &shown.entry) else {
+        return Ok(());
+    };
     if shown.entry.kind == Kind::Directory {
         builder.directory(&path, attributes, shown.is_base)
     } else {
@@ -78,10 +86,12 @@ fn put(alloc: Global, builder: &mut Builder, shown: &Shown<'_>) -> Result<(), Al
 
 fn content_of(alloc: Global, entry: &Entry<'_>) -> Result<Option<Content>, AllocError> {
     let bytes = Bytes::from_slice(alloc, entry.text.as_bytes())?;
-    if entry.kind == Kind::SymbolicLink {
-        Ok(LinkTarget::parse(bytes).ok().map(Content::SymbolicLink))
-    } else {
-        Ok(Some(Content::File(bytes)))
+    if entry.kind != Kind::SymbolicLink {
+        return Ok(Some(Content::File(bytes)));
+    }
+    match LinkTarget::parse(bytes) {
+        Ok(target) => Ok(Some(Content::SymbolicLink(target))),
+        Err(_) => Ok(None),
     }
 }
 
