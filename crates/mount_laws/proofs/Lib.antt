@@ -11,3 +11,4 @@ pub mod Files
 pub mod Handles
 pub mod Removes
 pub mod Removed
+pub mod Attributes

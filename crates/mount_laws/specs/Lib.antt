@@ -4,3 +4,4 @@ pub mod Removals
 pub mod Thin
 pub mod Removed
 pub mod Seeks
+pub mod Attributes
