@@ -12,3 +12,4 @@ pub mod Handles
 pub mod Removes
 pub mod Removed
 pub mod Attributes
+pub mod Altered

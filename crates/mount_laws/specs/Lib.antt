@@ -5,3 +5,4 @@ pub mod Thin
 pub mod Removed
 pub mod Seeks
 pub mod Attributes
+pub mod Altered

@@ -1,4 +1,5 @@
 // The laws of the machine on a mount of layers, each as the contract of a function that does nothing.
+ghost use Rattle.mount_laws.specs.Altered.{LawOfAttributeDeleted, LawOfAttributeSet, LawOfModeChanged, LawOfOwnerChanged};
 ghost use Rattle.mount_laws.specs.Attributes.{LawOfChmod, LawOfChown, LawOfDeleteAttribute, LawOfGetAttribute, LawOfListAttributes, LawOfSetAttribute};
 ghost use Rattle.mount_laws.specs.Removed.{LawOfCloseRemoved, LawOfListRemoved};
 ghost use Rattle.mount_laws.specs.Leaves.{LawOfFileMade, LawOfLinkMade, LawOfPlacedLeaf, LawOfReadlink, LawOfSymlink};
@@ -170,4 +171,26 @@ pub fn law_of_get_attribute()
 /// A list of user attributes is refused as `chown` is, and answers the names that the layers show, in their order.
 pub fn law_of_list_attributes()
     ensures { LawOfListAttributes }
+{}
+
+/// A `chmod` that is not refused makes the mount one of the upper that shows the mode; paths lead where they led and no handle changes.
+pub fn law_of_mode_changed()
+    ensures { LawOfModeChanged }
+{}
+
+/// A `chown` that is not refused makes the mount one of the upper that shows the owner and group; paths lead where they led and no
+/// handle changes.
+pub fn law_of_owner_changed()
+    ensures { LawOfOwnerChanged }
+{}
+
+/// A user attribute that is set makes the mount one of the upper that shows it; paths lead where they led and no handle changes.
+pub fn law_of_attribute_set()
+    ensures { LawOfAttributeSet }
+{}
+
+/// A user attribute that is deleted makes the mount one of the upper that shows the others; paths lead where they led and no handle
+/// changes.
+pub fn law_of_attribute_deleted()
+    ensures { LawOfAttributeDeleted }
 {}
