@@ -13,3 +13,4 @@ pub mod Removes
 pub mod Removed
 pub mod Attributes
 pub mod Altered
+pub mod Changed

@@ -1,5 +1,5 @@
 // The laws of the machine on a mount of layers, each as the contract of a function that does nothing.
-ghost use Rattle.mount_laws.specs.Altered.{LawOfAttributeDeleted, LawOfAttributeSet, LawOfModeChanged, LawOfOwnerChanged};
+ghost use Rattle.mount_laws.specs.Altered.{LawOfAlteredDirectory, LawOfAlteredInode, LawOfAttributeDeleted, LawOfAttributeSet, LawOfCopiedLeaf, LawOfModeChanged, LawOfOwnerChanged};
 ghost use Rattle.mount_laws.specs.Attributes.{LawOfChmod, LawOfChown, LawOfDeleteAttribute, LawOfGetAttribute, LawOfListAttributes, LawOfSetAttribute};
 ghost use Rattle.mount_laws.specs.Removed.{LawOfCloseRemoved, LawOfListRemoved};
 ghost use Rattle.mount_laws.specs.Leaves.{LawOfFileMade, LawOfLinkMade, LawOfPlacedLeaf, LawOfReadlink, LawOfSymlink};
@@ -193,4 +193,20 @@ pub fn law_of_attribute_set()
 /// changes.
 pub fn law_of_attribute_deleted()
     ensures { LawOfAttributeDeleted }
+{}
+
+/// An upper to which a file or link of a lower layer is copied up with other attributes shows them, and no other path changes
+/// (overlayfs.rst, "Non-directories").
+pub fn law_of_copied_leaf()
+    ensures { LawOfCopiedLeaf }
+{}
+
+/// An upper whose inode has other attributes shows them at each of its names, and no other path changes.
+pub fn law_of_altered_inode()
+    ensures { LawOfAlteredInode }
+{}
+
+/// An upper whose directory has other attributes shows them, and no other path changes.
+pub fn law_of_altered_directory()
+    ensures { LawOfAlteredDirectory }
 {}
