@@ -8,13 +8,13 @@ use Rattle.plain_model.proofs.Counting.{Counted, count-less, count-some}
 use Rattle.plain_model.proofs.Merged.{named-seen}
 use Rattle.plain_model.proofs.Paths.{place, paths_tell, outside-parent, parent-outside}
 use Rattle.plain_model.proofs.Uppers.{meld, merged-meld, AgreeTo, agree-where, through-agree, under-agree, nothing-beneath}
-use Rattle.mount_laws.specs.Leaves.{PlacesLeaf, LawOfPlacedLeaf}
+use Rattle.mount_laws.specs.Leaves.{PlacesLeaf, GainsLeaf, LawOfPlacedLeaf}
 use Rattle.mount_laws.specs.Removals.{ShowsNoName, TakesAway, fewer, left_behind, LawOfTakenAway}
 use Rattle.mount_laws.specs.Thin.{LawOfThin}
 use Rattle.mount_laws.proofs.Places.{nothing-in, nothing-below, named-shown, other-path, longer}
 
 -- what is seen is told by the inode that is named, and by no other
-meld-alike : (f g : ℕ → Option Inode) (o : Option Object) (s : Option Shown) → ((k : ℕ) → o ≡ Some (Named k) → f k ≡ g k) → meld f o s ≡ meld g o s
+pub meld-alike : (f g : ℕ → Option Inode) (o : Option Object) (s : Option Shown) → ((k : ℕ) → o ≡ Some (Named k) → f k ≡ g k) → meld f o s ≡ meld g o s
 meld-alike f g None s h = refl
 meld-alike f g (Some Whiteout) s h = refl
 meld-alike f g (Some (Directory k a o r)) s h = refl
@@ -152,8 +152,8 @@ law_of_taken_away U V lowers a b n p bare m = record {
   names = named U V lowers a b n p bare m;
 }
 
--- a file or link that is placed
-module _ (U V : Layer) (lowers : List Layer) (a : AreLayers (U ∷ lowers)) (b : AreLayers (V ∷ lowers)) (n : Name) (p : Path) (k : ℕ) (i : Inode) (free : shows 0 (U ∷ lowers) (n ∷ p) ≡ None) (m : PlacesLeaf U V (n ∷ p) k i) where
+-- a file or link that is placed where no directory was shown
+module _ (U V : Layer) (lowers : List Layer) (a : AreLayers (U ∷ lowers)) (b : AreLayers (V ∷ lowers)) (n : Name) (p : Path) (k : ℕ) (i : Inode) (hides : is_directory (shows 0 (U ∷ lowers) (n ∷ p)) ≡ false) (m : PlacesLeaf U V (n ∷ p) k i) where
   abbrev leaf_path : Path
   leaf_path = n ∷ p
 
@@ -165,7 +165,7 @@ module _ (U V : Layer) (lowers : List Layer) (a : AreLayers (U ∷ lowers)) (b :
   cut-through = ap (λ o. is_directory (unless (cut o (cuts V p)) (shows 1 lowers (spell o n (below V p))))) m.here
 
   unnamed-under : (q : Path) (x : Name) (r : Path) (j : ℕ) → q ≡ x ∷ r ++ leaf_path → held U q ≡ Some (Named j) → ⊥
-  unnamed-under q x r j e h = named-shown U lowers (x ∷ r ++ leaf_path) j (ap (held U) (sym e) ∙ h) (nothing-below (U ∷ lowers) a leaf_path free x r)
+  unnamed-under q x r j e h = named-shown U lowers (x ∷ r ++ leaf_path) j (ap (held U) (sym e) ∙ h) (nothing-below (U ∷ lowers) a leaf_path hides x r)
 
   abbrev sight : Option Sight
   sight = Some (SeenLeaf i.content i.attributes Own 1)
@@ -188,7 +188,7 @@ module _ (U V : Layer) (lowers : List Layer) (a : AreLayers (U ∷ lowers)) (b :
       below-it (x ∷ r) e =
           ap (merged V lowers) e
           ∙ none-beneath U V lowers leaf_path m.beneath m.elsewhere a.1 cut-through x r
-          ∙ sym (ap (merged U lowers) e ∙ ap (see _) (nothing-below (U ∷ lowers) a leaf_path free x r))
+          ∙ sym (ap (merged U lowers) e ∙ ap (see _) (nothing-below (U ∷ lowers) a leaf_path hides x r))
           ∙ sym (ap (λ c. cond c sight (merged U lowers q)) (other-path leaf_path q (λ g. longer leaf_path x r (g ∙ e))))
 
   alone : (q : Path) → held V q ≡ Some (Named k) → q ≡ leaf_path
@@ -211,16 +211,13 @@ module _ (U V : Layer) (lowers : List Layer) (a : AreLayers (U ∷ lowers)) (b :
       below-it [] e = absurd (apart e)
       below-it (x ∷ r) e = (λ h. (let z : None ≡ Some (Named j) = sym (m.beneath x r) ∙ ap (held V) (sym e) ∙ h in cc), λ h. absurd (unnamed-under q x r j e h))
 
--- a file or link that is placed is all that is gained
+  -- it is all that is gained
+  pub gains-leaf : GainsLeaf U V lowers leaf_path i.content i.attributes
+  gains-leaf = record { layers = b; number = k; here = m.here; alone = alone; sights = leaf-sights; names = leaf-names }
+
+-- a file or link that is placed where nothing was shown is all that is gained
 pub law_of_placed_leaf : LawOfPlacedLeaf
-law_of_placed_leaf U V lowers a b n p k i free m = record {
-  layers = b;
-  number = k;
-  here = m.here;
-  alone = alone U V lowers a b n p k i free m;
-  sights = leaf-sights U V lowers a b n p k i free m;
-  names = leaf-names U V lowers a b n p k i free m;
-}
+law_of_placed_leaf U V lowers a b n p k i free m = gains-leaf U V lowers a b n p k i (ap is_directory free) m
 
 -- V is U but at n in p, below which it holds nothing: it has no needless whiteout where U has none, and at n in p there is none
 module _ (U V : Layer) (lowers : List Layer) (thin : IsThin U lowers) (n : Name) (p : Path) (beneath : (k : Name) (r : Path) → held V (k ∷ r ++ (n ∷ p)) ≡ None) (elsewhere : (x : Path) → IsOutside (n ∷ p) x → held V x ≡ held U x) (needed : held V (n ∷ p) ≡ Some Whiteout → is_some (under U lowers n p) ≡ true) where

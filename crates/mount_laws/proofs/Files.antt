@@ -5,7 +5,7 @@ use Rattle.ov_base.specs.declared.call.Call.TheVariants.{Open}
 use Rattle.ov_base.specs.declared.call.OpenFlags.{OpenFlags}
 use Rattle.ov_base.specs.declared.errno.Errno.TheVariants.{EEXIST}
 use Rattle.ov_base.specs.declared.node_id.NodeId.{NodeId}
-use Rattle.plain_model.specs.Layers.{Name, Path, Layer, shows}
+use Rattle.plain_model.specs.Layers.{Name, Path, Named, Layer, held, shows}
 use Rattle.plain_model.specs.Tree.{Node, Leaf, Own, Tree, names_of, node_at, AreLinked, Remounts, IsKept}
 use Rattle.plain_model.specs.Machine.{State}
 use Rattle.plain_model.specs.Refusals.{when, bad_mode}
@@ -16,6 +16,7 @@ use Rattle.mount_laws.specs.Leaves.{GainsLeaf, MakesFile, LawOfFileMade}
 use Rattle.mount_laws.proofs.Looks.{none-of, at-some, to-parents, finds}
 use Rattle.mount_laws.proofs.Makes.{Spot, free-spot, way-shows, way-stays, way-hidden, way-here, way-kept}
 use Rattle.mount_laws.proofs.Links.{second-none, before, later}
+use Rattle.mount_laws.proofs.Places.{named-shown}
 
 module _ (U V : Layer) (lowers : List Layer) (s : State) (m : IsMountOf U lowers s) (c : ℕ) (p : Path) (flags : OpenFlags) (mode : ℕ) (fine : mkdir_fault (U ∷ lowers) p mode ≡ None) (g : GainsLeaf U V lowers p (File []) (fresh mode)) where
   abbrev x : Node
@@ -46,11 +47,14 @@ module _ (U V : Layer) (lowers : List Layer) (s : State) (m : IsMountOf U lowers
   serial-is : next_if (makes s (Open p flags mode)) s.serial ≡ suc s.serial
   serial-is = ap (λ o. next_if (is_none o) s.serial) absent
 
+  unnamed : (k : ℕ) → held U p ≡ Some (Named k) → ⊥
+  unnamed k h = named-shown U lowers p k h free
+
   earlier : (y z : Path) → AreLinked V y z → (y ≡ z) ⊎ AreLinked U y z
-  earlier = before U V lowers p (File []) (fresh mode) free g
+  earlier = before U V lowers p (File []) (fresh mode) unnamed g
 
   afterwards : (y z : Path) → AreLinked U y z → AreLinked V y z
-  afterwards = later U V lowers p (File []) (fresh mode) free g
+  afterwards = later U V lowers p (File []) (fresh mode) unnamed g
 
   makes-file : MakesFile V lowers s c p flags mode
   makes-file = record {

@@ -11,3 +11,6 @@ pub mod Files
 pub mod Handles
 pub mod Removes
 pub mod Removed
+pub mod Attributes
+pub mod Altered
+pub mod Changed

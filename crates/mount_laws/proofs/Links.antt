@@ -32,8 +32,8 @@ pub second-none : (a b : Option Errno) → first a b ≡ None → b ≡ None
 second-none None b h = h
 second-none (Some e) b h = cc
 
--- an upper that gains a file or link where nothing was shown names as before
-module _ (U V : Layer) (lowers : List Layer) (p : Path) (content : Content) (a : Attributes) (free : shows 0 (U ∷ lowers) p ≡ None) (g : GainsLeaf U V lowers p content a) where
+-- an upper that gains a file or link where none of its names was names as before
+module _ (U V : Layer) (lowers : List Layer) (p : Path) (content : Content) (a : Attributes) (new : (k : ℕ) → held U p ≡ Some (Named k) → ⊥) (g : GainsLeaf U V lowers p content a) where
   -- the number of the new inode has p as its only name
   only-name : (y z : Path) (k : ℕ) → p ≡ y → held V y ≡ Some (Named k) → held V z ≡ Some (Named k) → z ≡ p
   only-name y z k e a b =
@@ -53,7 +53,7 @@ module _ (U V : Layer) (lowers : List Layer) (p : Path) (content : Content) (a :
 
   -- what U names is not at p
   away : (y : Path) (k : ℕ) → held U y ≡ Some (Named k) → y ≡ p → ⊥
-  away y k h e = named-shown U lowers p k (ap (held U) (sym e) ∙ h) free
+  away y k h e = new k (ap (held U) (sym e) ∙ h)
 
   pub later : (y z : Path) → AreLinked U y z → AreLinked V y z
   later y z l = record {
@@ -79,6 +79,9 @@ module _ (U V : Layer) (lowers : List Layer) (s : State) (m : IsMountOf U lowers
   free : shows 0 (U ∷ lowers) p ≡ None
   free = none-of (shows 0 (U ∷ lowers) p) (when-not (is_some (shows 0 (U ∷ lowers) p)) EEXIST (second-none (parents_fault (U ∷ lowers) p) _ last-none))
 
+  unnamed : (k : ℕ) → held U p ≡ Some (Named k) → ⊥
+  unnamed k h = named-shown U lowers p k h free
+
   spot : Spot s.tree p
   spot = free-spot s.tree p None (ap₂ (λ e b. first e (when b EEXIST)) (to-parents U lowers s m p) (finds U lowers s m p) ∙ last-none)
 
@@ -90,13 +93,13 @@ module _ (U V : Layer) (lowers : List Layer) (s : State) (m : IsMountOf U lowers
     answer = refl;
     mounts = record {
       layers = g.layers;
-      shows = way-shows U V lowers s m p spot x bare g.sights (before U V lowers p (SymbolicLink target) (fresh 0o777) free g) (later U V lowers p (SymbolicLink target) (fresh 0o777) free g);
+      shows = way-shows U V lowers s m p spot x bare g.sights (before U V lowers p (SymbolicLink target) (fresh 0o777) unnamed g) (later U V lowers p (SymbolicLink target) (fresh 0o777) unnamed g);
       kept = law_of_names s c (Symlink target p) m.kept (law_of_symlink U lowers s m c target p ∙ fine);
       writable = m.writable;
     };
     tables = refl;
-    stays = way-stays U V lowers s m p spot x bare g.sights (before U V lowers p (SymbolicLink target) (fresh 0o777) free g) (later U V lowers p (SymbolicLink target) (fresh 0o777) free g);
-    hidden = way-hidden U V lowers s m p spot x bare g.sights (before U V lowers p (SymbolicLink target) (fresh 0o777) free g) (later U V lowers p (SymbolicLink target) (fresh 0o777) free g);
+    stays = way-stays U V lowers s m p spot x bare g.sights (before U V lowers p (SymbolicLink target) (fresh 0o777) unnamed g) (later U V lowers p (SymbolicLink target) (fresh 0o777) unnamed g);
+    hidden = way-hidden U V lowers s m p spot x bare g.sights (before U V lowers p (SymbolicLink target) (fresh 0o777) unnamed g) (later U V lowers p (SymbolicLink target) (fresh 0o777) unnamed g);
   }
 
 -- symlink makes the mount one of the upper that gains the link

@@ -18,9 +18,9 @@ nothing-in Ls a m q h = by (shows 0 Ls (m ∷ q)) refl
     by None e = e
     by (Some s) e = absurd (false≢true (sym h ∙ parent-shown 0 Ls a m q (ap is_some e)))
 
--- what shows nothing shows nothing below
-pub nothing-below : (Ls : List Layer) → AreLayers Ls → (p : Path) → shows 0 Ls p ≡ None → (m : Name) (r : Path) → shows 0 Ls (m ∷ r ++ p) ≡ None
-nothing-below Ls a p h m [] = nothing-in Ls a m p (ap is_directory h)
+-- nor below
+pub nothing-below : (Ls : List Layer) → AreLayers Ls → (p : Path) → is_directory (shows 0 Ls p) ≡ false → (m : Name) (r : Path) → shows 0 Ls (m ∷ r ++ p) ≡ None
+nothing-below Ls a p h m [] = nothing-in Ls a m p h
 nothing-below Ls a p h m (k ∷ r) = nothing-in Ls a m (k ∷ r ++ p) (ap is_directory (nothing-below Ls a p h k r))
 
 -- a name of an inode is shown
@@ -81,7 +81,7 @@ module _ (U V : Layer) (lowers : List Layer) (a : AreLayers (U ∷ lowers)) (b :
       below-it (k ∷ r) e =
           ap (merged V lowers) e
           ∙ merged-beneath U V lowers a.1 (n ∷ p) _ m hidden k r
-          ∙ sym (ap (merged U lowers) e ∙ ap (see _) (nothing-below (U ∷ lowers) a (n ∷ p) free k r))
+          ∙ sym (ap (merged U lowers) e ∙ ap (see _) (nothing-below (U ∷ lowers) a (n ∷ p) (ap is_directory free) k r))
           ∙ sym (ap (λ c. cond c (Some (SeenBranch x false)) (merged U lowers q)) (other-path (n ∷ p) q (λ g. longer (n ∷ p) k r (g ∙ e))))
 
   named : (q : Path) (j : ℕ) → (held V q ≡ Some (Named j)) ↔ (held U q ≡ Some (Named j))
@@ -97,7 +97,7 @@ module _ (U V : Layer) (lowers : List Layer) (a : AreLayers (U ∷ lowers)) (b :
       )
       below-it (i ∷ r) e = (
         λ h. (let z : None ≡ Some (Named j) = sym (m.beneath i r) ∙ ap (held V) (sym e) ∙ h in cc),
-        λ h. absurd (named-shown U lowers (i ∷ r ++ (n ∷ p)) j (ap (held U) (sym e) ∙ h) (nothing-below (U ∷ lowers) a (n ∷ p) free i r)),
+        λ h. absurd (named-shown U lowers (i ∷ r ++ (n ∷ p)) j (ap (held U) (sym e) ∙ h) (nothing-below (U ∷ lowers) a (n ∷ p) (ap is_directory free) i r)),
       )
 
 -- a new directory is all that is gained

@@ -4,3 +4,5 @@ pub mod Removals
 pub mod Thin
 pub mod Removed
 pub mod Seeks
+pub mod Attributes
+pub mod Altered

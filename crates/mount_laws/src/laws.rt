@@ -1,4 +1,6 @@
 // The laws of the machine on a mount of layers, each as the contract of a function that does nothing.
+ghost use Rattle.mount_laws.specs.Altered.{LawOfAlteredDirectory, LawOfAlteredInode, LawOfAttributeDeleted, LawOfAttributeSet, LawOfCopiedLeaf, LawOfModeChanged, LawOfOwnerChanged};
+ghost use Rattle.mount_laws.specs.Attributes.{LawOfChmod, LawOfChown, LawOfDeleteAttribute, LawOfGetAttribute, LawOfListAttributes, LawOfSetAttribute};
 ghost use Rattle.mount_laws.specs.Removed.{LawOfCloseRemoved, LawOfListRemoved};
 ghost use Rattle.mount_laws.specs.Leaves.{LawOfFileMade, LawOfLinkMade, LawOfPlacedLeaf, LawOfReadlink, LawOfSymlink};
 ghost use Rattle.mount_laws.specs.Looks.{LawOfBadDescriptors, LawOfBeginning, LawOfClose, LawOfDirectories, LawOfList, LawOfMade, LawOfMkdir, LawOfOpen, LawOfPlacedDirectory, LawOfPlacedParent, LawOfStat, LawOfWalks};
@@ -139,4 +141,72 @@ pub fn law_of_close_removed()
 /// A handle on a directory without names lists none, unless it keeps a listing of before.
 pub fn law_of_list_removed()
     ensures { LawOfListRemoved }
+{}
+
+/// `chmod` is refused for its mode, then as `chown` is.
+pub fn law_of_chmod()
+    ensures { LawOfChmod }
+{}
+
+/// `chown` is refused as the layers' walk is, then where they show a symbolic link.
+pub fn law_of_chown()
+    ensures { LawOfChown }
+{}
+
+/// A user attribute is not set for its name or its value's length, then as `chown` is refused, then where 64 others are shown.
+pub fn law_of_set_attribute()
+    ensures { LawOfSetAttribute }
+{}
+
+/// A user attribute is not deleted for its name, then as `chown` is refused, then where the layers show none of the name.
+pub fn law_of_delete_attribute()
+    ensures { LawOfDeleteAttribute }
+{}
+
+/// A user attribute is got as it is deleted, and is the value that the layers show.
+pub fn law_of_get_attribute()
+    ensures { LawOfGetAttribute }
+{}
+
+/// A list of user attributes is refused as `chown` is, and answers the names that the layers show, in their order.
+pub fn law_of_list_attributes()
+    ensures { LawOfListAttributes }
+{}
+
+/// A `chmod` that is not refused makes the mount one of the upper that shows the mode; paths lead where they led and no handle changes.
+pub fn law_of_mode_changed()
+    ensures { LawOfModeChanged }
+{}
+
+/// A `chown` that is not refused makes the mount one of the upper that shows the owner and group; paths lead where they led and no
+/// handle changes.
+pub fn law_of_owner_changed()
+    ensures { LawOfOwnerChanged }
+{}
+
+/// A user attribute that is set makes the mount one of the upper that shows it; paths lead where they led and no handle changes.
+pub fn law_of_attribute_set()
+    ensures { LawOfAttributeSet }
+{}
+
+/// A user attribute that is deleted makes the mount one of the upper that shows the others; paths lead where they led and no handle
+/// changes.
+pub fn law_of_attribute_deleted()
+    ensures { LawOfAttributeDeleted }
+{}
+
+/// An upper to which a file or link of a lower layer is copied up with other attributes shows them, and no other path changes
+/// (overlayfs.rst, "Non-directories").
+pub fn law_of_copied_leaf()
+    ensures { LawOfCopiedLeaf }
+{}
+
+/// An upper whose inode has other attributes shows them at each of its names, and no other path changes.
+pub fn law_of_altered_inode()
+    ensures { LawOfAlteredInode }
+{}
+
+/// An upper whose directory has other attributes shows them, and no other path changes.
+pub fn law_of_altered_directory()
+    ensures { LawOfAlteredDirectory }
 {}

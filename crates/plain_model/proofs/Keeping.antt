@@ -5,21 +5,23 @@ use Rattle.std.proofs.lemmas.Bool.Decides.{nat_tests}
 use Rattle.ov_base.specs.declared.node_id.NodeId.{NodeId}
 use Rattle.ov_base.specs.declared.node_id.NodeId.TheVariants.{New}
 use Rattle.plain_model.specs.Layers.{Name}
-use Rattle.plain_model.specs.Tree.{same_id, Node, Branch, Leaf, Tree, root, names_of, with_name, put, lead, is_folder, count_of, same_entry, AreNames, IsKept}
+use Rattle.plain_model.specs.Tree.{same_id, Node, Branch, Leaf, Tree, root, names_of, with_name, put, lead, is_folder, count_of, is_untouched, same_entry, AreNames, IsKept}
 use Rattle.plain_model.specs.Machine.{Table}
 use Rattle.plain_model.specs.Changes.{over_node, change, is_named, is_held, settled}
 use Rattle.plain_model.proofs.Paths.{ids_tell}
 use Rattle.plain_model.proofs.Names.{entries_tell, names-same, names-some, root-some, lead-entry}
 
--- two nodes with the same names and as many names, both directories or both not, and both there or both not
+-- two nodes with the same names and as many names, both directories or both not, both there or both not, and the second untouched only
+-- where the first is
 pub record Like (o p : Option Node) : Type 0 where
   pub names : (n : Name) → names_of p n ≡ names_of o n
   pub counts : count_of p ≡ count_of o
   pub folders : is_folder p ≡ is_folder o
   pub stands : is_some p ≡ is_some o
+  pub untouched : is_untouched p ≡ true → is_untouched o ≡ true
 
 pub like-refl : (o : Option Node) → Like o o
-like-refl o = record { names = λ n. refl; counts = refl; folders = refl; stands = refl }
+like-refl o = record { names = λ n. refl; counts = refl; folders = refl; stands = refl; untouched = λ h. h }
 
 pub not-some : (o : Option Node) → is_some o ≡ false → o ≡ None
 not-some None h = refl
@@ -32,6 +34,7 @@ like-kept t u i like k = record {
   unused = λ j h. not-some (u (New j)) ((like (New j)).stands ∙ ap is_some (k.unused j h));
   counted = λ d. subst (AreNames u d) (sym (like d).counts) (names-same t u d (count_of (t d)) (λ w. (like w.0).names w.1) (k.counted d));
   bare = λ d n h. (like d).names n ∙ k.bare d n (sym (like d).counts ∙ h);
+  single = λ d h. subst (λ n. n ≤ 1) (sym (like d).counts) (k.single d ((like d).untouched h));
 }
 
 -- a node put at an identity, and the others
@@ -90,6 +93,10 @@ removed-kept t i d h k = record {
     | inl y ↦ ap (λ o. names_of o n) (put-here t d None x y)
     | inr f ↦ ap (λ o. names_of o n) (put-there t d None x f) ∙ k.bare x n (ap count_of (sym (put-there t d None x f)) ∙ g)
   ];
+  single = λ x g. elim (cases_Bool (same_id d x)) [
+    | inl y ↦ absurd (false≢true (sym (ap is_untouched (put-here t d None x y)) ∙ g))
+    | inr f ↦ subst (λ o. count_of o ≤ 1) (sym (put-there t d None x f)) (k.single x (ap is_untouched (sym (put-there t d None x f)) ∙ g))
+  ];
 }
   where
     entries : (x : NodeId) (n : Name) → names_of (put t d None x) n ≡ names_of (t x) n
@@ -128,6 +135,11 @@ with-stands n e None = refl
 with-stands n e (Some (Branch a b names c)) = refl
 with-stands n e (Some (Leaf content a u c)) = refl
 
+with-untouched : (n : Name) (e : Option NodeId) (o : Option Node) → is_untouched (with_name n e o) ≡ is_untouched o
+with-untouched n e None = refl
+with-untouched n e (Some (Branch a b names c)) = refl
+with-untouched n e (Some (Leaf content a u c)) = refl
+
 put-fact : {B : Type 0} (g : Option Node → B) (t : Tree) (d : NodeId) (o : Option Node) → g o ≡ g (t d) → (x : NodeId) → g (put t d o x) ≡ g (t x)
 put-fact g t d o h x = elim (cases_Bool (same_id d x)) [
   | inl y ↦ ap g (put-here t d o x y) ∙ h ∙ ap (λ z. g (t z)) ((ids_tell d x).0 y)
@@ -143,15 +155,19 @@ lead-folders t d n e = put-fact is_folder t d (with_name n e (t d)) (with-folder
 pub lead-stands : (t : Tree) (d : NodeId) (n : Name) (e : Option NodeId) (x : NodeId) → is_some (lead t d n e x) ≡ is_some (t x)
 lead-stands t d n e = put-fact is_some t d (with_name n e (t d)) (with-stands n e (t d))
 
+lead-untouched : (t : Tree) (d : NodeId) (n : Name) (e : Option NodeId) (x : NodeId) → is_untouched (lead t d n e x) ≡ is_untouched (t x)
+lead-untouched t d n e = put-fact is_untouched t d (with_name n e (t d)) (with-untouched n e (t d))
+
 -- What a tree keeps while counts and names are out of step: count is how many names each node is to have.
 pub record IsKeptAs (count : NodeId → ℕ) (t : Tree) (i : ℕ) : Type 0 where
   pub home : is_folder (t root) ≡ true
   pub unused : (j : ℕ) → i ≤ j → t (New j) ≡ None
   pub counted : (d : NodeId) → AreNames t d (count d)
   pub bare : (d : NodeId) (n : Name) → count_of (t d) ≡ zero → names_of (t d) n ≡ None
+  pub single : (d : NodeId) → is_untouched (t d) ≡ true → count_of (t d) ≤ 1
 
 pub kept-as : (count : NodeId → ℕ) (t : Tree) (i : ℕ) → IsKeptAs count t i → ((d : NodeId) → count_of (t d) ≡ count d) → IsKept t i
-kept-as count t i k h = record { home = k.home; unused = k.unused; counted = λ d. subst (AreNames t d) (sym (h d)) (k.counted d); bare = k.bare }
+kept-as count t i k h = record { home = k.home; unused = k.unused; counted = λ d. subst (AreNames t d) (sym (h d)) (k.counted d); bare = k.bare; single = k.single }
 
 -- an entry of a named directory is led elsewhere
 pub lead-kept : (before after : NodeId → ℕ) (t : Tree) (i : ℕ) (d : NodeId) (n : Name) (e : Option NodeId) → is_folder (t d) ≡ true → (is_some e ≡ true → count_of (t d) ≡ 0 → ⊥) → IsKeptAs before t i → ((x : NodeId) → AreNames t x (before x) → AreNames (lead t d n e) x (after x)) → IsKeptAs after (lead t d n e) i
@@ -160,6 +176,7 @@ lead-kept before after t i d n e dir live k step = record {
   unused = λ j h. not-some (lead t d n e (New j)) (lead-stands t d n e (New j) ∙ ap is_some (k.unused j h));
   counted = λ x. step x (k.counted x);
   bare = bare;
+  single = λ x h. subst (λ c. c ≤ 1) (sym (lead-counts t d n e x)) (k.single x (sym (lead-untouched t d n e x) ∙ h));
 }
   where
     absent : (e : Option NodeId) → (is_some e ≡ true → ⊥) → e ≡ None

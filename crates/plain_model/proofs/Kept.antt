@@ -31,19 +31,19 @@ use Rattle.plain_model.proofs.Looking.{or-first, or-second, when-not, Reached, T
 -- mild changes of a node
 pub bytes-mild : (bytes : List ℕ) → IsMild (with_bytes bytes)
 bytes-mild bytes (Branch a b names c) = like-refl (Some (Branch a b names c))
-bytes-mild bytes (Leaf (File old) a u c) = record { names = λ n. refl; counts = refl; folders = refl; stands = refl }
+bytes-mild bytes (Leaf (File old) a u c) = record { names = λ n. refl; counts = refl; folders = refl; stands = refl; untouched = λ h. h }
 bytes-mild bytes (Leaf (SymbolicLink target) a u c) = like-refl (Some (Leaf (SymbolicLink target) a u c))
 
 pub attributes-mild : (m : MountOptions) (f : Attributes → Attributes) → IsMild (with_attributes m f)
-attributes-mild m f (Branch a b names c) = record { names = λ n. refl; counts = refl; folders = refl; stands = refl }
-attributes-mild m f (Leaf content a u c) = record { names = λ n. refl; counts = refl; folders = refl; stands = refl }
+attributes-mild m f (Branch a b names c) = record { names = λ n. refl; counts = refl; folders = refl; stands = refl; untouched = λ h. h }
+attributes-mild m f (Leaf content a u c) = record { names = λ n. refl; counts = refl; folders = refl; stands = refl; untouched = λ h. absurd (false≢true h) }
 
 touched-mild : IsMild touched
 touched-mild (Branch a b names c) = like-refl (Some (Branch a b names c))
-touched-mild (Leaf content a u c) = record { names = λ n. refl; counts = refl; folders = refl; stands = refl }
+touched-mild (Leaf content a u c) = record { names = λ n. refl; counts = refl; folders = refl; stands = refl; untouched = λ h. absurd (false≢true h) }
 
 like-trans : (o p q : Option Node) → Like o p → Like p q → Like o q
-like-trans o p q a b = record { names = λ n. b.names n ∙ a.names n; counts = b.counts ∙ a.counts; folders = b.folders ∙ a.folders; stands = b.stands ∙ a.stands }
+like-trans o p q a b = record { names = λ n. b.names n ∙ a.names n; counts = b.counts ∙ a.counts; folders = b.folders ∙ a.folders; stands = b.stands ∙ a.stands; untouched = λ h. a.untouched (b.untouched h) }
 
 pub opened-mild : (f : OpenFlags) → IsMild (opened f)
 opened-mild f x = by f.writes f.truncate

@@ -150,7 +150,7 @@ renamed-lasts m ks t e o old new =
   where
     mild : IsMild (meta_touched m)
     mild (Branch a b names c) = like-refl (Some (Branch a b names c))
-    mild (Leaf content a u c) = record { names = λ n. refl; counts = refl; folders = refl; stands = refl }
+    mild (Leaf content a u c) = record { names = λ n. refl; counts = refl; folders = refl; stands = refl; untouched = λ h. absurd (false≢true h) }
 
     t1 : Tree
     t1 = change one_fewer t o

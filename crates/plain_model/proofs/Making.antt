@@ -4,7 +4,7 @@ use Rattle.std.proofs.lemmas.Bool.{cases_Bool, false≢true, both_ways}
 use Rattle.ov_base.specs.declared.node_id.NodeId.{NodeId}
 use Rattle.ov_base.specs.declared.node_id.NodeId.TheVariants.{New}
 use Rattle.plain_model.specs.Layers.{Name}
-use Rattle.plain_model.specs.Tree.{same_id, Node, Tree, root, names_of, put, lead, is_folder, count_of, AreNames, IsKept}
+use Rattle.plain_model.specs.Tree.{same_id, Node, Tree, root, names_of, put, lead, is_folder, count_of, is_untouched, AreNames, IsKept}
 use Rattle.plain_model.proofs.Paths.{ids_tell}
 use Rattle.plain_model.proofs.Names.{names-same, names-more, names-else}
 use Rattle.plain_model.proofs.Keeping.{put-here, put-there, lead-counts, IsKeptAs, kept-as, lead-kept}
@@ -51,10 +51,17 @@ module _ (t : Tree) (i : ℕ) (d : NodeId) (n : Name) (x : Node) (dir : is_folde
       | inl s ↦ ap (λ o. names_of o m) (put-here t (New i) (Some x) y s) ∙ empty m
       | inr f ↦ entries y m ∙ k.bare y m (ap count_of (sym (put-there t (New i) (Some x) y f)) ∙ h)
     ];
+    single = λ y h. elim (cases_Bool (same_id (New i) y)) [
+      | inl s ↦ at-most (count_of (t1 y)) (ap count_of (put-here t (New i) (Some x) y s) ∙ one)
+      | inr f ↦ subst (λ o. count_of o ≤ 1) (sym (put-there t (New i) (Some x) y f)) (k.single y (ap is_untouched (sym (put-there t (New i) (Some x) y f)) ∙ h))
+    ];
   }
     where
       later : (i j : ℕ) → suc i ≤ j → (i ≡ j → ⊥)
       later i j h e = absurd (omega arith)
+
+      at-most : (a : ℕ) → a ≡ 1 → a ≤ 1
+      at-most a e = omega arith
 
   told : (y : NodeId) → count_of (t1 y) ≡ gained (New i) (counts t) y
   told y = elim (cases_Bool (same_id (New i) y)) [

@@ -1,5 +1,5 @@
 -- The merge that the definitions compute is a merge of the layers, and its nodes have as many names as they say.
-use Rattle.std.proofs.Common.{◌≡◌, ℕ, zero, suc, Bool, true, false, cond, ◌||◌, ◌&&◌, List, [], ◌∷◌, Option, None, Some, refl, sym, ap, ap₂, ◌∙◌, is_some, length, map, inl, inr, arith}
+use Rattle.std.proofs.Common.{◌≡◌, ℕ, zero, suc, ◌≤◌, Bool, true, false, cond, ◌||◌, ◌&&◌, List, [], ◌∷◌, Option, None, Some, refl, sym, ap, ap₂, ◌∙◌, is_some, length, map, inl, inr, arith}
 use Rattle.std.proofs.lemmas.Bool.{false≢true, both_ways}
 use Rattle.std.proofs.lemmas.List.{length-map}
 use Rattle.std.specs.List.{list_any, IsDistinct, AllByRecursion}
@@ -8,7 +8,7 @@ use Rattle.ov_base.specs.declared.bytes.Content.{Content}
 use Rattle.ov_base.specs.declared.node_id.NodeId.{NodeId}
 use Rattle.ov_base.specs.declared.node_id.NodeId.TheVariants.{At, New}
 use Rattle.plain_model.specs.Layers.{Name, Path, Object, Directory, Named, Whiteout, Inode, Layer, held, cuts, below, Shown, Folder, Contents, unless, over, shows, through, is_directory, AreLayers, AreLinks, same_name, same_path}
-use Rattle.plain_model.specs.Tree.{Tree, Own, Untouched, root, names_of, entry, node_at, Sight, SeenBranch, SeenLeaf, see, see_inode, merged, count_of, same_entry, AreNames, IsKept}
+use Rattle.plain_model.specs.Tree.{Tree, Own, Untouched, root, names_of, entry, node_at, Sight, SeenBranch, SeenLeaf, see, see_inode, merged, count_of, is_untouched, same_entry, AreNames, IsKept}
 use Rattle.plain_model.specs.Merging.{IsMerge, leader, names_shown, node_seen, merge_tree, HaveAllPaths, LawOfMerge}
 use Rattle.plain_model.proofs.Paths.{paths_tell}
 use Rattle.plain_model.proofs.Leaders.{leader-of, own-way, leader-leads, leader-leader}
@@ -293,8 +293,20 @@ module _ (ps : List Path) (U : Layer) (lowers : List Layer) (trees : AreLayers (
       by true (Some (SeenLeaf content a Own l)) h = refl
       by true (Some (SeenLeaf content a (Untouched k) l)) h = refl
 
+  -- a file or link of a lower layer has one
+  single : (d : NodeId) → is_untouched (t d) ≡ true → count_of (t d) ≤ 1
+  single (New i) h = absurd (false≢true h)
+  single (At p) h = by (same_path (leader ps U p) p) (seen p) h
+    where
+      by : (b : Bool) (s : Option Sight) → is_untouched (cond b (node_seen s (names_shown ps U lowers p)) None) ≡ true → count_of (cond b (node_seen s (names_shown ps U lowers p)) None) ≤ 1
+      by false s h = absurd (false≢true h)
+      by true None h = absurd (false≢true h)
+      by true (Some (SeenBranch a b)) h = absurd (false≢true h)
+      by true (Some (SeenLeaf content a Own l)) h = absurd (false≢true h)
+      by true (Some (SeenLeaf content a (Untouched k) l)) h = omega arith
+
   pub merge-kept : IsKept t 0
-  merge-kept = record { home = refl; unused = λ j h. refl; counted = all-names; bare = bare }
+  merge-kept = record { home = refl; unused = λ j h. refl; counted = all-names; bare = bare; single = single }
 
   -- the computed merge is one
   pub merge-merges : IsMerge U lowers t

@@ -27,7 +27,7 @@ module _ (m : MountOptions) (t : Tree) (i : ℕ) (d1 : NodeId) (n1 : Name) (d2 :
 
   mild : IsMild (meta_touched m)
   mild (Branch a b names c) = like-refl (Some (Branch a b names c))
-  mild (Leaf content a u c) = record { names = λ n. refl; counts = refl; folders = refl; stands = refl }
+  mild (Leaf content a u c) = record { names = λ n. refl; counts = refl; folders = refl; stands = refl; untouched = λ h. absurd (false≢true h) }
 
   first : (o : Option NodeId) → ((x : NodeId) → o ≡ Some x → (m : Name) → names_of (t x) m ≡ None) → IsKeptAs (counts t) (change one_fewer t o) i
   first None empty = as-told t i k

@@ -144,6 +144,11 @@ count_of None = zero
 count_of (Some (Branch a b names c)) = c
 count_of (Some (Leaf content a u c)) = c
 
+-- whether a node is a file or link that stands untouched in a lower layer
+abbrev pub is_untouched : Option Node → Bool
+is_untouched (Some (Leaf content a (Untouched links) c)) = true
+is_untouched _ = false
+
 -- whether two entries of directories are the same
 abbrev pub same_entry : NodeId × Name → NodeId × Name → Bool
 same_entry a b = same_id a.0 b.0 && same_name a.1 b.1
@@ -156,9 +161,10 @@ pub record AreNames (t : Tree) (d : NodeId) (count : ℕ) : Type 0 where
   pub counted : count ≡ cond (same_id root d) 1 0 + length entries
 
 -- What a tree keeps through every call: the root is a directory, no serial from i on is used, each node has as many names as it says,
--- and one without a name has none in it.
+-- one without a name has none in it, and an untouched file or link has at most one.
 pub record IsKept (t : Tree) (i : ℕ) : Type 0 where
   pub home : is_folder (t root) ≡ true
   pub unused : (j : ℕ) → i ≤ j → t (New j) ≡ None
   pub counted : (d : NodeId) → AreNames t d (count_of (t d))
   pub bare : (d : NodeId) (n : Name) → count_of (t d) ≡ zero → names_of (t d) n ≡ None
+  pub single : (d : NodeId) → is_untouched (t d) ≡ true → count_of (t d) ≤ 1

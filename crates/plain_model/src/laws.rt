@@ -53,7 +53,7 @@ pub fn law_of_queues()
 {}
 
 /// Each call that is not refused leaves every object with as many names as its link count says (POSIX.1-2017, Link Count), the root a
-/// directory, new serials unused, and an object without a name without names in it.
+/// directory, new serials unused, an object without a name without names in it, and an untouched file or link with at most one name.
 pub fn law_of_names()
     ensures { LawOfNames }
 {}
