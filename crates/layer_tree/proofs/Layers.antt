@@ -107,6 +107,34 @@ IsLayer-fewer old new same was together layer =
       finite = has_all new [] layer.paths (λ n p off h. layer.finite (n ∷ p) (sym (ap is_some (same (n ∷ p))) ∙ h));
     }
 
+-- the number of the inode that is named
+abbrev pub named_number : Option layers.Object → Option ℕ
+named_number (Some (Named k)) = Some k
+named_number _ = None
+
+named_tells : (o : Option layers.Object) (k : ℕ) → named_number o ≡ Some k → o ≡ Some (Named k)
+named_tells None k h = absurd (cc)
+named_tells (Some layers.Whiteout) k h = absurd (cc)
+named_tells (Some (layers.Directory j a b r)) k h = absurd (cc)
+named_tells (Some (Named j)) k h = ap (λ (x : ℕ). Some (Named x)) (cc)
+
+-- where each path holds something if it did, and names the inode that it named, which has as many names as it had
+pub IsLayer-named : (old new : Layer) → ((p : Path) → is_some (held new p) ≡ is_some (held old p)) → ((p : Path) → named_number (held new p) ≡ named_number (held old p)) → ((k : ℕ) (i : layers.Inode) → new.inodes k ≡ Some i → (j : layers.Inode) × (old.inodes k ≡ Some j) × (j.links ≡ i.links)) → IsHeldTogether new → IsLayer old → IsLayer new
+IsLayer-named old new there names was together layer =
+    record {
+      parents = together.parents;
+      redirects = together.redirects;
+      present = together.present;
+      links = λ k i h.
+          let before = was k i h in
+          subst (AreLinks new k) before.2 (links-same old new k before.0.links (same k) (layer.links k before.0 before.1));
+      paths = [] ∷ [] ∷ layer.paths;
+      finite = has_all new [] layer.paths (λ n p off h. layer.finite (n ∷ p) (sym (there (n ∷ p)) ∙ h));
+    }
+  where
+    same : (k : ℕ) (w : Path) → Names old k w ↔ Names new k w
+    same k w = ((λ h. named_tells (held new w) k (names w ∙ ap named_number h)), (λ h. named_tells (held old w) k (sym (names w) ∙ ap named_number h)))
+
 -- A path is replaced by what names no inode, and below it no path named one: an inode that it named has one name less.
 module _ (old new : Layer) (path : Path) (o : Option layers.Object) (replaces : ReplacesPath old new path o) (no_name : (k : ℕ) → o ≢ Some (Named k)) (bare : (n : List ℕ) (s : Path) (k : ℕ) → held old (n ∷ (s ++ path)) ≢ Some (Named k)) where
   -- an inode keeps its names but for the path

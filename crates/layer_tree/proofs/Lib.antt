@@ -15,3 +15,4 @@ pub mod Layers
 pub mod Keeping
 pub mod Freeing
 pub mod Nameless
+pub mod AttributeChanges

@@ -25,6 +25,24 @@ use Rattle.layer_tree.proofs.Counting.{HasNames-alike}
 abbrev pub links_of : layers.Inode → ℕ
 links_of i = i.links
 
+-- where each name is bound as it was
+module _ (old new : Tree) (entries : (d : ℕ) (n : List ℕ) → entry new d n ≡ entry old d n) where
+  pub key_at-bound : (p : Path) → key_at new p ≡ key_at old p
+  key_at-bound [] = refl
+  key_at-bound (n ∷ p) = ap (option_and_then (λ k. child new k n)) (key_at-bound p) ∙ of (key_at old p)
+    where
+      of : (o : Option ℕ) → option_and_then (λ k. child new k n) o ≡ option_and_then (λ k. child old k n) o
+      of None = refl
+      of (Some k) = ap (option_and_then object_key) (entries k n)
+
+  pub entry_at-bound : (p : Path) → entry_at new p ≡ entry_at old p
+  entry_at-bound [] = refl
+  entry_at-bound (n ∷ p) = ap (option_and_then (λ k. entry new k n)) (key_at-bound p) ∙ of (key_at old p)
+    where
+      of : (o : Option ℕ) → option_and_then (λ k. entry new k n) o ≡ option_and_then (λ k. entry old k n) o
+      of None = refl
+      of (Some k) = entries k n
+
 -- where the same is seen under each key, and each name is bound as it was
 module _ (old new : Tree) (entries : (d : ℕ) (n : List ℕ) → entry new d n ≡ entry old d n) (same : (k : ℕ) → seen_at new k ≡ seen_at old k) where
   pub IsTree-alike : ((k : ℕ) → option_map links_of (inode_at new k) ≡ option_map links_of (inode_at old k)) → IsTree old → IsTree new
@@ -43,25 +61,9 @@ module _ (old new : Tree) (entries : (d : ℕ) (n : List ℕ) → entry new d n 
       names k n None at e = absurd (cc)
       names k n (Some j) at e = subst (HasNames (child old) k) (unwrapped j.links n e) (tree.links k j at)
 
-  pub key_at-alike : (p : Path) → key_at new p ≡ key_at old p
-  key_at-alike [] = refl
-  key_at-alike (n ∷ p) = ap (option_and_then (λ k. child new k n)) (key_at-alike p) ∙ of (key_at old p)
-    where
-      of : (o : Option ℕ) → option_and_then (λ k. child new k n) o ≡ option_and_then (λ k. child old k n) o
-      of None = refl
-      of (Some k) = ap (option_and_then object_key) (entries k n)
-
-  entry_at-alike : (p : Path) → entry_at new p ≡ entry_at old p
-  entry_at-alike [] = refl
-  entry_at-alike (n ∷ p) = ap (option_and_then (λ k. entry new k n)) (key_at-alike p) ∙ of (key_at old p)
-    where
-      of : (o : Option ℕ) → option_and_then (λ k. entry new k n) o ≡ option_and_then (λ k. entry old k n) o
-      of None = refl
-      of (Some k) = entries k n
-
   pub SameObjects-alike : SameObjects (layer_of old) (layer_of new)
   SameObjects-alike [] = ap (λ o. Some (layers.Directory ROOT (directory_attributes o) false None)) (same ROOT)
-  SameObjects-alike (n ∷ p) = ap (option_and_then (seen_entry new)) (entry_at-alike (n ∷ p)) ∙ of (entry_at old (n ∷ p))
+  SameObjects-alike (n ∷ p) = ap (option_and_then (seen_entry new)) (entry_at-bound old new entries (n ∷ p)) ∙ of (entry_at old (n ∷ p))
     where
       of : (o : Option Entry) → option_and_then (seen_entry new) o ≡ option_and_then (seen_entry old) o
       of None = refl

@@ -4,3 +4,4 @@ pub mod Places
 pub mod Tree
 pub mod Nameless
 pub mod Change
+pub mod AttributeChange

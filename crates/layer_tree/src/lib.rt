@@ -1,6 +1,7 @@
 //! One layer of an overlay mount: a tree of objects in memory.
 #![tactic(auto)]
 
+mod attribute_change;
 mod file_write;
 mod hashed_names;
 mod layer;

@@ -1,2 +1,3 @@
 pub mod PathLemmas
 pub mod LinkTargets
+pub mod UserPlaces

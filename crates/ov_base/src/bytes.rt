@@ -134,3 +134,14 @@ pub enum Content {
     File(Bytes),
     SymbolicLink(LinkTarget),
 }
+
+impl Clone for Content {
+    ghost is_clone = { λ a b. b ≡ a };
+
+    fn clone(&self) -> Result<Content, AllocError> {
+        match self {
+            Content::File(bytes) => Ok(Content::File(bytes.clone()?)),
+            Content::SymbolicLink(target) => Ok(Content::SymbolicLink(target.clone()?)),
+        }
+    }
+}

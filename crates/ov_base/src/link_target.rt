@@ -37,7 +37,7 @@ impl Clone for LinkTarget {
     }
 }
 
-fn has_nul(bytes: &[u8]) -> bool
+pub(crate) fn has_nul(bytes: &[u8]) -> bool
     ensures { result ≡ list_any (nat_eq 0) bytes.now }
 {
     bytes.iter().any(|byte| *byte == 0)

@@ -1,6 +1,6 @@
 -- What a call that is not refused makes of the state, column by column: the tree, the handles and the watches
 -- (the POSIX.1-2017 pages of the calls; overlayfs.rst, "Non-standard behavior" for files that are still in a lower layer; inotify_add_watch(2)).
-use Rattle.std.specs.Prelude.{ℕ, suc, ◌+◌, ◌-◌, ℤ, pos, ◌+ℤ◌, nat_abs, Bool, true, false, not, cond, min, ◌&&◌, ◌||◌, List, [], ◌∷◌, ◌++◌, Option, None, Some, nat_eq, nat_lt, is_none, is_some, length, map, filter, take, drop, replicate, unwrap_or, slice_set, bit_and, bytes_eq}
+use Rattle.std.specs.Prelude.{ℕ, suc, ◌+◌, ◌-◌, ℤ, pos, ◌+ℤ◌, nat_abs, Bool, true, false, not, cond, min, ◌&&◌, ◌||◌, List, [], ◌∷◌, ◌++◌, Option, None, Some, nat_eq, nat_lt, is_none, is_some, length, map, take, drop, replicate, unwrap_or, slice_set, bit_and}
 use Rattle.std.specs.Int.Bits.{bit_or}
 use Rattle.std.specs.List.{list_any}
 use Rattle.std.specs.FinMap as fin
@@ -11,6 +11,7 @@ use Rattle.ov_base.specs.declared.call.Call.TheVariants.{Chmod, Chown, SetAttrib
 use Rattle.ov_base.specs.declared.call.OpenFlags.{OpenFlags}
 use Rattle.ov_base.specs.declared.node_id.NodeId.{NodeId}
 use Rattle.ov_base.specs.declared.node_id.NodeId.TheVariants.{New}
+pub use Rattle.ov_base.specs.UserValues.{set_value, drop_value}
 use Rattle.plain_model.specs.Layers.{Name, Path, same_name}
 use Rattle.plain_model.specs.Tree.{same_id, Node, Branch, Leaf, Origin, Own, Untouched, Tree, node_at, node_of, put, lead, is_folder}
 use Rattle.plain_model.specs.Watching.{EVENTS, MASK_ADD, ONESHOT, has_bit, Watch, Instance}
@@ -87,15 +88,6 @@ with_mode mode a = record a { mode = mode }
 
 abbrev pub with_owner : ℕ → ℕ → Attributes → Attributes
 with_owner uid gid a = record a { uid = uid; gid = gid }
-
--- user attributes with a value set: a present name keeps its position, a new one goes last
-abbrev pub set_value : List (List ℕ × List ℕ) → List ℕ → List ℕ → List (List ℕ × List ℕ)
-set_value [] n v = (n, v) ∷ []
-set_value (x ∷ xs) n v = cond (bytes_eq x.0 n) ((n, v) ∷ xs) (x ∷ set_value xs n v)
-
--- user attributes without a name
-abbrev pub drop_value : List (List ℕ × List ℕ) → List ℕ → List (List ℕ × List ℕ)
-drop_value xs n = filter (λ x. not (bytes_eq x.0 n)) xs
 
 -- the attributes of a new object
 abbrev pub fresh : ℕ → Attributes

@@ -1,12 +1,13 @@
 -- The state of the plain machine: the tree, and for each attached client its open handles and its watches
 -- (POSIX.1-2017, 2.14 File Descriptor Allocation and Base Definitions, Pathname Resolution; overlayfs.rst, "Non-standard behavior").
-use Rattle.std.specs.Prelude.{ℕ, Bool, true, false, not, cond, ◌||◌, List, [], ◌∷◌, Option, None, Some, nat_eq, is_none, length, find, position, replicate, slice_get, bytes_eq}
+use Rattle.std.specs.Prelude.{ℕ, Bool, true, false, not, cond, ◌||◌, List, [], ◌∷◌, Option, None, Some, nat_eq, is_none, length, find, position, replicate, slice_get}
 use Rattle.std.specs.FinMap as fin
 use Rattle.ov_base.specs.declared.attributes.Attributes.{Attributes}
 use Rattle.ov_base.specs.declared.bytes.Content.TheVariants.{File, SymbolicLink}
 use Rattle.ov_base.specs.declared.errno.Errno.{Errno}
 use Rattle.ov_base.specs.declared.errno.Errno.TheVariants.{ENOENT, ENOTDIR, ELOOP}
 use Rattle.ov_base.specs.declared.node_id.NodeId.{NodeId}
+pub use Rattle.ov_base.specs.UserValues.{value_of}
 use Rattle.plain_model.specs.Layers.{Name, Path, same_path}
 use Rattle.plain_model.specs.Tree.{same_id, Node, Branch, Leaf, Tree, root, node_of}
 use Rattle.plain_model.specs.Watching.{Watch, Instance}
@@ -137,11 +138,6 @@ abbrev pub user_of : Option Node → List (List ℕ × List ℕ)
 user_of (Some (Branch a b names c)) = a.user
 user_of (Some (Leaf content a u l)) = a.user
 user_of None = []
-
--- the value of an attribute's name
-abbrev pub value_of : List (List ℕ × List ℕ) → List ℕ → Option (List ℕ)
-value_of [] n = None
-value_of (x ∷ xs) n = cond (bytes_eq x.0 n) (Some x.1) (value_of xs n)
 
 -- the bytes of a file, and the target of a link
 abbrev pub bytes_of_node : Option Node → List ℕ

@@ -1,0 +1,41 @@
+-- What other attributes of an object make of a layer (chmod(2), chown(2), setxattr(2), removexattr(2)).
+use Rattle.std.specs.Prelude.{◌≡◌, ◌≢◌, ℕ, Bool, List, Option, Some, option_map}
+use Rattle.slab.specs.Slab.{get}
+use Rattle.ov_base.specs.declared.attributes.Attributes.{Attributes}
+use Rattle.ov_base.specs.declared.redirect.Redirect.{Redirect}
+use Rattle.plain_model.specs.Layers as layers
+use Rattle.plain_model.specs.Layers.{Layer, Path, held}
+use Rattle.layer_tree.specs.Tree.{Tree, entry, key_at}
+use Rattle.layer_tree.specs.declared.node.Node.{Node}
+use Rattle.layer_tree.specs.declared.node.Node.TheVariants as node
+
+-- the node with these attributes: a directory keeps its names and marks, an inode its content and links
+abbrev pub with_attributes : Attributes → Node → Node
+with_attributes a (node.Directory d) = node.Directory (record d { attributes = a })
+with_attributes a (node.Inode i) = node.Inode (record i { attributes = a })
+
+-- what stands under the key has these attributes, every other key has what it had, and names and paths lead where they led
+pub record SetsAttributes (old new : Tree) (key : ℕ) (a : Attributes) : Type 0 where
+  pub there : get new key ≡ option_map (with_attributes a) (get old key)
+  pub others : (k : ℕ) → k ≢ key → get new k ≡ get old k
+  pub entries : (dir : ℕ) (name : List ℕ) → entry new dir name ≡ entry old dir name
+  pub paths : (path : Path) → key_at new path ≡ key_at old path
+
+-- the inode has these attributes; every path holds what it held, and every other inode is as before
+pub record SetsInode (old new : Layer) (key : ℕ) (a : Attributes) : Type 0 where
+  pub inode : layers.Inode
+  pub before : old.inodes key ≡ Some inode
+  pub now : new.inodes key ≡ Some (record inode { attributes = a })
+  pub inodes : (k : ℕ) → k ≢ key → new.inodes k ≡ old.inodes k
+  pub objects : (path : Path) → held new path ≡ held old path
+
+-- the directory at the path has these attributes, and the number and marks that it had; every other path holds what it held, and the
+-- inodes are as before
+pub record SetsDirectory (old new : Layer) (path : Path) (key : ℕ) (a : Attributes) : Type 0 where
+  pub was : Attributes
+  pub opaque : Bool
+  pub redirect : Option Redirect
+  pub before : held old path ≡ Some (layers.Directory key was opaque redirect)
+  pub now : held new path ≡ Some (layers.Directory key a opaque redirect)
+  pub elsewhere : (other : Path) → other ≢ path → held new other ≡ held old other
+  pub inodes : (k : ℕ) → new.inodes k ≡ old.inodes k
