@@ -134,3 +134,20 @@ pub enum Content {
     File(Bytes),
     SymbolicLink(LinkTarget),
 }
+
+impl Clone for Content {
+    ghost is_clone = { λ a b. b ≡ a };
+
+    fn clone(&self) -> Result<Content, AllocError> {
+        match self {
+            Content::File(bytes) => {
+                let bytes = bytes.clone()?;
+                Ok(Content::File(bytes))
+            }
+            Content::SymbolicLink(target) => {
+                let target = target.clone()?;
+                Ok(Content::SymbolicLink(target))
+            }
+        }
+    }
+}
