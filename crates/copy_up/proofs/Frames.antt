@@ -33,10 +33,11 @@ gains-one old new p x layer key number a parent low shown lacked sets vacant kep
     }
 
 -- what is shown where the upper holds nothing is what comes through it
-lacking : (l : Layers) (x : Path) → held (layer_of l.upper) x ≡ None → shows 0 (layers_of l) x ≡ through (layer_of l.upper) (lowers_of l) x
+pub lacking : (l : Layers) (x : Path) → held (layer_of l.upper) x ≡ None → shows 0 (layers_of l) x ≡ through (layer_of l.upper) (lowers_of l) x
 lacking l x none = ap (λ o. over 0 (layer_of l.upper).inodes o (through (layer_of l.upper) (lowers_of l) x)) none
 
-through-same : (a b : Layers) (x : Path) → ShowsSame a b → through (layer_of b.upper) (lowers_of b) x ≡ through (layer_of a.upper) (lowers_of a) x
+-- what comes through an upper that shows the same is the same
+pub through-same : (a b : Layers) (x : Path) → ShowsSame a b → through (layer_of b.upper) (lowers_of b) x ≡ through (layer_of a.upper) (lowers_of a) x
 through-same a b x s =
     ap (λ v. through (layer_of b.upper) (map layer_of v.items) x) s.lowers
     ∙ through-agree (layer_of a.upper) (layer_of b.upper) (lowers_of a) x (record { cut_alike = s.passes.cuts x; spelled = s.passes.spelling x })

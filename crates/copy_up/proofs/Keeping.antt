@@ -66,11 +66,20 @@ place-of l p s n is top free =
 pub lowers-same : (old new : Layers) → new.lowers ≡ old.lowers → lowers_of new ≡ lowers_of old
 lowers-same old new low = ap (λ v. map layer_of v.items) low
 
+-- an upper that stays a layer over lower ones that stay
+stays-layers : (old new : Layers) → new.lowers ≡ old.lowers → (IsLayer (layer_of old.upper) → IsLayer (layer_of new.upper)) → StaysLayers old new
+stays-layers old new low keep h = (keep h.0, subst AreLayers (sym (lowers-same old new low)) h.1)
+
+-- a change of the upper at a path, after missing parents were placed
+pub then-layers : (start old new : Layers) → StaysLayers start old → new.lowers ≡ old.lowers → (IsLayer (layer_of old.upper) → IsLayer (layer_of new.upper)) → StaysLayers start new
+then-layers start old new stays low keep h = stays-layers old new low keep (stays h)
+
 -- linked names are linked by another upper that names the same
 pub linked-by : (U V : Layer) → ((p : Path) (k : ℕ) → held U p ≡ Some (Named k) → held V p ≡ Some (Named k)) → (p q : Path) → AreLinked U p q → AreLinked V p q
 linked-by U V names p q l = record { number = l.number; first = names p l.number l.first; second = names q l.number l.second }
 
-lift : {A B C : Type 0} → (B → C) → A ⊎ B → A ⊎ C
+-- the second of two carried on
+pub lift : {A B C : Type 0} → (B → C) → A ⊎ B → A ⊎ C
 lift f (inl a) = inl a
 lift f (inr b) = inr (f b)
 

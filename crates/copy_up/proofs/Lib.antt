@@ -3,3 +3,4 @@ pub mod Placing
 pub mod Frames
 pub mod Keeping
 pub mod Needing
+pub mod Copying

@@ -133,3 +133,7 @@ free-folder inodes (Some (Directory m b u r)) s j k a h ne = let e : j ≡ 0 = c
 
 pub free-absent : (inodes : ℕ → Option Inode) (o : Option Object) (s : Option Shown) → over 0 inodes o s ≡ None → is_object o ≡ false
 free-absent inodes o s h = grind arith
+
+-- what is no object is no directory
+pub free-directory : (o : Option Object) → is_object o ≡ false → holds_directory o ≡ false
+free-directory o f = grind arith

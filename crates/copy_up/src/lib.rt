@@ -1,8 +1,10 @@
-//! Directories that only lower layers have, placed in the upper before it is changed in them.
+//! Directories that only lower layers have, placed in the upper before it is changed in them, and files and symbolic links copied up.
 #![tactic(auto)]
 
+mod leaves;
 mod needs;
 mod parents;
 
+pub use leaves::{copy_leaf, insert_leaf};
 pub use needs::{Need, need_at, place_dir};
 pub use parents::{insert_directory, place_parents};

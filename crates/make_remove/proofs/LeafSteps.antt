@@ -1,51 +1,32 @@
 -- A file or link that is made in a directory whose missing parents were placed.
-use Rattle.std.proofs.Common.{◌≡◌, ◌↔◌, ◌≤◌, ◌<◌, ℕ, Bool, true, false, not, ◌&&◌, cond, List, [], ◌∷◌, ◌++◌, Option, None, Some, Ok, Err, refl, sym, ap, ◌∙◌, subst, length, nat_lt, nat_le, nat_eq, arith}
+use Rattle.std.proofs.Common.{◌≡◌, ◌↔◌, ◌≤◌, ◌<◌, ℕ, Bool, true, false, not, ◌&&◌, cond, List, [], ◌∷◌, None, Some, Ok, Err, refl, sym, ap, ◌∙◌, subst, length, nat_lt, nat_le, nat_eq, arith}
 use Rattle.std.proofs.lemmas.Bool.{le-ltb, leb-true, ltb-true}
-use Rattle.std.specs.Option.{option_and_then}
 use Rattle.ov_base.specs.declared.attributes.Attributes.{Attributes}
 use Rattle.ov_base.specs.declared.bytes.Content.{Content}
 use Rattle.ov_base.specs.declared.bytes.Content.TheVariants as content
-use Rattle.plain_model.specs.Layers.{Name, Path, Named, Inode, Layer, held, shows, same_path, through, IsLayer, AreLayers}
+use Rattle.plain_model.specs.Layers.{Name, Path, Named, Layer, held, shows, same_path, through, IsLayer, AreLayers}
 use Rattle.plain_model.specs.Tree.{IsThin, Own, SeenLeaf, merged}
 use Rattle.ov_base.specs.Targets.{target_fault, target_of}
 use Rattle.ov_base.specs.declared.errno.Errno.TheVariants as errno
 use Rattle.plain_model.specs.Refusals.{when, has_nul}
 use Rattle.mount_laws.specs.Looks.{or_else}
 use Rattle.mount_laws.specs.Leaves.{PlacesLeaf, GainsLeaf, MakesLink, MakesFile, symlink_fault}
-use Rattle.mount_laws.proofs.Places.{longer}
 use Rattle.mount_laws.proofs.Alters.{law_of_thin, law_of_placed_leaf}
 use Rattle.mount_laws.proofs.Links.{law_of_link_made}
 use Rattle.mount_laws.proofs.Files.{law_of_file_made}
-use Rattle.layer_tree.specs.Tree.{Tree, layer_of, inode_of, Inserts, SetsPath}
-use Rattle.layer_tree.specs.declared.node.Object.TheVariants as object
+use Rattle.layer_tree.specs.Tree.{layer_of}
 use Rattle.merged_lookup.specs.declared.layers.Layers.{Layers}
 use Rattle.merged_lookup.specs.Merged.{layers_of, lowers_of}
 use Rattle.slab.specs.Slab.{get}
 use Rattle.layer_tree.specs.Nameless.{KeepsObjects}
 use Rattle.layer_tree.proofs.Nameless.{keeps_then, vacant_before}
-use Rattle.copy_up.specs.Showing.{is_object, ShowsSame, StaysLayers, StaysThin, HasPlace, GainsParents}
+use Rattle.copy_up.specs.Showing.{is_object, ShowsSame, StaysLayers, StaysThin, GainsParents}
 use Rattle.copy_up.proofs.Frames.{others-then}
-use Rattle.copy_up.proofs.Placing.{nothing-held, free-absent}
+use Rattle.copy_up.proofs.Placing.{free-directory, nothing-held, free-absent}
 use Rattle.copy_up.proofs.Keeping.{lowers-same}
 use Rattle.make_remove.specs.Making.{mkdir_fault, new_attributes, vacancy_fault}
 use Rattle.make_remove.specs.Leaves.{MakesLeaf, SymlinkSteps, CreateSteps}
-use Rattle.make_remove.proofs.Making.{free-directory}
-
--- a new inode of one name
-abbrev pub leaf_of : Content → Attributes → Inode
-leaf_of c a = record { content = c; attributes = a; links = 1 }
-
--- a layer that gets a file or link, by its keys
-pub leaf-placed : (u v : Tree) (dir : ℕ) (n : Name) (p : Path) (key : ℕ) (c : Content) (a : Attributes) → HasPlace (layer_of u) dir n p → SetsPath (layer_of u) (layer_of v) (n ∷ p) (Named key) → Inserts u v dir n (object.Inode c a) key → PlacesLeaf (layer_of u) (layer_of v) (n ∷ p) key (leaf_of c a)
-leaf-placed u v dir n p key c a place sets i = record {
-  here = sets.there;
-  beneath = λ k r. sets.elsewhere (k ∷ r ++ (n ∷ p)) (λ e. longer (n ∷ p) k r (sym e)) ∙ nothing-held u (n ∷ p) (free-directory (held (layer_of u) (n ∷ p)) place.free) k r;
-  elsewhere = λ x out. sets.elsewhere x (λ e. out [] e);
-  free = ap (option_and_then inode_of) i.fresh;
-  inode = i.inode;
-  one = refl;
-  inodes = i.inodes;
-}
+use Rattle.copy_up.proofs.Copying.{leaf_of}
 
 -- what is gained over an upper whose missing parents were placed is gained over the upper before that
 gains-since : (start old : Layers) (V : Layer) (p : Path) (c : Content) (a : Attributes) → ShowsSame start old → ((x : Path) (k : ℕ) → (held (layer_of old.upper) x ≡ Some (Named k)) ↔ (held (layer_of start.upper) x ≡ Some (Named k))) → GainsLeaf (layer_of old.upper) V (lowers_of old) p c a → GainsLeaf (layer_of start.upper) V (lowers_of start) p c a

@@ -1,7 +1,7 @@
 -- What a new directory of the upper shows, and where it shows.
 use Rattle.std.proofs.Common.{◌≡◌, ◌≢◌, ℕ, Bool, false, ◌||◌, List, [], ◌∷◌, ◌++◌, Option, None, Some, sym, ap, ap₂, ◌∙◌, subst, length, length-append, map, inl, inr, arith}
 use Rattle.ov_base.specs.declared.attributes.Attributes.{Attributes}
-use Rattle.plain_model.specs.Layers.{Name, Path, Object, Directory, Inode, Layer, held, spell, below, cut, cuts, Shown, over, unless, shows, through, under, is_directory, holds_directory}
+use Rattle.plain_model.specs.Layers.{Name, Path, Object, Directory, Inode, Layer, held, spell, below, cut, cuts, Shown, over, unless, shows, through, under, is_directory}
 use Rattle.plain_model.specs.Laws.{IsOutside}
 use Rattle.plain_model.specs.Tree.{SeenBranch, merged}
 use Rattle.plain_model.proofs.Paths.{place, outside-parent, parent-outside}
@@ -17,14 +17,11 @@ use Rattle.copy_up.proofs.Frames.{others-then}
 use Rattle.merged_lookup.specs.declared.stack.Stack.{Stack}
 use Rattle.merged_lookup.specs.declared.layers.Layers.{Layers}
 use Rattle.make_remove.specs.Making.{MakesDirectory, new_attributes}
-use Rattle.copy_up.proofs.Placing.{nothing-held, nothing-below, free-absent}
+use Rattle.copy_up.proofs.Placing.{free-directory, nothing-held, nothing-below, free-absent}
 use Rattle.copy_up.proofs.Keeping.{inodes-same, lowers-same, place-of}
 
 free-through : (inodes : ℕ → Option Inode) (o : Option Object) (c : Bool) (s : Path → Option Shown) (n : Name) (q : Path) → is_object o ≡ false → over 0 inodes o (unless (cut o c) (s (spell o n q))) ≡ None → unless (cut o c) (s (spell o n q)) ≡ None
 free-through inodes o c s n q f h = grind arith
-
-pub free-directory : (o : Option Object) → is_object o ≡ false → holds_directory o ≡ false
-free-directory o f = grind arith
 
 opaque-closed : (o c : Bool) (x : Option Shown) → o ≡ is_directory (unless c x) → is_directory (unless (o || c) x) ≡ false
 opaque-closed o c x e = grind arith

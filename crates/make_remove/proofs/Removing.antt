@@ -28,9 +28,9 @@ use Rattle.copy_up.proofs.Frames.{others-then}
 use Rattle.copy_up.proofs.Keeping.{lowers-same, linked-by}
 use Rattle.merged_lookup.proofs.Folders.{IsDirectoryWith, held-node}
 use Rattle.copy_up.proofs.Nodes.{table-some}
-use Rattle.copy_up.proofs.Placing.{IsHeldDirectory, top-held, parents-shown, nothing-held, free-absent}
+use Rattle.copy_up.proofs.Placing.{free-directory, IsHeldDirectory, top-held, parents-shown, nothing-held, free-absent}
 use Rattle.make_remove.specs.Removing.{unlink_fault, rmdir_fault, ShowsNoName, TakesAway, Loses, Removes, TellsNames, TakesName, left_behind}
-use Rattle.make_remove.proofs.Making.{under-same, free-directory}
+use Rattle.make_remove.proofs.Making.{under-same}
 
 -- the directory at a path is under this key of the tree
 pub record IsAt (t : Tree) (p : Path) (dir : ℕ) : Type 0 where

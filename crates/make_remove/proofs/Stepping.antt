@@ -1,6 +1,6 @@
 -- A change of the upper in a directory whose missing parents were placed: what it keeps, and the machine's step.
 use Rattle.std.proofs.Common.{◌≡◌, ℕ, Bool, List, [], ◌∷◌, ◌++◌, None, Some, sym, ap, ◌∙◌, subst}
-use Rattle.plain_model.specs.Layers.{Name, Path, Directory, Layer, held, shows, through, under, is_directory, IsLayer, AreLayers}
+use Rattle.plain_model.specs.Layers.{Name, Path, Directory, Layer, held, shows, through, under, is_directory, IsLayer}
 use Rattle.plain_model.specs.Laws.{Placed}
 use Rattle.plain_model.specs.Tree.{IsThin}
 use Rattle.mount_laws.specs.Looks.{IsMountOf, Gains, Makes}
@@ -11,18 +11,10 @@ use Rattle.mount_laws.proofs.Makes.{law_of_made}
 use Rattle.layer_tree.specs.Tree.{layer_of, inode_at, SetsPath}
 use Rattle.merged_lookup.specs.declared.layers.Layers.{Layers}
 use Rattle.merged_lookup.specs.Merged.{layers_of, lowers_of}
-use Rattle.copy_up.specs.Showing.{ShowsSame, StaysLayers, StaysMount, StaysThin}
-use Rattle.copy_up.proofs.Placing.{nothing-held, free-absent}
+use Rattle.copy_up.specs.Showing.{ShowsSame, StaysMount, StaysThin}
+use Rattle.copy_up.proofs.Placing.{free-directory, nothing-held, free-absent}
 use Rattle.copy_up.proofs.Keeping.{inodes-same, lowers-same}
 use Rattle.make_remove.specs.Making.{MkdirSteps, mkdir_fault, new_attributes}
-use Rattle.make_remove.proofs.Making.{free-directory}
-
-stays-layers : (old new : Layers) → new.lowers ≡ old.lowers → (IsLayer (layer_of old.upper) → IsLayer (layer_of new.upper)) → StaysLayers old new
-stays-layers old new low keep h = (keep h.0, subst AreLayers (sym (lowers-same old new low)) h.1)
-
--- a change of the upper at a path, after missing parents were placed
-pub then-layers : (start old new : Layers) → StaysLayers start old → new.lowers ≡ old.lowers → (IsLayer (layer_of old.upper) → IsLayer (layer_of new.upper)) → StaysLayers start new
-then-layers start old new stays low keep h = stays-layers old new low keep (stays h)
 
 -- a directory in an upper that has its parent
 module _ (start old new : Layers) (same : ShowsSame start old) (mounts : StaysMount start old) (low : new.lowers ≡ old.lowers) (inodes : (k : ℕ) → inode_at new.upper k ≡ inode_at old.upper k) (keep : IsLayer (layer_of old.upper) → IsLayer (layer_of new.upper)) (q : Path) (n : Name) (key mode : ℕ) (o : Bool) (absent : shows 0 (layers_of start) (n ∷ q) ≡ None) (opaque : o ≡ is_directory (under (layer_of old.upper) (lowers_of old) n q)) (sets : SetsPath (layer_of old.upper) (layer_of new.upper) (n ∷ q) (Directory key (new_attributes mode) o None)) where

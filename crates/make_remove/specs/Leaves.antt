@@ -1,15 +1,12 @@
 -- What a call that makes a file or a symbolic link leaves (POSIX.1-2017, symlink(); overlayfs.rst, "whiteouts and opaque directories").
-use Rattle.std.specs.Prelude.{◌≡◌, ℕ, List, Option, None, Some, nat_eq, nat_lt, length}
+use Rattle.std.specs.Prelude.{◌≡◌, ℕ, List, None, Some}
 use Rattle.slab.specs.Slab.{get}
 use Rattle.ov_base.specs.declared.attributes.Attributes.{Attributes}
 use Rattle.ov_base.specs.declared.bytes.Content.{Content}
 use Rattle.ov_base.specs.declared.call.OpenFlags.{OpenFlags}
-use Rattle.ov_base.specs.declared.errno.Errno.{Errno}
-use Rattle.ov_base.specs.declared.errno.Errno.TheVariants as errno
 use Rattle.plain_model.specs.Layers.{Path, Named, held, AreLayers}
 use Rattle.plain_model.specs.Machine.{State}
-use Rattle.plain_model.specs.Refusals.{when, has_nul}
-use Rattle.mount_laws.specs.Looks.{or_else, IsMountOf}
+use Rattle.mount_laws.specs.Looks.{IsMountOf}
 use Rattle.mount_laws.specs.Leaves.{GainsLeaf, MakesLink, MakesFile}
 use Rattle.layer_tree.specs.Tree.{layer_of}
 use Rattle.layer_tree.specs.Nameless.{KeepsObjects}

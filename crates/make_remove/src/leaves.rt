@@ -1,22 +1,18 @@
 // `symlink`, and making a file.
-ghost use Rattle.std.specs.Prelude.{◌≡◌, ◌∷◌, [], ℕ, Some, None, IfOk, IfErr, OnOk, OnErr};
-ghost use Rattle.plain_model.specs.Layers.{Path as Names, shows, AreLayers, IsLayer};
-ghost use Rattle.mount_laws.specs.Leaves.{PlacesLeaf, symlink_fault};
-ghost use Rattle.slab.specs.Slab.{get};
-ghost use Rattle.layer_tree.specs.Nameless.{KeepsObjects};
-ghost use Rattle.layer_tree.specs.Tree.{layer_of, SameObjects};
+ghost use Rattle.std.specs.Prelude.{◌≡◌, [], Some, None, IfOk, IfErr, OnOk, OnErr};
+ghost use Rattle.plain_model.specs.Layers.{shows};
+ghost use Rattle.mount_laws.specs.Leaves.{symlink_fault};
 ghost use Rattle.merged_lookup.specs.Merged.{layers_of, parents_fault, parent, IsStackOf};
-ghost use Rattle.copy_up.specs.Showing.{ShowsSame, GainsParents, HasPlace, StaysLayers, StaysMount, StaysThin};
+ghost use Rattle.copy_up.specs.Showing.{ShowsSame, GainsParents, StaysLayers, StaysMount, StaysThin};
 ghost use Rattle.make_remove.specs.Making as made;
 ghost use Rattle.make_remove.specs.Making.{mkdir_fault};
 ghost use Rattle.make_remove.specs.Leaves.{MakesLeaf, SymlinkSteps, CreateSteps};
 ghost use Rattle.ov_base.specs.declared.bytes.Content.TheVariants as content;
 
 use crate::objects::{new_attributes, vacant};
-use copy_up::place_parents;
-use layer_tree::{Layer, Object};
+use copy_up::{insert_leaf, place_parents};
 use merged_lookup::{Layers, Stack};
-use ov_base::{Attributes, Bytes, Content, Errno, LinkTarget, Mode, Name, Path};
+use ov_base::{Attributes, Bytes, Content, Errno, LinkTarget, Mode, Path};
 use std::alloc::{AllocError, Global};
 
 /// Makes a symbolic link of this target, with mode 0777, owner 0, group 0 and no user attributes, as symlink(2). The way to the last
@@ -114,46 +110,4 @@ fn make_leaf(
     let dir = parent.top();
     insert_leaf(layers, dir.key, name, content, attributes)?;
     Ok(())
-}
-
-// Puts a new file or symbolic link at a name of a directory of the upper at which no object stands, and gives its key.
-fn insert_leaf(
-    layers: &mut Layers,
-    dir: usize,
-    name: &Name,
-    content: Content,
-    attributes: Attributes,
-) -> Result<usize, AllocError>
-    requires { (p : Names) × HasPlace (layer_of layers.old.upper) dir name.now p }
-    ensures lowers { layers.new.lowers ≡ layers.old.lowers }
-    ensures placed { IfOk result (λ key. (p : Names) → HasPlace (layer_of layers.old.upper) dir name.now p → PlacesLeaf (layer_of layers.old.upper) (layer_of layers.new.upper) (name.now ∷ p) key (record { content = content; attributes = attributes; links = 1 })) }
-    ensures unchanged { OnErr result (SameObjects (layer_of layers.old.upper) (layer_of layers.new.upper)) }
-    ensures vacant { IfOk result (λ key. get layers.old.upper key ≡ None) }
-    ensures objects { IfOk result (λ key. KeepsObjects layers.old.upper layers.new.upper (Some key)) }
-    ensures same { OnErr result (KeepsObjects layers.old.upper layers.new.upper None) }
-    ensures keeps { IsLayer (layer_of layers.old.upper) → IsLayer (layer_of layers.new.upper) }
-{
-    insert_leaf_in(layers.upper_mut(), dir, name, content, attributes)
-}
-
-// Puts a new file or symbolic link at a name of a directory of a layer at which no object stands, and gives its key.
-fn insert_leaf_in(
-    upper: &mut Layer,
-    dir: usize,
-    name: &Name,
-    content: Content,
-    attributes: Attributes,
-) -> Result<usize, AllocError>
-    requires { (p : Names) × HasPlace (layer_of upper.old) dir name.now p }
-    ensures placed { IfOk result (λ key. (p : Names) → HasPlace (layer_of upper.old) dir name.now p → PlacesLeaf (layer_of upper.old) (layer_of upper.new) (name.now ∷ p) key (record { content = content; attributes = attributes; links = 1 })) }
-    ensures unchanged { OnErr result (SameObjects (layer_of upper.old) (layer_of upper.new)) }
-    ensures vacant { IfOk result (λ key. get upper.old key ≡ None) }
-    ensures objects { IfOk result (λ key. KeepsObjects upper.old upper.new (Some key)) }
-    ensures same { OnErr result (KeepsObjects upper.old upper.new None) }
-    ensures keeps { IsLayer (layer_of upper.old) → IsLayer (layer_of upper.new) }
-{
-    upper.lawful();
-    let name = name.clone()?;
-    let key = upper.insert(dir, name, Object::Inode(content, attributes))?;
-    Ok(key)
 }

@@ -1,9 +1,8 @@
 use Rattle.std.proofs.Common.{reverse, sym, subst}
 use Rattle.copy_up.specs.Showing.{GainsParents}
 use Rattle.copy_up.proofs.Frames.{gains-then, gains-unchanged}
-use Rattle.copy_up.proofs.Keeping.{same-then, same-unchanged, stays-unchanged, on-err}
+use Rattle.copy_up.proofs.Keeping.{then-layers, same-then, same-unchanged, stays-unchanged, on-err}
 use Rattle.make_remove.proofs.Making.{absent-place}
-use Rattle.make_remove.proofs.Stepping.{then-layers}
 use Rattle.make_remove.proofs.LeafSteps.{leaf-made, leaf-thin}
 use Rattle.make_remove.proofs.leaves.make_leaf.Goals as goal
 

@@ -4,9 +4,8 @@ use Rattle.plain_model.specs.Tree.{IsThin}
 use Rattle.layer_tree.specs.Tree.{layer_of}
 use Rattle.merged_lookup.specs.Merged.{lowers_of}
 use Rattle.copy_up.proofs.Frames.{gains-then, gains-unchanged}
-use Rattle.copy_up.proofs.Keeping.{lowers-same, same-then, same-unchanged, stays-then, stays-unchanged, on-err}
+use Rattle.copy_up.proofs.Keeping.{then-layers, lowers-same, same-then, same-unchanged, stays-then, stays-unchanged, on-err}
 use Rattle.make_remove.proofs.Unnaming.{bare-held, unnames}
-use Rattle.make_remove.proofs.Stepping.{then-layers}
 use Rattle.make_remove.proofs.Removing.{top-at, taken-thin, takes-name}
 use Rattle.make_remove.proofs.removals.take_away.Goals as goal
 

@@ -3,7 +3,7 @@ use Rattle.plain_model.specs.Layers.{Path, IsLayer}
 use Rattle.mount_laws.specs.Leaves.{PlacesLeaf}
 use Rattle.layer_tree.specs.Tree.{Tree, layer_of}
 use Rattle.copy_up.specs.Showing.{HasPlace}
-use Rattle.make_remove.proofs.leaves.insert_leaf.Goals as goal
+use Rattle.copy_up.proofs.leaves.insert_leaf.Goals as goal
 
 pub returns-clause-placed : goal.returns-clause-placed
 returns-clause-placed c =

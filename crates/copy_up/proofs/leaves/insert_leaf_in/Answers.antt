@@ -2,8 +2,8 @@ use Rattle.merged_lookup.proofs.Descending.{key-of}
 use Rattle.layer_tree.proofs.Nameless.{keeps_same, keeps_leaf}
 use Rattle.copy_up.proofs.Keeping.{on-err}
 use Rattle.copy_up.proofs.Nodes.{place-free}
-use Rattle.make_remove.proofs.LeafSteps.{leaf-placed}
-use Rattle.make_remove.proofs.leaves.insert_leaf_in.Goals as goal
+use Rattle.copy_up.proofs.Copying.{leaf-placed}
+use Rattle.copy_up.proofs.leaves.insert_leaf_in.Goals as goal
 
 pub insert-requires-clause-no_object : goal.insert-requires-clause-no_object
 insert-requires-clause-no_object c = rw c.in_ok-name.ensures.cases (place-free c.args.upper.now c.lawful.ensures.tree c.args.dir c.args.name.now c.requires.0 c.requires.1)

@@ -1,0 +1,99 @@
+// Files and symbolic links in the upper: new ones, and those of lower layers copied up.
+ghost use Rattle.std.specs.Prelude.{◌≡◌, ◌<◌, ◌∷◌, Some, None, reverse, IfOk, OnOk, OnErr};
+ghost use Rattle.slab.specs.Slab.{get};
+ghost use Rattle.plain_model.specs.Layers.{Path as Names, Inode, Contents, shows, IsLayer};
+ghost use Rattle.mount_laws.specs.Leaves.{PlacesLeaf};
+ghost use Rattle.layer_tree.specs.Nameless.{KeepsObjects};
+ghost use Rattle.layer_tree.specs.Tree.{layer_of, SameObjects};
+ghost use Rattle.merged_lookup.specs.Merged.{layers_of, way_fault, IsStackOf};
+ghost use Rattle.copy_up.specs.Showing.{ShowsSame, HasPlace, GainsParents, StaysLayers, StaysMount, StaysThin};
+ghost use Rattle.copy_up.specs.Leaves.{CopiesLeaf};
+
+use crate::parents::place_parents;
+use layer_tree::{Layer, Node, Object};
+use merged_lookup::{Layers, Place, Stack};
+use ov_base::{Attributes, Content, Name};
+use std::alloc::AllocError;
+
+/// Copies the file or symbolic link that a lower layer shows at a name of the merged directory at these names into the upper: an inode of
+/// its own, with these attributes, in directories that are placed where the upper lacks them (overlayfs.rst, "Non-directories"). It fails
+/// only for want of memory, and changes nothing that is shown then.
+pub fn copy_leaf(
+    layers: &mut Layers,
+    directory: Stack,
+    parents: &[Name],
+    name: &Name,
+    place: Place,
+    attributes: Attributes,
+) -> Result<(), AllocError>
+    requires way { way_fault (layers_of layers.old) (reverse parents.now) ≡ None }
+    requires directory { IsStackOf layers.old (reverse parents.now) directory }
+    requires shown { (i : Inode) × (shows 0 (layers_of layers.old) (name.now ∷ reverse parents.now) ≡ Some (Contents place.layer place.key (Some i))) }
+    requires lower { 0 < place.layer }
+    ensures copied { OnOk result ((i : Inode) → shows 0 (layers_of layers.old) (name.now ∷ reverse parents.now) ≡ Some (Contents place.layer place.key (Some i)) → CopiesLeaf layers.old layers.new (name.now ∷ reverse parents.now) i.content attributes) }
+    ensures no_memory { OnErr result (ShowsSame layers.old layers.new) }
+    ensures mounts { OnErr result (StaysMount layers.old layers.new) }
+    ensures parents { OnErr result (GainsParents layers.old layers.new (name.now ∷ reverse parents.now)) }
+    ensures keeps { StaysLayers layers.old layers.new }
+    ensures thin { StaysThin layers.old layers.new }
+{
+    let content = content_at(layers, place)?;
+    let parent = place_parents(layers, directory, parents)?;
+    let dir = parent.top();
+    insert_leaf(layers, dir.key, name, content, attributes)?;
+    Ok(())
+}
+
+// A copy of what the file or symbolic link that is shown at a place holds.
+fn content_at(layers: &Layers, place: Place) -> Result<Content, AllocError>
+    requires { (p : Names) × (i : Inode) × (shows 0 (layers_of layers.now) p ≡ Some (Contents place.layer place.key (Some i))) }
+    ensures { IfOk result (λ c. (p : Names) (i : Inode) → shows 0 (layers_of layers.now) p ≡ Some (Contents place.layer place.key (Some i)) → c ≡ i.content) }
+{
+    match layers.node(place) {
+        Some(Node::Inode(inode)) => inode.content.clone(),
+        _ => unreachable!(),
+    }
+}
+
+/// Puts a new file or symbolic link at a name of a directory of the upper at which no object stands, and gives its key. It fails only for
+/// want of memory, and changes nothing then.
+pub fn insert_leaf(
+    layers: &mut Layers,
+    dir: usize,
+    name: &Name,
+    content: Content,
+    attributes: Attributes,
+) -> Result<usize, AllocError>
+    requires { (p : Names) × HasPlace (layer_of layers.old.upper) dir name.now p }
+    ensures lowers { layers.new.lowers ≡ layers.old.lowers }
+    ensures placed { IfOk result (λ key. (p : Names) → HasPlace (layer_of layers.old.upper) dir name.now p → PlacesLeaf (layer_of layers.old.upper) (layer_of layers.new.upper) (name.now ∷ p) key (record { content = content; attributes = attributes; links = 1 })) }
+    ensures unchanged { OnErr result (SameObjects (layer_of layers.old.upper) (layer_of layers.new.upper)) }
+    ensures vacant { IfOk result (λ key. get layers.old.upper key ≡ None) }
+    ensures objects { IfOk result (λ key. KeepsObjects layers.old.upper layers.new.upper (Some key)) }
+    ensures same { OnErr result (KeepsObjects layers.old.upper layers.new.upper None) }
+    ensures keeps { IsLayer (layer_of layers.old.upper) → IsLayer (layer_of layers.new.upper) }
+{
+    insert_leaf_in(layers.upper_mut(), dir, name, content, attributes)
+}
+
+// Puts a new file or symbolic link at a name of a directory of a layer at which no object stands, and gives its key.
+fn insert_leaf_in(
+    upper: &mut Layer,
+    dir: usize,
+    name: &Name,
+    content: Content,
+    attributes: Attributes,
+) -> Result<usize, AllocError>
+    requires { (p : Names) × HasPlace (layer_of upper.old) dir name.now p }
+    ensures placed { IfOk result (λ key. (p : Names) → HasPlace (layer_of upper.old) dir name.now p → PlacesLeaf (layer_of upper.old) (layer_of upper.new) (name.now ∷ p) key (record { content = content; attributes = attributes; links = 1 })) }
+    ensures unchanged { OnErr result (SameObjects (layer_of upper.old) (layer_of upper.new)) }
+    ensures vacant { IfOk result (λ key. get upper.old key ≡ None) }
+    ensures objects { IfOk result (λ key. KeepsObjects upper.old upper.new (Some key)) }
+    ensures same { OnErr result (KeepsObjects upper.old upper.new None) }
+    ensures keeps { IsLayer (layer_of upper.old) → IsLayer (layer_of upper.new) }
+{
+    upper.lawful();
+    let name = name.clone()?;
+    let key = upper.insert(dir, name, Object::Inode(content, attributes))?;
+    Ok(key)
+}
