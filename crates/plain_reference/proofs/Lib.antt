@@ -7,3 +7,4 @@ pub mod StepLemmas
 pub mod TableLemmas
 pub mod HandleLemmas
 pub mod CloseLemmas
+pub mod AttributeLemmas

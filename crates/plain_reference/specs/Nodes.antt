@@ -1,5 +1,6 @@
 -- The nodes of the plain tree that the reference's nodes stand for.
 use Rattle.std.specs.Prelude.{Option, None, Some}
+use Rattle.ov_base.specs.declared.attributes.Attributes.{Attributes}
 use Rattle.plain_model.specs.Tree as tree
 use Rattle.plain_reference.specs.declared.node.Origin.{Origin}
 use Rattle.plain_reference.specs.declared.node.Origin.TheVariants.{Own, Untouched}
@@ -17,3 +18,14 @@ plain (Leaf content attributes origin count) = tree.Leaf content attributes (ori
 abbrev pub shown : Option Node → Option tree.Node
 shown None = None
 shown (Some node) = Some (plain node)
+
+-- the attributes of a node
+abbrev pub attributes_at : Option tree.Node → Option Attributes
+attributes_at None = None
+attributes_at (Some (tree.Branch a b names c)) = Some a
+attributes_at (Some (tree.Leaf content a u l)) = Some a
+
+-- a node that is given other attributes; a file or link of a lower layer is copied up
+abbrev pub given : Attributes → tree.Node → tree.Node
+given other (tree.Branch a b names c) = tree.Branch other b names c
+given other (tree.Leaf content a u l) = tree.Leaf content other tree.Own l

@@ -2,6 +2,7 @@
 //! Its contracts are the definitions of the crate `plain_model`; nothing in the engine stands on it.
 #![tactic(auto)]
 
+mod attributes;
 mod builder;
 mod calls;
 mod changes;
@@ -15,6 +16,7 @@ mod refusals;
 mod runs;
 mod sights;
 mod tree;
+mod user_attributes;
 mod walk;
 
 pub use builder::Builder;

@@ -1,16 +1,16 @@
 // The nodes of the tree.
-ghost use Rattle.std.specs.Prelude.{◌≡◌, IfOk, OnOk, OnErr};
+ghost use Rattle.std.specs.Prelude.{◌≡◌, [], IfOk, OnOk, OnErr, length, map, unwrap_or};
 ghost use Rattle.std.specs.Option.{option_copied};
 ghost use Rattle.plain_model.specs.Tree.{with_name, shown_links};
-ghost use Rattle.plain_model.specs.Machine.{is_link, has_names, bytes_of_node};
+ghost use Rattle.plain_model.specs.Machine.{is_link, has_names, bytes_of_node, user_of, value_of};
 ghost use Rattle.plain_model.specs.Tree.{is_folder};
 ghost use Rattle.plain_model.specs.Changes.{one_fewer, is_named, names_in};
 ghost use Rattle.plain_model.specs.Replies.{stat_of, stat_by, capped};
-ghost use Rattle.plain_reference.specs.Nodes.{shown, plain, origin_of};
+ghost use Rattle.plain_reference.specs.Nodes.{shown, plain, origin_of, attributes_at, given};
 
 use crate::id::Id;
 use crate::names::Names;
-use ov_base::{Attributes, Bytes, Content, Name, NameList, ObjectKind, Reply, Stat};
+use ov_base::{Attributes, Bytes, Content, Name, NameList, ObjectKind, Reply, Stat, Texts};
 use std::alloc::{AllocError, Global};
 
 /// Where a file or symbolic link stands: in the upper layer, or untouched in a lower one, whose link count it shows.
@@ -80,6 +80,60 @@ pub fn is_named(node: Option<&Node>) -> bool
     }
 }
 
+/// The attributes of a node.
+pub fn attributes_of(node: Option<&Node>) -> Option<&Attributes>
+    ensures { option_copied result ≡ attributes_at (shown (option_copied node.entry)) }
+{
+    match node {
+        Some(Node::Directory { attributes, .. }) => Some(attributes),
+        Some(Node::Leaf { attributes, .. }) => Some(attributes),
+        None => None,
+    }
+}
+
+/// How many user attributes a node has.
+pub fn user_count(node: Option<&Node>) -> usize
+    ensures { result ≡ length (user_of (shown (option_copied node.entry))) }
+{
+    match node {
+        Some(Node::Directory { attributes, .. }) => attributes.user.len(),
+        Some(Node::Leaf { attributes, .. }) => attributes.user.len(),
+        None => 0,
+    }
+}
+
+/// The value of a user attribute of a node.
+pub fn value_of<'a>(node: Option<&'a Node>, name: &[u8]) -> Option<&'a Bytes>
+    ensures { option_copied result ≡ value_of (user_of (shown (option_copied node.entry))) name.now }
+{
+    match node {
+        Some(Node::Directory { attributes, .. }) => attributes.user.get(name),
+        Some(Node::Leaf { attributes, .. }) => attributes.user.get(name),
+        None => None,
+    }
+}
+
+/// A copy of the value of a user attribute of a node; no bytes where it isn't there.
+pub fn value_in(alloc: Global, node: Option<&Node>, name: &[u8]) -> Result<Bytes, AllocError>
+    ensures { IfOk result (λ value. value ≡ unwrap_or (value_of (user_of (shown (option_copied node.entry))) name.now) []) }
+{
+    match value_of(node, name) {
+        Some(value) => value.clone(),
+        None => Ok(Bytes::new(alloc)),
+    }
+}
+
+/// The names of the user attributes of a node, in the order in which they were set.
+pub fn user_names(alloc: Global, node: Option<&Node>) -> Result<Texts, AllocError>
+    ensures { IfOk result (λ names. names ≡ map (λ x. x.0) (user_of (shown (option_copied node.entry)))) }
+{
+    match node {
+        Some(Node::Directory { attributes, .. }) => attributes.user.names(alloc),
+        Some(Node::Leaf { attributes, .. }) => attributes.user.names(alloc),
+        None => Ok(Texts::from_vec(Vec::new(alloc))),
+    }
+}
+
 impl Node {
     /// Leads a name of the directory to a node; another node stays as it is.
     pub fn lead(&mut self, name: &Name, to: Id) -> Result<(), AllocError>
@@ -108,6 +162,23 @@ impl Node {
         match self {
             Node::Directory { count, .. } => *count = count.saturating_sub(1),
             Node::Leaf { count, .. } => *count = count.saturating_sub(1),
+        }
+    }
+
+    /// Gives the node other attributes; a file or symbolic link then stands in the upper layer.
+    pub fn give(&mut self, other: Attributes)
+        ensures { plain self.new ≡ given other (plain self.old) }
+    {
+        match self {
+            Node::Directory { attributes, .. } => *attributes = other,
+            Node::Leaf {
+                attributes,
+                origin,
+                ..
+            } => {
+                *attributes = other;
+                *origin = Origin::Own;
+            }
         }
     }
 }

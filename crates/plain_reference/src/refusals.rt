@@ -13,10 +13,10 @@ ghost use Rattle.plain_reference.specs.Looks.{look_of};
 ghost use Rattle.plain_reference.specs.States.{state_of};
 
 use crate::clients::lowest_free;
-use crate::node::{Node, has_names, is_folder, is_link};
+use crate::node::{Node, has_names, is_folder, is_link, user_count, value_of};
 use crate::reference::Reference;
 use crate::walk::Look;
-use ov_base::{Bytes, Errno, OpenFlags, Path};
+use ov_base::{AttributeName, Bytes, Errno, OpenFlags, Path};
 use std::alloc::AllocError;
 
 fn when(applies: bool, errno: Errno) -> Option<Errno>
@@ -80,6 +80,14 @@ fn has_nul(bytes: &[u8]) -> bool
     bytes.iter().any(|byte| *byte == 0)
 }
 
+// The fault of an attribute's name.
+fn bad_attribute(name: &Bytes) -> Result<Option<Errno>, AllocError>
+    ensures { IfOk result (λ errno. errno ≡ rule.bad_attribute name.now) }
+{
+    let parsed = AttributeName::parse(name.clone()?);
+    Ok(parsed.err())
+}
+
 fn stat_line(look: &Look) -> Option<Errno>
     ensures { result ≡ rule.there (look_of look.now) }
 {
@@ -93,6 +101,72 @@ fn readlink_line(look: &Look, node: Option<&Node>) -> Option<Errno>
         return Some(errno);
     }
     when(!is_link(node), Errno::EINVAL)
+}
+
+// The lines of a call on what is there and is no symbolic link.
+fn solid_line(look: &Look, node: Option<&Node>) -> Option<Errno>
+    ensures { result ≡ (rule.there (look_of look.now) or_else rule.when (machine.is_link (shown (option_copied node.entry))) Errno.ELOOP) }
+{
+    if let Some(errno) = there(look) {
+        return Some(errno);
+    }
+    when(is_link(node), Errno::ELOOP)
+}
+
+fn chmod_line(mode: u32, look: &Look, node: Option<&Node>) -> Option<Errno>
+    ensures { result ≡ (rule.bad_mode mode or_else rule.there (look_of look.now) or_else rule.when (machine.is_link (shown (option_copied node.entry))) Errno.ELOOP) }
+{
+    if let Some(errno) = bad_mode(mode) {
+        return Some(errno);
+    }
+    solid_line(look, node)
+}
+
+fn set_attribute_line(
+    fault: Option<Errno>,
+    name: &Bytes,
+    value: &Bytes,
+    look: &Look,
+    node: Option<&Node>,
+) -> Option<Errno>
+    ensures { result ≡ (fault or_else rule.when (nat_lt 1024 (length value.now)) Errno.EFBIG or_else rule.there (look_of look.now) or_else rule.when (machine.is_link (shown (option_copied node.entry))) Errno.ELOOP or_else rule.when (is_none (machine.value_of (machine.user_of (shown (option_copied node.entry))) name.now) && not (nat_lt (length (machine.user_of (shown (option_copied node.entry)))) 64)) Errno.EFBIG) }
+{
+    if let Some(errno) = fault {
+        return Some(errno);
+    }
+    if value.as_slice().len() > 1024 {
+        return Some(Errno::EFBIG);
+    }
+    if let Some(errno) = there(look) {
+        return Some(errno);
+    }
+    if is_link(node) {
+        return Some(Errno::ELOOP);
+    }
+    let is_new = value_of(node, name.as_slice()).is_none();
+    let is_full = user_count(node) >= 64;
+    when(is_new && is_full, Errno::EFBIG)
+}
+
+// The lines of a call on an attribute that is there.
+fn held_attribute_line(
+    fault: Option<Errno>,
+    name: &Bytes,
+    look: &Look,
+    node: Option<&Node>,
+) -> Option<Errno>
+    ensures { result ≡ (fault or_else rule.there (look_of look.now) or_else rule.when (machine.is_link (shown (option_copied node.entry))) Errno.ELOOP or_else rule.when (is_none (machine.value_of (machine.user_of (shown (option_copied node.entry))) name.now)) Errno.ENODATA) }
+{
+    if let Some(errno) = fault {
+        return Some(errno);
+    }
+    if let Some(errno) = there(look) {
+        return Some(errno);
+    }
+    if is_link(node) {
+        return Some(Errno::ELOOP);
+    }
+    when(value_of(node, name.as_slice()).is_none(), Errno::ENODATA)
 }
 
 fn mkdir_line(mode: u32, look: &Look) -> Option<Errno>
@@ -225,6 +299,88 @@ impl Reference {
         let look = self.look(path)?;
         let node = self.tree.node_found(&look);
         Ok(readlink_line(&look, node))
+    }
+
+    pub(crate) fn chmod_refusal(
+        &self,
+        client: u32,
+        path: &Path,
+        mode: u32,
+    ) -> Result<Option<Errno>, AllocError>
+        ensures { IfOk result (λ errno. errno ≡ refusal (state_of self.now) client (call.Chmod path.now mode)) }
+    {
+        let look = self.look(path)?;
+        let node = self.tree.node_found(&look);
+        Ok(chmod_line(mode, &look, node))
+    }
+
+    pub(crate) fn chown_refusal(
+        &self,
+        client: u32,
+        path: &Path,
+        uid: u32,
+        gid: u32,
+    ) -> Result<Option<Errno>, AllocError>
+        ensures { IfOk result (λ errno. errno ≡ refusal (state_of self.now) client (call.Chown path.now uid gid)) }
+    {
+        let look = self.look(path)?;
+        let node = self.tree.node_found(&look);
+        Ok(solid_line(&look, node))
+    }
+
+    pub(crate) fn list_attributes_refusal(
+        &self,
+        client: u32,
+        path: &Path,
+    ) -> Result<Option<Errno>, AllocError>
+        ensures { IfOk result (λ errno. errno ≡ refusal (state_of self.now) client (call.ListAttributes path.now)) }
+    {
+        let look = self.look(path)?;
+        let node = self.tree.node_found(&look);
+        Ok(solid_line(&look, node))
+    }
+
+    pub(crate) fn set_attribute_refusal(
+        &self,
+        client: u32,
+        path: &Path,
+        name: &Bytes,
+        value: &Bytes,
+    ) -> Result<Option<Errno>, AllocError>
+        ensures { IfOk result (λ errno. errno ≡ refusal (state_of self.now) client (call.SetAttribute path.now name.now value.now)) }
+    {
+        let fault = bad_attribute(name)?;
+        let look = self.look(path)?;
+        let node = self.tree.node_found(&look);
+        Ok(set_attribute_line(fault, name, value, &look, node))
+    }
+
+    pub(crate) fn get_attribute_refusal(
+        &self,
+        client: u32,
+        path: &Path,
+        name: &Bytes,
+    ) -> Result<Option<Errno>, AllocError>
+        ensures { IfOk result (λ errno. errno ≡ refusal (state_of self.now) client (call.GetAttribute path.now name.now)) }
+    {
+        let fault = bad_attribute(name)?;
+        let look = self.look(path)?;
+        let node = self.tree.node_found(&look);
+        Ok(held_attribute_line(fault, name, &look, node))
+    }
+
+    pub(crate) fn delete_attribute_refusal(
+        &self,
+        client: u32,
+        path: &Path,
+        name: &Bytes,
+    ) -> Result<Option<Errno>, AllocError>
+        ensures { IfOk result (λ errno. errno ≡ refusal (state_of self.now) client (call.DeleteAttribute path.now name.now)) }
+    {
+        let fault = bad_attribute(name)?;
+        let look = self.look(path)?;
+        let node = self.tree.node_found(&look);
+        Ok(held_attribute_line(fault, name, &look, node))
     }
 
     pub(crate) fn mkdir_refusal(

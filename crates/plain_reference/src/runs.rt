@@ -55,7 +55,7 @@ impl Reference {
         true
     }
 
-    /// Makes a client's call as the plain machine does. None where it isn't offered: a call on files, attributes or watches, one that
+    /// Makes a client's call as the plain machine does. None where it isn't offered: a call on files or watches, one that
     /// moves or links, or a new node when the serials have run out. Want of memory changes nothing.
     pub fn call(&mut self, client: u32, call: &Call) -> Result<Option<Reply>, AllocError>
         ensures answer { IfOk result (λ answer. Answers (state_of self.old) client call.now answer (state_of self.new)) }
@@ -64,6 +64,16 @@ impl Reference {
         match call {
             Call::Stat { path } => Ok(Some(self.stat(client, path)?)),
             Call::Readlink { path } => Ok(Some(self.readlink(client, path)?)),
+            Call::Chmod { path, mode } => Ok(Some(self.chmod(client, path, *mode)?)),
+            Call::Chown { path, uid, gid } => Ok(Some(self.chown(client, path, *uid, *gid)?)),
+            Call::SetAttribute { path, name, value } => {
+                Ok(Some(self.set_attribute(client, path, name, value)?))
+            }
+            Call::GetAttribute { path, name } => Ok(Some(self.get_attribute(client, path, name)?)),
+            Call::DeleteAttribute { path, name } => {
+                Ok(Some(self.delete_attribute(client, path, name)?))
+            }
+            Call::ListAttributes { path } => Ok(Some(self.list_attributes(client, path)?)),
             Call::Mkdir { path, mode } => self.mkdir(client, path, *mode),
             Call::Symlink { target, path } => self.symlink(client, target, path),
             Call::Open { path, flags, mode } => self.open(client, path, *flags, *mode),

@@ -3,12 +3,12 @@ ghost use Rattle.std.specs.Prelude.{◌≡◌, ◌<◌, [], Some, None, OnOk, On
 ghost use Rattle.std.specs.Option.{option_copied};
 ghost use Rattle.plain_model.specs.Tree.{same_id, put, lead};
 ghost use Rattle.plain_model.specs.Changes.{change, one_fewer};
-ghost use Rattle.plain_reference.specs.Nodes.{shown, plain};
+ghost use Rattle.plain_reference.specs.Nodes.{shown, plain, given};
 ghost use Rattle.plain_reference.specs.Slots.{tree_of};
 
 use crate::id::Id;
 use crate::node::Node;
-use ov_base::Name;
+use ov_base::{Attributes, Name};
 use std::alloc::{AllocError, Global};
 
 /// An identity, and the node that stands there, if it is still in the tree.
@@ -101,6 +101,18 @@ impl Tree {
             let slot = &mut self.slots[index];
             if let Some(node) = &mut slot.node {
                 node.lose_name();
+            }
+        }
+    }
+
+    /// Gives a node other attributes.
+    pub fn give(&mut self, id: &Id, attributes: Attributes)
+        ensures { tree_of self.new.slots.items ≡ change (given attributes) (tree_of self.old.slots.items) (Some id.now) }
+    {
+        if let Some(index) = self.index(id) {
+            let slot = &mut self.slots[index];
+            if let Some(node) = &mut slot.node {
+                node.give(attributes);
             }
         }
     }
