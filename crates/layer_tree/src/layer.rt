@@ -130,8 +130,7 @@ impl Layer {
         let _ = &self.nodes;
     }
 
-    /// The names that a directory binds, whiteouts among them, each once and in no order that is promised; none where no directory
-    /// stands under the key.
+    /// The names that a directory binds, whiteouts among them, each once and in no promised order; none where there is no directory.
     pub fn bound_names(&self, dir: usize) -> &[Name]
         ensures names { (name : List ℕ) → list_any (bytes_eq name) result.now ≡ is_some (entry self.now dir name) }
         ensures distinct { IsDistinct (pointwise nat_eq) result.now }
