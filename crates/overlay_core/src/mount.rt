@@ -250,9 +250,7 @@ impl Mount {
             return Ok(None);
         }
         match self.layers.walk_topmost(path) {
-            Ok(Topmost::Directory(place)) => {
-                Ok(Some(self.layers.attributes_at(place).clone()?))
-            }
+            Ok(Topmost::Directory(place)) => { Ok(Some(self.layers.attributes_at(place).clone()?)) }
             _ => Ok(None),
         }
     }

@@ -41,7 +41,11 @@ pub fn seen(layers: &Layers, path: &Path) -> Result<(usize, usize, u32), Errno> 
         Found::Inode(place) => (place, 0),
     };
     match layers.node(place) {
-        Some(Node::Directory(directory)) => Ok((place.layer, count, directory.attributes.mode.bits())),
+        Some(Node::Directory(directory)) => Ok((
+            place.layer,
+            count,
+            directory.attributes.mode.bits(),
+        )),
         Some(Node::Inode(inode)) => Ok((place.layer, count, inode.attributes.mode.bits())),
         None => Err(Errno::ENOENT),
     }
