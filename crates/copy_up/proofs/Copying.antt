@@ -75,11 +75,11 @@ free-inode inodes (Some (Directory m a b r)) s j k x h low = cc
 free-inode inodes (Some (Named m)) s j k x h low = let e : 0 ≡ j = cc in absurd (omega (arith, e, low))
 
 -- the names of the same inodes in two uppers
-abbrev NamesSame : Layers → Layers → Type 0
+abbrev pub NamesSame : Layers → Layers → Type 0
 NamesSame start old = (x : Path) (k : ℕ) → (held (layer_of old.upper) x ≡ Some (Named k)) ↔ (held (layer_of start.upper) x ≡ Some (Named k))
 
 -- what is altered over an upper whose missing parents were placed is altered over the upper before that
-alters-since : (start old : Layers) (V : Layer) (p : Path) (a : Attributes) → ShowsSame start old → NamesSame start old → Alters (layer_of old.upper) V (lowers_of old) p a → Alters (layer_of start.upper) V (lowers_of start) p a
+pub alters-since : (start old : Layers) (V : Layer) (p : Path) (a : Attributes) → ShowsSame start old → NamesSame start old → Alters (layer_of old.upper) V (lowers_of old) p a → Alters (layer_of start.upper) V (lowers_of start) p a
 alters-since start old V p a same names g =
     let low : lowers_of old ≡ lowers_of start = lowers-same start old same.lowers in
     let U : Layer = layer_of start.upper in

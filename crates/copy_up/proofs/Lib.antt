@@ -4,3 +4,4 @@ pub mod Frames
 pub mod Keeping
 pub mod Needing
 pub mod Copying
+pub mod OtherAttributes

@@ -1,8 +1,9 @@
 -- The parents of a path by their numbers of names.
-use Rattle.std.proofs.Common.{◌≡◌, ℕ, ◌<◌, true, List, [], ◌∷◌, ◌++◌, None, refl, sym, ap, ◌∙◌, length, length-append, length-drop, append_assoc, take, drop, reverse, arith}
+use Rattle.std.proofs.Common.{◌≡◌, ℕ, ◌+◌, ◌<◌, get_or, true, List, [], ◌∷◌, ◌++◌, None, refl, sym, ap, ◌∙◌, length, length-append, length-drop, append_assoc, take, drop, reverse, arith}
 use Rattle.std.proofs.lemmas.List.{reverse-reverse, reverse-append, length-reverse, length-take-le, take-append-drop, take_at}
 use Rattle.plain_model.specs.Layers.{Name, Path, Layer, held, holds_directory}
 use Rattle.merged_lookup.specs.Merged.{parents_fault, way_fault}
+use Rattle.merged_lookup.proofs.Descending.{reverse-more}
 use Rattle.merged_lookup.proofs.Looking.{reverse-parts}
 use Rattle.copy_up.proofs.Keeping.{way-first}
 use Rattle.copy_up.specs.Showing.{IsParent}
@@ -17,6 +18,13 @@ within-way Ls (x ∷ r) q path e some h = way-first Ls r q (sym (ap (parents_fau
 parent-within : (r q path : Path) → path ≡ r ++ q → 0 < length r → IsParent q path
 parent-within [] q path e some = absurd (omega arith)
 parent-within (x ∷ r) q path e some = (x, r, e)
+
+-- the names up to one of them that is not the last lead to a parent of what all of them lead to
+pub is-proper : (names : List Name) (i : ℕ) (name : Name) → i + 1 < length names → name ≡ get_or names i name → IsParent (name ∷ reverse (take i names)) (reverse names)
+is-proper names i name more is =
+    parent-within (reverse (drop (i + 1) names)) (name ∷ reverse (take i names)) (reverse names)
+    (reverse-parts names (i + 1) ∙ ap (λ z. reverse (drop (i + 1) names) ++ z) (reverse-more names i name (omega (arith, more)) is))
+    (omega (arith, more, length-reverse (drop (i + 1) names), length-drop (i + 1) names))
 
 -- the names of a path from the root down: those of its parent, and its last
 pub names-of : (n : Name) (parents : List Name) → reverse (n ∷ reverse parents) ≡ parents ++ n ∷ []

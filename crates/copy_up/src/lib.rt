@@ -1,10 +1,12 @@
 //! Directories that only lower layers have, placed in the upper before it is changed in them, and files and symbolic links copied up.
 #![tactic(auto)]
 
+mod altering;
 mod leaves;
 mod needs;
 mod parents;
 
+pub use altering::alter;
 pub use leaves::{copy_leaf, insert_leaf};
 pub use needs::{Need, need_at, place_dir};
 pub use parents::{insert_directory, place_parents};

@@ -34,6 +34,7 @@ pub fn place_parents(
     ensures inodes { (k : ℕ) → inode_at layers.new.upper k ≡ inode_at layers.old.upper k }
     ensures holds { (p : Path) (o : held.Object) → held.held (layer_of layers.old.upper) p ≡ Some o → held.held (layer_of layers.new.upper) p ≡ Some o }
     ensures gains { (n : held.Name) → GainsParents layers.old layers.new (n ∷ reverse names.now) }
+    ensures proper { OnErr result (GainsParents layers.old layers.new (reverse names.now)) }
 {
     let top = directory.top();
     if top.layer == 0 {
@@ -55,6 +56,7 @@ fn place_from_root(layers: &mut Layers, names: &[Name]) -> Result<Stack, AllocEr
     ensures inodes { (k : ℕ) → inode_at layers.new.upper k ≡ inode_at layers.old.upper k }
     ensures holds { (p : Path) (o : held.Object) → held.held (layer_of layers.old.upper) p ≡ Some o → held.held (layer_of layers.new.upper) p ≡ Some o }
     ensures gains { (n : held.Name) → GainsParents layers.old layers.new (n ∷ reverse names.now) }
+    ensures proper { OnErr result (GainsParents layers.old layers.new (reverse names.now)) }
 {
     let mut stack = layers.root();
     for name in names {

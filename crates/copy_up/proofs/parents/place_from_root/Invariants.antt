@@ -1,4 +1,4 @@
-use Rattle.std.proofs.Common.{◌≡◌, ◌∷◌, take, reverse}
+use Rattle.std.proofs.Common.{◌≡◌, ◌<◌, ◌∷◌, length, take, reverse}
 use Rattle.plain_model.specs.Layers.{Name}
 use Rattle.merged_lookup.specs.Merged.{IsStackOf, top_of}
 use Rattle.copy_up.specs.Showing.{ShowsSame, Stays, GainsParents}
@@ -11,3 +11,4 @@ invariant-loop-name l =
     × ((top_of l.stack.places.items).layer ≡ 0)
     × Stays l.fn.layers l.layers
     × ((n : Name) → GainsParents l.fn.layers l.layers (n ∷ reverse l.names))
+    × (l.name-index < length l.names → GainsParents l.fn.layers l.layers (reverse l.names))

@@ -1,0 +1,228 @@
+-- Other attributes of what the upper has, or gets first from the lower layers.
+use Rattle.std.proofs.Common.{◌≡◌, ◌≤◌, ◌<◌, ℕ, suc, Bool, true, false, List, [], ◌∷◌, Option, None, Some, refl, sym, ap, ◌∙◌, subst, is_some, IsSome, length, map, drop, reverse, arith, Result, Ok, Err, OnOk, OnErr}
+use Rattle.std.proofs.lemmas.List.{reverse-reverse}
+use Rattle.std.specs.Option.{option_and_then}
+use Rattle.std.specs.Prelude.{slice_get}
+use Rattle.slab.specs.Slab.{get}
+use Rattle.ov_base.specs.declared.attributes.Attributes.{Attributes}
+use Rattle.ov_base.specs.declared.redirect.Redirect.{Redirect}
+use Rattle.ov_base.specs.declared.redirect.Redirect.TheVariants.{Absolute, Single}
+use Rattle.plain_model.specs.Layers.{Name, Path, Object, Directory, Named, Whiteout, Inode, Layer, held, below, cuts, Shown, Folder, Contents, over, unless, shows, IsLayer, AreLayers}
+use Rattle.plain_model.specs.Tree.{IsThin}
+use Rattle.plain_model.proofs.Uppers.{AgreeTo, agree-where, under-agree}
+use Rattle.mount_laws.specs.Altered.{Alters}
+use Rattle.mount_laws.proofs.Changed.{law_of_altered_inode, law_of_altered_directory}
+use Rattle.layer_tree.specs.AttributeChange.{SetsInode, SetsDirectory}
+use Rattle.layer_tree.specs.Tree.{Tree, IsTree, IsHeldTogether, IsDirectory, layer_of, inode_of, inode_at, key_at}
+use Rattle.layer_tree.specs.declared.node.Node.{Node}
+use Rattle.merged_lookup.specs.declared.found.Found.{Found}
+use Rattle.merged_lookup.specs.declared.found.Found.TheVariants as found
+use Rattle.merged_lookup.specs.declared.layers.Layers.{Layers}
+use Rattle.merged_lookup.specs.declared.stack.Place.{Place}
+use Rattle.merged_lookup.specs.declared.stack.Stack.{Stack}
+use Rattle.merged_lookup.specs.Merged.{trees, layers_of, lowers_of, places_at, unless_cut, top_of, way_fault, walk_fault, IsFound, IsStackOf, ShowsDirectory, ShowsInode}
+use Rattle.merged_lookup.proofs.Descending.{drop-get, key-of}
+use Rattle.merged_lookup.proofs.Folders.{IsDirectoryWith, held-node}
+use Rattle.merged_lookup.proofs.Looking.{way-next, directory-fault, head-places, head-unless}
+use Rattle.copy_up.specs.Showing.{ShowsSame, StaysLayers, StaysThin}
+use Rattle.copy_up.proofs.Nodes.{table-some}
+use Rattle.copy_up.proofs.Placing.{Alike, agree-all, IsHeldDirectory, top-held}
+use Rattle.copy_up.proofs.Keeping.{lowers-same, or-first}
+use Rattle.copy_up.proofs.Copying.{NamesSame, alters-since}
+
+-- directories of the same marks pass on alike
+marks-alike : (k : ℕ) (x y : Attributes) (o : Bool) (r : Option Redirect) → Alike (Some (Directory k x o r)) (Some (Directory k y o r))
+marks-alike k x y o None = record { spelled = λ n s. refl; cut_alike = λ c. refl }
+marks-alike k x y o (Some (Absolute q)) = record { spelled = λ n s. refl; cut_alike = λ c. refl }
+marks-alike k x y o (Some (Single m)) = record { spelled = λ n s. refl; cut_alike = λ c. refl }
+
+-- an upper that passes on the same, and has no whiteout that it had not, stays thin
+thin-agree : (old new : Layers) → new.lowers ≡ old.lowers → ((x : Path) → AgreeTo (layer_of old.upper) (layer_of new.upper) x) → ((x : Path) → held (layer_of new.upper) x ≡ Some Whiteout → held (layer_of old.upper) x ≡ Some Whiteout) → StaysThin old new
+thin-agree old new low agree white h =
+    subst (λ (Ls : List Layer). IsThin (layer_of new.upper) Ls) (sym (lowers-same old new low))
+    (λ n p is. ap is_some (under-agree (layer_of old.upper) (layer_of new.upper) (lowers_of old) n p (agree p)) ∙ h n p (white (n ∷ p) is))
+
+-- a directory of the upper that gets other attributes
+module _ (old new : Layers) (low : new.lowers ≡ old.lowers) (p : Path) (key : ℕ) (a : Attributes) (s : SetsDirectory (layer_of old.upper) (layer_of new.upper) p key a) where
+  directory-alike : Alike (held (layer_of new.upper) p) (held (layer_of old.upper) p)
+  directory-alike = subst (λ (o : Option Object). Alike o (held (layer_of old.upper) p)) (sym s.now) (subst (λ (u : Option Object). Alike (Some (Directory key a s.opaque s.redirect)) u) (sym s.before) (marks-alike key a s.was s.opaque s.redirect))
+
+  no-whiteout : (x : Path) → held (layer_of new.upper) x ≡ Some Whiteout → held (layer_of old.upper) x ≡ Some Whiteout
+  no-whiteout x h = sym (s.elsewhere x (λ e. let z : Some (Directory key a s.opaque s.redirect) ≡ Some Whiteout = sym s.now ∙ ap (held (layer_of new.upper)) (sym e) ∙ h in cc)) ∙ h
+
+  -- leaves the upper thin
+  pub thin-directory : StaysThin old new
+  thin-directory = thin-agree old new low (agree-all (layer_of old.upper) (layer_of new.upper) p directory-alike s.elsewhere) no-whiteout
+
+  -- shows them and changes no more
+  alters-directory : (IsLayer (layer_of old.upper) → IsLayer (layer_of new.upper)) → AreLayers (layers_of old) → Alters (layer_of old.upper) (layer_of new.upper) (lowers_of old) p a
+  alters-directory keep h = law_of_altered_directory (layer_of old.upper) (layer_of new.upper) (lowers_of old) (keep h.0, h.1) p a (record {
+    number = key;
+    old = s.was;
+    opaque = s.opaque;
+    redirect = s.redirect;
+    before = s.before;
+    now = s.now;
+    elsewhere = s.elsewhere;
+    inodes = s.inodes;
+  })
+
+  -- also where it was placed just before
+  pub alters-placed : (start : Layers) → ShowsSame start old → NamesSame start old → StaysLayers start old → (IsLayer (layer_of old.upper) → IsLayer (layer_of new.upper)) → AreLayers (layers_of start) → Alters (layer_of start.upper) (layer_of new.upper) (lowers_of start) p a
+  alters-placed start same names stays keep h = alters-since start old (layer_of new.upper) p a same names (alters-directory keep (stays h))
+
+-- an inode of the upper that gets other attributes
+module _ (old new : Layers) (low : new.lowers ≡ old.lowers) (key : ℕ) (a : Attributes) (s : SetsInode (layer_of old.upper) (layer_of new.upper) key a) where
+  -- leaves the upper thin
+  pub thin-inode : StaysThin old new
+  thin-inode = thin-agree old new low (λ x. agree-where (layer_of old.upper) (layer_of new.upper) (λ _. Unit {0}) (λ k y u. tt) (λ y u. s.objects y) x tt) (λ x h. sym (s.objects x) ∙ h)
+
+  -- shows them at each of its names and changes no more
+  pub alters-inode : (p : Path) → held (layer_of old.upper) p ≡ Some (Named key) → (IsLayer (layer_of old.upper) → IsLayer (layer_of new.upper)) → AreLayers (layers_of old) → Alters (layer_of old.upper) (layer_of new.upper) (lowers_of old) p a
+  alters-inode p named keep h = law_of_altered_inode (layer_of old.upper) (layer_of new.upper) (lowers_of old) (keep h.0, h.1) p a (record {
+    number = key;
+    inode = s.inode;
+    named = named;
+    before = s.before;
+    now = s.now;
+    inodes = s.inodes;
+    objects = s.objects;
+  })
+
+-- a directory is under this key, at the path
+pub record StandsAt (t : Tree) (p : Path) (dir : ℕ) : Type 0 where
+  pub key : key_at t p ≡ Some dir
+  pub directory : IsDirectory t dir
+
+-- a directory whose topmost place is in the upper stands there
+pub stands-at : (l : Layers) (p : Path) (s : Stack) (dir : Place) → IsTree l.upper → IsStackOf l p s → (top_of s.places.items).layer ≡ 0 → dir ≡ top_of s.places.items → StandsAt l.upper p dir.key
+stands-at l p s dir tree is top is_dir =
+    let U : Layer = layer_of l.upper in
+    let rest : List Place = unless_cut (cuts U p) (places_at 1 (lowers_of l) (below U p)) in
+    let some : 0 < length s.places.items = omega (arith, s.some_place) in
+    let d : IsHeldDirectory (held U p) (top_of s.places.items).key = top-held (held U p) rest s.places.items is.places (head-unless (cuts U p) (places_at 1 (lowers_of l) (below U p)) (head-places 1 (lowers_of l) (below U p))) some top in
+    let node : IsDirectoryWith (get l.upper (top_of s.places.items).key) d.attributes = held-node l.upper tree p (top_of s.places.items).key d.attributes d.opaque d.redirect d.is in
+    subst (λ (x : Place). StandsAt l.upper p x.key) (sym is_dir) (record {
+      key = key-of l.upper p (top_of s.places.items).key d.attributes d.opaque d.redirect d.is;
+      directory = table-some (get l.upper (top_of s.places.items).key) d.attributes node;
+    })
+
+over-from : (i : ℕ) (inodes : ℕ → Option Inode) (o : Option Object) (c : Bool) (s : Option Shown) (j k : ℕ) (x : Option Inode) → (s ≡ Some (Contents j k x) → suc i ≤ j) → over i inodes o (unless c s) ≡ Some (Contents j k x) → i ≤ j
+over-from i inodes None true s j k x rest h = cc
+over-from i inodes None false s j k x rest h = omega (arith, rest h)
+over-from i inodes (Some Whiteout) c s j k x rest h = cc
+over-from i inodes (Some (Directory m a b r)) c s j k x rest h = cc
+over-from i inodes (Some (Named m)) c s j k x rest h = let e : i ≡ j = cc in omega (arith, e)
+
+-- layers numbered from i show inodes of layers from i on
+shown-from : (i : ℕ) (Ls : List Layer) (p : Path) (j k : ℕ) (x : Option Inode) → shows i Ls p ≡ Some (Contents j k x) → i ≤ j
+shown-from i [] p j k x h = cc
+shown-from i (L ∷ Ls) p j k x h = over-from i L.inodes (held L p) (cuts L p) (shows (suc i) Ls (below L p)) j k x (shown-from (suc i) Ls (below L p) j k x) h
+
+-- the layer names this inode at the path
+pub record IsNamed (U : Layer) (p : Path) (k : ℕ) (x : Option Inode) : Type 0 where
+  pub named : held U p ≡ Some (Named k)
+  pub inode : U.inodes k ≡ x
+
+over-named : (U : Layer) (lowers : List Layer) (p q : Path) (o : Option Object) (c : Bool) (k : ℕ) (x : Option Inode) → held U p ≡ o → over 0 U.inodes o (unless c (shows 1 lowers q)) ≡ Some (Contents 0 k x) → IsNamed U p k x
+over-named U lowers p q None true k x e h = cc
+over-named U lowers p q None false k x e h = absurd (omega (arith, shown-from 1 lowers q 0 k x h))
+over-named U lowers p q (Some Whiteout) c k x e h = cc
+over-named U lowers p q (Some (Directory m a b r)) c k x e h = cc
+over-named U lowers p q (Some (Named m)) c k x e h =
+    let mk : m ≡ k = cc in
+    let ix : U.inodes m ≡ x = cc in
+    record { named = e ∙ ap (λ z. Some (Named z)) mk; inode = sym (ap U.inodes mk) ∙ ix }
+
+-- an inode that is shown as the upper's is named by it
+pub upper-named : (l : Layers) (p : Path) (d : Place) (x : Option Inode) → d.layer ≡ 0 → shows 0 (layers_of l) p ≡ Some (Contents d.layer d.key x) → IsNamed (layer_of l.upper) p d.key x
+upper-named l p d x first h =
+    over-named (layer_of l.upper) (lowers_of l) p (below (layer_of l.upper) p) (held (layer_of l.upper) p) (cuts (layer_of l.upper) p) d.key x refl (h ∙ ap (λ j. Some (Contents j d.key x)) first)
+
+-- where an inode is seen, something stands
+pub inode-there : (x : Option Node) (i : Inode) → option_and_then inode_of x ≡ Some i → IsSome x
+inode-there None i h = cc
+inode-there (Some n) i h = refl
+
+-- the layer of this number names the inode
+record NamesInode (ts : List Tree) (j k : ℕ) (x : Option Inode) : Type 0 where
+  pub tree : Tree
+  pub is : slice_get ts j ≡ Some tree
+  pub path : Path
+  pub there : IsNamed (layer_of tree) path k x
+
+over-names : (i : ℕ) (ts : List Tree) (t : Tree) (p : Path) (j k : ℕ) (x : Option Inode) (o : Option Object) (c : Bool) (y : Option Shown) → slice_get ts i ≡ Some t → held (layer_of t) p ≡ o → (y ≡ Some (Contents j k x) → NamesInode ts j k x) → over i (inode_at t) o (unless c y) ≡ Some (Contents j k x) → NamesInode ts j k x
+over-names i ts t p j k x None true y at is rest h = cc
+over-names i ts t p j k x None false y at is rest h = rest h
+over-names i ts t p j k x (Some Whiteout) c y at is rest h = cc
+over-names i ts t p j k x (Some (Directory m b u r)) c y at is rest h = cc
+over-names i ts t p j k x (Some (Named m)) c y at is rest h =
+    let ij : i ≡ j = cc in
+    let mk : m ≡ k = cc in
+    let ix : inode_at t m ≡ x = cc in
+    record { tree = t; is = sym (ap (slice_get ts) ij) ∙ at; path = p; there = record { named = is ∙ ap (λ z. Some (Named z)) mk; inode = sym (ap (inode_at t) mk) ∙ ix } }
+
+-- the layer of an inode that is shown names it
+names-inode : (i : ℕ) (ts us : List Tree) → drop i ts ≡ us → (p : Path) (j k : ℕ) (x : Option Inode) → shows i (map layer_of us) p ≡ Some (Contents j k x) → NamesInode ts j k x
+names-inode i ts [] e p j k x h = cc
+names-inode i ts (t ∷ us) e p j k x h =
+    let d : (slice_get ts i ≡ Some t) × (drop (suc i) ts ≡ us) = drop-get ts i t us e in
+    over-names i ts t p j k x (held (layer_of t) p) (cuts (layer_of t) p) (shows (suc i) (map layer_of us) (below (layer_of t) p)) d.0 refl (names-inode (suc i) ts us d.1 (below (layer_of t) p) j k x) h
+
+is-there : (x : Option Inode) → is_some x ≡ true → (i : Inode) × (x ≡ Some i)
+is-there None h = cc
+is-there (Some i) h = (i, refl)
+
+-- an inode that a layer names is there
+named-there : (L : Layer) (p : Path) (k : ℕ) (x : Option Inode) → IsHeldTogether L → IsNamed L p k x → (i : Inode) × (x ≡ Some i)
+named-there L p k x together n = is-there x (subst (λ (o : Option Inode). is_some o ≡ true) n.inode (together.present p k n.named))
+
+-- the layer of an inode that is shown is there
+pub layer-there : (l : Layers) (p : Path) (d : Place) → ShowsInode l p d → (t : Tree) × (slice_get (trees l) d.layer ≡ Some t)
+layer-there l p d s = let f : NamesInode (trees l) d.layer d.key s.inode = names-inode 0 (trees l) (trees l) refl p d.layer d.key s.inode s.shown in (f.tree, f.is)
+
+-- what it names there is an inode
+names-there : (ts : List Tree) (j k : ℕ) (x : Option Inode) (t : Tree) → NamesInode ts j k x → slice_get ts j ≡ Some t → IsHeldTogether (layer_of t) → (i : Inode) × (x ≡ Some i)
+names-there ts j k x t f at together =
+    let two : Some f.tree ≡ Some t = sym f.is ∙ at in
+    let same : f.tree ≡ t = cc in
+    named-there (layer_of t) f.path k x together (subst (λ (z : Tree). IsNamed (layer_of z) f.path k x) same f.there)
+
+shown-there : (y : Option Shown) (j k : ℕ) (x : Option Inode) → y ≡ Some (Contents j k x) → (i : Inode) × (x ≡ Some i) → (i : Inode) × (y ≡ Some (Contents j k (Some i)))
+shown-there y j k x h there = (there.0, h ∙ ap (λ z. Some (Contents j k z)) there.1)
+
+-- and the inode stands in it
+pub inode-stands-in : (l : Layers) (p : Path) (d : Place) (t : Tree) → slice_get (trees l) d.layer ≡ Some t → IsHeldTogether (layer_of t) → ShowsInode l p d → (i : Inode) × (shows 0 (layers_of l) p ≡ Some (Contents d.layer d.key (Some i)))
+inode-stands-in l p d t at together s =
+    shown-there (shows 0 (layers_of l) p) d.layer d.key s.inode s.shown
+    (names-there (trees l) d.layer d.key s.inode t (names-inode 0 (trees l) (trees l) refl p d.layer d.key s.inode s.shown) at together)
+
+-- the root is no inode
+pub root-no-inode : (l : Layers) (p : Path) (d : Place) → p ≡ [] → ShowsInode l p d → ⊥
+root-no-inode l p d e s = let z : Some (Folder 0 0 (layer_of l.upper).root) ≡ Some (Contents d.layer d.key s.inode) = sym (ap (shows 0 (layers_of l)) e) ∙ s.shown in cc
+
+-- the way to a directory that is found has no fault
+pub way-found : (l : Layers) (p : Path) (s : List Place) → walk_fault (layers_of l) p ≡ None → ShowsDirectory l p s → way_fault (layers_of l) p ≡ None
+way-found l [] s h d = refl
+way-found l (n ∷ p) s h d = way-next (layers_of l) p n None (or-first (way_fault (layers_of l) p) _ h) (directory-fault l (n ∷ p) s d)
+
+-- what is found, by its kind
+pub found-directory : (l : Layers) (p : Path) (f : Found) (s : Stack) → f ≡ found.Directory s → IsFound l p f → ShowsDirectory l p s.places.items
+found-directory l p f s e h = let P : Found → Type 0 = λ f. IsFound l p f in subst P e h
+
+pub found-inode : (l : Layers) (p : Path) (f : Found) (d : Place) → f ≡ found.Inode d → IsFound l p f → ShowsInode l p d
+found-inode l p f d e h = let P : Found → Type 0 = λ f. IsFound l p f in subst P e h
+
+-- the names of a path, turned back
+pub turned-back : (names p : List Name) → names ≡ reverse p → reverse names ≡ p
+turned-back names p e = ap reverse e ∙ reverse-reverse p
+
+-- what follows from an answer of either kind holds
+pub either-way : {A E : Type 0} (P Q R : Type 0) (r : Result A E) → OnOk r P → OnErr r Q → (P → R) → (Q → R) → R
+either-way P Q R (Ok x) p q f g = f p
+either-way P Q R (Err e) p q f g = g q
+
+-- what follows from a good answer holds of it
+pub on-ok-more : {A E : Type 0} (P Q : Type 0) (r : Result A E) → OnOk r P → (P → Q) → OnOk r Q
+on-ok-more P Q (Ok x) p f = f p
+on-ok-more P Q (Err e) p f = tt
