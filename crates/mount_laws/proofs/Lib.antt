@@ -1,6 +1,8 @@
 pub mod Looks
 pub mod Opens
 pub mod Seeks
+pub mod Opening
+pub mod Descriptors
 pub mod Lists
 pub mod Makes
 pub mod Places

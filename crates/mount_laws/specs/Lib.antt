@@ -4,5 +4,7 @@ pub mod Removals
 pub mod Thin
 pub mod Removed
 pub mod Seeks
+pub mod Opening
+pub mod Descriptors
 pub mod Attributes
 pub mod Altered

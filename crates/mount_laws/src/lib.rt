@@ -1,8 +1,14 @@
 //! The plain machine's answers on the merge of layers, told by what the layers show: laws for an engine that keeps the layers.
 #![tactic(auto)]
 
+mod handle_laws;
 mod laws;
 
+pub use handle_laws::{
+    law_of_directory_handle, law_of_file_list, law_of_file_seek, law_of_fstat, law_of_handle_close,
+    law_of_open_refusal, law_of_opened_for_reading, law_of_opened_for_writing,
+    law_of_opened_making, law_of_read, law_of_truncate, law_of_unopened, law_of_write,
+};
 pub use laws::{
     law_of_altered_directory, law_of_altered_inode, law_of_attribute_deleted, law_of_attribute_set,
     law_of_bad_descriptors, law_of_beginning, law_of_chmod, law_of_chown, law_of_close,

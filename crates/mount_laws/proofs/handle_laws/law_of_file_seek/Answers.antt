@@ -1,0 +1,5 @@
+use Rattle.mount_laws.proofs.Descriptors.{law_of_file_seek}
+use Rattle.mount_laws.proofs.handle_laws.law_of_file_seek.Goals as goal
+
+pub returns : goal.returns
+returns c = law_of_file_seek

@@ -1,0 +1,5 @@
+use Rattle.mount_laws.proofs.Opening.{law_of_opened_making}
+use Rattle.mount_laws.proofs.handle_laws.law_of_opened_making.Goals as goal
+
+pub returns : goal.returns
+returns c = law_of_opened_making

@@ -1,0 +1,5 @@
+use Rattle.mount_laws.proofs.Descriptors.{law_of_unopened}
+use Rattle.mount_laws.proofs.handle_laws.law_of_unopened.Goals as goal
+
+pub returns : goal.returns
+returns c = law_of_unopened
