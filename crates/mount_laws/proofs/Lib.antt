@@ -14,3 +14,7 @@ pub mod Removed
 pub mod Attributes
 pub mod Altered
 pub mod Changed
+pub mod OpenFiles
+pub mod Written
+pub mod StayOpen
+pub mod Outlive

@@ -6,3 +6,5 @@ pub mod Removed
 pub mod Seeks
 pub mod Attributes
 pub mod Altered
+pub mod OpenFiles
+pub mod StayOpen

@@ -4,13 +4,17 @@
 mod laws;
 
 pub use laws::{
-    law_of_altered_directory, law_of_altered_inode, law_of_attribute_deleted, law_of_attribute_set,
-    law_of_bad_descriptors, law_of_beginning, law_of_chmod, law_of_chown, law_of_close,
-    law_of_close_removed, law_of_copied_leaf, law_of_delete_attribute, law_of_directories,
-    law_of_file_made, law_of_get_attribute, law_of_link_made, law_of_list, law_of_list_attributes,
-    law_of_list_removed, law_of_made, law_of_mkdir, law_of_mode_changed, law_of_open,
-    law_of_owner_changed, law_of_placed_directory, law_of_placed_leaf, law_of_placed_parent,
-    law_of_readlink, law_of_removed_directory, law_of_rmdir, law_of_seek, law_of_set_attribute,
-    law_of_stat, law_of_symlink, law_of_taken_away, law_of_thin, law_of_unlink, law_of_unlinked,
-    law_of_walks,
+    law_of_altered_directory, law_of_altered_inode, law_of_alters_named, law_of_attribute_deleted,
+    law_of_attribute_set, law_of_bad_descriptors, law_of_beginning, law_of_chmod, law_of_chown,
+    law_of_close, law_of_close_removed, law_of_copied_leaf, law_of_delete_attribute,
+    law_of_directories, law_of_file_made, law_of_forgotten, law_of_get_attribute, law_of_link_made,
+    law_of_list, law_of_list_attributes, law_of_list_removed, law_of_live_kept, law_of_live_made,
+    law_of_live_one, law_of_live_shown, law_of_live_through_deleted, law_of_live_through_file,
+    law_of_live_through_link, law_of_live_through_made, law_of_live_through_mode,
+    law_of_live_through_owner, law_of_live_through_parent, law_of_live_through_rmdir,
+    law_of_live_through_set, law_of_live_through_unlink, law_of_made, law_of_mkdir,
+    law_of_mode_changed, law_of_open, law_of_owner_changed, law_of_placed_directory,
+    law_of_placed_leaf, law_of_placed_parent, law_of_readlink, law_of_removed_directory,
+    law_of_rmdir, law_of_seek, law_of_set_attribute, law_of_stat, law_of_symlink,
+    law_of_taken_away, law_of_thin, law_of_unlink, law_of_unlinked, law_of_walks, law_of_written,
 };
