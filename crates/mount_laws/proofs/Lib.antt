@@ -16,3 +16,7 @@ pub mod Removed
 pub mod Attributes
 pub mod Altered
 pub mod Changed
+pub mod OpenFiles
+pub mod Written
+pub mod StayOpen
+pub mod Outlive

@@ -8,3 +8,5 @@ pub mod Opening
 pub mod Descriptors
 pub mod Attributes
 pub mod Altered
+pub mod OpenFiles
+pub mod StayOpen

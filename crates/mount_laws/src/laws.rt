@@ -4,8 +4,10 @@ ghost use Rattle.mount_laws.specs.Attributes.{LawOfChmod, LawOfChown, LawOfDelet
 ghost use Rattle.mount_laws.specs.Removed.{LawOfCloseRemoved, LawOfListRemoved};
 ghost use Rattle.mount_laws.specs.Leaves.{LawOfFileMade, LawOfLinkMade, LawOfPlacedLeaf, LawOfReadlink, LawOfSymlink};
 ghost use Rattle.mount_laws.specs.Looks.{LawOfBadDescriptors, LawOfBeginning, LawOfClose, LawOfDirectories, LawOfList, LawOfMade, LawOfMkdir, LawOfOpen, LawOfPlacedDirectory, LawOfPlacedParent, LawOfStat, LawOfWalks};
+ghost use Rattle.mount_laws.specs.OpenFiles.{LawOfForgotten, LawOfLiveMade, LawOfLiveOne, LawOfLiveShown, LawOfWritten};
 ghost use Rattle.mount_laws.specs.Removals.{LawOfRemovedDirectory, LawOfRmdir, LawOfTakenAway, LawOfUnlink, LawOfUnlinked};
 ghost use Rattle.mount_laws.specs.Seeks.{LawOfSeek};
+ghost use Rattle.mount_laws.specs.StayOpen.{LawOfAltersNamed, LawOfLiveKept, LawOfLiveThroughDeleted, LawOfLiveThroughFile, LawOfLiveThroughLink, LawOfLiveThroughMade, LawOfLiveThroughMode, LawOfLiveThroughOwner, LawOfLiveThroughParent, LawOfLiveThroughRmdir, LawOfLiveThroughSet, LawOfLiveThroughUnlink};
 ghost use Rattle.mount_laws.specs.Thin.{LawOfThin};
 
 /// A mount begins as one of its layers.
@@ -209,4 +211,89 @@ pub fn law_of_altered_inode()
 /// An upper whose directory has other attributes shows them, and no other path changes.
 pub fn law_of_altered_directory()
     ensures { LawOfAlteredDirectory }
+{}
+
+/// Two live files, one of which has a name, are one node exactly where they are one inode.
+pub fn law_of_live_one()
+    ensures { LawOfLiveOne }
+{}
+
+/// A file of the upper that a path shows is live: its node is the inode, and the paths to the one are the names of the other.
+pub fn law_of_live_shown()
+    ensures { LawOfLiveShown }
+{}
+
+/// A file that `open` makes is live, by the number of the inode that the upper gains.
+pub fn law_of_live_made()
+    ensures { LawOfLiveMade }
+{}
+
+/// Other bytes of a live file make the mount one of the upper that has them; paths lead where they led and other files stay live.
+pub fn law_of_written()
+    ensures { LawOfWritten }
+{}
+
+/// A file without a name goes with its last handle (POSIX.1-2017, close()), and nothing else does.
+pub fn law_of_forgotten()
+    ensures { LawOfForgotten }
+{}
+
+/// A live file stays so in another upper that has its inode by the same names.
+pub fn law_of_live_kept()
+    ensures { LawOfLiveKept }
+{}
+
+/// A live file stays so in an upper that gets a missing parent.
+pub fn law_of_live_through_parent()
+    ensures { LawOfLiveThroughParent }
+{}
+
+/// A live file stays so where `mkdir` makes a directory.
+pub fn law_of_live_through_made()
+    ensures { LawOfLiveThroughMade }
+{}
+
+/// A live file stays so where `symlink` makes a link.
+pub fn law_of_live_through_link()
+    ensures { LawOfLiveThroughLink }
+{}
+
+/// A live file stays so where `open` makes another.
+pub fn law_of_live_through_file()
+    ensures { LawOfLiveThroughFile }
+{}
+
+/// A live file that is open stays so where `unlink` takes a name away, also its last one (POSIX.1-2017, unlink()).
+pub fn law_of_live_through_unlink()
+    ensures { LawOfLiveThroughUnlink }
+{}
+
+/// A live file stays so where `rmdir` takes a directory away.
+pub fn law_of_live_through_rmdir()
+    ensures { LawOfLiveThroughRmdir }
+{}
+
+/// A live file stays so where `chmod` changes a mode, also its own.
+pub fn law_of_live_through_mode()
+    ensures { LawOfLiveThroughMode }
+{}
+
+/// A live file stays so where `chown` changes an owner, also its own.
+pub fn law_of_live_through_owner()
+    ensures { LawOfLiveThroughOwner }
+{}
+
+/// A live file stays so where a user attribute is set, also one of its own.
+pub fn law_of_live_through_set()
+    ensures { LawOfLiveThroughSet }
+{}
+
+/// A live file stays so where a user attribute is deleted, also one of its own.
+pub fn law_of_live_through_deleted()
+    ensures { LawOfLiveThroughDeleted }
+{}
+
+/// Where the attributes that a path shows change, an inode of the upper keeps its names, and changes only if the path is one of them.
+pub fn law_of_alters_named()
+    ensures { LawOfAltersNamed }
 {}

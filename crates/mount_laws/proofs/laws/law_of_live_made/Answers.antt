@@ -1,0 +1,5 @@
+use Rattle.mount_laws.proofs.OpenFiles.{law_of_live_made}
+use Rattle.mount_laws.proofs.laws.law_of_live_made.Goals as goal
+
+pub returns : goal.returns
+returns c = law_of_live_made

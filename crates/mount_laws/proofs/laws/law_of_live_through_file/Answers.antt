@@ -1,0 +1,5 @@
+use Rattle.mount_laws.proofs.StayOpen.{law_of_live_through_file}
+use Rattle.mount_laws.proofs.laws.law_of_live_through_file.Goals as goal
+
+pub returns : goal.returns
+returns c = law_of_live_through_file
