@@ -4,3 +4,5 @@ pub mod Opened
 pub mod Descriptors
 pub mod Listings
 pub mod Holding
+pub mod FileHolders
+pub mod Places

@@ -1,10 +1,15 @@
-//! What clients have open, and where in the mount an open directory stands.
+//! What clients have open, where in the mount an open directory stands, how many handles hold each file of the upper, and the places in
+//! an open file where its calls begin.
 #![tactic(auto)]
 
 mod dentries;
 mod dentry;
 mod descriptors;
 mod directories;
+mod open_file;
+mod open_files;
 
 pub use descriptors::{DESCRIPTORS_MAX, Descriptors, OpenDirectory};
 pub use directories::OpenDirectories;
+pub use open_file::{FILE_MAX, FileSource, OpenFile, PLACE_MAX, fitting, read_at, sought};
+pub use open_files::OpenFiles;
