@@ -68,7 +68,7 @@ is-stored (Some (node.Directory d)) i h = cc
 is-stored (Some (node.Inode y)) i h = let e : ◌≡◌ {A = Inode} (record { content = y.content; attributes = y.attributes; links = y.links }) i = cc in record { inode = y; is = refl; content = ap (λ (z : Inode). z.content) e }
 
 -- the upper holds nothing where a lower layer's file or link is shown
-free-inode : (inodes : ℕ → Option Inode) (o : Option Object) (s : Option Shown) (j k : ℕ) (x : Option Inode) → over 0 inodes o s ≡ Some (Contents j k x) → 0 < j → o ≡ None
+pub free-inode : (inodes : ℕ → Option Inode) (o : Option Object) (s : Option Shown) (j k : ℕ) (x : Option Inode) → over 0 inodes o s ≡ Some (Contents j k x) → 0 < j → o ≡ None
 free-inode inodes None s j k x h low = refl
 free-inode inodes (Some Whiteout) s j k x h low = cc
 free-inode inodes (Some (Directory m a b r)) s j k x h low = cc
@@ -119,21 +119,24 @@ alters-at : (U V : Layer) (lowers : List Layer) → AreLayers (U ∷ lowers) →
 alters-at U V lowers b c n q zero l key i a shown lower placed = absurd (omega (arith, lower))
 alters-at U V lowers b c n q (suc j) l key i a shown lower placed = law_of_copied_leaf U V lowers b c n q j l key i a shown placed
 
--- a copy of a lower layer's file or link in the upper
+-- a copy of a lower layer's file or link in the upper, under its key
 module _ (start old new : Layers) (same : ShowsSame start old) (n : Name) (q : Path) (gains : GainsParents start old (n ∷ q)) (low : new.lowers ≡ old.lowers) (key : ℕ) (a : Attributes) where
-  pub leaf-copied : StaysLayers start old → NamesSame start old → (IsLayer (layer_of old.upper) → IsLayer (layer_of new.upper)) → (j l : ℕ) (i : Inode) → shows 0 (layers_of start) (n ∷ q) ≡ Some (Contents j l (Some i)) → 0 < j → PlacesLeaf (layer_of old.upper) (layer_of new.upper) (n ∷ q) key (leaf_of i.content a) → get old.upper key ≡ None → KeepsObjects old.upper new.upper (Some key) → CopiesLeaf start new (n ∷ q) i.content a
-  leaf-copied stays names keep j l i shown lower placed vacant kept = record {
-    lowers = low ∙ same.lowers;
-    number = key;
-    held_there = placed.here;
-    inode = placed.inode;
-    alters = λ h. alters-since start old (layer_of new.upper) (n ∷ q) a same names (alters-at (layer_of old.upper) (layer_of new.upper) (lowers_of old) (stays h) (keep (stays h).0, (stays h).1) n q j l key i a (shown-still start old same n q gains j l (Some i) shown lower) lower placed);
-    vacant = vacant_before start.upper old.upper None gains.objects key vacant;
-    others = others-then start old new (n ∷ q) gains low placed.elsewhere
-        (λ m r. ap is_object (nothing-held old.upper (n ∷ q) (ap holds_directory (lacked start old same n q gains j l (Some i) shown lower)) m r))
-        placed.beneath;
-    objects = keeps_then start.upper old.upper new.upper (Some key) gains.objects kept;
-  }
+  pub leaf-copied : StaysLayers start old → NamesSame start old → (IsLayer (layer_of old.upper) → IsLayer (layer_of new.upper)) → (j l : ℕ) (i : Inode) → shows 0 (layers_of start) (n ∷ q) ≡ Some (Contents j l (Some i)) → 0 < j → PlacesLeaf (layer_of old.upper) (layer_of new.upper) (n ∷ q) key (leaf_of i.content a) → get old.upper key ≡ None → KeepsObjects old.upper new.upper (Some key) → (leaf : CopiesLeaf start new (n ∷ q) i.content a) × (leaf.number ≡ key)
+  leaf-copied stays names keep j l i shown lower placed vacant kept = (
+    record {
+      lowers = low ∙ same.lowers;
+      number = key;
+      held_there = placed.here;
+      inode = placed.inode;
+      alters = λ h. alters-since start old (layer_of new.upper) (n ∷ q) a same names (alters-at (layer_of old.upper) (layer_of new.upper) (lowers_of old) (stays h) (keep (stays h).0, (stays h).1) n q j l key i a (shown-still start old same n q gains j l (Some i) shown lower) lower placed);
+      vacant = vacant_before start.upper old.upper None gains.objects key vacant;
+      others = others-then start old new (n ∷ q) gains low placed.elsewhere
+          (λ m r. ap is_object (nothing-held old.upper (n ∷ q) (ap holds_directory (lacked start old same n q gains j l (Some i) shown lower)) m r))
+          placed.beneath;
+      objects = keeps_then start.upper old.upper new.upper (Some key) gains.objects kept;
+    },
+    refl,
+  )
 
   -- leaves no needless whiteouts
   pub thin-copied : (c : Content) → PlacesLeaf (layer_of old.upper) (layer_of new.upper) (n ∷ q) key (leaf_of c a) → StaysThin start old → StaysThin start new

@@ -5,3 +5,4 @@ pub mod Keeping
 pub mod Needing
 pub mod Copying
 pub mod OtherAttributes
+pub mod AlteredObjects

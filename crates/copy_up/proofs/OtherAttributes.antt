@@ -1,5 +1,5 @@
 -- Other attributes of what the upper has, or gets first from the lower layers.
-use Rattle.std.proofs.Common.{◌≡◌, ◌≤◌, ◌<◌, ℕ, suc, Bool, true, false, List, [], ◌∷◌, Option, None, Some, refl, sym, ap, ◌∙◌, subst, is_some, IsSome, length, map, drop, reverse, arith, Result, Ok, Err, OnOk, OnErr}
+use Rattle.std.proofs.Common.{◌≡◌, ◌≤◌, ◌<◌, ℕ, suc, Bool, true, false, List, [], ◌∷◌, Option, None, Some, refl, sym, ap, ◌∙◌, subst, is_some, IsSome, length, map, drop, reverse, arith}
 use Rattle.std.proofs.lemmas.List.{reverse-reverse}
 use Rattle.std.specs.Option.{option_and_then}
 use Rattle.std.specs.Prelude.{slice_get}
@@ -216,13 +216,3 @@ found-inode l p f d e h = let P : Found → Type 0 = λ f. IsFound l p f in subs
 -- the names of a path, turned back
 pub turned-back : (names p : List Name) → names ≡ reverse p → reverse names ≡ p
 turned-back names p e = ap reverse e ∙ reverse-reverse p
-
--- what follows from an answer of either kind holds
-pub either-way : {A E : Type 0} (P Q R : Type 0) (r : Result A E) → OnOk r P → OnErr r Q → (P → R) → (Q → R) → R
-either-way P Q R (Ok x) p q f g = f p
-either-way P Q R (Err e) p q f g = g q
-
--- what follows from a good answer holds of it
-pub on-ok-more : {A E : Type 0} (P Q : Type 0) (r : Result A E) → OnOk r P → (P → Q) → OnOk r Q
-on-ok-more P Q (Ok x) p f = f p
-on-ok-more P Q (Err e) p f = tt

@@ -1,3 +1,4 @@
 pub mod Showing
 pub mod Needs
 pub mod Leaves
+pub mod Altering

@@ -35,6 +35,12 @@ is_object (Some (Directory k a o r)) = true
 is_object (Some (Named k)) = true
 is_object _ = false
 
+-- the number of a directory or inode that is held
+abbrev pub number_of : Option Object → Option ℕ
+number_of (Some (Directory k a o r)) = Some k
+number_of (Some (Named k)) = Some k
+number_of _ = None
+
 -- x is a parent of p
 abbrev pub IsParent : Path → Path → Type 0
 IsParent x p = (n : Name) × (r : Path) × (p ≡ n ∷ (r ++ x))

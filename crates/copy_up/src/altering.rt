@@ -3,11 +3,12 @@ ghost use Rattle.std.specs.Prelude.{◌≡◌, List, ℕ, Some, None, IsSome, On
 ghost use Rattle.slab.specs.Slab.{get};
 ghost use Rattle.plain_model.specs.Layers.{Path as Names, Inode, Contents, shows, IsLayer, AreLayers};
 ghost use Rattle.mount_laws.specs.Altered.{Alters};
-ghost use Rattle.layer_tree.specs.AttributeChange.{SetsInode, SetsDirectory};
+ghost use Rattle.layer_tree.specs.AttributeChange.{SetsAttributes, SetsInode, SetsDirectory};
 ghost use Rattle.layer_tree.specs.Nameless.{IsNameless};
 ghost use Rattle.layer_tree.specs.Tree.{layer_of, key_at, inode_at, IsDirectory, IsTree};
 ghost use Rattle.merged_lookup.specs.Merged.{layers_of, lowers_of, parent, parents_fault, walk_fault, way_fault, IsFound, IsStackOf, ShowsInode};
 ghost use Rattle.copy_up.specs.Showing.{ShowsSame, GainsParents, StaysLayers, StaysMount, StaysThin};
+ghost use Rattle.copy_up.specs.Altering.{AltersObject};
 
 use crate::leaves::copy_leaf;
 use crate::parents::place_parents;
@@ -29,6 +30,7 @@ pub fn alter(
     requires directory { IsStackOf layers.old (parent path.now) directory }
     requires found { IsFound layers.old path.now found }
     ensures altered { OnOk result (AreLayers (layers_of layers.old) → Alters (layer_of layers.old.upper) (layer_of layers.new.upper) (lowers_of layers.old) path.now attributes) }
+    ensures object { OnOk result (AltersObject layers.old layers.new path.now attributes) }
     ensures lowers { layers.new.lowers ≡ layers.old.lowers }
     ensures nameless { (k : ℕ) → IsNameless layers.old.upper k → IsNameless layers.new.upper k }
     ensures no_memory { OnErr result (ShowsSame layers.old layers.new) }
@@ -53,6 +55,7 @@ fn alter_directory(
     requires way { way_fault (layers_of layers.old) path.now ≡ None }
     requires directory { IsStackOf layers.old path.now directory }
     ensures altered { OnOk result (AreLayers (layers_of layers.old) → Alters (layer_of layers.old.upper) (layer_of layers.new.upper) (lowers_of layers.old) path.now attributes) }
+    ensures object { OnOk result (AltersObject layers.old layers.new path.now attributes) }
     ensures lowers { layers.new.lowers ≡ layers.old.lowers }
     ensures nameless { (k : ℕ) → IsNameless layers.old.upper k → IsNameless layers.new.upper k }
     ensures no_memory { OnErr result (ShowsSame layers.old layers.new) }
@@ -87,6 +90,7 @@ fn alter_inode(
     requires directory { IsStackOf layers.old (parent path.now) directory }
     requires shown { ShowsInode layers.old path.now place }
     ensures altered { OnOk result (AreLayers (layers_of layers.old) → Alters (layer_of layers.old.upper) (layer_of layers.new.upper) (lowers_of layers.old) path.now attributes) }
+    ensures object { OnOk result (AltersObject layers.old layers.new path.now attributes) }
     ensures lowers { layers.new.lowers ≡ layers.old.lowers }
     ensures nameless { (k : ℕ) → IsNameless layers.old.upper k → IsNameless layers.new.upper k }
     ensures no_memory { OnErr result (ShowsSame layers.old layers.new) }
@@ -103,7 +107,8 @@ fn alter_inode(
     let Some((name, parents)) = path.split_last() else {
         unreachable!()
     };
-    copy_leaf(layers, directory, parents, name, place, attributes)
+    copy_leaf(layers, directory, parents, name, place, attributes)?;
+    Ok(())
 }
 
 // The inode that is shown at a place stands there; it does nothing.
@@ -121,6 +126,7 @@ fn stands(layers: &Layers, place: Place)
 fn set_attributes(layers: &mut Layers, key: usize, attributes: Attributes)
     requires { IsSome (get layers.old.upper key) }
     ensures lowers { layers.new.lowers ≡ layers.old.lowers }
+    ensures sets { SetsAttributes layers.old.upper layers.new.upper key attributes }
     ensures inode { (i : Inode) → inode_at layers.old.upper key ≡ Some i → SetsInode (layer_of layers.old.upper) (layer_of layers.new.upper) key attributes }
     ensures directory { (p : Names) → key_at layers.old.upper p ≡ Some key → IsDirectory layers.old.upper key → SetsDirectory (layer_of layers.old.upper) (layer_of layers.new.upper) p key attributes }
     ensures keeps { IsLayer (layer_of layers.old.upper) → IsLayer (layer_of layers.new.upper) }

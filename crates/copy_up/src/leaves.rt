@@ -16,8 +16,8 @@ use ov_base::{Attributes, Content, Name};
 use std::alloc::AllocError;
 
 /// Copies the file or symbolic link that a lower layer shows at a name of the merged directory at these names into the upper: an inode of
-/// its own, with these attributes, in directories that are placed where the upper lacks them (overlayfs.rst, "Non-directories"). It fails
-/// only for want of memory, and changes nothing that is shown then.
+/// its own, with these attributes, in directories that are placed where the upper lacks them (overlayfs.rst, "Non-directories"), and gives
+/// its key. It fails only for want of memory, and changes nothing that is shown then.
 pub fn copy_leaf(
     layers: &mut Layers,
     directory: Stack,
@@ -25,12 +25,12 @@ pub fn copy_leaf(
     name: &Name,
     place: Place,
     attributes: Attributes,
-) -> Result<(), AllocError>
+) -> Result<usize, AllocError>
     requires way { way_fault (layers_of layers.old) (reverse parents.now) ≡ None }
     requires directory { IsStackOf layers.old (reverse parents.now) directory }
     requires shown { (i : Inode) × (shows 0 (layers_of layers.old) (name.now ∷ reverse parents.now) ≡ Some (Contents place.layer place.key (Some i))) }
     requires lower { 0 < place.layer }
-    ensures copied { OnOk result ((i : Inode) → shows 0 (layers_of layers.old) (name.now ∷ reverse parents.now) ≡ Some (Contents place.layer place.key (Some i)) → CopiesLeaf layers.old layers.new (name.now ∷ reverse parents.now) i.content attributes) }
+    ensures copied { IfOk result (λ key. (i : Inode) → shows 0 (layers_of layers.old) (name.now ∷ reverse parents.now) ≡ Some (Contents place.layer place.key (Some i)) → (leaf : CopiesLeaf layers.old layers.new (name.now ∷ reverse parents.now) i.content attributes) × (leaf.number ≡ key)) }
     ensures no_memory { OnErr result (ShowsSame layers.old layers.new) }
     ensures mounts { OnErr result (StaysMount layers.old layers.new) }
     ensures parents { OnErr result (GainsParents layers.old layers.new (name.now ∷ reverse parents.now)) }
@@ -40,8 +40,8 @@ pub fn copy_leaf(
     let content = content_at(layers, place)?;
     let parent = place_parents(layers, directory, parents)?;
     let dir = parent.top();
-    insert_leaf(layers, dir.key, name, content, attributes)?;
-    Ok(())
+    let key = insert_leaf(layers, dir.key, name, content, attributes)?;
+    Ok(key)
 }
 
 // A copy of what the file or symbolic link that is shown at a place holds.

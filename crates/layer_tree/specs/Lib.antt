@@ -5,3 +5,4 @@ pub mod Tree
 pub mod Nameless
 pub mod Change
 pub mod AttributeChange
+pub mod ContentChange

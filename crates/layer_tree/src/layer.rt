@@ -15,12 +15,11 @@ ghost use Rattle.layer_tree.specs.Table.{object_key};
 ghost use Rattle.layer_tree.specs.Walk.{Rebinds};
 ghost use Rattle.layer_tree.specs.Tree.{Tree, entry, child, key_at, entry_at, seen_at, inode_at, marks_at, bytes_at, file_bytes, layer_of, seen_object, new_inode, with_less, table_of, leads_on, Inserts, Unbinds, Writes, written, IsDirectory, names_room, SetsPath, ClearsPath, CoversPath, SameObjects, SameTree, UsesObjects, Frees, HoldsNoObjects, IsHeldTogether, IsTree};
 ghost use Rattle.layer_tree.specs.Nameless.{IsNameless};
-ghost use Rattle.layer_tree.specs.AttributeChange.{SetsAttributes, SetsInode, SetsDirectory};
 ghost use Rattle.layer_tree.specs.Change.{IsPlanted, Retables, Retabled, Unlinks, IsCounted, node_room, node_entry, unlinked, node_bytes, with_file};
 ghost use Rattle.layer_tree.specs.declared.name_table.Entry.TheVariants as bound;
 
-use crate::attribute_change::set_attributes_in;
-use crate::file_write::write_in;
+mod contents;
+
 use crate::name_table::{Entry, NameTable};
 use crate::node::{Directory, Inode, Marks, Node, Object};
 use indexmap::map::Slice;
@@ -172,58 +171,6 @@ impl Layer {
             Some(Node::Directory(directory)) => Some(&directory.marks),
             _ => None,
         }
-    }
-
-    /// The bytes of a file.
-    pub fn read(&self, key: usize) -> Option<&[u8]>
-        ensures { option_copied result ≡ bytes_at self.now key }
-    {
-        match self.nodes.get(key) {
-            Some(
-                Node::Inode(
-                    Inode {
-                        content: Content::File(bytes),
-                        ..
-                    },
-                ),
-            ) => Some(bytes.as_slice()),
-            _ => None,
-        }
-    }
-
-    /// Lays bytes over those of a file from a place on, with zero bytes between the file's end and that place. It fails only for
-    /// want of memory, and changes nothing then.
-    pub fn write(&mut self, key: usize, start: usize, bytes: &[u8]) -> Result<(), AllocError>
-        requires file { IsSome (bytes_at self.old key) }
-        requires end { start + length bytes.now < 2 ^ 64 }
-        ensures writes { (old : List ℕ) → bytes_at self.old key ≡ Some old → Writes self.old self.new key (if is_ok result then written old start bytes.now else old) }
-        ensures err { OnErr result (SameTree self.old self.new) }
-        ensures objects_held { SameObjects (layer_of self.old) (layer_of self.new) }
-        ensures kinds { (d : ℕ) → IsDirectory self.old d → IsDirectory self.new d }
-        ensures names { (d : ℕ) → names_room self.new d ≡ names_room self.old d }
-        ensures objects { UsesObjects self.old self.new 0 }
-        ensures keeps { IsLayer (layer_of self.old) → IsLayer (layer_of self.new) }
-        ensures nameless { (k : ℕ) → IsNameless self.old k → IsNameless self.new k }
-    {
-        let alloc = self.alloc;
-        let node = &mut self.nodes[key];
-        write_in(alloc, node, start, bytes)
-    }
-
-    /// Gives what stands under a key these attributes, as chmod(2), chown(2) and setxattr(2) do; nothing else changes.
-    pub fn set_attributes(&mut self, key: usize, attributes: Attributes)
-        requires { IsSome (get self.old key) }
-        ensures sets { SetsAttributes self.old self.new key attributes }
-        ensures inode { (i : layers.Inode) → inode_at self.old key ≡ Some i → SetsInode (layer_of self.old) (layer_of self.new) key attributes }
-        ensures directory { (path : List (List ℕ)) → key_at self.old path ≡ Some key → IsDirectory self.old key → SetsDirectory (layer_of self.old) (layer_of self.new) path key attributes }
-        ensures kinds { (d : ℕ) → IsDirectory self.old d → IsDirectory self.new d }
-        ensures names { (d : ℕ) → names_room self.new d ≡ names_room self.old d }
-        ensures objects { UsesObjects self.old self.new 0 }
-        ensures keeps { IsLayer (layer_of self.old) → IsLayer (layer_of self.new) }
-        ensures nameless { (k : ℕ) → IsNameless self.old k → IsNameless self.new k }
-    {
-        let node = &mut self.nodes[key];
-        set_attributes_in(node, attributes);
     }
 
     /// Makes room for so many more names in a directory, and so many more objects.

@@ -42,27 +42,31 @@ gains-since start old V p c a same names g =
     }
 
 module _ (start old new : Layers) (same : ShowsSame start old) (stays : StaysLayers start old) (names : (x : Path) (k : ℕ) → (held (layer_of old.upper) x ≡ Some (Named k)) ↔ (held (layer_of start.upper) x ≡ Some (Named k))) (low : new.lowers ≡ old.lowers) (keep : IsLayer (layer_of old.upper) → IsLayer (layer_of new.upper)) (n : Name) (q : Path) (key : ℕ) (c : Content) (a : Attributes) (absent : shows 0 (layers_of start) (n ∷ q) ≡ None) (placed : PlacesLeaf (layer_of old.upper) (layer_of new.upper) (n ∷ q) key (leaf_of c a)) where
-  makes-at : GainsParents start old (n ∷ q) → get old.upper key ≡ None → KeepsObjects old.upper new.upper (Some key) → MakesLeaf start new (n ∷ q) c a
-  makes-at gains vacant kept = record {
-    lowers = low ∙ same.lowers;
-    number = key;
-    held_there = placed.here;
-    inode = placed.inode;
-    gains = λ h. gains-since start old (layer_of new.upper) (n ∷ q) c a same names (law_of_placed_leaf (layer_of old.upper) (layer_of new.upper) (lowers_of old) (stays h) (keep (stays h).0, (stays h).1) n q key (leaf_of c a) (same.absent (n ∷ q) absent) placed);
-    vacant = vacant_before start.upper old.upper None gains.objects key vacant;
-    others = others-then start old new (n ∷ q) gains low placed.elsewhere
-        (λ m r. ap is_object (nothing-held old.upper (n ∷ q) (free-directory (held (layer_of old.upper) (n ∷ q)) (free-absent (layer_of old.upper).inodes (held (layer_of old.upper) (n ∷ q)) (through (layer_of old.upper) (lowers_of old) (n ∷ q)) (same.absent (n ∷ q) absent))) m r))
-        placed.beneath;
-    objects = keeps_then start.upper old.upper new.upper (Some key) gains.objects kept;
-  }
+  -- is made under its key
+  makes-at : GainsParents start old (n ∷ q) → get old.upper key ≡ None → KeepsObjects old.upper new.upper (Some key) → (leaf : MakesLeaf start new (n ∷ q) c a) × (leaf.number ≡ key)
+  makes-at gains vacant kept = (
+    record {
+      lowers = low ∙ same.lowers;
+      number = key;
+      held_there = placed.here;
+      inode = placed.inode;
+      gains = λ h. gains-since start old (layer_of new.upper) (n ∷ q) c a same names (law_of_placed_leaf (layer_of old.upper) (layer_of new.upper) (lowers_of old) (stays h) (keep (stays h).0, (stays h).1) n q key (leaf_of c a) (same.absent (n ∷ q) absent) placed);
+      vacant = vacant_before start.upper old.upper None gains.objects key vacant;
+      others = others-then start old new (n ∷ q) gains low placed.elsewhere
+          (λ m r. ap is_object (nothing-held old.upper (n ∷ q) (free-directory (held (layer_of old.upper) (n ∷ q)) (free-absent (layer_of old.upper).inodes (held (layer_of old.upper) (n ∷ q)) (through (layer_of old.upper) (lowers_of old) (n ∷ q)) (same.absent (n ∷ q) absent))) m r))
+          placed.beneath;
+      objects = keeps_then start.upper old.upper new.upper (Some key) gains.objects kept;
+    },
+    refl,
+  )
 
   thin-at : StaysThin start old → StaysThin start new
   thin-at thin h = subst (λ (Ls : List Layer). IsThin (layer_of new.upper) Ls) (sym (lowers-same old new low)) ((law_of_thin (layer_of old.upper) (layer_of new.upper) (lowers_of old) (thin h) n q).leaf key (leaf_of c a) placed)
 
--- a file or link at a path that ends in the name
-pub leaf-made : (start old new : Layers) → ShowsSame start old → StaysLayers start old → ((x : Path) (k : ℕ) → (held (layer_of old.upper) x ≡ Some (Named k)) ↔ (held (layer_of start.upper) x ≡ Some (Named k))) → new.lowers ≡ old.lowers → (IsLayer (layer_of old.upper) → IsLayer (layer_of new.upper)) → (p : Path) (n : Name) (q : Path) (key : ℕ) (c : Content) (a : Attributes) → p ≡ n ∷ q → shows 0 (layers_of start) p ≡ None → PlacesLeaf (layer_of old.upper) (layer_of new.upper) (n ∷ q) key (leaf_of c a) → GainsParents start old (n ∷ q) → get old.upper key ≡ None → KeepsObjects old.upper new.upper (Some key) → MakesLeaf start new p c a
+-- a file or link at a path that ends in the name, under its key
+pub leaf-made : (start old new : Layers) → ShowsSame start old → StaysLayers start old → ((x : Path) (k : ℕ) → (held (layer_of old.upper) x ≡ Some (Named k)) ↔ (held (layer_of start.upper) x ≡ Some (Named k))) → new.lowers ≡ old.lowers → (IsLayer (layer_of old.upper) → IsLayer (layer_of new.upper)) → (p : Path) (n : Name) (q : Path) (key : ℕ) (c : Content) (a : Attributes) → p ≡ n ∷ q → shows 0 (layers_of start) p ≡ None → PlacesLeaf (layer_of old.upper) (layer_of new.upper) (n ∷ q) key (leaf_of c a) → GainsParents start old (n ∷ q) → get old.upper key ≡ None → KeepsObjects old.upper new.upper (Some key) → (leaf : MakesLeaf start new p c a) × (leaf.number ≡ key)
 leaf-made start old new same stays names low keep p n q key c a e absent placed gains vacant kept =
-    subst (λ (z : Path). MakesLeaf start new z c a) (sym e) (makes-at start old new same stays names low keep n q key c a (sym (ap (shows 0 (layers_of start)) e) ∙ absent) placed gains vacant kept)
+    subst (λ (z : Path). (leaf : MakesLeaf start new z c a) × (leaf.number ≡ key)) (sym e) (makes-at start old new same stays names low keep n q key c a (sym (ap (shows 0 (layers_of start)) e) ∙ absent) placed gains vacant kept)
 
 pub leaf-thin : (start old new : Layers) → ShowsSame start old → StaysLayers start old → ((x : Path) (k : ℕ) → (held (layer_of old.upper) x ≡ Some (Named k)) ↔ (held (layer_of start.upper) x ≡ Some (Named k))) → new.lowers ≡ old.lowers → (IsLayer (layer_of old.upper) → IsLayer (layer_of new.upper)) → (p : Path) (n : Name) (q : Path) (key : ℕ) (c : Content) (a : Attributes) → p ≡ n ∷ q → shows 0 (layers_of start) p ≡ None → PlacesLeaf (layer_of old.upper) (layer_of new.upper) (n ∷ q) key (leaf_of c a) → StaysThin start old → StaysThin start new
 leaf-thin start old new same stays names low keep p n q key c a e absent placed thin = thin-at start old new same stays names low keep n q key c a (sym (ap (shows 0 (layers_of start)) e) ∙ absent) placed thin

@@ -7,6 +7,7 @@ pub use Rattle.dir_listing.specs.Shown.{TellsNames}
 use Rattle.layer_tree.specs.Tree.{Tree, inode_at, with_less, layer_of}
 use Rattle.layer_tree.specs.Nameless.{IsNameless, KeepsObjects}
 use Rattle.copy_up.specs.Showing.{KeepsOthers}
+pub use Rattle.copy_up.specs.Showing.{number_of}
 use Rattle.merged_lookup.specs.declared.layers.Layers.{Layers}
 use Rattle.merged_lookup.specs.Merged.{layers_of, lowers_of}
 
@@ -14,12 +15,6 @@ use Rattle.merged_lookup.specs.Merged.{layers_of, lowers_of}
 abbrev pub left_at : Layers → Path → Option Object
 left_at l [] = None
 left_at l (n ∷ p) = left_behind (layer_of l.upper) (lowers_of l) n p
-
--- the key of an object that is held
-abbrev pub number_of : Option Object → Option ℕ
-number_of (Some (Directory k a o r)) = Some k
-number_of (Some (Named k)) = Some k
-number_of _ = None
 
 -- whether an inode has more names than this; a directory has none
 abbrev pub has_more : ℕ → Option Inode → Bool

@@ -50,18 +50,18 @@ pub fn symlink(
     Ok(Ok(()))
 }
 
-/// Makes an empty file with this mode, owner 0, group 0 and no user attributes. It is refused as `mkdir` is. A refusal changes nothing,
-/// and want of memory changes nothing that is shown.
+/// Makes an empty file with this mode, owner 0, group 0 and no user attributes, and gives its key in the upper. It is refused as `mkdir`
+/// is. A refusal changes nothing, and want of memory changes nothing that is shown.
 pub fn create(
     alloc: Global,
     layers: &mut Layers,
     path: &Path,
     mode: Mode,
-) -> Result<Result<(), Errno>, AllocError>
+) -> Result<Result<usize, Errno>, AllocError>
     ensures refused { IfOk result (λ r. IfErr r (λ e. mkdir_fault (layers_of layers.old) path.now mode ≡ Some e)) }
     ensures unchanged { IfOk result (λ r. OnErr r (layers.new ≡ layers.old)) }
     ensures allowed { IfOk result (λ r. OnOk r (mkdir_fault (layers_of layers.old) path.now mode ≡ None)) }
-    ensures made { IfOk result (λ r. OnOk r (MakesLeaf layers.old layers.new path.now (content.File []) (made.new_attributes mode))) }
+    ensures made { IfOk result (λ r. IfOk r (λ key. (leaf : MakesLeaf layers.old layers.new path.now (content.File []) (made.new_attributes mode)) × (leaf.number ≡ key))) }
     ensures steps { IfOk result (λ r. OnOk r (CreateSteps layers.old layers.new path.now mode)) }
     ensures no_memory { OnErr result (ShowsSame layers.old layers.new) }
     ensures mounts { OnErr result (StaysMount layers.old layers.new) }
@@ -75,28 +75,28 @@ pub fn create(
         Err(errno) => return Ok(Err(errno)),
     };
     let content = Content::File(Bytes::new(alloc));
-    make_leaf(
+    let key = make_leaf(
         layers,
         directory,
         path,
         content,
         new_attributes(alloc, mode),
     )?;
-    Ok(Ok(()))
+    Ok(Ok(key))
 }
 
-// Makes a file or symbolic link in this merged directory, where nothing is shown.
+// Makes a file or symbolic link in this merged directory, where nothing is shown, and gives its key.
 fn make_leaf(
     layers: &mut Layers,
     directory: Stack,
     path: &Path,
     content: Content,
     attributes: Attributes,
-) -> Result<(), AllocError>
+) -> Result<usize, AllocError>
     requires directory { IsStackOf layers.old (parent path.now) directory }
     requires parents { parents_fault (layers_of layers.old) path.now ≡ None }
     requires absent { shows 0 (layers_of layers.old) path.now ≡ None }
-    ensures made { OnOk result (MakesLeaf layers.old layers.new path.now content attributes) }
+    ensures made { IfOk result (λ key. (leaf : MakesLeaf layers.old layers.new path.now content attributes) × (leaf.number ≡ key)) }
     ensures no_memory { OnErr result (ShowsSame layers.old layers.new) }
     ensures mounts { OnErr result (StaysMount layers.old layers.new) }
     ensures parents { OnErr result (GainsParents layers.old layers.new path.now) }
@@ -108,6 +108,6 @@ fn make_leaf(
     };
     let parent = place_parents(layers, directory, parents)?;
     let dir = parent.top();
-    insert_leaf(layers, dir.key, name, content, attributes)?;
-    Ok(())
+    let key = insert_leaf(layers, dir.key, name, content, attributes)?;
+    Ok(key)
 }

@@ -1,4 +1,4 @@
-// A file of one layer is written, loses its name and is freed.
+// A file of one layer is written, filled and cut, loses its name and is freed.
 ghost use Rattle.std.specs.Prelude.{◌≡◌, ◌≢◌, ℕ, List, Some, None, IsTrue};
 ghost use Rattle.layer_tree.specs.Tree.{child};
 
@@ -44,6 +44,23 @@ fn a_file_is_written(rt: HostRuntime) -> Result<(), Fail> {
     assert!(rt; layer.read(file) == Some(b"ab\0c".as_slice()));
     assert!(rt; matches!(layer.marks(dir), Some(marks) if marks.opaque));
     assert_eq!(rt; layer.names(alloc, dir)?.len(), 1);
+    Ok(())
+}
+
+#[test]
+fn a_file_is_filled_and_cut(rt: HostRuntime) -> Result<(), Fail> {
+    let alloc = rt.alloc();
+    let (mut layer, _, file) = layer_of_one_file(&rt, alloc, RandomState::new(&rt)?)?;
+    for (size, wanted) in [
+        (4, b"ab\0\0".as_slice()),
+        (1, b"a".as_slice()),
+        (2, b"a\0".as_slice()),
+        (0, b"".as_slice()),
+    ] {
+        assert!(rt; layer.read(file).is_some());
+        layer.resize(file, size)?;
+        assert!(rt; layer.read(file) == Some(wanted));
+    }
     Ok(())
 }
 

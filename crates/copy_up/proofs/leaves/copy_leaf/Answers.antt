@@ -13,40 +13,40 @@ insert_leaf-requires c = (reverse c.args.parents.now, copy-place c.args.layers.n
 pub returns-in_err-parent-clause-parents : goal.returns-in_err-parent-clause-parents
 returns-in_err-parent-clause-parents c = on-err _ c.from_residual-in_err-parent.result (c.place_parents.ensures.gains c.args.name.now)
 
-pub returns-in_err-insert_leaf-clause-no_memory : goal.returns-in_err-insert_leaf-clause-no_memory
-returns-in_err-insert_leaf-clause-no_memory c =
-    on-err _ c.from_residual-in_err-insert_leaf.result
-    (same-then c.args.layers.now c.place_parents.new.layers _ c.place_parents.ensures.same (same-unchanged c.place_parents.new.layers _ c.insert_leaf.ensures.lowers c.in_err-insert_leaf.ensures.unchanged (λ k. c.in_err-insert_leaf.ensures.same.inodes k (λ e. cc))))
+pub returns-in_err-key-clause-no_memory : goal.returns-in_err-key-clause-no_memory
+returns-in_err-key-clause-no_memory c =
+    on-err _ c.from_residual-in_err-key.result
+    (same-then c.args.layers.now c.place_parents.new.layers _ c.place_parents.ensures.same (same-unchanged c.place_parents.new.layers _ c.insert_leaf.ensures.lowers c.in_err-key.ensures.unchanged (λ k. c.in_err-key.ensures.same.inodes k (λ e. cc))))
 
-pub returns-in_err-insert_leaf-clause-mounts : goal.returns-in_err-insert_leaf-clause-mounts
-returns-in_err-insert_leaf-clause-mounts c = on-err _ c.from_residual-in_err-insert_leaf.result (λ s h. (stays-unchanged c.place_parents.new.layers c.insert_leaf.new.layers c.insert_leaf.ensures.lowers c.in_err-insert_leaf.ensures.unchanged (λ k. c.in_err-insert_leaf.ensures.same.inodes k (λ e. cc)) c.insert_leaf.ensures.keeps).mounts s (c.place_parents.ensures.mounts s h))
+pub returns-in_err-key-clause-mounts : goal.returns-in_err-key-clause-mounts
+returns-in_err-key-clause-mounts c = on-err _ c.from_residual-in_err-key.result (λ s h. (stays-unchanged c.place_parents.new.layers c.insert_leaf.new.layers c.insert_leaf.ensures.lowers c.in_err-key.ensures.unchanged (λ k. c.in_err-key.ensures.same.inodes k (λ e. cc)) c.insert_leaf.ensures.keeps).mounts s (c.place_parents.ensures.mounts s h))
 
-pub returns-in_err-insert_leaf-clause-parents : goal.returns-in_err-insert_leaf-clause-parents
-returns-in_err-insert_leaf-clause-parents c =
-    on-err _ c.from_residual-in_err-insert_leaf.result
+pub returns-in_err-key-clause-parents : goal.returns-in_err-key-clause-parents
+returns-in_err-key-clause-parents c =
+    on-err _ c.from_residual-in_err-key.result
     (gains-then c.args.layers.now c.place_parents.new.layers _ _ c.place_parents.ensures.same (c.place_parents.ensures.gains c.args.name.now)
-    (gains-unchanged c.place_parents.new.layers _ _ c.insert_leaf.ensures.lowers c.in_err-insert_leaf.ensures.unchanged c.in_err-insert_leaf.ensures.same))
+    (gains-unchanged c.place_parents.new.layers _ _ c.insert_leaf.ensures.lowers c.in_err-key.ensures.unchanged c.in_err-key.ensures.same))
 
-pub returns-in_err-insert_leaf-clause-keeps : goal.returns-in_err-insert_leaf-clause-keeps
-returns-in_err-insert_leaf-clause-keeps c = then-layers c.args.layers.now c.place_parents.new.layers c.insert_leaf.new.layers c.place_parents.ensures.keeps c.insert_leaf.ensures.lowers c.insert_leaf.ensures.keeps
+pub returns-in_err-key-clause-keeps : goal.returns-in_err-key-clause-keeps
+returns-in_err-key-clause-keeps c = then-layers c.args.layers.now c.place_parents.new.layers c.insert_leaf.new.layers c.place_parents.ensures.keeps c.insert_leaf.ensures.lowers c.insert_leaf.ensures.keeps
 
-pub returns-in_err-insert_leaf-clause-thin : goal.returns-in_err-insert_leaf-clause-thin
-returns-in_err-insert_leaf-clause-thin c = λ h. (stays-unchanged c.place_parents.new.layers c.insert_leaf.new.layers c.insert_leaf.ensures.lowers c.in_err-insert_leaf.ensures.unchanged (λ k. c.in_err-insert_leaf.ensures.same.inodes k (λ e. cc)) c.insert_leaf.ensures.keeps).thin (c.place_parents.ensures.thin h)
+pub returns-in_err-key-clause-thin : goal.returns-in_err-key-clause-thin
+returns-in_err-key-clause-thin c = λ h. (stays-unchanged c.place_parents.new.layers c.insert_leaf.new.layers c.insert_leaf.ensures.lowers c.in_err-key.ensures.unchanged (λ k. c.in_err-key.ensures.same.inodes k (λ e. cc)) c.insert_leaf.ensures.keeps).thin (c.place_parents.ensures.thin h)
 
 pub returns-clause-copied : goal.returns-clause-copied
 returns-clause-copied c = λ i shown.
     let n = c.args.name.now in
     let q = reverse c.args.parents.now in
     let gains = c.place_parents.ensures.gains n in
-    let placed = c.in_ok-insert_leaf.ensures.placed q (copy-place c.args.layers.now c.place_parents.new.layers c.place_parents.ensures.same n q gains c.args.place.layer c.args.place.key (Some c.requires.shown.0) c.requires.shown.1 c.requires.lower c.in_ok-parent.parent c.top-dir.result c.in_ok-parent.ensures.stack c.in_ok-parent.ensures.upper c.top-dir.ensures) in
-    leaf-copied c.args.layers.now c.place_parents.new.layers c.insert_leaf.new.layers c.place_parents.ensures.same n q gains c.insert_leaf.ensures.lowers c.in_ok-insert_leaf.field-0 c.args.attributes c.place_parents.ensures.keeps c.place_parents.ensures.names c.insert_leaf.ensures.keeps c.args.place.layer c.args.place.key i shown c.requires.lower
-    (subst (λ (z : Content). PlacesLeaf (layer_of c.place_parents.new.layers.upper) (layer_of c.insert_leaf.new.layers.upper) (n ∷ q) c.in_ok-insert_leaf.field-0 (leaf_of z c.args.attributes)) (c.in_ok-content.ensures (n ∷ q) i shown) placed)
-    c.in_ok-insert_leaf.ensures.vacant c.in_ok-insert_leaf.ensures.objects
+    let placed = c.in_ok-key.ensures.placed q (copy-place c.args.layers.now c.place_parents.new.layers c.place_parents.ensures.same n q gains c.args.place.layer c.args.place.key (Some c.requires.shown.0) c.requires.shown.1 c.requires.lower c.in_ok-parent.parent c.top-dir.result c.in_ok-parent.ensures.stack c.in_ok-parent.ensures.upper c.top-dir.ensures) in
+    leaf-copied c.args.layers.now c.place_parents.new.layers c.insert_leaf.new.layers c.place_parents.ensures.same n q gains c.insert_leaf.ensures.lowers c.in_ok-key.key c.args.attributes c.place_parents.ensures.keeps c.place_parents.ensures.names c.insert_leaf.ensures.keeps c.args.place.layer c.args.place.key i shown c.requires.lower
+    (subst (λ (z : Content). PlacesLeaf (layer_of c.place_parents.new.layers.upper) (layer_of c.insert_leaf.new.layers.upper) (n ∷ q) c.in_ok-key.key (leaf_of z c.args.attributes)) (c.in_ok-content.ensures (n ∷ q) i shown) placed)
+    c.in_ok-key.ensures.vacant c.in_ok-key.ensures.objects
 
 pub returns-clause-thin : goal.returns-clause-thin
 returns-clause-thin c =
     let n = c.args.name.now in
     let q = reverse c.args.parents.now in
     let gains = c.place_parents.ensures.gains n in
-    let placed = c.in_ok-insert_leaf.ensures.placed q (copy-place c.args.layers.now c.place_parents.new.layers c.place_parents.ensures.same n q gains c.args.place.layer c.args.place.key (Some c.requires.shown.0) c.requires.shown.1 c.requires.lower c.in_ok-parent.parent c.top-dir.result c.in_ok-parent.ensures.stack c.in_ok-parent.ensures.upper c.top-dir.ensures) in
-    thin-copied c.args.layers.now c.place_parents.new.layers c.insert_leaf.new.layers c.place_parents.ensures.same n q gains c.insert_leaf.ensures.lowers c.in_ok-insert_leaf.field-0 c.args.attributes c.in_ok-content.content placed c.place_parents.ensures.thin
+    let placed = c.in_ok-key.ensures.placed q (copy-place c.args.layers.now c.place_parents.new.layers c.place_parents.ensures.same n q gains c.args.place.layer c.args.place.key (Some c.requires.shown.0) c.requires.shown.1 c.requires.lower c.in_ok-parent.parent c.top-dir.result c.in_ok-parent.ensures.stack c.in_ok-parent.ensures.upper c.top-dir.ensures) in
+    thin-copied c.args.layers.now c.place_parents.new.layers c.insert_leaf.new.layers c.place_parents.ensures.same n q gains c.insert_leaf.ensures.lowers c.in_ok-key.key c.args.attributes c.in_ok-content.content placed c.place_parents.ensures.thin

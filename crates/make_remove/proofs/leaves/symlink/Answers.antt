@@ -11,4 +11,4 @@ pub returns-clause-steps : goal.returns-clause-steps
 returns-clause-steps c =
     symlink-steps c.args.layers.now c.make_leaf.new.layers c.args.target c.args.path.now
     (symlink-fine (layers_of c.args.layers.now) c.args.target c.args.path.now c.lawful.ensures c.in-Ok.ensures.cases)
-    (subst (λ (a : Attributes). MakesLeaf c.args.layers.now c.make_leaf.new.layers c.args.path.now (content.SymbolicLink c.args.target) a) (c.new_attributes-attributes.ensures ∙ ap new_attributes c.of_links.ensures) c.in_ok-make_leaf.ensures.made)
+    (subst (λ (a : Attributes). MakesLeaf c.args.layers.now c.make_leaf.new.layers c.args.path.now (content.SymbolicLink c.args.target) a) (c.new_attributes-attributes.ensures ∙ ap new_attributes c.of_links.ensures) c.in_ok-make_leaf.ensures.made.0)
