@@ -13,8 +13,8 @@ use Rattle.ov_script.specs.Words.{words}
 use Rattle.ov_script.specs.declared.script.Command.{Command}
 use Rattle.ov_script.specs.declared.script.Command.TheVariants.{Attach, Detach, Call as CallOf, Layer, Merge}
 use Rattle.ov_script.specs.declared.script.CallText.{CallText}
-use Rattle.ov_script.specs.declared.script.CallText.TheVariants.{Stat, Readlink, Chmod, Chown, SetAttribute, GetAttribute, DeleteAttribute, ListAttributes}
-use Rattle.ov_script.specs.declared.script.CallText.TheVariants.{Mkdir, Symlink, Unlink, Rmdir, OpenDirectory, Seek, ListNames, Close}
+use Rattle.ov_script.specs.declared.script.CallText.TheVariants.{Stat, Readlink, Mkdir, Symlink, Unlink, Rmdir, OpenDirectory, Seek, ListNames, Close}
+use Rattle.ov_script.specs.declared.script.CallText.TheVariants.{Chmod, Chown, SetAttribute, GetAttribute, DeleteAttribute, ListAttributes}
 
 -- what two words come to, if each has its form
 abbrev pub both : {A B C : Type 0} → (A → B → C) → Option A → Option B → Option C
