@@ -14,6 +14,7 @@ use Rattle.ov_script.specs.declared.script.Command.{Command}
 use Rattle.ov_script.specs.declared.script.Command.TheVariants.{Attach, Detach, Call as CallOf, Layer, Merge}
 use Rattle.ov_script.specs.declared.script.CallText.{CallText}
 use Rattle.ov_script.specs.declared.script.CallText.TheVariants.{Stat, Readlink, Mkdir, Symlink, Unlink, Rmdir, OpenDirectory, Seek, ListNames, Close}
+use Rattle.ov_script.specs.declared.script.CallText.TheVariants.{Chmod, Chown, SetAttribute, GetAttribute, DeleteAttribute, ListAttributes}
 
 -- what two words come to, if each has its form
 abbrev pub both : {A B C : Type 0} → (A → B → C) → Option A → Option B → Option C
@@ -25,25 +26,29 @@ abbrev pub all_three : {A B C D : Type 0} → (A → B → C → D) → Option A
 all_three f None b c = None
 all_three f (Some a) b c = both (f a) b c
 
--- `stat P`, `readlink P`, `unlink P`, `rmdir P`
+-- `stat P`, `readlink P`, `attrs P`, `unlink P`, `rmdir P`
 abbrev pub call_of_path : List ℕ → List ℕ → Option CallText
 call_of_path name path =
     if bytes_eq name (codes "stat") then Some (Stat path)
     else (if bytes_eq name (codes "readlink") then Some (Readlink path)
+    else (if bytes_eq name (codes "attrs") then Some (ListAttributes path)
     else (if bytes_eq name (codes "unlink") then Some (Unlink path)
-    else (if bytes_eq name (codes "rmdir") then Some (Rmdir path) else None)))
+    else (if bytes_eq name (codes "rmdir") then Some (Rmdir path) else None))))
 
 -- `close FD`, and the calls of one path
 abbrev pub call_of_one : List ℕ → List ℕ → Option CallText
 call_of_one name w = if bytes_eq name (codes "close") then option_map Close (number_of 10 w) else option_and_then (call_of_path name) (spelled_word w)
 
--- `mkdir MODE P`, `symlink TARGET P`, `list FD N`, `open rd P`, whose mode is 0o644
+-- `chmod MODE P`, `getattr P NAME`, `delattr P NAME`, `mkdir MODE P`, `symlink TARGET P`, `list FD N`, `open rd P`, whose mode is 0o644
 abbrev pub call_of_two : List ℕ → List ℕ → List ℕ → Option CallText
 call_of_two name v w =
-    if bytes_eq name (codes "mkdir") then both Mkdir (mode_of v) (spelled_word w)
+    if bytes_eq name (codes "chmod") then both Chmod (mode_of v) (spelled_word w)
+    else (if bytes_eq name (codes "getattr") then both GetAttribute (spelled_word v) (spelled_word w)
+    else (if bytes_eq name (codes "delattr") then both DeleteAttribute (spelled_word v) (spelled_word w)
+    else (if bytes_eq name (codes "mkdir") then both Mkdir (mode_of v) (spelled_word w)
     else (if bytes_eq name (codes "symlink") then both Symlink (spelled_word v) (spelled_word w)
     else (if bytes_eq name (codes "list") then both ListNames (number_of 10 v) (number_of 10 w)
-    else (if bytes_eq name (codes "open") && bytes_eq v (codes "rd") then option_map (λ path. OpenDirectory path 420) (spelled_word w) else None)))
+    else (if bytes_eq name (codes "open") && bytes_eq v (codes "rd") then option_map (λ path. OpenDirectory path 420) (spelled_word w) else None))))))
 
 -- from where a seek counts: the start, the place, or the end
 abbrev pub whence_of : List ℕ → Option ℕ
@@ -52,11 +57,13 @@ whence_of w =
     else (if bytes_eq w (codes "cur") then Some 1
     else (if bytes_eq w (codes "end") then Some 2 else None))
 
--- `seek FD OFFSET set|cur|end`, `open rd P MODE`
+-- `chown UID GID P`, `setattr P NAME VALUE`, `seek FD OFFSET set|cur|end`, `open rd P MODE`
 abbrev pub call_of_three : List ℕ → List ℕ → List ℕ → List ℕ → Option CallText
 call_of_three name u v w =
-    if bytes_eq name (codes "seek") then all_three Seek (number_of 10 u) (offset_of v) (whence_of w)
-    else (if bytes_eq name (codes "open") && bytes_eq u (codes "rd") then both OpenDirectory (spelled_word v) (mode_of w) else None)
+    if bytes_eq name (codes "chown") then all_three Chown (number_of 10 u) (number_of 10 v) (spelled_word w)
+    else (if bytes_eq name (codes "setattr") then all_three SetAttribute (spelled_word u) (spelled_word v) (spelled_word w)
+    else (if bytes_eq name (codes "seek") then all_three Seek (number_of 10 u) (offset_of v) (whence_of w)
+    else (if bytes_eq name (codes "open") && bytes_eq u (codes "rd") then both OpenDirectory (spelled_word v) (mode_of w) else None)))
 
 -- the call of a name and the words after it
 abbrev pub call_text : List ℕ → List (List ℕ) → Option CallText
@@ -108,6 +115,12 @@ on_path make (Err errno) = Err errno
 abbrev pub call_of : CallText → Result Call Errno
 call_of (Stat text) = on_path call.Stat (path_of_text text)
 call_of (Readlink text) = on_path call.Readlink (path_of_text text)
+call_of (Chmod mode text) = on_path (λ path. call.Chmod path mode) (path_of_text text)
+call_of (Chown uid gid text) = on_path (λ path. call.Chown path uid gid) (path_of_text text)
+call_of (SetAttribute text name value) = on_path (λ path. call.SetAttribute path name value) (path_of_text text)
+call_of (GetAttribute text name) = on_path (λ path. call.GetAttribute path name) (path_of_text text)
+call_of (DeleteAttribute text name) = on_path (λ path. call.DeleteAttribute path name) (path_of_text text)
+call_of (ListAttributes text) = on_path call.ListAttributes (path_of_text text)
 call_of (Symlink target text) = on_path (call.Symlink target) (path_of_text text)
 call_of (Unlink text) = on_path call.Unlink (path_of_text text)
 call_of (Rmdir text) = on_path call.Rmdir (path_of_text text)

@@ -1,6 +1,7 @@
 //! Scripts: the commands that lines spell, and the lines that answer them.
 #![tactic(auto)]
 
+mod calls;
 mod escape;
 mod lines;
 mod numbers;

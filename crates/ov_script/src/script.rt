@@ -1,16 +1,13 @@
 // The lines of a script.
-ghost use Rattle.std.specs.Prelude.{◌≡◌, ◌<◌, ◌∷◌, [], IfOk, IfSome, MatchOption, length, nat_eq, position};
+ghost use Rattle.std.specs.Prelude.{◌≡◌, ◌<◌, ◌∷◌, [], IfSome, MatchOption, length, nat_eq, position};
 ghost use Rattle.std.specs.Option.{option_and_then};
 ghost use Rattle.std.specs.Result.{result_ok};
-ghost use Rattle.ov_base.specs.Paths.{path_of_text};
 ghost use Rattle.ov_script.specs.Commands as commands;
 ghost use Rattle.ov_script.specs.Escapes.{spelled_word};
 ghost use Rattle.ov_script.specs.Words.{words};
 
 use crate::escape::EscapedWord;
 use crate::numbers::{decimal, octal_mode, offset};
-use ov_base::{Bytes, Call, Errno, OpenFlags, Path};
-use std::alloc::{AllocError, Global};
 
 /// A line that is no command.
 #[derive(Clone, Copy, Debug, PartialEq, Eq)]
@@ -33,6 +30,31 @@ pub enum CallText<'a> {
         path: EscapedWord<'a>,
     },
     Readlink {
+        path: EscapedWord<'a>,
+    },
+    Chmod {
+        mode: u32,
+        path: EscapedWord<'a>,
+    },
+    Chown {
+        uid: u32,
+        gid: u32,
+        path: EscapedWord<'a>,
+    },
+    SetAttribute {
+        path: EscapedWord<'a>,
+        name: EscapedWord<'a>,
+        value: EscapedWord<'a>,
+    },
+    GetAttribute {
+        path: EscapedWord<'a>,
+        name: EscapedWord<'a>,
+    },
+    DeleteAttribute {
+        path: EscapedWord<'a>,
+        name: EscapedWord<'a>,
+    },
+    ListAttributes {
         path: EscapedWord<'a>,
     },
     Mkdir {
@@ -181,6 +203,8 @@ fn call_of_path<'a>(name: &[u8], word: &'a [u8]) -> Option<CallText<'a>>
         Some(CallText::Stat { path })
     } else if name == b"readlink".as_slice() {
         Some(CallText::Readlink { path })
+    } else if name == b"attrs".as_slice() {
+        Some(CallText::ListAttributes { path })
     } else if name == b"unlink".as_slice() {
         Some(CallText::Unlink { path })
     } else if name == b"rmdir".as_slice() {
@@ -193,7 +217,19 @@ fn call_of_path<'a>(name: &[u8], word: &'a [u8]) -> Option<CallText<'a>>
 fn call_of_two<'a>(name: &[u8], first: &'a [u8], second: &'a [u8]) -> Option<CallText<'a>>
     ensures { result ≡ commands.call_of_two name.now first.now second.now }
 {
-    if name == b"mkdir".as_slice() {
+    if name == b"chmod".as_slice() {
+        let mode = octal_mode(first)?;
+        let path = EscapedWord::parse(second)?;
+        Some(CallText::Chmod { mode, path })
+    } else if name == b"getattr".as_slice() {
+        let path = EscapedWord::parse(first)?;
+        let name = EscapedWord::parse(second)?;
+        Some(CallText::GetAttribute { path, name })
+    } else if name == b"delattr".as_slice() {
+        let path = EscapedWord::parse(first)?;
+        let name = EscapedWord::parse(second)?;
+        Some(CallText::DeleteAttribute { path, name })
+    } else if name == b"mkdir".as_slice() {
         let mode = octal_mode(first)?;
         let path = EscapedWord::parse(second)?;
         Some(CallText::Mkdir { mode, path })
@@ -216,13 +252,23 @@ fn call_of_two<'a>(name: &[u8], first: &'a [u8], second: &'a [u8]) -> Option<Cal
 
 fn call_of_three<'a>(
     name: &[u8],
-    first: &[u8],
+    first: &'a [u8],
     second: &'a [u8],
-    third: &[u8],
+    third: &'a [u8],
 ) -> Option<CallText<'a>>
     ensures { result ≡ commands.call_of_three name.now first.now second.now third.now }
 {
-    if name == b"seek".as_slice() {
+    if name == b"chown".as_slice() {
+        let uid = decimal(first)?;
+        let gid = decimal(second)?;
+        let path = EscapedWord::parse(third)?;
+        Some(CallText::Chown { uid, gid, path })
+    } else if name == b"setattr".as_slice() {
+        let path = EscapedWord::parse(first)?;
+        let name = EscapedWord::parse(second)?;
+        let value = EscapedWord::parse(third)?;
+        Some(CallText::SetAttribute { path, name, value })
+    } else if name == b"seek".as_slice() {
         let descriptor = decimal(first)?;
         let offset = offset(second)?;
         let whence = whence_of(third)?;
@@ -253,71 +299,4 @@ fn whence_of(word: &[u8]) -> Option<u8>
     } else {
         None
     }
-}
-
-impl CallText<'_> {
-    /// The call, or why its path text is refused.
-    pub fn call(&self, alloc: Global) -> Result<Result<Call, Errno>, AllocError>
-        ensures { IfOk result (λ outcome. outcome ≡ commands.call_of self.now) }
-    {
-        match self {
-            CallText::Stat { path } => { Ok(path_of(alloc, path)?.map(|path| Call::Stat { path })) }
-            CallText::Readlink { path } => {
-                Ok(path_of(alloc, path)?.map(|path| Call::Readlink { path }))
-            }
-            CallText::Symlink { target, path } => {
-                let target = Bytes::from_vec(target.bytes(alloc)?);
-                Ok(path_of(alloc, path)?.map(|path| Call::Symlink { target, path }))
-            }
-            CallText::Unlink { path } => {
-                Ok(path_of(alloc, path)?.map(|path| Call::Unlink { path }))
-            }
-            CallText::Rmdir { path } => {
-                Ok(path_of(alloc, path)?.map(|path| Call::Rmdir { path }))
-            }
-            CallText::Mkdir { mode, path } => {
-                let mode = *mode;
-                Ok(path_of(alloc, path)?.map(|path| Call::Mkdir { path, mode }))
-            }
-            CallText::OpenDirectory { path, mode } => {
-                let mode = *mode;
-                let flags = READ_DIRECTORY;
-                Ok(path_of(alloc, path)?.map(|path| Call::Open { path, flags, mode }))
-            }
-            CallText::Seek {
-                descriptor,
-                offset,
-                whence,
-            } => Ok(Ok(Call::Seek {
-                descriptor: *descriptor,
-                offset: *offset,
-                whence: *whence,
-            })),
-            CallText::ListNames { descriptor, count } => Ok(Ok(Call::ListNames {
-                descriptor: *descriptor,
-                count: *count,
-            })),
-            CallText::Close { descriptor } => Ok(Ok(Call::Close {
-                descriptor: *descriptor,
-            })),
-        }
-    }
-}
-
-const READ_DIRECTORY: OpenFlags = OpenFlags {
-    reads: true,
-    writes: false,
-    create: false,
-    exclusive: false,
-    truncate: false,
-    append: false,
-    directory: true,
-    unknown: false,
-};
-
-fn path_of(alloc: Global, word: &EscapedWord<'_>) -> Result<Result<Path, Errno>, AllocError>
-    ensures { IfOk result (λ outcome. outcome ≡ path_of_text word.now) }
-{
-    let text = word.bytes(alloc)?;
-    Path::parse(alloc, text.as_slice())
 }

@@ -1,4 +1,4 @@
-// Scripts made by a seeded generator: names `a` to `c`, three names deep, two clients.
+// Scripts made by a seeded generator: names `a` to `c`, three names deep, user attributes `user.a` to `user.c`, two clients.
 use crate::engine::run_of;
 use crate::playing::reference_difference;
 use std::alloc::{AllocError, Global};
@@ -59,14 +59,14 @@ fn script_difference(
     Ok(found)
 }
 
-// Two clients come, make calls, and one goes; then the whole tree is printed.
+// Two clients come, make calls, and one goes; then some user attributes and the whole tree are printed.
 fn script_of(alloc: Global, seed: u64) -> Result<String, AllocError> {
     let mut dice = Dice { state: seed };
     let mut script = String::from_str(alloc, "attach\nattach\n")?;
     for _ in 0..LINES {
         push_call(alloc, &mut dice, &mut script)?;
     }
-    script.push_str("1 detach\nmerge\n")?;
+    script.push_str("1 detach\n0 attrs /a\n0 attrs /a/b\n0 attrs /c\nmerge\n")?;
     Ok(script)
 }
 
@@ -74,13 +74,15 @@ fn script_of(alloc: Global, seed: u64) -> Result<String, AllocError> {
 fn push_call(alloc: Global, dice: &mut Dice, script: &mut String) -> Result<(), AllocError> {
     let client = dice.roll(2);
     let small = dice.roll(4);
-    let kind = dice.roll(13);
+    let kind = dice.roll(20);
     push_around(alloc, client, ("", " "), script)?;
     if kind < 4 {
         push_descriptor_call(alloc, kind, small, script)?;
-    } else {
+    } else if kind < 16 {
         push_path_call(alloc, kind, small, script)?;
         push_path(dice, script)?;
+    } else {
+        push_attribute_call(alloc, dice, (kind, small), script)?;
     }
     script.push_str("\n")
 }
@@ -113,8 +115,35 @@ fn push_path_call(
         8 => script.push_str("readlink "),
         9 => push_around(alloc, small, ("symlink t", " "), script),
         10 | 11 => script.push_str("unlink "),
-        _ => script.push_str("rmdir "),
+        12 => script.push_str("rmdir "),
+        13 => push_around(alloc, small, ("chmod 7", "0 "), script),
+        14 => push_around(alloc, small, ("chown ", " 7 "), script),
+        _ => script.push_str("attrs "),
     }
+}
+
+// A call on one user attribute.
+fn push_attribute_call(
+    alloc: Global,
+    dice: &mut Dice,
+    (kind, small): (u8, u8),
+    script: &mut String,
+) -> Result<(), AllocError> {
+    script.push_str(match kind {
+        16 | 17 => "setattr ",
+        18 => "getattr ",
+        _ => "delattr ",
+    })?;
+    push_path(dice, script)?;
+    script.push_str(match dice.roll(3) {
+        0 => " user.a",
+        1 => " user.b",
+        _ => " user.c",
+    })?;
+    if kind < 18 {
+        push_around(alloc, small, (" ", ""), script)?;
+    }
+    Ok(())
 }
 
 // A number between two texts.

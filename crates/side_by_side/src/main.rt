@@ -23,12 +23,13 @@ use std::rt::Files;
 use std::{fs, io};
 
 /// The files of the rows, each on one subject.
-const FILES: [&str; 9] = [
+const FILES: [&str; 10] = [
     "look_up.rows",
     "redirects.rows",
     "listings.rows",
     "making_and_removing.rows",
     "refusals.rows",
+    "attributes.rows",
     "descriptors_and_clients.rows",
     "script_forms.rows",
     "manifest_faults.rows",

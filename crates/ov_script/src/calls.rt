@@ -1,0 +1,169 @@
+// The calls that texts ask for.
+ghost use Rattle.std.specs.Prelude.{◌≡◌, IfOk};
+ghost use Rattle.ov_base.specs.Paths.{path_of_text};
+ghost use Rattle.ov_script.specs.Commands as commands;
+ghost use Rattle.ov_script.specs.declared.script.CallText.TheVariants as text;
+
+use crate::escape::EscapedWord;
+use crate::script::CallText;
+use ov_base::{Bytes, Call, Errno, OpenFlags, Path};
+use std::alloc::{AllocError, Global};
+
+const READ_DIRECTORY: OpenFlags = OpenFlags {
+    reads: true,
+    writes: false,
+    create: false,
+    exclusive: false,
+    truncate: false,
+    append: false,
+    directory: true,
+    unknown: false,
+};
+
+impl CallText<'_> {
+    /// The call, or why its path text is refused.
+    pub fn call(&self, alloc: Global) -> Result<Result<Call, Errno>, AllocError>
+        ensures { IfOk result (λ outcome. outcome ≡ commands.call_of self.now) }
+    {
+        match self {
+            CallText::Stat { path } => Ok(path_of(alloc, path)?.map(|path| Call::Stat { path })),
+            CallText::Readlink { path } => {
+                Ok(path_of(alloc, path)?.map(|path| Call::Readlink { path }))
+            }
+            CallText::Chmod { mode, path } => chmod(alloc, *mode, path),
+            CallText::Chown { uid, gid, path } => chown(alloc, *uid, *gid, path),
+            CallText::SetAttribute { path, name, value } => set_attribute(alloc, path, name, value),
+            CallText::GetAttribute { path, name } => get_attribute(alloc, path, name),
+            CallText::DeleteAttribute { path, name } => delete_attribute(alloc, path, name),
+            CallText::ListAttributes { path } => {
+                Ok(path_of(alloc, path)?.map(|path| Call::ListAttributes { path }))
+            }
+            CallText::Mkdir { mode, path } => mkdir(alloc, *mode, path),
+            CallText::Symlink { target, path } => symlink(alloc, target, path),
+            CallText::OpenDirectory { path, mode } => open_directory(alloc, path, *mode),
+            CallText::Unlink { path } => {
+                Ok(path_of(alloc, path)?.map(|path| Call::Unlink { path }))
+            }
+            CallText::Rmdir { path } => {
+                Ok(path_of(alloc, path)?.map(|path| Call::Rmdir { path }))
+            }
+            CallText::Seek {
+                descriptor,
+                offset,
+                whence,
+            } => Ok(Ok(Call::Seek {
+                descriptor: *descriptor,
+                offset: *offset,
+                whence: *whence,
+            })),
+            CallText::ListNames { descriptor, count } => Ok(Ok(Call::ListNames {
+                descriptor: *descriptor,
+                count: *count,
+            })),
+            CallText::Close { descriptor } => Ok(Ok(Call::Close {
+                descriptor: *descriptor,
+            })),
+        }
+    }
+}
+
+fn path_of(alloc: Global, word: &EscapedWord<'_>) -> Result<Result<Path, Errno>, AllocError>
+    ensures { IfOk result (λ outcome. outcome ≡ path_of_text word.now) }
+{
+    let text = word.bytes(alloc)?;
+    Path::parse(alloc, text.as_slice())
+}
+
+fn bytes_of(alloc: Global, word: &EscapedWord<'_>) -> Result<Bytes, AllocError>
+    ensures { IfOk result (λ bytes. bytes ≡ word.now) }
+{
+    Ok(Bytes::from_vec(word.bytes(alloc)?))
+}
+
+fn chmod(
+    alloc: Global,
+    mode: u32,
+    path: &EscapedWord<'_>,
+) -> Result<Result<Call, Errno>, AllocError>
+    ensures { IfOk result (λ outcome. outcome ≡ commands.call_of (text.Chmod mode path.now)) }
+{
+    Ok(path_of(alloc, path)?.map(|path| Call::Chmod { path, mode }))
+}
+
+fn chown(
+    alloc: Global,
+    uid: u32,
+    gid: u32,
+    path: &EscapedWord<'_>,
+) -> Result<Result<Call, Errno>, AllocError>
+    ensures { IfOk result (λ outcome. outcome ≡ commands.call_of (text.Chown uid gid path.now)) }
+{
+    Ok(path_of(alloc, path)?.map(|path| Call::Chown { path, uid, gid }))
+}
+
+fn set_attribute(
+    alloc: Global,
+    path: &EscapedWord<'_>,
+    name: &EscapedWord<'_>,
+    value: &EscapedWord<'_>,
+) -> Result<Result<Call, Errno>, AllocError>
+    ensures { IfOk result (λ outcome. outcome ≡ commands.call_of (text.SetAttribute path.now name.now value.now)) }
+{
+    let name = bytes_of(alloc, name)?;
+    let value = bytes_of(alloc, value)?;
+    Ok(path_of(alloc, path)?.map(|path| Call::SetAttribute { path, name, value }))
+}
+
+fn get_attribute(
+    alloc: Global,
+    path: &EscapedWord<'_>,
+    name: &EscapedWord<'_>,
+) -> Result<Result<Call, Errno>, AllocError>
+    ensures { IfOk result (λ outcome. outcome ≡ commands.call_of (text.GetAttribute path.now name.now)) }
+{
+    let name = bytes_of(alloc, name)?;
+    Ok(path_of(alloc, path)?.map(|path| Call::GetAttribute { path, name }))
+}
+
+fn delete_attribute(
+    alloc: Global,
+    path: &EscapedWord<'_>,
+    name: &EscapedWord<'_>,
+) -> Result<Result<Call, Errno>, AllocError>
+    ensures { IfOk result (λ outcome. outcome ≡ commands.call_of (text.DeleteAttribute path.now name.now)) }
+{
+    let name = bytes_of(alloc, name)?;
+    Ok(path_of(alloc, path)?.map(|path| Call::DeleteAttribute { path, name }))
+}
+
+fn mkdir(
+    alloc: Global,
+    mode: u32,
+    path: &EscapedWord<'_>,
+) -> Result<Result<Call, Errno>, AllocError>
+    ensures { IfOk result (λ outcome. outcome ≡ commands.call_of (text.Mkdir mode path.now)) }
+{
+    Ok(path_of(alloc, path)?.map(|path| Call::Mkdir { path, mode }))
+}
+
+fn symlink(
+    alloc: Global,
+    target: &EscapedWord<'_>,
+    path: &EscapedWord<'_>,
+) -> Result<Result<Call, Errno>, AllocError>
+    ensures { IfOk result (λ outcome. outcome ≡ commands.call_of (text.Symlink target.now path.now)) }
+{
+    let target = bytes_of(alloc, target)?;
+    Ok(path_of(alloc, path)?.map(|path| Call::Symlink { target, path }))
+}
+
+fn open_directory(
+    alloc: Global,
+    path: &EscapedWord<'_>,
+    mode: u32,
+) -> Result<Result<Call, Errno>, AllocError>
+    ensures { IfOk result (λ outcome. outcome ≡ commands.call_of (text.OpenDirectory path.now mode)) }
+{
+    let flags = READ_DIRECTORY;
+    Ok(path_of(alloc, path)?.map(|path| Call::Open { path, flags, mode }))
+}
