@@ -1,5 +1,5 @@
 -- The calls that change the layers: what becomes of open directories, and the machine's steps.
-use Rattle.std.proofs.Common.{arith, ◌≡◌, ◌≢◌, ℕ, ◌<◌, Bool, true, false, not, cond, List, [], ◌∷◌, ◌++◌, Option, None, Some, IsSome, refl, sym, ap, ◌∙◌, subst, is_some}
+use Rattle.std.proofs.Common.{arith, ◌≡◌, ◌≢◌, ℕ, ◌<◌, Bool, true, false, not, cond, List, [], ◌∷◌, ◌++◌, Option, None, Some, Ok, Err, IsSome, refl, sym, ap, ◌∙◌, subst, is_some}
 use Rattle.std.specs.Option.{option_and_then, option_map}
 use Rattle.std.specs.BTreeMap.{get}
 use Rattle.std.specs.Ordering.{nat_cmp}
@@ -24,6 +24,7 @@ use Rattle.merged_lookup.specs.Merged.{layers_of, lowers_of}
 use Rattle.mount_laws.specs.Looks.{or_else, walk_fault, IsMountOf, KeepsHidden, Makes, mkdir_fault}
 use Rattle.mount_laws.specs.Leaves.{MakesLink, symlink_fault}
 use Rattle.mount_laws.specs.Removals.{folder_attributes, Removes, unlink_fault, rmdir_fault, ShowsNoName}
+use Rattle.mount_laws.specs.Altered.{AltersState}
 use Rattle.mount_laws.proofs.Looks.{law_of_mkdir}
 use Rattle.mount_laws.proofs.Refusing.{law_of_symlink, law_of_unlink, law_of_rmdir}
 use Rattle.overlay_core.specs.declared.clients.Clients.{Clients}
@@ -34,10 +35,11 @@ use Rattle.open_handles.specs.Opened as places
 use Rattle.open_handles.specs.Opened.{Location, At, Removed, NoneBelow, after_removal}
 use Rattle.open_handles.specs.declared.descriptors.OpenDirectory.{OpenDirectory}
 use Rattle.overlay_core.specs.declared.mount.Mount.{Mount}
+use Rattle.overlay_core.specs.Altering.{AltersUnless}
 use Rattle.overlay_core.specs.Attaching.{opened_by}
 use Rattle.overlay_core.specs.Held.{handles_below}
 use Rattle.overlay_core.specs.Removing.{IsOpenNowhere, HasAttributes, RemovesOpen}
-use Rattle.overlay_core.specs.States.{Stands, IsHandle, IsSlot, AreTables, IsStateOf, Serves}
+use Rattle.overlay_core.specs.States.{Stands, IsHandle, IsSlot, AreTables, AreUnwatched, IsStateOf, Serves}
 use Rattle.overlay_core.proofs.Answering.{serve-refused, serve-done}
 use Rattle.overlay_core.proofs.Counting.{below-find}
 use Rattle.overlay_core.proofs.Serving.{slot-as, slot-open, tables-moved}
@@ -219,6 +221,25 @@ module _ (m : Mount) (s : State) (st : IsStateOf m s) (new : Layers) where
   -- a new serial is free
   free : s.tree (New s.serial) ≡ None
   free = st.layers.kept.unused s.serial (omega arith)
+
+  -- a call that alters what a path shows, and no watch
+  pub altered-done : (c : ℕ) (p : Path) (k : Call) (fault : Option Errno) → refusal s c k ≡ fault → (after s c k).instances ≡ s.instances → AltersUnless fault m.layers new p k (Ok (Ok tt)) → Serves (refusal s c k) s c k reply.Done (record m { layers = new })
+  altered-done c p k fault law same y =
+      let u : Tree = (after s c k).tree in
+      let x : AltersState (layer_of new.upper) (lowers_of new) s c p k = y.alters s st.layers c in
+      serve-done _ s c k reply.Done _ (law ∙ y.allowed) (sym x.answer)
+      (record {
+        layers = x.mounts;
+        tables = subst (AreTables u m.clients) (sym x.tables)
+            (tables-moved s.tree m.clients s.tables st.tables u
+            (λ b fd o h at on is. handle-on s.tree u (λ q d at. x.paths q ∙ at) x.hidden (λ d f. x.folders d ∙ f) m.clients.directories o h is));
+        arrived = st.arrived;
+        unwatched = subst AreUnwatched (sym same) st.unwatched;
+      })
+
+  -- and its refusal
+  pub altered-refused : (c : ℕ) (p : Path) (k : Call) (fault : Option Errno) (e : Errno) → refusal s c k ≡ fault → AltersUnless fault m.layers new p k (Ok (Err e)) → Serves (refusal s c k) s c k (reply.Refused e) (record m { layers = new })
+  altered-refused c p k fault e law x = refused c k e (law ∙ x.refused) x.unchanged
 
   pub mkdir-done : (c : ℕ) (p : Path) (mode : ℕ) → mkdir_fault Ls p mode ≡ None → Makes (layer_of new.upper) (lowers_of new) s c p mode → Serves (refusal s c (call.Mkdir p mode)) s c (call.Mkdir p mode) reply.Done (record m { layers = new })
   mkdir-done c p mode ok x =

@@ -9,6 +9,9 @@ pub mod Changing
 pub mod Linking
 pub mod Paging
 pub mod Parsed
+pub mod Naming
+pub mod Altering
+pub mod Reading
 pub mod Coming
 pub mod Leaving
 pub mod Freed

@@ -7,6 +7,7 @@ pub mod Keeping
 pub mod Opening
 pub mod States
 pub mod Removing
+pub mod Altering
 pub mod Agreement
 pub mod Mounting
 pub mod Jobs

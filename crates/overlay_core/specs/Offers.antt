@@ -11,6 +11,12 @@ reads_directory f = f.reads && f.directory && not (f.writes || f.create || f.exc
 abbrev pub is_offered : Call → Bool
 is_offered (call.Stat p) = true
 is_offered (call.Readlink p) = true
+is_offered (call.Chmod p mode) = true
+is_offered (call.Chown p uid gid) = true
+is_offered (call.SetAttribute p n v) = true
+is_offered (call.GetAttribute p n) = true
+is_offered (call.DeleteAttribute p n) = true
+is_offered (call.ListAttributes p) = true
 is_offered (call.Mkdir p mode) = true
 is_offered (call.Symlink target p) = true
 is_offered (call.Open p f mode) = reads_directory f

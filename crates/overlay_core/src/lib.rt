@@ -1,6 +1,8 @@
 //! The core: a mount with the clients on it, whose calls are steps of the plain machine.
 #![tactic(auto)]
 
+mod attribute_calls;
+mod attributes;
 mod clients;
 mod closing;
 mod job;
@@ -9,6 +11,7 @@ mod mounted;
 mod removals;
 mod schedule;
 mod status;
+mod user_attributes;
 
 pub use job::{Job, Standing};
 pub use mount::Mount;

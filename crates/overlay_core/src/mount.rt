@@ -29,9 +29,9 @@ const LIST_MAX: u32 = 256;
 /// The layers of a mount and the clients attached to it.
 #[derive(Drop)]
 pub struct Mount {
-    layers: Layers,
+    pub(crate) layers: Layers,
     clients: Clients,
-    alloc: Global,
+    pub(crate) alloc: Global,
 }
 
 impl Mount {
@@ -116,8 +116,9 @@ impl Mount {
         self.clients.detach(client);
     }
 
-    /// Makes a call of a client that is attached. Offered are stat, readlink, mkdir, symlink, open of a directory for reading, unlink,
-    /// rmdir, seek, list and close; another is EOPNOTSUPP and changes nothing. Want of memory leaves all that is shown as it was.
+    /// Makes a call of a client that is attached. Offered are stat, readlink, chmod, chown, the calls on user attributes, mkdir, symlink,
+    /// open of a directory for reading, unlink, rmdir, seek, list and close; another is EOPNOTSUPP and changes nothing. Want of memory
+    /// leaves all that is shown as it was.
     pub(crate) fn perform(&mut self, client: u64, call: &Call) -> Result<Reply, AllocError>
         requires there { IsSome (get nat_cmp self.old.clients.attached client) }
         requires state { ∥ HasStateOf self.old ∥₁ }
@@ -134,6 +135,12 @@ impl Mount {
         match call {
             Call::Stat { path } => Ok(self.stat(path)),
             Call::Readlink { path } => self.readlink(path),
+            Call::Chmod { path, mode } => self.chmod(path, *mode),
+            Call::Chown { path, uid, gid } => self.chown(path, *uid, *gid),
+            Call::SetAttribute { path, name, value } => self.set_attribute(path, name, value),
+            Call::GetAttribute { path, name } => self.get_attribute(path, name),
+            Call::DeleteAttribute { path, name } => self.delete_attribute(path, name),
+            Call::ListAttributes { path } => self.list_attributes(path),
             Call::Mkdir { path, mode } => self.mkdir(path, *mode),
             Call::Symlink { target, path } => self.symlink(target, path),
             Call::Unlink { path } => self.unlink(path),

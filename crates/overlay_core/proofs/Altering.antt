@@ -1,0 +1,137 @@
+-- The calls that change attributes, by how they end.
+use Rattle.std.proofs.Common.{◌≡◌, ℕ, Bool, true, false, not, ◌&&◌, is_none, length, nat_lt, List, Option, None, Some, Result, Ok, Err, MatchResult, IfOk, IfErr, refl, sym, ap, ◌∙◌, subst}
+use Rattle.std.specs.declared.alloc.AllocError.{AllocError}
+use Rattle.ov_base.specs.declared.attributes.Attributes.{Attributes}
+use Rattle.ov_base.specs.declared.call.Call.{Call}
+use Rattle.ov_base.specs.declared.errno.Errno.{Errno}
+use Rattle.ov_base.specs.declared.errno.Errno.TheVariants.{ELOOP}
+use Rattle.plain_model.specs.Layers.{Path, Inode, Layer, Shown, Contents, shows, AreLayers}
+use Rattle.plain_model.specs.Machine.{value_of}
+use Rattle.plain_model.specs.Refusals.{when, bad_attribute}
+use Rattle.layer_tree.specs.Tree.{layer_of}
+use Rattle.merged_lookup.specs.declared.layers.Layers.{Layers}
+use Rattle.merged_lookup.specs.Merged.{layers_of, lowers_of, parent, IsFound, IsStackOf}
+use Rattle.mount_laws.specs.Looks.{or_else, walk_fault, is_link_inode, shows_link}
+use Rattle.mount_laws.specs.Attributes.{user_in, shown_attributes, chown_fault, set_fault, get_fault}
+use Rattle.mount_laws.specs.Altered.{Alters, AltersBy, AltersState}
+use Rattle.copy_up.specs.Showing.{ShowsSame, StaysLayers, StaysMount, StaysThin}
+use Rattle.copy_up.proofs.Keeping.{lowers-same}
+use Rattle.overlay_core.specs.declared.attributes.Change.{Change}
+use Rattle.overlay_core.specs.Altering.{AltersUnless, IsChange, IsOpenTo, ShowsAttributes}
+
+-- layers show what they show
+same-shown : (l : Layers) → ShowsSame l l
+same-shown l = record { lowers = refl; sights = λ p. refl; absent = λ p h. h; passes = record { cuts = λ p. refl; spelling = λ p. refl } }
+
+module _ (fault : List Layer → Option Errno) (old : Layers) (p : Path) (k : Call) where
+  abbrev Ends : Layers → Result (Result (Unit {0}) Errno) AllocError → Type 0
+  Ends new r = AltersUnless (fault (layers_of old)) old new p k r
+
+  -- by a refusal
+  pub alters-refused : (e : Errno) → fault (layers_of old) ≡ Some e → Ends old (Ok (Err e))
+  alters-refused e h = record {
+    refused = h;
+    unchanged = refl;
+    allowed = tt;
+    alters = tt;
+    lowers = refl;
+    keeps = λ x. x;
+    thin = λ x. x;
+    no_memory = tt;
+    mounts = tt;
+  }
+
+  -- for want of memory, where nothing was begun
+  pub alters-unbegun : (e : AllocError) → Ends old (Err e)
+  alters-unbegun e = record {
+    refused = tt;
+    unchanged = tt;
+    allowed = tt;
+    alters = tt;
+    lowers = refl;
+    keeps = λ x. x;
+    thin = λ x. x;
+    no_memory = same-shown old;
+    mounts = λ s m. m;
+  }
+
+  module _ (new : Layers) (low : new.lowers ≡ old.lowers) (keeps : StaysLayers old new) (thin : StaysThin old new) where
+    -- for want of memory, half way
+    pub alters-wanted : (e : AllocError) → ShowsSame old new → StaysMount old new → Ends new (Err e)
+    alters-wanted e same mounts = record {
+      refused = tt;
+      unchanged = tt;
+      allowed = tt;
+      alters = tt;
+      lowers = low;
+      keeps = keeps;
+      thin = thin;
+      no_memory = same;
+      mounts = mounts;
+    }
+
+    -- with the attributes that the call gives
+    pub alters-done : (f : Attributes → Attributes) → AltersBy f p fault k → (x : Change) → fault (layers_of old) ≡ None → IsChange f old p x → (AreLayers (layers_of old) → Alters (layer_of old.upper) (layer_of new.upper) (lowers_of old) p x.attributes) → Ends new (Ok (Ok tt))
+    alters-done f law x none h alters = record {
+      refused = tt;
+      unchanged = tt;
+      allowed = none;
+      alters = λ s m c.
+          subst (λ (ls : List Layer). AltersState (layer_of new.upper) ls s c p k) (sym (lowers-same old new low))
+          (law (layer_of old.upper) (layer_of new.upper) (lowers_of old) s m c none h.before h.shown
+          (subst (λ (a : Attributes). Alters (layer_of old.upper) (layer_of new.upper) (lowers_of old) p a) h.after (alters m.layers)));
+      lowers = low;
+      keeps = keeps;
+      thin = thin;
+      no_memory = tt;
+      mounts = tt;
+    }
+
+-- what is told of an inode is told where it is shown
+pub open-as : {A : Type 0} (now : A → Attributes) (r : Result A Errno) (s : Option Shown) (j k : ℕ) (i : Option Inode) → s ≡ Some (Contents j k i) → MatchResult r (λ a. IsOpenTo (Some (Contents 0 0 i)) (now a)) (λ e. (e ≡ ELOOP) × (is_link_inode i ≡ true)) → MatchResult r (λ a. IsOpenTo s (now a)) (λ e. (e ≡ ELOOP) × (shows_link s ≡ true))
+open-as now (Ok a) s j k i is h = record { no_link = ap shows_link is ∙ h.no_link; attributes = ap shown_attributes is ∙ h.attributes }
+open-as now (Err e) s j k i is h = (h.0, ap shows_link is ∙ h.1)
+
+-- a symbolic link is the refusal of chown where the walk isn't refused
+pub chown-link : (Ls : List Layer) (p : Path) → walk_fault Ls p ≡ None → shows_link (shows 0 Ls p) ≡ true → chown_fault Ls p ≡ Some ELOOP
+chown-link Ls p none link = ap (λ w. or_else w (when (shows_link (shows 0 Ls p)) ELOOP)) none ∙ ap (λ b. when b ELOOP) link
+
+-- what is no symbolic link shows its attributes there
+pub shows-open : (Ls : List Layer) (p : Path) (a : Attributes) → walk_fault Ls p ≡ None → IsOpenTo (shows 0 Ls p) a → ShowsAttributes Ls p a
+shows-open Ls p a none h = record { allowed = ap (λ w. or_else w (when (shows_link (shows 0 Ls p)) ELOOP)) none ∙ ap (λ b. when b ELOOP) h.no_link; shown = h.attributes }
+
+-- and so where either is told
+pub refused-open : {A : Type 0} (now : A → Attributes) (r : Result A Errno) (Ls : List Layer) (p : Path) → walk_fault Ls p ≡ None → MatchResult r (λ a. IsOpenTo (shows 0 Ls p) (now a)) (λ e. (e ≡ ELOOP) × (shows_link (shows 0 Ls p) ≡ true)) → IfErr r (λ e. chown_fault Ls p ≡ Some e)
+refused-open now (Ok a) Ls p none h = tt
+refused-open now (Err e) Ls p none h = chown-link Ls p none h.1 ∙ ap Some (sym h.0)
+
+pub told-open : {A : Type 0} (now : A → Attributes) (r : Result A Errno) (Ls : List Layer) (p : Path) → walk_fault Ls p ≡ None → MatchResult r (λ a. IsOpenTo (shows 0 Ls p) (now a)) (λ e. (e ≡ ELOOP) × (shows_link (shows 0 Ls p) ≡ true)) → IfOk r (λ a. ShowsAttributes Ls p (now a))
+told-open now (Ok a) Ls p none h = shows-open Ls p (now a) none h
+told-open now (Err e) Ls p none h = tt
+
+-- where chown isn't refused, neither is the walk
+pub walk-none : (Ls : List Layer) (p : Path) → chown_fault Ls p ≡ None → walk_fault Ls p ≡ None
+walk-none Ls p h = of (walk_fault Ls p) h
+  where
+    of : (w : Option Errno) → or_else w (when (shows_link (shows 0 Ls p)) ELOOP) ≡ None → w ≡ None
+    of None h = refl
+    of (Some e) h = cc
+
+-- a set is not refused where its name, its value and the path are not, and there is room
+pub set-none : (Ls : List Layer) (p : Path) (n v : List ℕ) (a : Attributes) → bad_attribute n ≡ None → nat_lt 1024 (length v) ≡ false → ShowsAttributes Ls p a → (is_none (value_of a.user n) && not (nat_lt (length a.user) 64)) ≡ false → set_fault Ls p n v ≡ None
+set-none Ls p n v a good short s room = rw (good, short, s.allowed, ap user_in s.shown, room) refl
+
+-- a delete is not refused where its name and the path are not, and the name is set
+pub get-none : (Ls : List Layer) (p : Path) (n : List ℕ) (a : Attributes) → bad_attribute n ≡ None → ShowsAttributes Ls p a → is_none (value_of a.user n) ≡ false → get_fault Ls p n ≡ None
+get-none Ls p n a good s there = rw (good, s.allowed, ap user_in s.shown, there) refl
+
+-- a change of the attributes that are shown
+pub changes-shown : (f : Attributes → Attributes) (l : Layers) (p : Path) (x : Change) (a : Attributes) → ShowsAttributes (layers_of l) p a → IsStackOf l (parent p) x.directory → IsFound l p x.found → x.attributes ≡ f a → IsChange f l p x
+changes-shown f l p x a s directory found after = record {
+  walked = walk-none (layers_of l) p s.allowed;
+  directory = directory;
+  found = found;
+  before = a;
+  shown = s.shown;
+  after = after;
+}

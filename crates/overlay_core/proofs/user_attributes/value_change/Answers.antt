@@ -1,0 +1,23 @@
+use Rattle.std.proofs.Common.{length, sym, ◌∙◌, subst}
+use Rattle.std.proofs.lemmas.Bool.{le-ltb}
+use Rattle.merged_lookup.specs.declared.found.Found.{Found}
+use Rattle.merged_lookup.specs.declared.stack.Stack.{Stack}
+use Rattle.merged_lookup.specs.Merged.{layers_of, parent, IsFound, IsStackOf}
+use Rattle.overlay_core.proofs.Altering.{set-none, changes-shown}
+use Rattle.overlay_core.proofs.user_attributes.value_change.Goals as goal
+
+pub returns : goal.returns
+returns c =
+    let same = rw c.in-Ok.is at c.in_ok-name.ensures.same in
+    let shown = c.in-Ok-target_at.ensures.shown in
+    (
+      set-none (layers_of c.args.layers.now) c.args.path.now c.args.name.now c.args.value.now c.in-Ok-target_at.target.attributes.now
+          (rw c.in-Ok.is at c.in_ok-name.ensures.allowed)
+          (le-ltb 1024 (length c.args.value.now) (rw c.as_slice.ensures at c.if-as_slice-gt-VALUE_MAX.false))
+          shown
+          (rw (c.as_bytes.ensures, same) at (sym c.has_no_room.ensures ∙ c.if-has_no_room.false)),
+      changes-shown _ c.args.layers.now c.args.path.now c.into_change.result c.in-Ok-target_at.target.attributes.now shown
+          (subst (λ (d : Stack). IsStackOf c.args.layers.now (parent c.args.path.now) d) (sym c.into_change.ensures.what.0) c.in-Ok-target_at.ensures.directory)
+          (subst (λ (f : Found). IsFound c.args.layers.now c.args.path.now f) (sym c.into_change.ensures.what.1) c.in-Ok-target_at.ensures.found)
+          (c.into_change.ensures.attributes ∙ (rw (c.as_bytes-2.ensures, same) at c.in_ok-attributes.ensures)),
+    )

@@ -1,0 +1,230 @@
+// The attributes of what a path shows, and `chmod` and `chown`.
+ghost use Rattle.std.specs.Prelude.{◌≡◌, Some, true, IfOk, IfErr, MatchResult};
+ghost use Rattle.ov_base.specs.declared.call.Call.TheVariants as call;
+ghost use Rattle.plain_model.specs.Changes as changes;
+ghost use Rattle.plain_model.specs.Layers as held;
+ghost use Rattle.plain_model.specs.Layers.{Path as Names, Inode as HeldInode, shows};
+ghost use Rattle.mount_laws.specs.Attributes.{chmod_fault, chown_fault, inode_attributes};
+ghost use Rattle.mount_laws.specs.Looks.{shows_link, is_link_inode};
+ghost use Rattle.layer_tree.specs.Tree.{inode_of};
+ghost use Rattle.merged_lookup.specs.declared.layers.Layers.{Layers as MountLayers};
+ghost use Rattle.merged_lookup.specs.Merged.{layers_of, parent, IsFound, IsStackOf, IsTopmost, ShowsInode};
+ghost use Rattle.overlay_core.specs.Altering.{AltersUnless, CarriesOut, IsOpenTo, IsPlan, Plans, ShowsAttributes};
+
+use copy_up::alter;
+use layer_tree::{Inode, Node};
+use merged_lookup::{Found, Layers, Place, Stack, Topmost};
+use ov_base::{Attributes, Content, Errno, Mode, Path};
+use std::alloc::AllocError;
+
+/// What a call alters: the merged directory in which it stands, what was found there, and its attributes.
+#[derive(Drop)]
+pub(crate) struct Target<'a> {
+    directory: Stack,
+    found: Found,
+    pub(crate) attributes: &'a Attributes,
+}
+
+impl<'a> Target<'a> {
+    /// The change that gives it these attributes.
+    pub(crate) fn into_change(self, attributes: Attributes) -> Change
+        ensures what { (result.directory ≡ self.entry.directory) × (result.found ≡ self.entry.found) }
+        ensures attributes { result.attributes ≡ attributes }
+    {
+        Change {
+            directory: self.directory,
+            found: self.found,
+            attributes,
+        }
+    }
+}
+
+/// A change that is to be made: what a call alters, and the attributes that it gets.
+#[derive(Drop)]
+pub(crate) struct Change {
+    directory: Stack,
+    found: Found,
+    attributes: Attributes,
+}
+
+/// Gives what a path shows another mode, as chmod(2). A mode of more than twelve bits is EINVAL; then it is refused as `chown` is.
+pub(crate) fn chmod(
+    layers: &mut Layers,
+    path: &Path,
+    mode: u32,
+) -> Result<Result<(), Errno>, AllocError>
+    ensures { AltersUnless (chmod_fault (layers_of layers.old) path.now mode) layers.old layers.new path.now (call.Chmod path.now mode) result }
+{
+    let change = mode_change(layers, path, mode)?;
+    carry_out(layers, path, change)
+}
+
+// The change of a mode.
+fn mode_change(
+    layers: &Layers,
+    path: &Path,
+    mode: u32,
+) -> Result<Result<Change, Errno>, AllocError>
+    ensures { IfOk result (Plans (λ Ls. chmod_fault Ls path.now mode) (changes.with_mode mode) layers.now path.now) }
+{
+    let mode = match Mode::parse(mode) {
+        Ok(mode) => mode,
+        Err(errno) => return Ok(Err(errno)),
+    };
+    let target = match target_at(layers, path) {
+        Ok(target) => target,
+        Err(errno) => return Ok(Err(errno)),
+    };
+    let attributes = with_mode(target.attributes, mode)?;
+    Ok(Ok(target.into_change(attributes)))
+}
+
+/// Gives what a path shows another owner and group, as chown(2). On the way to the last name a name that shows nothing is ENOENT, a file
+/// ENOTDIR and a symbolic link ELOOP; then nothing is ENOENT and a symbolic link, which isn't followed, ELOOP.
+pub(crate) fn chown(
+    layers: &mut Layers,
+    path: &Path,
+    uid: u32,
+    gid: u32,
+) -> Result<Result<(), Errno>, AllocError>
+    ensures { AltersUnless (chown_fault (layers_of layers.old) path.now) layers.old layers.new path.now (call.Chown path.now uid gid) result }
+{
+    let change = owner_change(layers, path, uid, gid)?;
+    carry_out(layers, path, change)
+}
+
+// The change of an owner and group.
+fn owner_change(
+    layers: &Layers,
+    path: &Path,
+    uid: u32,
+    gid: u32,
+) -> Result<Result<Change, Errno>, AllocError>
+    ensures { IfOk result (Plans (λ Ls. chown_fault Ls path.now) (changes.with_owner uid gid) layers.now path.now) }
+{
+    let target = match target_at(layers, path) {
+        Ok(target) => target,
+        Err(errno) => return Ok(Err(errno)),
+    };
+    let attributes = with_owner(target.attributes, uid, gid)?;
+    Ok(Ok(target.into_change(attributes)))
+}
+
+/// Makes a change, or hands back why it is refused.
+pub(crate) fn carry_out(
+    layers: &mut Layers,
+    path: &Path,
+    change: Result<Change, Errno>,
+) -> Result<Result<(), Errno>, AllocError>
+    requires { IsPlan layers.old path.now change }
+    ensures { CarriesOut layers.old layers.new path.now change result }
+{
+    let change = match change {
+        Ok(change) => change,
+        Err(errno) => return Ok(Err(errno)),
+    };
+    alter(
+        layers,
+        path,
+        change.directory,
+        change.found,
+        change.attributes,
+    )?;
+    Ok(Ok(()))
+}
+
+/// What a path shows, to be altered; it is refused as `chown` is.
+pub(crate) fn target_at<'a>(layers: &'a Layers, path: &Path) -> Result<Target<'a>, Errno>
+    ensures refused { IfErr result (λ e. chown_fault (layers_of layers.now) path.now ≡ Some e) }
+    ensures directory { IfOk result (λ t. IsStackOf layers.now (parent path.now) t.directory) }
+    ensures found { IfOk result (λ t. IsFound layers.now path.now t.found) }
+    ensures shown { IfOk result (λ t. ShowsAttributes (layers_of layers.now) path.now t.attributes.now) }
+{
+    let (directory, found) = layers.walk_in(path)?;
+    let attributes = attributes_of(layers, topmost_of(&found))?;
+    Ok(Target {
+        directory,
+        found,
+        attributes,
+    })
+}
+
+/// The attributes of what a path shows; it is refused as `chown` is.
+pub(crate) fn attributes_at<'a>(layers: &'a Layers, path: &Path) -> Result<&'a Attributes, Errno>
+    ensures refused { IfErr result (λ e. chown_fault (layers_of layers.now) path.now ≡ Some e) }
+    ensures shown { IfOk result (λ a. ShowsAttributes (layers_of layers.now) path.now a.now) }
+{
+    let top = layers.walk_topmost(path)?;
+    attributes_of(layers, top)
+}
+
+// The topmost object of what was found.
+fn topmost_of(found: &Found) -> Topmost
+    ensures { (l : MountLayers) (p : Names) → IsFound l p found.now → IsTopmost l p (Some result) }
+{
+    match found {
+        Found::Directory(stack) => Topmost::Directory(stack.top()),
+        Found::Inode(place) => Topmost::Inode(*place),
+    }
+}
+
+// The attributes of what is shown; a symbolic link is ELOOP.
+fn attributes_of(layers: &Layers, top: Topmost) -> Result<&Attributes, Errno>
+    requires { (p : Names) × IsTopmost layers.now p (Some top) }
+    ensures { (p : Names) → IsTopmost layers.now p (Some top) → MatchResult result (λ a. IsOpenTo (shows 0 (layers_of layers.now) p) a.now) (λ e. (e ≡ Errno.ELOOP) × (shows_link (shows 0 (layers_of layers.now) p) ≡ true)) }
+{
+    match top {
+        Topmost::Directory(place) => Ok(layers.attributes_at(place)),
+        Topmost::Inode(place) => attributes_in(layers, place),
+    }
+}
+
+// The attributes of the file that is shown at a place; a symbolic link is ELOOP.
+fn attributes_in(layers: &Layers, place: Place) -> Result<&Attributes, Errno>
+    requires { (p : Names) × ShowsInode layers.now p place }
+    ensures { (p : Names) → ShowsInode layers.now p place → MatchResult result (λ a. IsOpenTo (shows 0 (layers_of layers.now) p) a.now) (λ e. (e ≡ Errno.ELOOP) × (shows_link (shows 0 (layers_of layers.now) p) ≡ true)) }
+{
+    stands(layers, place);
+    match layers.node(place) {
+        Some(Node::Inode(inode)) => attributes_on(inode),
+        _ => unreachable!(),
+    }
+}
+
+// The inode that is shown at a place stands there; it does nothing.
+fn stands(layers: &Layers, place: Place)
+    requires { (p : Names) × ShowsInode layers.now p place }
+    ensures { (p : Names) → ShowsInode layers.now p place → (i : HeldInode) × (shows 0 (layers_of layers.now) p ≡ Some (held.Contents place.layer place.key (Some i))) }
+{
+    let Some(layer) = layers.layer(place.layer) else {
+        unreachable!()
+    };
+    layer.lawful();
+}
+
+// The attributes of a file; a symbolic link is ELOOP.
+fn attributes_on(inode: &Inode) -> Result<&Attributes, Errno>
+    ensures { MatchResult result (λ a. IsOpenTo (Some (held.Contents 0 0 (inode_of (Node.Inode inode.now)))) a.now) (λ e. (e ≡ Errno.ELOOP) × (is_link_inode (inode_of (Node.Inode inode.now)) ≡ true)) }
+{
+    match &inode.content {
+        Content::File(_) => Ok(&inode.attributes),
+        Content::SymbolicLink(_) => Err(Errno::ELOOP),
+    }
+}
+
+fn with_mode(attributes: &Attributes, mode: Mode) -> Result<Attributes, AllocError>
+    ensures { IfOk result (λ a. a ≡ changes.with_mode mode attributes.now) }
+{
+    let mut copy = attributes.clone()?;
+    copy.mode = mode;
+    Ok(copy)
+}
+
+fn with_owner(attributes: &Attributes, uid: u32, gid: u32) -> Result<Attributes, AllocError>
+    ensures { IfOk result (λ a. a ≡ changes.with_owner uid gid attributes.now) }
+{
+    let mut copy = attributes.clone()?;
+    copy.uid = uid;
+    copy.gid = gid;
+    Ok(copy)
+}
