@@ -1,5 +1,5 @@
 // The core of a mount: what is done to it, each deed one of the plain machine.
-ghost use Rattle.std.specs.Prelude.{◌≡◌, ◌≢◌, ◌+◌, ◌-◌, ◌<◌, ◌≤◌, ◌^◌, ℕ, true, [], ◌∷◌, map, Some, None, All, IfOk, IfErr, OnOk, OnErr, vec_len};
+ghost use Rattle.std.specs.Prelude.{◌≡◌, ◌≢◌, ◌+◌, ◌-◌, ◌<◌, ◌≤◌, ◌^◌, ℕ, true, [], ◌∷◌, map, Some, None, All, IfOk, IfErr, OnOk, OnErr, nat_lt, vec_len};
 ghost use Rattle.std.specs.BTreeMap.{btree_map_len};
 ghost use Rattle.plain_model.specs.Layers.{AreLayers};
 ghost use Rattle.plain_model.specs.Limits.{IsWithinLimits};
@@ -13,6 +13,7 @@ ghost use Rattle.overlay_core.specs.Mounting.{machine_options, mount_fault, plac
 ghost use Rattle.overlay_core.specs.Jobs.{TurnsTo, finished_after};
 ghost use Rattle.copy_up.specs.Showing.{StaysThin};
 
+use crate::clients::CLIENTS_MAX;
 use crate::job::{Job, Standing};
 use crate::mount::Mount;
 use layer_tree::Layer;
@@ -215,6 +216,13 @@ impl Core {
         ensures { result.now ≡ self.now.mount.layers }
     {
         self.mount.layers()
+    }
+
+    /// Whether a further client can be attached: fewer than 64 are.
+    pub fn admits(&self) -> bool
+        ensures { result ≡ nat_lt (btree_map_len self.now.mount.clients.attached) 64 }
+    {
+        self.mount.clients_attached() < CLIENTS_MAX as u64
     }
 }
 
