@@ -4,4 +4,5 @@ pub mod Places
 pub mod Tree
 pub mod Nameless
 pub mod Change
+pub mod Link
 pub mod AttributeChange

@@ -5,6 +5,7 @@ mod attribute_change;
 mod file_write;
 mod hashed_names;
 mod layer;
+mod link_count;
 mod name_table;
 mod node;
 
