@@ -30,7 +30,7 @@ named_under t j k h = of (get t j) h
     of (Some (node.Inode i)) h = cc
 
 -- an inode is seen by the number of its key
-inode_seen : (t : Tree) (k : ℕ) (i : layers.Inode) → inode_at t k ≡ Some i → seen_at t k ≡ Some (Named k)
+pub inode_seen : (t : Tree) (k : ℕ) (i : layers.Inode) → inode_at t k ≡ Some i → seen_at t k ≡ Some (Named k)
 inode_seen t k i h = of (get t k) h
   where
     of : (o : Option Node) → option_and_then inode_of o ≡ Some i → option_map (seen k) o ≡ Some (Named k)
@@ -39,7 +39,7 @@ inode_seen t k i h = of (get t k) h
     of (Some (node.Inode j)) h = refl
 
 -- a path that names an inode leads to its key
-named_key : (t : Tree) (n : List ℕ) (p : Path) (k : ℕ) → Names (layer_of t) k (n ∷ p) → key_at t (n ∷ p) ≡ Some k
+pub named_key : (t : Tree) (n : List ℕ) (p : Path) (k : ℕ) → Names (layer_of t) k (n ∷ p) → key_at t (n ∷ p) ≡ Some k
 named_key t n p k h = key_of_entry t (n ∷ p) ∙ of (entry_at t (n ∷ p)) h
   where
     of : (o : Option Entry) → option_and_then (seen_entry t) o ≡ Some (Named k) → option_and_then object_key o ≡ Some k

@@ -1,5 +1,5 @@
 -- A layer stays a layer in the words of the definitions, where the names of an inode are counted by paths.
-use Rattle.std.proofs.Common.{◌≡◌, ◌≢◌, ◌↔◌, ◌⊎◌, ℕ, ◌-◌, Bool, true, false, ◌||◌, List, [], ◌∷◌, ◌++◌, Option, Some, None, is_some, refl, sym, ap, subst, ◌∙◌, inl, inr, true≢false}
+use Rattle.std.proofs.Common.{◌≡◌, ◌≢◌, ◌↔◌, ◌⊎◌, ℕ, ◌+◌, ◌-◌, Bool, true, false, ◌||◌, List, [], ◌∷◌, ◌++◌, Option, Some, None, is_some, refl, sym, ap, subst, ◌∙◌, inl, inr, true≢false}
 use Rattle.std.specs.Prelude.{option_map}
 use Rattle.std.specs.List.{list_any, IsDistinct}
 use Rattle.std.proofs.lemmas.Bool.{cases_eq}
@@ -9,6 +9,7 @@ use Rattle.plain_model.specs.Layers.{Layer, Path, Named, held, same_path, AreLin
 use Rattle.plain_model.proofs.Paths.{paths_tell}
 use Rattle.plain_model.proofs.Counting.{Counted, count-same, count-more, count-less}
 use Rattle.layer_tree.specs.Tree.{SetsPath, ReplacesPath, SameObjects, IsHeldTogether, with_less}
+use Rattle.layer_tree.specs.Link.{with_more}
 use Rattle.layer_tree.proofs.Walks.{unwrapped, cases_ends, same_path as same_or_not}
 use Rattle.layer_tree.proofs.Roots.{links_of}
 
@@ -260,3 +261,57 @@ module _ (old new : Layer) (path : Path) (o : layers.Object) (key : ℕ) (sets :
         paths = [] ∷ path ∷ layer.paths;
         finite = finite-set layer.paths layer.finite;
       }
+
+-- A path that named no inode is set to a further name of an inode that is there.
+module _ (old new : Layer) (path : Path) (key : ℕ) (sets : SetsPath old new path (Named key)) (vacant : (k : ℕ) → Names old k path → ⊥) where
+  -- the inode keeps its names, and has the path beside them
+  names_further : (w : Path) → Names new key w ↔ ((w ≡ path) ⊎ Names old key w)
+  names_further w = (there, back)
+    where
+      there : Names new key w → (w ≡ path) ⊎ Names old key w
+      there h = elim (same_or_not w path) [
+        | inl f ↦ inl f
+        | inr off ↦ inr (sym (sets.elsewhere w off) ∙ h)
+      ]
+
+      back : (w ≡ path) ⊎ Names old key w → Names new key w
+      back (inl f) = ap (held new) f ∙ sets.there
+      back (inr h) = sets.elsewhere w (λ f. vacant key (sym (ap (held old) f) ∙ h)) ∙ h
+
+  -- another inode keeps its names
+  names_apart : (k : ℕ) → k ≢ key → (w : Path) → Names old k w ↔ Names new k w
+  names_apart k differs w = (there, back)
+    where
+      there : Names old k w → Names new k w
+      there h = sets.elsewhere w (λ f. vacant k (sym (ap (held old) f) ∙ h)) ∙ h
+
+      number : Some (Named key) ≡ Some (Named k) → k ≡ key
+      number e = cc
+
+      back : Names new k w → Names old k w
+      back h = sym (sets.elsewhere w (λ f. differs (number (sym sets.there ∙ sym (ap (held new) f) ∙ h)))) ∙ h
+
+  -- so it has one name more
+  links-more : (n : ℕ) → AreLinks old key n → AreLinks new key (n + 1)
+  links-more n a = shuts new key (n + 1) (count-more Path same_path paths_tell (Names old key) (Names new key) n path (vacant key) names_further (opens old key n a))
+
+  -- the layer after it
+  pub IsLayer-linked : new.inodes key ≡ option_map with_more (old.inodes key) → ((k : ℕ) → k ≢ key → new.inodes k ≡ old.inodes k) → IsHeldTogether new → IsLayer old → IsLayer new
+  IsLayer-linked more same together layer =
+      record {
+        parents = together.parents;
+        redirects = together.redirects;
+        present = together.present;
+        links = λ k i h. elim (cases_eq k key) [
+          | inl e ↦ subst (λ (x : ℕ). AreLinks new x i.links) (sym e) (gained i (old.inodes key) refl (sym (ap new.inodes e) ∙ h))
+          | inr off ↦ links-same old new k i.links (names_apart k off) (layer.links k i (sym (same k off) ∙ h))
+        ];
+        paths = [] ∷ path ∷ layer.paths;
+        finite = has_all new path layer.paths (λ n p off h. layer.finite (n ∷ p) (sym (ap is_some (sets.elsewhere (n ∷ p) off)) ∙ h));
+      }
+    where
+      gained : (i : layers.Inode) (o : Option layers.Inode) → old.inodes key ≡ o → new.inodes key ≡ Some i → AreLinks new key i.links
+      gained i None was h = let none : new.inodes key ≡ None = more ∙ ap (option_map with_more) was in absurd (cc)
+      gained i (Some j) was h =
+          let one : j.links + 1 ≡ i.links = ap (λ (x : layers.Inode). x.links) (unwrapped (with_more j) i (sym (ap (option_map with_more) was) ∙ sym more ∙ h)) in
+          subst (AreLinks new key) one (links-more j.links (layer.links key j was))

@@ -16,3 +16,4 @@ pub mod Keeping
 pub mod Freeing
 pub mod Nameless
 pub mod AttributeChanges
+pub mod Linking

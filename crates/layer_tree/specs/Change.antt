@@ -62,6 +62,16 @@ pub record Unlinks (old new : Tree) (key : Option ℕ) : Type 0 where
   pub named : (k : ℕ) → key ≡ Some k → get new k ≡ option_map unlinked (get old k)
   pub others : (k : ℕ) → key ≢ Some k → get new k ≡ get old k
 
+-- the node with one name more
+abbrev pub linked : Node → Node
+linked (node.Directory d) = node.Directory d
+linked (node.Inode i) = node.Inode (record i { links = i.links + 1 })
+
+-- the object under the key has one name more, and every other key keeps its node
+pub record GainsName (old new : Tree) (key : ℕ) : Type 0 where
+  pub named : get new key ≡ option_map linked (get old key)
+  pub others : (k : ℕ) → k ≢ key → get new k ≡ get old k
+
 -- the bytes of a node that is a file
 abbrev pub node_bytes : Node → Option (List ℕ)
 node_bytes n = option_and_then (λ (i : layers.Inode). file_bytes i.content) (inode_of n)

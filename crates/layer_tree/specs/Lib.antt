@@ -4,5 +4,6 @@ pub mod Places
 pub mod Tree
 pub mod Nameless
 pub mod Change
+pub mod Link
 pub mod AttributeChange
 pub mod ContentChange

@@ -15,11 +15,13 @@ ghost use Rattle.layer_tree.specs.Table.{object_key};
 ghost use Rattle.layer_tree.specs.Walk.{Rebinds};
 ghost use Rattle.layer_tree.specs.Tree.{Tree, entry, child, key_at, entry_at, seen_at, inode_at, marks_at, bytes_at, file_bytes, layer_of, seen_object, new_inode, with_less, table_of, leads_on, Inserts, Unbinds, Writes, written, IsDirectory, names_room, SetsPath, ClearsPath, CoversPath, SameObjects, SameTree, UsesObjects, Frees, HoldsNoObjects, IsHeldTogether, IsTree};
 ghost use Rattle.layer_tree.specs.Nameless.{IsNameless};
-ghost use Rattle.layer_tree.specs.Change.{IsPlanted, Retables, Retabled, Unlinks, IsCounted, node_room, node_entry, unlinked, node_bytes, with_file};
+ghost use Rattle.layer_tree.specs.Change.{IsPlanted, Retables, Retabled, Unlinks, IsCounted, node_room, node_entry};
 ghost use Rattle.layer_tree.specs.declared.name_table.Entry.TheVariants as bound;
 
 mod contents;
+mod hard_link;
 
+use crate::link_count::lose_name;
 use crate::name_table::{Entry, NameTable};
 use crate::node::{Directory, Inode, Marks, Node, Object};
 use indexmap::map::Slice;
@@ -433,14 +435,5 @@ fn unlink(nodes: &mut Slab<Node>, was: Option<Entry>)
     if let Some(Entry::Object(key)) = was {
         let node = &mut nodes[key];
         lose_name(node);
-    }
-}
-
-fn lose_name(node: &mut Node)
-    requires { IsCounted (Some node.old) }
-    ensures { node.new ≡ unlinked node.old }
-{
-    if let Node::Inode(inode) = node {
-        inode.links -= 1;
     }
 }

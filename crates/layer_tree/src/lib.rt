@@ -6,6 +6,7 @@ mod file_size;
 mod file_write;
 mod hashed_names;
 mod layer;
+mod link_count;
 mod name_table;
 mod node;
 
