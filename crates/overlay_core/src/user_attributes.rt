@@ -1,6 +1,5 @@
 // The calls on user attributes.
-ghost use Rattle.std.specs.Prelude.{◌≡◌, ◌<◌, ◌&&◌, not, None, Some, Ok, IfOk, IfErr, OnOk, is_none, length, map, nat_lt};
-ghost use Rattle.ov_base.specs.AttributeNames.{attribute_of};
+ghost use Rattle.std.specs.Prelude.{◌≡◌, ◌&&◌, not, None, Some, IfOk, IfErr, OnOk, is_none, length, map, nat_lt};
 ghost use Rattle.ov_base.specs.UserValues.{value_of, set_value, drop_value};
 ghost use Rattle.ov_base.specs.declared.call.Call.TheVariants as call;
 ghost use Rattle.plain_model.specs.Layers.{shows};
