@@ -4,7 +4,7 @@ ghost use Rattle.ov_base.specs.declared.call.Call.TheVariants as call;
 ghost use Rattle.plain_model.specs.Changes as changes;
 ghost use Rattle.plain_model.specs.Layers as held;
 ghost use Rattle.plain_model.specs.Layers.{Path as Names, Inode as HeldInode, shows};
-ghost use Rattle.mount_laws.specs.Attributes.{chmod_fault, chown_fault, inode_attributes};
+ghost use Rattle.mount_laws.specs.Attributes.{chmod_fault, chown_fault};
 ghost use Rattle.mount_laws.specs.Looks.{shows_link, is_link_inode};
 ghost use Rattle.layer_tree.specs.Tree.{inode_of};
 ghost use Rattle.merged_lookup.specs.declared.layers.Layers.{Layers as MountLayers};
@@ -60,11 +60,7 @@ pub(crate) fn chmod(
 }
 
 // The change of a mode.
-fn mode_change(
-    layers: &Layers,
-    path: &Path,
-    mode: u32,
-) -> Result<Result<Change, Errno>, AllocError>
+fn mode_change(layers: &Layers, path: &Path, mode: u32) -> Result<Result<Change, Errno>, AllocError>
     ensures { IfOk result (Plans (λ Ls. chmod_fault Ls path.now mode) (changes.with_mode mode) layers.now path.now) }
 {
     let mode = match Mode::parse(mode) {

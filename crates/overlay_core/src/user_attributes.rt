@@ -1,6 +1,5 @@
 // The calls on user attributes.
-ghost use Rattle.std.specs.Prelude.{◌≡◌, ◌<◌, ◌&&◌, not, None, Some, Ok, IfOk, IfErr, OnOk, is_none, length, map, nat_lt};
-ghost use Rattle.ov_base.specs.AttributeNames.{attribute_of};
+ghost use Rattle.std.specs.Prelude.{◌≡◌, ◌&&◌, not, None, Some, IfOk, IfErr, OnOk, is_none, length, map, nat_lt};
 ghost use Rattle.ov_base.specs.UserValues.{value_of, set_value, drop_value};
 ghost use Rattle.ov_base.specs.declared.call.Call.TheVariants as call;
 ghost use Rattle.plain_model.specs.Layers.{shows};
@@ -74,11 +73,7 @@ pub(crate) fn delete_attribute(
 }
 
 // The change that deletes a user attribute.
-fn deletion(
-    layers: &Layers,
-    path: &Path,
-    name: &Bytes,
-) -> Result<Result<Change, Errno>, AllocError>
+fn deletion(layers: &Layers, path: &Path, name: &Bytes) -> Result<Result<Change, Errno>, AllocError>
     ensures { IfOk result (Plans (λ Ls. get_fault Ls path.now name.now) (λ a. record a { user = drop_value a.user name.now }) layers.now path.now) }
 {
     let name = match parsed(name)? {
