@@ -1,7 +1,7 @@
 -- Which calls the reference offers, and how it answers.
 use Rattle.std.specs.Prelude.{◌≡◌, ℕ, Bool, true, false, not, ◌||◌, Option, None, Some, is_none, is_some, nat_eq, nat_lt, [], length}
 use Rattle.ov_base.specs.declared.call.Call.{Call}
-use Rattle.ov_base.specs.declared.call.Call.TheVariants.{Stat, Readlink, Chmod, Chown, SetAttribute, GetAttribute, DeleteAttribute, ListAttributes, Mkdir, Symlink, Open, Unlink, Rmdir, Seek, ListNames, Close}
+use Rattle.ov_base.specs.declared.call.Call.TheVariants.{Stat, Readlink, Chmod, Chown, SetAttribute, GetAttribute, DeleteAttribute, ListAttributes, Mkdir, Symlink, Open, Unlink, Rmdir, Read, Seek, Fstat, ListNames, Close}
 use Rattle.ov_base.specs.declared.reply.Reply.{Reply}
 use Rattle.plain_model.specs.Tree.{node_at, node_of, is_folder}
 use Rattle.plain_model.specs.Machine.{State, handle_of, handle_node}
@@ -13,8 +13,7 @@ use Rattle.plain_reference.specs.States.{Mute}
 abbrev pub has_serial : State → Bool
 has_serial s = not (nat_eq s.serial 0xffff_ffff_ffff_ffff)
 
--- The calls that are offered: those of names, attributes and directories, an open that is refused or of a directory, and a seek that is
--- not on another object's handle.
+-- The calls that are offered: those of names, attributes and handles, and an open that is refused or of a directory.
 abbrev pub offers : State → ℕ → Call → Bool
 offers s c (Stat p) = true
 offers s c (Readlink p) = true
@@ -29,7 +28,9 @@ offers s c (Symlink target p) = has_serial s
 offers s c (Open p f mode) = is_some (refusal s c (Open p f mode)) || is_folder (node_of s.tree (node_at s.tree p))
 offers s c (Unlink p) = true
 offers s c (Rmdir p) = true
-offers s c (Seek fd offset whence) = is_none (handle_of s.tables c fd) || is_folder (handle_node s.tree (handle_of s.tables c fd))
+offers s c (Read fd n) = true
+offers s c (Seek fd offset whence) = true
+offers s c (Fstat fd) = true
 offers s c (ListNames fd n) = true
 offers s c (Close fd) = true
 offers s c _ = false

@@ -193,7 +193,8 @@ pub fn names_in(alloc: Global, node: Option<&Node>) -> Result<NameList, AllocErr
     }
 }
 
-fn stat_by(kind: ObjectKind, attributes: &Attributes, size: u64, links: u32) -> Reply
+/// The status of an object.
+pub fn stat_by(kind: ObjectKind, attributes: &Attributes, size: u64, links: u32) -> Reply
     ensures { result ≡ stat_by kind attributes.now size links }
 {
     Reply::Status(Stat {
@@ -206,7 +207,8 @@ fn stat_by(kind: ObjectKind, attributes: &Attributes, size: u64, links: u32) -> 
     })
 }
 
-fn capped(links: u64) -> u32
+/// The link count that stat(2) has room for.
+pub fn capped(links: u64) -> u32
     ensures { result ≡ capped links }
 {
     links.min(u64::from(u32::MAX)) as u32
@@ -259,15 +261,22 @@ pub fn stat_of(node: Option<&Node>) -> Reply
     }
 }
 
-/// A copy of the bytes of a file, or of the target of a symbolic link; of another node none.
-pub fn bytes_of(alloc: Global, node: Option<&Node>) -> Result<Bytes, AllocError>
-    ensures { IfOk result (λ bytes. bytes ≡ bytes_of_node (shown (option_copied node.entry))) }
+/// The bytes of a file, or of the target of a symbolic link; of another node none.
+pub fn bytes_in<'a>(node: Option<&'a Node>) -> &'a [u8]
+    ensures { result.now ≡ bytes_of_node (shown (option_copied node.entry)) }
 {
     match node {
         Some(Node::Leaf { content, .. }) => match content {
-            Content::File(bytes) => bytes.clone(),
-            Content::SymbolicLink(target) => target.as_bytes().clone(),
+            Content::File(bytes) => bytes.as_slice(),
+            Content::SymbolicLink(target) => target.as_bytes().as_slice(),
         },
-        _ => Ok(Bytes::new(alloc)),
+        _ => &[],
     }
+}
+
+/// A copy of those bytes.
+pub fn bytes_of(alloc: Global, node: Option<&Node>) -> Result<Bytes, AllocError>
+    ensures { IfOk result (λ bytes. bytes ≡ bytes_of_node (shown (option_copied node.entry))) }
+{
+    Bytes::from_slice(alloc, bytes_in(node))
 }

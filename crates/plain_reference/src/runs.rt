@@ -83,7 +83,9 @@ impl Reference {
                 descriptor,
                 offset,
                 whence,
-            } => Ok(self.seek(client, *descriptor, *offset, *whence)),
+            } => Ok(Some(self.seek(client, *descriptor, *offset, *whence))),
+            Call::Read { descriptor, count } => Ok(Some(self.read(client, *descriptor, *count)?)),
+            Call::Fstat { descriptor } => Ok(Some(self.fstat(client, *descriptor))),
             Call::ListNames { descriptor, count } => {
                 Ok(Some(self.list(client, *descriptor, *count)?))
             }
