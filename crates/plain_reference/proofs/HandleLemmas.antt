@@ -1,17 +1,17 @@
 -- Steps that change one handle of a client.
-use Rattle.std.proofs.Common.{◌≡◌, ℕ, zero, suc, ◌||◌, List, [], Bool, true, false, not, cond, Option, None, Some, refl, sym, ap, subst, ◌∙◌, nat_eq, nat_lt, is_none, take, drop, unwrap_or}
+use Rattle.std.proofs.Common.{◌≡◌, ℕ, zero, suc, List, [], false, cond, Option, None, Some, refl, sym, ap, subst, ◌∙◌, is_none, take, drop, unwrap_or}
 use Rattle.ov_base.specs.declared.call.Call.{Call}
 use Rattle.ov_base.specs.declared.call.Call.TheVariants.{Open}
 use Rattle.ov_base.specs.declared.call.OpenFlags.{OpenFlags}
 use Rattle.ov_base.specs.declared.node_id.NodeId.{NodeId}
 use Rattle.ov_base.specs.declared.reply.Reply.{Reply}
 use Rattle.plain_model.specs.Layers.{Name, Path}
-use Rattle.plain_model.specs.Tree.{Node, Branch, Leaf, Tree, Own, node_at, node_of, put, is_folder}
+use Rattle.plain_model.specs.Tree.{Leaf, Tree, Own, node_at, node_of}
 use Rattle.ov_base.specs.declared.bytes.Content.TheVariants.{File}
 use Rattle.plain_model.specs.Watching.{Instance, AllHear}
-use Rattle.plain_model.specs.Machine.{State, Table, Handle, handle_of, handle_node, lowest_free, place_of, DESCRIPTORS_MAX}
+use Rattle.plain_model.specs.Machine.{State, Table, Handle, lowest_free, place_of, DESCRIPTORS_MAX}
 use Rattle.plain_model.specs.Refusals.{refusal}
-use Rattle.plain_model.specs.Changes.{after, change, over_node, opened, opens, new_handle, with_handle, made_way, way_of, fresh as fresh_attributes, next_if, listed_on, moved_to, rewound}
+use Rattle.plain_model.specs.Changes.{after, change, opened, opens, new_handle, with_handle, made_way, way_of, fresh as fresh_attributes, next_if, listed_on, moved_to, rewound}
 use Rattle.plain_model.specs.Replies.{reply_of, page}
 use Rattle.plain_model.specs.Subjects.{subjects}
 use Rattle.plain_model.specs.Runs.{Step}
@@ -19,7 +19,6 @@ use Rattle.plain_reference.specs.States.{Mute, silent_all, state_of, heard_by}
 use Rattle.plain_reference.specs.Slots.{tree_of}
 use Rattle.plain_reference.specs.Tables.{listing_of, kept, over_handle}
 use Rattle.plain_reference.specs.declared.reference.Reference.{Reference}
-use Rattle.plain_reference.proofs.SlotLemmas.{put_same}
 use Rattle.plain_reference.proofs.StepLemmas.{silence, silent-with_handle, taken_step}
 
 -- a call that changes one handle of a client, and perhaps the tree and the serial
@@ -58,35 +57,16 @@ pub moved_alone : (at : ℕ) (h : Option Handle) → rewound false (moved_to at 
 moved_alone at None = refl
 moved_alone at (Some h) = refl
 
-same_cond : (b : Bool) (x : Node) → cond b x x ≡ x
-same_cond true x = refl
-same_cond false x = refl
-
-opened_folder : (f : OpenFlags) (o : Option Node) → is_folder o ≡ true → over_node (opened f) o ≡ o
-opened_folder f None e = absurd (cc)
-opened_folder f (Some (Branch a b names l)) e = ap Some (ap (λ (x : Node). cond f.writes x (Branch a b names l)) (same_cond f.truncate (Branch a b names l)) ∙ same_cond f.writes (Branch a b names l))
-opened_folder f (Some (Leaf content a u l)) e = absurd (cc)
-
-handle_folder : (f : OpenFlags) (d : NodeId) (way : Option (NodeId × Name)) (o : Option Node) → is_folder o ≡ true → new_handle f d way o ≡ new_handle f d way None
-handle_folder f d way None e = refl
-handle_folder f d way (Some (Branch a b names l)) e = refl
-handle_folder f d way (Some (Leaf content a u l)) e = absurd (cc)
-
 abbrev pub free_of : State → ℕ → ℕ
 free_of s c = unwrap_or (lowest_free s.tables c) DESCRIPTORS_MAX
 
 -- the state after an open that leads to an identity, or to none
-abbrev open_at : State → ℕ → Path → OpenFlags → ℕ → Option NodeId → State
+abbrev pub open_at : State → ℕ → Path → OpenFlags → ℕ → Option NodeId → State
 open_at s c p f mode o = record s {
   tree = cond (is_none o) (made_way s.tree s.serial (way_of s.tree p) (Leaf (File []) (fresh_attributes mode) Own 1)) (change (opened f) s.tree o);
   serial = next_if (is_none o) s.serial;
   tables = with_handle s.tables c (free_of s c) (Some (new_handle f (opens o s.serial) (way_of s.tree p) (node_of s.tree o)));
 }
 
--- an open of a directory changes the descriptors alone
-pub opened_after : (s : State) (c : ℕ) (p : Path) (f : OpenFlags) (mode : ℕ) (d : NodeId) → node_at s.tree p ≡ Some d → is_folder (s.tree d) ≡ true → after s c (Open p f mode) ≡ record s { tables = with_handle s.tables c (free_of s c) (Some (new_handle f d (way_of s.tree p) None)) }
-opened_after s c p f mode d at folder =
-    let tree : put s.tree d (over_node (opened f) (s.tree d)) ≡ s.tree = ap (λ (o : Option Node). put s.tree d o) (opened_folder f (s.tree d) folder) ∙ put_same s.tree d in
-    let handle : new_handle f d (way_of s.tree p) (s.tree d) ≡ new_handle f d (way_of s.tree p) None = handle_folder f d (way_of s.tree p) (s.tree d) folder in
-    ap (open_at s c p f mode) at
-    ∙ (λ i. record s { tree = tree i; tables = with_handle s.tables c (free_of s c) (Some (handle i)) })
+pub opened_after : (s : State) (c : ℕ) (p : Path) (f : OpenFlags) (mode : ℕ) (o : Option NodeId) → node_at s.tree p ≡ o → after s c (Open p f mode) ≡ open_at s c p f mode o
+opened_after s c p f mode o at = ap (open_at s c p f mode) at

@@ -4,13 +4,15 @@ ghost use Rattle.std.specs.Option.{option_copied};
 ghost use Rattle.plain_model.specs.Tree.{with_name, shown_links};
 ghost use Rattle.plain_model.specs.Machine.{is_link, has_names, bytes_of_node, user_of, value_of};
 ghost use Rattle.plain_model.specs.Tree.{is_folder};
-ghost use Rattle.plain_model.specs.Changes.{one_fewer, is_named, names_in};
+ghost use Rattle.plain_model.specs.Changes.{one_fewer, is_named, names_in, opened, touched, with_bytes};
 ghost use Rattle.plain_model.specs.Replies.{stat_of, stat_by, capped};
 ghost use Rattle.plain_reference.specs.Nodes.{shown, plain, origin_of, attributes_at, given};
 
 use crate::id::Id;
 use crate::names::Names;
-use ov_base::{Attributes, Bytes, Content, Name, NameList, ObjectKind, Reply, Stat, Texts};
+use ov_base::{
+    Attributes, Bytes, Content, Name, NameList, ObjectKind, OpenFlags, Reply, Stat, Texts,
+};
 use std::alloc::{AllocError, Global};
 
 /// Where a file or symbolic link stands: in the upper layer, or untouched in a lower one, whose link count it shows.
@@ -178,6 +180,42 @@ impl Node {
             } => {
                 *attributes = other;
                 *origin = Origin::Own;
+            }
+        }
+    }
+}
+
+impl Node {
+    // Copies a file or symbolic link of a lower layer up.
+    fn touch(&mut self)
+        ensures { plain self.new ≡ touched (plain self.old) }
+    {
+        if let Node::Leaf { origin, .. } = self {
+            *origin = Origin::Own;
+        }
+    }
+
+    /// Gives a file other bytes; another node stays as it is.
+    pub fn fill(&mut self, other: Bytes)
+        ensures { plain self.new ≡ with_bytes other (plain self.old) }
+    {
+        if let Node::Leaf {
+            content: Content::File(bytes),
+            ..
+        } = self
+        {
+            *bytes = other;
+        }
+    }
+
+    /// Lets the node be opened: write access copies a file up, and TRUNC empties it.
+    pub fn open(&mut self, alloc: Global, flags: OpenFlags)
+        ensures { plain self.new ≡ opened flags (plain self.old) }
+    {
+        if flags.writes {
+            self.touch();
+            if flags.truncate {
+                self.fill(Bytes::new(alloc));
             }
         }
     }

@@ -1,4 +1,4 @@
-use Rattle.std.proofs.Common.{◌≡◌, ◌∙◌, ◌+◌, ℕ, List, false, refl, sym, ap, take, drop, length}
+use Rattle.std.proofs.Common.{◌≡◌, ◌∙◌, ◌+◌, ℕ, false, refl, sym, ap, take, drop, length}
 use Rattle.std.specs.Option.{option_copied}
 use Rattle.ov_base.specs.declared.call.Call.TheVariants.{Read}
 use Rattle.ov_base.specs.declared.reply.Reply.TheVariants as reply

@@ -1,7 +1,6 @@
 use Rattle.std.proofs.Common.{◌≡◌, ◌∙◌, ℤ, None, refl, sym, ap}
 use Rattle.std.proofs.lemmas.Int.{to_z-of_z}
 use Rattle.std.specs.Int.{w64}
-use Rattle.std.specs.Option.{option_copied}
 use Rattle.ov_base.specs.declared.call.Call.TheVariants.{Seek}
 use Rattle.ov_base.specs.declared.reply.Reply.TheVariants.{Place}
 use Rattle.plain_model.specs.Tree.{is_folder}
