@@ -1,17 +1,18 @@
 -- Steps that change one handle of a client.
-use Rattle.std.proofs.Common.{◌≡◌, ℕ, zero, suc, List, [], false, cond, Option, None, Some, refl, sym, ap, subst, ◌∙◌, is_none, take, drop, unwrap_or}
+use Rattle.std.proofs.Common.{◌≡◌, ◌+◌, ◌-◌, ℕ, zero, suc, List, [], ◌∷◌, Bool, true, false, cond, length, nat_eq, Option, None, Some, refl, sym, ap, subst, ◌∙◌, is_none, take, drop, unwrap_or, arith}
+use Rattle.std.proofs.lemmas.Bool.{eqb-true}
 use Rattle.ov_base.specs.declared.call.Call.{Call}
-use Rattle.ov_base.specs.declared.call.Call.TheVariants.{Open}
+use Rattle.ov_base.specs.declared.call.Call.TheVariants.{Open, Write}
 use Rattle.ov_base.specs.declared.call.OpenFlags.{OpenFlags}
 use Rattle.ov_base.specs.declared.node_id.NodeId.{NodeId}
 use Rattle.ov_base.specs.declared.reply.Reply.{Reply}
 use Rattle.plain_model.specs.Layers.{Name, Path}
-use Rattle.plain_model.specs.Tree.{Leaf, Tree, Own, node_at, node_of}
+use Rattle.plain_model.specs.Tree.{Node, Leaf, Tree, Own, node_at, node_of, put}
 use Rattle.ov_base.specs.declared.bytes.Content.TheVariants.{File}
 use Rattle.plain_model.specs.Watching.{Instance, AllHear}
-use Rattle.plain_model.specs.Machine.{State, Table, Handle, lowest_free, place_of, DESCRIPTORS_MAX}
-use Rattle.plain_model.specs.Refusals.{refusal}
-use Rattle.plain_model.specs.Changes.{after, change, opened, opens, new_handle, with_handle, made_way, way_of, fresh as fresh_attributes, next_if, listed_on, moved_to, rewound}
+use Rattle.plain_model.specs.Machine.{State, Table, Handle, handle_of, handle_node, lowest_free, place_of, write_place, DESCRIPTORS_MAX}
+use Rattle.plain_model.specs.Refusals.{refusal, FILE_MAX}
+use Rattle.plain_model.specs.Changes.{after, change, opened, opens, new_handle, with_handle, made_way, way_of, fresh as fresh_attributes, next_if, listed_on, moved_to, rewound, fitting, node_of_handle, over_node, with_bytes, wrote}
 use Rattle.plain_model.specs.Replies.{reply_of, page}
 use Rattle.plain_model.specs.Subjects.{subjects}
 use Rattle.plain_model.specs.Runs.{Step}
@@ -70,3 +71,31 @@ open_at s c p f mode o = record s {
 
 pub opened_after : (s : State) (c : ℕ) (p : Path) (f : OpenFlags) (mode : ℕ) (o : Option NodeId) → node_at s.tree p ≡ o → after s c (Open p f mode) ≡ open_at s c p f mode o
 opened_after s c p f mode o at = ap (open_at s c p f mode) at
+
+filled : (f : Option Node → List ℕ) (o : Option Node) → over_node (with_bytes (f o)) o ≡ over_node (λ x. with_bytes (f (Some x)) x) o
+filled f None = refl
+filled f (Some x) = refl
+
+-- a handle's node that gets bytes made of itself
+pub filled_alone : (f : Option Node → List ℕ) (t : Tree) (h : Option Handle) → change (with_bytes (f (handle_node t h))) t (node_of_handle h) ≡ change (λ x. with_bytes (f (Some x)) x) t (node_of_handle h)
+filled_alone f t None = refl
+filled_alone f t (Some h) = ap (λ (o : Option Node). put t h.node o) (filled f (t h.node))
+
+-- the state after a write of some bytes, or of none
+abbrev pub write_at : State → ℕ → ℕ → List ℕ → Bool → State
+write_at s c fd bytes none = record s {
+  tree = cond none s.tree (change (wrote (write_place s.tree (handle_of s.tables c fd)) bytes) s.tree (node_of_handle (handle_of s.tables c fd)));
+  tables = cond none s.tables (with_handle s.tables c fd (moved_to (write_place s.tree (handle_of s.tables c fd) + length (fitting (write_place s.tree (handle_of s.tables c fd)) bytes)) (handle_of s.tables c fd)));
+}
+
+pub written_after : (s : State) (c fd : ℕ) (bytes : List ℕ) (none : Bool) → nat_eq (length bytes) 0 ≡ none → after s c (Write fd bytes) ≡ write_at s c fd bytes none
+written_after s c fd bytes none e = ap (write_at s c fd bytes) e
+
+no_part : (n : ℕ) → 0 ≡ length (take n (let none : List ℕ = [] in none))
+no_part zero = refl
+no_part (suc n) = refl
+
+-- of no bytes none are written
+pub none_fit : (at : ℕ) (bytes : List ℕ) → nat_eq (length bytes) 0 ≡ true → 0 ≡ length (fitting at bytes)
+none_fit at [] e = no_part (FILE_MAX - at)
+none_fit at (b ∷ bytes) e = let zero_long : length (b ∷ bytes) ≡ 0 = eqb-true (length (b ∷ bytes)) 0 e in absurd (omega arith)

@@ -1,7 +1,7 @@
 -- Which calls the reference offers, and how it answers.
 use Rattle.std.specs.Prelude.{◌≡◌, ℕ, Bool, true, false, not, ◌||◌, Option, None, Some, is_some, nat_eq, nat_lt, [], length}
 use Rattle.ov_base.specs.declared.call.Call.{Call}
-use Rattle.ov_base.specs.declared.call.Call.TheVariants.{Stat, Readlink, Chmod, Chown, SetAttribute, GetAttribute, DeleteAttribute, ListAttributes, Mkdir, Symlink, Open, Unlink, Rmdir, Read, Seek, Fstat, ListNames, Close}
+use Rattle.ov_base.specs.declared.call.Call.TheVariants.{Stat, Readlink, Chmod, Chown, SetAttribute, GetAttribute, DeleteAttribute, ListAttributes, Mkdir, Symlink, Open, Unlink, Rmdir, Read, Write, Seek, Truncate, Fstat, ListNames, Close}
 use Rattle.ov_base.specs.declared.reply.Reply.{Reply}
 use Rattle.plain_model.specs.Tree.{node_at}
 use Rattle.plain_model.specs.Machine.{State}
@@ -29,7 +29,9 @@ offers s c (Open p f mode) = is_some (refusal s c (Open p f mode)) || is_some (n
 offers s c (Unlink p) = true
 offers s c (Rmdir p) = true
 offers s c (Read fd n) = true
+offers s c (Write fd bytes) = true
 offers s c (Seek fd offset whence) = true
+offers s c (Truncate fd size) = true
 offers s c (Fstat fd) = true
 offers s c (ListNames fd n) = true
 offers s c (Close fd) = true

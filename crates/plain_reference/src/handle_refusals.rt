@@ -13,7 +13,10 @@ ghost use Rattle.plain_reference.specs.States.{state_of};
 use crate::clients::Handle;
 use crate::node::{Node, is_folder};
 use crate::reference::Reference;
-use ov_base::Errno;
+use ov_base::{Bytes, Errno};
+
+/// The most bytes of a file.
+pub const FILE_MAX: u64 = 1_048_576;
 
 /// The most bytes of one read or write.
 const TRANSFER_MAX: u32 = 65_536;
@@ -28,7 +31,7 @@ fn can_read(handle: Option<&Handle>) -> bool
 }
 
 fn read_line(handle: Option<&Handle>, node: Option<&Node>, count: u32) -> Option<Errno>
-    ensures { result ≡ (rule.when (is_none (option_copied handle.entry)) Errno.EBADF or_else rule.when (nat_lt 65536 count) Errno.EINVAL or_else rule.when (plain.is_folder (shown (option_copied node.entry))) Errno.EISDIR or_else rule.when (not (rule.can_read (option_copied handle.entry))) Errno.EBADF) }
+    ensures { result ≡ (rule.when (is_none (option_copied handle.entry)) Errno.EBADF or_else rule.when (nat_lt rule.TRANSFER_MAX count) Errno.EINVAL or_else rule.when (plain.is_folder (shown (option_copied node.entry))) Errno.EISDIR or_else rule.when (not (rule.can_read (option_copied handle.entry))) Errno.EBADF) }
 {
     if handle.is_none() {
         return Some(Errno::EBADF);
@@ -41,6 +44,49 @@ fn read_line(handle: Option<&Handle>, node: Option<&Node>, count: u32) -> Option
     }
     if !can_read(handle) {
         return Some(Errno::EBADF);
+    }
+    None
+}
+
+fn can_write(handle: Option<&Handle>) -> bool
+    ensures { result ≡ rule.can_write (option_copied handle.entry) }
+{
+    match handle {
+        Some(handle) => handle.writes(),
+        None => false,
+    }
+}
+
+// The lines of a write that begins at a place.
+fn write_line(handle: Option<&Handle>, at: u64, bytes: &[u8]) -> Option<Errno>
+    ensures { result ≡ (rule.when (is_none (option_copied handle.entry)) Errno.EBADF or_else rule.when (nat_lt rule.TRANSFER_MAX (length bytes.now)) Errno.EINVAL or_else rule.when (not (rule.can_write (option_copied handle.entry))) Errno.EBADF or_else rule.when (nat_lt 0 (length bytes.now) && not (nat_lt at rule.FILE_MAX)) Errno.EFBIG) }
+{
+    if handle.is_none() {
+        return Some(Errno::EBADF);
+    }
+    if bytes.len() > TRANSFER_MAX as usize {
+        return Some(Errno::EINVAL);
+    }
+    if !can_write(handle) {
+        return Some(Errno::EBADF);
+    }
+    if bytes.len() > 0 && at >= FILE_MAX {
+        return Some(Errno::EFBIG);
+    }
+    None
+}
+
+fn truncate_line(handle: Option<&Handle>, size: u64) -> Option<Errno>
+    ensures { result ≡ (rule.when (is_none (option_copied handle.entry)) Errno.EBADF or_else rule.when (not (rule.can_write (option_copied handle.entry))) Errno.EINVAL or_else rule.when (nat_lt rule.FILE_MAX size) Errno.EFBIG) }
+{
+    if handle.is_none() {
+        return Some(Errno::EBADF);
+    }
+    if !can_write(handle) {
+        return Some(Errno::EINVAL);
+    }
+    if size > FILE_MAX {
+        return Some(Errno::EFBIG);
     }
     None
 }
@@ -98,6 +144,19 @@ impl Reference {
     {
         let handle = self.handle(client, descriptor);
         read_line(handle, self.handle_node(handle), count)
+    }
+
+    pub(crate) fn write_refusal(&self, client: u32, descriptor: u32, bytes: &Bytes) -> Option<Errno>
+        ensures { result ≡ refusal (state_of self.now) client (call.Write descriptor bytes.now) }
+    {
+        let handle = self.handle(client, descriptor);
+        write_line(handle, self.write_place(handle), bytes.as_slice())
+    }
+
+    pub(crate) fn truncate_refusal(&self, client: u32, descriptor: u32, size: u64) -> Option<Errno>
+        ensures { result ≡ refusal (state_of self.now) client (call.Truncate descriptor size) }
+    {
+        truncate_line(self.handle(client, descriptor), size)
     }
 
     pub(crate) fn list_refusal(&self, client: u32, descriptor: u32, count: u32) -> Option<Errno>

@@ -3,7 +3,7 @@ ghost use Rattle.std.specs.Prelude.{◌≡◌, None, IsSome, List};
 ghost use Rattle.std.specs.Option.{option_copied};
 ghost use Rattle.ov_base.specs.declared.call.Call.TheVariants as call;
 ghost use Rattle.ov_base.specs.declared.reply.Reply.TheVariants as reply;
-ghost use Rattle.plain_model.specs.Machine.{Table, bytes_of, handle_of, handle_node, place_of, seek_base};
+ghost use Rattle.plain_model.specs.Machine.{Table, bytes_of, handle_of, handle_node, place_of, seek_base, write_place};
 ghost use Rattle.plain_model.specs.Changes.{with_handle};
 ghost use Rattle.plain_model.specs.Replies.{stat_of_handle};
 ghost use Rattle.plain_model.specs.Runs.{Step};
@@ -12,7 +12,7 @@ ghost use Rattle.plain_reference.specs.Slots.{tree_of};
 ghost use Rattle.plain_reference.specs.States.{state_of, heard_by, Mute};
 
 use crate::clients::{Handle, open_handle};
-use crate::node::{Node, is_folder};
+use crate::node::{Node, bytes_in, is_folder};
 use crate::reference::Reference;
 use ov_base::{Errno, Reply};
 
@@ -52,6 +52,19 @@ impl Reference {
             Some(handle) => handle.view().bytes(self.tree.node(handle.node())),
             None => &[],
         }
+    }
+
+    /// Where a write begins.
+    pub(crate) fn write_place(&self, handle: Option<&Handle>) -> u64
+        ensures { result ≡ write_place (tree_of self.now.tree.slots.items) (option_copied handle.entry) }
+    {
+        let Some(handle) = handle else {
+            return 0;
+        };
+        if handle.append() {
+            return bytes_in(self.tree.node(handle.node())).len() as u64;
+        }
+        handle.place()
     }
 
     /// From where a seek counts.

@@ -85,6 +85,10 @@ impl Reference {
                 whence,
             } => Ok(Some(self.seek(client, *descriptor, *offset, *whence))),
             Call::Read { descriptor, count } => Ok(Some(self.read(client, *descriptor, *count)?)),
+            Call::Write { descriptor, bytes } => Ok(Some(self.write(client, *descriptor, bytes)?)),
+            Call::Truncate { descriptor, size } => {
+                Ok(Some(self.truncate(client, *descriptor, *size)?))
+            }
             Call::Fstat { descriptor } => Ok(Some(self.fstat(client, *descriptor))),
             Call::ListNames { descriptor, count } => {
                 Ok(Some(self.list(client, *descriptor, *count)?))
