@@ -1,36 +1,32 @@
 -- Steps that change one handle of a client.
-use Rattle.std.proofs.Common.{◌≡◌, ℕ, zero, suc, ◌||◌, List, [], Bool, true, false, not, cond, Option, None, Some, refl, sym, ap, subst, ◌∙◌, nat_eq, nat_lt, is_none, take, drop, unwrap_or}
-use Rattle.std.specs.Prelude.{pos}
+use Rattle.std.proofs.Common.{◌≡◌, ◌+◌, ◌-◌, ℕ, zero, suc, List, [], ◌∷◌, Bool, true, false, cond, length, nat_eq, Option, None, Some, refl, sym, ap, subst, ◌∙◌, is_none, take, drop, unwrap_or, arith}
+use Rattle.std.proofs.lemmas.Bool.{eqb-true}
 use Rattle.ov_base.specs.declared.call.Call.{Call}
-use Rattle.ov_base.specs.declared.call.Call.TheVariants.{Seek, Open}
+use Rattle.ov_base.specs.declared.call.Call.TheVariants.{Open, Write}
 use Rattle.ov_base.specs.declared.call.OpenFlags.{OpenFlags}
-use Rattle.ov_base.specs.declared.errno.Errno.{Errno}
-use Rattle.ov_base.specs.declared.errno.Errno.TheVariants.{EBADF, ENOTDIR, EINVAL}
 use Rattle.ov_base.specs.declared.node_id.NodeId.{NodeId}
 use Rattle.ov_base.specs.declared.reply.Reply.{Reply}
 use Rattle.plain_model.specs.Layers.{Name, Path}
-use Rattle.plain_model.specs.Tree.{Node, Branch, Leaf, Tree, Own, node_at, node_of, put, is_folder}
+use Rattle.plain_model.specs.Tree.{Node, Leaf, Tree, Own, node_at, node_of, put}
 use Rattle.ov_base.specs.declared.bytes.Content.TheVariants.{File}
 use Rattle.plain_model.specs.Watching.{Instance, AllHear}
-use Rattle.plain_model.specs.Machine.{State, Table, Handle, handle_of, handle_node, lowest_free, place_of, DESCRIPTORS_MAX}
-use Rattle.plain_model.proofs.Looking.{refusal-reading}
-use Rattle.plain_model.specs.Refusals.{◌or_else◌, when, refusal, descriptor_refusal}
-use Rattle.plain_model.specs.Changes.{after, change, over_node, opened, opens, new_handle, with_handle, made_way, way_of, fresh as fresh_attributes, next_if, listed_on, moved_to, rewound}
+use Rattle.plain_model.specs.Machine.{State, Table, Handle, handle_of, handle_node, lowest_free, place_of, write_place, DESCRIPTORS_MAX}
+use Rattle.plain_model.specs.Refusals.{refusal, FILE_MAX}
+use Rattle.plain_model.specs.Changes.{after, change, opened, opens, new_handle, with_handle, made_way, way_of, fresh as fresh_attributes, next_if, listed_on, moved_to, rewound, fitting, node_of_handle, over_node, with_bytes, wrote}
 use Rattle.plain_model.specs.Replies.{reply_of, page}
 use Rattle.plain_model.specs.Subjects.{subjects}
 use Rattle.plain_model.specs.Runs.{Step}
 use Rattle.plain_reference.specs.States.{Mute, silent_all, state_of, heard_by}
 use Rattle.plain_reference.specs.Slots.{tree_of}
-use Rattle.plain_reference.specs.Tables.{listing_of, kept, fresh, over_handle}
+use Rattle.plain_reference.specs.Tables.{listing_of, kept, over_handle}
 use Rattle.plain_reference.specs.declared.reference.Reference.{Reference}
-use Rattle.plain_reference.proofs.SlotLemmas.{put_same}
 use Rattle.plain_reference.proofs.StepLemmas.{silence, silent-with_handle, taken_step}
 
--- a call that changes one handle of a client, and perhaps the tree
-pub handled_step : (old new : Reference) (ks : List Table) (c fd : ℕ) (h : Option Handle) (k : Call) (r : Reply) → None ≡ refusal (heard_by old ks) c k → r ≡ reply_of (heard_by old ks) c k → new.clients.list.items ≡ with_handle old.clients.list.items c fd h → new.clients.arrived ≡ old.clients.arrived → new ≡ record old { tree = new.tree; clients = new.clients } → after (heard_by old ks) c k ≡ record (heard_by old ks) { tree = tree_of new.tree.slots.items; tables = with_handle old.clients.list.items c fd h } → Step Mute (heard_by old ks) c k r (heard_by new ks)
+-- a call that changes one handle of a client, and perhaps the tree and the serial
+pub handled_step : (old new : Reference) (ks : List Table) (c fd : ℕ) (h : Option Handle) (k : Call) (r : Reply) → None ≡ refusal (heard_by old ks) c k → r ≡ reply_of (heard_by old ks) c k → new.clients.list.items ≡ with_handle old.clients.list.items c fd h → new.clients.arrived ≡ old.clients.arrived → new ≡ record old { tree = new.tree; clients = new.clients; serial = new.serial } → after (heard_by old ks) c k ≡ record (heard_by old ks) { tree = tree_of new.tree.slots.items; serial = new.serial; tables = with_handle old.clients.list.items c fd h } → Step Mute (heard_by old ks) c k r (heard_by new ks)
 handled_step old new ks c fd h k r none answer tables arrived rest shape =
-    let to : State = record (heard_by old ks) { tree = tree_of new.tree.slots.items; tables = with_handle old.clients.list.items c fd h } in
-    let is_to : heard_by new ks ≡ to = ap (λ (x : Reference). heard_by x ks) rest ∙ (λ i. record (heard_by old ks) { tree = tree_of new.tree.slots.items; arrived = arrived i; tables = tables i }) in
+    let to : State = record (heard_by old ks) { tree = tree_of new.tree.slots.items; serial = new.serial; tables = with_handle old.clients.list.items c fd h } in
+    let is_to : heard_by new ks ≡ to = ap (λ (x : Reference). heard_by x ks) rest ∙ (λ i. record (heard_by old ks) { tree = tree_of new.tree.slots.items; serial = new.serial; arrived = arrived i; tables = tables i }) in
     let steps : to ≡ record (after (heard_by old ks) c k) { instances = to.instances } = sym (ap (λ (a : State). record a { instances = silent_all ks }) shape) in
     let hears = subst (λ (es : List Instance). AllHear Mute (subjects (heard_by old ks) c k) es (silent_all ks)) (sym (ap (λ (a : State). a.instances) shape)) (silence (subjects (heard_by old ks) c k) ks) in
     subst (λ (t : State). Step Mute (heard_by old ks) c k r t) (sym is_to) (taken_step (heard_by old ks) to c k r none (record { answer = answer; state = steps; heard = hears }))
@@ -39,9 +35,9 @@ handled_step old new ks c fd h k r none answer tables arrived rest shape =
 pub own_step : (old new : Reference) (c fd : ℕ) (h : Option Handle) (k : Call) (r : Reply) → new.clients.list.items ≡ with_handle old.clients.list.items c fd h → Step Mute (heard_by old old.clients.list.items) c k r (heard_by new old.clients.list.items) → Step Mute (state_of old) c k r (state_of new)
 own_step old new c fd h k r tables step = subst (λ (es : List Instance). Step Mute (state_of old) c k r (record (state_of new) { instances = es })) (sym (ap silent_all tables ∙ silent-with_handle old.clients.list.items c fd h)) step
 
--- the lines of a listing
-abbrev pub list_rule : Option Handle → Option Node → ℕ → Option Errno
-list_rule h x n = when (is_none h) EBADF or_else when (not (is_folder x)) ENOTDIR or_else when (nat_eq n 0 || nat_lt 256 n) EINVAL
+-- the same of a client that stays
+pub held_step : (old new : Reference) (c fd : ℕ) (h : Option Handle) (k : Call) (r : Reply) → None ≡ refusal (state_of old) c k → r ≡ reply_of (state_of old) c k → new.clients.list.items ≡ with_handle old.clients.list.items c fd h → new.clients.arrived ≡ old.clients.arrived → new ≡ record old { tree = new.tree; clients = new.clients; serial = new.serial } → after (state_of old) c k ≡ record (state_of old) { tree = tree_of new.tree.slots.items; serial = new.serial; tables = with_handle old.clients.list.items c fd h } → Step Mute (state_of old) c k r (state_of new)
+held_step old new c fd h k r none answer tables arrived rest shape = own_step old new c fd h k r tables (handled_step old new old.clients.list.items c fd h k r none answer tables arrived rest shape)
 
 no_names : (n : ℕ) → take n (drop 0 []) ≡ (let none : List Name = [] in none)
 no_names zero = refl
@@ -57,51 +53,49 @@ pub kept_on : (t : Tree) (h : Option Handle) (n : ℕ) → over_handle (kept (li
 kept_on t None n = refl
 kept_on t (Some h) n = refl
 
-seek_rule : (s : State) (h : Option Handle) (x : Option Node) (c fd : ℕ) → is_none h ≡ false → is_folder x ≡ true → None ≡ descriptor_refusal s h x c (Seek fd (pos 0) 0)
-seek_rule s None x c fd e f = absurd (cc)
-seek_rule s (Some h) None c fd e f = absurd (cc)
-seek_rule s (Some h) (Some (Branch a b names l)) c fd e f = refl
-seek_rule s (Some h) (Some (Leaf content a u l)) c fd e f = absurd (cc)
-
--- a seek to the start of a directory is not refused
-pub seek_taken : (s : State) (c fd : ℕ) → is_none (handle_of s.tables c fd) ≡ false → is_folder (handle_node s.tree (handle_of s.tables c fd)) ≡ true → None ≡ refusal s c (Seek fd (pos 0) 0)
-seek_taken s c fd e f = seek_rule s (handle_of s.tables c fd) (handle_node s.tree (handle_of s.tables c fd)) c fd e f ∙ sym (refusal-reading s c (Seek fd (pos 0) 0) refl)
-
--- a handle that is rewound
-pub rewound_on : (b : Bool) (h : Option Handle) → b ≡ true → rewound b (moved_to 0 h) ≡ over_handle fresh h
-rewound_on true None e = refl
-rewound_on true (Some h) e = refl
-rewound_on false h e = absurd (cc)
-
-same_cond : (b : Bool) (x : Node) → cond b x x ≡ x
-same_cond true x = refl
-same_cond false x = refl
-
-opened_folder : (f : OpenFlags) (o : Option Node) → is_folder o ≡ true → over_node (opened f) o ≡ o
-opened_folder f None e = absurd (cc)
-opened_folder f (Some (Branch a b names l)) e = ap Some (ap (λ (x : Node). cond f.writes x (Branch a b names l)) (same_cond f.truncate (Branch a b names l)) ∙ same_cond f.writes (Branch a b names l))
-opened_folder f (Some (Leaf content a u l)) e = absurd (cc)
-
-handle_folder : (f : OpenFlags) (d : NodeId) (way : Option (NodeId × Name)) (o : Option Node) → is_folder o ≡ true → new_handle f d way o ≡ new_handle f d way None
-handle_folder f d way None e = refl
-handle_folder f d way (Some (Branch a b names l)) e = refl
-handle_folder f d way (Some (Leaf content a u l)) e = absurd (cc)
+-- a handle that moves, and keeps its listing
+pub moved_alone : (at : ℕ) (h : Option Handle) → rewound false (moved_to at h) ≡ moved_to at h
+moved_alone at None = refl
+moved_alone at (Some h) = refl
 
 abbrev pub free_of : State → ℕ → ℕ
 free_of s c = unwrap_or (lowest_free s.tables c) DESCRIPTORS_MAX
 
 -- the state after an open that leads to an identity, or to none
-abbrev open_at : State → ℕ → Path → OpenFlags → ℕ → Option NodeId → State
+abbrev pub open_at : State → ℕ → Path → OpenFlags → ℕ → Option NodeId → State
 open_at s c p f mode o = record s {
   tree = cond (is_none o) (made_way s.tree s.serial (way_of s.tree p) (Leaf (File []) (fresh_attributes mode) Own 1)) (change (opened f) s.tree o);
   serial = next_if (is_none o) s.serial;
   tables = with_handle s.tables c (free_of s c) (Some (new_handle f (opens o s.serial) (way_of s.tree p) (node_of s.tree o)));
 }
 
--- an open of a directory changes the descriptors alone
-pub opened_after : (s : State) (c : ℕ) (p : Path) (f : OpenFlags) (mode : ℕ) (d : NodeId) → node_at s.tree p ≡ Some d → is_folder (s.tree d) ≡ true → after s c (Open p f mode) ≡ record s { tables = with_handle s.tables c (free_of s c) (Some (new_handle f d (way_of s.tree p) None)) }
-opened_after s c p f mode d at folder =
-    let tree : put s.tree d (over_node (opened f) (s.tree d)) ≡ s.tree = ap (λ (o : Option Node). put s.tree d o) (opened_folder f (s.tree d) folder) ∙ put_same s.tree d in
-    let handle : new_handle f d (way_of s.tree p) (s.tree d) ≡ new_handle f d (way_of s.tree p) None = handle_folder f d (way_of s.tree p) (s.tree d) folder in
-    ap (open_at s c p f mode) at
-    ∙ (λ i. record s { tree = tree i; tables = with_handle s.tables c (free_of s c) (Some (handle i)) })
+pub opened_after : (s : State) (c : ℕ) (p : Path) (f : OpenFlags) (mode : ℕ) (o : Option NodeId) → node_at s.tree p ≡ o → after s c (Open p f mode) ≡ open_at s c p f mode o
+opened_after s c p f mode o at = ap (open_at s c p f mode) at
+
+filled : (f : Option Node → List ℕ) (o : Option Node) → over_node (with_bytes (f o)) o ≡ over_node (λ x. with_bytes (f (Some x)) x) o
+filled f None = refl
+filled f (Some x) = refl
+
+-- a handle's node that gets bytes made of itself
+pub filled_alone : (f : Option Node → List ℕ) (t : Tree) (h : Option Handle) → change (with_bytes (f (handle_node t h))) t (node_of_handle h) ≡ change (λ x. with_bytes (f (Some x)) x) t (node_of_handle h)
+filled_alone f t None = refl
+filled_alone f t (Some h) = ap (λ (o : Option Node). put t h.node o) (filled f (t h.node))
+
+-- the state after a write of some bytes, or of none
+abbrev pub write_at : State → ℕ → ℕ → List ℕ → Bool → State
+write_at s c fd bytes none = record s {
+  tree = cond none s.tree (change (wrote (write_place s.tree (handle_of s.tables c fd)) bytes) s.tree (node_of_handle (handle_of s.tables c fd)));
+  tables = cond none s.tables (with_handle s.tables c fd (moved_to (write_place s.tree (handle_of s.tables c fd) + length (fitting (write_place s.tree (handle_of s.tables c fd)) bytes)) (handle_of s.tables c fd)));
+}
+
+pub written_after : (s : State) (c fd : ℕ) (bytes : List ℕ) (none : Bool) → nat_eq (length bytes) 0 ≡ none → after s c (Write fd bytes) ≡ write_at s c fd bytes none
+written_after s c fd bytes none e = ap (write_at s c fd bytes) e
+
+no_part : (n : ℕ) → 0 ≡ length (take n (let none : List ℕ = [] in none))
+no_part zero = refl
+no_part (suc n) = refl
+
+-- of no bytes none are written
+pub none_fit : (at : ℕ) (bytes : List ℕ) → nat_eq (length bytes) 0 ≡ true → 0 ≡ length (fitting at bytes)
+none_fit at [] e = no_part (FILE_MAX - at)
+none_fit at (b ∷ bytes) e = let zero_long : length (b ∷ bytes) ≡ 0 = eqb-true (length (b ∷ bytes)) 0 e in absurd (omega arith)

@@ -1,11 +1,13 @@
--- A call by path that a line of the order of checks refuses, is refused so by the machine.
-use Rattle.std.proofs.Common.{◌≡◌, ℕ, false, Option, None, sym, ap, ◌∙◌}
+-- A call that a line of the order of checks refuses, is refused so by the machine.
+use Rattle.std.proofs.Common.{◌≡◌, ℕ, List, false, not, ◌&&◌, nat_lt, length, Option, None, is_none, sym, ap, ◌∙◌}
 use Rattle.ov_base.specs.declared.call.Call.{Call}
+use Rattle.ov_base.specs.declared.errno.Errno.{Errno}
+use Rattle.ov_base.specs.declared.errno.Errno.TheVariants.{EBADF, EINVAL, EFBIG}
 use Rattle.plain_model.specs.Layers.{Path}
 use Rattle.plain_model.specs.Tree.{Node, Tree, node_at, node_of}
-use Rattle.plain_model.specs.Machine.{State, Look, look, node_found, handle_of, handle_node}
-use Rattle.plain_model.specs.Refusals.{path_refusal, descriptor_refusal, path_of, descriptor_of, refusal, ◌or_else◌}
-use Rattle.plain_model.proofs.Looking.{refusal-writable}
+use Rattle.plain_model.specs.Machine.{State, Handle, Look, look, node_found, handle_of, handle_node}
+use Rattle.plain_model.specs.Refusals.{path_refusal, descriptor_refusal, path_of, descriptor_of, writes, refusal, ◌or_else◌, when, can_write, FILE_MAX, TRANSFER_MAX}
+use Rattle.plain_model.proofs.Looking.{refusal-writable, refusal-reading}
 use Rattle.plain_reference.proofs.OrLemmas.{or_none}
 use Rattle.plain_reference.proofs.WalkLemmas.{found-look}
 
@@ -24,3 +26,15 @@ by_path s c k l o walk node none writable =
     ∙ sym (or_none _)
     ∙ ap (λ e. path_refusal s (look s.tree (path_of k)) (node_of s.tree (node_at s.tree (path_of k))) c k or_else e) (sym none)
     ∙ sym (refusal-writable s c k writable)
+
+-- a call by descriptor, from its handle and the node of that
+pub by_handle : (s : State) (c : ℕ) (k : Call) (h : Option Handle) (x : Option Node) → h ≡ handle_of s.tables c (descriptor_of k) → x ≡ handle_node s.tree h → path_refusal s (look s.tree (path_of k)) (node_of s.tree (node_at s.tree (path_of k))) c k ≡ None → writes s k ≡ false → descriptor_refusal s h x c k ≡ refusal s c k
+by_handle s c k h x handle node none reads =
+    ap (λ (y : Option Node). descriptor_refusal s h y c k) node
+    ∙ ap (λ (g : Option Handle). descriptor_refusal s g (handle_node s.tree g) c k) handle
+    ∙ ap (λ (e : Option Errno). e or_else descriptor_refusal s (handle_of s.tables c (descriptor_of k)) (handle_node s.tree (handle_of s.tables c (descriptor_of k))) c k) (sym none)
+    ∙ sym (refusal-reading s c k reads)
+
+-- the lines of a write that begins at a place
+abbrev pub write_rule : Option Handle → ℕ → List ℕ → Option Errno
+write_rule h at bytes = when (is_none h) EBADF or_else when (nat_lt TRANSFER_MAX (length bytes)) EINVAL or_else when (not (can_write h)) EBADF or_else when (nat_lt 0 (length bytes) && not (nat_lt at FILE_MAX)) EFBIG

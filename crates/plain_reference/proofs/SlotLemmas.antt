@@ -9,6 +9,7 @@ use Rattle.ov_base.specs.declared.node_id.NodeId.{NodeId}
 use Rattle.ov_base.specs.declared.node_id.NodeId.TheVariants.{At, New}
 use Rattle.plain_model.specs.Tree as plain
 use Rattle.plain_model.specs.Tree.{Tree, same_id, put}
+use Rattle.plain_model.specs.Changes.{change, over_node}
 use Rattle.plain_reference.specs.Nodes.{shown}
 use Rattle.plain_reference.specs.Slots.{tree_of}
 use Rattle.plain_reference.specs.declared.tree.Slot.{Slot}
@@ -156,3 +157,11 @@ either_true n h (inr e) = ap (λ b. b || h) e
 -- a node that has a name or a handle stays
 pub kept : (t : Tree) (d : NodeId) (n h : Bool) → ((n ≡ false) × (h ≡ true)) ⊎ (n ≡ true) → t ≡ put t d (cond (n || h) (t d) None)
 kept t d n h e = sym (put_same t d) ∙ ap (λ (b : Bool). put t d (cond b (t d) None)) (sym (either_true n h e))
+
+-- a node that was changed in its slot, is changed in the tree
+pub changed_in : (f : plain.Node → plain.Node) (ps : List Slot) (d : NodeId) (k : ℕ) (s p : Slot) → place ps d ≡ Some k → s ≡ get_or ps k s → p.id ≡ s.id → shown p.node ≡ over_node f (shown s.node) → tree_of (set ps k p) ≡ change f (tree_of ps) (Some d)
+changed_in f ps d k s p e is same_slot new = tree_with ps d k s p e is same_slot ∙ ap (λ (o : Option plain.Node). put (tree_of ps) d o) (new ∙ ap (over_node f) (node_in ps d k s e is))
+
+-- with no slot of the identity, no node changes
+pub changed_nowhere : (f : plain.Node → plain.Node) (ps : List Slot) (d : NodeId) → place ps d ≡ None → tree_of ps ≡ change f (tree_of ps) (Some d)
+changed_nowhere f ps d e = sym (ap (λ (o : Option plain.Node). put (tree_of ps) d (over_node f o)) (no_node ps d e) ∙ put_absent ps d e)

@@ -2,6 +2,7 @@ pub mod Codes
 pub mod Keys
 pub mod Nodes
 pub mod Slots
+pub mod Views
 pub mod Tables
 pub mod Looks
 pub mod States

@@ -1,10 +1,10 @@
 -- Which calls the reference offers, and how it answers.
-use Rattle.std.specs.Prelude.{◌≡◌, ℕ, Bool, true, false, not, ◌||◌, Option, None, Some, is_none, is_some, nat_eq, nat_lt, [], length}
+use Rattle.std.specs.Prelude.{◌≡◌, ℕ, Bool, true, false, not, ◌||◌, Option, None, Some, is_some, nat_eq, nat_lt, [], length}
 use Rattle.ov_base.specs.declared.call.Call.{Call}
-use Rattle.ov_base.specs.declared.call.Call.TheVariants.{Stat, Readlink, Chmod, Chown, SetAttribute, GetAttribute, DeleteAttribute, ListAttributes, Mkdir, Symlink, Open, Unlink, Rmdir, Seek, ListNames, Close}
+use Rattle.ov_base.specs.declared.call.Call.TheVariants.{Stat, Readlink, Chmod, Chown, SetAttribute, GetAttribute, DeleteAttribute, ListAttributes, Mkdir, Symlink, Open, Unlink, Rmdir, Read, Write, Seek, Truncate, Fstat, ListNames, Close}
 use Rattle.ov_base.specs.declared.reply.Reply.{Reply}
-use Rattle.plain_model.specs.Tree.{node_at, node_of, is_folder}
-use Rattle.plain_model.specs.Machine.{State, handle_of, handle_node}
+use Rattle.plain_model.specs.Tree.{node_at}
+use Rattle.plain_model.specs.Machine.{State}
 use Rattle.plain_model.specs.Refusals.{refusal}
 use Rattle.plain_model.specs.Runs.{Step, CLIENTS_MAX, Attached, Detached, Does, is_attached}
 use Rattle.plain_reference.specs.States.{Mute}
@@ -13,8 +13,7 @@ use Rattle.plain_reference.specs.States.{Mute}
 abbrev pub has_serial : State → Bool
 has_serial s = not (nat_eq s.serial 0xffff_ffff_ffff_ffff)
 
--- The calls that are offered: those of names, attributes and directories, an open that is refused or of a directory, and a seek that is
--- not on another object's handle.
+-- the calls that are offered: those of names, attributes and handles, but no new node when the serials have run out
 abbrev pub offers : State → ℕ → Call → Bool
 offers s c (Stat p) = true
 offers s c (Readlink p) = true
@@ -26,10 +25,14 @@ offers s c (DeleteAttribute p n) = true
 offers s c (ListAttributes p) = true
 offers s c (Mkdir p mode) = has_serial s
 offers s c (Symlink target p) = has_serial s
-offers s c (Open p f mode) = is_some (refusal s c (Open p f mode)) || is_folder (node_of s.tree (node_at s.tree p))
+offers s c (Open p f mode) = is_some (refusal s c (Open p f mode)) || is_some (node_at s.tree p) || has_serial s
 offers s c (Unlink p) = true
 offers s c (Rmdir p) = true
-offers s c (Seek fd offset whence) = is_none (handle_of s.tables c fd) || is_folder (handle_node s.tree (handle_of s.tables c fd))
+offers s c (Read fd n) = true
+offers s c (Write fd bytes) = true
+offers s c (Seek fd offset whence) = true
+offers s c (Truncate fd size) = true
+offers s c (Fstat fd) = true
 offers s c (ListNames fd n) = true
 offers s c (Close fd) = true
 offers s c _ = false

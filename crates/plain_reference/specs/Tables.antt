@@ -24,10 +24,6 @@ listing_of t (Some h) = listing t h
 abbrev pub kept : List Name → ℕ → Handle → Handle
 kept names n h = record h { listed = Some names; place = min (length names) (h.place + n) }
 
--- a handle at the start, without a listing
-abbrev pub fresh : Handle → Handle
-fresh h = record h { place = 0; listed = None }
-
 abbrev pub over_handle : (Handle → Handle) → Option Handle → Option Handle
 over_handle f None = None
 over_handle f (Some h) = Some (f h)

@@ -1,5 +1,5 @@
 // The calls that change the tree.
-ghost use Rattle.std.specs.Prelude.{◌≡◌, ◌+◌, ◌<◌, ◌^◌, Some, OnOk, OnErr, IfOk, false};
+ghost use Rattle.std.specs.Prelude.{◌≡◌, ◌+◌, ◌<◌, ◌^◌, [], Some, OnOk, OnErr, IfOk, false};
 ghost use Rattle.std.specs.FinMap as map;
 ghost use Rattle.ov_base.specs.declared.bytes.Content.TheVariants as content;
 ghost use Rattle.ov_base.specs.declared.call.Call.TheVariants as call;
@@ -52,9 +52,21 @@ fn new_link(alloc: Global, target: LinkTarget) -> Node
     }
 }
 
+/// A new file, without bytes.
+pub fn new_file(alloc: Global, mode: Mode) -> Node
+    ensures { node_of result ≡ plain.Leaf (content.File []) (fresh mode) plain.Own 1 }
+{
+    Node::Leaf {
+        content: Content::File(Bytes::new(alloc)),
+        attributes: fresh(alloc, mode),
+        origin: Origin::Own,
+        count: 1,
+    }
+}
+
 impl Reference {
-    // Puts a new node under the next serial, and leads the last name of a path to it.
-    fn make(&mut self, path: &Path, node: Node) -> Result<(), AllocError>
+    /// Puts a new node under the next serial, and leads the last name of a path to it.
+    pub(crate) fn make(&mut self, path: &Path, node: Node) -> Result<(), AllocError>
         ensures ok { OnOk result (tree_of self.new.tree.slots.items ≡ made_way (tree_of self.old.tree.slots.items) self.old.serial (way_of (tree_of self.old.tree.slots.items) path.now) (node_of node)) }
         ensures err { OnErr result (tree_of self.new.tree.slots.items ≡ tree_of self.old.tree.slots.items) }
         ensures rest { self.new ≡ record self.old { tree = self.new.tree } }

@@ -3,11 +3,13 @@ ghost use Rattle.std.specs.Prelude.{◌≡◌, ◌+◌, ◌<◌, ◌^◌, ◌∷
 ghost use Rattle.std.specs.Option.{option_copied};
 ghost use Rattle.std.specs.List.{list_any};
 ghost use Rattle.plain_model.specs.Machine.{DESCRIPTORS_MAX, free_table, handles_of, held_in, handle_of, lowest_free};
-ghost use Rattle.plain_model.specs.Changes.{holds, is_held, new_handle, with_handle};
+ghost use Rattle.plain_model.specs.Changes.{holds, is_held, moved_to, rewound, with_handle};
 ghost use Rattle.plain_model.specs.Runs.{CLIENTS_MAX};
-ghost use Rattle.plain_reference.specs.Tables.{AreNumbered, AreNumbered-prop, kept, fresh, over_handle};
+ghost use Rattle.plain_reference.specs.Tables.{AreNumbered, AreNumbered-prop, kept, over_handle};
+ghost use Rattle.plain_reference.specs.Views.{seen};
 
 use crate::id::Id;
+use crate::view::View;
 use ov_base::{Name, NameList, OpenFlags};
 use std::alloc::{AllocError, Global};
 use std::marker::Model;
@@ -18,8 +20,8 @@ pub const DESCRIPTORS: usize = 64;
 /// The most clients that are attached at a time.
 pub const CLIENTS: usize = 64;
 
-/// An open handle of a directory: its node, the flags of its `open`, its place in the listing, the directory and name by which it
-/// was opened, and the listing that it keeps.
+/// An open handle: its node, the flags of its `open`, its place in bytes or names, the directory and name by which it was opened,
+/// what it sees, and the listing that it keeps.
 #[derive(Drop)]
 pub struct Handle {
     pub node: Id,
@@ -28,21 +30,23 @@ pub struct Handle {
     pub append: bool,
     pub place: u64,
     pub way: Option<(Id, Name)>,
+    pub view: View,
     pub listed: Option<NameList>,
 }
 
 impl Model for Handle {
     ghost use Rattle.plain_model.specs.Machine as machine;
+    ghost use Rattle.plain_reference.specs.Views.{seen};
 
     ghost Value = { machine.Handle };
 
-    ghost view = { λ h. record { node = h.node; reads = h.reads; writes = h.writes; append = h.append; place = h.place; way = h.way; view = machine.Live; listed = h.listed } };
+    ghost view = { λ h. record { node = h.node; reads = h.reads; writes = h.writes; append = h.append; place = h.place; way = h.way; view = seen h.view; listed = h.listed } };
 }
 
 impl Handle {
-    /// A handle on a directory, as an open with these flags makes it.
-    pub fn new(flags: OpenFlags, node: Id, way: Option<(Id, Name)>) -> Handle
-        ensures { result ≡ new_handle flags node way None }
+    /// A handle at the start, as an open with these flags makes it.
+    pub fn new(flags: OpenFlags, node: Id, way: Option<(Id, Name)>, view: View) -> Handle
+        ensures { result ≡ (record { node = node; reads = flags.reads; writes = flags.writes; append = flags.append; place = 0; way = way; view = seen view; listed = None }) }
     {
         Handle {
             node,
@@ -51,6 +55,7 @@ impl Handle {
             append: flags.append,
             place: 0,
             way,
+            view,
             listed: None,
         }
     }
@@ -62,7 +67,35 @@ impl Handle {
         &self.node
     }
 
-    /// The place in the listing.
+    /// Whether it may read.
+    pub fn reads(&self) -> bool
+        ensures { result ≡ self.now.reads }
+    {
+        self.reads
+    }
+
+    /// Whether it may write.
+    pub fn writes(&self) -> bool
+        ensures { result ≡ self.now.writes }
+    {
+        self.writes
+    }
+
+    /// Whether its writes go to the end.
+    pub fn append(&self) -> bool
+        ensures { result ≡ self.now.append }
+    {
+        self.append
+    }
+
+    /// What it sees.
+    pub fn view(&self) -> &View
+        ensures { seen result.now ≡ self.now.view }
+    {
+        &self.view
+    }
+
+    /// The place in bytes or names.
     pub fn place(&self) -> u64
         ensures { result ≡ self.now.place }
     {
@@ -85,12 +118,14 @@ impl Handle {
         self.listed = Some(names);
     }
 
-    /// Goes back to the start, and forgets the listing.
-    pub fn rewind(&mut self)
-        ensures { self.new ≡ fresh self.old }
+    /// Goes to a place; a directory's handle forgets its listing.
+    pub fn move_to(&mut self, place: u64, is_directory: bool)
+        ensures { Some self.new ≡ rewound is_directory (moved_to place (Some self.old)) }
     {
-        self.place = 0;
-        self.listed = None;
+        self.place = place;
+        if is_directory {
+            self.listed = None;
+        }
     }
 }
 
@@ -250,13 +285,13 @@ impl Clients {
         }
     }
 
-    /// Lets a client's handle go back to the start, and forget its listing.
-    pub fn rewind(&mut self, number: u32, descriptor: u32)
-        ensures list { self.new.list.items ≡ with_handle self.old.list.items number descriptor (over_handle fresh (handle_of self.old.list.items number descriptor)) }
+    /// Lets a client's handle go to a place; a directory's forgets its listing.
+    pub fn move_to(&mut self, number: u32, descriptor: u32, place: u64, is_directory: bool)
+        ensures list { self.new.list.items ≡ with_handle self.old.list.items number descriptor (rewound is_directory (moved_to place (handle_of self.old.list.items number descriptor))) }
         ensures arrived { self.new.arrived ≡ self.old.arrived }
     {
         if let Some(mut handle) = self.take(number, descriptor) {
-            handle.rewind();
+            handle.move_to(place, is_directory);
             self.set(number, descriptor, Some(handle));
         }
     }

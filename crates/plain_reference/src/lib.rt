@@ -1,4 +1,4 @@
-//! A slow reference of the plain machine, for tests alone: one tree, its clients and their directory handles, in ordinary values.
+//! A slow reference of the plain machine, for tests alone: one tree, its clients and their handles, in ordinary values.
 //! Its contracts are the definitions of the crate `plain_model`; nothing in the engine stands on it.
 #![tactic(auto)]
 
@@ -8,15 +8,20 @@ mod calls;
 mod changes;
 mod clients;
 mod directories;
+mod files;
+mod handle_refusals;
+mod handles;
 mod id;
 mod names;
 mod node;
+mod opens;
 mod reference;
 mod refusals;
 mod runs;
 mod sights;
 mod tree;
 mod user_attributes;
+mod view;
 mod walk;
 
 pub use builder::Builder;

@@ -4,13 +4,15 @@ ghost use Rattle.std.specs.Option.{option_copied};
 ghost use Rattle.plain_model.specs.Tree.{with_name, shown_links};
 ghost use Rattle.plain_model.specs.Machine.{is_link, has_names, bytes_of_node, user_of, value_of};
 ghost use Rattle.plain_model.specs.Tree.{is_folder};
-ghost use Rattle.plain_model.specs.Changes.{one_fewer, is_named, names_in};
+ghost use Rattle.plain_model.specs.Changes.{one_fewer, is_named, names_in, opened, touched, with_bytes};
 ghost use Rattle.plain_model.specs.Replies.{stat_of, stat_by, capped};
 ghost use Rattle.plain_reference.specs.Nodes.{shown, plain, origin_of, attributes_at, given};
 
 use crate::id::Id;
 use crate::names::Names;
-use ov_base::{Attributes, Bytes, Content, Name, NameList, ObjectKind, Reply, Stat, Texts};
+use ov_base::{
+    Attributes, Bytes, Content, Name, NameList, ObjectKind, OpenFlags, Reply, Stat, Texts,
+};
 use std::alloc::{AllocError, Global};
 
 /// Where a file or symbolic link stands: in the upper layer, or untouched in a lower one, whose link count it shows.
@@ -183,6 +185,42 @@ impl Node {
     }
 }
 
+impl Node {
+    // Copies a file or symbolic link of a lower layer up.
+    fn touch(&mut self)
+        ensures { plain self.new ≡ touched (plain self.old) }
+    {
+        if let Node::Leaf { origin, .. } = self {
+            *origin = Origin::Own;
+        }
+    }
+
+    /// Gives a file other bytes; another node stays as it is.
+    pub fn fill(&mut self, other: Bytes)
+        ensures { plain self.new ≡ with_bytes other (plain self.old) }
+    {
+        if let Node::Leaf {
+            content: Content::File(bytes),
+            ..
+        } = self
+        {
+            *bytes = other;
+        }
+    }
+
+    /// Lets the node be opened: write access copies a file up, and TRUNC empties it.
+    pub fn open(&mut self, alloc: Global, flags: OpenFlags)
+        ensures { plain self.new ≡ opened flags (plain self.old) }
+    {
+        if flags.writes {
+            self.touch();
+            if flags.truncate {
+                self.fill(Bytes::new(alloc));
+            }
+        }
+    }
+}
+
 /// The sorted names of a directory; of another node none.
 pub fn names_in(alloc: Global, node: Option<&Node>) -> Result<NameList, AllocError>
     ensures { IfOk result (λ list. list ≡ names_in (shown (option_copied node.entry))) }
@@ -193,7 +231,8 @@ pub fn names_in(alloc: Global, node: Option<&Node>) -> Result<NameList, AllocErr
     }
 }
 
-fn stat_by(kind: ObjectKind, attributes: &Attributes, size: u64, links: u32) -> Reply
+/// The status of an object.
+pub fn stat_by(kind: ObjectKind, attributes: &Attributes, size: u64, links: u32) -> Reply
     ensures { result ≡ stat_by kind attributes.now size links }
 {
     Reply::Status(Stat {
@@ -206,7 +245,8 @@ fn stat_by(kind: ObjectKind, attributes: &Attributes, size: u64, links: u32) -> 
     })
 }
 
-fn capped(links: u64) -> u32
+/// The link count that stat(2) has room for.
+pub fn capped(links: u64) -> u32
     ensures { result ≡ capped links }
 {
     links.min(u64::from(u32::MAX)) as u32
@@ -259,15 +299,22 @@ pub fn stat_of(node: Option<&Node>) -> Reply
     }
 }
 
-/// A copy of the bytes of a file, or of the target of a symbolic link; of another node none.
-pub fn bytes_of(alloc: Global, node: Option<&Node>) -> Result<Bytes, AllocError>
-    ensures { IfOk result (λ bytes. bytes ≡ bytes_of_node (shown (option_copied node.entry))) }
+/// The bytes of a file, or of the target of a symbolic link; of another node none.
+pub fn bytes_in<'a>(node: Option<&'a Node>) -> &'a [u8]
+    ensures { result.now ≡ bytes_of_node (shown (option_copied node.entry)) }
 {
     match node {
         Some(Node::Leaf { content, .. }) => match content {
-            Content::File(bytes) => bytes.clone(),
-            Content::SymbolicLink(target) => target.as_bytes().clone(),
+            Content::File(bytes) => bytes.as_slice(),
+            Content::SymbolicLink(target) => target.as_bytes().as_slice(),
         },
-        _ => Ok(Bytes::new(alloc)),
+        _ => &[],
     }
+}
+
+/// A copy of those bytes.
+pub fn bytes_of(alloc: Global, node: Option<&Node>) -> Result<Bytes, AllocError>
+    ensures { IfOk result (λ bytes. bytes ≡ bytes_of_node (shown (option_copied node.entry))) }
+{
+    Bytes::from_slice(alloc, bytes_in(node))
 }

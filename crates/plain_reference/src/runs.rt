@@ -55,8 +55,8 @@ impl Reference {
         true
     }
 
-    /// Makes a client's call as the plain machine does. None where it isn't offered: a call on files or watches, one that
-    /// moves or links, or a new node when the serials have run out. Want of memory changes nothing.
+    /// Makes a client's call as the plain machine does. None where it isn't offered: a call on watches, one that moves or
+    /// links, or a new node when the serials have run out. Want of memory changes nothing.
     pub fn call(&mut self, client: u32, call: &Call) -> Result<Option<Reply>, AllocError>
         ensures answer { IfOk result (λ answer. Answers (state_of self.old) client call.now answer (state_of self.new)) }
         ensures err { OnErr result (state_of self.new ≡ state_of self.old) }
@@ -83,7 +83,13 @@ impl Reference {
                 descriptor,
                 offset,
                 whence,
-            } => Ok(self.seek(client, *descriptor, *offset, *whence)),
+            } => Ok(Some(self.seek(client, *descriptor, *offset, *whence))),
+            Call::Read { descriptor, count } => Ok(Some(self.read(client, *descriptor, *count)?)),
+            Call::Write { descriptor, bytes } => Ok(Some(self.write(client, *descriptor, bytes)?)),
+            Call::Truncate { descriptor, size } => {
+                Ok(Some(self.truncate(client, *descriptor, *size)?))
+            }
+            Call::Fstat { descriptor } => Ok(Some(self.fstat(client, *descriptor))),
             Call::ListNames { descriptor, count } => {
                 Ok(Some(self.list(client, *descriptor, *count)?))
             }

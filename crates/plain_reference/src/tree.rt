@@ -2,13 +2,13 @@
 ghost use Rattle.std.specs.Prelude.{◌≡◌, ◌<◌, [], Some, None, OnOk, OnErr, IfSome, length, drop, position, vec_len};
 ghost use Rattle.std.specs.Option.{option_copied};
 ghost use Rattle.plain_model.specs.Tree.{same_id, put, lead};
-ghost use Rattle.plain_model.specs.Changes.{change, one_fewer};
+ghost use Rattle.plain_model.specs.Changes.{change, one_fewer, opened, with_bytes};
 ghost use Rattle.plain_reference.specs.Nodes.{shown, plain, given};
 ghost use Rattle.plain_reference.specs.Slots.{tree_of};
 
 use crate::id::Id;
 use crate::node::Node;
-use ov_base::{Attributes, Name};
+use ov_base::{Attributes, Bytes, Name, OpenFlags};
 use std::alloc::{AllocError, Global};
 
 /// An identity, and the node that stands there, if it is still in the tree.
@@ -113,6 +113,30 @@ impl Tree {
             let slot = &mut self.slots[index];
             if let Some(node) = &mut slot.node {
                 node.give(attributes);
+            }
+        }
+    }
+
+    /// Lets a node be opened.
+    pub fn open(&mut self, alloc: Global, id: &Id, flags: OpenFlags)
+        ensures { tree_of self.new.slots.items ≡ change (opened flags) (tree_of self.old.slots.items) (Some id.now) }
+    {
+        if let Some(index) = self.index(id) {
+            let slot = &mut self.slots[index];
+            if let Some(node) = &mut slot.node {
+                node.open(alloc, flags);
+            }
+        }
+    }
+
+    /// Gives a file other bytes.
+    pub fn fill(&mut self, id: &Id, bytes: Bytes)
+        ensures { tree_of self.new.slots.items ≡ change (with_bytes bytes) (tree_of self.old.slots.items) (Some id.now) }
+    {
+        if let Some(index) = self.index(id) {
+            let slot = &mut self.slots[index];
+            if let Some(node) = &mut slot.node {
+                node.fill(bytes);
             }
         }
     }

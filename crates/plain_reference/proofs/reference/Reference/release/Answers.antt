@@ -19,11 +19,12 @@ returns-in-Some-clause-step c = λ tables.
     let ks = old.clients.list.items in
     let h = handle_of ks c.args.client c.args.descriptor in
     let clients : new.clients ≡ c.take.new.self = ap (λ (x : Reference). x.clients) c.settle.ensures.rest in
-    let rest : new ≡ record old { tree = new.tree; clients = new.clients } = c.settle.ensures.rest ∙ (λ i. record old { tree = new.tree; clients = sym clients i }) in
+    let serial : new.serial ≡ old.serial = ap (λ (x : Reference). x.serial) c.settle.ensures.rest in
+    let rest : new ≡ record old { tree = new.tree; clients = new.clients; serial = new.serial } = c.settle.ensures.rest ∙ (λ i. record old { tree = new.tree; clients = sym clients i; serial = sym serial i }) in
     let list : new.clients.list.items ≡ with_handle ks c.args.client c.args.descriptor None = ap (λ (x : Reference). x.clients.list.items) c.settle.ensures.rest ∙ c.in-Some.ensures.list in
     let arrived = ap (λ (x : Reference). x.clients.arrived) c.settle.ensures.rest ∙ c.in-Some.ensures.arrived in
     let node : Some c.node.result.now ≡ node_of_handle h = ap Some c.node.ensures ∙ ap node_of_handle c.in-Some.ensures.handle in
     let tree : tree_of new.tree.slots.items ≡ settled (with_handle ks c.args.client c.args.descriptor None) (tree_of old.tree.slots.items) (node_of_handle h) = c.settle.ensures.tree ∙ (λ i. settled (c.in-Some.ensures.list i) (tree_of old.tree.slots.items) (node i)) in
     handled_step old new tables c.args.client c.args.descriptor None (Close c.args.descriptor) Done
     (ap (λ (o : Option Handle). when (is_none o) EBADF) c.in-Some.ensures.handle ∙ sym (refusal-reading (heard_by old tables) c.args.client (Close c.args.descriptor) refl)) refl list arrived rest
-    (λ i. record (heard_by old tables) { tree = sym tree i; tables = with_handle ks c.args.client c.args.descriptor None })
+    (λ i. record (heard_by old tables) { tree = sym tree i; serial = sym serial i; tables = with_handle ks c.args.client c.args.descriptor None })

@@ -1,0 +1,8 @@
+-- What a handle of the reference sees.
+use Rattle.plain_model.specs.Machine as machine
+use Rattle.plain_reference.specs.declared.view.View.{View}
+use Rattle.plain_reference.specs.declared.view.View.TheVariants.{Live, Frozen}
+
+abbrev pub seen : View → machine.View
+seen Live = machine.Live
+seen (Frozen bytes attributes links) = machine.Frozen bytes attributes links

@@ -1,0 +1,134 @@
+// The calls on the bytes of files.
+ghost use Rattle.std.specs.Prelude.{◌≡◌, ◌+◌, ◌<◌, ◌^◌, IfOk, OnErr, length, take, drop};
+ghost use Rattle.ov_base.specs.declared.call.Call.TheVariants as call;
+ghost use Rattle.plain_model.specs.Machine.{handle_of};
+ghost use Rattle.plain_model.specs.Changes.{change, fitting, node_of_handle, sized, with_bytes, written};
+ghost use Rattle.plain_model.specs.Runs.{Step};
+ghost use Rattle.plain_reference.specs.Slots.{tree_of};
+ghost use Rattle.plain_reference.specs.States.{state_of, Mute};
+
+use crate::clients::open_handle;
+use crate::handle_refusals::FILE_MAX;
+use crate::handles::place_of;
+use crate::node::bytes_in;
+use crate::reference::Reference;
+use ov_base::{Bytes, Reply};
+use std::alloc::{AllocError, Global};
+
+/// What stands from a place on, at most so much.
+pub fn part<T>(all: &[T], place: u64, count: u32) -> &[T]
+    ensures { result.now ≡ take count (drop place all.now) }
+{
+    let start = all.len().min(place as usize);
+    let rest = &all[start..];
+    &rest[..rest.len().min(count as usize)]
+}
+
+// Bytes cut or filled with zeros to a length.
+fn sized(alloc: Global, bytes: &[u8], size: usize) -> Result<Vec<u8>, AllocError>
+    ensures { IfOk result (λ all. all.items ≡ sized bytes.now size) }
+{
+    let mut all = Vec::from_slice(alloc, bytes)?;
+    all.resize(size, 0)?;
+    Ok(all)
+}
+
+// Bytes after a write at a place, with zeros between where it is past the end.
+fn written(alloc: Global, bytes: &[u8], at: usize, new: &[u8]) -> Result<Vec<u8>, AllocError>
+    requires { at + length new.now < 2 ^ 64 }
+    ensures { IfOk result (λ all. all.items ≡ written bytes.now at new.now) }
+{
+    let mut all = sized(alloc, bytes, at)?;
+    all.extend_from_slice(new)?;
+    let end = bytes.len().min(at + new.len());
+    all.extend_from_slice(&bytes[end..])?;
+    Ok(all)
+}
+
+// What of a write fits.
+fn fitting(at: u64, bytes: &[u8]) -> &[u8]
+    ensures { result.now ≡ fitting at bytes.now }
+{
+    let room = FILE_MAX.saturating_sub(at) as usize;
+    &bytes[..bytes.len().min(room)]
+}
+
+impl Reference {
+    /// Reads the next bytes of a file's handle, at most so many.
+    pub(crate) fn read(
+        &mut self,
+        client: u32,
+        descriptor: u32,
+        count: u32,
+    ) -> Result<Reply, AllocError>
+        ensures step { IfOk result (λ reply. Step Mute (state_of self.old) client (call.Read descriptor count) reply (state_of self.new)) }
+        ensures err { OnErr result (state_of self.new ≡ state_of self.old) }
+    {
+        if let Some(errno) = self.read_refusal(client, descriptor, count) {
+            return Ok(Reply::Refused(errno));
+        }
+        let handle = self.handle(client, descriptor);
+        let place = place_of(handle);
+        let read = part(self.bytes_read(handle), place, count);
+        let end = place + read.len() as u64;
+        let copy = Bytes::from_slice(self.alloc, read)?;
+        self.clients.move_to(client, descriptor, end, false);
+        Ok(Reply::Read(copy))
+    }
+
+    // Gives the file of a client's descriptor other bytes.
+    fn fill(&mut self, client: u32, descriptor: u32, bytes: Vec<u8>)
+        ensures tree { tree_of self.new.tree.slots.items ≡ change (with_bytes bytes.items) (tree_of self.old.tree.slots.items) (node_of_handle (handle_of self.old.clients.list.items client descriptor)) }
+        ensures rest { self.new ≡ record self.old { tree = self.new.tree } }
+    {
+        if let Some(handle) = open_handle(self.clients.as_slice(), client, descriptor) {
+            self.tree.fill(handle.node(), Bytes::from_vec(bytes));
+        }
+    }
+
+    /// Writes bytes to a file, as many as fit.
+    pub(crate) fn write(
+        &mut self,
+        client: u32,
+        descriptor: u32,
+        bytes: &Bytes,
+    ) -> Result<Reply, AllocError>
+        ensures step { IfOk result (λ reply. Step Mute (state_of self.old) client (call.Write descriptor bytes.now) reply (state_of self.new)) }
+        ensures err { OnErr result (state_of self.new ≡ state_of self.old) }
+    {
+        if let Some(errno) = self.write_refusal(client, descriptor, bytes) {
+            return Ok(Reply::Refused(errno));
+        }
+        if bytes.as_slice().is_empty() {
+            return Ok(Reply::Written(0));
+        }
+        let handle = self.handle(client, descriptor);
+        let at = self.write_place(handle);
+        let new = fitting(at, bytes.as_slice());
+        let old = bytes_in(self.handle_node(handle));
+        let all = written(self.alloc, old, at as usize, new)?;
+        self.fill(client, descriptor, all);
+        let end = at + new.len() as u64;
+        self.clients.move_to(client, descriptor, end, false);
+        Ok(Reply::Written(new.len() as u32))
+    }
+
+    /// Cuts a file to a length, or fills it with zeros up to it.
+    pub(crate) fn truncate(
+        &mut self,
+        client: u32,
+        descriptor: u32,
+        size: u64,
+    ) -> Result<Reply, AllocError>
+        ensures step { IfOk result (λ reply. Step Mute (state_of self.old) client (call.Truncate descriptor size) reply (state_of self.new)) }
+        ensures err { OnErr result (state_of self.new ≡ state_of self.old) }
+    {
+        if let Some(errno) = self.truncate_refusal(client, descriptor, size) {
+            return Ok(Reply::Refused(errno));
+        }
+        let old = bytes_in(self.handle_node(self.handle(client, descriptor)));
+        let all = sized(self.alloc, old, size as usize)?;
+        self.fill(client, descriptor, all);
+        Ok(Reply::Done)
+    }
+}
