@@ -1,5 +1,5 @@
-// Calls that no script spells, on the slow reference alone: opens with other flags than those of a directory, and calls that it doesn't
-// offer.
+// Calls that no script spells yet, on the slow reference alone: opens with other flags than those of a directory, and what then is told of a
+// descriptor.
 use crate::mount::mount_of;
 use crate::rows::{Row, rows_in};
 use ov_base::{Call, OpenFlags, Path, Reply};
