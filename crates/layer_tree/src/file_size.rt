@@ -49,12 +49,15 @@ fn fit(file: &mut Vec<u8>, size: usize) -> Result<(), AllocError>
     ensures sized { file.new.items ≡ (if is_ok result then sized file.old.items size else file.old.items) }
     ensures succeeds { size ≤ length file.old.items → IsOk result }
 {
+    let cut = size < file.len();
     file.resize(size, 0)?;
-    give_back(file);
+    if cut {
+        give_back(file);
+    }
     Ok(())
 }
 
-// Gives memory back once less than half of it is in use, so that many small cuts don't copy the file each time.
+// Gives memory back where less than half of it is in use, so that many small cuts don't copy the file each time.
 fn give_back(file: &mut Vec<u8>)
     ensures { file.new.items ≡ file.old.items }
 {

@@ -16,7 +16,8 @@ use ov_base::{Attributes, Bytes, Content, Errno, LinkTarget, Mode, Path};
 use std::alloc::{AllocError, Global};
 
 /// Makes a symbolic link of this target, with mode 0777, owner 0, group 0 and no user attributes, as symlink(2). The way to the last
-/// name is refused as `mkdir`'s, and where something is shown it is EEXIST. A refusal changes nothing, and want of memory changes nothing that is shown.
+/// name is refused as `mkdir`'s, and where something is shown it is EEXIST. A refusal changes nothing, and want of memory changes
+/// nothing that is shown.
 pub fn symlink(
     alloc: Global,
     layers: &mut Layers,

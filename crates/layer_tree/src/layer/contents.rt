@@ -57,7 +57,7 @@ impl Layer {
     }
 
     /// Cuts the bytes of a file to a length, or fills them with zero bytes up to it, as ftruncate(2). It fails only for want of memory,
-    /// and changes nothing then; a cut never fails, and gives memory back.
+    /// and changes nothing then. A cut never fails, and gives memory back where less than half of it stays in use.
     pub fn resize(&mut self, key: usize, size: usize) -> Result<(), AllocError>
         requires { IsSome (bytes_at self.old key) }
         ensures writes { (old : List ℕ) → bytes_at self.old key ≡ Some old → Writes self.old self.new key (if is_ok result then sized old size else old) }

@@ -9,35 +9,35 @@ use Rattle.layer_tree.proofs.layer.Layer.resize.Goals as goal
 pub invariant_of-self : goal.invariant_of-self
 invariant_of-self c =
     let old = some_of (bytes_at c.args.self.now c.args.key) c.requires in
-    (rewritten c.self.inside.nodes c.args.self.now c.self.view_is c.args.key c.index_mut-node.result.now c.resize_in.new.node c.index_mut-node.ensures.value (λ l. if is_ok c.resize_in.result then sized l c.args.size else l) c.resize_in.ensures.sized old.0 old.1).tree (subst IsTree c.self.view_is c.self.invariant)
+    (rewritten _ _ c.self.view_is c.args.key _ _ c.index_mut-node.ensures.value (λ l. if is_ok c.resize_in.result then sized l c.args.size else l) c.resize_in.ensures.sized old.0 old.1).tree (subst IsTree c.self.view_is c.self.invariant)
 
 pub returns-clause-writes : goal.returns-clause-writes
-returns-clause-writes c old is = (rewritten c.self.inside.nodes c.args.self.now c.self.view_is c.args.key c.index_mut-node.result.now c.resize_in.new.node c.index_mut-node.ensures.value (λ l. if is_ok c.resize_in.result then sized l c.args.size else l) c.resize_in.ensures.sized old is).writes
+returns-clause-writes c old is = (rewritten _ _ c.self.view_is c.args.key _ _ c.index_mut-node.ensures.value (λ l. if is_ok c.resize_in.result then sized l c.args.size else l) c.resize_in.ensures.sized old is).writes
 
 pub returns-clause-sets : goal.returns-clause-sets
 returns-clause-sets c =
     if_ok (λ l. sized l c.args.size) (λ change. (old : List ℕ) → bytes_at c.args.self.now c.args.key ≡ Some old → SetsBytes (layer_of c.args.self.now) (layer_of (with_value c.self.inside.nodes c.args.key c.resize_in.new.node)) c.args.key (change old)) c.resize_in.result
-    (λ old is. (rewritten c.self.inside.nodes c.args.self.now c.self.view_is c.args.key c.index_mut-node.result.now c.resize_in.new.node c.index_mut-node.ensures.value (λ l. if is_ok c.resize_in.result then sized l c.args.size else l) c.resize_in.ensures.sized old is).sets)
+    (λ old is. (rewritten _ _ c.self.view_is c.args.key _ _ c.index_mut-node.ensures.value (λ l. if is_ok c.resize_in.result then sized l c.args.size else l) c.resize_in.ensures.sized old is).sets)
 
 pub returns-clause-objects_held : goal.returns-clause-objects_held
 returns-clause-objects_held c =
     let old = some_of (bytes_at c.args.self.now c.args.key) c.requires in
-    (rewritten c.self.inside.nodes c.args.self.now c.self.view_is c.args.key c.index_mut-node.result.now c.resize_in.new.node c.index_mut-node.ensures.value (λ l. if is_ok c.resize_in.result then sized l c.args.size else l) c.resize_in.ensures.sized old.0 old.1).sets.objects
+    (rewritten _ _ c.self.view_is c.args.key _ _ c.index_mut-node.ensures.value (λ l. if is_ok c.resize_in.result then sized l c.args.size else l) c.resize_in.ensures.sized old.0 old.1).sets.objects
 
 pub returns-clause-names : goal.returns-clause-names
 returns-clause-names c =
     let old = some_of (bytes_at c.args.self.now c.args.key) c.requires in
-    (rewritten c.self.inside.nodes c.args.self.now c.self.view_is c.args.key c.index_mut-node.result.now c.resize_in.new.node c.index_mut-node.ensures.value (λ l. if is_ok c.resize_in.result then sized l c.args.size else l) c.resize_in.ensures.sized old.0 old.1).room
+    (rewritten _ _ c.self.view_is c.args.key _ _ c.index_mut-node.ensures.value (λ l. if is_ok c.resize_in.result then sized l c.args.size else l) c.resize_in.ensures.sized old.0 old.1).room
 
 pub returns-clause-keeps : goal.returns-clause-keeps
 returns-clause-keeps c =
     let old = some_of (bytes_at c.args.self.now c.args.key) c.requires in
-    (rewritten c.self.inside.nodes c.args.self.now c.self.view_is c.args.key c.index_mut-node.result.now c.resize_in.new.node c.index_mut-node.ensures.value (λ l. if is_ok c.resize_in.result then sized l c.args.size else l) c.resize_in.ensures.sized old.0 old.1).layer
+    (rewritten _ _ c.self.view_is c.args.key _ _ c.index_mut-node.ensures.value (λ l. if is_ok c.resize_in.result then sized l c.args.size else l) c.resize_in.ensures.sized old.0 old.1).layer
 
 pub returns-clause-nameless : goal.returns-clause-nameless
 returns-clause-nameless c =
     let old = some_of (bytes_at c.args.self.now c.args.key) c.requires in
-    (rewritten c.self.inside.nodes c.args.self.now c.self.view_is c.args.key c.index_mut-node.result.now c.resize_in.new.node c.index_mut-node.ensures.value (λ l. if is_ok c.resize_in.result then sized l c.args.size else l) c.resize_in.ensures.sized old.0 old.1).nameless
+    (rewritten _ _ c.self.view_is c.args.key _ _ c.index_mut-node.ensures.value (λ l. if is_ok c.resize_in.result then sized l c.args.size else l) c.resize_in.ensures.sized old.0 old.1).nameless
 
 pub returns-clause-succeeds : goal.returns-clause-succeeds
-returns-clause-succeeds c old is = c.resize_in.ensures.succeeds old (bytes_seen c.self.inside.nodes c.args.self.now c.self.view_is c.args.key c.index_mut-node.result.now c.index_mut-node.ensures.value old is)
+returns-clause-succeeds c old is = c.resize_in.ensures.succeeds old (bytes_seen _ _ c.self.view_is c.args.key _ c.index_mut-node.ensures.value old is)
