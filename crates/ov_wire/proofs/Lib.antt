@@ -6,3 +6,6 @@ mod RootEntries
 mod PathTexts
 mod WithinLimits
 mod Reading
+mod Listing
+mod HexDigits
+mod Pairs

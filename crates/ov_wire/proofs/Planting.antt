@@ -1,5 +1,5 @@
 -- What a layer of a tree holds after an object or a whiteout came to a name at which nothing was.
-use Rattle.std.proofs.Common.{◌≡◌, ◌≢◌, ◌⊎◌, inl, inr, ℕ, Bool, true, false, List, [], ◌∷◌, ◌++◌, Option, Some, None, is_some, reverse, refl, sym, ap, subst, ◌∙◌, true≢false}
+use Rattle.std.proofs.Common.{◌≡◌, ◌≢◌, ◌⊎◌, inl, inr, ℕ, Bool, true, false, not, ◌&&◌, List, [], ◌∷◌, ◌++◌, Option, Some, None, is_some, reverse, refl, sym, ap, subst, ◌∙◌, true≢false}
 use Rattle.std.specs.Option.{option_and_then}
 use Rattle.std.proofs.lemmas.List.{reverse-reverse}
 use Rattle.plain_model.specs.Layers as layers
@@ -14,7 +14,8 @@ use Rattle.layer_tree.proofs.Walks.{cases_ends}
 use Rattle.layer_tree.proofs.Changing.{key_of_entry, kind_seen, presence_seen}
 use Rattle.layer_tree.proofs.Following.{follow, follow-path}
 use Rattle.ov_wire.specs.ManifestLayers.{Stands}
-use Rattle.ov_wire.specs.Drafts.{Puts}
+use Rattle.ov_wire.specs.Drafts.{Puts, PutsName, is_named, leads_in}
+use Rattle.layer_tree.specs.Link.{Links}
 use Rattle.ov_wire.specs.declared.manifest.entry.Item.TheVariants as put
 
 -- what is held at a name in the directory under a key
@@ -60,17 +61,25 @@ nothing-below L layer p none (m ∷ r) = of (held L (m ∷ (r ++ p))) refl (noth
 pub puts-object : (old new : Tree) (dir : ℕ) (name : Name) (path : Path) (o : NewObject) (key : ℕ) → SetsPath (layer_of old) (layer_of new) (name ∷ path) (seen_object key o) → Inserts old new dir name o key → Puts (layer_of old) (layer_of new) (name ∷ path) (put.Object o)
 puts-object old new dir name path o key s i = record {
   there = there o s.there i.inode;
+  fresh = λ k h. fresh o k (sym s.there ∙ h);
   elsewhere = s.elsewhere;
   inodes = λ k x is. i.inodes k (λ same. absurd (lost k x is same)) ∙ is;
 }
   where
-    there : (o : NewObject) → held (layer_of new) (name ∷ path) ≡ Some (seen_object key o) → inode_at new key ≡ new_inode o → Stands (layer_of new) (held (layer_of new) (name ∷ path)) (Some (put.Object o))
+    there : (o : NewObject) → held (layer_of new) (name ∷ path) ≡ Some (seen_object key o) → inode_at new key ≡ new_inode o → Stands (layer_of new) 1 (held (layer_of new) (name ∷ path)) (Some (put.Object o))
     there (object.Directory a m) h is = (key, h)
     there (object.Inode c a) h is = (key, h, is)
 
+    none : inode_at old key ≡ None
+    none = ap (option_and_then inode_of) i.fresh
+
+    fresh : (o : NewObject) (k : ℕ) → Some (seen_object key o) ≡ Some (layers.Named k) → inode_at old k ≡ None
+    fresh (object.Directory a m) k e = absurd (cc)
+    fresh (object.Inode c a) k e = let same : key ≡ k = cc in ap (inode_at old) (sym same) ∙ none
+
     lost : (k : ℕ) (x : Inode) → inode_at old k ≡ Some x → k ≡ key → ⊥
     lost k x is same =
-        let none : inode_at old key ≡ None = ap (option_and_then inode_of) i.fresh in
+        let no : inode_at old key ≡ None = none in
         let there : inode_at old key ≡ Some x = subst (λ j. inode_at old j ≡ Some x) same is in
         cc
 
@@ -78,6 +87,7 @@ puts-object old new dir name path o key s i = record {
 pub puts-whiteout : (old new : Tree) (dir : ℕ) (name : Name) (path : Path) → IsLayer (layer_of old) → key_at old path ≡ Some dir → entry old dir name ≡ None → CoversPath (layer_of old) (layer_of new) (name ∷ path) → Unbinds old new dir name (Some to.Whiteout) → Puts (layer_of old) (layer_of new) (name ∷ path) put.Whiteout
 puts-whiteout old new dir name path layer at none c u = record {
   there = c.there;
+  fresh = λ k h. let no : Some layers.Whiteout ≡ Some (layers.Named k) = sym c.there ∙ h in absurd (cc);
   elsewhere = λ other off. elsewhere other off (cases_ends other (name ∷ path));
   inodes = λ k x is. u.inodes k (λ led. absurd (unled k led)) ∙ is;
 }
@@ -91,6 +101,23 @@ puts-whiteout old new dir name path layer at none c u = record {
     elsewhere other off (inl (m ∷ r, e)) =
         subst (λ x. held (layer_of new) x ≡ held (layer_of old) x) (sym e)
         (c.below m r ∙ sym (nothing-below (layer_of old) layer (name ∷ path) (name-free old path dir name at none) (m ∷ r)))
+
+-- a further name came
+pub puts-name : (old new : Tree) (dir key : ℕ) (name : Name) (path to : Path) → key_at old path ≡ Some dir → entry old dir name ≡ None → held (layer_of old) to ≡ Some (layers.Named key) → SetsPath (layer_of old) (layer_of new) (name ∷ path) (layers.Named key) → Links old new dir name key → PutsName (layer_of old) (layer_of new) (name ∷ path) to
+puts-name old new dir key name path to at none led s l = record {
+  key = key;
+  led = led;
+  vacant = name-free old path dir name at none;
+  there = s.there;
+  elsewhere = s.elsewhere;
+  more = l.linked;
+  inodes = l.inodes;
+}
+
+-- it leads somewhere
+pub leads-somewhere : (L : Layer) (to_further : Bool) (to : Path) (key : ℕ) → to_further ≡ false → held L to ≡ Some (layers.Named key) → leads_in L to_further (put.Link (Some to)) ≡ true
+leads-somewhere L to_further [] key none h = absurd (cc)
+leads-somewhere L to_further (n ∷ p) key none h = ap (λ (b : Bool). is_named (held L (n ∷ p)) && not b) none ∙ ap (λ (o : Option Object). is_named o && true) h
 
 -- whether an entry is that of a directory
 abbrev pub leads_to_directory : Tree → Option Entry → Bool

@@ -14,10 +14,10 @@ use Rattle.ov_base.proofs.PathLemmas.{pieces-whole, pieces-first}
 use Rattle.plain_model.specs.Layers.{Name, Path}
 use Rattle.plain_model.proofs.Paths.{names_tell}
 use Rattle.layer_tree.specs.declared.node.Object.TheVariants as object
-use Rattle.ov_wire.specs.ManifestEntries.{text_at, kind_named, kind_of, path_of, attributes_of, marks_of, bytes_of, target_of, item_of}
-use Rattle.ov_wire.specs.ManifestLayers.{Entry, put_at, is_directory, has_directory, with_entry, with_spelled, numbered, entries_from, root_of}
+use Rattle.ov_wire.specs.ManifestEntries.{text_at, kind_named, kind_of, path_of, attributes_of, marks_of, bytes_of, target_of, path_to, item_of}
+use Rattle.ov_wire.specs.ManifestLayers.{Entry, put_at, is_directory, with_entry, with_spelled, numbered, entries_from, root_of}
 use Rattle.ov_wire.specs.Drafts.{is_text_at, root_given, first_root}
-use Rattle.ov_wire.proofs.Placing.{none-of}
+use Rattle.ov_wire.proofs.Placing.{none-of, placed-is}
 use Rattle.ov_wire.proofs.Said.{ok, then-ok, ok_or-ok, result_ok-some, says, unnumbered}
 use Rattle.ov_wire.specs.declared.manifest.entry.EntryKind.{EntryKind}
 use Rattle.ov_wire.specs.declared.manifest.entry.EntryKind.TheVariants as kind
@@ -100,16 +100,17 @@ below-path m n p h = of (text_at (codes "path") m) (ok_or-ok _ fault.Path (n ∷
 directory-text : (m : Members) → kind_of m ≡ Ok kind.Directory → is_text_at (codes "kind") (codes "dir") m ≡ true
 directory-text m h = of (text_at (codes "kind") m) (ok_or-ok _ fault.Kind kind.Directory h)
   where
-    named : (b c d e : Bool) → cond b (Some kind.Directory) (cond c (Some kind.File) (cond d (Some kind.SymbolicLink) (cond e (Some kind.Whiteout) None))) ≡ Some kind.Directory → b ≡ true
-    named true c d e h = refl
-    named false true d e h = absurd (cc)
-    named false false true e h = absurd (cc)
-    named false false false true h = absurd (cc)
-    named false false false false h = absurd (cc)
+    named : (b c d e f : Bool) → cond b (Some kind.Directory) (cond c (Some kind.File) (cond d (Some kind.SymbolicLink) (cond e (Some kind.Whiteout) (cond f (Some kind.HardLink) None)))) ≡ Some kind.Directory → b ≡ true
+    named true c d e f h = refl
+    named false true d e f h = absurd (cc)
+    named false false true e f h = absurd (cc)
+    named false false false true f h = absurd (cc)
+    named false false false false true h = absurd (cc)
+    named false false false false false h = absurd (cc)
 
     of : (o : Option (List ℕ)) → option_and_then kind_named o ≡ Some kind.Directory → option_map_or (λ text. bytes_eq text (codes "dir")) o false ≡ true
     of None e = absurd (cc)
-    of (Some text) e = named (bytes_eq text (codes "dir")) (bytes_eq text (codes "file")) (bytes_eq text (codes "symlink")) (bytes_eq text (codes "whiteout")) e
+    of (Some text) e = named (bytes_eq text (codes "dir")) (bytes_eq text (codes "file")) (bytes_eq text (codes "symlink")) (bytes_eq text (codes "whiteout")) (bytes_eq text (codes "link")) e
 
 -- an item that is no directory
 other-item : (i j : Item) → ok j ≡ Ok i → is_directory (Some j) ≡ false → is_directory (Some i) ≡ true → ⊥
@@ -135,6 +136,7 @@ directory-item kind.SymbolicLink m i h d =
     let b = then-ok (target_of m) _ i a.2 in
     absurd (other-item i _ b.2 refl d)
 directory-item kind.Whiteout m i h d = absurd (other-item i put.Whiteout h refl d)
+directory-item kind.HardLink m i h d = absurd (other-item i (put.Link (path_to m)) h refl d)
 
 -- an entry at `/` is the first there, and a directory
 placed-root : (before : List Entry) (i : Item) (after : List Entry) → with_entry before [] i ≡ Ok after → (is_directory (Some i) ≡ true) × (is_some (put_at before []) ≡ false) × (put_at after [] ≡ Some i)
@@ -147,12 +149,7 @@ placed-root before i after h = of (is_directory (Some i)) (is_some (put_at befor
 
 -- an entry elsewhere leaves what is put at `/`
 placed-below : (before : List Entry) (n : Name) (p : Path) (i : Item) (after : List Entry) → with_entry before (n ∷ p) i ≡ Ok after → put_at after [] ≡ put_at before []
-placed-below before n p i after h = of (has_directory before p) (is_some (put_at before (n ∷ p))) h
-  where
-    of : (d s : Bool) → cond (not d) (Err fault.Parent) (cond s (Err fault.Exists) (Ok ((n ∷ p, i) ∷ before))) ≡ Ok after → put_at after [] ≡ put_at before []
-    of true false h = let same : (n ∷ p, i) ∷ before ≡ after = cc in ap (λ (es : List Entry). put_at es []) (sym same)
-    of true true h = absurd (cc)
-    of false s h = absurd (cc)
+placed-below before n p i after h = ap (λ (es : List Entry). put_at es []) (sym (placed-is before (n ∷ p) i after h))
 
 -- what is put at `/` stays so
 keeps-root : (number : ℕ) (before : List Entry) (items : Items) (final : List Entry) → entries_from number before items ≡ Ok final → (i : Item) → put_at before [] ≡ Some i → put_at final [] ≡ Some i

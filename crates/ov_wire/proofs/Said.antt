@@ -4,9 +4,11 @@ use Rattle.std.specs.Option.{option_and_then, ok_or}
 use Rattle.std.specs.Result.{result_ok}
 use Rattle.toml.specs.Data.{Data, Members, as_table}
 use Rattle.plain_model.specs.Layers.{Path}
-use Rattle.ov_wire.specs.ManifestEntries.{and_then, kind_of, path_of, item_of, checked, read}
+use Rattle.ov_wire.specs.ManifestEntries.{and_then, kind_of, path_of, path_to, attributes_of, marks_of, bytes_of, target_of, item_of, checked, read}
 use Rattle.ov_wire.specs.ManifestLayers.{Entry, with_entry, with_spelled, numbered}
 use Rattle.ov_wire.specs.declared.manifest.entry.EntryKind.{EntryKind}
+use Rattle.ov_wire.specs.declared.manifest.entry.EntryKind.TheVariants as kind
+use Rattle.ov_wire.specs.declared.manifest.entry.Item.TheVariants as put
 use Rattle.ov_wire.specs.declared.manifest.entry.Item.{Item}
 use Rattle.ov_wire.specs.declared.manifest.fault.EntryFault.{EntryFault}
 use Rattle.ov_wire.specs.declared.manifest.fault.EntryFault.TheVariants as fault
@@ -75,3 +77,20 @@ says before d after h =
 pub unnumbered : {T : Type 0} (number : ℕ) (r : Result T EntryFault) (x : T) → numbered number r ≡ Ok x → r ≡ Ok x
 unnumbered number (Ok y) x e = cc
 unnumbered number (Err f) x e = absurd (cc)
+
+-- what puts a further name is of kind `link`, and gives where it leads
+pub link-item : (k : EntryKind) (m : Members) (to : Option Path) → item_of k m ≡ Ok (put.Link to) → path_to m ≡ to
+link-item kind.Directory m to h =
+    let a = then-ok (attributes_of 493 m) _ (put.Link to) h in
+    let b = then-ok (marks_of m) _ (put.Link to) a.2 in
+    let e = b.2 in absurd (cc)
+link-item kind.File m to h =
+    let a = then-ok (attributes_of 420 m) _ (put.Link to) h in
+    let b = then-ok (bytes_of m) _ (put.Link to) a.2 in
+    let e = b.2 in absurd (cc)
+link-item kind.SymbolicLink m to h =
+    let a = then-ok (attributes_of 511 m) _ (put.Link to) h in
+    let b = then-ok (target_of m) _ (put.Link to) a.2 in
+    let e = b.2 in absurd (cc)
+link-item kind.Whiteout m to h = absurd (cc)
+link-item kind.HardLink m to h = cc

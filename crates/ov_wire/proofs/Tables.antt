@@ -4,8 +4,8 @@ use Rattle.std.specs.List.{list_all}
 use Rattle.toml.specs.Data.{Data}
 use Rattle.toml.specs.View.{view, items_view, members_view}
 use Rattle.toml.specs.declared.value.Value.{Value}
-use Rattle.ov_wire.specs.ManifestEntries.{members_all}
-use Rattle.ov_wire.specs.Manifests.{items_all, items_len}
+use Rattle.ov_wire.specs.ManifestEntries.{members_all, items_all}
+use Rattle.ov_wire.specs.Manifests.{items_len}
 
 pub members_all-view : (test : List ℕ → Data → Bool) (entries : List (String Global × Value)) → members_all test (members_view entries) ≡ list_all (λ e. test (string_bytes e.0) (view e.1)) entries
 members_all-view test [] = refl

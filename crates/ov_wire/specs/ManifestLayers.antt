@@ -7,8 +7,8 @@ use Rattle.ov_base.specs.declared.options.Options.{Options}
 use Rattle.plain_model.specs.Layers.{Name, Path, Object, Directory, Named, Whiteout, Layer, held, same_path}
 use Rattle.layer_tree.specs.Tree.{Tree, layer_of}
 use Rattle.layer_tree.specs.declared.node.Object.TheVariants as object
-use Rattle.ov_wire.specs.ManifestEntries.{and_then, read}
-use Rattle.ov_wire.specs.Manifests.{items_at, entries_in, whole_of}
+use Rattle.ov_wire.specs.ManifestEntries.{and_then, items_at, read}
+use Rattle.ov_wire.specs.Manifests.{entries_in, whole_of}
 use Rattle.ov_wire.specs.declared.manifest.entry.Item.{Item}
 use Rattle.ov_wire.specs.declared.manifest.entry.Item.TheVariants as put
 use Rattle.ov_wire.specs.declared.manifest.fault.EntryFault.{EntryFault}
@@ -31,19 +31,45 @@ abbrev pub is_directory : Option Item → Bool
 is_directory (Some (put.Object (object.Directory a m))) = true
 is_directory _ = false
 
+-- whether a file or symbolic link was put, by an entry of its kind
+abbrev pub is_inode : Option Item → Bool
+is_inode (Some (put.Object (object.Inode c a))) = true
+is_inode _ = false
+
+-- whether a further name was put, by an entry of kind `link`
+abbrev pub is_further : Option Item → Bool
+is_further (Some (put.Link to)) = true
+is_further _ = false
+
+-- whether a further name leads to a file or symbolic link that was put before; nothing else leads anywhere
+abbrev pub leads : List Entry → Item → Bool
+leads before (put.Link (Some (name ∷ path))) = is_inode (put_at before (name ∷ path))
+leads before (put.Link _) = false
+leads before _ = true
+
+-- how many further names lead to a path
+abbrev pub is_name_of : Path → Item → Bool
+is_name_of p (put.Link (Some to)) = same_path to p
+is_name_of p _ = false
+
+abbrev pub further_names : List Entry → Path → ℕ
+further_names [] p = 0
+further_names (e ∷ before) p = if is_name_of p e.1 then suc (further_names before p) else further_names before p
+
 -- whether there is a directory at a path: the root, or what an entry put there
 abbrev pub has_directory : List Entry → Path → Bool
 has_directory before [] = true
 has_directory before (name ∷ path) = is_directory (put_at before (name ∷ path))
 
--- The entries with one more. Only one directory may be put at `/`. Elsewhere the parent is to be a directory, and nothing may be put
--- there before.
+-- The entries with one more. Only one directory may be put at `/`. Elsewhere the parent is to be a directory, nothing may be put there
+-- before, and a further name leads to a file or symbolic link.
 abbrev pub with_entry : List Entry → Path → Item → Result (List Entry) EntryFault
 with_entry before [] i = if is_directory (Some i) && not (is_some (put_at before [])) then Ok (([], i) ∷ before) else Err fault.Exists
 with_entry before (name ∷ path) i =
     if not (has_directory before path) then Err fault.Parent
     else (if is_some (put_at before (name ∷ path)) then Err fault.Exists
-    else Ok ((name ∷ path, i) ∷ before))
+    else (if not (leads before i) then Err fault.Link
+    else Ok ((name ∷ path, i) ∷ before)))
 
 -- the entries with one more as a manifest spells it
 abbrev pub with_spelled : List Entry → Data → Result (List Entry) EntryFault
@@ -68,21 +94,34 @@ abbrev pub root_of : Option Item → Attributes
 root_of (Some (put.Object (object.Directory a m))) = a
 root_of _ = record { mode = 493; uid = 0; gid = 0; user = [] }
 
--- what a layer holds where this was put; a file or symbolic link has one name
-abbrev pub Stands : Layer → Option Object → Option Item → Type 0
-Stands L o None = o ≡ None
-Stands L o (Some put.Whiteout) = o ≡ Some Whiteout
-Stands L o (Some (put.Object (object.Directory a m))) = (key : ℕ) × (o ≡ Some (Directory key a m.opaque m.redirect))
-Stands L o (Some (put.Object (object.Inode c a))) = (key : ℕ) × (o ≡ Some (Named key)) × (L.inodes key ≡ Some (record { content = c; attributes = a; links = 1 }))
+-- What a layer holds where this was put. A file or symbolic link is an inode with so many names; a further name names the inode of the
+-- path to which it leads.
+abbrev pub Stands : Layer → ℕ → Option Object → Option Item → Type 0
+Stands L names o None = o ≡ None
+Stands L names o (Some put.Whiteout) = o ≡ Some Whiteout
+Stands L names o (Some (put.Object (object.Directory a m))) = (key : ℕ) × (o ≡ Some (Directory key a m.opaque m.redirect))
+Stands L names o (Some (put.Object (object.Inode c a))) = (key : ℕ) × (o ≡ Some (Named key)) × (L.inodes key ≡ Some (record { content = c; attributes = a; links = names }))
+Stands L names o (Some (put.Link None)) = ⊥
+Stands L names o (Some (put.Link (Some to))) = (key : ℕ) × (o ≡ Some (Named key)) × (held L to ≡ Some (Named key))
 
--- below its root the layer holds at each path what was put there
+-- below its root the layer holds at each path what was put there; an inode has the name where it was put, and each that leads there
 abbrev pub HoldsEntries : Layer → List Entry → Type 0
-HoldsEntries L entries = (name : Name) (path : Path) → Stands L (held L (name ∷ path)) (put_at entries (name ∷ path))
+HoldsEntries L entries = (name : Name) (path : Path) → Stands L (suc (further_names entries (name ∷ path))) (held L (name ∷ path)) (put_at entries (name ∷ path))
+
+-- files and symbolic links that were put at two paths are two inodes
+abbrev pub HoldsApart : Layer → List Entry → Type 0
+HoldsApart L entries = (p q : Path) (key : ℕ) → is_inode (put_at entries p) ≡ true → is_inode (put_at entries q) ≡ true → held L p ≡ Some (Named key) → held L q ≡ Some (Named key) → p ≡ q
+
+-- each further name leads to a path at which a file or symbolic link was put
+abbrev pub LeadOn : List Entry → Type 0
+LeadOn entries = (p to : Path) → put_at entries p ≡ Some (put.Link (Some to)) → is_inode (put_at entries to) ≡ true
 
 -- THE LAYER IS AS THESE ENTRIES SAY
 pub record IsAsSaid (L : Layer) (entries : List Entry) : Type 0 where
   pub root : L.root ≡ root_of (put_at entries [])
   pub below : HoldsEntries L entries
+  pub apart : HoldsApart L entries
+  pub lead : LeadOn entries
 
 -- the layer is as its entries say, none of which is at fault
 abbrev pub IsSpelled : Layer → Items → Type 0

@@ -2,25 +2,16 @@
 use Rattle.std.specs.Prelude.{◌≡◌, codes, ℕ, ℤ, pos, negsuc, List, Bool, true, false, ◌&&◌, nat_le, suc, is_some, Result, Ok, Err, if◌then◌else◌}
 use Rattle.std.specs.Option.{option_and_then, option_map_or, unwrap_or}
 use Rattle.std.specs.Str.{bytes_eq}
-use Rattle.toml.specs.Data.{Data, Items, no_items, item, Members, get_member, as_str, as_integer, as_array, as_table}
+use Rattle.toml.specs.Data.{Data, Items, no_items, item, Members, get_member, as_str, as_integer, as_table}
 use Rattle.ov_base.specs.declared.options.Options.{Options}
-use Rattle.ov_wire.specs.ManifestEntries.{and_then, members_all, text_at}
+use Rattle.ov_wire.specs.ManifestEntries.{and_then, members_all, is_array_of, items_at, text_at}
 use Rattle.ov_wire.specs.declared.manifest.fault.ManifestFault.{ManifestFault}
 use Rattle.ov_wire.specs.declared.manifest.fault.ManifestFault.TheVariants as fault
-
--- each item passes the test
-abbrev pub items_all : (Data → Bool) → Items → Bool
-items_all test no_items = true
-items_all test (item d rest) = test d && items_all test rest
 
 -- how many items there are
 abbrev pub items_len : Items → ℕ
 items_len no_items = 0
 items_len (item d rest) = suc (items_len rest)
-
--- an array, and each of its items passes the test
-abbrev pub is_array_of : (Data → Bool) → Data → Bool
-is_array_of test d = option_map_or (items_all test) (as_array d) false
 
 abbrev pub is_table : Data → Bool
 is_table d = is_some (as_table d)
@@ -60,10 +51,6 @@ history_within (negsuc n) = Err fault.History
 -- the length of the history, 100,000 without the key
 abbrev pub history_of : Members → Result ℕ ManifestFault
 history_of manifest = history_within (unwrap_or (option_and_then as_integer (get_member (codes "history") manifest)) (pos 100000))
-
--- the array at a key, none without it
-abbrev pub items_at : List ℕ → Members → Items
-items_at key table = unwrap_or (option_and_then as_array (get_member key table)) no_items
 
 -- how many layers there are
 abbrev pub layer_count : Members → ℕ

@@ -9,15 +9,19 @@ ghost use Rattle.plain_model.specs.Layers.{AreLayers};
 ghost use Rattle.plain_model.specs.Limits.{IsWithinLimits, HasShortPaths};
 ghost use Rattle.layer_tree.specs.Tree.{layer_of};
 ghost use Rattle.ov_wire.specs.Manifests.{IsOfEntry, Refuses};
+ghost use Rattle.ov_wire.specs.ManifestEntries.{is_array_of};
 ghost use Rattle.ov_wire.specs.ManifestLayers as layers;
 ghost use Rattle.ov_wire.specs.ManifestLayers.{AreSpelled, IsTold, layer_items, layers_fault};
 ghost use Rattle.ov_wire.specs.Manifests as spec;
 
 mod entry;
 mod fault;
+mod file_bytes;
+mod link_paths;
 mod place;
+mod user_attributes;
 
-use entry::{text_at, value_at};
+use entry::{array_at, text_at, value_at};
 pub use fault::{EntryFault, ManifestFault};
 use layer_tree::Layer;
 use ov_base::Options;
@@ -179,7 +183,7 @@ fn is_top_key(key: &str, value: &Value) -> bool
 }
 
 fn is_array_of_layers(value: &Value) -> bool
-    ensures { result ≡ spec.is_array_of spec.is_layer (view value.now) }
+    ensures { result ≡ is_array_of spec.is_layer (view value.now) }
 {
     match value.as_array() {
         Some(layers) => are_layers(layers),
@@ -218,7 +222,7 @@ fn is_layer_key(key: &str, value: &Value) -> bool
 }
 
 fn is_array_of_tables(value: &Value) -> bool
-    ensures { result ≡ spec.is_array_of spec.is_table (view value.now) }
+    ensures { result ≡ is_array_of spec.is_table (view value.now) }
 {
     match value.as_array() {
         Some(values) => are_tables(values),
@@ -285,16 +289,6 @@ fn entries_in(layer: &Value) -> &[Value]
 {
     match layer.as_table() {
         Some(keys) => array_at(keys, "entry"),
-        None => &[],
-    }
-}
-
-// The array at a key; empty where there is none.
-fn array_at<'a>(table: &'a Table, key: &str) -> &'a [Value]
-    ensures { items_view result.now ≡ spec.items_at key.now (table_view table.now) }
-{
-    match value_at(table, key).and_then(Value::as_array) {
-        Some(items) => items.as_slice(),
         None => &[],
     }
 }

@@ -3,20 +3,19 @@ ghost use Rattle.std.specs.Prelude.{◌≡◌, [], ◌≤◌, codes, IfOk, IsTru
 ghost use Rattle.std.specs.List.{list_all};
 ghost use Rattle.std.specs.Option.{option_and_then};
 ghost use Rattle.toml.specs.Data.{as_integer, as_str, get_member};
-ghost use Rattle.toml.specs.View.{view, table_view};
+ghost use Rattle.toml.specs.View.{view, table_view, items_view};
 ghost use Rattle.ov_base.specs.Paths.{path_of_text};
 ghost use Rattle.layer_tree.specs.Tree.{leads};
 ghost use Rattle.ov_wire.specs.ManifestEntries.{Answers, IsPlaceable};
 ghost use Rattle.ov_wire.specs.ManifestEntries as spec;
 
 use super::fault::{EntryError, EntryFault};
+use super::file_bytes::{bytes_of, gives_bytes_once};
+use super::user_attributes::{is_array_of_pairs, user_attributes_of};
 use layer_tree::{Marks, Object};
 use ov_base::{Attributes, Bytes, Content, LinkTarget, Mode, Name, Path, Redirect, UserAttributes};
-use std::alloc::Global;
+use std::alloc::{AllocError, Global};
 use toml::{Table, Value};
-
-/// The most bytes of a file.
-const FILE_MOST: usize = 1_048_576;
 
 /// The kinds of entries.
 #[derive(Clone, Copy, Debug, PartialEq, Eq)]
@@ -25,6 +24,7 @@ pub(super) enum EntryKind {
     File,
     SymbolicLink,
     Whiteout,
+    HardLink,
 }
 
 /// What an entry puts at its path.
@@ -32,6 +32,8 @@ pub(super) enum EntryKind {
 pub(super) enum Item {
     Object(Object),
     Whiteout,
+    /// A further name of what stands at a path; none where the text spells no path.
+    Link(Option<Path>),
 }
 
 // The path of an entry and what it puts there. The faults are looked for in the order `kind`, `path`, `key`, `value`.
@@ -63,6 +65,7 @@ fn kind_named(text: &str) -> Option<EntryKind>
         "file" => Some(EntryKind::File),
         "symlink" => Some(EntryKind::SymbolicLink),
         "whiteout" => Some(EntryKind::Whiteout),
+        "link" => Some(EntryKind::HardLink),
         _ => None,
     }
 }
@@ -110,7 +113,10 @@ fn takes(kind: EntryKind, path: &Path, key: &str, value: &Value) -> bool
         "path" | "kind" => value.is_str(),
         "mode" => has_mode(kind) && value.is_integer(),
         "uid" | "gid" => has_owner(kind) && value.is_integer(),
-        "text" => is_file(kind) && value.is_str(),
+        "attrs" => has_mode(kind) && is_array_of_pairs(value),
+        "text" | "hex" => is_file(kind) && value.is_str(),
+        "zeros" => is_file(kind) && value.is_integer(),
+        "to" => is_hard_link(kind) && value.is_str(),
         "target" => is_link(kind) && value.is_str(),
         "opaque" => has_marks(kind, path) && value.is_bool(),
         "redirect" => has_marks(kind, path) && value.is_str(),
@@ -130,6 +136,12 @@ fn is_link(kind: EntryKind) -> bool
     matches!(kind, EntryKind::SymbolicLink)
 }
 
+fn is_hard_link(kind: EntryKind) -> bool
+    ensures { result ≡ spec.is_hard_link kind }
+{
+    matches!(kind, EntryKind::HardLink)
+}
+
 fn has_mode(kind: EntryKind) -> bool
     ensures { result ≡ spec.has_mode kind }
 {
@@ -139,7 +151,7 @@ fn has_mode(kind: EntryKind) -> bool
 fn has_owner(kind: EntryKind) -> bool
     ensures { result ≡ spec.has_owner kind }
 {
-    !matches!(kind, EntryKind::Whiteout)
+    !matches!(kind, EntryKind::Whiteout | EntryKind::HardLink)
 }
 
 // Whether there may be marks: at a directory that isn't the root.
@@ -149,13 +161,15 @@ fn has_marks(kind: EntryKind, path: &Path) -> bool
     matches!(kind, EntryKind::Directory) && !path.names().is_empty()
 }
 
-// Whether an entry has the keys that its kind can't do without.
+// Whether an entry has the keys that its kind can't do without, and none that shuts out another.
 fn has_required(kind: EntryKind, entry: &Table) -> bool
     ensures { result ≡ spec.has_required kind (table_view entry.now) }
 {
     match kind {
         EntryKind::SymbolicLink => text_at(entry, "target").is_some(),
-        EntryKind::Directory | EntryKind::File | EntryKind::Whiteout => true,
+        EntryKind::HardLink => text_at(entry, "to").is_some(),
+        EntryKind::File => gives_bytes_once(entry),
+        EntryKind::Directory | EntryKind::Whiteout => true,
     }
 }
 
@@ -181,6 +195,17 @@ fn item_of(alloc: Global, kind: EntryKind, entry: &Table) -> Result<Item, EntryE
             Ok(Item::Object(Object::Inode(content, attributes)))
         }
         EntryKind::Whiteout => Ok(Item::Whiteout),
+        EntryKind::HardLink => Ok(Item::Link(path_to(alloc, entry)?)),
+    }
+}
+
+// The path to which an entry of kind `link` leads, where its text spells one.
+fn path_to(alloc: Global, entry: &Table) -> Result<Option<Path>, AllocError>
+    ensures { IfOk result (λ to. to ≡ spec.path_to (table_view entry.now)) }
+{
+    match text_at(entry, "to") {
+        Some(text) => Ok(Path::parse(alloc, text.as_bytes())?.ok()),
+        None => Ok(None),
     }
 }
 
@@ -236,9 +261,9 @@ fn redirect_to(alloc: Global, text: &[u8]) -> Result<Redirect, EntryError>
     }
 }
 
-// The mode and owner that an entry of kind `dir` gives.
-pub(super) fn directory_attributes(alloc: Global, entry: &Table) -> Result<Attributes, EntryFault>
-    ensures { result ≡ spec.attributes_of 493 (table_view entry.now) }
+// Mode, owner and user attributes that an entry of kind `dir` gives.
+pub(super) fn directory_attributes(alloc: Global, entry: &Table) -> Result<Attributes, EntryError>
+    ensures { Answers result (spec.attributes_of 493 (table_view entry.now)) }
 {
     attributes_of(alloc, entry, Mode::of_directories())
 }
@@ -255,17 +280,18 @@ pub(super) fn default_attributes(alloc: Global) -> Attributes
     }
 }
 
-fn attributes_of(alloc: Global, entry: &Table, default_mode: Mode) -> Result<Attributes, EntryFault>
-    ensures { result ≡ spec.attributes_of default_mode (table_view entry.now) }
+fn attributes_of(alloc: Global, entry: &Table, default_mode: Mode) -> Result<Attributes, EntryError>
+    ensures { Answers result (spec.attributes_of default_mode (table_view entry.now)) }
 {
     let mode = mode_at(entry, default_mode)?;
     let uid = number_at(entry, "uid", u32::MAX, 0)?;
     let gid = number_at(entry, "gid", u32::MAX, 0)?;
+    let user = user_attributes_of(alloc, entry)?;
     Ok(Attributes {
         mode,
         uid,
         gid,
-        user: UserAttributes::new(alloc),
+        user,
     })
 }
 
@@ -279,17 +305,6 @@ fn mode_at(entry: &Table, default: Mode) -> Result<Mode, EntryFault>
         Ok(mode) => Ok(mode),
         Err(_) => Err(EntryFault::Value),
     }
-}
-
-// The bytes of an entry of kind `file`.
-fn bytes_of(alloc: Global, entry: &Table) -> Result<Bytes, EntryError>
-    ensures { Answers result (spec.bytes_of (table_view entry.now)) }
-{
-    let text = text_at(entry, "text").unwrap_or("");
-    if text.len() > FILE_MOST {
-        return Err(EntryError::Fault(EntryFault::Value));
-    }
-    Ok(Bytes::from_slice(alloc, text.as_bytes())?)
 }
 
 // The target of an entry of kind `symlink`.
@@ -313,7 +328,7 @@ fn number_at(entry: &Table, key: &str, most: u32, default: u32) -> Result<u32, E
     }
 }
 
-fn number_within(most: u32, number: i64) -> Result<u32, EntryFault>
+pub(super) fn number_within(most: u32, number: i64) -> Result<u32, EntryFault>
     ensures { result ≡ spec.within most number }
 {
     if number >= 0 && number <= most as i64 {
@@ -334,4 +349,14 @@ pub(super) fn value_at<'a>(table: &'a Table, key: &str) -> Option<&'a Value>
     ensures { option_map (λ v. view v.now) result ≡ get_member key.now (table_view table.now) }
 {
     table.get(key)
+}
+
+// The array at a key; empty where there is none.
+pub(super) fn array_at<'a>(table: &'a Table, key: &str) -> &'a [Value]
+    ensures { items_view result.now ≡ spec.items_at key.now (table_view table.now) }
+{
+    match value_at(table, key).and_then(Value::as_array) {
+        Some(items) => items.as_slice(),
+        None => &[],
+    }
 }

@@ -1,0 +1,108 @@
+// The bytes of an entry of kind `file`, which one of three keys may give.
+ghost use Rattle.std.specs.Prelude.{◌≡◌, ◌<◌, IfSome};
+ghost use Rattle.std.specs.Option.{ok_or};
+ghost use Rattle.toml.specs.View.{table_view};
+ghost use Rattle.ov_wire.specs.ManifestEntries.{Answers};
+ghost use Rattle.ov_wire.specs.ManifestEntries as spec;
+
+use super::entry::{number_within, text_at, value_at};
+use super::fault::{EntryError, EntryFault};
+use ov_base::Bytes;
+use std::alloc::Global;
+use toml::{Table, Value};
+
+/// The most bytes of a file.
+const FILE_MOST: u32 = 1_048_576;
+
+// Whether at most one key gives the bytes.
+pub(super) fn gives_bytes_once(entry: &Table) -> bool
+    ensures { result ≡ spec.gives_bytes_once (table_view entry.now) }
+{
+    let has_digits = has_key(entry, "hex");
+    let has_zeros = has_key(entry, "zeros");
+    if has_key(entry, "text") {
+        !has_digits && !has_zeros
+    } else {
+        !(has_digits && has_zeros)
+    }
+}
+
+fn has_key(entry: &Table, key: &str) -> bool
+    ensures { result ≡ spec.has_key key.now (table_view entry.now) }
+{
+    value_at(entry, key).is_some()
+}
+
+// The bytes of an entry of kind `file`.
+pub(super) fn bytes_of(alloc: Global, entry: &Table) -> Result<Bytes, EntryError>
+    ensures { Answers result (spec.bytes_of (table_view entry.now)) }
+{
+    let bytes = bytes_given(alloc, entry)?;
+    if bytes.as_slice().len() > FILE_MOST as usize {
+        return Err(EntryError::Fault(EntryFault::Value));
+    }
+    Ok(bytes)
+}
+
+fn bytes_given(alloc: Global, entry: &Table) -> Result<Bytes, EntryError>
+    ensures { Answers result (spec.bytes_given (table_view entry.now)) }
+{
+    if let Some(text) = text_at(entry, "text") {
+        return Ok(Bytes::from_slice(alloc, text.as_bytes())?);
+    }
+    if let Some(digits) = text_at(entry, "hex") {
+        return bytes_spelled(alloc, digits.as_bytes());
+    }
+    match value_at(entry, "zeros").and_then(Value::as_integer) {
+        Some(count) => zero_bytes(alloc, count),
+        None => Ok(Bytes::new(alloc)),
+    }
+}
+
+// So many zero bytes.
+fn zero_bytes(alloc: Global, count: i64) -> Result<Bytes, EntryError>
+    ensures { Answers result (spec.zero_bytes count) }
+{
+    let count = number_within(FILE_MOST, count)?;
+    let mut bytes = Vec::new(alloc);
+    bytes.resize(count as usize, 0)?;
+    Ok(Bytes::from_vec(bytes))
+}
+
+// The bytes that pairs of lower case hexadecimal digits spell.
+fn bytes_spelled(alloc: Global, digits: &[u8]) -> Result<Bytes, EntryError>
+    ensures { Answers result (ok_or (spec.hex_bytes digits.now) EntryFault.Value) }
+{
+    let count = digits.len() / 2;
+    if digits.len() != 2 * count {
+        return Err(EntryError::Fault(EntryFault::Value));
+    }
+    let mut bytes = Vec::with_capacity(alloc, count)?;
+    for index in 0..count {
+        match pair_value(digits[2 * index], digits[2 * index + 1]) {
+            Some(byte) => bytes.push(byte)?,
+            None => return Err(EntryError::Fault(EntryFault::Value)),
+        }
+    }
+    Ok(Bytes::from_vec(bytes))
+}
+
+// The byte that two digits spell, the higher first.
+fn pair_value(high: u8, low: u8) -> Option<u8>
+    ensures { result ≡ spec.pair_value high low }
+{
+    let high = digit_value(high)?;
+    let low = digit_value(low)?;
+    Some(16 * high + low)
+}
+
+fn digit_value(byte: u8) -> Option<u8>
+    ensures value { result ≡ spec.digit_value byte }
+    ensures digit { IfSome result (λ d. d < 16) }
+{
+    match byte {
+        b'0'..=b'9' => Some(byte - b'0'),
+        b'a'..=b'f' => Some(byte - b'a' + 10),
+        _ => None,
+    }
+}
