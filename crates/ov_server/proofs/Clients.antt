@@ -1,5 +1,5 @@
 -- What commands leave of who is attached.
-use Rattle.std.proofs.Common.{◌≡◌, ◌∙◌, ℕ, ◌+◌, Bool, true, false, ◌&&◌, ◌||◌, not, List, Option, Some, None, Result, Ok, Err, IfSome, MatchOption, refl, sym, ap, subst, cond, nat_eq, is_none, is_some, length, OnErr, OnOk, ◌⊎◌, inl, inr}
+use Rattle.std.proofs.Common.{◌≡◌, ◌∙◌, ℕ, ◌+◌, Bool, true, false, ◌&&◌, ◌||◌, not, List, Option, Some, None, MatchOption, refl, sym, ap, subst, cond, nat_eq, is_some, length, ◌⊎◌, inl, inr}
 use Rattle.std.specs.BTreeMap.{get}
 use Rattle.std.specs.List.{list_any}
 use Rattle.std.specs.Ordering.{nat_cmp}

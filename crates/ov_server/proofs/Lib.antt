@@ -1,3 +1,4 @@
 pub mod Clients
+pub mod Histories
 pub mod Manifests
 pub mod Scripts

@@ -2,6 +2,7 @@ pub mod Answers
 pub mod Arguments
 pub mod Devices
 pub mod Faults
+pub mod Histories
 pub mod Objects
 pub mod Plays
 pub mod Rosters

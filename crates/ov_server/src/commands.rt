@@ -1,7 +1,10 @@
 // One line of a script on a mount.
-ghost use Rattle.std.specs.Prelude.{◌≡◌, ◌+◌, ◌<◌, ◌≤◌, ◌^◌, true, IfErr, OnErr, OnOk};
+ghost use Rattle.std.specs.Prelude.{◌≡◌, ◌+◌, ◌<◌, ◌≤◌, true, Some, None, Ok, IfErr, IfOk, OnErr, OnOk};
 ghost use Rattle.overlay_core.specs.Attaching.{is_attached};
 ghost use Rattle.ov_script.specs.declared.script.Command.TheVariants as asked;
+ghost use Rattle.ov_script.specs.Commands.{call_of};
+ghost use Rattle.ov_server.specs.Histories as histories;
+ghost use Rattle.ov_server.specs.Histories.{AnswersAttach, AnswersCall, HasPlaces, call_refusal, room};
 ghost use Rattle.ov_server.specs.Rosters as rosters;
 ghost use Rattle.ov_server.specs.Plays as plays;
 ghost use Rattle.ov_server.specs.Plays.{CannotPlay, IsRefusal, PlaysCommand, PlaysLine, TellsLine};
@@ -30,7 +33,8 @@ pub fn play_line<W: Write>(
     line: &[u8],
     output: &mut Output<W>,
 ) -> Result<(), LineFault>
-    requires { core.old.finished + 1 < 2 ^ 63 }
+    requires { HasPlaces core.old }
+    ensures places { HasPlaces core.new }
     ensures counted { core.new.finished ≤ core.old.finished + 1 }
     ensures ok { OnOk result (PlaysLine core.old line.now core.new) }
     ensures err { IfErr result (IsRefusal core.old line.now) }
@@ -60,7 +64,8 @@ fn play_command<W: Write>(
     command: Command<'_>,
     output: &mut Output<W>,
 ) -> Result<(), LineFault>
-    requires { core.old.finished + 1 < 2 ^ 63 }
+    requires { HasPlaces core.old }
+    ensures places { HasPlaces core.new }
     ensures counted { core.new.finished ≤ core.old.finished + 1 }
     ensures ok { OnOk result (PlaysCommand core.old command.entry core.new) }
     ensures err { IfErr result (plays.IsCommandRefusal core.old command.entry) }
@@ -112,21 +117,41 @@ fn put_merge<W: Write>(alloc: Global, core: &Core, output: &mut Output<W>) -> Re
 }
 
 fn attached(core: &mut Core) -> Answer
-    requires { core.old.finished + 1 < 2 ^ 63 }
+    requires { HasPlaces core.old }
+    ensures places { HasPlaces core.new }
     ensures counted { core.new.finished ≤ core.old.finished + 1 }
     ensures plays { PlaysCommand core.old asked.Attach core.new }
+    ensures answer { AnswersAttach (histories.attach_refusal core.old) core.old.mount.clients.next result }
+    ensures refused { (errno : Errno) → histories.attach_refusal core.old ≡ Some errno → core.new ≡ core.old }
 {
+    if let Some(errno) = attach_refusal(core) {
+        return Answer::NotAttached { errno };
+    }
     match core.attach() {
         Ok(Ok(client)) => Answer::Attached { client },
-        Ok(Err(errno)) => Answer::NotAttached { errno },
+        Ok(Err(_)) => unreachable!(),
         Err(AllocError) => Answer::NotAttached {
             errno: Errno::ENOMEM,
         },
     }
 }
 
+// Why no client can be attached: 64 are, or the history has no place for it and one for its detach.
+fn attach_refusal(core: &Core) -> Option<Errno>
+    ensures { result ≡ histories.attach_refusal core.now }
+{
+    if !core.admits() {
+        Some(Errno::ENFILE)
+    } else if core.room() < 2 {
+        Some(Errno::ENOSPC)
+    } else {
+        None
+    }
+}
+
 fn detached(core: &mut Core, client: u32) -> Result<Answer, BadCommand>
-    requires { core.old.finished + 1 < 2 ^ 63 }
+    requires { HasPlaces core.old }
+    ensures places { HasPlaces core.new }
     ensures counted { core.new.finished ≤ core.old.finished + 1 }
     ensures ok { OnOk result (PlaysCommand core.old (asked.Detach client) core.new) }
     ensures err { OnErr result (CannotPlay core.old (asked.Detach client)) }
@@ -144,10 +169,13 @@ fn called(
     client: u32,
     text: &CallText<'_>,
 ) -> Result<Answer, BadCommand>
-    requires { core.old.finished + 1 < 2 ^ 63 }
+    requires { HasPlaces core.old }
+    ensures places { HasPlaces core.new }
     ensures counted { core.new.finished ≤ core.old.finished + 1 }
     ensures ok { OnOk result (PlaysCommand core.old (asked.Call client text.now) core.new) }
     ensures err { OnErr result (CannotPlay core.old (asked.Call client text.now)) }
+    ensures answer { IfOk result (AnswersCall (call_refusal (room core.old) (call_of text.now)) client) }
+    ensures full { room core.old ≡ 0 → core.new ≡ core.old }
 {
     if core.is_attached(client as u64) {
         Ok(call_answer(alloc, core, client, text))
@@ -159,12 +187,15 @@ fn called(
 // The answer to a call of a client that is attached.
 fn call_answer(alloc: Global, core: &mut Core, client: u32, text: &CallText<'_>) -> Answer
     requires attached { is_attached core.old.mount.clients client ≡ true }
-    requires bound { core.old.finished + 1 < 2 ^ 63 }
+    requires places { HasPlaces core.old }
+    ensures places { HasPlaces core.new }
     ensures counted { core.new.finished ≤ core.old.finished + 1 }
     ensures keeps { plays.KeepsClients core.old core.new }
+    ensures answer { AnswersCall (call_refusal (room core.old) (call_of text.now)) client result }
+    ensures full { room core.old ≡ 0 → core.new ≡ core.old }
 {
     match text.call(alloc) {
-        Ok(Ok(call)) => made(core, client, call),
+        Ok(Ok(call)) => answer_in_room(core, client, call),
         Ok(Err(errno)) => Answer::NotTaken { client, errno },
         Err(AllocError) => Answer::NotTaken {
             client,
@@ -173,12 +204,34 @@ fn call_answer(alloc: Global, core: &mut Core, client: u32, text: &CallText<'_>)
     }
 }
 
-// The answer to a call, which is made in one step.
-fn made(core: &mut Core, client: u32, call: Call) -> Answer
+// The answer to a call, which is not taken where the history has no place left.
+fn answer_in_room(core: &mut Core, client: u32, call: Call) -> Answer
     requires attached { is_attached core.old.mount.clients client ≡ true }
-    requires bound { core.old.finished + 1 < 2 ^ 63 }
+    requires places { HasPlaces core.old }
+    ensures places { HasPlaces core.new }
     ensures counted { core.new.finished ≤ core.old.finished + 1 }
     ensures keeps { plays.KeepsClients core.old core.new }
+    ensures answer { AnswersCall (call_refusal (room core.old) (Ok call)) client result }
+    ensures full { room core.old ≡ 0 → core.new ≡ core.old }
+{
+    if core.room() == 0 {
+        return Answer::NotTaken {
+            client,
+            errno: Errno::ENOSPC,
+        };
+    }
+    made(core, client, call)
+}
+
+// The answer to a call for which there is a place. It is made in one step.
+fn made(core: &mut Core, client: u32, call: Call) -> Answer
+    requires attached { is_attached core.old.mount.clients client ≡ true }
+    requires places { HasPlaces core.old }
+    requires room { 0 < room core.old }
+    ensures places { HasPlaces core.new }
+    ensures counted { core.new.finished ≤ core.old.finished + 1 }
+    ensures keeps { plays.KeepsClients core.old core.new }
+    ensures answer { AnswersCall None client result }
 {
     let mut job = Job::new(client as u64, call);
     let turn = core.advance(&mut job);

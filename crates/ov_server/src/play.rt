@@ -1,6 +1,7 @@
 // `play`: a script on a mount.
 ghost use Rattle.std.specs.Prelude.{◌≡◌, ℕ, ◌+◌, ◌*◌, ◌<◌, ◌≤◌, ◌^◌, [], length, nat_eq, position, IfErr, IfOk, IfSome, OnOk};
 ghost use Rattle.ov_server.specs.Faults.{AnswersManifest, IsManifestFault, layers_told};
+ghost use Rattle.ov_server.specs.Histories.{HasPlaces};
 ghost use Rattle.ov_server.specs.Plays as plays;
 ghost use Rattle.ov_server.specs.Plays.{BeginsOn, EndsBy, GoesOn, IsLineFault, IsPlayFault, PlaysLine, TellsPlay, layers_in};
 ghost use Rattle.ov_server.specs.Scripts.{IsGoodScript, IsRunFault, IsStreamFault};
@@ -51,6 +52,7 @@ fn core_of(alloc: Global, keys: RandomState, manifest: &[u8]) -> Result<Core, Fa
     ensures count { IfOk result (λ core. layers_in core ≡ layers_told manifest.now) }
     ensures begins { IfOk result BeginsOn }
     ensures finished { IfOk result (λ core. core.finished ≡ 0) }
+    ensures places { IfOk result HasPlaces }
 {
     let (upper, lowers, options) = manifest_of(alloc, keys, manifest)?;
     match Core::mount(alloc, keys, upper, lowers, options)? {
@@ -67,14 +69,15 @@ pub enum PlayFault {
     Device(DeviceFault),
 }
 
-// A script on its way: the mount as the lines before left it, how many they were, and the begun line.
+// A script on its way: the mount as the lines before left it, how many they were, and the begun line. Its type keeps that the history of
+// the mount is never longer than it may be.
 #[derive(Drop)]
 struct Script {
     core: Core,
     pending: Vec<u8>,
     lines: u64,
     alloc: Global,
-    ghost counted: { core.finished ≤ lines },
+    ghost places: { HasPlaces core },
 }
 
 impl Script {

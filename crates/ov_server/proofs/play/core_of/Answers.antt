@@ -1,4 +1,7 @@
+use Rattle.std.proofs.Common.{◌≡◌}
+use Rattle.std.specs.Vec.{vec_len}
 use Rattle.std.proofs.lemmas.Result.{err_from_is_err_and}
+use Rattle.ov_server.proofs.Histories.{bounded, first_places}
 use Rattle.ov_server.proofs.Manifests.{counted, refuses_none, refuses_told}
 use Rattle.ov_server.proofs.play.core_of.Goals as goal
 
@@ -18,3 +21,9 @@ pub returns-clause-manifest : goal.returns-clause-manifest
 returns-clause-manifest c =
     let told = c.in_ok-upper.ensures in
     refuses_none c.args.manifest.now c.in-Ok.core c.in_ok-upper.options told.not_utf8 told.not_toml told.options
+
+pub returns-clause-places : goal.returns-clause-places
+returns-clause-places c =
+    let options : c.in-Ok.core.options ≡ c.in_ok-upper.options = rw c.in-Ok.is at c.in_ok-core.ensures.options in
+    let finished : c.in-Ok.core.finished ≡ 0 = rw c.in-Ok.is at c.in_ok-core.ensures.finished in
+    first_places c.in-Ok.core (rw options (bounded (vec_len c.in_ok-upper.lowers) c.in_ok-upper.options (rw c.in-Ok.is at c.in_ok-core.ensures.mounted))) finished (rw c.in-Ok.is at c.in_ok-core.ensures.nobody)

@@ -1,0 +1,162 @@
+-- That a history keeps a place for the detach of each client.
+use Rattle.std.proofs.Common.{arith, ◌≡◌, ◌∙◌, ◌≢◌, ℕ, ◌+◌, ◌<◌, ◌≤◌, ◌^◌, Bool, true, false, ◌||◌, List, [], ◌∷◌, Option, Some, None, IsSome, refl, sym, ap, cond, nat_eq, nat_lt, is_some, length, ◌⊎◌, inl, inr}
+use Rattle.std.specs.BTreeMap.{BTreeMap, btree_map_len, get}
+use Rattle.std.specs.Cmp.{unsigned_tied}
+use Rattle.std.specs.List.{AllByRecursion, IsDistinct, list_any}
+use Rattle.std.specs.Map.{lookup}
+use Rattle.std.specs.Ordering.{nat_cmp}
+use Rattle.std.proofs.lemmas.Bool.{cases_Bool, cases_eq, false≢true, ltb-false, ne_eqb}
+use Rattle.std.proofs.lemmas.Cmp.{nat_eq_equiv}
+use Rattle.std.proofs.lemmas.Map.Keys.{IsDistinct-cons}
+use Rattle.std.proofs.lemmas.Map.Steps.{length-le_from_keys}
+use Rattle.ov_base.specs.declared.errno.Errno.{Errno}
+use Rattle.ov_base.specs.declared.errno.Errno.TheVariants.{ENFILE, ENOSPC}
+use Rattle.ov_base.specs.declared.options.Options.{Options}
+use Rattle.overlay_core.specs.Attaching.{Attaches, Detaches, KeepsAttached, is_attached}
+use Rattle.overlay_core.specs.Jobs.{finished_after}
+use Rattle.overlay_core.specs.Mounting.{mount_fault}
+use Rattle.overlay_core.specs.declared.mounted.Core.{Core}
+use Rattle.overlay_core.specs.declared.mounted.MountFault.TheVariants.{NoLower, TooManyLowers, BadHistory}
+use Rattle.overlay_core.specs.declared.mounted.Turn.{Turn}
+use Rattle.overlay_core.specs.declared.mounted.Turn.TheVariants.{More, Done, NoMemory}
+use Rattle.ov_server.specs.Histories.{AreAttached, HasPlaces, attach_refusal, room}
+
+-- what a map has at a number
+at_number : {X : Type 0} (m : BTreeMap ℕ X) (q : ℕ) → get nat_cmp m q ≡ lookup (nat_eq q) m.entries
+at_number m q = λ i. lookup (λ k. unsigned_tied q k i) m.entries
+
+-- whether there is something
+abbrev any : {X : Type 0} → Option X → Bool
+any o = is_some o
+
+-- a map has an entry for what is found in it
+entry_there : {X : Type 0} (m : BTreeMap ℕ X) (q : ℕ) → any (get nat_cmp m q) ≡ true → IsSome (lookup (nat_eq q) m.entries)
+entry_there m q is = ap any (sym (at_number m q)) ∙ is
+
+-- a number that a list lacks is apart from each number of it
+all_apart : (n : ℕ) (ks : List ℕ) → list_any (nat_eq n) ks ≡ false → AllByRecursion (λ y. nat_eq n y ≡ false) ks
+all_apart n [] lacks = tt
+all_apart n (k ∷ ks) lacks = by (cases_Bool (nat_eq n k)) (all_apart n ks)
+  where
+    by : (nat_eq n k ≡ true) ⊎ (nat_eq n k ≡ false) → (list_any (nat_eq n) ks ≡ false → AllByRecursion (λ y. nat_eq n y ≡ false) ks) → AllByRecursion (λ y. nat_eq n y ≡ false) (k ∷ ks)
+    by (inl e) rest = absurd (false≢true (sym lacks ∙ ap (λ b. b || list_any (nat_eq n) ks) e))
+    by (inr e) rest = (e, rest (sym (ap (λ b. b || list_any (nat_eq n) ks) e) ∙ lacks))
+
+-- numbers that are found in a map, none of them twice, are at most as many as the map has
+most_found : {X : Type 0} (m : BTreeMap ℕ X) (ks : List ℕ) → IsDistinct nat_eq ks → ((q : ℕ) → list_any (nat_eq q) ks ≡ true → any (get nat_cmp m q) ≡ true) → length ks ≤ btree_map_len m
+most_found m ks once found = length-le_from_keys nat_eq_equiv ks m.entries once (λ q has. entry_there m q (found q has))
+
+-- where one of them may be missing they are at most one more
+most_but_one : {X : Type 0} (m : BTreeMap ℕ X) (n : ℕ) (x : X) (ks : List ℕ) → IsDistinct nat_eq ks → ((q : ℕ) → list_any (nat_eq q) ks ≡ true → (q ≡ n → ⊥) → any (get nat_cmp m q) ≡ true) → length ks ≤ btree_map_len m + 1
+most_but_one m n x ks once found =
+    let fits : length ks ≤ length ((n, x) ∷ m.entries) = length-le_from_keys nat_eq_equiv ks ((n, x) ∷ m.entries) once (λ q has. by q has (cases_eq q n)) in
+    omega (arith, fits)
+  where
+    by : (q : ℕ) → list_any (nat_eq q) ks ≡ true → (q ≡ n) ⊎ (q ≡ n → ⊥) → IsSome (lookup (nat_eq q) ((n, x) ∷ m.entries))
+    by q has (inl e) = rw (e, nat_eq_equiv.refl n) refl
+    by q has (inr e) = rw (ne_eqb q n e) (entry_there m q (found q has e))
+
+-- clients that are attached are at most as many as the map has
+most : (m : Core) (clients : List ℕ) → AreAttached m clients → length clients ≤ btree_map_len m.mount.clients.attached
+most m clients are = most_found m.mount.clients.attached clients are.once are.attached
+
+-- after an attach they are at most one more
+most_with : (old new : Core) (n : ℕ) → Attaches old.mount.clients new.mount.clients n → (clients : List ℕ) → AreAttached new clients → length clients ≤ btree_map_len old.mount.clients.attached + 1
+most_with old new n a clients are = most_but_one old.mount.clients.attached n a.descriptors clients are.once (λ q has e. ap any (sym (a.others q e)) ∙ are.attached q has)
+
+-- a client that is detached was attached beside those that are attached still
+with_detached : (old new : Core) (n : ℕ) → is_attached old.mount.clients n ≡ true → Detaches old.mount.clients new.mount.clients n → (clients : List ℕ) → AreAttached new clients → AreAttached old (n ∷ clients)
+with_detached old new n was d clients are = record {
+  once = IsDistinct-cons nat_eq n clients (all_apart n clients (lacks (cases_Bool (list_any (nat_eq n) clients)))) are.once;
+  attached = λ q has. by q has (cases_eq q n);
+}
+  where
+    lacks : (list_any (nat_eq n) clients ≡ true) ⊎ (list_any (nat_eq n) clients ≡ false) → list_any (nat_eq n) clients ≡ false
+    lacks (inl e) = absurd (false≢true (sym (ap any d.gone) ∙ are.attached n e))
+    lacks (inr e) = e
+
+    by : (q : ℕ) → list_any (nat_eq q) (n ∷ clients) ≡ true → (q ≡ n) ⊎ (q ≡ n → ⊥) → is_attached old.mount.clients q ≡ true
+    by q has (inl e) = rw e was
+    by q has (inr e) = ap any (sym (d.others q e)) ∙ are.attached q (sym (ap (λ b. b || list_any (nat_eq q) clients) (ne_eqb q n e)) ∙ has)
+
+-- a step finishes at most one deed
+one_more : (t : Turn) (n k : ℕ) → k ≡ finished_after t n → k ≤ n + 1
+one_more More n k e = omega (arith, e)
+one_more (Done reply) n k e = omega (arith, e)
+one_more NoMemory n k e = omega (arith, e)
+
+module _ (old new : Core) (same : new.options ≡ old.options) where
+  -- clients that are attached after a call were attached before
+  were : KeepsAttached old.mount.clients new.mount.clients → (clients : List ℕ) → AreAttached new clients → AreAttached old clients
+  were kept clients are = record { once = are.once; attached = λ n has. sym (kept.attached n) ∙ are.attached n has }
+
+  -- what finishes nothing leaves a place for each detach
+  pub kept_places : KeepsAttached old.mount.clients new.mount.clients → new.finished ≡ old.finished → HasPlaces old → HasPlaces new
+  kept_places kept none h = (rw same h.0, λ clients are. rw (same, none) (h.1 clients (were kept clients are)))
+
+  -- a call that has a place leaves one for each detach
+  pub step_places : (t : Turn) → KeepsAttached old.mount.clients new.mount.clients → 0 < room old → new.finished ≡ finished_after t old.finished → HasPlaces old → HasPlaces new
+  step_places t kept place is h = (
+    rw same h.0,
+    λ clients are.
+        let fits = most old clients (were kept clients are) in
+        let one = one_more t old.finished new.finished is in
+        rw same (omega (arith, fits, place, one)),
+  )
+
+  -- an attach that has two places leaves one for each detach
+  pub attach_places : (n : ℕ) → Attaches old.mount.clients new.mount.clients n → 2 ≤ room old → new.finished ≡ old.finished + 1 → HasPlaces old → HasPlaces new
+  attach_places n a two one h = (
+    rw same h.0,
+    λ clients are.
+        let fits = most_with old new n a clients are in
+        rw same (omega (arith, fits, two, one)),
+  )
+
+  -- a detach takes the place that was kept for it
+  pub detach_places : (n : ℕ) → is_attached old.mount.clients n ≡ true → Detaches old.mount.clients new.mount.clients n → new.finished ≡ old.finished + 1 → HasPlaces old → HasPlaces new
+  detach_places n was d one h = (
+    rw same h.0,
+    λ clients are.
+        let all = h.1 (n ∷ clients) (with_detached old new n was d clients are) in
+        rw same (omega (arith, all, one)),
+  )
+
+-- an attach that is not refused has two places
+none_said : (o : Option Errno) → ((errno : Errno) → o ≡ Some errno → ⊥) → o ≡ None
+none_said None not = refl
+none_said (Some errno) not = absurd (not errno refl)
+
+two_left : (few_clients few_places : Bool) → cond few_clients (cond few_places (Some ENOSPC) None) (Some ENFILE) ≡ None → few_places ≡ false
+two_left true true e = cc
+two_left true false e = refl
+two_left false few_places e = cc
+
+pub two_places : (m : Core) (said : Option Errno) → said ≡ attach_refusal m → ((errno : Errno) → said ≡ Some errno → ⊥) → 2 ≤ room m
+two_places m said is not = ltb-false (room m) 2 (two_left (nat_lt (btree_map_len m.mount.clients.attached) 64) (nat_lt (room m) 2) (sym is ∙ none_said said not))
+
+-- the history of layers that are a mount isn't too long
+not_long : (none many short long : Bool) → cond none (Some NoLower) (cond many (Some TooManyLowers) (cond (short || long) (Some BadHistory) None)) ≡ None → long ≡ false
+not_long true many short long e = cc
+not_long false true short long e = cc
+not_long false false true long e = cc
+not_long false false false true e = cc
+not_long false false false false e = refl
+
+pub bounded : (lowers : ℕ) (o : Options) → mount_fault lowers o ≡ None → o.history ≤ 1000000
+bounded lowers o e = ltb-false 1000000 o.history (not_long (nat_eq lowers 0) (nat_lt 16 lowers) (nat_lt o.history 2) (nat_lt 1000000 o.history) e)
+
+-- a new mount has a place for each detach
+pub first_places : (m : Core) → m.options.history ≤ 1000000 → m.finished ≡ 0 → ((n : ℕ) → is_attached m.mount.clients n ≢ true) → HasPlaces m
+first_places m short none nobody = (short, fits)
+  where
+    fits : (clients : List ℕ) → AreAttached m clients → m.finished + length clients ≤ m.options.history
+    fits [] are = rw none (omega arith)
+    fits (n ∷ clients) are = absurd (nobody n (are.attached n (ap (λ b. b || list_any (nat_eq n) clients) (nat_eq_equiv.refl n))))
+
+-- where there is a place for each detach, the number of deeds fits
+pub few : (m : Core) → HasPlaces m → m.finished + 1 < 2 ^ 63
+unfolding IsDistinct
+few m h =
+    let fits = h.1 [] (record { once = tt; attached = λ n has. absurd (false≢true has) }) in
+    omega (arith, h.0, fits)

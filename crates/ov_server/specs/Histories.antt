@@ -1,0 +1,47 @@
+-- The history of a mount that plays a script: it is never longer than its manifest says.
+use Rattle.std.specs.Prelude.{◌≡◌, ℕ, ◌+◌, ◌≤◌, true, List, length, Option, Some, None, Result, Ok, Err, cond, nat_eq, nat_lt, ◌⊎◌}
+use Rattle.std.specs.BTreeMap.{btree_map_len}
+use Rattle.std.specs.List.{IsDistinct, list_any}
+use Rattle.ov_base.specs.declared.call.Call.{Call}
+use Rattle.ov_base.specs.declared.errno.Errno.{Errno}
+use Rattle.ov_base.specs.declared.errno.Errno.TheVariants.{ENFILE, ENOMEM, ENOSPC}
+use Rattle.overlay_core.specs.Attaching.{is_attached}
+use Rattle.overlay_core.specs.Mounting.{places_left}
+use Rattle.overlay_core.specs.declared.mounted.Core.{Core}
+use Rattle.ov_server.specs.declared.answers.Answer.{Answer}
+use Rattle.ov_server.specs.declared.answers.Answer.TheVariants.{Attached, NotAttached, Replied, NotTaken}
+
+-- the places that the history has left, beside one for the detach of each attached client
+abbrev pub room : Core → ℕ
+room m = places_left m.options m.finished (btree_map_len m.mount.clients.attached)
+
+-- these clients are attached, and none is named twice
+pub record AreAttached (m : Core) (clients : List ℕ) : Type 0 where
+  pub once : IsDistinct nat_eq clients
+  pub attached : (n : ℕ) → list_any (nat_eq n) clients ≡ true → is_attached m.mount.clients n ≡ true
+
+-- THE HISTORY HAS A PLACE FOR EACH DETACH: what was finished and the clients that are attached are together at most as many as it is long
+abbrev pub HasPlaces : Core → Type 0
+HasPlaces m =
+    (m.options.history ≤ 1000000) × ((clients : List ℕ) → AreAttached m clients → m.finished + length clients ≤ m.options.history)
+
+-- why no client can be attached: 64 are, or there is no place for it and one for its detach
+abbrev pub attach_refusal : Core → Option Errno
+attach_refusal m = cond (nat_lt (btree_map_len m.mount.clients.attached) 64) (cond (nat_lt (room m) 2) (Some ENOSPC) None) (Some ENFILE)
+
+-- an attach gives the next number, or is refused, or memory runs out
+abbrev pub AnswersAttach : Option Errno → ℕ → Answer → Type 0
+AnswersAttach refusal next (Attached client) = (refusal ≡ None) × (client ≡ next)
+AnswersAttach refusal next (NotAttached errno) = (refusal ≡ Some errno) ⊎ ((refusal ≡ None) × (errno ≡ ENOMEM))
+AnswersAttach refusal next _ = ⊥
+
+-- why a call that is read so is not taken, where so many places are left: its path text is refused, or there is none
+abbrev pub call_refusal : ℕ → Result Call Errno → Option Errno
+call_refusal places (Err errno) = Some errno
+call_refusal places (Ok call) = cond (nat_eq places 0) (Some ENOSPC) None
+
+-- a call has a reply, or is not taken by its refusal or for want of memory
+abbrev pub AnswersCall : Option Errno → ℕ → Answer → Type 0
+AnswersCall refusal client (Replied c reply) = (refusal ≡ None) × (c ≡ client)
+AnswersCall refusal client (NotTaken c errno) = ((refusal ≡ Some errno) ⊎ (errno ≡ ENOMEM)) × (c ≡ client)
+AnswersCall refusal client _ = ⊥
