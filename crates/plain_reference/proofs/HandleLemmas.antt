@@ -69,9 +69,11 @@ open_at s c p f mode o = record s {
   tables = with_handle s.tables c (free_of s c) (Some (new_handle f (opens o s.serial) (way_of s.tree p) (node_of s.tree o)));
 }
 
+-- an open by what its path leads to
 pub opened_after : (s : State) (c : ℕ) (p : Path) (f : OpenFlags) (mode : ℕ) (o : Option NodeId) → node_at s.tree p ≡ o → after s c (Open p f mode) ≡ open_at s c p f mode o
 opened_after s c p f mode o at = ap (open_at s c p f mode) at
 
+-- a node, or none, that gets bytes made of itself
 filled : (f : Option Node → List ℕ) (o : Option Node) → over_node (with_bytes (f o)) o ≡ over_node (λ x. with_bytes (f (Some x)) x) o
 filled f None = refl
 filled f (Some x) = refl
@@ -88,9 +90,11 @@ write_at s c fd bytes none = record s {
   tables = cond none s.tables (with_handle s.tables c fd (moved_to (write_place s.tree (handle_of s.tables c fd) + length (fitting (write_place s.tree (handle_of s.tables c fd)) bytes)) (handle_of s.tables c fd)));
 }
 
+-- a write by whether it has no bytes
 pub written_after : (s : State) (c fd : ℕ) (bytes : List ℕ) (none : Bool) → nat_eq (length bytes) 0 ≡ none → after s c (Write fd bytes) ≡ write_at s c fd bytes none
 written_after s c fd bytes none e = ap (write_at s c fd bytes) e
 
+-- a part of no bytes has none
 no_part : (n : ℕ) → 0 ≡ length (take n (let none : List ℕ = [] in none))
 no_part zero = refl
 no_part (suc n) = refl

@@ -1,4 +1,4 @@
--- What a handle of the reference sees.
+-- What a handle of the plain machine sees, for what one of the reference does.
 use Rattle.plain_model.specs.Machine as machine
 use Rattle.plain_reference.specs.declared.view.View.{View}
 use Rattle.plain_reference.specs.declared.view.View.TheVariants.{Live, Frozen}

@@ -86,7 +86,7 @@ impl Reference {
         }
     }
 
-    /// Writes bytes to a file, as many as fit.
+    /// Writes bytes to a file at the handle's place, or at the end with APPEND, as many as fit.
     pub(crate) fn write(
         &mut self,
         client: u32,

@@ -183,9 +183,7 @@ impl Node {
             }
         }
     }
-}
 
-impl Node {
     // Copies a file or symbolic link of a lower layer up.
     fn touch(&mut self)
         ensures { plain self.new ≡ touched (plain self.old) }
