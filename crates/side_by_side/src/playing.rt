@@ -3,9 +3,8 @@ use crate::engine::run_of;
 use crate::mount::{PlainMount, mount_of};
 use crate::rows::Row;
 use crate::tree_lines::push_tree;
-use ov_base::Reply;
+use ov_base::{Call, Errno, Reply};
 use ov_script::{CallText, Command, ReplyLine, command_of};
-use plain_reference::Reference;
 use std::alloc::{AllocError, Global};
 use std::hash::RandomState;
 use std::io;
@@ -148,9 +147,9 @@ fn answer_of(alloc: Global, mount: &mut PlainMount, line: &[u8]) -> Result<Answe
         return Ok(Answer::BadCommand);
     };
     match command {
-        Command::Attach => attached(alloc, &mut mount.reference),
-        Command::Detach { client } => detached(alloc, &mut mount.reference, client),
-        Command::Call { client, call } => called(alloc, &mut mount.reference, client, &call),
+        Command::Attach => attached(alloc, mount),
+        Command::Detach { client } => detached(alloc, mount, client),
+        Command::Call { client, call } => called(alloc, mount, client, &call),
         Command::Layer { index } => Ok(layer_answer(index as usize, mount.layers)),
         Command::Merge => {
             let mut tree = String::new(alloc);
@@ -168,16 +167,27 @@ fn layer_answer(index: usize, layers: usize) -> Answer {
     }
 }
 
-fn attached(alloc: Global, reference: &mut Reference) -> Result<Answer, AllocError> {
-    let line = match reference.attach()? {
-        Some(client) => format!(in alloc; "client {client}\n")?,
-        None => String::from_str(alloc, "not attached ENFILE\n")?,
-    };
-    Ok(Answer::Lines(line))
+fn attached(alloc: Global, mount: &mut PlainMount) -> Result<Answer, AllocError> {
+    if mount.history.refuses_attach() {
+        return not_attached(alloc, Errno::ENOSPC);
+    }
+    match mount.reference.attach()? {
+        Some(client) => {
+            mount.history.attach();
+            Ok(Answer::Lines(format!(in alloc; "client {client}\n")?))
+        }
+        None => not_attached(alloc, Errno::ENFILE),
+    }
 }
 
-fn detached(alloc: Global, reference: &mut Reference, client: u32) -> Result<Answer, AllocError> {
-    if reference.detach(client) {
+fn not_attached(alloc: Global, errno: Errno) -> Result<Answer, AllocError> {
+    let errno = errno.text();
+    Ok(Answer::Lines(format!(in alloc; "not attached {errno}\n")?))
+}
+
+fn detached(alloc: Global, mount: &mut PlainMount, client: u32) -> Result<Answer, AllocError> {
+    if mount.reference.detach(client) {
+        mount.history.detach();
         Ok(Answer::Lines(format!(in alloc; "{client} detached\n")?))
     } else {
         Ok(Answer::BadCommand)
@@ -186,28 +196,44 @@ fn detached(alloc: Global, reference: &mut Reference, client: u32) -> Result<Ans
 
 fn called(
     alloc: Global,
-    reference: &mut Reference,
+    mount: &mut PlainMount,
     client: u32,
     call: &CallText<'_>,
 ) -> Result<Answer, AllocError> {
-    if !reference.is_attached(client) {
+    if !mount.reference.is_attached(client) {
         return Ok(Answer::BadCommand);
     }
     match call.call(alloc)? {
-        Err(errno) => Ok(Answer::Lines(not_taken(alloc, client, errno.text())?)),
-        Ok(call) => match reference.call(client, &call)? {
-            Some(reply) => replied(alloc, client, &reply),
-            None => Ok(Answer::Lines(String::from_str(alloc, "not offered\n")?)),
-        },
+        Err(errno) => not_taken(alloc, client, errno),
+        Ok(call) => made(alloc, mount, client, &call),
     }
 }
 
-fn not_taken(alloc: Global, client: u32, errno: &str) -> Result<String, AllocError> {
+// Makes a call, if the history has a place for it.
+fn made(
+    alloc: Global,
+    mount: &mut PlainMount,
+    client: u32,
+    call: &Call,
+) -> Result<Answer, AllocError> {
+    if mount.history.room() == 0 {
+        return not_taken(alloc, client, Errno::ENOSPC);
+    }
+    match mount.reference.call(client, call)? {
+        Some(reply) => {
+            mount.history.finish();
+            replied(alloc, client, &reply)
+        }
+        None => Ok(Answer::Lines(String::from_str(alloc, "not offered\n")?)),
+    }
+}
+
+fn not_taken(alloc: Global, client: u32, errno: Errno) -> Result<Answer, AllocError> {
     let mut line = format!(in alloc; "{client}")?;
     line.push_str(" not taken ")?;
-    line.push_str(errno)?;
+    line.push_str(errno.text())?;
     line.push_str("\n")?;
-    Ok(line)
+    Ok(Answer::Lines(line))
 }
 
 fn replied(alloc: Global, client: u32, reply: &Reply) -> Result<Answer, AllocError> {
