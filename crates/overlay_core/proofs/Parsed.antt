@@ -1,5 +1,5 @@
 -- What is no mode or no target is refused as the calls are that give it.
-use Rattle.std.proofs.Common.{◌≡◌, ◌<◌, ◌≤◌, ℕ, Bool, true, false, not, ◌&&◌, cond, List, Option, Some, Ok, Err, refl, sym, ◌∙◌, length, nat_lt, nat_le, nat_eq, arith}
+use Rattle.std.proofs.Common.{◌≡◌, ◌<◌, ◌≤◌, ℕ, Bool, true, false, cond, List, Option, Some, Ok, Err, refl, sym, ◌∙◌, length, nat_lt, nat_le, nat_eq, arith}
 use Rattle.std.proofs.lemmas.Bool.{false≢true, ltb-false, lt-ltb, le-leb}
 use Rattle.ov_base.specs.declared.errno.Errno.{Errno}
 use Rattle.ov_base.specs.declared.errno.Errno.TheVariants.{ENAMETOOLONG, ENOENT, EINVAL}

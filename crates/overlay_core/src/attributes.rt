@@ -60,11 +60,7 @@ pub(crate) fn chmod(
 }
 
 // The change of a mode.
-fn mode_change(
-    layers: &Layers,
-    path: &Path,
-    mode: u32,
-) -> Result<Result<Change, Errno>, AllocError>
+fn mode_change(layers: &Layers, path: &Path, mode: u32) -> Result<Result<Change, Errno>, AllocError>
     ensures { IfOk result (Plans (λ Ls. chmod_fault Ls path.now mode) (changes.with_mode mode) layers.now path.now) }
 {
     let mode = match Mode::parse(mode) {

@@ -74,11 +74,7 @@ pub(crate) fn delete_attribute(
 }
 
 // The change that deletes a user attribute.
-fn deletion(
-    layers: &Layers,
-    path: &Path,
-    name: &Bytes,
-) -> Result<Result<Change, Errno>, AllocError>
+fn deletion(layers: &Layers, path: &Path, name: &Bytes) -> Result<Result<Change, Errno>, AllocError>
     ensures { IfOk result (Plans (λ Ls. get_fault Ls path.now name.now) (λ a. record a { user = drop_value a.user name.now }) layers.now path.now) }
 {
     let name = match parsed(name)? {

@@ -1,4 +1,4 @@
-use Rattle.std.proofs.Common.{refl, sym, ap, ◌∙◌, Some}
+use Rattle.std.proofs.Common.{refl}
 use Rattle.std.proofs.lemmas.Result.{err_from_is_err_and}
 use Rattle.merged_lookup.specs.Merged.{layers_of}
 use Rattle.overlay_core.proofs.Altering.{chown-link, shows-open}

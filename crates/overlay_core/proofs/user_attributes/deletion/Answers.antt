@@ -8,8 +8,7 @@ use Rattle.overlay_core.proofs.user_attributes.deletion.Goals as goal
 pub returns : goal.returns
 returns c =
     let same = rw c.in-Ok.is at c.in_ok-name.ensures.same in
-    let shown = c.in-Ok-target_at.ensures.shown in
-    (
+    let shown = c.in-Ok-target_at.ensures.shown in (
       get-none (layers_of c.args.layers.now) c.args.path.now c.args.name.now c.in-Ok-target_at.target.attributes.now
           (rw c.in-Ok.is at c.in_ok-name.ensures.allowed)
           shown

@@ -9,8 +9,7 @@ use Rattle.overlay_core.proofs.user_attributes.value_change.Goals as goal
 pub returns : goal.returns
 returns c =
     let same = rw c.in-Ok.is at c.in_ok-name.ensures.same in
-    let shown = c.in-Ok-target_at.ensures.shown in
-    (
+    let shown = c.in-Ok-target_at.ensures.shown in (
       set-none (layers_of c.args.layers.now) c.args.path.now c.args.name.now c.args.value.now c.in-Ok-target_at.target.attributes.now
           (rw c.in-Ok.is at c.in_ok-name.ensures.allowed)
           (le-ltb 1024 (length c.args.value.now) (rw c.as_slice.ensures at c.if-as_slice-gt-VALUE_MAX.false))
