@@ -8,9 +8,8 @@ use Rattle.std.specs.declared.alloc.AllocError.{AllocError}
 use Rattle.open_handles.specs.declared.handle.Handle.{Handle}
 use Rattle.open_handles.specs.declared.handle.Handle.TheVariants.{Directory, File}
 use Rattle.open_handles.specs.declared.handle.OpenDirectory.{OpenDirectory}
-use Rattle.open_handles.specs.declared.open_file.OpenFile.{OpenFile}
 use Rattle.open_handles.specs.Descriptors.{opened, in_slot, SetsSlot}
-use Rattle.open_handles.specs.Listings.{GivesNames, directory_in, file_in, open_directory, names_left, after_names}
+use Rattle.open_handles.specs.Listings.{GivesNames, directory_in, names_left, after_names}
 
 -- What is read in a slot is open there.
 pub opened-read : {D : Type 0} (slots : List (Option D)) (d : ℕ) (v : Option D) → d < length slots → v ≡ get_or slots d v → opened slots d ≡ v
