@@ -72,9 +72,3 @@ pub directory-is : (x : Option Handle) (o : OpenDirectory) → directory_in x �
 directory-is None o e = cc
 directory-is (Some (Directory y)) o e = ap (option_map Directory) e
 directory-is (Some (File f)) o e = cc
-
--- What leads to a directory isn't none, and on no file.
-pub leads-somewhere : (o : Option Handle) → IsSome (directory_in o) → ((y : OpenDirectory) → o ≢ Some (Directory y)) → ⊥
-leads-somewhere None h away = let bad : false ≡ true = h in absurd cc
-leads-somewhere (Some (Directory y)) h away = away y refl
-leads-somewhere (Some (File f)) h away = let bad : false ≡ true = h in absurd cc

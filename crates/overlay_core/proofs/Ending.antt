@@ -1,14 +1,13 @@
 -- Handles that are closed one after another.
-use Rattle.std.proofs.Common.{arith, ◌≡◌, ◌≢◌, ◌↔◌, IsSome, subst, ℕ, zero, suc, ◌+◌, ◌<◌, ◌≤◌, Bool, true, is_some, cond, List, [], ◌∷◌, Option, None, Some, refl, sym, ap, ◌∙◌, ◌⊎◌, inl, inr, length, take, get_or, nat_eq, add-one}
-use Rattle.std.proofs.lemmas.Bool.{cases_eq, eq-eqb, ne_eqb}
+use Rattle.std.proofs.Common.{arith, ◌≡◌, ◌≢◌, ◌↔◌, IsSome, subst, ℕ, zero, suc, ◌+◌, ◌<◌, ◌≤◌, true, is_some, cond, List, [], ◌∷◌, Option, None, Some, refl, sym, ap, ◌∙◌, inl, inr, length, take, get_or, nat_eq, add-one}
+use Rattle.std.proofs.lemmas.Bool.{cases_eq, ne_eqb}
 use Rattle.open_handles.specs.declared.handle.Handle as handles
-use Rattle.open_handles.specs.declared.handle.Handle.TheVariants.{Directory, File}
+use Rattle.open_handles.specs.declared.handle.Handle.TheVariants.{Directory}
 use Rattle.open_handles.specs.declared.handle.OpenDirectory.{OpenDirectory}
-use Rattle.open_handles.specs.declared.open_file.OpenFile.{OpenFile}
 use Rattle.open_handles.specs.Dentries.{Dentries}
 use Rattle.open_handles.specs.Holding.{holds, handles_on, holds_file, files_on}
 use Rattle.open_handles.specs.FileHolders.{HeldFiles, file_holders}
-use Rattle.open_handles.specs.Opened.{Location, opened, holders, Closes}
+use Rattle.open_handles.specs.Opened.{Location, opened, holders}
 use Rattle.overlay_core.specs.Held.{ClosesAll, ReleasesAll}
 use Rattle.overlay_core.specs.Held.{handles_by, handles_below, files_by, files_below}
 use Rattle.overlay_core.specs.declared.clients.Clients.{Clients}
@@ -65,34 +64,6 @@ closes-none t lawful = record { counted = λ k. omega arith; located = λ k. by 
     by k zero e None is = is ∙ sym (ap (λ m. cond (nat_eq m 0) None (opened t k)) e)
     by k zero e (Some l) is = let some : 0 < holders t k = (lawful k).0 (subst IsSome (sym is) refl) in absurd (omega arith)
     by k (suc n) e o is = sym (kept-located (holders t k) (opened t k) (omega arith))
-
--- a handle on a directory is closed
-pub closes-one : (old new : Dentries) (o : OpenDirectory) → ((k : ℕ) → IsSome (opened old k) ↔ 0 < holders old k) → Closes old new o.directory → ClosesAll old new (Some (Directory o) ∷ [])
-closes-one old new o lawful one = record { counted = λ k. counted k (cases_eq k o.directory); located = λ k. located k (cases_eq k o.directory) }
-  where
-    counted : (k : ℕ) → (k ≡ o.directory) ⊎ (k ≡ o.directory → ⊥) → holders new k + (holds (Some (Directory o)) k + 0) ≡ holders old k
-    counted k (inl e) =
-        let own : holds (Some (Directory o)) k ≡ 1 = ap (λ (b : Bool). cond {A = ℕ} b 1 0) (eq-eqb o.directory k (sym e)) in
-        let down : holders new k + 1 ≡ holders old k = ap (λ j. holders new j + 1) e ∙ one.counted ∙ sym (ap (holders old) e) in
-        omega (arith, own, down)
-    counted k (inr off) =
-        let none : holds (Some (Directory o)) k ≡ 0 = ap (λ (b : Bool). cond {A = ℕ} b 1 0) (ne_eqb o.directory k (λ e. off (sym e))) in
-        omega (arith, none, one.others.counted k off)
-
-    located : (k : ℕ) → (k ≡ o.directory) ⊎ (k ≡ o.directory → ⊥) → opened new k ≡ cond (nat_eq (holders new k) 0) None (opened old k)
-    located k (inl e) = ap (opened new) e ∙ one.located ∙ sym (ap (λ j. cond (nat_eq (holders new j) 0) None (opened old j)) e)
-    located k (inr off) = one.others.located k off ∙ (closes-none old lawful).located k ∙ sym (ap (λ n. cond (nat_eq n 0) None (opened old k)) (one.others.counted k off))
-
--- a handle on a file is on no directory
-pub closes-file : (t : Dentries) (f : OpenFile) → ((k : ℕ) → IsSome (opened t k) ↔ 0 < holders t k) → ClosesAll t t (Some (File f) ∷ [])
-closes-file t f lawful = record { counted = λ k. omega arith; located = (closes-none t lawful).located }
-
--- a directory that is closed next is open
-pub next-open : (t : Dentries) (o : OpenDirectory) → ((k : ℕ) → handles_on (Some (Directory o) ∷ []) k ≤ holders t k) → ((k : ℕ) → IsSome (opened t k) ↔ 0 < holders t k) → IsSome (opened t o.directory)
-next-open t o enough lawful =
-    let own : holds (Some (Directory o)) o.directory ≡ 1 = ap (λ (b : Bool). cond {A = ℕ} b 1 0) (eq-eqb o.directory o.directory refl) in
-    let some : holds (Some (Directory o)) o.directory + 0 ≤ holders t o.directory = enough o.directory in
-    (lawful o.directory).1 (omega (arith, own, some))
 
 -- a free slot closes none
 pub closes-free : (old mid : Dentries) (slots more : Slots) (slot : Option handles.Handle) → slot ≡ None → ((k : ℕ) → handles_on more k ≡ handles_on slots k + holds slot k) → ClosesAll old mid slots → ClosesAll old mid more
