@@ -1,13 +1,15 @@
 -- What slots have after one of them was read or written.
-use Rattle.std.proofs.Common.{◌≡◌, ◌≢◌, ℕ, zero, suc, ◌<◌, List, [], ◌∷◌, length, take, get_or, Option, None, Some, Result, Ok, Err, IfOk, OnOk, OnErr, IsSome, option_map, refl, sym, ap, ◌∙◌, arith, true, false}
+use Rattle.std.proofs.Common.{◌≡◌, ◌≢◌, ℕ, zero, suc, ◌<◌, List, [], ◌∷◌, length, take, drop, get_or, Option, None, Some, Result, Ok, Err, IfOk, OnOk, OnErr, IsSome, option_map, refl, sym, ap, ◌∙◌, arith, true, false}
 use Rattle.std.proofs.Math.ListN.{set}
 use Rattle.std.proofs.lemmas.List.{set-get_or}
 use Rattle.std.proofs.lemmas.Option.{slice_get_read}
 use Rattle.std.specs.List.{slice_get}
 use Rattle.std.specs.declared.alloc.AllocError.{AllocError}
-use Rattle.open_handles.specs.declared.descriptors.OpenDirectory.{OpenDirectory}
+use Rattle.open_handles.specs.declared.handle.Handle.{Handle}
+use Rattle.open_handles.specs.declared.handle.Handle.TheVariants.{Directory, File}
+use Rattle.open_handles.specs.declared.handle.OpenDirectory.{OpenDirectory}
 use Rattle.open_handles.specs.Descriptors.{opened, in_slot, SetsSlot}
-use Rattle.open_handles.specs.Listings.{GivesNames, names_left, after_names}
+use Rattle.open_handles.specs.Listings.{GivesNames, directory_in, names_left, after_names}
 
 -- What is read in a slot is open there.
 pub opened-read : {D : Type 0} (slots : List (Option D)) (d : ℕ) (v : Option D) → d < length slots → v ≡ get_or slots d v → opened slots d ≡ v
@@ -35,19 +37,19 @@ sets-slot slots d v h = record {
 }
 
 -- The next names of a listing, by its slot.
-pub gives-names : (slots : List (Option OpenDirectory)) (d count : ℕ) (o after : OpenDirectory) (r : Result (List (List ℕ)) AllocError) → d < length slots → Some o ≡ get_or slots d (Some o) → IfOk r (λ names. names ≡ take count (names_left (Some o))) → OnOk r (after ≡ after_names count o) → OnErr r (after ≡ o) → GivesNames slots (set slots d (Some after)) d count r
+pub gives-names : (slots : List (Option Handle)) (d count : ℕ) (o after : OpenDirectory) (r : Result (List (List ℕ)) AllocError) → d < length slots → Some (Directory o) ≡ get_or slots d (Some (Directory o)) → IfOk r (λ names. names ≡ take count (names_left (Some o))) → OnOk r (after ≡ record o { listing = option_map (drop count) o.listing }) → OnErr r (after ≡ o) → GivesNames slots (set slots d (Some (Directory after))) d count r
 gives-names slots d count o after (Ok names) h e given left kept =
-    let read : opened slots d ≡ Some o = opened-read slots d (Some o) h e in
-    let sets : SetsSlot slots (set slots d (Some after)) d (Some after) = sets-slot slots d (Some after) h in
+    let read : opened slots d ≡ Some (Directory o) = opened-read slots d (Some (Directory o)) h e in
+    let sets : SetsSlot slots (set slots d (Some (Directory after))) d (Some (Directory after)) = sets-slot slots d (Some (Directory after)) h in
     record {
-      names = rw read given;
-      left = record { here = sets.here ∙ ap (λ z. Some z) left ∙ sym (ap (option_map (after_names count)) read); others = sets.others };
+      names = given ∙ sym (ap (λ z. take count (names_left (directory_in z))) read);
+      left = record { here = sets.here ∙ ap (λ z. Some (Directory z)) left ∙ sym (ap (option_map (after_names count)) read); others = sets.others };
       err = tt;
     }
 gives-names slots d count o after (Err f) h e given left kept = record {
   names = tt;
   left = tt;
-  err = ap (λ z. set slots d (Some z)) kept ∙ ap (λ z. set slots d z) e ∙ set-get_or slots d (Some o);
+  err = ap (λ z. set slots d (Some (Directory z))) kept ∙ ap (λ z. set slots d z) e ∙ set-get_or slots d (Some (Directory o));
 }
 
 -- What is open has a slot.
@@ -59,3 +61,14 @@ opened-within (v ∷ slots) (suc d) h = let within = opened-within slots d h in 
 -- What is open is no empty slot.
 pub opened-taken : {D : Type 0} (slots : List (Option D)) (d : ℕ) → IsSome (opened slots d) → None ≡ get_or slots d None → ⊥
 opened-taken slots d h e = let none = opened-read slots d None (opened-within slots d h) e in let no : false ≡ true = rw none at h in cc
+
+-- What leads to a directory is open.
+pub directory-some : (o : Option Handle) → IsSome (directory_in o) → IsSome o
+directory-some None h = h
+directory-some (Some x) h = refl
+
+-- What leads to a directory is a handle on it.
+pub directory-is : (x : Option Handle) (o : OpenDirectory) → directory_in x ≡ Some o → x ≡ Some (Directory o)
+directory-is None o e = cc
+directory-is (Some (Directory y)) o e = ap (option_map Directory) e
+directory-is (Some (File f)) o e = cc

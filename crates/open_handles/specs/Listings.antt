@@ -1,45 +1,73 @@
--- The listings of open directories.
+-- What descriptors lead to, and the listings of open directories.
 use Rattle.std.specs.Prelude.{◌≡◌, ℕ, List, [], Option, Some, None, Result, IfOk, IfErr, OnOk, OnErr, IsSome, option_map, take, drop, unwrap_or}
 use Rattle.std.specs.declared.alloc.AllocError.{AllocError}
 use Rattle.ov_base.specs.declared.errno.Errno.{Errno}
 use Rattle.ov_base.specs.declared.errno.Errno.TheVariants.{EBADF, EMFILE}
-use Rattle.open_handles.specs.declared.descriptors.OpenDirectory.{OpenDirectory}
+use Rattle.open_handles.specs.declared.handle.Handle.{Handle}
+use Rattle.open_handles.specs.declared.handle.Handle.TheVariants.{Directory, File}
+use Rattle.open_handles.specs.declared.handle.OpenDirectory.{OpenDirectory}
+use Rattle.open_handles.specs.declared.open_file.OpenFile.{OpenFile}
 use Rattle.open_handles.specs.Descriptors.{opened, SetsSlot, IsLowestFree, IsFull}
 
--- an open directory with this listing, or none
-abbrev pub with_listing : Option (List (List ℕ)) → OpenDirectory → OpenDirectory
-with_listing listing o = record o { listing = listing }
+-- the directory that a handle is on, and the file
+abbrev pub directory_in : Option Handle → Option OpenDirectory
+directory_in None = None
+directory_in (Some (Directory o)) = Some o
+directory_in (Some (File f)) = None
 
--- an open directory of whose listing so many more names were given
-abbrev pub after_names : ℕ → OpenDirectory → OpenDirectory
-after_names count o = record o { listing = option_map (drop count) o.listing }
+abbrev pub file_in : Option Handle → Option OpenFile
+file_in None = None
+file_in (Some (Directory o)) = None
+file_in (Some (File f)) = Some f
+
+-- the directory, and the file, to which a descriptor leads
+abbrev pub open_directory : List (Option Handle) → ℕ → Option OpenDirectory
+open_directory slots d = directory_in (opened slots d)
+
+abbrev pub open_file : List (Option Handle) → ℕ → Option OpenFile
+open_file slots d = file_in (opened slots d)
+
+-- a handle on a directory with this listing, or none; one on a file stays
+abbrev pub with_listing : Option (List (List ℕ)) → Handle → Handle
+with_listing listing (Directory o) = Directory (record o { listing = listing })
+with_listing listing (File f) = File f
+
+-- a handle on a directory of whose listing so many more names were given; one on a file stays
+abbrev pub after_names : ℕ → Handle → Handle
+after_names count (Directory o) = Directory (record o { listing = option_map (drop count) o.listing })
+after_names count (File f) = File f
+
+-- a handle on a file at this place; one on a directory stays
+abbrev pub with_place : ℕ → Handle → Handle
+with_place place (Directory o) = Directory o
+with_place place (File f) = File (record f { place = place })
 
 -- the names of a listing that are still to be given; none where there is no listing
 abbrev pub names_left : Option OpenDirectory → List (List ℕ)
 names_left None = []
 names_left (Some o) = unwrap_or o.listing []
 
--- only the open directory under one descriptor changed
-abbrev pub ChangesSlot : List (Option OpenDirectory) → List (Option OpenDirectory) → ℕ → (OpenDirectory → OpenDirectory) → Type 0
+-- only the handle under one descriptor changed
+abbrev pub ChangesSlot : List (Option Handle) → List (Option Handle) → ℕ → (Handle → Handle) → Type 0
 ChangesSlot old new d change = SetsSlot old new d (option_map change (opened old d))
 
--- a directory is opened under the lowest free descriptor, or refused where 64 are open; any failure changes nothing
-pub record Opens (old new : List (Option OpenDirectory)) (directory : OpenDirectory) (result : Result (Result ℕ Errno) AllocError) : Type 0 where
+-- a handle is opened under the lowest free descriptor, or refused where 64 are open; any failure changes nothing
+pub record Opens (old new : List (Option Handle)) (handle : Handle) (result : Result (Result ℕ Errno) AllocError) : Type 0 where
   pub lowest : IfOk result (λ opening. IfOk opening (IsLowestFree old))
-  pub opens : IfOk result (λ opening. IfOk opening (λ d. SetsSlot old new d (Some directory)))
+  pub opens : IfOk result (λ opening. IfOk opening (λ d. SetsSlot old new d (Some handle)))
   pub full : IfOk result (λ opening. IfErr opening (λ errno. (errno ≡ EMFILE) × IsFull old))
   pub refused : IfOk result (λ opening. OnErr opening (new ≡ old))
   pub err : OnErr result (new ≡ old)
 
 -- an open descriptor is closed, and no other
-pub record Closes (old new : List (Option OpenDirectory)) (d : ℕ) (result : Result (Unit {0}) Errno) : Type 0 where
+pub record Closes (old new : List (Option Handle)) (d : ℕ) (result : Result (Unit {0}) Errno) : Type 0 where
   pub closes : OnOk result (SetsSlot old new d None)
   pub was_open : OnOk result (IsSome (opened old d))
   pub not_open : IfErr result (λ errno. (errno ≡ EBADF) × (opened old d ≡ None))
   pub refused : OnErr result (new ≡ old)
 
 -- the next names of a listing are given; want of memory changes nothing
-pub record GivesNames (old new : List (Option OpenDirectory)) (d count : ℕ) (result : Result (List (List ℕ)) AllocError) : Type 0 where
-  pub names : IfOk result (λ names. names ≡ take count (names_left (opened old d)))
+pub record GivesNames (old new : List (Option Handle)) (d count : ℕ) (result : Result (List (List ℕ)) AllocError) : Type 0 where
+  pub names : IfOk result (λ names. names ≡ take count (names_left (open_directory old d)))
   pub left : OnOk result (ChangesSlot old new d (after_names count))
   pub err : OnErr result (new ≡ old)

@@ -2,6 +2,7 @@
 ghost use Rattle.std.specs.Prelude.{◌≡◌, ◌≤◌, ◌<◌, [], Some, None, true, Ok, Err, IfOk, OnOk, OnErr, IfSome, IfErr, ℕ, MatchOption, MatchResult, option_copied, is_some, length, take, IsSome, option_map, vec_len};
 ghost use Rattle.open_handles.specs.Descriptors.{opened, SetsSlot};
 
+use crate::handle::{Handle, OpenDirectory};
 use dir_listing::Cursor;
 use ov_base::{Errno, NameList};
 use std::alloc::{AllocError, Global};
@@ -9,35 +10,15 @@ use std::alloc::{AllocError, Global};
 /// The most descriptors of a client.
 pub const DESCRIPTORS_MAX: usize = 64;
 
-/// A directory that is open for reading, by its number among the open directories of the mount, and how far it was listed.
-#[derive(Drop)]
-pub struct OpenDirectory {
-    pub directory: usize,
-    pub listing: Cursor,
-}
-
 /// The descriptors of a client by number; a slot of none is free.
 #[derive(Drop)]
 pub struct Descriptors {
-    slots: Vec<Option<OpenDirectory>>,
+    slots: Vec<Option<Handle>>,
     ghost few: { vec_len slots ≤ 64 },
 }
 
-impl OpenDirectory {
-    ghost use Rattle.open_handles.specs.Listings.{after_names, names_left};
-
-    // Gives the next names of the listing, at most so many.
-    fn next_names(&mut self, alloc: Global, count: usize) -> Result<NameList, AllocError>
-        ensures names { IfOk result (λ names. names ≡ take count (names_left (Some self.old))) }
-        ensures left { OnOk result (self.new ≡ after_names count self.old) }
-        ensures err { OnErr result (self.new ≡ self.old) }
-    {
-        self.listing.next(alloc, count)
-    }
-}
-
 impl Descriptors {
-    ghost use Rattle.open_handles.specs.Listings.{ChangesSlot, Opens, Closes, GivesNames, with_listing};
+    ghost use Rattle.open_handles.specs.Listings.{ChangesSlot, Opens, Closes, GivesNames, with_listing, with_place, open_directory, open_file};
 
     /// No descriptors.
     pub fn new(alloc: Global) -> Descriptors
@@ -48,48 +29,58 @@ impl Descriptors {
         }
     }
 
-    /// Opens a directory under the lowest free descriptor and gives it. Where 64 are open it is EMFILE. Any failure changes nothing.
-    pub fn open(&mut self, directory: OpenDirectory) -> Result<Result<u32, Errno>, AllocError>
-        ensures { Opens self.old.slots.items self.new.slots.items directory result }
+    /// Opens a handle under the lowest free descriptor and gives it. Where 64 are open it is EMFILE. Any failure changes nothing.
+    pub fn open(&mut self, handle: Handle) -> Result<Result<u32, Errno>, AllocError>
+        ensures { Opens self.old.slots.items self.new.slots.items handle result }
     {
         let slot = first_free(self.slots.as_slice());
         if slot >= DESCRIPTORS_MAX {
             return Ok(Err(Errno::EMFILE));
         }
         if slot < self.slots.len() {
-            self.slots[slot] = Some(directory);
+            self.slots[slot] = Some(handle);
         } else {
-            self.slots.push(Some(directory))?;
+            self.slots.push(Some(handle))?;
         }
         Ok(Ok(slot as u32))
     }
 
     /// What stands open under a descriptor.
-    pub fn get(&self, descriptor: u32) -> Option<&OpenDirectory>
+    pub fn get(&self, descriptor: u32) -> Option<&Handle>
         ensures { option_copied result ≡ opened self.now.slots.items descriptor }
     {
         match self.slots.get(descriptor as usize) {
-            Some(Some(directory)) => Some(directory),
+            Some(Some(handle)) => Some(handle),
+            _ => None,
+        }
+    }
+
+    /// The directory to which a descriptor leads, if it leads to one.
+    pub fn directory(&self, descriptor: u32) -> Option<&OpenDirectory>
+        ensures { option_copied result ≡ open_directory self.now.slots.items descriptor }
+    {
+        match self.get(descriptor) {
+            Some(Handle::Directory(directory)) => Some(directory),
             _ => None,
         }
     }
 
     /// Keeps a listing of an open directory, in place of one that it has.
     pub fn keep_listing(&mut self, descriptor: u32, listing: Cursor)
-        requires { IsSome (opened self.old.slots.items descriptor) }
+        requires { IsSome (open_directory self.old.slots.items descriptor) }
         ensures { ChangesSlot self.old.slots.items self.new.slots.items descriptor (with_listing listing) }
     {
-        if let Some(directory) = &mut self.slots[descriptor as usize] {
+        if let Some(Handle::Directory(directory)) = &mut self.slots[descriptor as usize] {
             directory.listing = listing;
         }
     }
 
     /// Lets the listing of an open directory go.
     pub fn rewind(&mut self, descriptor: u32)
-        requires { IsSome (opened self.old.slots.items descriptor) }
+        requires { IsSome (open_directory self.old.slots.items descriptor) }
         ensures { ChangesSlot self.old.slots.items self.new.slots.items descriptor (with_listing None) }
     {
-        if let Some(directory) = &mut self.slots[descriptor as usize] {
+        if let Some(Handle::Directory(directory)) = &mut self.slots[descriptor as usize] {
             directory.listing.rewind();
         }
     }
@@ -101,17 +92,27 @@ impl Descriptors {
         descriptor: u32,
         count: usize,
     ) -> Result<NameList, AllocError>
-        requires { IsSome (opened self.old.slots.items descriptor) }
+        requires { IsSome (open_directory self.old.slots.items descriptor) }
         ensures { GivesNames self.old.slots.items self.new.slots.items descriptor count result }
     {
         match &mut self.slots[descriptor as usize] {
-            Some(directory) => directory.next_names(alloc, count),
-            None => Ok(NameList::new(alloc)),
+            Some(Handle::Directory(directory)) => directory.next_names(alloc, count),
+            _ => Ok(NameList::new(alloc)),
+        }
+    }
+
+    /// Moves the place of an open file.
+    pub fn move_to(&mut self, descriptor: u32, place: u64)
+        requires { IsSome (open_file self.old.slots.items descriptor) }
+        ensures { ChangesSlot self.old.slots.items self.new.slots.items descriptor (with_place place) }
+    {
+        if let Some(Handle::File(file)) = &mut self.slots[descriptor as usize] {
+            file.place = place;
         }
     }
 
     /// Takes what stands open under a descriptor out, which is free then.
-    pub fn take(&mut self, descriptor: u32) -> Option<OpenDirectory>
+    pub fn take(&mut self, descriptor: u32) -> Option<Handle>
         ensures value { result ≡ opened self.old.slots.items descriptor }
         ensures slot { SetsSlot self.old.slots.items self.new.slots.items descriptor None }
     {
@@ -137,7 +138,7 @@ impl Descriptors {
     }
 
     /// The slots in the order of their descriptors, at most 64, to close each that is open.
-    pub fn into_slots(self) -> Vec<Option<OpenDirectory>>
+    pub fn into_slots(self) -> Vec<Option<Handle>>
         ensures slots { result.items ≡ self.slots.items }
         ensures few { vec_len result ≤ 64 }
     {
@@ -146,7 +147,7 @@ impl Descriptors {
 }
 
 // The first slot of none, or how many slots there are.
-fn first_free(slots: &[Option<OpenDirectory>]) -> usize
+fn first_free(slots: &[Option<Handle>]) -> usize
     ensures within { result ≤ length slots.now }
     ensures free { opened slots.now result ≡ None }
     ensures lowest { (k : ℕ) → k < result → is_some (opened slots.now k) ≡ true }

@@ -6,10 +6,12 @@ mod dentries;
 mod dentry;
 mod descriptors;
 mod directories;
+mod handle;
 mod open_file;
 mod open_files;
 
-pub use descriptors::{DESCRIPTORS_MAX, Descriptors, OpenDirectory};
+pub use descriptors::{DESCRIPTORS_MAX, Descriptors};
 pub use directories::OpenDirectories;
+pub use handle::{Handle, OpenDirectory};
 pub use open_file::{FILE_MAX, FileSource, OpenFile, PLACE_MAX, fitting, read_at, sought};
 pub use open_files::OpenFiles;

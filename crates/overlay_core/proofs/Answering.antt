@@ -1,5 +1,5 @@
 -- The mount answers each call as the machine does.
-use Rattle.std.proofs.Common.{arith, ◌≡◌, ℕ, ℤ, pos, nat_abs, ◌+◌, ◌<◌, ◌≤◌, Bool, true, false, not, min, ◌&&◌, ◌||◌, List, Option, None, Some, Result, Ok, Err, refl, sym, ap, ◌∙◌, subst, is_some, is_none, length, take, drop, nat_eq, nat_lt}
+use Rattle.std.proofs.Common.{arith, ◌≡◌, ℕ, ℤ, pos, nat_abs, ◌+◌, ◌<◌, ◌≤◌, Bool, true, false, not, min, ◌&&◌, List, Option, None, Some, Result, Ok, Err, refl, sym, ap, ◌∙◌, subst, is_some, is_none, length, take, drop, nat_eq}
 use Rattle.std.specs.Option.{unwrap_or, option_and_then}
 use Rattle.std.proofs.lemmas.Bool.{false≢true, le-ltb}
 use Rattle.std.proofs.lemmas.List.{drop_min, drop-drop}
@@ -36,18 +36,21 @@ use Rattle.mount_laws.proofs.Removed.{law_of_list_removed}
 use Rattle.mount_laws.proofs.Seeks.{at-start, law_of_seek}
 use Rattle.overlay_core.specs.declared.clients.Clients.{Clients}
 use Rattle.open_handles.specs.Opened.{Location, At, Removed, path_in}
-use Rattle.open_handles.specs.declared.descriptors.OpenDirectory.{OpenDirectory}
+use Rattle.open_handles.specs.declared.handle.Handle as handles
+use Rattle.open_handles.specs.declared.handle.Handle.TheVariants.{Directory, File}
+use Rattle.open_handles.specs.declared.handle.OpenDirectory.{OpenDirectory}
+use Rattle.open_handles.specs.declared.open_file.OpenFile.{OpenFile}
 use Rattle.overlay_core.specs.declared.mount.Mount.{Mount}
 use Rattle.overlay_core.specs.Attaching.{opened_by, path_of, ChangesClient}
 use Rattle.open_handles.specs.declared.descriptors.Descriptors.{Descriptors}
 use Rattle.open_handles.specs.Descriptors.{opened, SetsSlot}
-use Rattle.open_handles.specs.Listings.{ChangesSlot, Closes, GivesNames, with_listing}
-use Rattle.overlay_core.specs.Opening.{OpensAt, place_fault, seek_fault}
+use Rattle.open_handles.specs.Listings.{ChangesSlot, Closes, GivesNames, directory_in, with_listing}
+use Rattle.overlay_core.specs.Opening.{OpensAt, place_fault, seek_fault, list_fault}
 use Rattle.overlay_core.specs.Status.{stat_at, stat_shown, unless_refused}
 use Rattle.overlay_core.specs.States.{IsLeft, Stands, IsHandle, AreTables, AreUnwatched, IsStateOf, StaysState, Serves, AreNamesIn, AreLeft, Pages}
 use Rattle.overlay_core.proofs.Paging.{sets-changed}
 use Rattle.overlay_core.proofs.Directories.{Turns, shown-directory, directory-folder, closes, turns}
-use Rattle.overlay_core.proofs.Serving.{slot-open, handle-same, tables-moved, slot-closed, in-room, free-lowest, free-none, SameClients, same-clients, tables-same, tables-set, room-of}
+use Rattle.overlay_core.proofs.Serving.{slot-open, slot-file, handle-same, tables-moved, slot-closed, in-room, free-lowest, free-none, SameClients, same-clients, tables-same, tables-set, room-of}
 
 pub serve-refused : (o : Option Errno) (s : State) (c : ℕ) (k : Call) (e : Errno) (new : Mount) → o ≡ Some e → IsStateOf new s → Serves o s c k (reply.Refused e) new
 serve-refused o s c k e new h st = subst (λ z. Serves z s c k (reply.Refused e) new) (sym h) (refl, st)
@@ -61,7 +64,7 @@ on-err (Ok x) P p = tt
 on-err (Err e) P p = p
 
 -- a client's change, told otherwise
-pub changes-as : (old new : Clients) (c : ℕ) (P Q : List (Option OpenDirectory) → List (Option OpenDirectory) → Type 0) → ((x y : List (Option OpenDirectory)) → P x y → Q x y) → ChangesClient old new c P → ChangesClient old new c Q
+pub changes-as : (old new : Clients) (c : ℕ) (P Q : List (Option handles.Handle) → List (Option handles.Handle) → Type 0) → ((x y : List (Option handles.Handle)) → P x y → Q x y) → ChangesClient old new c P → ChangesClient old new c Q
 changes-as old new c P Q f h = record {
   before = h.before;
   was = h.was;
@@ -144,9 +147,10 @@ min-comm : (a b : ℕ) → min a b ≡ min b a
 min-comm a b = omega arith
 
 -- a seek that is not refused is of an open directory, to its start
-pub unrefused-seek : (o : Option OpenDirectory) (offset : ℤ) (whence : ℕ) → seek_fault o offset whence ≡ None → (is_some o ≡ true) × (offset ≡ pos 0) × (whence ≡ 0)
+pub unrefused-seek : (o : Option handles.Handle) (offset : ℤ) (whence : ℕ) → seek_fault o offset whence ≡ None → (is_some (directory_in o) ≡ true) × (offset ≡ pos 0) × (whence ≡ 0)
 unrefused-seek None offset whence h = cc
-unrefused-seek (Some x) offset whence h = by (nat_eq (nat_abs offset) 0 && nat_eq whence 0) refl h
+unrefused-seek (Some (File f)) offset whence h = cc
+unrefused-seek (Some (Directory x)) offset whence h = by (nat_eq (nat_abs offset) 0 && nat_eq whence 0) refl h
   where
     by : (b : Bool) → (nat_eq (nat_abs offset) 0 && nat_eq whence 0) ≡ b → when (not b) errno.EINVAL ≡ None → (true ≡ true) × (offset ≡ pos 0) × (whence ≡ 0)
     by true e g = let start = at-start offset whence e in (refl, start.0, start.1)
@@ -160,8 +164,14 @@ state-as new l s e m a next w = record {
   unwatched = w;
 }
 
+-- a list that is not refused is of an open directory
+pub unrefused-list : (o : Option handles.Handle) (n : ℕ) → list_fault o n ≡ None → is_some (directory_in o) ≡ true
+unrefused-list None n h = cc
+unrefused-list (Some (File f)) n h = cc
+unrefused-list (Some (Directory x)) n h = refl
+
 -- what is open under a descriptor once it was set
-opened-after : (old new : Clients) (c d : ℕ) (o : OpenDirectory) → ChangesClient old new c (λ x y. SetsSlot x y d (Some o)) → opened_by new c d ≡ Some o
+opened-after : (old new : Clients) (c d : ℕ) (o : handles.Handle) → ChangesClient old new c (λ x y. SetsSlot x y d (Some o)) → opened_by new c d ≡ Some o
 opened-after old new c d o h = ap (option_and_then (λ (x : Descriptors). opened x.slots.items d)) h.is ∙ h.changes.here
 
 module _ (m : Mount) (s : State) (st : IsStateOf m s) (c : ℕ) where
@@ -192,6 +202,10 @@ module _ (m : Mount) (s : State) (st : IsStateOf m s) (c : ℕ) where
   keep-state new h =
       let same : SameClients m.clients new = same-clients m.clients new c h in
       with-tables new s.tables same.next (tables-same s.tree m.clients s.tables st.tables new same)
+
+  -- no call opens a file yet
+  no-file : (d : ℕ) (f : OpenFile) → opened_by m.clients c d ≡ Some (File f) → ⊥
+  no-file d f e = slot-file s.tree m.clients.directories _ _ f (st.tables.slots c d) e
 
   -- stat
   pub stat-ok : (p : Path) (a : Stat) → Ok a ≡ stat_at Ls p → Serves (refusal s c (call.Stat p)) s c (call.Stat p) (reply.Status a) m
@@ -259,7 +273,7 @@ module _ (m : Mount) (s : State) (st : IsStateOf m s) (c : ℕ) where
           (sym (o.answer ∙ ap reply.Descriptor same))
           (subst (IsStateOf (record m { clients = new })) (sym (o.state ∙ ap (λ z. record s { tables = with_handle s.tables c z (Some (listing_handle o.node (way_of s.tree p))) }) same))
           (with-tables new _ opens.changes.next
-          (tables-set s.tree m.clients s.tables st.tables new c d (Some opens.handle) (Some (listing_handle o.node (way_of s.tree p)))
+          (tables-set s.tree m.clients s.tables st.tables new c d (Some (Directory opens.handle)) (Some (listing_handle o.node (way_of s.tree p)))
           (changes-as m.clients new c _ _ (λ x y g. g.opens) opens.changes)
           opens.changes.changes.lowest.in_range
           (record {
@@ -272,7 +286,7 @@ module _ (m : Mount) (s : State) (st : IsStateOf m s) (c : ℕ) where
           }))))
 
   -- close
-  opened-before : (new : Clients) (P : List (Option OpenDirectory) → List (Option OpenDirectory) → Type 0) (ch : ChangesClient m.clients new c P) (d : ℕ) → opened_by m.clients c d ≡ opened ch.before.slots.items d
+  opened-before : (new : Clients) (P : List (Option handles.Handle) → List (Option handles.Handle) → Type 0) (ch : ChangesClient m.clients new c P) (d : ℕ) → opened_by m.clients c d ≡ opened ch.before.slots.items d
   opened-before new P ch d = rw ch.was refl
 
   close-bad : (d : ℕ) (new : Mount) → handle_of s.tables c d ≡ None → IsStateOf new s → Serves (refusal s c (call.Close d)) s c (call.Close d) (reply.Refused errno.EBADF) new
@@ -288,9 +302,10 @@ module _ (m : Mount) (s : State) (st : IsStateOf m s) (c : ℕ) where
   pub close-done : (d : ℕ) (new : Clients) → ChangesClient m.clients new c (λ x y. Closes x y d (Ok tt)) → Serves (refusal s c (call.Close d)) s c (call.Close d) reply.Done (record m { clients = new })
   close-done d new ch = by (opened_by m.clients c d) refl
     where
-      by : (o : Option OpenDirectory) → opened_by m.clients c d ≡ o → Serves (refusal s c (call.Close d)) s c (call.Close d) reply.Done (record m { clients = new })
+      by : (o : Option handles.Handle) → opened_by m.clients c d ≡ o → Serves (refusal s c (call.Close d)) s c (call.Close d) reply.Done (record m { clients = new })
       by None e = absurd (false≢true (sym (ap is_some (sym (opened-before new _ ch d) ∙ e)) ∙ ch.changes.was_open))
-      by (Some o) e =
+      by (Some (File f)) e = absurd (no-file d f e)
+      by (Some (Directory o)) e =
           let x = slot-open s.tree m.clients.directories _ _ o (st.tables.slots c d) e in
           let inside : d < DESCRIPTORS_MAX = rw (room-of s.tree m.clients s.tables st.tables c (ap is_some ch.was)) at (in-room s.tree m.clients s.tables st.tables c d x.0 x.1) in
           let law = closes U lowers s st.layers c d m.clients.directories o x.0 x.1 x.2 in
@@ -309,9 +324,10 @@ module _ (m : Mount) (s : State) (st : IsStateOf m s) (c : ℕ) where
   refused-seek : (d : ℕ) (offset : ℤ) (whence : ℕ) → refusal s c (call.Seek d offset whence) ≡ seek_fault (opened_by m.clients c d) offset whence
   refused-seek d offset whence = by (opened_by m.clients c d) refl
     where
-      by : (o : Option OpenDirectory) → opened_by m.clients c d ≡ o → refusal s c (call.Seek d offset whence) ≡ seek_fault o offset whence
+      by : (o : Option handles.Handle) → opened_by m.clients c d ≡ o → refusal s c (call.Seek d offset whence) ≡ seek_fault o offset whence
       by None e = (law_of_bad_descriptors s c d (slot-closed s.tree m.clients.directories _ _ (st.tables.slots c d) e)).seeking offset whence
-      by (Some o) e =
+      by (Some (File f)) e = absurd (no-file d f e)
+      by (Some (Directory o)) e =
           let x = slot-open s.tree m.clients.directories _ _ o (st.tables.slots c d) e in
           let law : Seeks s c d x.0 = law_of_seek s c d x.0 x.1 x.2.directory in
           law.refused offset whence
@@ -320,7 +336,7 @@ module _ (m : Mount) (s : State) (st : IsStateOf m s) (c : ℕ) where
   seek-refused d offset whence e h = serve-refused _ s c _ e m (refused-seek d offset whence ∙ h) st
 
   -- a directory goes to its start
-  rewound : (d : ℕ) (new : Clients) (o : OpenDirectory) → opened_by m.clients c d ≡ Some o → ChangesClient m.clients new c (λ x y. ChangesSlot x y d (with_listing None)) → Serves (refusal s c (call.Seek d (pos 0) 0)) s c (call.Seek d (pos 0) 0) (reply.Place 0) (record m { clients = new })
+  rewound : (d : ℕ) (new : Clients) (o : OpenDirectory) → opened_by m.clients c d ≡ Some (Directory o) → ChangesClient m.clients new c (λ x y. ChangesSlot x y d (with_listing None)) → Serves (refusal s c (call.Seek d (pos 0) 0)) s c (call.Seek d (pos 0) 0) (reply.Place 0) (record m { clients = new })
   rewound d new o e ch =
       let x = slot-open s.tree m.clients.directories _ _ o (st.tables.slots c d) e in
       let inside : d < DESCRIPTORS_MAX = rw (room-of s.tree m.clients s.tables st.tables c (ap is_some ch.was)) at (in-room s.tree m.clients s.tables st.tables c d x.0 x.1) in
@@ -329,10 +345,10 @@ module _ (m : Mount) (s : State) (st : IsStateOf m s) (c : ℕ) where
       serve-done _ s c _ _ (record m { clients = new }) (law.refused (pos 0) 0) (sym law.answer)
       (subst (IsStateOf (record m { clients = new })) (sym law.state)
       (with-tables new _ ch.next
-      (tables-set s.tree m.clients s.tables st.tables new c d (Some (with_listing None o)) (Some (record x.0 { place = 0; listed = None })) changed inside
+      (tables-set s.tree m.clients s.tables st.tables new c d (Some (with_listing None (Directory o))) (Some (record x.0 { place = 0; listed = None })) changed inside
       (record {
         location = x.2.location;
-        located = ch.places c d (with_listing None o) x.2.location (opened-after m.clients new c d (with_listing None o) changed) x.2.located;
+        located = ch.places c d (record o { listing = None }) x.2.location (opened-after m.clients new c d (with_listing None (Directory o)) changed) x.2.located;
         stands = x.2.stands;
         directory = x.2.directory;
         access = ap (λ (z : Handle). record z { place = 0; listed = None }) x.2.access;
@@ -346,24 +362,29 @@ module _ (m : Mount) (s : State) (st : IsStateOf m s) (c : ℕ) where
       (subst (λ z. Serves (refusal s c (call.Seek d (pos 0) z)) s c (call.Seek d (pos 0) z) (reply.Place 0) (record m { clients = new })) (sym start.2)
       (by (opened_by m.clients c d) refl start.0))
     where
-      by : (o : Option OpenDirectory) → opened_by m.clients c d ≡ o → is_some o ≡ true → Serves (refusal s c (call.Seek d (pos 0) 0)) s c (call.Seek d (pos 0) 0) (reply.Place 0) (record m { clients = new })
+      by : (o : Option handles.Handle) → opened_by m.clients c d ≡ o → is_some (directory_in o) ≡ true → Serves (refusal s c (call.Seek d (pos 0) 0)) s c (call.Seek d (pos 0) 0) (reply.Place 0) (record m { clients = new })
       by None e there = absurd (false≢true there)
-      by (Some o) e there = rewound d new o e ch
+      by (Some (File f)) e there = absurd (false≢true there)
+      by (Some (Directory o)) e there = rewound d new o e ch
 
   -- list
-  pub list-absent : (d n : ℕ) → opened_by m.clients c d ≡ None → Serves (refusal s c (call.ListNames d n)) s c (call.ListNames d n) (reply.Refused errno.EBADF) m
-  list-absent d n none = serve-refused _ s c _ errno.EBADF m ((law_of_bad_descriptors s c d (slot-closed s.tree m.clients.directories _ _ (st.tables.slots c d) none)).listing n) st
+  refused-list : (d n : ℕ) → refusal s c (call.ListNames d n) ≡ list_fault (opened_by m.clients c d) n
+  refused-list d n = by (opened_by m.clients c d) refl
+    where
+      by : (o : Option handles.Handle) → opened_by m.clients c d ≡ o → refusal s c (call.ListNames d n) ≡ list_fault o n
+      by None e = (law_of_bad_descriptors s c d (slot-closed s.tree m.clients.directories _ _ (st.tables.slots c d) e)).listing n
+      by (Some (File f)) e = absurd (no-file d f e)
+      by (Some (Directory o)) e =
+          let x = slot-open s.tree m.clients.directories _ _ o (st.tables.slots c d) e in
+          (turns U lowers s st.layers c d m.clients.directories o x.0 x.1 x.2).refused n
 
-  pub list-count : (d n : ℕ) (o : OpenDirectory) → opened_by m.clients c d ≡ Some o → (nat_eq n 0 || nat_lt 256 n) ≡ true → Serves (refusal s c (call.ListNames d n)) s c (call.ListNames d n) (reply.Refused errno.EINVAL) m
-  list-count d n o e bad =
-      let x = slot-open s.tree m.clients.directories _ _ o (st.tables.slots c d) e in
-      let law = turns U lowers s st.layers c d m.clients.directories o x.0 x.1 x.2 in
-      serve-refused _ s c _ errno.EINVAL m (law.refused n ∙ ap (λ b. when b errno.EINVAL) bad) st
+  pub list-refused : (d n : ℕ) (e : Errno) → list_fault (opened_by m.clients c d) n ≡ Some e → Serves (refusal s c (call.ListNames d n)) s c (call.ListNames d n) (reply.Refused e) m
+  list-refused d n e h = serve-refused _ s c _ e m (refused-list d n ∙ h) st
 
-  pub list-done : (d n : ℕ) (new : Mount) (names : List Name) → (nat_eq n 0 || nat_lt 256 n) ≡ false → Pages m new c d n names → Serves (refusal s c (call.ListNames d n)) s c (call.ListNames d n) (reply.Names names) new
+  pub list-done : (d n : ℕ) (new : Mount) (names : List Name) → list_fault (opened_by m.clients c d) n ≡ None → Pages m new c d n names → Serves (refusal s c (call.ListNames d n)) s c (call.ListNames d n) (reply.Names names) new
   list-done d n new names good pages =
       serve-done _ s c _ _ new
-      (law.refused n ∙ ap (λ b. when b errno.EINVAL) good)
+      (refused-list d n ∙ good)
       (ap reply.Names (pages.next ∙ ap (take n) left) ∙ sym (law.answer n))
       (subst (IsStateOf new) (sym (law.state n))
       (state-as new m.layers _ pages.layers

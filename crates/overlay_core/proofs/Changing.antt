@@ -33,7 +33,9 @@ use Rattle.open_handles.specs.Dentries.{Dentries}
 use Rattle.open_handles.specs.Descriptors.{opened}
 use Rattle.open_handles.specs.Opened as places
 use Rattle.open_handles.specs.Opened.{Location, At, Removed, NoneBelow, after_removal}
-use Rattle.open_handles.specs.declared.descriptors.OpenDirectory.{OpenDirectory}
+use Rattle.open_handles.specs.declared.handle.Handle as handles
+use Rattle.open_handles.specs.declared.handle.Handle.TheVariants.{Directory, File}
+use Rattle.open_handles.specs.declared.handle.OpenDirectory.{OpenDirectory}
 use Rattle.overlay_core.specs.declared.mount.Mount.{Mount}
 use Rattle.overlay_core.specs.Altering.{AltersUnless}
 use Rattle.overlay_core.specs.Attaching.{opened_by}
@@ -153,11 +155,12 @@ module _ (s : State) (c : ℕ) (p : Path) (k : Call) (V : Layer) (lowers : List 
   }
 
 -- slots whose open directories are marked
-slot-marked : (t u : Tree) (ds es : Dentries) (a : Option OpenDirectory) (x : Option Handle) → ((o : OpenDirectory) (h : Handle) → x ≡ Some h → IsHandle t ds o h → IsHandle u es o h) → IsSlot t ds a x → IsSlot u es a x
+slot-marked : (t u : Tree) (ds es : Dentries) (a : Option handles.Handle) (x : Option Handle) → ((o : OpenDirectory) (h : Handle) → x ≡ Some h → IsHandle t ds o h → IsHandle u es o h) → IsSlot t ds a x → IsSlot u es a x
 slot-marked t u ds es None None g s = tt
 slot-marked t u ds es None (Some h) g s = absurd s
 slot-marked t u ds es (Some o) None g s = absurd s
-slot-marked t u ds es (Some o) (Some h) g s = g o h refl s
+slot-marked t u ds es (Some (File f)) (Some h) g s = absurd s
+slot-marked t u ds es (Some (Directory o)) (Some h) g s = g o h refl s
 
 tables-marked : (t u : Tree) (clients new : Clients) (p : Path) (a : Attributes) (ks : List Table) → AreTables t clients ks → RemovesOpen clients new p a → ((b fd : ℕ) (o : OpenDirectory) (h : Handle) → handle_of ks b fd ≡ Some h → IsHandle t clients.directories o h → IsHandle u new.directories o h) → AreTables u new ks
 tables-marked t u clients new p a ks tables marks f = record {

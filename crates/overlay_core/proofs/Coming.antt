@@ -20,7 +20,7 @@ use Rattle.merged_lookup.specs.Merged.{layers_of, lowers_of}
 use Rattle.mount_laws.proofs.Looks.{law_of_beginning}
 use Rattle.overlay_core.specs.declared.clients.Clients.{Clients}
 use Rattle.open_handles.specs.declared.descriptors.Descriptors.{Descriptors}
-use Rattle.open_handles.specs.declared.descriptors.OpenDirectory.{OpenDirectory}
+use Rattle.open_handles.specs.declared.handle.Handle as handles
 use Rattle.overlay_core.specs.declared.mount.Mount.{Mount}
 use Rattle.overlay_core.specs.Attaching.{Attaches, IsSame, opened_by}
 use Rattle.open_handles.specs.Descriptors.{opened}
@@ -81,7 +81,7 @@ unwatched-last [] e a h = (h, tt)
 unwatched-last (x ∷ es) e a h = (a.0, unwatched-last es e a.1 h)
 
 -- what a client has open, by its descriptors
-abbrev pub open_in : ℕ → Option Descriptors → Option OpenDirectory
+abbrev pub open_in : ℕ → Option Descriptors → Option handles.Handle
 open_in d o = option_and_then (λ (x : Descriptors). opened x.slots.items d) o
 
 module _ (t : Tree) (clients : Clients) (ks : List Table) (a : AreTables t clients ks) (new : Clients) (n : ℕ) where

@@ -1,62 +1,65 @@
--- The handles of all clients on a directory, after one client's descriptors changed.
+-- The handles of all clients on a directory or a file, after one client's descriptors changed.
 use Rattle.std.proofs.Common.{arith, ◌≡◌, ◌≢◌, ℕ, zero, suc, ◌+◌, ◌<◌, ◌≤◌, Bool, true, false, cond, List, [], ◌∷◌, Option, None, Some, refl, ap, ◌∙◌, inl, inr, is_some, nat_eq, eqb-true}
 use Rattle.std.proofs.lemmas.Bool.{cases_eq}
 use Rattle.std.specs.Option.{option_and_then}
 use Rattle.open_handles.specs.declared.descriptors.Descriptors.{Descriptors}
-use Rattle.open_handles.specs.declared.descriptors.OpenDirectory.{OpenDirectory}
+use Rattle.open_handles.specs.declared.handle.Handle as handles
+use Rattle.open_handles.specs.declared.handle.Handle.TheVariants.{Directory, File}
+use Rattle.open_handles.specs.declared.handle.OpenDirectory.{OpenDirectory}
 use Rattle.open_handles.specs.Descriptors.{opened}
 use Rattle.open_handles.specs.Holding.{holds, handles_on}
 use Rattle.open_handles.proofs.Holding.{handles_on-some}
-use Rattle.overlay_core.specs.Held.{handles_by, handles_below}
+use Rattle.overlay_core.specs.Held.{sum_below, handles_by, handles_below}
 
 abbrev Found : Type 0
 Found = ℕ → Option Descriptors
 
--- where each client has as many handles, all have
-pub below-same : (f g : Found) (n k : ℕ) → ((m : ℕ) → m < n → handles_by (g m) k ≡ handles_by (f m) k) → handles_below g n k ≡ handles_below f n k
-below-same f g zero k same = refl
-below-same f g (suc n) k same =
-    let here : handles_by (g n) k ≡ handles_by (f n) k = same n (omega arith) in
-    let rest : handles_below g n k ≡ handles_below f n k = below-same f g n k (λ m h. same m (omega arith)) in
-    omega arith
-
--- where one client's change, the count changes as that client's
-pub below-changes : (f g : Found) (n c k : ℕ) → c < n → ((m : ℕ) → m ≢ c → g m ≡ f m) → handles_below g n k + handles_by (f c) k ≡ handles_below f n k + handles_by (g c) k
-below-changes f g zero c k h others = absurd (omega arith)
-below-changes f g (suc n) c k h others = elim (cases_eq n c) [
-  | inl e ↦
-      let rest : handles_below g n k ≡ handles_below f n k = below-same f g n k (λ m l. ap (λ o. handles_by o k) (others m (λ same. absurd (omega arith)))) in
-      let old : handles_by (f n) k ≡ handles_by (f c) k = ap (λ m. handles_by (f m) k) e in
-      let new : handles_by (g n) k ≡ handles_by (g c) k = ap (λ m. handles_by (g m) k) e in
+module _ (count : Option Descriptors → ℕ) where
+  -- where a count is the same of each client, the sum is
+  pub below-same : (f g : Found) (n : ℕ) → ((m : ℕ) → m < n → count (g m) ≡ count (f m)) → sum_below count g n ≡ sum_below count f n
+  below-same f g zero same = refl
+  below-same f g (suc n) same =
+      let here : count (g n) ≡ count (f n) = same n (omega arith) in
+      let rest : sum_below count g n ≡ sum_below count f n = below-same f g n (λ m h. same m (omega arith)) in
       omega arith
-  | inr off ↦
-      let rest = below-changes f g n c k (omega arith) others in
-      let here : handles_by (g n) k ≡ handles_by (f n) k = ap (λ o. handles_by o k) (others n off) in
-      omega arith
-]
 
--- one client has no more than all
-pub below-one : (f : Found) (n c k : ℕ) → c < n → handles_by (f c) k ≤ handles_below f n k
-below-one f zero c k h = absurd (omega arith)
-below-one f (suc n) c k h = elim (cases_eq n c) [
-  | inl e ↦ let same : handles_by (f n) k ≡ handles_by (f c) k = ap (λ m. handles_by (f m) k) e in omega arith
-  | inr off ↦ let rest = below-one f n c k (omega arith) in omega arith
-]
+  -- where one client's changes, the sum changes as that client's
+  pub below-changes : (f g : Found) (n c : ℕ) → c < n → ((m : ℕ) → m ≢ c → g m ≡ f m) → sum_below count g n + count (f c) ≡ sum_below count f n + count (g c)
+  below-changes f g zero c h others = absurd (omega arith)
+  below-changes f g (suc n) c h others = elim (cases_eq n c) [
+    | inl e ↦
+        let rest : sum_below count g n ≡ sum_below count f n = below-same f g n (λ m l. ap count (others m (λ same. absurd (omega arith)))) in
+        let old : count (f n) ≡ count (f c) = ap (λ m. count (f m)) e in
+        let new : count (g n) ≡ count (g c) = ap (λ m. count (g m)) e in
+        omega arith
+    | inr off ↦
+        let rest = below-changes f g n c (omega arith) others in
+        let here : count (g n) ≡ count (f n) = ap count (others n off) in
+        omega arith
+  ]
+
+  -- one client's is no more than the sum
+  pub below-one : (f : Found) (n c : ℕ) → c < n → count (f c) ≤ sum_below count f n
+  below-one f zero c h = absurd (omega arith)
+  below-one f (suc n) c h = elim (cases_eq n c) [
+    | inl e ↦ let same : count (f n) ≡ count (f c) = ap (λ m. count (f m)) e in omega arith
+    | inr off ↦ let rest = below-one f n c (omega arith) in omega arith
+  ]
 
 -- what a client has open counts
-pub below-some : (f : Found) (n c d : ℕ) (o : OpenDirectory) → c < n → option_and_then (λ (e : Descriptors). opened e.slots.items d) (f c) ≡ Some o → 0 < handles_below f n o.directory
+pub below-some : (f : Found) (n c d : ℕ) (o : OpenDirectory) → c < n → option_and_then (λ (e : Descriptors). opened e.slots.items d) (f c) ≡ Some (Directory o) → 0 < handles_below f n o.directory
 below-some f n c d o h is = by (f c) refl is
   where
-    by : (x : Option Descriptors) → f c ≡ x → option_and_then (λ (e : Descriptors). opened e.slots.items d) x ≡ Some o → 0 < handles_below f n o.directory
-    by None e at = let no : None ≡ Some o = at in absurd (cc)
+    by : (x : Option Descriptors) → f c ≡ x → option_and_then (λ (e : Descriptors). opened e.slots.items d) x ≡ Some (Directory o) → 0 < handles_below f n o.directory
+    by None e at = let no : None ≡ Some (Directory o) = at in absurd (cc)
     by (Some x) e at =
         let some : 0 < handles_on x.slots.items o.directory = handles_on-some x.slots.items d o at in
         let same : handles_by (f c) o.directory ≡ handles_on x.slots.items o.directory = ap (λ z. handles_by z o.directory) e in
-        let all = below-one f n c o.directory h in
+        let all : handles_by (f c) o.directory ≤ handles_below f n o.directory = below-one (λ x. handles_by x o.directory) f n c h in
         omega arith
 
 -- whose descriptor is open is attached
-pub has-client : (f : Found) (c d : ℕ) (o : OpenDirectory) → option_and_then (λ (e : Descriptors). opened e.slots.items d) (f c) ≡ Some o → is_some (f c) ≡ true
+pub has-client : (f : Found) (c d : ℕ) (o : handles.Handle) → option_and_then (λ (e : Descriptors). opened e.slots.items d) (f c) ≡ Some o → is_some (f c) ≡ true
 has-client f c d o is = by (f c) is
   where
     by : (x : Option Descriptors) → option_and_then (λ (e : Descriptors). opened e.slots.items d) x ≡ Some o → is_some x ≡ true
@@ -64,24 +67,27 @@ has-client f c d o is = by (f c) is
     by (Some x) e = refl
 
 -- a handle on the directory of this number
-record Held (slots : List (Option OpenDirectory)) (k : ℕ) : Type 0 where
+record Held (slots : List (Option handles.Handle)) (k : ℕ) : Type 0 where
   pub descriptor : ℕ
   pub handle : OpenDirectory
-  pub there : opened slots descriptor ≡ Some handle
+  pub there : opened slots descriptor ≡ Some (Directory handle)
   pub on : handle.directory ≡ k
 
 -- where slots hold a directory, one of them does
-slots-find : (slots : List (Option OpenDirectory)) (k : ℕ) → 0 < handles_on slots k → Held slots k
+slots-find : (slots : List (Option handles.Handle)) (k : ℕ) → 0 < handles_on slots k → Held slots k
 slots-find [] k h = absurd (omega arith)
 slots-find (None ∷ slots) k h =
     let rest = slots-find slots k (omega arith) in
     record { descriptor = suc rest.descriptor; handle = rest.handle; there = rest.there; on = rest.on }
-slots-find (Some o ∷ slots) k h = by (λ more. slots-find slots k more) (nat_eq o.directory k) refl
+slots-find (Some (File x) ∷ slots) k h =
+    let rest = slots-find slots k (omega arith) in
+    record { descriptor = suc rest.descriptor; handle = rest.handle; there = rest.there; on = rest.on }
+slots-find (Some (Directory o) ∷ slots) k h = by (λ more. slots-find slots k more) (nat_eq o.directory k) refl
   where
-    by : (0 < handles_on slots k → Held slots k) → (b : Bool) → nat_eq o.directory k ≡ b → Held (Some o ∷ slots) k
+    by : (0 < handles_on slots k → Held slots k) → (b : Bool) → nat_eq o.directory k ≡ b → Held (Some (Directory o) ∷ slots) k
     by later true e = record { descriptor = 0; handle = o; there = refl; on = eqb-true o.directory k e }
     by later false e =
-        let none : holds (Some o) k ≡ 0 = ap (λ b. cond {A = ℕ} b 1 0) e in
+        let none : holds (Some (Directory o)) k ≡ 0 = ap (λ b. cond {A = ℕ} b 1 0) e in
         let rest = later (omega arith) in
         record { descriptor = suc rest.descriptor; handle = rest.handle; there = rest.there; on = rest.on }
 
@@ -90,7 +96,7 @@ pub record HeldBy (f : Found) (k : ℕ) : Type 0 where
   pub client : ℕ
   pub descriptor : ℕ
   pub handle : OpenDirectory
-  pub there : option_and_then (λ (e : Descriptors). opened e.slots.items descriptor) (f client) ≡ Some handle
+  pub there : option_and_then (λ (e : Descriptors). opened e.slots.items descriptor) (f client) ≡ Some (Directory handle)
   pub on : handle.directory ≡ k
 
 -- where clients hold a directory, one of them does

@@ -19,7 +19,7 @@ use Rattle.mount_laws.proofs.Lists.{law_of_list, law_of_close}
 use Rattle.mount_laws.proofs.Removed.{law_of_close_removed, law_of_list_removed}
 use Rattle.open_handles.specs.Dentries.{Dentries}
 use Rattle.open_handles.specs.Opened.{Location, At, Removed}
-use Rattle.open_handles.specs.declared.descriptors.OpenDirectory.{OpenDirectory}
+use Rattle.open_handles.specs.declared.handle.OpenDirectory.{OpenDirectory}
 use Rattle.overlay_core.specs.States.{Stands, IsHandle}
 
 -- a node is a directory where the layers show one, and the other way round

@@ -1,5 +1,5 @@
--- As many handles hold a directory as its count says, after one client's descriptors changed.
-use Rattle.std.proofs.Common.{arith, ◌≡◌, ◌≢◌, ℕ, zero, suc, ◌+◌, ◌<◌, Bool, true, false, cond, List, Option, None, Some, IsSome, Result, Ok, Err, refl, sym, ap, ◌∙◌, subst, inl, inr, ◌⊎◌, is_some, nat_eq, eq-eqb}
+-- As many handles hold a directory or a file as its count says, after one client's descriptors changed.
+use Rattle.std.proofs.Common.{arith, ◌≡◌, ◌≢◌, ℕ, zero, suc, ◌+◌, ◌<◌, ◌≤◌, Bool, true, false, cond, List, [], ◌∷◌, Option, None, Some, IsSome, Result, Ok, Err, refl, sym, ap, ◌∙◌, subst, inl, inr, ◌⊎◌, is_some, nat_eq, eq-eqb}
 use Rattle.std.proofs.lemmas.Bool.{cases_eq, ne_eqb}
 use Rattle.std.specs.Option.{option_and_then}
 use Rattle.std.specs.BTreeMap.{get}
@@ -7,26 +7,29 @@ use Rattle.std.specs.Ordering.{nat_cmp}
 use Rattle.std.specs.declared.alloc.AllocError.{AllocError}
 use Rattle.plain_model.specs.Layers.{Name, Path}
 use Rattle.open_handles.specs.declared.descriptors.Descriptors.{Descriptors}
-use Rattle.open_handles.specs.declared.descriptors.OpenDirectory.{OpenDirectory}
+use Rattle.open_handles.specs.declared.handle.Handle as handles
+use Rattle.open_handles.specs.declared.handle.Handle.TheVariants.{Directory, File}
+use Rattle.open_handles.specs.declared.handle.OpenDirectory.{OpenDirectory}
 use Rattle.open_handles.specs.Dentries.{Dentries}
 use Rattle.open_handles.specs.Descriptors.{opened, SetsSlot}
-use Rattle.open_handles.specs.Listings.{ChangesSlot, Closes, GivesNames, after_names}
+use Rattle.open_handles.specs.Listings.{ChangesSlot, Closes, GivesNames, with_listing, after_names}
 use Rattle.ov_base.specs.declared.errno.Errno.TheVariants.{EBADF}
 use Rattle.overlay_core.specs.Attaching.{opened_by, ChangesClient}
-use Rattle.open_handles.specs.Holding.{holds, handles_on}
+use Rattle.open_handles.specs.Holding.{holds, handles_on, holds_file, files_on}
+use Rattle.open_handles.specs.FileHolders.{HeldFiles, file_holders}
 use Rattle.open_handles.specs.Opened as places
 use Rattle.open_handles.specs.Opened.{Location, At, holders, SameHandles}
-use Rattle.open_handles.proofs.Holding.{handles_on-opens, handles_on-closes, handles_on-changes}
+use Rattle.open_handles.proofs.Holding.{number_of, source_in, handles_on-opens, handles_on-closes, handles_on-changes, files_on-opens, files_on-closes, files_on-changes}
 use Rattle.overlay_core.specs.declared.clients.Clients.{Clients}
-use Rattle.overlay_core.specs.Held.{handles_by, handles_below}
+use Rattle.overlay_core.specs.Held.{handles_by, handles_below, files_by, files_below, ClosesAll, ReleasesAll}
 use Rattle.overlay_core.specs.Opening.{OpensAt}
-use Rattle.overlay_core.proofs.Counting.{below-changes, below-some}
+use Rattle.overlay_core.proofs.Counting.{below-changes, below-some, has-client}
 
 -- a handle holds its directory, and no other
-holds-own : (o : OpenDirectory) (k : ℕ) → k ≡ o.directory → holds (Some o) k ≡ 1
+holds-own : (o : OpenDirectory) (k : ℕ) → k ≡ o.directory → holds (Some (Directory o)) k ≡ 1
 holds-own o k e = ap (λ (b : Bool). cond {A = ℕ} b 1 0) (eq-eqb o.directory k (sym e))
 
-holds-other : (o : OpenDirectory) (k : ℕ) → (k ≡ o.directory → ⊥) → holds (Some o) k ≡ 0
+holds-other : (o : OpenDirectory) (k : ℕ) → (k ≡ o.directory → ⊥) → holds (Some (Directory o)) k ≡ 0
 holds-other o k off = ap (λ (b : Bool). cond {A = ℕ} b 1 0) (ne_eqb o.directory k (λ e. off (sym e)))
 
 -- what counts as held isn't gone
@@ -60,6 +63,24 @@ open-and-close old mid new p k some there opens closes = record { located = λ j
     located j (inl e) = ap (places.opened new) e ∙ here ∙ sym (ap (places.opened old) e)
     located j (inr off) = closes.others.located j off ∙ opens.others.located j off
 
+-- a change of a listing leaves directory and file
+pub number-with : (l : Option (List Name)) (h : handles.Handle) → number_of (with_listing l h) ≡ number_of h
+number-with l (Directory o) = refl
+number-with l (File f) = refl
+
+pub source-with : (l : Option (List Name)) (h : handles.Handle) → source_in (with_listing l h) ≡ source_in h
+source-with l (Directory o) = refl
+source-with l (File f) = refl
+
+-- and so do names that are given
+number-after : (n : ℕ) (h : handles.Handle) → number_of (after_names n h) ≡ number_of h
+number-after n (Directory o) = refl
+number-after n (File f) = refl
+
+source-after : (n : ℕ) (h : handles.Handle) → source_in (after_names n h) ≡ source_in h
+source-after n (Directory o) = refl
+source-after n (File f) = refl
+
 module _ (old : Clients) (c : ℕ) (before : Descriptors) (was : get nat_cmp old.attached c ≡ Some before) (g : ℕ → Option Descriptors) (after : Descriptors) (is : g c ≡ Some after) (others : (m : ℕ) → m ≢ c → g m ≡ get nat_cmp old.attached m) where
   abbrev f : ℕ → Option Descriptors
   f = get nat_cmp old.attached
@@ -76,9 +97,16 @@ module _ (old : Clients) (c : ℕ) (before : Descriptors) (was : get nat_cmp old
 
   count : (k : ℕ) → handles_below g old.next k + handles_on before.slots.items k ≡ handles_below f old.next k + handles_on after.slots.items k
   count k =
-      let all = below-changes f g old.next c k inside others in
+      let all : handles_below g old.next k + handles_by (f c) k ≡ handles_below f old.next k + handles_by (g c) k = below-changes (λ x. handles_by x k) f g old.next c inside others in
       let first : handles_by (f c) k ≡ handles_on before.slots.items k = ap (λ o. handles_by o k) was in
       let second : handles_by (g c) k ≡ handles_on after.slots.items k = ap (λ o. handles_by o k) is in
+      omega arith
+
+  count-files : (k : ℕ) → files_below g old.next k + files_on before.slots.items k ≡ files_below f old.next k + files_on after.slots.items k
+  count-files k =
+      let all : files_below g old.next k + files_by (f c) k ≡ files_below f old.next k + files_by (g c) k = below-changes (λ x. files_by x k) f g old.next c inside others in
+      let first : files_by (f c) k ≡ files_on before.slots.items k = ap (λ o. files_by o k) was in
+      let second : files_by (g c) k ≡ files_on after.slots.items k = ap (λ o. files_by o k) is in
       omega arith
 
   -- the slots stay
@@ -90,23 +118,41 @@ module _ (old : Clients) (c : ℕ) (before : Descriptors) (was : get nat_cmp old
       let counted = handles.counted k in
       omega arith
 
-  -- a listing changes
-  pub held-listing : (d : ℕ) (change : OpenDirectory → OpenDirectory) → ((o : OpenDirectory) → (change o).directory ≡ o.directory) → ChangesSlot before.slots.items after.slots.items d change → (k : ℕ) → holders old.directories k ≡ handles_below g old.next k
+  pub files-same : after.slots.items ≡ before.slots.items → (k : ℕ) → file_holders old.files k ≡ files_below g old.next k
+  files-same same k =
+      let all = count-files k in
+      let kept : files_on after.slots.items k ≡ files_on before.slots.items k = ap (λ s. files_on s k) same in
+      let held = old.held_files k in
+      omega arith
+
+  -- a handle changes, and stays on its directory, or its file
+  pub held-listing : (d : ℕ) (change : handles.Handle → handles.Handle) → ((h : handles.Handle) → number_of (change h) ≡ number_of h) → ChangesSlot before.slots.items after.slots.items d change → (k : ℕ) → holders old.directories k ≡ handles_below g old.next k
   held-listing d change keeps changes k =
       let all = count k in
       let kept = handles_on-changes before.slots.items after.slots.items d k change keeps changes in
       let held = old.held k in
       omega arith
 
+  pub files-listing : (d : ℕ) (change : handles.Handle → handles.Handle) → ((h : handles.Handle) → source_in (change h) ≡ source_in h) → ChangesSlot before.slots.items after.slots.items d change → (k : ℕ) → file_holders old.files k ≡ files_below g old.next k
+  files-listing d change keeps changes k =
+      let all = count-files k in
+      let kept = files_on-changes before.slots.items after.slots.items d k change keeps changes in
+      let held = old.held_files k in
+      omega arith
+
   pub held-gives : (d n : ℕ) (r : Result (List Name) AllocError) → GivesNames before.slots.items after.slots.items d n r → (k : ℕ) → holders old.directories k ≡ handles_below g old.next k
-  held-gives d n (Ok names) gives = held-listing d (after_names n) (λ o. refl) gives.left
+  held-gives d n (Ok names) gives = held-listing d (after_names n) (number-after n) gives.left
   held-gives d n (Err e) gives = held-same gives.err old.directories (record { located = λ j. refl; counted = λ j. refl })
 
-  -- a descriptor opens
-  pub held-opens : (d : ℕ) (p : Path) (o : OpenDirectory) (new : Dentries) → opened before.slots.items d ≡ None → SetsSlot before.slots.items after.slots.items d (Some o) → places.Opens old.directories new p o.directory → (k : ℕ) → holders new k ≡ handles_below g old.next k
+  pub files-gives : (d n : ℕ) (r : Result (List Name) AllocError) → GivesNames before.slots.items after.slots.items d n r → (k : ℕ) → file_holders old.files k ≡ files_below g old.next k
+  files-gives d n (Ok names) gives = files-listing d (after_names n) (source-after n) gives.left
+  files-gives d n (Err e) gives = files-same gives.err
+
+  -- a descriptor opens on a directory
+  pub held-opens : (d : ℕ) (p : Path) (o : OpenDirectory) (new : Dentries) → opened before.slots.items d ≡ None → SetsSlot before.slots.items after.slots.items d (Some (Directory o)) → places.Opens old.directories new p o.directory → (k : ℕ) → holders new k ≡ handles_below g old.next k
   held-opens d p o new free sets opens k =
       let all = count k in
-      let more = handles_on-opens before.slots.items after.slots.items d k o free sets in
+      let more = handles_on-opens before.slots.items after.slots.items d k (Directory o) free sets in
       let held = old.held k in
       elim (cases_eq k o.directory) [
         | inl e ↦
@@ -119,6 +165,13 @@ module _ (old : Clients) (c : ℕ) (before : Descriptors) (was : get nat_cmp old
             omega arith
       ]
 
+  pub files-opens : (d : ℕ) (o : OpenDirectory) → opened before.slots.items d ≡ None → SetsSlot before.slots.items after.slots.items d (Some (Directory o)) → (k : ℕ) → file_holders old.files k ≡ files_below g old.next k
+  files-opens d o free sets k =
+      let all = count-files k in
+      let more : files_on after.slots.items k ≡ files_on before.slots.items k + 0 = files_on-opens before.slots.items after.slots.items d k (Directory o) free sets in
+      let held = old.held_files k in
+      omega arith
+
   -- what has a number that is open keeps its place
   pub placed-opens : (p : Path) (j : ℕ) (new : Dentries) → places.Opens old.directories new p j → (k : ℕ) (l : Location) → places.opened old.directories k ≡ Some l → places.opened new k ≡ Some l
   placed-opens p j new opens k l at = elim (cases_eq k j) [
@@ -130,46 +183,51 @@ module _ (old : Clients) (c : ℕ) (before : Descriptors) (was : get nat_cmp old
   ]
 
   -- a descriptor closes
-  module _ (d : ℕ) (o : OpenDirectory) (stood : opened before.slots.items d ≡ Some o) where
-    -- its directory is held
-    pub held-some : 0 < holders old.directories o.directory
-    held-some =
-        let some = below-some f old.next c d o inside (ap (option_and_then (λ (x : Descriptors). opened x.slots.items d)) was ∙ stood) in
-        let held = old.held o.directory in
+  module _ (d : ℕ) (h : handles.Handle) (stood : opened before.slots.items d ≡ Some h) (sets : SetsSlot before.slots.items after.slots.items d None) where
+    less : (k : ℕ) → handles_on after.slots.items k + holds (Some h) k ≡ handles_on before.slots.items k
+    less k = subst (λ x. handles_on after.slots.items k + holds x k ≡ handles_on before.slots.items k) stood (handles_on-closes before.slots.items after.slots.items d k sets)
+
+    less-files : (k : ℕ) → files_on after.slots.items k + holds_file (Some h) k ≡ files_on before.slots.items k
+    less-files k = subst (λ x. files_on after.slots.items k + holds_file x k ≡ files_on before.slots.items k) stood (files_on-closes before.slots.items after.slots.items d k sets)
+
+    -- what it is on is held
+    pub held-enough : (k : ℕ) → handles_on (Some h ∷ []) k ≤ holders old.directories k
+    held-enough k =
+        let all = count k in
+        let own = less k in
+        let held = old.held k in
         omega arith
 
-    module _ (new : Dentries) (sets : SetsSlot before.slots.items after.slots.items d None) (closes : places.Closes old.directories new o.directory) where
+    pub files-enough : (k : ℕ) → files_on (Some h ∷ []) k ≤ file_holders old.files k
+    files-enough k =
+        let all = count-files k in
+        let own = less-files k in
+        let held = old.held_files k in
+        omega arith
+
+    pub files-closes : (new : HeldFiles) → ReleasesAll old.files new (Some h ∷ []) → (k : ℕ) → file_holders new k ≡ files_below g old.next k
+    files-closes new closes k =
+        let all = count-files k in
+        let own = less-files k in
+        let held = old.held_files k in
+        let counted : file_holders new k + (holds_file (Some h) k + 0) ≡ file_holders old.files k = closes k in
+        omega arith
+
+    module _ (new : Dentries) (closes : ClosesAll old.directories new (Some h ∷ [])) where
       pub held-closes : (k : ℕ) → holders new k ≡ handles_below g old.next k
       held-closes k =
           let all = count k in
-          let less = handles_on-closes before.slots.items after.slots.items d k sets in
-          let own : holds (opened before.slots.items d) k ≡ holds (Some o) k = ap (λ x. holds x k) stood in
+          let own = less k in
           let held = old.held k in
-          elim (cases_eq k o.directory) [
-            | inl e ↦
-                let one = holds-own o k e in
-                let down : holders new k + 1 ≡ holders old.directories k = ap (λ j. holders new j + 1) e ∙ closes.counted ∙ sym (ap (holders old.directories) e) in
-                omega arith
-            | inr off ↦
-                let none = holds-other o k off in
-                let same = closes.others.counted k off in
-                omega arith
-          ]
+          let counted : holders new k + (holds (Some h) k + 0) ≡ holders old.directories k = closes.counted k in
+          omega arith
 
       -- what another handle holds stands where it stood
-      pub placed-closes : (b e : ℕ) (x : OpenDirectory) (l : Location) → option_and_then (λ (z : Descriptors). opened z.slots.items e) (g b) ≡ Some x → places.opened old.directories x.directory ≡ Some l → places.opened new x.directory ≡ Some l
+      pub placed-closes : (b e : ℕ) (x : OpenDirectory) (l : Location) → option_and_then (λ (z : Descriptors). opened z.slots.items e) (g b) ≡ Some (Directory x) → places.opened old.directories x.directory ≡ Some l → places.opened new x.directory ≡ Some l
       placed-closes b e x l there at =
-          let some = below-some g old.next b e x (rises b (is-there (g b) there)) there in
+          let some = below-some g old.next b e x (rises b (has-client g b e (Directory x) there)) there in
           let held = held-closes x.directory in
-          let more : 0 < holders new x.directory = omega arith in
-          elim (cases_eq x.directory o.directory) [
-            | inl same ↦ ap (places.opened new) same ∙ closes.located ∙ kept-located (holders new o.directory) (places.opened old.directories o.directory) (subst (λ j. 0 < holders new j) same more) ∙ sym (ap (places.opened old.directories) same) ∙ at
-            | inr off ↦ closes.others.located x.directory off ∙ at
-          ]
-        where
-          is-there : (z : Option Descriptors) → option_and_then (λ (y : Descriptors). opened y.slots.items e) z ≡ Some x → is_some z ≡ true
-          is-there None h = let no : None ≡ Some x = h in absurd (cc)
-          is-there (Some y) h = refl
+          closes.located x.directory ∙ kept-located (holders new x.directory) (places.opened old.directories x.directory) (omega arith) ∙ at
 
 -- an open that wanted memory for the directory
 pub opens-failed : (old new : Clients) (c : ℕ) (p : Path) (e : AllocError) → IsSome (get nat_cmp old.attached c) → new.attached ≡ old.attached → SameHandles old.directories new.directories → new.next ≡ old.next → OpensAt old new c p (Err e)

@@ -25,7 +25,9 @@ use Rattle.mount_laws.proofs.Lists.{law_of_bad_descriptors}
 use Rattle.open_handles.specs.Dentries.{Dentries}
 use Rattle.overlay_core.specs.declared.clients.Clients.{Clients}
 use Rattle.open_handles.specs.declared.descriptors.Descriptors.{Descriptors}
-use Rattle.open_handles.specs.declared.descriptors.OpenDirectory.{OpenDirectory}
+use Rattle.open_handles.specs.declared.handle.Handle as handles
+use Rattle.open_handles.specs.declared.handle.Handle.TheVariants.{Directory, File}
+use Rattle.open_handles.specs.declared.handle.OpenDirectory.{OpenDirectory}
 use Rattle.overlay_core.specs.declared.mount.Mount.{Mount}
 use Rattle.overlay_core.specs.Attaching.{Detaches, opened_by}
 use Rattle.overlay_core.specs.States.{IsHandle, IsSlot, AreTables, AreUnwatched, IsStateOf}
@@ -138,10 +140,11 @@ closed-none (h ∷ hs) zero = refl
 closed-none (h ∷ hs) (suc i) = closed-none hs i
 
 -- an open descriptor has an open directory
-own-handle : (t : Tree) (ds : Dentries) (a : Option OpenDirectory) (x : Option Handle) (h : Handle) → IsSlot t ds a x → x ≡ Some h → (o : OpenDirectory) × IsHandle t ds o h
+own-handle : (t : Tree) (ds : Dentries) (a : Option handles.Handle) (x : Option Handle) (h : Handle) → IsSlot t ds a x → x ≡ Some h → (o : OpenDirectory) × IsHandle t ds o h
 own-handle t ds a None h s e = cc
 own-handle t ds None (Some x) h s e = absurd s
-own-handle t ds (Some o) (Some x) h s e =
+own-handle t ds (Some (File f)) (Some x) h s e = absurd s
+own-handle t ds (Some (Directory o)) (Some x) h s e =
     let same : x ≡ h = cc in
     (o, subst (IsHandle t ds o) same s)
 
@@ -149,7 +152,7 @@ own-handle t ds (Some o) (Some x) h s e =
 record Leaving (U : Layer) (lowers : List Layer) (clients : Clients) (n : ℕ) (s : State) : Type 0 where
   pub mount : IsMountOf U lowers s
   pub others : AreOthers s.tree clients n s.tables
-  pub own : (d : ℕ) → (o : Option OpenDirectory) × IsSlot s.tree clients.directories o (handle_of s.tables n d)
+  pub own : (d : ℕ) → (o : Option handles.Handle) × IsSlot s.tree clients.directories o (handle_of s.tables n d)
   pub arrived : clients.next ≡ s.arrived
   pub unwatched : AreUnwatched s.instances
 
@@ -165,10 +168,10 @@ module _ (U : Layer) (lowers : List Layer) (clients : Clients) (n : ℕ) where
     law = closes U lowers s l.mount n i clients.directories own.0 h on own.1
 
     -- a slot whose handle is still open is one of the tree without what went
-    moved : (b d : ℕ) (o : Option OpenDirectory) → IsSlot s.tree clients.directories o (handle_of (with_handle s.tables n i None) b d) → IsSlot closed.tree clients.directories o (handle_of (with_handle s.tables n i None) b d)
+    moved : (b d : ℕ) (o : Option handles.Handle) → IsSlot s.tree clients.directories o (handle_of (with_handle s.tables n i None) b d) → IsSlot closed.tree clients.directories o (handle_of (with_handle s.tables n i None) b d)
     moved b d o x = slot-moved s.tree closed.tree clients.directories o _ (λ p g e at is. handle-same s.tree closed.tree clients.directories law.paths p g (law.held b d g at) is) x
 
-    own-left : (d : ℕ) → (d ≡ i) ⊎ (d ≡ i → ⊥) → (o : Option OpenDirectory) × IsSlot closed.tree clients.directories o (handle_of (with_handle s.tables n i None) n d)
+    own-left : (d : ℕ) → (d ≡ i) ⊎ (d ≡ i → ⊥) → (o : Option handles.Handle) × IsSlot closed.tree clients.directories o (handle_of (with_handle s.tables n i None) n d)
     own-left d (inl e) = (
       None,
       slot-as closed.tree clients.directories None None None _ refl

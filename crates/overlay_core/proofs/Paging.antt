@@ -7,47 +7,49 @@ use Rattle.std.specs.declared.alloc.AllocError.{AllocError}
 use Rattle.plain_model.specs.Layers.{Name}
 use Rattle.merged_lookup.specs.Merged.{layers_of}
 use Rattle.overlay_core.specs.declared.clients.Clients.{Clients}
-use Rattle.open_handles.specs.declared.descriptors.OpenDirectory.{OpenDirectory}
+use Rattle.open_handles.specs.declared.handle.Handle as handles
+use Rattle.open_handles.specs.declared.handle.Handle.TheVariants.{Directory}
+use Rattle.open_handles.specs.declared.handle.OpenDirectory.{OpenDirectory}
 use Rattle.overlay_core.specs.declared.mount.Mount.{Mount}
 use Rattle.overlay_core.specs.Attaching.{opened_by, path_of, ChangesClient}
 use Rattle.open_handles.specs.Descriptors.{opened, SetsSlot}
-use Rattle.open_handles.specs.Listings.{ChangesSlot, GivesNames, after_names, names_left, with_listing}
+use Rattle.open_handles.specs.Listings.{ChangesSlot, GivesNames, directory_in, after_names, names_left, with_listing}
 use Rattle.overlay_core.specs.States.{AreNamesIn, AreLeft, Pages}
 
 abbrev Slots : Type 0
-Slots = List (Option OpenDirectory)
+Slots = List (Option handles.Handle)
 
 -- a client's change, told otherwise
 changes-to : (old new : Clients) (c : ℕ) (P Q : Slots → Slots → Type 0) (h : ChangesClient old new c P) → Q h.before.slots.items h.after.slots.items → ChangesClient old new c Q
 changes-to old new c P Q h q = record { before = h.before; was = h.was; after = h.after; is = h.is; changes = q; others = h.others; places = h.places; next = h.next }
 
-set-as : (x y : Slots) (d : ℕ) (u v : Option OpenDirectory) → u ≡ v → SetsSlot x y d u → SetsSlot x y d v
+set-as : (x y : Slots) (d : ℕ) (u v : Option handles.Handle) → u ≡ v → SetsSlot x y d u → SetsSlot x y d v
 set-as x y d u v e h = subst (SetsSlot x y d) e h
 
-module _ (m : Mount) (new : Clients) (c d : ℕ) (o : OpenDirectory) (was : opened_by m.clients c d ≡ Some o) where
-  opened-before : (P : Slots → Slots → Type 0) (h : ChangesClient m.clients new c P) → opened h.before.slots.items d ≡ Some o
+module _ (m : Mount) (new : Clients) (c d : ℕ) (o : OpenDirectory) (was : opened_by m.clients c d ≡ Some (Directory o)) where
+  opened-before : (P : Slots → Slots → Type 0) (h : ChangesClient m.clients new c P) → opened h.before.slots.items d ≡ Some (Directory o)
   opened-before P h =
       let same : opened_by m.clients c d ≡ opened h.before.slots.items d = rw h.was refl in
       sym same ∙ was
 
   -- one slot changes to what its directory becomes
-  pub sets-changed : (f : OpenDirectory → OpenDirectory) → ChangesClient m.clients new c (λ x y. ChangesSlot x y d f) → ChangesClient m.clients new c (λ x y. SetsSlot x y d (Some (f o)))
+  pub sets-changed : (f : handles.Handle → handles.Handle) → ChangesClient m.clients new c (λ x y. ChangesSlot x y d f) → ChangesClient m.clients new c (λ x y. SetsSlot x y d (Some (f (Directory o))))
   sets-changed f h =
-      changes-to m.clients new c _ (λ x y. SetsSlot x y d (Some (f o))) h
+      changes-to m.clients new c _ (λ x y. SetsSlot x y d (Some (f (Directory o)))) h
       (set-as _ _ d _ _ (ap (option_map f) (opened-before _ h)) h.changes)
 
   module _ (n : ℕ) where
     next-names : (left names : List Name) → o.listing ≡ Some left → ChangesClient m.clients new c (λ x y. GivesNames x y d n (Ok names)) → Pages m (record m { clients = new }) c d n names
     next-names left names e h =
-        let before : opened h.before.slots.items d ≡ Some o = opened-before _ h in
+        let before : opened h.before.slots.items d ≡ Some (Directory o) = opened-before _ h in
         record {
           directory = o;
           was = was;
           left = left;
           from = subst (λ l. AreLeft (layers_of m.layers) (path_of m.clients o) l left) (sym e) refl;
-          next = h.changes.names ∙ ap (λ z. take n (names_left z)) before ∙ ap (λ z. take n (names_left (Some (record o { listing = z })))) e;
-          changes = changes-to m.clients new c _ (λ x y. SetsSlot x y d (Some (record o { listing = Some (drop n left) }))) h
-              (set-as _ _ d _ _ (ap (option_map (after_names n)) before ∙ ap (λ z. Some (record o { listing = option_map (drop n) z })) e) h.changes.left);
+          next = h.changes.names ∙ ap (λ z. take n (names_left (directory_in z))) before ∙ ap (λ z. take n (names_left (Some (record o { listing = z })))) e;
+          changes = changes-to m.clients new c _ (λ x y. SetsSlot x y d (Some (Directory (record o { listing = Some (drop n left) })))) h
+              (set-as _ _ d _ _ (ap (option_map (after_names n)) before ∙ ap (λ z. Some (Directory (record o { listing = option_map (drop n) z }))) e) h.changes.left);
           layers = refl;
         }
 

@@ -17,7 +17,10 @@ use Rattle.open_handles.specs.Dentries.{Dentries}
 use Rattle.open_handles.specs.Opened as places
 use Rattle.mount_laws.specs.Removals.{folder_attributes}
 use Rattle.open_handles.specs.Opened.{Location, At, Removed}
-use Rattle.open_handles.specs.declared.descriptors.OpenDirectory.{OpenDirectory}
+use Rattle.open_handles.specs.declared.handle.Handle as handles
+use Rattle.open_handles.specs.declared.handle.Handle.TheVariants.{Directory, File}
+use Rattle.open_handles.specs.declared.handle.OpenDirectory.{OpenDirectory}
+use Rattle.open_handles.specs.declared.open_file.OpenFile.{OpenFile}
 use Rattle.overlay_core.specs.Attaching.{KeepsAttached, KeepsPlaces, is_attached, opened_by, ChangesClient}
 use Rattle.open_handles.specs.Descriptors.{opened, IsFull, IsLowestFree, SetsSlot}
 use Rattle.overlay_core.specs.States.{Stands, IsHandle, IsSlot, AreTables}
@@ -70,15 +73,16 @@ attached-same [] c fd b h = refl
 attached-same (k ∷ ks) c fd b h = λ i. (nat_eq (same-client c fd h k i) b) || (attached-same ks c fd b h i)
 
 -- slots that are alike
-pub slot-as : (t : Tree) (ds : Dentries) (a b : Option OpenDirectory) (x y : Option Handle) → a ≡ b → x ≡ y → IsSlot t ds a x → IsSlot t ds b y
+pub slot-as : (t : Tree) (ds : Dentries) (a b : Option handles.Handle) (x y : Option Handle) → a ≡ b → x ≡ y → IsSlot t ds a x → IsSlot t ds b y
 slot-as t ds a b x y e f s = subst (λ z. IsSlot t ds z y) e (subst (λ z. IsSlot t ds a z) f s)
 
 -- slots of directories that stand where they stood
-pub slot-placed : (t : Tree) (ds es : Dentries) (a : Option OpenDirectory) (x : Option Handle) → ((o : OpenDirectory) (l : Location) → a ≡ Some o → places.opened ds o.directory ≡ Some l → places.opened es o.directory ≡ Some l) → IsSlot t ds a x → IsSlot t es a x
+pub slot-placed : (t : Tree) (ds es : Dentries) (a : Option handles.Handle) (x : Option Handle) → ((o : OpenDirectory) (l : Location) → a ≡ Some (Directory o) → places.opened ds o.directory ≡ Some l → places.opened es o.directory ≡ Some l) → IsSlot t ds a x → IsSlot t es a x
 slot-placed t ds es None None f s = tt
 slot-placed t ds es None (Some h) f s = absurd s
 slot-placed t ds es (Some o) None f s = absurd s
-slot-placed t ds es (Some o) (Some h) f s = record {
+slot-placed t ds es (Some (File x)) (Some h) f s = absurd s
+slot-placed t ds es (Some (Directory o)) (Some h) f s = record {
   location = s.location;
   located = f o s.location refl s.located;
   stands = s.stands;
@@ -97,7 +101,7 @@ carried t clients new kept b d x same s =
 pub places-same : (clients new : Clients) → new.directories ≡ clients.directories → KeepsPlaces clients new
 places-same clients new same c d o l is at = ap (λ z. places.opened z o.directory) same ∙ at
 
-pub slot-some : (t : Tree) (ds : Dentries) (a : Option OpenDirectory) (x : Option Handle) → IsSlot t ds a x → is_some a ≡ is_some x
+pub slot-some : (t : Tree) (ds : Dentries) (a : Option handles.Handle) (x : Option Handle) → IsSlot t ds a x → is_some a ≡ is_some x
 slot-some t ds None None s = refl
 slot-some t ds None (Some h) s = absurd s
 slot-some t ds (Some o) None s = absurd s
@@ -108,15 +112,23 @@ held-some None = refl
 held-some (Some h) = refl
 
 -- an open descriptor has a handle
-pub slot-open : (t : Tree) (ds : Dentries) (a : Option OpenDirectory) (x : Option Handle) (o : OpenDirectory) → IsSlot t ds a x → a ≡ Some o → (h : Handle) × (x ≡ Some h) × IsHandle t ds o h
+pub slot-open : (t : Tree) (ds : Dentries) (a : Option handles.Handle) (x : Option Handle) (o : OpenDirectory) → IsSlot t ds a x → a ≡ Some (Directory o) → (h : Handle) × (x ≡ Some h) × IsHandle t ds o h
 slot-open t ds None x o s e = cc
 slot-open t ds (Some a) None o s e = absurd s
-slot-open t ds (Some a) (Some h) o s e =
+slot-open t ds (Some (File x)) (Some h) o s e = absurd s
+slot-open t ds (Some (Directory a)) (Some h) o s e =
     let same : a ≡ o = cc in
     (h, refl, subst (λ z. IsHandle t ds z h) same s)
 
+-- no call opens a file yet
+pub slot-file : (t : Tree) (ds : Dentries) (a : Option handles.Handle) (x : Option Handle) (f : OpenFile) → IsSlot t ds a x → a ≡ Some (File f) → ⊥
+slot-file t ds None x f s e = cc
+slot-file t ds (Some a) None f s e = s
+slot-file t ds (Some (File b)) (Some h) f s e = s
+slot-file t ds (Some (Directory o)) (Some h) f s e = cc
+
 -- a closed one has none
-pub slot-closed : (t : Tree) (ds : Dentries) (a : Option OpenDirectory) (x : Option Handle) → IsSlot t ds a x → a ≡ None → x ≡ None
+pub slot-closed : (t : Tree) (ds : Dentries) (a : Option handles.Handle) (x : Option Handle) → IsSlot t ds a x → a ≡ None → x ≡ None
 slot-closed t ds None None s e = refl
 slot-closed t ds None (Some h) s e = absurd s
 slot-closed t ds (Some a) x s e = cc
@@ -138,11 +150,12 @@ handle-same t u ds paths o h same x = record {
 }
 
 -- a slot in another tree, where its handle is one there
-pub slot-moved : (t u : Tree) (ds : Dentries) (a : Option OpenDirectory) (x : Option Handle) → ((o : OpenDirectory) (h : Handle) → a ≡ Some o → x ≡ Some h → IsHandle t ds o h → IsHandle u ds o h) → IsSlot t ds a x → IsSlot u ds a x
+pub slot-moved : (t u : Tree) (ds : Dentries) (a : Option handles.Handle) (x : Option Handle) → ((o : OpenDirectory) (h : Handle) → a ≡ Some (Directory o) → x ≡ Some h → IsHandle t ds o h → IsHandle u ds o h) → IsSlot t ds a x → IsSlot u ds a x
 slot-moved t u ds None None f s = tt
 slot-moved t u ds None (Some h) f s = absurd s
 slot-moved t u ds (Some o) None f s = absurd s
-slot-moved t u ds (Some o) (Some h) f s = f o h refl refl s
+slot-moved t u ds (Some (File x)) (Some h) f s = absurd s
+slot-moved t u ds (Some (Directory o)) (Some h) f s = f o h refl refl s
 
 -- the lowest free descriptor
 lowest-at : (hs : List (Option Handle)) (d : ℕ) → d < length hs → held_in (slice_get hs d) ≡ None → ((k : ℕ) → k < d → is_some (held_in (slice_get hs k)) ≡ true) → position_or_len is_none hs ≡ d
@@ -183,7 +196,7 @@ pub record SameClients (old new : Clients) : Type 0 where
   pub next : new.next ≡ old.next
 
 -- where one client's descriptors change the same clients are attached
-pub keeps-attached : (old new : Clients) (c : ℕ) (P : List (Option OpenDirectory) → List (Option OpenDirectory) → Type 0) → ChangesClient old new c P → KeepsAttached old new
+pub keeps-attached : (old new : Clients) (c : ℕ) (P : List (Option handles.Handle) → List (Option handles.Handle) → Type 0) → ChangesClient old new c P → KeepsAttached old new
 keeps-attached old new c P h = record { attached = same; next = h.next }
   where
     same : (b : ℕ) → is_attached new b ≡ is_attached old b
@@ -213,7 +226,7 @@ same-clients clients new c h = record { attached = same; opened = opens; places 
 
 module _ (t : Tree) (clients : Clients) (ks : List Table) (a : AreTables t clients ks) where
   -- the tables of another tree, where each handle is one there
-  pub tables-moved : (u : Tree) → ((c d : ℕ) (o : OpenDirectory) (h : Handle) → opened_by clients c d ≡ Some o → handle_of ks c d ≡ Some h → IsHandle t clients.directories o h → IsHandle u clients.directories o h) → AreTables u clients ks
+  pub tables-moved : (u : Tree) → ((c d : ℕ) (o : OpenDirectory) (h : Handle) → opened_by clients c d ≡ Some (Directory o) → handle_of ks c d ≡ Some h → IsHandle t clients.directories o h → IsHandle u clients.directories o h) → AreTables u clients ks
   tables-moved u f = record { attached = a.attached; room = a.room; slots = λ c d. slot-moved t u clients.directories _ _ (f c d) (a.slots c d) }
 
   -- how many descriptors an attached client has
@@ -256,7 +269,7 @@ module _ (t : Tree) (clients : Clients) (ks : List Table) (a : AreTables t clien
     }
 
     -- one descriptor is set on both sides
-    pub tables-set : (c fd : ℕ) (o : Option OpenDirectory) (x : Option Handle) → ChangesClient clients new c (λ b y. SetsSlot b y fd o) → fd < DESCRIPTORS_MAX → IsSlot t new.directories o x → AreTables t new (with_handle ks c fd x)
+    pub tables-set : (c fd : ℕ) (o : Option handles.Handle) (x : Option Handle) → ChangesClient clients new c (λ b y. SetsSlot b y fd o) → fd < DESCRIPTORS_MAX → IsSlot t new.directories o x → AreTables t new (with_handle ks c fd x)
     tables-set c fd o x h inside slot = record {
       attached = λ b. attached-same ks c fd b x ∙ a.attached b ∙ sym (same b);
       room = λ b. long b ∙ a.room b ∙ sym (ap (λ z. cond z DESCRIPTORS_MAX 0) (same b));

@@ -6,13 +6,20 @@ use Rattle.std.specs.Ordering.{nat_cmp}
 use Rattle.overlay_core.specs.declared.clients.Clients.{Clients}
 use Rattle.plain_model.specs.Layers.{Path}
 use Rattle.open_handles.specs.declared.descriptors.Descriptors.{Descriptors}
-use Rattle.open_handles.specs.declared.descriptors.OpenDirectory.{OpenDirectory}
+use Rattle.open_handles.specs.declared.handle.Handle as handles
+use Rattle.open_handles.specs.declared.handle.Handle.TheVariants.{Directory}
+use Rattle.open_handles.specs.declared.handle.OpenDirectory.{OpenDirectory}
 use Rattle.open_handles.specs.Descriptors as slots
+use Rattle.open_handles.specs.Listings.{directory_in}
 use Rattle.open_handles.specs.Opened.{Location, opened, path_in}
 
 -- what a client has open under a descriptor
-abbrev pub opened_by : Clients → ℕ → ℕ → Option OpenDirectory
+abbrev pub opened_by : Clients → ℕ → ℕ → Option handles.Handle
 opened_by clients n d = option_and_then (λ (e : Descriptors). slots.opened e.slots.items d) (get nat_cmp clients.attached n)
+
+-- the directory to which a descriptor of a client leads, if it leads to one
+abbrev pub directory_by : Clients → ℕ → ℕ → Option OpenDirectory
+directory_by clients n d = directory_in (opened_by clients n d)
 
 -- where the directory of a handle stands
 abbrev pub located : Clients → OpenDirectory → Option Location
@@ -24,7 +31,7 @@ path_of clients o = option_and_then path_in (located clients o)
 
 -- each directory that a client has open still stands where it stood
 abbrev pub KeepsPlaces : Clients → Clients → Type 0
-KeepsPlaces old new = (c d : ℕ) (o : OpenDirectory) (l : Location) → opened_by new c d ≡ Some o → located old o ≡ Some l → located new o ≡ Some l
+KeepsPlaces old new = (c d : ℕ) (o : OpenDirectory) (l : Location) → opened_by new c d ≡ Some (Directory o) → located old o ≡ Some l → located new o ≡ Some l
 
 -- the next number is attached, with no descriptors, and every other client stays as it is
 pub record Attaches (old new : Clients) (n : ℕ) : Type 0 where
@@ -64,7 +71,7 @@ pub record IsSame (old new : Clients) : Type 0 where
   pub next : new.next ≡ old.next
 
 -- an attached client's descriptors change so, and every other client stays as it is
-pub record ChangesClient (old new : Clients) (n : ℕ) (change : List (Option OpenDirectory) → List (Option OpenDirectory) → Type 0) : Type 0 where
+pub record ChangesClient (old new : Clients) (n : ℕ) (change : List (Option handles.Handle) → List (Option handles.Handle) → Type 0) : Type 0 where
   pub before : Descriptors
   pub was : get nat_cmp old.attached n ≡ Some before
   pub after : Descriptors

@@ -19,7 +19,9 @@ use Rattle.layer_tree.specs.Tree.{layer_of}
 use Rattle.merged_lookup.specs.Merged.{layers_of, lowers_of}
 use Rattle.mount_laws.specs.Looks.{walk_fault, IsMountOf, IsHidden, listing_handle, AreShown}
 use Rattle.mount_laws.specs.Removals.{folder_attributes}
-use Rattle.open_handles.specs.declared.descriptors.OpenDirectory.{OpenDirectory}
+use Rattle.open_handles.specs.declared.handle.Handle as handles
+use Rattle.open_handles.specs.declared.handle.Handle.TheVariants.{Directory, File}
+use Rattle.open_handles.specs.declared.handle.OpenDirectory.{OpenDirectory}
 use Rattle.open_handles.specs.Dentries.{Dentries}
 use Rattle.open_handles.specs.Descriptors.{SetsSlot}
 use Rattle.open_handles.specs.Opened.{Location, At, Removed, opened}
@@ -54,10 +56,15 @@ pub record IsHandle (t : Tree) (directories : Dentries) (o : OpenDirectory) (h :
   pub access : h ≡ record (listing_handle h.node h.way) { place = h.place; listed = h.listed }
   pub left : IsLeft o.listing h.listed h.place
 
+-- what a descriptor leads to is what the machine's handle is on; no call opens a file yet
+abbrev pub IsOpenAs : Tree → Dentries → handles.Handle → Handle → Type 0
+IsOpenAs t directories (Directory o) h = IsHandle t directories o h
+IsOpenAs t directories (File f) h = ⊥
+
 -- a descriptor is free on both sides, or open on both
-abbrev pub IsSlot : Tree → Dentries → Option OpenDirectory → Option Handle → Type 0
+abbrev pub IsSlot : Tree → Dentries → Option handles.Handle → Option Handle → Type 0
 IsSlot t directories None None = Unit {0}
-IsSlot t directories (Some o) (Some h) = IsHandle t directories o h
+IsSlot t directories (Some o) (Some h) = IsOpenAs t directories o h
 IsSlot t directories None (Some h) = ⊥
 IsSlot t directories (Some o) None = ⊥
 
@@ -105,9 +112,9 @@ AreLeft Ls path None names = AreNamesIn Ls path names
 -- the next names of an open directory are given, and its descriptor alone changes
 pub record Pages (old new : Mount) (c d count : ℕ) (given : List Name) : Type 0 where
   pub directory : OpenDirectory
-  pub was : opened_by old.clients c d ≡ Some directory
+  pub was : opened_by old.clients c d ≡ Some (Directory directory)
   pub left : List Name
   pub from : AreLeft (layers_of old.layers) (path_of old.clients directory) directory.listing left
   pub next : given ≡ take count left
-  pub changes : ChangesClient old.clients new.clients c (λ before after. SetsSlot before after d (Some (record directory { listing = Some (drop count left) })))
+  pub changes : ChangesClient old.clients new.clients c (λ before after. SetsSlot before after d (Some (Directory (record directory { listing = Some (drop count left) }))))
   pub layers : new.layers ≡ old.layers

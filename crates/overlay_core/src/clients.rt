@@ -4,11 +4,12 @@ ghost use Rattle.std.specs.Option.{option_and_then};
 ghost use Rattle.std.specs.BTreeMap.{get, btree_map_len};
 ghost use Rattle.std.specs.Ordering.{nat_cmp};
 ghost use Rattle.open_handles.specs.Opened.{opened, holders, NoneBelow};
-ghost use Rattle.overlay_core.specs.Held.{handles_below};
+ghost use Rattle.open_handles.specs.FileHolders.{file_holders};
+ghost use Rattle.overlay_core.specs.Held.{handles_below, files_below};
 
-use crate::closing::close_all;
+use crate::closing::{close_all, close_handle};
 use dir_listing::Cursor;
-use open_handles::{Descriptors, OpenDirectories, OpenDirectory};
+use open_handles::{Descriptors, Handle, OpenDirectories, OpenDirectory, OpenFiles};
 use ov_base::{Attributes, Errno, NameList, Path};
 use std::alloc::{AllocError, Global};
 use std::collections::BTreeMap;
@@ -17,24 +18,26 @@ use std::hash::RandomState;
 /// The most clients that are attached at a time.
 pub const CLIENTS_MAX: usize = 64;
 
-/// The attached clients by number, and the directories that they have open. Numbers start at 0, rise and aren't used again. As many
-/// handles hold a directory as its count says.
+/// The attached clients by number, and the directories and files of the upper that they have open. Numbers start at 0, rise and aren't
+/// used again. As many handles hold a directory as its count says, and a file.
 #[derive(Drop)]
 pub struct Clients {
     attached: BTreeMap<u64, Descriptors>,
     next: u64,
     directories: OpenDirectories,
+    files: OpenFiles,
     ghost rising: { (n : ℕ) → is_some (get nat_cmp attached n) ≡ true → n < next },
     ghost held: { (k : ℕ) → holders directories k ≡ handles_below (get nat_cmp attached) next k },
+    ghost held_files: { (k : ℕ) → file_holders files k ≡ files_below (get nat_cmp attached) next k },
 }
 
 impl Clients {
-    ghost use Rattle.overlay_core.specs.Attaching.{HasNoRoom, Attaches, Detaches, IsSame, ChangesClient, opened_by, path_of};
+    ghost use Rattle.overlay_core.specs.Attaching.{HasNoRoom, Attaches, Detaches, IsSame, ChangesClient, opened_by, directory_by, path_of};
     ghost use Rattle.overlay_core.specs.Opening.{OpensAt};
     ghost use Rattle.overlay_core.specs.Removing.{IsOpenNowhere, IsOpenAt, RemovesOpen};
     ghost use Rattle.open_handles.specs.Listings.{ChangesSlot, Closes, GivesNames, with_listing};
 
-    /// No clients. The names of open directories are hashed with these keys.
+    /// No clients. The names of open directories and the keys of open files are hashed with these keys.
     pub fn new(alloc: Global, keys: RandomState) -> Result<Clients, AllocError>
         ensures none { IfOk result (λ clients. (n : ℕ) → get nat_cmp clients.attached n ≡ None) }
         ensures first { IfOk result (λ clients. clients.next ≡ 0) }
@@ -45,6 +48,7 @@ impl Clients {
             attached: BTreeMap::new(alloc),
             next: 0,
             directories,
+            files: OpenFiles::new(alloc, keys),
         })
     }
 
@@ -78,10 +82,9 @@ impl Clients {
     pub fn detach(&mut self, client: u64)
         ensures { Detaches self.old self.new client }
     {
-        self.directories.lawful();
         if let Some(descriptors) = self.attached.remove(&client) {
             let slots = descriptors.into_slots();
-            close_all(&mut self.directories, slots.as_slice());
+            close_all(&mut self.directories, &mut self.files, slots.as_slice());
         }
     }
 
@@ -100,10 +103,17 @@ impl Clients {
     }
 
     /// What a client has open under a descriptor.
-    pub fn opened(&self, client: u64, descriptor: u32) -> Option<&OpenDirectory>
+    pub fn opened(&self, client: u64, descriptor: u32) -> Option<&Handle>
         ensures { option_copied result ≡ opened_by self.now client descriptor }
     {
         self.attached.get(&client)?.get(descriptor)
+    }
+
+    /// The directory to which a descriptor of a client leads, if it leads to one.
+    pub fn directory(&self, client: u64, descriptor: u32) -> Option<&OpenDirectory>
+        ensures { option_copied result ≡ directory_by self.now client descriptor }
+    {
+        self.attached.get(&client)?.directory(descriptor)
     }
 
     /// Opens the directory at a path under the lowest free descriptor of a client and gives it. Where 64 are open it is EMFILE.
@@ -116,10 +126,10 @@ impl Clients {
             Ok(directory) => directory,
             Err(fault) => return Err(fault),
         };
-        let handle = OpenDirectory {
+        let handle = Handle::Directory(OpenDirectory {
             directory,
             listing: Cursor::new(),
-        };
+        });
         match self.attached.get_mut(&client).unwrap().open(handle) {
             Ok(Ok(descriptor)) => Ok(Ok(descriptor)),
             Ok(Err(errno)) => {
@@ -140,11 +150,11 @@ impl Clients {
         client: u64,
         descriptor: u32,
     ) -> Result<Option<Path>, AllocError>
-        requires { IsSome (opened_by self.now client descriptor) }
-        ensures { IfOk result (λ path. path ≡ option_and_then (path_of self.now) (opened_by self.now client descriptor)) }
+        requires { IsSome (directory_by self.now client descriptor) }
+        ensures { IfOk result (λ path. path ≡ option_and_then (path_of self.now) (directory_by self.now client descriptor)) }
     {
         self.directories.lawful();
-        let handle = self.opened(client, descriptor).unwrap();
+        let handle = self.directory(client, descriptor).unwrap();
         self.directories.path(alloc, handle.directory)
     }
 
@@ -167,7 +177,7 @@ impl Clients {
 
     /// Keeps a listing of an open directory of a client.
     pub fn keep_listing(&mut self, client: u64, descriptor: u32, listing: Cursor)
-        requires { IsSome (opened_by self.old client descriptor) }
+        requires { IsSome (directory_by self.old client descriptor) }
         ensures { ChangesClient self.old self.new client (λ before after. ChangesSlot before after descriptor (with_listing listing)) }
     {
         self.attached
@@ -178,7 +188,7 @@ impl Clients {
 
     /// Lets the listing of an open directory of a client go.
     pub fn rewind(&mut self, client: u64, descriptor: u32)
-        requires { IsSome (opened_by self.old client descriptor) }
+        requires { IsSome (directory_by self.old client descriptor) }
         ensures { ChangesClient self.old self.new client (λ before after. ChangesSlot before after descriptor (with_listing None)) }
     {
         self.attached.get_mut(&client).unwrap().rewind(descriptor);
@@ -193,7 +203,7 @@ impl Clients {
         descriptor: u32,
         count: usize,
     ) -> Result<NameList, AllocError>
-        requires { IsSome (opened_by self.old client descriptor) }
+        requires { IsSome (directory_by self.old client descriptor) }
         ensures { ChangesClient self.old self.new client (λ before after. GivesNames before after descriptor count result) }
     {
         self.attached
@@ -207,13 +217,12 @@ impl Clients {
         requires { IsSome (get nat_cmp self.old.attached client) }
         ensures { ChangesClient self.old self.new client (λ before after. Closes before after descriptor result) }
     {
-        let Some(handle) = self.opened(client, descriptor) else {
+        let Some(_) = self.opened(client, descriptor) else {
             return Err(Errno::EBADF);
         };
-        let directory = handle.directory;
-        let _ = self.attached.get_mut(&client).unwrap().take(descriptor);
-        self.directories.lawful();
-        self.directories.close(directory);
+        let descriptors = self.attached.get_mut(&client).unwrap();
+        let handle = descriptors.take(descriptor).unwrap();
+        close_handle(&mut self.directories, &mut self.files, &handle);
         Ok(())
     }
 }

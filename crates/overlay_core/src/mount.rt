@@ -17,6 +17,7 @@ use dir_listing::{Cursor, names};
 use layer_tree::{Inode, Node};
 use make_remove::{mkdir, symlink};
 use merged_lookup::{Found, Layers, Topmost};
+use open_handles::Handle;
 use ov_base::{
     Attributes, Bytes, Call, Content, Errno, LinkTarget, Mode, NameList, OpenFlags, Path, Reply,
 };
@@ -45,11 +46,11 @@ impl Mount {
     ghost use Rattle.plain_model.specs.Runs.{joined, without_instance, without_table, Leaves};
     ghost use Rattle.plain_model.specs.Refusals.{refusal};
     ghost use Rattle.overlay_core.specs.Attaching as attaching;
-    ghost use Rattle.overlay_core.specs.Attaching.{HasNoRoom, Attaches, Detaches, IsSame, KeepsAttached, opened_by};
+    ghost use Rattle.overlay_core.specs.Attaching.{HasNoRoom, Attaches, Detaches, IsSame, KeepsAttached, opened_by, directory_by};
     ghost use Rattle.overlay_core.specs.States.{HasStateOf, IsStateOf, Serves, StaysState, Pages};
     ghost use Rattle.overlay_core.specs.Removing.{IsOpenNowhere, HasAttributes};
     ghost use Rattle.mount_laws.specs.Removals.{rmdir_fault};
-    ghost use Rattle.overlay_core.specs.Opening.{seek_fault};
+    ghost use Rattle.overlay_core.specs.Opening.{seek_fault, list_fault};
     ghost use Rattle.overlay_core.specs.Rules.{Nothing};
     ghost use Rattle.overlay_core.specs.Offers.{is_offered, reads_directory};
     ghost use Rattle.overlay_core.specs.Keeping.{UnlessChange, takes_no_memory};
@@ -311,12 +312,14 @@ impl Mount {
         Reply::Place(0)
     }
 
-    // Why a seek is refused: nothing is open, or it isn't to the start of the directory.
+    // Why a seek is refused: nothing is open, or it isn't to the start of a directory.
     fn seek_refusal(&self, client: u64, descriptor: u32, offset: i64, whence: u8) -> Option<Errno>
         ensures { result ≡ seek_fault (opened_by self.now.clients client descriptor) offset whence }
     {
-        if self.clients.opened(client, descriptor).is_none() {
-            return Some(Errno::EBADF);
+        match self.clients.opened(client, descriptor) {
+            None => return Some(Errno::EBADF),
+            Some(Handle::File(_)) => return Some(Errno::EOPNOTSUPP),
+            Some(Handle::Directory(_)) => (),
         }
         if offset != 0 || whence != 0 {
             return Some(Errno::EINVAL);
@@ -330,25 +333,38 @@ impl Mount {
         ensures clients { KeepsAttached self.old.clients self.new.clients }
         ensures layers { self.new.layers ≡ self.old.layers }
     {
-        if self.clients.opened(client, descriptor).is_none() {
-            return Ok(Reply::Refused(Errno::EBADF));
-        }
-        if count == 0 || count > LIST_MAX {
-            return Ok(Reply::Refused(Errno::EINVAL));
+        if let Some(errno) = self.list_refusal(client, descriptor, count) {
+            return Ok(Reply::Refused(errno));
         }
         let names = self.page(client, descriptor, count as usize)?;
         Ok(Reply::Names(names))
     }
 
+    // Why a list is refused: nothing is open, or a file, or it asks for no names or too many.
+    fn list_refusal(&self, client: u64, descriptor: u32, count: u32) -> Option<Errno>
+        ensures { result ≡ list_fault (opened_by self.now.clients client descriptor) count }
+    {
+        match self.clients.opened(client, descriptor) {
+            None => Some(Errno::EBADF),
+            Some(Handle::File(_)) => Some(Errno::ENOTDIR),
+            Some(Handle::Directory(_)) => {
+                if count == 0 || count > LIST_MAX {
+                    return Some(Errno::EINVAL);
+                }
+                None
+            }
+        }
+    }
+
     // Gives the next names of the listing of an open directory, at most so many. The first call makes the listing.
     fn page(&mut self, client: u64, descriptor: u32, count: usize) -> Result<NameList, AllocError>
-        requires { IsSome (opened_by self.old.clients client descriptor) }
+        requires { IsSome (directory_by self.old.clients client descriptor) }
         ensures pages { IfOk result (λ names. Pages self.old self.new client descriptor count names) }
         ensures err { OnErr result (StaysState self.old self.new) }
         ensures clients { KeepsAttached self.old.clients self.new.clients }
         ensures layers { self.new.layers ≡ self.old.layers }
     {
-        let directory = self.clients.opened(client, descriptor).unwrap();
+        let directory = self.clients.directory(client, descriptor).unwrap();
         if directory.listing.is_listed() {
             return self
                 .clients

@@ -1,7 +1,7 @@
 use Rattle.std.proofs.Common.{rules, ◌≡◌, ◌≢◌, ℕ, Some}
 use Rattle.std.specs.BTreeMap.{get}
 use Rattle.std.specs.Ordering.{nat_cmp}
-use Rattle.overlay_core.proofs.Holding.{rises, held-gives}
+use Rattle.overlay_core.proofs.Holding.{rises, held-gives, files-gives}
 use Rattle.overlay_core.proofs.clients.Clients.next_names.Goals as goal
 
 pub returns : goal.returns
@@ -24,4 +24,5 @@ invariant_of-self c =
     record {
       rising = rises c.args.self.now c.args.client c.unwrap.result.now was (get nat_cmp (c.get_mut.follows.lender c.next_names.new.self)) c.next_names.new.self is others;
       held = held-gives c.args.self.now c.args.client c.unwrap.result.now was (get nat_cmp (c.get_mut.follows.lender c.next_names.new.self)) c.next_names.new.self is others c.args.descriptor c.args.count c.next_names.result c.next_names.ensures;
+      held_files = files-gives c.args.self.now c.args.client c.unwrap.result.now was (get nat_cmp (c.get_mut.follows.lender c.next_names.new.self)) c.next_names.new.self is others c.args.descriptor c.args.count c.next_names.result c.next_names.ensures;
     }
