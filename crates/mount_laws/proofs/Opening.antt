@@ -71,21 +71,21 @@ module _ (U : Layer) (lowers : List Layer) (s : State) (m : IsMountOf U lowers s
   refused c mode =
       refusal-writable s c (Open p f mode) m.writable
       ∙ chain
-        (when (bad_flags f) EINVAL)
-        (bad_mode mode)
-        (walked l)
-        (when (not (is_found l) && not f.create) ENOENT)
-        (when (is_found l && f.create && f.exclusive) EEXIST)
-        (when (is_link o) ELOOP)
-        (when (is_found l && f.directory && not (is_folder o)) ENOTDIR)
-        (when (is_folder o && (f.writes || f.create)) EISDIR)
-        (when (is_none (lowest_free s.tables c)) EMFILE)
+      (when (bad_flags f) EINVAL)
+      (bad_mode mode)
+      (walked l)
+      (when (not (is_found l) && not f.create) ENOENT)
+      (when (is_found l && f.create && f.exclusive) EEXIST)
+      (when (is_link o) ELOOP)
+      (when (is_found l && f.directory && not (is_folder o)) ENOTDIR)
+      (when (is_folder o && (f.writes || f.create)) EISDIR)
+      (when (is_none (lowest_free s.tables c)) EMFILE)
       ∙ (λ i.
-          first (when (bad_flags f) EINVAL)
-          (first (bad_mode mode)
-          (first (to-parents U lowers s m p i)
-          (first (no-shown i)
-          (when (is_none (lowest_free s.tables c)) EMFILE)))))
+      first (when (bad_flags f) EINVAL)
+      (first (bad_mode mode)
+      (first (to-parents U lowers s m p i)
+      (first (no-shown i)
+      (when (is_none (lowest_free s.tables c)) EMFILE)))))
 
 -- the refusals of an open are told by the layers
 pub law_of_open_refusal : LawOfOpenRefusal
@@ -166,8 +166,8 @@ module _ (Ls : List Layer) (p : Path) (f : OpenFlags) (mode : ℕ) (free : Optio
   no-folder : f.writes ≡ true → is_directory (shows 0 Ls p) ≡ false
   no-folder w =
       by (is_directory (shows 0 Ls p)) (
-          ap (λ b. is_directory (shows 0 Ls p) && (b || f.create)) (sym w)
-          ∙ last-shown f (shows 0 Ls p) (first-none (shown_fault f (shows 0 Ls p)) _ last-two)
+      ap (λ b. is_directory (shows 0 Ls p) && (b || f.create)) (sym w)
+      ∙ last-shown f (shows 0 Ls p) (first-none (shown_fault f (shows 0 Ls p)) _ last-two)
       )
     where
       by : (b : Bool) → b && (true || f.create) ≡ false → b ≡ false
@@ -183,89 +183,89 @@ module _
     (U : Layer) (lowers : List Layer) (s : State) (m : IsMountOf U lowers s) (c : ℕ) (p : Path) (f : OpenFlags) (mode : ℕ)
     (fine : opening_fault (U ∷ lowers) p f mode (lowest_free s.tables c) ≡ None)
   where
-  abbrev new : Node
-  new = Leaf (File []) (fresh mode) Own 1
+    abbrev new : Node
+    new = Leaf (File []) (fresh mode) Own 1
 
-  -- the tree after an open of what the path leads to
-  abbrev tree_by : Option NodeId → Tree
-  tree_by o = cond (is_none o) (made_way s.tree s.serial (way_of s.tree p) new) (change (opened f) s.tree o)
+    -- the tree after an open of what the path leads to
+    abbrev tree_by : Option NodeId → Tree
+    tree_by o = cond (is_none o) (made_way s.tree s.serial (way_of s.tree p) new) (change (opened f) s.tree o)
 
-  -- the descriptors after an open that leads to a handle
-  abbrev tables_by : Option ℕ → Handle → List Table
-  tables_by o h = with_handle s.tables c (unwrap_or o DESCRIPTORS_MAX) (Some h)
+    -- the descriptors after an open that leads to a handle
+    abbrev tables_by : Option ℕ → Handle → List Table
+    tables_by o h = with_handle s.tables c (unwrap_or o DESCRIPTORS_MAX) (Some h)
 
-  abbrev handle_by : Option NodeId → Handle
-  handle_by o = new_handle f (opens o s.serial) (way_of s.tree p) (node_of s.tree o)
+    abbrev handle_by : Option NodeId → Handle
+    handle_by o = new_handle f (opens o s.serial) (way_of s.tree p) (node_of s.tree o)
 
-  -- a descriptor is free
-  free : (fd : ℕ) × (lowest_free s.tables c ≡ Some fd)
-  free = is-free (U ∷ lowers) p f mode (lowest_free s.tables c) fine
+    -- a descriptor is free
+    free : (fd : ℕ) × (lowest_free s.tables c ≡ Some fd)
+    free = is-free (U ∷ lowers) p f mode (lowest_free s.tables c) fine
 
-  -- the answer is the free descriptor
-  answer : reply.Descriptor (unwrap_or (lowest_free s.tables c) DESCRIPTORS_MAX) ≡ reply.Descriptor free.0
-  answer = ap (λ o. reply.Descriptor (unwrap_or o DESCRIPTORS_MAX)) free.1
+    -- the answer is the free descriptor
+    answer : reply.Descriptor (unwrap_or (lowest_free s.tables c) DESCRIPTORS_MAX) ≡ reply.Descriptor free.0
+    answer = ap (λ o. reply.Descriptor (unwrap_or o DESCRIPTORS_MAX)) free.1
 
-  -- the node of what is shown is a directory where one is shown
-  folder : (d : NodeId) → node_at s.tree p ≡ Some d → is_folder (s.tree d) ≡ is_directory (shows 0 (U ∷ lowers) p)
-  folder d at = ap (λ o. is_folder (node_of s.tree o)) (sym at) ∙ folder-at U lowers s m p
+    -- the node of what is shown is a directory where one is shown
+    folder : (d : NodeId) → node_at s.tree p ≡ Some d → is_folder (s.tree d) ≡ is_directory (shows 0 (U ∷ lowers) p)
+    folder d at = ap (λ o. is_folder (node_of s.tree o)) (sym at) ∙ folder-at U lowers s m p
 
-  -- an open for reading, for writing, and of nothing that is shown
-  reading : is_some (shows 0 (U ∷ lowers) p) ≡ true → f.writes ≡ false → OpensReading (U ∷ lowers) s c p f mode
-  reading h w =
-      let n = node-there (node_at s.tree p) (at-some U lowers s m p ∙ h) in
-      let kept : tree_by (node_at s.tree p) ≡ s.tree = ap tree_by n.1 ∙ (λ i x. put-same s.tree n.0 _ (unchanged f w (s.tree n.0)) x i) in
-      record {
-        node = n.0;
-        at = n.1;
-        descriptor = free.0;
-        free = free.1;
-        answer = answer;
-        state = λ i. record s {
-          tree = kept i;
-          serial = next_if (is_none (n.1 i)) s.serial;
-          tables = tables_by (free.1 i) (handle_by (n.1 i));
-        };
-        view =
-            face-view f w (s.tree n.0)
-            ∙ ap (λ o. seen_view (face (node_of s.tree o))) (sym n.1)
-            ∙ ap seen_view (m.shows.sights p)
-            ∙ see-view _ (shows 0 (U ∷ lowers) p);
-        folder = folder n.0 n.1;
-      }
+    -- an open for reading, for writing, and of nothing that is shown
+    reading : is_some (shows 0 (U ∷ lowers) p) ≡ true → f.writes ≡ false → OpensReading (U ∷ lowers) s c p f mode
+    reading h w =
+        let n = node-there (node_at s.tree p) (at-some U lowers s m p ∙ h) in
+        let kept : tree_by (node_at s.tree p) ≡ s.tree = ap tree_by n.1 ∙ (λ i x. put-same s.tree n.0 _ (unchanged f w (s.tree n.0)) x i) in
+        record {
+          node = n.0;
+          at = n.1;
+          descriptor = free.0;
+          free = free.1;
+          answer = answer;
+          state = λ i. record s {
+            tree = kept i;
+            serial = next_if (is_none (n.1 i)) s.serial;
+            tables = tables_by (free.1 i) (handle_by (n.1 i));
+          };
+          view =
+              face-view f w (s.tree n.0)
+              ∙ ap (λ o. seen_view (face (node_of s.tree o))) (sym n.1)
+              ∙ ap seen_view (m.shows.sights p)
+              ∙ see-view _ (shows 0 (U ∷ lowers) p);
+          folder = folder n.0 n.1;
+        }
 
-  writing : is_some (shows 0 (U ∷ lowers) p) ≡ true → f.writes ≡ true → OpensWriting s c p f mode
-  writing h w =
-      let n = node-there (node_at s.tree p) (at-some U lowers s m p ∙ h) in
-      let made : handle_by (node_at s.tree p) ≡ live_handle f n.0 (way_of s.tree p) =
-      ap handle_by n.1 ∙ (λ i. record (handle_by (Some n.0)) { view = live f w (s.tree n.0) i }) in
-      record {
-        node = n.0;
-        at = n.1;
-        descriptor = free.0;
-        free = free.1;
-        answer = answer;
-        state = λ i. record s {
-          tree = tree_by (n.1 i);
-          serial = next_if (is_none (n.1 i)) s.serial;
-          tables = tables_by (free.1 i) (made i);
-        };
-        folder = folder n.0 n.1 ∙ no-folder (U ∷ lowers) p f mode (lowest_free s.tables c) fine w;
-      }
+    writing : is_some (shows 0 (U ∷ lowers) p) ≡ true → f.writes ≡ true → OpensWriting s c p f mode
+    writing h w =
+        let n = node-there (node_at s.tree p) (at-some U lowers s m p ∙ h) in
+        let made : handle_by (node_at s.tree p) ≡ live_handle f n.0 (way_of s.tree p) =
+        ap handle_by n.1 ∙ (λ i. record (handle_by (Some n.0)) { view = live f w (s.tree n.0) i }) in
+        record {
+          node = n.0;
+          at = n.1;
+          descriptor = free.0;
+          free = free.1;
+          answer = answer;
+          state = λ i. record s {
+            tree = tree_by (n.1 i);
+            serial = next_if (is_none (n.1 i)) s.serial;
+            tables = tables_by (free.1 i) (made i);
+          };
+          folder = folder n.0 n.1 ∙ no-folder (U ∷ lowers) p f mode (lowest_free s.tables c) fine w;
+        }
 
-  making : shows 0 (U ∷ lowers) p ≡ None → OpensMaking s c p f mode
-  making h =
-      let absent : node_at s.tree p ≡ None = none-of (node_at s.tree p) (at-some U lowers s m p ∙ ap is_some h) in
-      record {
-        absent = absent;
-        descriptor = free.0;
-        free = free.1;
-        answer = answer;
-        state = λ i. record s {
-          tree = tree_by (node_at s.tree p);
-          serial = next_if (is_none (absent i)) s.serial;
-          tables = tables_by (free.1 i) (handle_by (absent i));
-        };
-      }
+    making : shows 0 (U ∷ lowers) p ≡ None → OpensMaking s c p f mode
+    making h =
+        let absent : node_at s.tree p ≡ None = none-of (node_at s.tree p) (at-some U lowers s m p ∙ ap is_some h) in
+        record {
+          absent = absent;
+          descriptor = free.0;
+          free = free.1;
+          answer = answer;
+          state = λ i. record s {
+            tree = tree_by (node_at s.tree p);
+            serial = next_if (is_none (absent i)) s.serial;
+            tables = tables_by (free.1 i) (handle_by (absent i));
+          };
+        }
 
 -- an open for reading of what is shown is told by the layers
 pub law_of_opened_for_reading : LawOfOpenedForReading
