@@ -1,49 +1,8 @@
-// What no row shows of a manifest: its options, that it may be long, and files with user attributes and further names.
+// What no script shows of a manifest: its options, and that it may be long.
 use crate::fixtures::{path, read};
 use layer_tree::{Entry, Node};
-use ov_server::{Input, Output, play_run};
 use std::hash::RandomState;
 use std::test::Fail;
-
-const FILES: &str = r#"
-[[layer]]
-[[layer]]
-entry = [
-  {path = "/a", kind = "file", hex = "00ff"},
-  {path = "/b", kind = "link", to = "/a"},
-  {path = "/d", kind = "dir", attrs = [["user.x", "1"], ["user.y", "2"]]},
-  {path = "/z", kind = "file", zeros = 5},
-]
-"#;
-
-const SCRIPT: &str = "attach
-0 stat /b
-0 stat /z
-0 attrs /d
-0 getattr /d user.y
-0 chmod 600 /b
-0 stat /b
-0 stat /a
-layer 0
-layer 1
-";
-
-const ANSWERS: &str = "client 0
-0 ok f 0644 0 0 2 2
-0 ok f 0644 0 0 5 1
-0 ok user.x user.y
-0 ok 2
-0 ok
-0 ok f 0600 0 0 2 1
-0 ok f 0644 0 0 2 2
-d 0755 0 0 0 1 /
-f 0600 0 0 2 1 /b
-d 0755 0 0 0 1 /
-f 0644 0 0 2 2 /a
-f 0644 0 0 2 2 /b
-d 0755 0 0 0 1 /d
-f 0644 0 0 5 1 /z
-";
 
 #[test]
 fn options_of_manifests(rt: HostRuntime) -> Result<(), Fail> {
@@ -83,19 +42,5 @@ fn many_entries_in_one_directory(rt: HostRuntime) -> Result<(), Fail> {
     };
     assert!(rt; matches!(lowers[0].node(key), Some(Node::Inode(_))));
     assert!(rt; lowers[0].read(key) == Some(b"9999".as_slice()));
-    Ok(())
-}
-
-#[test]
-fn files_by_digits_zeros_and_names(rt: HostRuntime) -> Result<(), Fail> {
-    let alloc = rt.alloc();
-    let mut script = SCRIPT.as_bytes();
-    let mut written: Vec<u8> = Vec::new(alloc);
-    let mut input = Input::new(&mut script);
-    let mut output = Output::new(alloc, &mut written);
-    let keys = RandomState::new(&rt)?;
-    let outcome = play_run(alloc, keys, FILES.as_bytes(), &mut input, &mut output);
-    assert!(rt; outcome.is_ok());
-    assert!(rt; written.as_slice() == ANSWERS.as_bytes());
     Ok(())
 }
