@@ -1,19 +1,19 @@
 -- The commands of a script's lines, by the number of their words.
-use Rattle.std.specs.Prelude.{ℕ, true, false, ◌&&◌, List, [], ◌∷◌, Option, Some, None, option_map, Result, Ok, Err, codes, if◌then◌else◌}
+use Rattle.std.specs.Prelude.{ℕ, List, [], ◌∷◌, Option, Some, None, option_map, Result, Ok, Err, codes, if◌then◌else◌}
 use Rattle.std.specs.Option.{option_and_then}
 use Rattle.std.specs.Str.{bytes_eq}
 use Rattle.ov_base.specs.Paths.{path_of_text}
 use Rattle.ov_base.specs.declared.call.Call.{Call}
 use Rattle.ov_base.specs.declared.call.Call.TheVariants as call
-use Rattle.ov_base.specs.declared.call.OpenFlags.{OpenFlags}
 use Rattle.ov_base.specs.declared.errno.Errno.{Errno}
 use Rattle.ov_script.specs.Escapes.{spelled_word}
-use Rattle.ov_script.specs.Numbers.{number_of, mode_of, offset_of}
+use Rattle.ov_script.specs.Flags.{flags_of}
+use Rattle.ov_script.specs.Numbers.{number_of, mode_of, size_of, offset_of}
 use Rattle.ov_script.specs.Words.{words}
 use Rattle.ov_script.specs.declared.script.Command.{Command}
 use Rattle.ov_script.specs.declared.script.Command.TheVariants.{Attach, Detach, Call as CallOf, Layer, Merge}
 use Rattle.ov_script.specs.declared.script.CallText.{CallText}
-use Rattle.ov_script.specs.declared.script.CallText.TheVariants.{Stat, Readlink, Mkdir, Symlink, Unlink, Rmdir, OpenDirectory, Seek, ListNames, Close}
+use Rattle.ov_script.specs.declared.script.CallText.TheVariants.{Stat, Readlink, Mkdir, Symlink, Unlink, Rmdir, Open, Read, Write, Seek, Truncate, Fstat, ListNames, Close}
 use Rattle.ov_script.specs.declared.script.CallText.TheVariants.{Chmod, Chown, SetAttribute, GetAttribute, DeleteAttribute, ListAttributes}
 
 -- what two words come to, if each has its form
@@ -35,20 +35,31 @@ call_of_path name path =
     else (if bytes_eq name (codes "unlink") then Some (Unlink path)
     else (if bytes_eq name (codes "rmdir") then Some (Rmdir path) else None))))
 
--- `close FD`, and the calls of one path
+-- `close FD`, `fstat FD`, and the calls of one path
 abbrev pub call_of_one : List ℕ → List ℕ → Option CallText
-call_of_one name w = if bytes_eq name (codes "close") then option_map Close (number_of 10 w) else option_and_then (call_of_path name) (spelled_word w)
+call_of_one name w =
+    if bytes_eq name (codes "close") then option_map Close (number_of 10 w)
+    else (if bytes_eq name (codes "fstat") then option_map Fstat (number_of 10 w)
+    else option_and_then (call_of_path name) (spelled_word w))
 
--- `chmod MODE P`, `getattr P NAME`, `delattr P NAME`, `mkdir MODE P`, `symlink TARGET P`, `list FD N`, `open rd P`, whose mode is 0o644
-abbrev pub call_of_two : List ℕ → List ℕ → List ℕ → Option CallText
-call_of_two name v w =
+-- `chmod MODE P`, `getattr P NAME`, `delattr P NAME`, `mkdir MODE P`, `symlink TARGET P`, `open FLAGS P`, whose mode is 0o644
+abbrev pub path_call_of_two : List ℕ → List ℕ → List ℕ → Option CallText
+path_call_of_two name v w =
     if bytes_eq name (codes "chmod") then both Chmod (mode_of v) (spelled_word w)
     else (if bytes_eq name (codes "getattr") then both GetAttribute (spelled_word v) (spelled_word w)
     else (if bytes_eq name (codes "delattr") then both DeleteAttribute (spelled_word v) (spelled_word w)
     else (if bytes_eq name (codes "mkdir") then both Mkdir (mode_of v) (spelled_word w)
     else (if bytes_eq name (codes "symlink") then both Symlink (spelled_word v) (spelled_word w)
+    else (if bytes_eq name (codes "open") then both (λ flags path. Open flags path 420) (flags_of v) (spelled_word w) else None)))))
+
+-- `read FD N`, `write FD DATA`, `truncate FD SIZE`, `list FD N`, and the calls of a path and one word more
+abbrev pub call_of_two : List ℕ → List ℕ → List ℕ → Option CallText
+call_of_two name v w =
+    if bytes_eq name (codes "read") then both Read (number_of 10 v) (number_of 10 w)
+    else (if bytes_eq name (codes "write") then both Write (number_of 10 v) (spelled_word w)
+    else (if bytes_eq name (codes "truncate") then both Truncate (number_of 10 v) (size_of w)
     else (if bytes_eq name (codes "list") then both ListNames (number_of 10 v) (number_of 10 w)
-    else (if bytes_eq name (codes "open") && bytes_eq v (codes "rd") then option_map (λ path. OpenDirectory path 420) (spelled_word w) else None))))))
+    else path_call_of_two name v w)))
 
 -- from where a seek counts: the start, the place, or the end
 abbrev pub whence_of : List ℕ → Option ℕ
@@ -57,13 +68,13 @@ whence_of w =
     else (if bytes_eq w (codes "cur") then Some 1
     else (if bytes_eq w (codes "end") then Some 2 else None))
 
--- `chown UID GID P`, `setattr P NAME VALUE`, `seek FD OFFSET set|cur|end`, `open rd P MODE`
+-- `chown UID GID P`, `setattr P NAME VALUE`, `seek FD OFFSET set|cur|end`, `open FLAGS P MODE`
 abbrev pub call_of_three : List ℕ → List ℕ → List ℕ → List ℕ → Option CallText
 call_of_three name u v w =
     if bytes_eq name (codes "chown") then all_three Chown (number_of 10 u) (number_of 10 v) (spelled_word w)
     else (if bytes_eq name (codes "setattr") then all_three SetAttribute (spelled_word u) (spelled_word v) (spelled_word w)
     else (if bytes_eq name (codes "seek") then all_three Seek (number_of 10 u) (offset_of v) (whence_of w)
-    else (if bytes_eq name (codes "open") && bytes_eq u (codes "rd") then both OpenDirectory (spelled_word v) (mode_of w) else None)))
+    else (if bytes_eq name (codes "open") then all_three Open (flags_of u) (spelled_word v) (mode_of w) else None)))
 
 -- the call of a name and the words after it
 abbrev pub call_text : List ℕ → List (List ℕ) → Option CallText
@@ -102,10 +113,6 @@ command_of_words (first ∷ rest) = more_words first rest
 abbrev pub command_of : List ℕ → Option Command
 command_of line = command_of_words (words line)
 
--- the flags of `open rd`
-abbrev pub read_directory : OpenFlags
-read_directory = record { reads = true; writes = false; create = false; exclusive = false; truncate = false; append = false; directory = true; unknown = false }
-
 -- what is made of a path, or its refusal
 abbrev pub on_path : (List (List ℕ) → Call) → Result (List (List ℕ)) Errno → Result Call Errno
 on_path make (Ok path) = Ok (make path)
@@ -125,7 +132,11 @@ call_of (Symlink target text) = on_path (call.Symlink target) (path_of_text text
 call_of (Unlink text) = on_path call.Unlink (path_of_text text)
 call_of (Rmdir text) = on_path call.Rmdir (path_of_text text)
 call_of (Mkdir mode text) = on_path (λ path. call.Mkdir path mode) (path_of_text text)
-call_of (OpenDirectory text mode) = on_path (λ path. call.Open path read_directory mode) (path_of_text text)
+call_of (Open flags text mode) = on_path (λ path. call.Open path flags mode) (path_of_text text)
+call_of (Read descriptor count) = Ok (call.Read descriptor count)
+call_of (Write descriptor bytes) = Ok (call.Write descriptor bytes)
+call_of (Truncate descriptor size) = Ok (call.Truncate descriptor size)
+call_of (Fstat descriptor) = Ok (call.Fstat descriptor)
 call_of (Seek descriptor offset whence) = Ok (call.Seek descriptor offset whence)
 call_of (ListNames descriptor count) = Ok (call.ListNames descriptor count)
 call_of (Close descriptor) = Ok (call.Close descriptor)

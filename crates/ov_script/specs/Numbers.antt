@@ -1,5 +1,5 @@
 -- The numbers that words spell.
-use Rattle.std.specs.Prelude.{ℕ, ℤ, pos, ◌+◌, ◌*◌, ◌-◌, ◌^◌, Bool, ◌&&◌, List, [], ◌∷◌, length, cond, nat_le, nat_lt, Option, Some, None, option_map}
+use Rattle.std.specs.Prelude.{ℕ, zero, suc, ℤ, pos, negsuc, nat_eq, ◌+◌, ◌*◌, ◌-◌, ◌^◌, Bool, ◌&&◌, List, [], ◌∷◌, length, cond, nat_le, nat_lt, Option, Some, None, option_map}
 
 -- whether a byte is a digit in a base of at most ten
 abbrev pub is_digit : ℕ → ℕ → Bool
@@ -36,6 +36,19 @@ number_of base digits = below (2 ^ 32) (spelled_number base digits)
 abbrev pub mode_of : List ℕ → Option ℕ
 mode_of digits = cond (nat_lt 6 (length digits)) None (number_of 8 digits)
 
--- the offset that one decimal digit or more spell, where it fits 64 bits with a sign
+-- a number with a sign in front
+abbrev pub negated : ℕ → ℤ
+negated zero = pos 0
+negated (suc n) = negsuc n
+
+-- the size that one decimal digit or more spell, where it fits 64 bits
+abbrev pub size_of : List ℕ → Option ℕ
+size_of digits = spelled_number 10 digits
+
+-- the offset that decimal digits spell, of which one `-` may stand in front, where it fits 64 bits with a sign
 abbrev pub offset_of : List ℕ → Option ℤ
-offset_of digits = option_map pos (below (2 ^ 63) (spelled_number 10 digits))
+offset_of [] = None
+offset_of (c ∷ digits) =
+    cond (nat_eq c 45)
+    (option_map negated (below (2 ^ 63 + 1) (spelled_number 10 digits)))
+    (option_map pos (below (2 ^ 63) (spelled_number 10 (c ∷ digits))))

@@ -9,17 +9,6 @@ use crate::script::CallText;
 use ov_base::{Bytes, Call, Errno, OpenFlags, Path};
 use std::alloc::{AllocError, Global};
 
-const READ_DIRECTORY: OpenFlags = OpenFlags {
-    reads: true,
-    writes: false,
-    create: false,
-    exclusive: false,
-    truncate: false,
-    append: false,
-    directory: true,
-    unknown: false,
-};
-
 impl CallText<'_> {
     /// The call, or why its path text is refused.
     pub fn call(&self, alloc: Global) -> Result<Result<Call, Errno>, AllocError>
@@ -40,13 +29,28 @@ impl CallText<'_> {
             }
             CallText::Mkdir { mode, path } => mkdir(alloc, *mode, path),
             CallText::Symlink { target, path } => symlink(alloc, target, path),
-            CallText::OpenDirectory { path, mode } => open_directory(alloc, path, *mode),
+            CallText::Open { flags, path, mode } => open(alloc, *flags, path, *mode),
             CallText::Unlink { path } => {
                 Ok(path_of(alloc, path)?.map(|path| Call::Unlink { path }))
             }
             CallText::Rmdir { path } => {
                 Ok(path_of(alloc, path)?.map(|path| Call::Rmdir { path }))
             }
+            CallText::Read { descriptor, count } => Ok(Ok(Call::Read {
+                descriptor: *descriptor,
+                count: *count,
+            })),
+            CallText::Write { descriptor, bytes } => Ok(Ok(Call::Write {
+                descriptor: *descriptor,
+                bytes: bytes_of(alloc, bytes)?,
+            })),
+            CallText::Truncate { descriptor, size } => Ok(Ok(Call::Truncate {
+                descriptor: *descriptor,
+                size: *size,
+            })),
+            CallText::Fstat { descriptor } => Ok(Ok(Call::Fstat {
+                descriptor: *descriptor,
+            })),
             CallText::Seek {
                 descriptor,
                 offset,
@@ -157,13 +161,13 @@ fn symlink(
     Ok(path_of(alloc, path)?.map(|path| Call::Symlink { target, path }))
 }
 
-fn open_directory(
+fn open(
     alloc: Global,
+    flags: OpenFlags,
     path: &EscapedWord<'_>,
     mode: u32,
 ) -> Result<Result<Call, Errno>, AllocError>
-    ensures { IfOk result (λ outcome. outcome ≡ commands.call_of (text.OpenDirectory path.now mode)) }
+    ensures { IfOk result (λ outcome. outcome ≡ commands.call_of (text.Open flags path.now mode)) }
 {
-    let flags = READ_DIRECTORY;
     Ok(path_of(alloc, path)?.map(|path| Call::Open { path, flags, mode }))
 }

@@ -3,6 +3,7 @@
 
 mod calls;
 mod escape;
+mod flags;
 mod lines;
 mod numbers;
 mod script;

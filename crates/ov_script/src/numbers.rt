@@ -1,7 +1,7 @@
 // The numbers that words spell.
-ghost use Rattle.std.specs.Prelude.{◌≡◌, ◌≤◌};
+ghost use Rattle.std.specs.Prelude.{◌≡◌, ◌≤◌, ◌+◌, ◌^◌, Some, option_map};
 ghost use Rattle.ov_script.specs.Numbers as numbers;
-ghost use Rattle.ov_script.specs.Numbers.{number_of, mode_of, offset_of, spelled_number};
+ghost use Rattle.ov_script.specs.Numbers.{number_of, mode_of, offset_of, size_of, spelled_number};
 
 /// The most digits of a mode.
 const MODE_DIGITS: usize = 6;
@@ -30,15 +30,42 @@ pub fn octal_mode(word: &[u8]) -> Option<u32>
     short_number(word, 8)
 }
 
-/// The offset of a seek: decimal digits without a sign, at most 9,223,372,036,854,775,807.
+/// A size: decimal digits, where it fits 64 bits.
+pub fn size(word: &[u8]) -> Option<u64>
+    ensures { result ≡ size_of word.now }
+{
+    number(word, 10)
+}
+
+/// The offset of a seek: decimal digits, of which one `-` may stand in front, from -9,223,372,036,854,775,808 to
+/// 9,223,372,036,854,775,807.
 pub fn offset(word: &[u8]) -> Option<i64>
     ensures { result ≡ offset_of word.now }
 {
+    if word.is_empty() {
+        return None;
+    }
+    if word[0] == b'-' {
+        return negated(number(&word[1..], 10)?);
+    }
     let number = number(word, 10)?;
     if number > OFFSET_MAX {
         return None;
     }
     Some(number as i64)
+}
+
+// A number with a sign in front.
+fn negated(number: u64) -> Option<i64>
+    ensures { result ≡ option_map numbers.negated (numbers.below (2 ^ 63 + 1) (Some number)) }
+{
+    if number <= OFFSET_MAX {
+        return Some(-(number as i64));
+    }
+    if number == OFFSET_MAX + 1 {
+        return Some(i64::MIN);
+    }
+    None
 }
 
 // A number that fits 32 bits.

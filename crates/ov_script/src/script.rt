@@ -7,7 +7,9 @@ ghost use Rattle.ov_script.specs.Escapes.{spelled_word};
 ghost use Rattle.ov_script.specs.Words.{words};
 
 use crate::escape::EscapedWord;
-use crate::numbers::{decimal, octal_mode, offset};
+use crate::flags::open_flags;
+use crate::numbers::{decimal, octal_mode, offset, size};
+use ov_base::OpenFlags;
 
 /// A line that is no command.
 #[derive(Clone, Copy, Debug, PartialEq, Eq)]
@@ -71,14 +73,30 @@ pub enum CallText<'a> {
     Rmdir {
         path: EscapedWord<'a>,
     },
-    OpenDirectory {
+    Open {
+        flags: OpenFlags,
         path: EscapedWord<'a>,
         mode: u32,
+    },
+    Read {
+        descriptor: u32,
+        count: u32,
+    },
+    Write {
+        descriptor: u32,
+        bytes: EscapedWord<'a>,
     },
     Seek {
         descriptor: u32,
         offset: i64,
         whence: u8,
+    },
+    Truncate {
+        descriptor: u32,
+        size: u64,
+    },
+    Fstat {
+        descriptor: u32,
     },
     ListNames {
         descriptor: u32,
@@ -190,6 +208,9 @@ fn call_of_one<'a>(name: &[u8], word: &'a [u8]) -> Option<CallText<'a>>
     if name == b"close".as_slice() {
         let descriptor = decimal(word)?;
         Some(CallText::Close { descriptor })
+    } else if name == b"fstat".as_slice() {
+        let descriptor = decimal(word)?;
+        Some(CallText::Fstat { descriptor })
     } else {
         call_of_path(name, word)
     }
@@ -217,6 +238,30 @@ fn call_of_path<'a>(name: &[u8], word: &'a [u8]) -> Option<CallText<'a>>
 fn call_of_two<'a>(name: &[u8], first: &'a [u8], second: &'a [u8]) -> Option<CallText<'a>>
     ensures { result ≡ commands.call_of_two name.now first.now second.now }
 {
+    if name == b"read".as_slice() {
+        let descriptor = decimal(first)?;
+        let count = decimal(second)?;
+        Some(CallText::Read { descriptor, count })
+    } else if name == b"write".as_slice() {
+        let descriptor = decimal(first)?;
+        let bytes = EscapedWord::parse(second)?;
+        Some(CallText::Write { descriptor, bytes })
+    } else if name == b"truncate".as_slice() {
+        let descriptor = decimal(first)?;
+        let size = size(second)?;
+        Some(CallText::Truncate { descriptor, size })
+    } else if name == b"list".as_slice() {
+        let descriptor = decimal(first)?;
+        let count = decimal(second)?;
+        Some(CallText::ListNames { descriptor, count })
+    } else {
+        path_call_of_two(name, first, second)
+    }
+}
+
+fn path_call_of_two<'a>(name: &[u8], first: &'a [u8], second: &'a [u8]) -> Option<CallText<'a>>
+    ensures { result ≡ commands.path_call_of_two name.now first.now second.now }
+{
     if name == b"chmod".as_slice() {
         let mode = octal_mode(first)?;
         let path = EscapedWord::parse(second)?;
@@ -237,14 +282,11 @@ fn call_of_two<'a>(name: &[u8], first: &'a [u8], second: &'a [u8]) -> Option<Cal
         let target = EscapedWord::parse(first)?;
         let path = EscapedWord::parse(second)?;
         Some(CallText::Symlink { target, path })
-    } else if name == b"list".as_slice() {
-        let descriptor = decimal(first)?;
-        let count = decimal(second)?;
-        Some(CallText::ListNames { descriptor, count })
-    } else if name == b"open".as_slice() && first == b"rd".as_slice() {
+    } else if name == b"open".as_slice() {
+        let flags = open_flags(first)?;
         let path = EscapedWord::parse(second)?;
         let mode = MODE_DEFAULT;
-        Some(CallText::OpenDirectory { path, mode })
+        Some(CallText::Open { flags, path, mode })
     } else {
         None
     }
@@ -277,10 +319,11 @@ fn call_of_three<'a>(
             offset,
             whence,
         })
-    } else if name == b"open".as_slice() && first == b"rd".as_slice() {
+    } else if name == b"open".as_slice() {
+        let flags = open_flags(first)?;
         let path = EscapedWord::parse(second)?;
         let mode = octal_mode(third)?;
-        Some(CallText::OpenDirectory { path, mode })
+        Some(CallText::Open { flags, path, mode })
     } else {
         None
     }
