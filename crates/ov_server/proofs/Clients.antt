@@ -84,11 +84,11 @@ attached_without old new r n d st client =
     by (inr e) = rw (ne_eqb n client e) (st.attached client ∙ sym (ap there (d.others client (λ same. e (sym same)))))
 
 -- a client that is attached is detached
-pub detach_plays : (old new : Core) (n : ℕ) → is_some (get nat_cmp old.mount.clients.attached n) ≡ true → Detaches old.mount.clients new.mount.clients n → new.mount.layers ≡ old.mount.layers → PlaysCommand old (command.Detach n) new
+pub detach_plays : (old new : Core) (n : ℕ) → is_some (get nat_cmp old.mount.clients.attached n) ≡ true → Detaches old.mount.clients new.mount.clients n → new.mount.layers.lowers ≡ old.mount.layers.lowers → PlaysCommand old (command.Detach n) new
 detach_plays old new n is d layers = record {
   good = λ r st. st.attached n ∙ is;
   leaves = λ r st. (without n r, (refl, record { attached = attached_without old new r n d st; next = d.next ∙ st.next }));
-  layers = same_count old new layers;
+  layers = lowers_count old new layers;
 }
 
 -- ---- calls

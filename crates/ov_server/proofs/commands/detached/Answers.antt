@@ -10,4 +10,4 @@ pub returns-clause-places : goal.returns-clause-places
 returns-clause-places c = detach_places c.args.core.now c.detach.new.self c.detach.ensures.options c.args.client (sym c.is_attached.ensures ∙ c.if-not-is_attached.false) c.detach.ensures.clients c.detach.ensures.finished c.requires
 
 pub returns-clause-ok : goal.returns-clause-ok
-returns-clause-ok c = detach_plays c.args.core.now c.detach.new.self c.args.client (sym c.is_attached.ensures ∙ c.if-not-is_attached.false) c.detach.ensures.clients c.detach.ensures.layers
+returns-clause-ok c = detach_plays c.args.core.now c.detach.new.self c.args.client (sym c.is_attached.ensures ∙ c.if-not-is_attached.false) c.detach.ensures.clients c.detach.ensures.layers.lowers
