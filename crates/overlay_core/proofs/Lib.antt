@@ -3,6 +3,8 @@ pub mod Counting
 pub mod Holding
 pub mod Ending
 pub mod Serving
+pub mod Stating
+pub mod Lasting
 pub mod Directories
 pub mod Answering
 pub mod Changing

@@ -1,0 +1,1 @@
+-- Open files of the upper stay live, and files of the tree stay files, through what changes the layers.
