@@ -19,5 +19,4 @@ pub mod Coming
 pub mod Leaving
 pub mod Freed
 pub mod Agreeing
-pub mod Flags
 pub mod Driving
