@@ -148,7 +148,7 @@ module _ (m : Mount) (s : State) (st : IsStateOf m s) (c : ℕ) where
       let w = law_of_walks U lowers s st.layers p in
       sym w.to_last ∙ there-found (look s.tree p) (w.finds ∙ directory-some (shows 0 Ls p) h)
 
-  -- stat
+  -- stat answers the status that is shown
   pub stat-ok : (p : Path) (a : Stat) → Ok a ≡ stat_at Ls p → Serves (refusal s c (call.Stat p)) s c (call.Stat p) (reply.Status a) m
   stat-ok p a h = by (walk_fault Ls p) refl h
     where
@@ -159,6 +159,7 @@ module _ (m : Mount) (s : State) (st : IsStateOf m s) (c : ℕ) where
       by None e g = serve-done _ s c (call.Stat p) _ m (law.refused ∙ e) (ap reply.Status (sym (status-shown (shows 0 Ls p) a (here p) (sym g))) ∙ sym (law.answer e)) st
       by (Some d) e g = cc
 
+  -- and its refusal
   pub stat-err : (p : Path) (d : Errno) → Err d ≡ stat_at Ls p → Serves (refusal s c (call.Stat p)) s c (call.Stat p) (reply.Refused d) m
   stat-err p d h = by (walk_fault Ls p) refl h
     where
@@ -175,7 +176,7 @@ module _ (m : Mount) (s : State) (st : IsStateOf m s) (c : ℕ) where
   pub opened-before : (new : Clients) (P : List (Option handles.Handle) → List (Option handles.Handle) → Type 0) (ch : ChangesClient m.clients new c P) (d : ℕ) → opened_by m.clients c d ≡ opened ch.before.slots.items d
   opened-before new P ch d = rw ch.was refl
 
-  -- list
+  -- why a list is refused, told by what is open
   refused-list : (d n : ℕ) → refusal s c (call.ListNames d n) ≡ list_fault (opened_by m.clients c d) n
   refused-list d n = by (opened_by m.clients c d) refl
     where
@@ -188,9 +189,11 @@ module _ (m : Mount) (s : State) (st : IsStateOf m s) (c : ℕ) where
           let x = open-at alike m.clients s.tables st.tables c d (Directory o) e in
           (turns U lowers s st.layers c d m.clients.directories o x.0 x.1 x.2).refused n
 
+  -- a list that is refused
   pub list-refused : (d n : ℕ) (e : Errno) → list_fault (opened_by m.clients c d) n ≡ Some e → Serves (refusal s c (call.ListNames d n)) s c (call.ListNames d n) (reply.Refused e) m
   list-refused d n e h = serve-refused _ s c _ e m (refused-list d n ∙ h) st
 
+  -- and one that gives names
   pub list-done : (d n : ℕ) (new : Mount) (names : List Name) → list_fault (opened_by m.clients c d) n ≡ None → Pages m new c d n names → Serves (refusal s c (call.ListNames d n)) s c (call.ListNames d n) (reply.Names names) new
   list-done d n new names good pages =
       serve-done _ s c _ _ new

@@ -57,7 +57,7 @@ or-true : (x : Bool) → (x || true) ≡ true
 or-true true = refl
 or-true false = refl
 
--- neither holds where not one of them does
+-- where it is false that one of two holds, neither does
 first-false : (x y : Bool) → (x || y) ≡ false → x ≡ false
 first-false true y h = h
 first-false false y h = refl
@@ -97,10 +97,11 @@ module _ (U : Layer) (lowers : List Layer) (t : Tree) (clients : Clients) (ks : 
   fresh : list_any (of n) ks ≡ false
   fresh = a.attached n ∙ ap (λ (o : Option Descriptors). is_some o) h.fresh
 
-  -- and has none open as it comes
+  -- it has nothing open as it comes
   opens-none : (d : ℕ) → opened_by new n d ≡ None
   opens-none d = ap (open_in d) h.there ∙ ap (λ z. opened z d) h.none
 
+  -- and no handle
   holds-none : (d : ℕ) → handle_of (ks ++ free_table n ∷ []) n d ≡ None
   holds-none d = ap (λ z. held_in (slice_get z d)) (handles-last ks n fresh) ∙ held-free DESCRIPTORS_MAX d
 
@@ -108,6 +109,7 @@ module _ (U : Layer) (lowers : List Layer) (t : Tree) (clients : Clients) (ks : 
   opens-other : (b d : ℕ) → b ≢ n → opened_by new b d ≡ opened_by clients b d
   opens-other b d m = ap (open_in d) (h.others b m)
 
+  -- by the handles that it had
   holds-other : (b d : ℕ) → b ≢ n → handle_of (ks ++ free_table n ∷ []) b d ≡ handle_of ks b d
   holds-other b d m = ap (λ z. held_in (slice_get z d)) (handles-last-other ks n b m)
 
