@@ -5,6 +5,7 @@ pub mod Ending
 pub mod Serving
 pub mod Stating
 pub mod FileSight
+pub mod Leaves
 pub mod Lasting
 pub mod Directories
 pub mod Answering
