@@ -3,6 +3,7 @@ pub mod Counting
 pub mod Holding
 pub mod Ending
 pub mod Serving
+pub mod Closings
 pub mod Stating
 pub mod FileSight
 pub mod Leaves
