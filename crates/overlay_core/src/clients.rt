@@ -156,7 +156,12 @@ impl Clients {
         ensures { OpensFile self.old self.new client file result }
     {
         hold_file(&mut self.files, file.source)?;
-        match self.attached.get_mut(&client).unwrap().open(Handle::File(file)) {
+        match self
+            .attached
+            .get_mut(&client)
+            .unwrap()
+            .open(Handle::File(file))
+        {
             Ok(Ok(descriptor)) => Ok(Ok(descriptor)),
             Ok(Err(errno)) => {
                 close_file(&mut self.files, file.source);
