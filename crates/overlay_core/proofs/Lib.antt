@@ -7,6 +7,7 @@ pub mod Closings
 pub mod Stating
 pub mod FileSight
 pub mod Leaves
+pub mod Altered
 pub mod Lasting
 pub mod Directories
 pub mod Answering
