@@ -7,6 +7,7 @@ pub mod Stating
 pub mod Lasting
 pub mod Directories
 pub mod Answering
+pub mod Carrying
 pub mod Changing
 pub mod Linking
 pub mod Paging

@@ -17,9 +17,7 @@ use layer_tree::{Inode, Node};
 use make_remove::{mkdir, symlink};
 use merged_lookup::{Found, Layers, Topmost};
 use open_handles::{DESCRIPTORS_MAX, FileSource, Handle, OpenFile};
-use ov_base::{
-    Attributes, Bytes, Call, Content, Errno, LinkTarget, Mode, NameList, Path, Reply,
-};
+use ov_base::{Attributes, Bytes, Call, Content, Errno, LinkTarget, Mode, NameList, Path, Reply};
 use std::alloc::{AllocError, Global};
 use std::hash::RandomState;
 
@@ -238,6 +236,7 @@ impl Mount {
         ensures lowers { self.new.layers.lowers ≡ self.old.layers.lowers }
         ensures thin { StaysThin self.old.layers self.new.layers }
     {
+        self.clients.lawful();
         match unlink_and_free(&mut self.layers, &self.clients, path)? {
             Ok(()) => Ok(Reply::Done),
             Err(errno) => Ok(Reply::Refused(errno)),
