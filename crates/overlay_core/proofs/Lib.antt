@@ -4,6 +4,7 @@ pub mod Holding
 pub mod Ending
 pub mod Serving
 pub mod Stating
+pub mod Leaves
 pub mod Lasting
 pub mod Directories
 pub mod Answering
