@@ -11,6 +11,7 @@ pub mod Altered
 pub mod Lasting
 pub mod Directories
 pub mod Answering
+pub mod Carrying
 pub mod Changing
 pub mod Linking
 pub mod Paging
