@@ -2,6 +2,7 @@ pub mod Shown
 pub mod Counting
 pub mod Holding
 pub mod Ending
+pub mod Openings
 pub mod Serving
 pub mod Stating
 pub mod Lasting
@@ -18,5 +19,4 @@ pub mod Coming
 pub mod Leaving
 pub mod Freed
 pub mod Agreeing
-pub mod Flags
 pub mod Driving
