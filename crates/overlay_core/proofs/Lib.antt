@@ -4,7 +4,11 @@ pub mod Holding
 pub mod Ending
 pub mod Openings
 pub mod Serving
+pub mod Closings
 pub mod Stating
+pub mod FileSight
+pub mod Leaves
+pub mod Altered
 pub mod Lasting
 pub mod Directories
 pub mod Answering
