@@ -2,6 +2,7 @@ pub mod Shown
 pub mod Counting
 pub mod Holding
 pub mod Ending
+pub mod Openings
 pub mod Serving
 pub mod Closings
 pub mod Stating
