@@ -8,6 +8,8 @@ pub mod FileSight
 pub mod Lasting
 pub mod Directories
 pub mod Answering
+pub mod Seeking
+pub mod FileReads
 pub mod Changing
 pub mod Linking
 pub mod Paging
