@@ -13,6 +13,8 @@ pub mod Lasting
 pub mod Directories
 pub mod Answering
 pub mod Carrying
+pub mod Seeking
+pub mod FileReads
 pub mod Changing
 pub mod Linking
 pub mod Paging
