@@ -1,5 +1,5 @@
 -- Reads of open files, and what fstat shows of what is open.
-use Rattle.std.proofs.Common.{◌≡◌, ℕ, ◌+◌, true, not, List, ◌∷◌, Option, None, Some, Result, Ok, Err, refl, sym, ap, ◌∙◌, subst, is_some, length, take, drop, nat_lt}
+use Rattle.std.proofs.Common.{◌≡◌, ℕ, ◌+◌, true, not, List, Option, None, Some, Result, Ok, Err, refl, sym, ap, ◌∙◌, subst, is_some, length, take, drop, nat_lt}
 use Rattle.std.proofs.lemmas.Bool.{false≢true}
 use Rattle.std.specs.Option.{option_and_then}
 use Rattle.ov_base.specs.declared.attributes.Attributes.{Attributes}
@@ -12,7 +12,7 @@ use Rattle.ov_base.specs.declared.reply.Reply.TheVariants as reply
 use Rattle.ov_base.specs.declared.reply.Stat.{Stat}
 use Rattle.plain_model.specs.Layers.{Path, Inode, Layer, Shown, Folder, Contents, shows, base, is_directory}
 use Rattle.plain_model.specs.Tree.{Node, Branch, Leaf}
-use Rattle.plain_model.specs.Machine.{Live, Handle, State, handle_of}
+use Rattle.plain_model.specs.Machine.{Handle, State, handle_of}
 use Rattle.plain_model.specs.Refusals.{TRANSFER_MAX, when, refusal}
 use Rattle.plain_model.specs.Changes.{with_handle}
 use Rattle.plain_model.specs.Replies.{stat_of, stat_seen}
@@ -33,14 +33,14 @@ use Rattle.open_handles.specs.Opened.{Location, At, Removed, path_in, attributes
 use Rattle.overlay_core.specs.declared.clients.Clients.{Clients}
 use Rattle.overlay_core.specs.declared.mount.Mount.{Mount}
 use Rattle.overlay_core.specs.Attaching.{opened_by, directory_by, file_by, located, path_of, ChangesClient}
-use Rattle.overlay_core.specs.Files.{IsFile, source_inode}
+use Rattle.overlay_core.specs.Files.{source_inode}
 use Rattle.overlay_core.specs.Opening.{read_fault}
 use Rattle.overlay_core.specs.Status.{stat_with, stat_of_inode, stat_at, stat_shown, unless_refused}
 use Rattle.overlay_core.specs.States.{Stands, IsHandle, IsStateOf, Serves}
 use Rattle.overlay_core.proofs.Answering.{serve-refused, serve-done, walk-none}
 use Rattle.overlay_core.proofs.Directories.{seen, shown-directory, shown-attributes}
 use Rattle.overlay_core.proofs.FileSight.{Sees, file-sees, file-not-folder}
-use Rattle.overlay_core.proofs.Seeking.{AreBytes, bytes-read, file-open, file-at, directory-at, handle-none, place-moved}
+use Rattle.overlay_core.proofs.Seeking.{AreBytes, bytes-read, file-at, directory-at, handle-none, place-moved}
 
 -- the reply that a status is told by, or its refusal
 abbrev pub status_reply : Result Stat Errno → Reply
@@ -62,17 +62,18 @@ shown-folder (Some (Contents i k inode)) h = absurd (false≢true h)
 shown-folder (Some (Folder i k a)) h = (a, i, k, refl)
 
 -- what stat shows of an open directory: at its path, or by the attributes that it had when it was removed
-abbrev pub status_standing : List Layer → Location → Result Stat Errno
+abbrev status_standing : List Layer → Location → Result Stat Errno
 status_standing Ls (At p) = stat_at Ls p
 status_standing Ls (Removed a) = Ok (stat_with kind.Directory a 0 1)
 
--- a directory with a path, and one without
+-- what stands at a path shows what is there
 status-named : (Ls : List Layer) (p : Path) (r : Result Stat Errno) → r ≡ stat_at Ls p → (l : Location) → Some p ≡ path_in l → r ≡ status_standing Ls l
 status-named Ls p r is (At q) h =
     let same : p ≡ q = cc in
     is ∙ ap (stat_at Ls) same
 status-named Ls p r is (Removed a) h = cc
 
+-- and what was removed, what it had
 status-kept : (Ls : List Layer) (r : Result Stat Errno) (l : Location) → ((a : Attributes) → attributes_in l ≡ Some a → r ≡ Ok (stat_with kind.Directory a 0 1)) → None ≡ path_in l → r ≡ status_standing Ls l
 status-kept Ls r (At q) tells h = cc
 status-kept Ls r (Removed a) tells h = tells a refl
@@ -94,6 +95,7 @@ module _ (m : Mount) (s : State) (st : IsStateOf m s) (c d : ℕ) where
   Ls = layers_of m.layers
 
   module _ (n : ℕ) where
+    -- the read is answered so, by a mount that becomes this
     abbrev Reads : Reply → Mount → Type 0
     Reads r new = Serves (refusal s c (call.Read d n)) s c (call.Read d n) r new
 
@@ -111,6 +113,7 @@ module _ (m : Mount) (s : State) (st : IsStateOf m s) (c d : ℕ) where
             let x = directory-at m s st c d o is in
             (law_of_directory_handle s c d x.0 x.1 x.2.directory).reading n
 
+    -- it is refused so
     pub read-refused : (e : Errno) → read_fault (opened_by m.clients c d) n ≡ Some e → Reads (reply.Refused e) m
     read-refused e h = serve-refused _ s c _ e m (read-refusal ∙ h) st
 
@@ -128,6 +131,7 @@ module _ (m : Mount) (s : State) (st : IsStateOf m s) (c d : ℕ) where
         (ap (λ z. record s { tables = with_handle s.tables c d (Some (record x.0 { place = z })) }) end ∙ sym (law.state n))
         (place-moved m s st c d f is x.0 x.1 x.2 (f.place + length given) new ch))
 
+  -- the fstat is answered so
   abbrev Shows : Reply → Type 0
   Shows r = Serves (refusal s c (call.Fstat d)) s c (call.Fstat d) r m
 
@@ -137,18 +141,14 @@ module _ (m : Mount) (s : State) (st : IsStateOf m s) (c d : ℕ) where
       let law : Fstats s c d h = law_of_fstat s c d h on in
       serve-done _ s c _ r m law.refused (is ∙ sym law.answer) (subst (IsStateOf m) (sym law.state) st)
 
-  -- of what isn't open it shows nothing
-  pub unopened-status : opened_by m.clients c d ≡ None → Shows (reply.Refused errno.EBADF)
-  unopened-status is = serve-refused _ s c _ errno.EBADF m (law_of_unopened s c d (handle-none m s st c d is)).status st
-
-  -- of a file its inode
+  -- of a file, its inode
   pub file-status : (f : OpenFile) → file_by m.clients c d ≡ Some f → (source : FileSource) → f.source ≡ source → (r : Result Stat Errno) → ((i : Inode) → source_inode U lowers source ≡ Some i → r ≡ stat_of_inode (Some i)) → Shows (status_reply r)
   file-status f is source at r tells =
       let x = file-at m s st c d f is in
       let sees : Sees U lowers s.tree f x.0 = file-sees U lowers s.tree f x.0 x.2 in
       status-shown x.0 x.1 (status_reply r) (ap status_reply (tells _ (ap (source_inode U lowers) (sym at) ∙ sees.inode)) ∙ sym sees.status)
 
-  -- of a directory what stands where it does
+  -- of a directory, what stands where it does
   directory-status : (o : OpenDirectory) → opened_by m.clients c d ≡ Some (Directory o) → (r : Result Stat Errno) → ((l : Location) → located m.clients o ≡ Some l → r ≡ status_standing Ls l) → Shows (status_reply r)
   directory-status o is r tells =
       let a = attributes x.2.location x.2.stands in
@@ -175,6 +175,7 @@ module _ (m : Mount) (s : State) (st : IsStateOf m s) (c d : ℕ) where
       attributes (Removed a) gone = (a, refl, gone.attributes)
 
   module _ (there : is_some (directory_by m.clients c d) ≡ true) (r : Result Stat Errno) where
+    -- the directory
     standing : (o : OpenDirectory) × (opened_by m.clients c d ≡ Some (Directory o))
     standing = directory-open (opened_by m.clients c d) there
 

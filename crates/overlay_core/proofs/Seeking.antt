@@ -8,7 +8,7 @@ use Rattle.ov_base.specs.declared.reply.Reply.{Reply}
 use Rattle.ov_base.specs.declared.reply.Reply.TheVariants as reply
 use Rattle.plain_model.specs.Layers.{Layer, Inode}
 use Rattle.plain_model.specs.Tree.{Tree}
-use Rattle.plain_model.specs.Machine.{handles_of, Handle, Table, State, DESCRIPTORS_MAX, bytes_seen, handle_of}
+use Rattle.plain_model.specs.Machine.{handles_of, Handle, State, DESCRIPTORS_MAX, handle_of}
 use Rattle.plain_model.specs.Refusals.{PLACE_MAX, when, refusal}
 use Rattle.plain_model.specs.Changes.{with_handle}
 use Rattle.layer_tree.specs.Tree.{layer_of}
@@ -30,7 +30,7 @@ use Rattle.open_handles.specs.declared.open_file.FileSource.TheVariants.{Upper, 
 use Rattle.open_handles.specs.declared.open_file.OpenFile.{OpenFile}
 use Rattle.open_handles.specs.Descriptors.{opened, SetsSlot}
 use Rattle.open_handles.specs.Listings.{ChangesSlot, file_in, with_listing, with_place}
-use Rattle.open_handles.specs.Places.{base_of, sought_from}
+use Rattle.open_handles.specs.Places.{sought_from}
 use Rattle.overlay_core.specs.declared.clients.Clients.{Clients}
 use Rattle.overlay_core.specs.declared.mount.Mount.{Mount}
 use Rattle.overlay_core.specs.Attaching.{opened_by, file_by, ChangesClient}
@@ -190,11 +190,12 @@ module _ (m : Mount) (s : State) (st : IsStateOf m s) (c d : ℕ) where
           record { client = c; descriptor = d; file = f; handle = h; opened = opens; key = ap (λ (z : OpenFile). z.source) moved ∙ key; on = on; at = refl }
 
   module _ (offset : ℤ) (whence : ℕ) where
-    abbrev Answers : Reply → Mount → Type 0
-    Answers r new = Serves (refusal s c (call.Seek d offset whence)) s c (call.Seek d offset whence) r new
+    -- the seek is answered so, by a mount that becomes this
+    abbrev Sought : Reply → Mount → Type 0
+    Sought r new = Serves (refusal s c (call.Seek d offset whence)) s c (call.Seek d offset whence) r new
 
     -- a seek that is told by what is open alone is refused so
-    pub seek-refused : (e : Errno) → seek_fault (opened_by m.clients c d) offset whence ≡ Some e → Answers (reply.Refused e) m
+    pub seek-refused : (e : Errno) → seek_fault (opened_by m.clients c d) offset whence ≡ Some e → Sought (reply.Refused e) m
     seek-refused e h = serve-refused _ s c _ e m (by (opened_by m.clients c d) refl h) st
       where
         by : (o : Option handles.Handle) → opened_by m.clients c d ≡ o → seek_fault o offset whence ≡ Some e → refusal s c (call.Seek d offset whence) ≡ Some e
@@ -207,25 +208,30 @@ module _ (m : Mount) (s : State) (st : IsStateOf m s) (c d : ℕ) where
 
     -- seeks in an open file of these bytes
     module _ (f : OpenFile) (is : file_by m.clients c d ≡ Some f) (bytes : List ℕ) (are : AreBytes m.layers f.source bytes) where
+      -- the handle of the file
       abbrev h : Handle
       h = (file-at f is).0
 
+      -- from where the seek counts
       abbrev base : ℕ
       base = cond (nat_eq whence 0) 0 (cond (nat_eq whence 1) f.place (length bytes))
 
+      -- the machine's seek of it
       law : SeeksFile s c d h
       law = law_of_file_seek s c d h (file-at f is).1 (file-not-folder U lowers s.tree f h (file-at f is).2)
 
-      -- the machine's seek leads to the same place
+      -- it leads to the same place
       leads : laws.seek_place s h offset whence ≡ pos base +ℤ offset
       leads =
           let read : laws.seen s h ≡ bytes = bytes-read m.layers s f h bytes (file-at f is).2 are in
           λ i. pos (cond (nat_eq whence 0) 0 (cond (nat_eq whence 1) ((file-at f is).2.place i) (length (read i)))) +ℤ offset
 
-      pub file-unsought : (e : Errno) → seek_place f (length bytes) offset whence ≡ Err e → Answers (reply.Refused e) m
+      -- a seek that leads to no place is refused
+      pub file-unsought : (e : Errno) → seek_place f (length bytes) offset whence ≡ Err e → Sought (reply.Refused e) m
       file-unsought e to = serve-refused _ s c _ e m (law.refused offset whence ∙ ap (barred (nat_lt 2 whence)) leads ∙ sent-err (nat_lt 2 whence) base offset e to) st
 
-      pub file-sought : (place : ℕ) → seek_place f (length bytes) offset whence ≡ Ok place → (new : Clients) → ChangesClient m.clients new c (λ x y. ChangesSlot x y d (with_place place)) → Answers (reply.Place place) (record m { clients = new })
+      -- and one that leads to a place leaves the file there
+      pub file-sought : (place : ℕ) → seek_place f (length bytes) offset whence ≡ Ok place → (new : Clients) → ChangesClient m.clients new c (λ x y. ChangesSlot x y d (with_place place)) → Sought (reply.Place place) (record m { clients = new })
       file-sought place to new ch =
           let good = sent-ok (nat_lt 2 whence) base offset place to in
           let same : place ≡ nat_abs (laws.seek_place s h offset whence) = good.1 ∙ ap nat_abs (sym leads) in
@@ -237,7 +243,7 @@ module _ (m : Mount) (s : State) (st : IsStateOf m s) (c d : ℕ) where
           (place-moved f is h (file-at f is).1 (file-at f is).2 place new ch))
 
   -- an open directory goes to its start
-  rewound : (o : OpenDirectory) → opened_by m.clients c d ≡ Some (Directory o) → (new : Clients) → ChangesClient m.clients new c (λ x y. ChangesSlot x y d (with_listing None)) → Answers (pos 0) 0 (reply.Place 0) (record m { clients = new })
+  rewound : (o : OpenDirectory) → opened_by m.clients c d ≡ Some (Directory o) → (new : Clients) → ChangesClient m.clients new c (λ x y. ChangesSlot x y d (with_listing None)) → Sought (pos 0) 0 (reply.Place 0) (record m { clients = new })
   rewound o is new ch =
       let x = directory-at o is in
       let law : Seeks s c d x.0 = law_of_seek s c d x.0 x.1 x.2.directory in
@@ -255,9 +261,9 @@ module _ (m : Mount) (s : State) (st : IsStateOf m s) (c d : ℕ) where
       })))
 
   -- a seek of what is no file that is refused nothing
-  pub seek-done : (offset : ℤ) (whence : ℕ) (new : Clients) → seek_fault (opened_by m.clients c d) offset whence ≡ None → file_by m.clients c d ≡ None → ChangesClient m.clients new c (λ x y. ChangesSlot x y d (with_listing None)) → Answers offset whence (reply.Place 0) (record m { clients = new })
+  pub seek-done : (offset : ℤ) (whence : ℕ) (new : Clients) → seek_fault (opened_by m.clients c d) offset whence ≡ None → file_by m.clients c d ≡ None → ChangesClient m.clients new c (λ x y. ChangesSlot x y d (with_listing None)) → Sought offset whence (reply.Place 0) (record m { clients = new })
   seek-done offset whence new good bare ch =
       let start = unrefused-seek (opened_by m.clients c d) offset whence good bare in
-      subst (λ z. Answers z whence (reply.Place 0) (record m { clients = new })) (sym start.1)
-      (subst (λ z. Answers (pos 0) z (reply.Place 0) (record m { clients = new })) (sym start.2)
+      subst (λ z. Sought z whence (reply.Place 0) (record m { clients = new })) (sym start.1)
+      (subst (λ z. Sought (pos 0) z (reply.Place 0) (record m { clients = new })) (sym start.2)
       (rewound start.0.0 start.0.1 new ch))
