@@ -53,12 +53,12 @@ impl OpenFile {
 
 /// The place that a seek leads to. Over 2^63 - 1 is EOVERFLOW, below 0 EINVAL (lseek(2)).
 pub fn sought(base: u64, offset: i64) -> Result<u64, Errno>
-    requires { base < 2 ^ 63 }
     ensures place { result ≡ sought_from base offset }
     ensures bound { IfOk result (λ place. place < 2 ^ 63) }
 {
     match base.checked_add_signed(offset) {
-        None => Err(Errno::EINVAL),
+        None if offset < 0 => Err(Errno::EINVAL),
+        None => Err(Errno::EOVERFLOW),
         Some(place) if place > PLACE_MAX => Err(Errno::EOVERFLOW),
         Some(place) => Ok(place),
     }

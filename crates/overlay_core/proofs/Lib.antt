@@ -2,9 +2,19 @@ pub mod Shown
 pub mod Counting
 pub mod Holding
 pub mod Ending
+pub mod Openings
 pub mod Serving
+pub mod Closings
+pub mod Stating
+pub mod FileSight
+pub mod Leaves
+pub mod Altered
+pub mod Lasting
 pub mod Directories
 pub mod Answering
+pub mod Carrying
+pub mod Seeking
+pub mod FileReads
 pub mod Changing
 pub mod Linking
 pub mod Paging
@@ -16,5 +26,4 @@ pub mod Coming
 pub mod Leaving
 pub mod Freed
 pub mod Agreeing
-pub mod Flags
 pub mod Driving

@@ -7,7 +7,7 @@ use Rattle.std.specs.Option.{option_and_then}
 use Rattle.std.specs.BTreeMap.{get}
 use Rattle.std.specs.Ordering.{nat_cmp}
 use Rattle.ov_base.specs.declared.node_id.NodeId.{NodeId}
-use Rattle.plain_model.specs.Layers.{Path}
+use Rattle.plain_model.specs.Layers.{Path, Layer}
 use Rattle.plain_model.specs.Tree.{Tree, node_at, is_folder}
 use Rattle.plain_model.specs.Machine.{Handle, Table, DESCRIPTORS_MAX, handles_of, held_in, handle_of, lowest_free}
 use Rattle.plain_model.specs.Changes.{names_in, with_handle}
@@ -23,7 +23,9 @@ use Rattle.open_handles.specs.declared.handle.OpenDirectory.{OpenDirectory}
 use Rattle.open_handles.specs.declared.open_file.OpenFile.{OpenFile}
 use Rattle.overlay_core.specs.Attaching.{KeepsAttached, KeepsPlaces, is_attached, opened_by, ChangesClient}
 use Rattle.open_handles.specs.Descriptors.{opened, IsFull, IsLowestFree, SetsSlot}
-use Rattle.overlay_core.specs.States.{Stands, IsHandle, IsSlot, AreTables}
+use Rattle.open_handles.specs.declared.open_file.FileSource.TheVariants.{Upper}
+use Rattle.overlay_core.specs.Files.{IsOpenOn, AreOne}
+use Rattle.overlay_core.specs.States.{Stands, IsHandle, IsOpenAs, IsSlot, AreTables}
 
 -- one element of a list after it is set, and the others
 get-set : {A : Type 0} (xs : List A) (i : ℕ) (v : A) → i < length xs → slice_get (slice_set xs i v) i ≡ Some v
@@ -72,17 +74,21 @@ pub attached-same : (ks : List Table) (c fd b : ℕ) (h : Option Handle) → lis
 attached-same [] c fd b h = refl
 attached-same (k ∷ ks) c fd b h = λ i. (nat_eq (same-client c fd h k i) b) || (attached-same ks c fd b h i)
 
--- slots that are alike
-pub slot-as : (t : Tree) (ds : Dentries) (a b : Option handles.Handle) (x y : Option Handle) → a ≡ b → x ≡ y → IsSlot t ds a x → IsSlot t ds b y
-slot-as t ds a b x y e f s = subst (λ z. IsSlot t ds z y) e (subst (λ z. IsSlot t ds a z) f s)
+-- slots that are the same
+pub slot-as : (P : handles.Handle → Handle → Type 0) (a b : Option handles.Handle) (x y : Option Handle) → a ≡ b → x ≡ y → IsSlot P a x → IsSlot P b y
+slot-as P a b x y e f s = subst (λ z. IsSlot P z y) e (subst (λ z. IsSlot P a z) f s)
 
--- slots of directories that stand where they stood
-pub slot-placed : (t : Tree) (ds es : Dentries) (a : Option handles.Handle) (x : Option Handle) → ((o : OpenDirectory) (l : Location) → a ≡ Some (Directory o) → places.opened ds o.directory ≡ Some l → places.opened es o.directory ≡ Some l) → IsSlot t ds a x → IsSlot t es a x
-slot-placed t ds es None None f s = tt
-slot-placed t ds es None (Some h) f s = absurd s
-slot-placed t ds es (Some o) None f s = absurd s
-slot-placed t ds es (Some (File x)) (Some h) f s = absurd s
-slot-placed t ds es (Some (Directory o)) (Some h) f s = record {
+-- a slot told otherwise
+pub slot-moved : (P Q : handles.Handle → Handle → Type 0) (a : Option handles.Handle) (x : Option Handle) → ((o : handles.Handle) (h : Handle) → a ≡ Some o → x ≡ Some h → P o h → Q o h) → IsSlot P a x → IsSlot Q a x
+slot-moved P Q None None f s = tt
+slot-moved P Q None (Some h) f s = absurd s
+slot-moved P Q (Some o) None f s = absurd s
+slot-moved P Q (Some o) (Some h) f s = f o h refl refl s
+
+-- what is open stays so where its directory stands where it stood
+pub placed : (U : Layer) (lowers : List Layer) (t : Tree) (ds es : Dentries) (o : handles.Handle) (h : Handle) → ((d : OpenDirectory) (l : Location) → o ≡ Directory d → places.opened ds d.directory ≡ Some l → places.opened es d.directory ≡ Some l) → IsOpenAs U lowers t ds o h → IsOpenAs U lowers t es o h
+placed U lowers t ds es (File x) h f s = s
+placed U lowers t ds es (Directory o) h f s = record {
   location = s.location;
   located = f o s.location refl s.located;
   stands = s.stands;
@@ -92,46 +98,48 @@ slot-placed t ds es (Some (Directory o)) (Some h) f s = record {
 }
 
 -- a descriptor that stays open, on a directory that stands where it stood
-pub carried : (t : Tree) (clients new : Clients) → KeepsPlaces clients new → (b d : ℕ) (x : Option Handle) → opened_by new b d ≡ opened_by clients b d → IsSlot t clients.directories (opened_by clients b d) x → IsSlot t new.directories (opened_by new b d) x
-carried t clients new kept b d x same s =
-    slot-as t new.directories _ _ _ _ (sym same) refl
-    (slot-placed t clients.directories new.directories (opened_by clients b d) x (λ o l e f. kept b d o l (same ∙ e) f) s)
+pub carried : (U : Layer) (lowers : List Layer) (t : Tree) (clients new : Clients) → KeepsPlaces clients new → (b d : ℕ) (x : Option Handle) → opened_by new b d ≡ opened_by clients b d → IsSlot (IsOpenAs U lowers t clients.directories) (opened_by clients b d) x → IsSlot (IsOpenAs U lowers t new.directories) (opened_by new b d) x
+carried U lowers t clients new kept b d x same s =
+    slot-as (IsOpenAs U lowers t new.directories) _ _ _ _ (sym same) refl
+    (slot-moved (IsOpenAs U lowers t clients.directories) (IsOpenAs U lowers t new.directories) (opened_by clients b d) x
+    (λ o h on is. placed U lowers t clients.directories new.directories o h (λ e l f. kept b d e l (same ∙ on ∙ ap Some f)))
+    s)
 
 -- where the open directories are the same, they stand where they stood
 pub places-same : (clients new : Clients) → new.directories ≡ clients.directories → KeepsPlaces clients new
 places-same clients new same c d o l is at = ap (λ z. places.opened z o.directory) same ∙ at
 
-pub slot-some : (t : Tree) (ds : Dentries) (a : Option handles.Handle) (x : Option Handle) → IsSlot t ds a x → is_some a ≡ is_some x
-slot-some t ds None None s = refl
-slot-some t ds None (Some h) s = absurd s
-slot-some t ds (Some o) None s = absurd s
-slot-some t ds (Some o) (Some h) s = refl
+pub slot-some : (P : handles.Handle → Handle → Type 0) (a : Option handles.Handle) (x : Option Handle) → IsSlot P a x → is_some a ≡ is_some x
+slot-some P None None s = refl
+slot-some P None (Some h) s = absurd s
+slot-some P (Some o) None s = absurd s
+slot-some P (Some o) (Some h) s = refl
 
 held-some : (o : Option Handle) → held_in (Some o) ≡ o
 held-some None = refl
 held-some (Some h) = refl
 
 -- an open descriptor has a handle
-pub slot-open : (t : Tree) (ds : Dentries) (a : Option handles.Handle) (x : Option Handle) (o : OpenDirectory) → IsSlot t ds a x → a ≡ Some (Directory o) → (h : Handle) × (x ≡ Some h) × IsHandle t ds o h
-slot-open t ds None x o s e = cc
-slot-open t ds (Some a) None o s e = absurd s
-slot-open t ds (Some (File x)) (Some h) o s e = absurd s
-slot-open t ds (Some (Directory a)) (Some h) o s e =
+pub slot-open : (P : handles.Handle → Handle → Type 0) (a : Option handles.Handle) (x : Option Handle) (o : handles.Handle) → IsSlot P a x → a ≡ Some o → (h : Handle) × (x ≡ Some h) × P o h
+slot-open P None x o s e = cc
+slot-open P (Some a) None o s e = absurd s
+slot-open P (Some a) (Some h) o s e =
     let same : a ≡ o = cc in
-    (h, refl, subst (λ z. IsHandle t ds z h) same s)
+    (h, refl, subst (λ z. P z h) same s)
 
--- no call opens a file yet
-pub slot-file : (t : Tree) (ds : Dentries) (a : Option handles.Handle) (x : Option Handle) (f : OpenFile) → IsSlot t ds a x → a ≡ Some (File f) → ⊥
-slot-file t ds None x f s e = cc
-slot-file t ds (Some a) None f s e = s
-slot-file t ds (Some (File b)) (Some h) f s e = s
-slot-file t ds (Some (Directory o)) (Some h) f s e = cc
+-- and the handle of a descriptor is of what is open there
+pub slot-handle : (P : handles.Handle → Handle → Type 0) (a : Option handles.Handle) (x : Option Handle) (h : Handle) → IsSlot P a x → x ≡ Some h → (o : handles.Handle) × (a ≡ Some o) × P o h
+slot-handle P a None h s e = cc
+slot-handle P None (Some x) h s e = absurd s
+slot-handle P (Some o) (Some x) h s e =
+    let same : x ≡ h = cc in
+    (o, refl, subst (λ z. P o z) same s)
 
 -- a closed one has none
-pub slot-closed : (t : Tree) (ds : Dentries) (a : Option handles.Handle) (x : Option Handle) → IsSlot t ds a x → a ≡ None → x ≡ None
-slot-closed t ds None None s e = refl
-slot-closed t ds None (Some h) s e = absurd s
-slot-closed t ds (Some a) x s e = cc
+pub slot-closed : (P : handles.Handle → Handle → Type 0) (a : Option handles.Handle) (x : Option Handle) → IsSlot P a x → a ≡ None → x ≡ None
+slot-closed P None None s e = refl
+slot-closed P None (Some h) s e = absurd s
+slot-closed P (Some a) x s e = cc
 
 -- a directory stands in another tree where it did, if its paths and its node are the same
 stands-same : (t u : Tree) → ((q : Path) → node_at u q ≡ node_at t q) → (l : Location) (d : NodeId) → u d ≡ t d → Stands t l d → Stands u l d
@@ -148,14 +156,6 @@ handle-same t u ds paths o h same x = record {
   access = x.access;
   left = x.left;
 }
-
--- a slot in another tree, where its handle is one there
-pub slot-moved : (t u : Tree) (ds : Dentries) (a : Option handles.Handle) (x : Option Handle) → ((o : OpenDirectory) (h : Handle) → a ≡ Some (Directory o) → x ≡ Some h → IsHandle t ds o h → IsHandle u ds o h) → IsSlot t ds a x → IsSlot u ds a x
-slot-moved t u ds None None f s = tt
-slot-moved t u ds None (Some h) f s = absurd s
-slot-moved t u ds (Some o) None f s = absurd s
-slot-moved t u ds (Some (File x)) (Some h) f s = absurd s
-slot-moved t u ds (Some (Directory o)) (Some h) f s = f o h refl refl s
 
 -- the lowest free descriptor
 lowest-at : (hs : List (Option Handle)) (d : ℕ) → d < length hs → held_in (slice_get hs d) ≡ None → ((k : ℕ) → k < d → is_some (held_in (slice_get hs k)) ≡ true) → position_or_len is_none hs ≡ d
@@ -224,10 +224,14 @@ same-clients clients new c h = record { attached = same; opened = opens; places 
         by (inl e) = rw e (opened-is new c d h.after h.is ∙ ap (λ s. opened s d) h.changes ∙ sym (opened-is clients c d h.before h.was))
         by (inr n) = ap (option_and_then (λ (x : Descriptors). opened x.slots.items d)) (h.others b n)
 
-module _ (t : Tree) (clients : Clients) (ks : List Table) (a : AreTables t clients ks) where
-  -- the tables of another tree, where each handle is one there
-  pub tables-moved : (u : Tree) → ((c d : ℕ) (o : OpenDirectory) (h : Handle) → opened_by clients c d ≡ Some (Directory o) → handle_of ks c d ≡ Some h → IsHandle t clients.directories o h → IsHandle u clients.directories o h) → AreTables u clients ks
-  tables-moved u f = record { attached = a.attached; room = a.room; slots = λ c d. slot-moved t u clients.directories _ _ (f c d) (a.slots c d) }
+module _ (P : handles.Handle → Handle → Type 0) (clients : Clients) (ks : List Table) (a : AreTables P clients ks) where
+  -- the tables told otherwise, where each handle is alike otherwise
+  pub tables-moved : (Q : handles.Handle → Handle → Type 0) → ((c d : ℕ) (o : handles.Handle) (h : Handle) → opened_by clients c d ≡ Some o → handle_of ks c d ≡ Some h → P o h → Q o h) → AreTables Q clients ks
+  tables-moved Q f = record { attached = a.attached; room = a.room; slots = λ c d. slot-moved P Q _ _ (f c d) (a.slots c d) }
+
+  -- what is open under a descriptor, and its handle
+  pub open-at : (c d : ℕ) (o : handles.Handle) → opened_by clients c d ≡ Some o → (h : Handle) × (handle_of ks c d ≡ Some h) × P o h
+  open-at c d o e = slot-open P _ _ o (a.slots c d) e
 
   -- how many descriptors an attached client has
   pub room-of : (c : ℕ) → is_some (get nat_cmp clients.attached c) ≡ true → length (handles_of ks c) ≡ DESCRIPTORS_MAX
@@ -248,8 +252,8 @@ module _ (t : Tree) (clients : Clients) (ks : List Table) (a : AreTables t clien
       let inside : d < length (handles_of ks c) = rw long l.in_range in
       position-lowest (handles_of ks c) d inside
       (lowest-at (handles_of ks c) d inside
-      (slot-closed t clients.directories _ _ (a.slots c d) (opened-is clients c d ds e ∙ l.free))
-      (λ k h. sym (slot-some t clients.directories _ _ (a.slots c k)) ∙ ap is_some (opened-is clients c k ds e) ∙ l.lowest k h))
+      (slot-closed P _ _ (a.slots c d) (opened-is clients c d ds e ∙ l.free))
+      (λ k h. sym (slot-some P _ _ (a.slots c k)) ∙ ap is_some (opened-is clients c k ds e) ∙ l.lowest k h))
 
   -- it gives none where all are open
   pub free-none : (c : ℕ) (ds : Descriptors) → get nat_cmp clients.attached c ≡ Some ds → IsFull ds.slots.items → lowest_free ks c ≡ None
@@ -257,20 +261,20 @@ module _ (t : Tree) (clients : Clients) (ks : List Table) (a : AreTables t clien
       let long : length (handles_of ks c) ≡ DESCRIPTORS_MAX = room-of c (ap is_some e) in
       position-none (handles_of ks c)
       (none-free (handles_of ks c)
-      (λ k h. sym (slot-some t clients.directories _ _ (a.slots c k)) ∙ ap is_some (opened-is clients c k ds e) ∙ full k (rw long at h)))
+      (λ k h. sym (slot-some P _ _ (a.slots c k)) ∙ ap is_some (opened-is clients c k ds e) ∙ full k (rw long at h)))
 
-  module _ (new : Clients) where
+  module _ (new : Clients) (Q : handles.Handle → Handle → Type 0) where
     -- the clients and their descriptors stay as they are
-    pub tables-same : SameClients clients new → AreTables t new ks
-    tables-same h = record {
+    pub tables-same : SameClients clients new → ((c d : ℕ) (o : handles.Handle) (h : Handle) → opened_by new c d ≡ Some o → handle_of ks c d ≡ Some h → P o h → Q o h) → AreTables Q new ks
+    tables-same h f = record {
       attached = λ b. a.attached b ∙ sym (h.attached b);
       room = λ b. a.room b ∙ sym (ap (λ z. cond z DESCRIPTORS_MAX 0) (h.attached b));
-      slots = λ b d. carried t clients new h.places b d (handle_of ks b d) (h.opened b d) (a.slots b d);
+      slots = λ b d. slot-as Q _ _ _ _ (sym (h.opened b d)) refl (slot-moved P Q _ _ (λ o x on is. f b d o x (h.opened b d ∙ on) is) (a.slots b d));
     }
 
     -- one descriptor is set on both sides
-    pub tables-set : (c fd : ℕ) (o : Option handles.Handle) (x : Option Handle) → ChangesClient clients new c (λ b y. SetsSlot b y fd o) → fd < DESCRIPTORS_MAX → IsSlot t new.directories o x → AreTables t new (with_handle ks c fd x)
-    tables-set c fd o x h inside slot = record {
+    pub tables-set : (c fd : ℕ) (o : Option handles.Handle) (x : Option Handle) → ChangesClient clients new c (λ b y. SetsSlot b y fd o) → fd < DESCRIPTORS_MAX → ((b d : ℕ) (o : handles.Handle) (h : Handle) → opened_by new b d ≡ Some o → opened_by clients b d ≡ Some o → handle_of ks b d ≡ Some h → P o h → Q o h) → IsSlot Q o x → AreTables Q new (with_handle ks c fd x)
+    tables-set c fd o x h inside f slot = record {
       attached = λ b. attached-same ks c fd b x ∙ a.attached b ∙ sym (same b);
       room = λ b. long b ∙ a.room b ∙ sym (ap (λ z. cond z DESCRIPTORS_MAX 0) (same b));
       slots = slots;
@@ -293,24 +297,69 @@ module _ (t : Tree) (clients : Clients) (ks : List Table) (a : AreTables t clien
         within : fd < length (handles_of ks c)
         within = rw (room-of c (ap is_some h.was)) inside
 
-        here : (d : ℕ) → (d ≡ fd) ⊎ (d ≡ fd → ⊥) → IsSlot t new.directories (opened_by new c d) (handle_of (with_handle ks c fd x) c d)
+        -- another descriptor is alike as it was
+        other : (b d : ℕ) → opened_by new b d ≡ opened_by clients b d → handle_of (with_handle ks c fd x) b d ≡ handle_of ks b d → IsSlot Q (opened_by new b d) (handle_of (with_handle ks c fd x) b d)
+        other b d same still =
+            slot-as Q _ _ _ _ (sym same) (sym still)
+            (slot-moved P Q _ _ (λ o h on is. f b d o h (same ∙ on) on is) (a.slots b d))
+
+        here : (d : ℕ) → (d ≡ fd) ⊎ (d ≡ fd → ⊥) → IsSlot Q (opened_by new c d) (handle_of (with_handle ks c fd x) c d)
         here d (inl e) =
-            subst (λ z. IsSlot t new.directories (opened_by new c z) (handle_of (with_handle ks c fd x) c z)) (sym e)
-            (slot-as t new.directories _ _ _ _
+            subst (λ z. IsSlot Q (opened_by new c z) (handle_of (with_handle ks c fd x) c z)) (sym e)
+            (slot-as Q _ _ _ _
             (sym (opened-is new c fd h.after h.is ∙ h.changes.here))
             (sym (ap (λ z. held_in (slice_get z fd)) (handles-set ks c fd x) ∙ ap held_in (get-set (handles_of ks c) fd x within) ∙ held-some x))
             slot)
         here d (inr n) =
-            slot-as t new.directories _ _ _ _ refl
-            (sym (ap (λ z. held_in (slice_get z d)) (handles-set ks c fd x) ∙ ap held_in (get-others (handles_of ks c) fd d x n)))
-            (carried t clients new h.places c d (handle_of ks c d) (opened-is new c d h.after h.is ∙ h.changes.others d n ∙ sym (opened-is clients c d h.before h.was)) (a.slots c d))
+            other c d
+            (opened-is new c d h.after h.is ∙ h.changes.others d n ∙ sym (opened-is clients c d h.before h.was))
+            (ap (λ z. held_in (slice_get z d)) (handles-set ks c fd x) ∙ ap held_in (get-others (handles_of ks c) fd d x n))
 
-        slots : (b d : ℕ) → IsSlot t new.directories (opened_by new b d) (handle_of (with_handle ks c fd x) b d)
+        slots : (b d : ℕ) → IsSlot Q (opened_by new b d) (handle_of (with_handle ks c fd x) b d)
         slots b d = by (cases_eq b c)
           where
-            by : (b ≡ c) ⊎ (b ≡ c → ⊥) → IsSlot t new.directories (opened_by new b d) (handle_of (with_handle ks c fd x) b d)
-            by (inl e) = subst (λ z. IsSlot t new.directories (opened_by new z d) (handle_of (with_handle ks c fd x) z d)) (sym e) (here d (cases_eq d fd))
+            by : (b ≡ c) ⊎ (b ≡ c → ⊥) → IsSlot Q (opened_by new b d) (handle_of (with_handle ks c fd x) b d)
+            by (inl e) = subst (λ z. IsSlot Q (opened_by new z d) (handle_of (with_handle ks c fd x) z d)) (sym e) (here d (cases_eq d fd))
             by (inr n) =
-                slot-as t new.directories _ _ _ _ refl
-                (sym (ap (λ z. held_in (slice_get z d)) (handles-others ks c fd b x n)))
-                (carried t clients new h.places b d (handle_of ks b d) (ap (option_and_then (λ (z : Descriptors). opened z.slots.items d)) (h.others b n)) (a.slots b d))
+                other b d
+                (ap (option_and_then (λ (z : Descriptors). opened z.slots.items d)) (h.others b n))
+                (ap (λ z. held_in (slice_get z d)) (handles-others ks c fd b x n))
+
+-- what is open on a file of the upper was open so before
+abbrev pub OpensFewer : Clients → List Table → Clients → List Table → Type 0
+OpensFewer old ks new ls = (k : ℕ) (d : NodeId) → IsOpenOn new ls k d → IsOpenOn old ks k d
+
+-- so files and nodes are one still
+pub one-fewer : (old new : Clients) (ks ls : List Table) → OpensFewer old ks new ls → AreOne old ks → AreOne new ls
+one-fewer old new ks ls fewer one k j d e x y = one k j d e (fewer k d x) (fewer j e y)
+
+-- where one descriptor is set to another handle on the same node, of the same file, or is freed
+pub set-fewer : (old new : Clients) (ks : List Table) (c fd : ℕ) (o : Option handles.Handle) (x : Option Handle) → ChangesClient old new c (λ b y. SetsSlot b y fd o) → fd < length (handles_of ks c) → ((f : OpenFile) (h : Handle) (k : ℕ) → o ≡ Some (File f) → x ≡ Some h → f.source ≡ Upper k → IsOpenOn old ks k h.node) → OpensFewer old ks new (with_handle ks c fd x)
+set-fewer old new ks c fd o x h within again k d on = by (cases_eq on.client c) (cases_eq on.descriptor fd)
+  where
+    -- another descriptor led there before
+    before : opened_by new on.client on.descriptor ≡ opened_by old on.client on.descriptor → handle_of (with_handle ks c fd x) on.client on.descriptor ≡ handle_of ks on.client on.descriptor → IsOpenOn old ks k d
+    before same still = record {
+      client = on.client;
+      descriptor = on.descriptor;
+      file = on.file;
+      handle = on.handle;
+      opened = sym same ∙ on.opened;
+      key = on.key;
+      on = sym still ∙ on.on;
+      at = on.at;
+    }
+
+    by : (on.client ≡ c) ⊎ (on.client ≡ c → ⊥) → (on.descriptor ≡ fd) ⊎ (on.descriptor ≡ fd → ⊥) → IsOpenOn old ks k d
+    by (inl b) (inl i) =
+        let opens : o ≡ Some (File on.file) = sym (opened-is new c fd h.after h.is ∙ h.changes.here) ∙ sym (λ n. opened_by new (b n) (i n)) ∙ on.opened in
+        let holds : x ≡ Some on.handle = sym (ap (λ z. held_in (slice_get z fd)) (handles-set ks c fd x) ∙ ap held_in (get-set (handles_of ks c) fd x within) ∙ held-some x) ∙ sym (λ n. handle_of (with_handle ks c fd x) (b n) (i n)) ∙ on.on in
+        subst (λ z. IsOpenOn old ks k z) on.at (again on.file on.handle k opens holds on.key)
+    by (inl b) (inr n) =
+        before
+        (ap (λ z. opened_by new z on.descriptor) b ∙ opened-is new c on.descriptor h.after h.is ∙ h.changes.others on.descriptor n ∙ sym (opened-is old c on.descriptor h.before h.was) ∙ sym (ap (λ z. opened_by old z on.descriptor) b))
+        (ap (λ z. handle_of (with_handle ks c fd x) z on.descriptor) b ∙ ap (λ z. held_in (slice_get z on.descriptor)) (handles-set ks c fd x) ∙ ap held_in (get-others (handles_of ks c) fd on.descriptor x n) ∙ sym (ap (λ z. handle_of ks z on.descriptor) b))
+    by (inr m) i =
+        before
+        (ap (option_and_then (λ (z : Descriptors). opened z.slots.items on.descriptor)) (h.others on.client m))
+        (ap (λ z. held_in (slice_get z on.descriptor)) (handles-others ks c fd on.client x m))

@@ -12,8 +12,10 @@ use Rattle.merged_lookup.specs.Merged.{layers_of, lowers_of, parent, walk_fault,
 use Rattle.mount_laws.specs.Looks.{shows_link, IsMountOf}
 use Rattle.mount_laws.specs.Attributes.{shown_attributes, chown_fault}
 use Rattle.mount_laws.specs.Altered.{AltersBy, AltersState}
+use Rattle.mount_laws.specs.StayOpen.{LivesThroughChange}
 use Rattle.copy_up.specs.Showing.{ShowsSame, StaysLayers, StaysMount, StaysThin}
 use Rattle.overlay_core.specs.declared.attributes.Change.{Change}
+use Rattle.overlay_core.specs.Living.{KeepsLive, StaysLive}
 
 -- what is shown is no symbolic link, and has these attributes
 pub record IsOpenTo (s : Option Shown) (a : Attributes) : Type 0 where
@@ -30,7 +32,8 @@ abbrev pub AltersStates : Layers → Layers → Path → Call → Type 0
 AltersStates old new p k = (s : State) → IsMountOf (layer_of old.upper) (lowers_of old) s → (c : ℕ) → AltersState (layer_of new.upper) (lowers_of new) s c p k
 
 -- A call that changes attributes at a path is refused with the fault, where there is one, and changes nothing then; else each state is
--- altered as the call alters it. Want of memory leaves all that is shown, and no call changes a lower layer.
+-- altered as the call alters it. Files that are open stay
+-- live. Want of memory leaves all that is shown, and no call changes a lower layer.
 pub record AltersUnless (fault : Option Errno) (old new : Layers) (p : Path) (k : Call) (result : Result (Result (Unit {0}) Errno) AllocError) : Type 0 where
   pub refused : IfOk result (λ r. IfErr r (λ e. fault ≡ Some e))
   pub unchanged : IfOk result (λ r. OnErr r (new ≡ old))
@@ -41,6 +44,8 @@ pub record AltersUnless (fault : Option Errno) (old new : Layers) (p : Path) (k 
   pub thin : StaysThin old new
   pub no_memory : OnErr result (ShowsSame old new)
   pub mounts : OnErr result (StaysMount old new)
+  pub live : IfOk result (λ r. OnOk r (KeepsLive old new k))
+  pub stays : OnErr result (StaysLive old new)
 
 -- the change is of what the path shows, which gets f of the attributes that it shows
 pub record IsChange (f : Attributes → Attributes) (l : Layers) (p : Path) (x : Change) : Type 0 where
@@ -61,4 +66,4 @@ IsPlan l p r = (fault : List Layer → Option Errno) × (f : Attributes → Attr
 -- every call that the change was planned for is made
 abbrev pub CarriesOut : Layers → Layers → Path → Result Change Errno → Result (Result (Unit {0}) Errno) AllocError → Type 0
 CarriesOut old new p r result =
-    (fault : List Layer → Option Errno) (f : Attributes → Attributes) (k : Call) → AltersBy f p fault k → Plans fault f old p r → AltersUnless (fault (layers_of old)) old new p k result
+    (fault : List Layer → Option Errno) (f : Attributes → Attributes) (k : Call) → AltersBy f p fault k → LivesThroughChange f p k → Plans fault f old p r → AltersUnless (fault (layers_of old)) old new p k result

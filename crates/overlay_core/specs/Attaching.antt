@@ -1,5 +1,5 @@
 -- How clients come and go.
-use Rattle.std.specs.Prelude.{◌≡◌, ◌≢◌, ◌≤◌, ℕ, ◌+◌, Bool, List, [], Option, Some, None, is_some}
+use Rattle.std.specs.Prelude.{◌≡◌, ◌≢◌, ◌≤◌, ℕ, ◌+◌, Bool, List, [], Option, Some, None, is_some, true}
 use Rattle.std.specs.Option.{option_and_then}
 use Rattle.std.specs.BTreeMap.{get, btree_map_len}
 use Rattle.std.specs.Ordering.{nat_cmp}
@@ -9,8 +9,9 @@ use Rattle.open_handles.specs.declared.descriptors.Descriptors.{Descriptors}
 use Rattle.open_handles.specs.declared.handle.Handle as handles
 use Rattle.open_handles.specs.declared.handle.Handle.TheVariants.{Directory}
 use Rattle.open_handles.specs.declared.handle.OpenDirectory.{OpenDirectory}
+use Rattle.open_handles.specs.declared.open_file.OpenFile.{OpenFile}
 use Rattle.open_handles.specs.Descriptors as slots
-use Rattle.open_handles.specs.Listings.{directory_in}
+use Rattle.open_handles.specs.Listings.{directory_in, file_in}
 use Rattle.open_handles.specs.Opened.{Location, opened, path_in}
 
 -- what a client has open under a descriptor
@@ -20,6 +21,10 @@ opened_by clients n d = option_and_then (λ (e : Descriptors). slots.opened e.sl
 -- the directory to which a descriptor of a client leads, if it leads to one
 abbrev pub directory_by : Clients → ℕ → ℕ → Option OpenDirectory
 directory_by clients n d = directory_in (opened_by clients n d)
+
+-- the file to which a descriptor of a client leads, if it leads to one
+abbrev pub file_by : Clients → ℕ → ℕ → Option OpenFile
+file_by clients n d = file_in (opened_by clients n d)
 
 -- where the directory of a handle stands
 abbrev pub located : Clients → OpenDirectory → Option Location
@@ -48,7 +53,12 @@ pub record Attaches (old new : Clients) (n : ℕ) : Type 0 where
 pub record Detaches (old new : Clients) (n : ℕ) : Type 0 where
   pub gone : get nat_cmp new.attached n ≡ None
   pub others : (m : ℕ) → m ≢ n → get nat_cmp new.attached m ≡ get nat_cmp old.attached m
-  pub places : KeepsPlaces old new
+  pub next : new.next ≡ old.next
+
+-- the same clients are attached, and every client but this one stays as it is
+pub record KeepsOthers (old new : Clients) (n : ℕ) : Type 0 where
+  pub attached : is_some (get nat_cmp old.attached n) ≡ true → is_some (get nat_cmp new.attached n) ≡ true
+  pub others : (m : ℕ) → m ≢ n → get nat_cmp new.attached m ≡ get nat_cmp old.attached m
   pub next : new.next ≡ old.next
 
 -- 64 clients are attached

@@ -1,5 +1,6 @@
 pub mod Status
 pub mod Attaching
+pub mod Files
 pub mod Held
 pub mod Offers
 pub mod Rules
@@ -9,6 +10,8 @@ pub mod States
 pub mod Removing
 pub mod Altering
 pub mod Agreement
+pub mod Leaving
+pub mod Living
 pub mod Mounting
 pub mod Jobs
 pub mod Drives

@@ -4,9 +4,9 @@ use Rattle.ov_base.specs.declared.call.Call.{Call}
 use Rattle.ov_base.specs.declared.call.Call.TheVariants as call
 use Rattle.ov_base.specs.declared.call.OpenFlags.{OpenFlags}
 
--- whether the flags are those of a directory that is opened for reading
-abbrev pub reads_directory : OpenFlags → Bool
-reads_directory f = f.reads && f.directory && not (f.writes || f.create || f.exclusive || f.truncate || f.append || f.unknown)
+-- whether the flags ask neither to write nor to make a file
+abbrev pub leaves_files : OpenFlags → Bool
+leaves_files f = not (f.writes || f.create)
 
 abbrev pub is_offered : Call → Bool
 is_offered (call.Stat p) = true
@@ -19,10 +19,12 @@ is_offered (call.DeleteAttribute p n) = true
 is_offered (call.ListAttributes p) = true
 is_offered (call.Mkdir p mode) = true
 is_offered (call.Symlink target p) = true
-is_offered (call.Open p f mode) = reads_directory f
+is_offered (call.Open p f mode) = leaves_files f
 is_offered (call.Unlink p) = true
 is_offered (call.Rmdir p) = true
+is_offered (call.Read d n) = true
 is_offered (call.Seek d offset whence) = true
+is_offered (call.Fstat d) = true
 is_offered (call.ListNames d n) = true
 is_offered (call.Close d) = true
 is_offered _ = false

@@ -1,40 +1,66 @@
--- Why an open of a directory is refused, before its client's descriptors are asked for, what it opens, and why a seek in one is refused.
-use Rattle.std.specs.Prelude.{OnOk, IfOk, ◌≡◌, ℕ, ℤ, nat_abs, nat_eq, nat_lt, not, ◌&&◌, ◌||◌, List, Option, None, Some, Result}
+-- What an open opens, and why calls by a descriptor are refused.
+use Rattle.std.specs.Prelude.{OnOk, IfOk, ◌≡◌, ℕ, ℤ, nat_abs, nat_eq, nat_lt, not, ◌&&◌, ◌||◌, Option, None, Some, Result, Ok, Err, MatchResult}
 use Rattle.std.specs.declared.alloc.AllocError.{AllocError}
 use Rattle.ov_base.specs.declared.call.OpenFlags.{OpenFlags}
 use Rattle.ov_base.specs.declared.errno.Errno.{Errno}
-use Rattle.ov_base.specs.declared.errno.Errno.TheVariants.{EBADF, EINVAL, ENOTDIR, EOPNOTSUPP}
+use Rattle.ov_base.specs.declared.errno.Errno.TheVariants.{EBADF, EINVAL, EISDIR, ELOOP, ENOTDIR}
 use Rattle.open_handles.specs.declared.handle.Handle as handles
 use Rattle.open_handles.specs.declared.handle.Handle.TheVariants.{Directory, File}
 use Rattle.open_handles.specs.declared.handle.OpenDirectory.{OpenDirectory}
 use Rattle.open_handles.specs.Listings.{Opens}
 use Rattle.open_handles.specs.Opened.{At}
-use Rattle.plain_model.specs.Layers.{Path, Layer, shows}
+use Rattle.plain_model.specs.Layers.{Path, Shown}
 use Rattle.overlay_core.specs.declared.clients.Clients.{Clients}
 use Rattle.overlay_core.specs.Attaching.{ChangesClient, located}
-pub use Rattle.overlay_core.specs.Offers.{reads_directory}
-use Rattle.plain_model.specs.Refusals.{when, bad_mode}
-use Rattle.mount_laws.specs.Looks.{fault, or_else, walk_fault}
+use Rattle.merged_lookup.specs.declared.layers.Layers.{Layers}
+use Rattle.merged_lookup.specs.declared.found.Topmost.{Topmost}
+use Rattle.merged_lookup.specs.Merged.{layers_of, IsTopmost}
+use Rattle.open_handles.specs.declared.open_file.OpenFile.{OpenFile}
+use Rattle.open_handles.specs.Places.{base_of, sought_from}
+use Rattle.plain_model.specs.Refusals.{when}
+use Rattle.mount_laws.specs.Looks.{or_else, shows_link}
+use Rattle.mount_laws.specs.Opening.{opening_fault}
 
--- the mode, then the walk, then what is shown, which is to be a directory
-abbrev pub place_fault : List Layer → Path → ℕ → Option Errno
-place_fault Ls p mode = or_else (bad_mode mode) (or_else (walk_fault Ls p) (fault (shows 0 Ls p)))
-
--- other flags first, which aren't offered
-abbrev pub directory_fault : List Layer → Path → OpenFlags → ℕ → Option Errno
-directory_fault Ls p f mode = or_else (when (not (reads_directory f)) EOPNOTSUPP) (place_fault Ls p mode)
-
--- why a seek is refused: nothing is open, or it isn't to the start of a directory; no call opens a file yet
+-- why a seek is refused that is told by what is open alone: nothing is open, or it isn't to the start of a directory
 abbrev pub seek_fault : Option handles.Handle → ℤ → ℕ → Option Errno
 seek_fault None offset whence = Some EBADF
-seek_fault (Some (File f)) offset whence = Some EOPNOTSUPP
 seek_fault (Some (Directory o)) offset whence = when (not (nat_eq (nat_abs offset) 0 && nat_eq whence 0)) EINVAL
+seek_fault (Some (File f)) offset whence = None
+
+-- where a seek in a file of so many bytes leads, or why it is refused: for its whence, then for its place
+abbrev pub seek_place : OpenFile → ℕ → ℤ → ℕ → Result ℕ Errno
+seek_place f size offset whence = elim (base_of f.place size whence) [ Ok base ↦ sought_from base offset | Err e ↦ Err e ]
+
+-- the most bytes of one read or write
+abbrev pub TRANSFER_MAX : ℕ
+TRANSFER_MAX = 65536
+
+-- why a read is refused: nothing is open, too many bytes, a directory, a file that isn't open for reading
+abbrev pub read_fault : Option handles.Handle → ℕ → Option Errno
+read_fault None count = Some EBADF
+read_fault (Some (Directory o)) count = or_else (when (nat_lt TRANSFER_MAX count) EINVAL) (Some EISDIR)
+read_fault (Some (File f)) count = or_else (when (nat_lt TRANSFER_MAX count) EINVAL) (when (not f.reads) EBADF)
 
 -- why a list is refused: nothing is open, or a file, or it asks for no names or too many
 abbrev pub list_fault : Option handles.Handle → ℕ → Option Errno
 list_fault None n = Some EBADF
 list_fault (Some (File f)) n = Some ENOTDIR
 list_fault (Some (Directory o)) n = when (nat_eq n 0 || nat_lt 256 n) EINVAL
+
+-- what the path shows is opened for reading, or refused: for the flags, the mode, the walk and what is shown
+abbrev pub Openable : Layers → Path → OpenFlags → ℕ → Result Topmost Errno → Type 0
+Openable l p f mode r =
+    MatchResult r
+    (λ top. (opening_fault (layers_of l) p f mode (Some 0) ≡ None) × IsTopmost l p (Some top))
+    (λ e. opening_fault (layers_of l) p f mode (Some 0) ≡ Some e)
+
+-- why a file or symbolic link that is shown isn't opened for reading: the link, and no directory where one is asked for
+abbrev pub inode_refusal : OpenFlags → Option Shown → Option Errno
+inode_refusal f s = or_else (when (shows_link s) ELOOP) (when f.directory ENOTDIR)
+
+-- a file is opened under a client's lowest free descriptor, or refused where 64 are open
+abbrev pub OpensFile : Clients → Clients → ℕ → OpenFile → Result (Result ℕ Errno) AllocError → Type 0
+OpensFile old new client f result = ChangesClient old new client (λ before after. Opens before after (File f) result)
 
 -- the directory at a path is opened under a client's lowest free descriptor, or refused where 64 are open
 pub record OpensAt (old new : Clients) (client : ℕ) (p : Path) (result : Result (Result ℕ Errno) AllocError) : Type 0 where

@@ -1,4 +1,4 @@
--- The state of the plain machine that a mount stands for: the tree that its layers show, and for each client its descriptors.
+-- The state of the plain machine that a mount stands for: the tree that its layers show, and for each client its descriptors, some of them on files.
 use Rattle.std.specs.Prelude.{◌≡◌, ℕ, true, cond, List, [], ◌∷◌, Option, None, Some, is_some, length, take, drop, nat_eq}
 use Rattle.std.specs.List.{list_any}
 use Rattle.std.specs.BTreeMap.{get}
@@ -28,6 +28,7 @@ use Rattle.open_handles.specs.Opened.{Location, At, Removed, opened}
 use Rattle.overlay_core.specs.declared.clients.Clients.{Clients}
 use Rattle.overlay_core.specs.declared.mount.Mount.{Mount}
 use Rattle.overlay_core.specs.Attaching.{opened_by, path_of, ChangesClient}
+use Rattle.overlay_core.specs.Files.{IsFile, AreOne}
 
 -- what is left of a listing at a place; before the listing is made the place is the first
 abbrev pub IsLeft : Option (List Name) → Option (List Name) → ℕ → Type 0
@@ -47,32 +48,32 @@ abbrev pub Stands : Tree → Location → NodeId → Type 0
 Stands t (At p) d = node_at t p ≡ Some d
 Stands t (Removed a) d = IsRemoved t a d
 
--- a handle for reading on the directory of its number, whose listing is as far on
+-- a handle for reading on the directory of its number, whose listing is as far on; whether it appends is of no effect
 pub record IsHandle (t : Tree) (directories : Dentries) (o : OpenDirectory) (h : Handle) : Type 0 where
   pub location : Location
   pub located : opened directories o.directory ≡ Some location
   pub stands : Stands t location h.node
   pub directory : is_folder (t h.node) ≡ true
-  pub access : h ≡ record (listing_handle h.node h.way) { place = h.place; listed = h.listed }
+  pub access : h ≡ record (listing_handle h.node h.way) { append = h.append; place = h.place; listed = h.listed }
   pub left : IsLeft o.listing h.listed h.place
 
--- what a descriptor leads to is what the machine's handle is on; no call opens a file yet
-abbrev pub IsOpenAs : Tree → Dentries → handles.Handle → Handle → Type 0
-IsOpenAs t directories (Directory o) h = IsHandle t directories o h
-IsOpenAs t directories (File f) h = ⊥
+-- what a descriptor leads to is what the machine's handle is on
+abbrev pub IsOpenAs : Layer → List Layer → Tree → Dentries → handles.Handle → Handle → Type 0
+IsOpenAs U lowers t directories (Directory o) h = IsHandle t directories o h
+IsOpenAs U lowers t directories (File f) h = IsFile U lowers t f h
 
--- a descriptor is free on both sides, or open on both
-abbrev pub IsSlot : Tree → Dentries → Option handles.Handle → Option Handle → Type 0
-IsSlot t directories None None = Unit {0}
-IsSlot t directories (Some o) (Some h) = IsOpenAs t directories o h
-IsSlot t directories None (Some h) = ⊥
-IsSlot t directories (Some o) None = ⊥
+-- a descriptor is free on both sides, or open on both, and alike
+abbrev pub IsSlot : (handles.Handle → Handle → Type 0) → Option handles.Handle → Option Handle → Type 0
+IsSlot alike None None = Unit {0}
+IsSlot alike (Some o) (Some h) = alike o h
+IsSlot alike None (Some h) = ⊥
+IsSlot alike (Some o) None = ⊥
 
--- the same clients are attached, each with 64 descriptors, which are open as the server keeps them
-pub record AreTables (t : Tree) (clients : Clients) (ks : List Table) : Type 0 where
+-- the same clients are attached, each with 64 descriptors, which are open as the server keeps them, and alike
+pub record AreTables (alike : handles.Handle → Handle → Type 0) (clients : Clients) (ks : List Table) : Type 0 where
   pub attached : (c : ℕ) → list_any (λ k. nat_eq k.client c) ks ≡ is_some (get nat_cmp clients.attached c)
   pub room : (c : ℕ) → length (handles_of ks c) ≡ cond (is_some (get nat_cmp clients.attached c)) DESCRIPTORS_MAX 0
-  pub slots : (c d : ℕ) → IsSlot t clients.directories (opened_by clients c d) (handle_of ks c d)
+  pub slots : (c d : ℕ) → IsSlot alike (opened_by clients c d) (handle_of ks c d)
 
 -- no client has a watch
 abbrev pub AreUnwatched : List Instance → Type 0
@@ -82,7 +83,8 @@ AreUnwatched (e ∷ es) = (e.watches ≡ []) × AreUnwatched es
 -- a state of the machine that the mount stands for
 pub record IsStateOf (m : Mount) (s : State) : Type 0 where
   pub layers : IsMountOf (layer_of m.layers.upper) (lowers_of m.layers) s
-  pub tables : AreTables s.tree m.clients s.tables
+  pub tables : AreTables (IsOpenAs (layer_of m.layers.upper) (lowers_of m.layers) s.tree m.clients.directories) m.clients s.tables
+  pub one : AreOne m.clients s.tables
   pub arrived : m.clients.next ≡ s.arrived
   pub unwatched : AreUnwatched s.instances
 

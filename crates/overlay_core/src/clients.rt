@@ -1,15 +1,15 @@
 // The attached clients.
-ghost use Rattle.std.specs.Prelude.{◌≡◌, ◌≢◌, ◌+◌, ◌<◌, ◌^◌, ℕ, true, false, Some, None, IfOk, IfErr, OnOk, OnErr, IsSome, is_some, [], option_copied};
+ghost use Rattle.std.specs.Prelude.{◌≡◌, ◌≢◌, ◌+◌, ◌<◌, ◌^◌, ℕ, true, false, Some, None, IfOk, IfErr, OnOk, OnErr, IsSome, is_some, [], option_copied, ◌↔◌, nat_lt};
 ghost use Rattle.std.specs.Option.{option_and_then};
 ghost use Rattle.std.specs.BTreeMap.{get, btree_map_len};
 ghost use Rattle.std.specs.Ordering.{nat_cmp};
-ghost use Rattle.open_handles.specs.Opened.{opened, holders, NoneBelow};
+ghost use Rattle.open_handles.specs.Opened.{opened, holders, attributes_in, NoneBelow};
 ghost use Rattle.open_handles.specs.FileHolders.{file_holders};
 ghost use Rattle.overlay_core.specs.Held.{handles_below, files_below};
 
-use crate::closing::{close_all, close_handle};
+use crate::closing::{close_all, close_file, close_handle, hold_file};
 use dir_listing::Cursor;
-use open_handles::{Descriptors, Handle, OpenDirectories, OpenDirectory, OpenFiles};
+use open_handles::{Descriptors, Handle, OpenDirectories, OpenDirectory, OpenFile, OpenFiles};
 use ov_base::{Attributes, Errno, NameList, Path};
 use std::alloc::{AllocError, Global};
 use std::collections::BTreeMap;
@@ -32,10 +32,11 @@ pub struct Clients {
 }
 
 impl Clients {
-    ghost use Rattle.overlay_core.specs.Attaching.{HasNoRoom, Attaches, Detaches, IsSame, ChangesClient, opened_by, directory_by, path_of};
-    ghost use Rattle.overlay_core.specs.Opening.{OpensAt};
+    ghost use Rattle.overlay_core.specs.Attaching.{HasNoRoom, Attaches, Detaches, IsSame, ChangesClient, KeepsPlaces, opened_by, directory_by, file_by, located, path_of};
+    ghost use Rattle.overlay_core.specs.Files.{HasFile};
+    ghost use Rattle.overlay_core.specs.Opening.{OpensAt, OpensFile};
     ghost use Rattle.overlay_core.specs.Removing.{IsOpenNowhere, IsOpenAt, RemovesOpen};
-    ghost use Rattle.open_handles.specs.Listings.{ChangesSlot, Closes, GivesNames, with_listing};
+    ghost use Rattle.open_handles.specs.Listings.{ChangesSlot, Closes, GivesNames, with_listing, with_place};
 
     /// No clients. The names of open directories and the keys of open files are hashed with these keys.
     pub fn new(alloc: Global, keys: RandomState) -> Result<Clients, AllocError>
@@ -55,6 +56,7 @@ impl Clients {
     /// What always holds, for those who reason about it; it does nothing.
     pub fn lawful(&self)
         ensures held { (k : ℕ) → IsSome (opened self.now.directories k) → 0 < handles_below (get nat_cmp self.now.attached) self.now.next k }
+        ensures files { (k : ℕ) → HasFile self.now k ↔ 0 < file_holders self.now.files k }
     {
         self.directories.lawful();
     }
@@ -80,7 +82,8 @@ impl Clients {
 
     /// Detaches a client, which closes its descriptors in rising order.
     pub fn detach(&mut self, client: u64)
-        ensures { Detaches self.old self.new client }
+        ensures detaches { Detaches self.old self.new client }
+        ensures places { KeepsPlaces self.old self.new }
     {
         if let Some(descriptors) = self.attached.remove(&client) {
             let slots = descriptors.into_slots();
@@ -141,6 +144,72 @@ impl Clients {
                 Err(fault)
             }
         }
+    }
+
+    /// Opens a file under the lowest free descriptor of a client and gives it. Where 64 are open it is EMFILE.
+    pub fn open_file(
+        &mut self,
+        client: u64,
+        file: OpenFile,
+    ) -> Result<Result<u32, Errno>, AllocError>
+        requires { IsSome (get nat_cmp self.old.attached client) }
+        ensures { OpensFile self.old self.new client file result }
+    {
+        hold_file(&mut self.files, file.source)?;
+        match self
+            .attached
+            .get_mut(&client)
+            .unwrap()
+            .open(Handle::File(file))
+        {
+            Ok(Ok(descriptor)) => Ok(Ok(descriptor)),
+            Ok(Err(errno)) => {
+                close_file(&mut self.files, file.source);
+                Ok(Err(errno))
+            }
+            Err(fault) => {
+                close_file(&mut self.files, file.source);
+                Err(fault)
+            }
+        }
+    }
+
+    /// The file to which a descriptor of a client leads, if it leads to one.
+    pub fn file(&self, client: u64, descriptor: u32) -> Option<OpenFile>
+        ensures { result ≡ file_by self.now client descriptor }
+    {
+        match self.opened(client, descriptor) {
+            Some(Handle::File(file)) => Some(*file),
+            _ => None,
+        }
+    }
+
+    /// Whether a handle holds a file of the upper.
+    pub fn holds_file(&self, key: usize) -> bool
+        ensures { result ≡ nat_lt 0 (file_holders self.now.files key) }
+    {
+        self.files.is_held(key)
+    }
+
+    /// Moves the place of an open file of a client.
+    pub fn move_to(&mut self, client: u64, descriptor: u32, place: u64)
+        requires { IsSome (file_by self.old client descriptor) }
+        ensures { ChangesClient self.old self.new client (λ before after. ChangesSlot before after descriptor (with_place place)) }
+    {
+        self.attached
+            .get_mut(&client)
+            .unwrap()
+            .move_to(descriptor, place);
+    }
+
+    /// The attributes that the directory had that a client has open under a descriptor, when it was removed; none where it wasn't.
+    pub fn removed(&self, client: u64, descriptor: u32) -> Option<&Attributes>
+        requires { IsSome (directory_by self.now client descriptor) }
+        ensures { option_copied result ≡ option_and_then attributes_in (option_and_then (located self.now) (directory_by self.now client descriptor)) }
+    {
+        self.directories.lawful();
+        let handle = self.directory(client, descriptor).unwrap();
+        self.directories.removed(handle.directory)
     }
 
     /// The path of the directory that a client has open under a descriptor; none where it was removed.

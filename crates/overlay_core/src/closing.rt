@@ -1,11 +1,12 @@
 // Closing what a client has open.
-ghost use Rattle.std.specs.Prelude.{◌≡◌, ◌+◌, ℕ, ◌≤◌, ◌∷◌, [], Some};
+ghost use Rattle.std.specs.Prelude.{◌≡◌, ◌+◌, ℕ, ◌≤◌, ◌∷◌, [], Some, OnOk, OnErr};
 ghost use Rattle.open_handles.specs.FileHolders.{file_holders};
 ghost use Rattle.open_handles.specs.Holding.{handles_on, files_on, is_upper};
 ghost use Rattle.open_handles.specs.Opened.{holders};
 ghost use Rattle.overlay_core.specs.Held.{ClosesAll, ReleasesAll};
 
 use open_handles::{FileSource, Handle, OpenDirectories, OpenFiles};
+use std::alloc::AllocError;
 
 /// Closes each handle in these slots, the first one first.
 pub(crate) fn close_all(
@@ -44,8 +45,20 @@ pub(crate) fn close_handle(
     }
 }
 
-// Closes one handle on a file.
-fn close_file(files: &mut OpenFiles, source: FileSource)
+/// Counts one handle more on a file of the upper; nobody counts those of a lower layer's. It fails for want of memory, and where as many
+/// hold the file as can be counted, and changes nothing then.
+pub(crate) fn hold_file(files: &mut OpenFiles, source: FileSource) -> Result<(), AllocError>
+    ensures ok { OnOk result ((k : ℕ) → file_holders files.new k ≡ file_holders files.old k + is_upper source k) }
+    ensures err { OnErr result ((k : ℕ) → file_holders files.new k ≡ file_holders files.old k) }
+{
+    match source {
+        FileSource::Upper(key) => files.hold(key),
+        FileSource::Lower { layer: _, key: _ } => Ok(()),
+    }
+}
+
+/// Closes one handle on a file.
+pub(crate) fn close_file(files: &mut OpenFiles, source: FileSource)
     requires { (k : ℕ) → is_upper source k ≤ file_holders files.old k }
     ensures { (k : ℕ) → file_holders files.new k + is_upper source k ≡ file_holders files.old k }
 {

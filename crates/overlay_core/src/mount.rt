@@ -3,24 +3,21 @@ ghost use Rattle.std.specs.Prelude.{◌≡◌, ◌<◌, ◌+◌, ◌^◌, ℕ, B
 ghost use Rattle.plain_model.specs.Layers.{AreLayers};
 ghost use Rattle.layer_tree.specs.Tree.{layer_of, inode_of};
 ghost use Rattle.merged_lookup.specs.Merged.{layers_of, lowers_of};
-ghost use Rattle.overlay_core.specs.Opening as opening;
 ghost use Rattle.overlay_core.specs.States.{AreNamesIn};
-ghost use Rattle.overlay_core.specs.Opening.{directory_fault};
+ghost use Rattle.overlay_core.specs.Files.{upper_of};
 ghost use Rattle.overlay_core.specs.Status.{stat_at, readlink_reply, target_reply};
 ghost use Rattle.std.specs.Option.{option_and_then};
 ghost use Rattle.mount_laws.specs.Leaves.{inode_target};
 
 use crate::clients::Clients;
-use crate::removals::{rmdir_and_free, unlink_and_free};
+use crate::removals::{free_closed, rmdir_and_free, unlink_and_free};
 use crate::status::status_at;
 use dir_listing::{Cursor, names};
 use layer_tree::{Inode, Node};
 use make_remove::{mkdir, symlink};
 use merged_lookup::{Found, Layers, Topmost};
-use open_handles::Handle;
-use ov_base::{
-    Attributes, Bytes, Call, Content, Errno, LinkTarget, Mode, NameList, OpenFlags, Path, Reply,
-};
+use open_handles::{DESCRIPTORS_MAX, FileSource, Handle, OpenFile};
+use ov_base::{Attributes, Bytes, Call, Content, Errno, LinkTarget, Mode, NameList, Path, Reply};
 use std::alloc::{AllocError, Global};
 use std::hash::RandomState;
 
@@ -31,7 +28,7 @@ const LIST_MAX: u32 = 256;
 #[derive(Drop)]
 pub struct Mount {
     pub(crate) layers: Layers,
-    clients: Clients,
+    pub(crate) clients: Clients,
     pub(crate) alloc: Global,
 }
 
@@ -46,14 +43,16 @@ impl Mount {
     ghost use Rattle.plain_model.specs.Runs.{joined, without_instance, without_table, Leaves};
     ghost use Rattle.plain_model.specs.Refusals.{refusal};
     ghost use Rattle.overlay_core.specs.Attaching as attaching;
-    ghost use Rattle.overlay_core.specs.Attaching.{HasNoRoom, Attaches, Detaches, IsSame, KeepsAttached, opened_by, directory_by};
+    ghost use Rattle.overlay_core.specs.Attaching.{HasNoRoom, Attaches, Detaches, IsSame, KeepsAttached, KeepsOthers, opened_by, directory_by};
     ghost use Rattle.overlay_core.specs.States.{HasStateOf, IsStateOf, Serves, StaysState, Pages};
     ghost use Rattle.overlay_core.specs.Removing.{IsOpenNowhere, HasAttributes};
     ghost use Rattle.mount_laws.specs.Removals.{rmdir_fault};
-    ghost use Rattle.overlay_core.specs.Opening.{seek_fault, list_fault};
+    ghost use Rattle.overlay_core.specs.Opening.{list_fault};
+    ghost use Rattle.overlay_core.specs.Living.{KeepsPaths};
+    ghost use Rattle.overlay_core.specs.Leaving.{ClosesEach};
     ghost use Rattle.overlay_core.specs.Rules.{Nothing};
-    ghost use Rattle.overlay_core.specs.Offers.{is_offered, reads_directory};
-    ghost use Rattle.overlay_core.specs.Keeping.{UnlessChange, takes_no_memory};
+    ghost use Rattle.overlay_core.specs.Offers.{is_offered};
+    ghost use Rattle.overlay_core.specs.Keeping.{KeepsLayers, takes_no_memory};
     ghost use Rattle.copy_up.specs.Showing.{StaysThin};
 
     /// A mount of these layers without a client. The names of open directories are hashed with these keys.
@@ -108,18 +107,32 @@ impl Mount {
         self.clients.len() as u64
     }
 
-    /// Detaches a client, which closes its descriptors.
+    /// Detaches a client, which closes its descriptors in rising order.
     pub(crate) fn detach(&mut self, client: u64)
+        requires { IsSome (get nat_cmp self.old.clients.attached client) }
         ensures leaves { (s : State) → IsStateOf self.old s → (t : State) × Leaves Nothing s client t × IsStateOf self.new t }
         ensures clients { Detaches self.old.clients self.new.clients client }
-        ensures layers { self.new.layers ≡ self.old.layers }
+        ensures paths { KeepsPaths self.old.layers self.new.layers }
     {
+        self.close_each(client);
         self.clients.detach(client);
     }
 
+    // Closes the descriptors of a client in rising order.
+    fn close_each(&mut self, client: u64)
+        requires { IsSome (get nat_cmp self.old.clients.attached client) }
+        ensures closes { (s : State) → IsStateOf self.old s → ClosesEach s client self.new }
+        ensures others { KeepsOthers self.old.clients self.new.clients client }
+        ensures paths { KeepsPaths self.old.layers self.new.layers }
+    {
+        for descriptor in 0..DESCRIPTORS_MAX as u32 {
+            let _ = self.close(client, descriptor);
+        }
+    }
+
     /// Makes a call of a client that is attached. Offered are stat, readlink, chmod, chown, the calls on user attributes, mkdir, symlink,
-    /// open of a directory for reading, unlink, rmdir, seek, list and close; another is EOPNOTSUPP and changes nothing. Want of memory
-    /// leaves all that is shown as it was.
+    /// open of what is there for reading alone, unlink, rmdir, read, seek, fstat, list and close; another is EOPNOTSUPP and changes nothing.
+    /// Want of memory leaves all that is shown as it was.
     pub(crate) fn perform(&mut self, client: u64, call: &Call) -> Result<Reply, AllocError>
         requires there { IsSome (get nat_cmp self.old.clients.attached client) }
         requires state { ∥ HasStateOf self.old ∥₁ }
@@ -128,7 +141,7 @@ impl Mount {
         ensures err { OnErr result (StaysState self.old self.new) }
         ensures memory { takes_no_memory call.now ≡ true → IsOk result }
         ensures clients { KeepsAttached self.old.clients self.new.clients }
-        ensures layers { UnlessChange call.now (self.new.layers ≡ self.old.layers) }
+        ensures layers { KeepsLayers call.now self.old.layers self.new.layers }
         ensures refused { IfOk result (λ reply. (errno : Errno) → reply ≡ Reply.Refused errno → self.new.layers ≡ self.old.layers) }
         ensures lowers { self.new.layers.lowers ≡ self.old.layers.lowers }
         ensures thin { StaysThin self.old.layers self.new.layers }
@@ -147,6 +160,8 @@ impl Mount {
             Call::Unlink { path } => self.unlink(path),
             Call::Rmdir { path } => self.rmdir(path),
             Call::Open { path, flags, mode } => self.open(client, path, *flags, *mode),
+            Call::Read { descriptor, count } => self.read(client, *descriptor, *count),
+            Call::Fstat { descriptor } => self.fstat(client, *descriptor),
             Call::Seek {
                 descriptor,
                 offset,
@@ -221,7 +236,8 @@ impl Mount {
         ensures lowers { self.new.layers.lowers ≡ self.old.layers.lowers }
         ensures thin { StaysThin self.old.layers self.new.layers }
     {
-        match unlink_and_free(&mut self.layers, path)? {
+        self.clients.lawful();
+        match unlink_and_free(&mut self.layers, &self.clients, path)? {
             Ok(()) => Ok(Reply::Done),
             Err(errno) => Ok(Reply::Refused(errno)),
         }
@@ -238,7 +254,7 @@ impl Mount {
     {
         self.clients.lawful();
         let attributes = self.attributes_left(path)?;
-        match rmdir_and_free(&mut self.layers, path)? {
+        match rmdir_and_free(&mut self.layers, &self.clients, path)? {
             Ok(()) => {
                 if let Some(attributes) = attributes {
                     self.clients.remove(path, attributes);
@@ -261,70 +277,6 @@ impl Mount {
             Ok(Topmost::Directory(place)) => { Ok(Some(self.layers.attributes_at(place).clone()?)) }
             _ => Ok(None),
         }
-    }
-
-    fn open(
-        &mut self,
-        client: u64,
-        path: &Path,
-        flags: OpenFlags,
-        mode: u32,
-    ) -> Result<Reply, AllocError>
-        requires { IsSome (get nat_cmp self.old.clients.attached client) }
-        ensures serves { IfOk result (λ reply. reads_directory flags ≡ true → (s : State) → IsStateOf self.old s → Serves (refusal s client (Call.Open path.now flags mode)) s client (Call.Open path.now flags mode) reply self.new) }
-        ensures unoffered { IfOk result (λ reply. reads_directory flags ≡ false → (reply ≡ Reply.Refused Errno.EOPNOTSUPP) × (self.new ≡ self.old)) }
-        ensures err { OnErr result (StaysState self.old self.new) }
-        ensures clients { KeepsAttached self.old.clients self.new.clients }
-        ensures layers { self.new.layers ≡ self.old.layers }
-    {
-        if let Err(errno) = self.may_open(path, flags, mode) {
-            return Ok(Reply::Refused(errno));
-        }
-        match self.clients.open(client, path)? {
-            Ok(descriptor) => Ok(Reply::Descriptor(descriptor)),
-            Err(errno) => Ok(Reply::Refused(errno)),
-        }
-    }
-
-    // Whether a directory stands there that these flags and this mode open; a symbolic link isn't followed.
-    fn may_open(&self, path: &Path, flags: OpenFlags, mode: u32) -> Result<(), Errno>
-        ensures { MatchResult result (λ _. directory_fault (layers_of self.now.layers) path.now flags mode ≡ None) (λ e. directory_fault (layers_of self.now.layers) path.now flags mode ≡ Some e) }
-    {
-        if !reads_directory(flags) {
-            return Err(Errno::EOPNOTSUPP);
-        }
-        Mode::parse(mode)?;
-        match self.layers.walk_topmost(path)? {
-            Topmost::Directory(_) => Ok(()),
-            Topmost::Inode(place) => Err(self.layers.blocked(place)),
-        }
-    }
-
-    fn seek(&mut self, client: u64, descriptor: u32, offset: i64, whence: u8) -> Reply
-        ensures serves { (s : State) → IsStateOf self.old s → Serves (refusal s client (Call.Seek descriptor offset whence)) s client (Call.Seek descriptor offset whence) result self.new }
-        ensures clients { KeepsAttached self.old.clients self.new.clients }
-        ensures layers { self.new.layers ≡ self.old.layers }
-    {
-        if let Some(errno) = self.seek_refusal(client, descriptor, offset, whence) {
-            return Reply::Refused(errno);
-        }
-        self.clients.rewind(client, descriptor);
-        Reply::Place(0)
-    }
-
-    // Why a seek is refused: nothing is open, or it isn't to the start of a directory.
-    fn seek_refusal(&self, client: u64, descriptor: u32, offset: i64, whence: u8) -> Option<Errno>
-        ensures { result ≡ seek_fault (opened_by self.now.clients client descriptor) offset whence }
-    {
-        match self.clients.opened(client, descriptor) {
-            None => return Some(Errno::EBADF),
-            Some(Handle::File(_)) => return Some(Errno::EOPNOTSUPP),
-            Some(Handle::Directory(_)) => (),
-        }
-        if offset != 0 || whence != 0 {
-            return Some(Errno::EINVAL);
-        }
-        None
     }
 
     fn list(&mut self, client: u64, descriptor: u32, count: u32) -> Result<Reply, AllocError>
@@ -377,25 +329,37 @@ impl Mount {
         Ok(names)
     }
 
+    // Closes a descriptor, and frees a file of the upper that has neither a name nor a handle then.
     fn close(&mut self, client: u64, descriptor: u32) -> Reply
         requires { IsSome (get nat_cmp self.old.clients.attached client) }
         ensures serves { (s : State) → IsStateOf self.old s → Serves (refusal s client (Call.Close descriptor)) s client (Call.Close descriptor) result self.new }
         ensures clients { KeepsAttached self.old.clients self.new.clients }
-        ensures layers { self.new.layers ≡ self.old.layers }
+        ensures others { KeepsOthers self.old.clients self.new.clients client }
+        ensures paths { KeepsPaths self.old.layers self.new.layers }
+        ensures refused { (errno : Errno) → result ≡ Reply.Refused errno → self.new.layers ≡ self.old.layers }
+        ensures thin { StaysThin self.old.layers self.new.layers }
     {
+        let closed = upper_key(self.clients.file(client, descriptor));
+        self.clients.lawful();
         match self.clients.close(client, descriptor) {
-            Ok(()) => Reply::Done,
+            Ok(()) => {
+                self.clients.lawful();
+                free_closed(&mut self.layers, &self.clients, closed);
+                Reply::Done
+            }
             Err(errno) => Reply::Refused(errno),
         }
     }
 }
 
-// Whether the flags are those of a directory that is opened for reading.
-fn reads_directory(flags: OpenFlags) -> bool
-    ensures { result ≡ opening.reads_directory flags }
+// The key of an open file that is the upper's.
+fn upper_key(file: Option<OpenFile>) -> Option<usize>
+    ensures { result ≡ upper_of file }
 {
-    let changes = flags.writes || flags.create || flags.exclusive || flags.truncate;
-    flags.reads && flags.directory && !changes && !flags.append && !flags.unknown
+    match file?.source {
+        FileSource::Upper(key) => Some(key),
+        FileSource::Lower { layer: _, key: _ } => None,
+    }
 }
 
 // The reply to readlink of a file or symbolic link: a file is EINVAL.

@@ -8,7 +8,8 @@ ghost use Rattle.layer_tree.specs.Tree.{layer_of};
 ghost use Rattle.overlay_core.specs.Agreement.{BeginsUntil, BeginsWith, Goes, HasState, Stays};
 ghost use Rattle.overlay_core.specs.Attaching as attaching;
 ghost use Rattle.overlay_core.specs.Attaching.{HasNoRoom, Attaches, Detaches, KeepsAttached};
-ghost use Rattle.overlay_core.specs.Keeping.{UnlessChange, takes_no_memory};
+ghost use Rattle.overlay_core.specs.Keeping.{KeepsLayers, takes_no_memory};
+ghost use Rattle.overlay_core.specs.Living.{KeepsPaths};
 ghost use Rattle.overlay_core.specs.Mounting.{machine_options, mount_fault, places_left};
 ghost use Rattle.overlay_core.specs.Jobs.{TurnsTo, finished_after};
 ghost use Rattle.copy_up.specs.Showing.{StaysThin};
@@ -125,14 +126,15 @@ impl Core {
         }
     }
 
-    /// Detaches a client, which closes its descriptors in rising order.
+    /// Detaches a client, which closes its descriptors in rising order: a file without a name goes with its
+    /// last handle.
     pub fn detach(&mut self, client: u64)
         requires attached { attaching.is_attached self.old.mount.clients client ≡ true }
         requires bound { self.old.finished + 1 < 2 ^ 63 }
         ensures detached { Goes self.old.mount client Detached self.new.mount }
         ensures clients { Detaches self.old.mount.clients self.new.mount.clients client }
         ensures finished { self.new.finished ≡ self.old.finished + 1 }
-        ensures layers { self.new.mount.layers ≡ self.old.mount.layers }
+        ensures layers { KeepsPaths self.old.mount.layers self.new.mount.layers }
         ensures options { self.new.options ≡ self.old.options }
     {
         self.mount.detach(client);
@@ -147,8 +149,8 @@ impl Core {
     }
 
     /// One step of a job that is open, of a client that is attached. Each call is finished in one step; want of memory gives it up and
-    /// leaves all that is shown as it was. Offered are the calls on attributes and directories, symlink, readlink and unlink; open files,
-    /// renames, hard links and watches aren't yet: EOPNOTSUPP.
+    /// leaves all that is shown as it was. Offered are the calls on attributes and directories, symlink, readlink and unlink, and files that
+    /// are there are opened for reading; writing, renames, hard links and watches aren't yet: EOPNOTSUPP.
     pub fn advance(&mut self, job: &mut Job) -> Turn
         requires open { job.old.standing ≡ Standing.Open }
         requires attached { attaching.is_attached self.old.mount.clients job.old.client ≡ true }
@@ -159,7 +161,7 @@ impl Core {
         ensures memory { takes_no_memory job.old.call ≡ true → result ≢ Turn.NoMemory }
         ensures finished { self.new.finished ≡ finished_after result self.old.finished }
         ensures clients { KeepsAttached self.old.mount.clients self.new.mount.clients }
-        ensures layers { UnlessChange job.old.call (self.new.mount.layers ≡ self.old.mount.layers) }
+        ensures layers { KeepsLayers job.old.call self.old.mount.layers self.new.mount.layers }
         ensures refused { (errno : Errno) → result ≡ Turn.Done (Reply.Refused errno) → self.new.mount.layers ≡ self.old.mount.layers }
         ensures lowers { self.new.mount.layers.lowers ≡ self.old.mount.layers.lowers }
         ensures thin { StaysThin self.old.mount.layers self.new.mount.layers }

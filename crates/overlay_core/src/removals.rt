@@ -1,5 +1,5 @@
-// `unlink` and `rmdir`, where what loses its last name is freed at once.
-ghost use Rattle.std.specs.Prelude.{◌≡◌, ℕ, Bool, false, Some, None, IfOk, IfErr, OnOk, OnErr};
+// `unlink` and `rmdir`, where what loses its last name is freed at once, unless a handle holds it, and what closing frees.
+ghost use Rattle.std.specs.Prelude.{◌≡◌, ◌<◌, ℕ, Bool, true, false, Some, None, IfOk, IfErr, OnOk, OnErr};
 ghost use Rattle.ov_base.specs.declared.call.Call.TheVariants as call;
 ghost use Rattle.plain_model.specs.Machine.{State};
 ghost use Rattle.plain_model.specs.Refusals.{refusal};
@@ -11,15 +11,20 @@ ghost use Rattle.layer_tree.specs.Nameless.{IsNameless};
 ghost use Rattle.merged_lookup.specs.Merged.{layers_of, lowers_of};
 ghost use Rattle.copy_up.specs.Showing.{ShowsSame, StaysLayers, StaysMount, StaysThin};
 ghost use Rattle.make_remove.specs.Removing.{TakesName};
+ghost use Rattle.plain_model.specs.Layers.{Inode as HeldInode};
+ghost use Rattle.overlay_core.specs.Living.{FreesClosed, KeepsHeld, StaysHeld, StaysLive};
 
+use crate::clients::Clients;
+use layer_tree::Node;
 use make_remove::{free, rmdir, unlink};
-use merged_lookup::Layers;
+use merged_lookup::{Layers, Place};
 use ov_base::{Errno, Path};
 use std::alloc::AllocError;
 
-/// `unlink`, which frees the inode whose last name this was.
+/// `unlink`, which frees the inode whose last name this was, unless a handle holds it.
 pub(crate) fn unlink_and_free(
     layers: &mut Layers,
+    clients: &Clients,
     path: &Path,
 ) -> Result<Result<(), Errno>, AllocError>
     ensures refused { IfOk result (λ r. IfErr r (λ e. unlink_fault (layers_of layers.old) path.now ≡ Some e)) }
@@ -31,10 +36,12 @@ pub(crate) fn unlink_and_free(
     ensures thin { StaysThin layers.old layers.new }
     ensures no_memory { OnErr result (ShowsSame layers.old layers.new) }
     ensures mounts { OnErr result (StaysMount layers.old layers.new) }
+    ensures live { IfOk result (λ r. OnOk r (KeepsHeld clients.now layers.old layers.new (call.Unlink path.now))) }
+    ensures stays { OnErr result (StaysLive layers.old layers.new) }
 {
     match unlink(layers, path)? {
         Ok(key) => {
-            free_released(layers, key);
+            free_released(layers, clients, key);
             Ok(Ok(()))
         }
         Err(errno) => Ok(Err(errno)),
@@ -44,6 +51,7 @@ pub(crate) fn unlink_and_free(
 /// `rmdir`, which frees the upper's directory.
 pub(crate) fn rmdir_and_free(
     layers: &mut Layers,
+    clients: &Clients,
     path: &Path,
 ) -> Result<Result<(), Errno>, AllocError>
     ensures refused { IfOk result (λ r. IfErr r (λ e. (full : Bool) → TellsNames (layers_of layers.old) path.now full → rmdir_fault (layers_of layers.old) path.now full ≡ Some e)) }
@@ -57,26 +65,55 @@ pub(crate) fn rmdir_and_free(
     ensures thin { StaysThin layers.old layers.new }
     ensures no_memory { OnErr result (ShowsSame layers.old layers.new) }
     ensures mounts { OnErr result (StaysMount layers.old layers.new) }
+    ensures live { IfOk result (λ r. OnOk r (KeepsHeld clients.now layers.old layers.new (call.Rmdir path.now))) }
+    ensures stays { OnErr result (StaysLive layers.old layers.new) }
 {
     match rmdir(layers, path)? {
         Ok(key) => {
-            free_released(layers, key);
+            free_released(layers, clients, key);
             Ok(Ok(()))
         }
         Err(errno) => Ok(Err(errno)),
     }
 }
 
-// Frees what lost its last name, if anything did.
-fn free_released(layers: &mut Layers, released: Option<usize>)
+// Frees what lost its last name, if anything did, unless a handle holds it.
+fn free_released(layers: &mut Layers, clients: &Clients, released: Option<usize>)
     requires { (key : ℕ) → released ≡ Some key → IsNameless layers.old.upper key }
     ensures held { SameObjects (layer_of layers.old.upper) (layer_of layers.new.upper) }
     ensures same { ShowsSame layers.old layers.new }
     ensures keeps { StaysLayers layers.old layers.new }
     ensures mounts { StaysMount layers.old layers.new }
     ensures thin { StaysThin layers.old layers.new }
+    ensures live { StaysHeld clients.now layers.old layers.new }
 {
     if let Some(key) = released {
-        free(layers, key);
+        if !clients.holds_file(key) {
+            free(layers, key);
+        }
+    }
+}
+
+/// Frees a file of the upper that was closed, where no handle holds it any more and no name leads to it.
+pub(crate) fn free_closed(layers: &mut Layers, clients: &Clients, closed: Option<usize>)
+    ensures freed { (key : ℕ) → closed ≡ Some key → FreesClosed clients.now layers.old layers.new key }
+    ensures none { closed ≡ None → layers.new ≡ layers.old }
+{
+    if let Some(key) = closed {
+        if !clients.holds_file(key) && is_unlinked(layers, key) {
+            free(layers, key);
+        }
+    }
+}
+
+// Whether an inode of the upper has no name.
+fn is_unlinked(layers: &Layers, key: usize) -> bool
+    ensures unlinked { result ≡ true → IsNameless layers.now.upper key × ((i : HeldInode) → (layer_of layers.now.upper).inodes key ≡ Some i → i.links ≡ 0) }
+    ensures linked { result ≡ false → (i : HeldInode) → (layer_of layers.now.upper).inodes key ≡ Some i → 0 < i.links }
+{
+    layers.upper().lawful();
+    match layers.node(Place { layer: 0, key }) {
+        Some(Node::Inode(inode)) => inode.links == 0,
+        _ => false,
     }
 }

@@ -32,7 +32,8 @@ fn directory_status(layers: &Layers, place: Place) -> Stat
     status_with(ObjectKind::Directory, layers.attributes_at(place), 0, 1)
 }
 
-fn inode_status(node: Option<&Node>) -> Result<Stat, Errno>
+/// What stat(2) shows of the inode that stands somewhere; a directory, and nothing, is ENOENT.
+pub(crate) fn inode_status(node: Option<&Node>) -> Result<Stat, Errno>
     ensures { result ≡ stat_of_inode (option_and_then inode_of (option_copied node.entry)) }
 {
     match node {
@@ -64,7 +65,8 @@ fn status_of_inode(inode: &Inode) -> Stat
     )
 }
 
-fn status_with(kind: ObjectKind, attributes: &Attributes, size: u64, links: u32) -> Stat
+/// What stat(2) shows of an object of this kind, with these attributes.
+pub(crate) fn status_with(kind: ObjectKind, attributes: &Attributes, size: u64, links: u32) -> Stat
     ensures { result ≡ status.stat_with kind attributes.now size links }
 {
     Stat {

@@ -1,0 +1,53 @@
+-- A mount stands for a state still when its clients, or its layers, change so.
+use Rattle.std.proofs.Common.{◌≡◌, ℕ, List, Some, sym, ap, ◌∙◌, subst}
+use Rattle.plain_model.specs.Machine.{State, Table, Handle}
+use Rattle.layer_tree.specs.Tree.{layer_of}
+use Rattle.merged_lookup.specs.declared.layers.Layers.{Layers}
+use Rattle.merged_lookup.specs.Merged.{lowers_of}
+use Rattle.mount_laws.specs.Looks.{IsMountOf}
+use Rattle.open_handles.specs.declared.handle.Handle as handles
+use Rattle.overlay_core.specs.declared.clients.Clients.{Clients}
+use Rattle.overlay_core.specs.declared.mount.Mount.{Mount}
+use Rattle.overlay_core.specs.Attaching.{ChangesClient}
+use Rattle.overlay_core.specs.Files.{AreOne}
+use Rattle.overlay_core.specs.States.{AreTables, AreUnwatched, IsOpenAs, IsStateOf}
+use Rattle.overlay_core.proofs.Serving.{SameClients, same-clients, tables-same, placed, one-fewer}
+
+-- what descriptors lead to in a mount
+abbrev pub Alike : Layers → State → Clients → handles.Handle → Handle → Type 0
+Alike l s clients = IsOpenAs (layer_of l.upper) (lowers_of l) s.tree clients.directories
+
+-- a state, told of its parts
+pub state-as : (new : Mount) (l : Layers) (s : State) → new.layers ≡ l → IsMountOf (layer_of l.upper) (lowers_of l) s → AreTables (Alike l s new.clients) new.clients s.tables → AreOne new.clients s.tables → new.clients.next ≡ s.arrived → AreUnwatched s.instances → IsStateOf new s
+state-as new l s e m a one next w = record {
+  arrived = next;
+  layers = subst (λ (x : Layers). IsMountOf (layer_of x.upper) (lowers_of x) s) (sym e) m;
+  tables = subst (λ (x : Layers). AreTables (Alike x s new.clients) new.clients s.tables) (sym e) a;
+  one = one;
+  unwatched = w;
+}
+
+module _ (m : Mount) (s : State) (st : IsStateOf m s) where
+  -- the state with other tables
+  pub with-tables : (new : Clients) (ks : List Table) → new.next ≡ m.clients.next → AreTables (Alike m.layers s new) new ks → AreOne new ks → IsStateOf (record m { clients = new }) (record s { tables = ks })
+  with-tables new ks next a one = record {
+    arrived = next ∙ st.arrived;
+    layers = record { layers = st.layers.layers; shows = st.layers.shows; kept = st.layers.kept; writable = st.layers.writable };
+    tables = a;
+    one = one;
+    unwatched = st.unwatched;
+  }
+
+  -- the same clients with the same descriptors
+  pub keep-same : (new : Clients) → SameClients m.clients new → IsStateOf (record m { clients = new }) s
+  keep-same new same =
+      with-tables new s.tables same.next
+      (tables-same (Alike m.layers s m.clients) m.clients s.tables st.tables new (Alike m.layers s new) same
+      (λ c d o h on at is. placed (layer_of m.layers.upper) (lowers_of m.layers) s.tree m.clients.directories new.directories o h (λ e l f. same.places c d e l (on ∙ ap Some f)) is))
+      (one-fewer m.clients new s.tables s.tables
+      (λ k d x. record { client = x.client; descriptor = x.descriptor; file = x.file; handle = x.handle; opened = sym (same.opened x.client x.descriptor) ∙ x.opened; key = x.key; on = x.on; at = x.at })
+      st.one)
+
+  -- nothing is changed
+  pub keep-state : (c : ℕ) (new : Clients) → ChangesClient m.clients new c (λ x y. y ≡ x) → IsStateOf (record m { clients = new }) s
+  keep-state c new h = keep-same new (same-clients m.clients new c h)
