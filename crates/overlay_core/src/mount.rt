@@ -17,9 +17,7 @@ use layer_tree::{Inode, Node};
 use make_remove::{mkdir, symlink};
 use merged_lookup::{Found, Layers, Topmost};
 use open_handles::{DESCRIPTORS_MAX, FileSource, Handle, OpenFile};
-use ov_base::{
-    Attributes, Bytes, Call, Content, Errno, LinkTarget, Mode, NameList, Path, Reply,
-};
+use ov_base::{Attributes, Bytes, Call, Content, Errno, LinkTarget, Mode, NameList, Path, Reply};
 use std::alloc::{AllocError, Global};
 use std::hash::RandomState;
 
