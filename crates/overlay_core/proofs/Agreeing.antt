@@ -17,10 +17,8 @@ use Rattle.plain_model.specs.Tree.{Tree}
 use Rattle.plain_model.specs.Merging.{IsMerge, merge_tree}
 use Rattle.plain_model.specs.Machine.{MountOptions, Table, State, opening}
 use Rattle.plain_model.specs.Refusals.{refusal}
-use Rattle.plain_model.specs.Changes.{after}
-use Rattle.plain_model.specs.Subjects.{subjects}
 use Rattle.plain_model.specs.Settling.{clients_of}
-use Rattle.plain_model.specs.Runs.{Answered, Deed, Attached, Called, Detached, Does, Leaves, joined}
+use Rattle.plain_model.specs.Runs.{Deed, Attached, Called, Detached, Does, Leaves, joined}
 use Rattle.plain_model.proofs.Clients.{attached-is}
 use Rattle.plain_model.proofs.Merged.{law_of_paths}
 use Rattle.plain_model.proofs.Opened.{law_of_merge}
@@ -39,7 +37,7 @@ use Rattle.overlay_core.specs.declared.job.Job.{Job}
 use Rattle.overlay_core.specs.Mounting.{machine_options}
 use Rattle.overlay_core.specs.Rules.{Nothing}
 use Rattle.overlay_core.specs.States.{IsStateOf, Serves, StaysState}
-use Rattle.overlay_core.proofs.Leaving.{all-hear}
+use Rattle.overlay_core.proofs.Leaving.{step-by}
 
 -- what leads to a state for which the mount stands, leads to one that agrees
 settles : (s t : State) (c : ℕ) (deed : Deed) (old new : Mount) → Agrees old s → Does Nothing s c deed t → IsStateOf new t → Agrees new t
@@ -49,11 +47,7 @@ settles s t c deed old new a does stands = record { stands = stands; settled = d
 pub stays : (old new : Mount) → StaysState old new → Stays old new
 stays old new h s a = record { stands = h s a.stands; settled = a.settled }
 
--- a call that is answered as by the machine is a step of it
-step-by : (s : State) (c : ℕ) (k : Call) (r : Reply) (new : Mount) (o : Option Errno) → Serves o s c k r new → (t : State) × Answered o Nothing s c k r t × IsStateOf new t
-step-by s c k r new (Some e) h = (s, (h.0, refl), h.1)
-step-by s c k r new None h = (after s c k, record { answer = h.0; state = refl; heard = all-hear Nothing (subjects s c k) (after s c k).instances h.1.unwatched }, h.1)
-
+-- a call of an attached client
 pub goes-called : (old new : Mount) (c : ℕ) (k : Call) (r : Reply) → is_attached old.clients c ≡ true → ((s : State) → IsStateOf old s → Serves (refusal s c k) s c k r new) → Goes old c (Called k r) new
 goes-called old new c k r there h s a =
     let step = step-by s c k r new (refusal s c k) (h s a.stands) in

@@ -1,5 +1,5 @@
 -- Clients come on both sides.
-use Rattle.std.proofs.Common.{◌≡◌, ◌≢◌, ℕ, zero, suc, Bool, true, false, cond, ◌||◌, List, [], ◌∷◌, ◌++◌, Option, None, Result, Ok, Err, refl, sym, ap, ◌∙◌, subst, ◌⊎◌, inl, inr, is_some, length, replicate, slice_get, nat_eq, add-one}
+use Rattle.std.proofs.Common.{◌≡◌, ◌≢◌, ℕ, zero, suc, Bool, true, false, cond, ◌||◌, List, [], ◌∷◌, ◌++◌, Option, None, Some, Result, Ok, Err, refl, sym, ap, ◌∙◌, subst, ◌⊎◌, inl, inr, is_some, length, replicate, slice_get, nat_eq, add-one}
 use Rattle.std.proofs.lemmas.Bool.{false≢true, cases_eq, eq-eqb, ne_eqb}
 use Rattle.std.proofs.lemmas.List.{length-replicate}
 use Rattle.std.specs.List.{list_any}
@@ -9,7 +9,7 @@ use Rattle.std.specs.declared.alloc.AllocError.{AllocError}
 use Rattle.ov_base.specs.declared.errno.Errno.{Errno}
 use Rattle.std.specs.BTreeMap.{get}
 use Rattle.std.specs.Ordering.{nat_cmp}
-use Rattle.plain_model.specs.Layers.{AreLayers}
+use Rattle.plain_model.specs.Layers.{Layer, AreLayers}
 use Rattle.plain_model.specs.Tree.{Tree}
 use Rattle.plain_model.specs.Machine.{Handle, Table, State, DESCRIPTORS_MAX, free_table, opening, handles_of, held_in, handle_of}
 use Rattle.plain_model.specs.Merging.{IsMerge}
@@ -21,11 +21,15 @@ use Rattle.mount_laws.proofs.Looks.{law_of_beginning}
 use Rattle.overlay_core.specs.declared.clients.Clients.{Clients}
 use Rattle.open_handles.specs.declared.descriptors.Descriptors.{Descriptors}
 use Rattle.open_handles.specs.declared.handle.Handle as handles
+use Rattle.open_handles.specs.declared.handle.Handle.TheVariants.{File}
+use Rattle.open_handles.specs.declared.open_file.OpenFile.{OpenFile}
 use Rattle.overlay_core.specs.declared.mount.Mount.{Mount}
 use Rattle.overlay_core.specs.Attaching.{Attaches, IsSame, opened_by}
 use Rattle.open_handles.specs.Descriptors.{opened}
-use Rattle.overlay_core.specs.States.{IsSlot, AreTables, AreUnwatched, IsStateOf}
-use Rattle.overlay_core.proofs.Serving.{slot-as, carried, places-same}
+use Rattle.overlay_core.specs.Files.{IsOpenOn, AreOne}
+use Rattle.overlay_core.specs.States.{IsOpenAs, IsSlot, AreTables, AreUnwatched, IsStateOf}
+use Rattle.overlay_core.proofs.Serving.{slot-as, carried, places-same, OpensFewer, one-fewer}
+use Rattle.overlay_core.proofs.Stating.{Alike, keep-same}
 
 -- whether a table is of a client
 abbrev pub of : ℕ → Table → Bool
@@ -44,6 +48,7 @@ any-last (k ∷ ks) n b = ap (λ x. nat_eq k.client b || x) (any-last ks n b) �
     by true y z = refl
     by false y z = refl
 
+-- with false, and with true, on the right
 or-false : (x : Bool) → (x || false) ≡ x
 or-false true = refl
 or-false false = refl
@@ -52,6 +57,7 @@ or-true : (x : Bool) → (x || true) ≡ true
 or-true true = refl
 or-true false = refl
 
+-- where it is false that one of two holds, neither does
 first-false : (x y : Bool) → (x || y) ≡ false → x ≡ false
 first-false true y h = h
 first-false false y h = refl
@@ -60,6 +66,7 @@ second-false : (x y : Bool) → (x || y) ≡ false → y ≡ false
 second-false true y h = absurd (false≢true (sym h))
 second-false false y h = h
 
+-- the handles of another client, and of this one
 handles-last-other : (ks : List Table) (n b : ℕ) → b ≢ n → handles_of (ks ++ free_table n ∷ []) b ≡ handles_of ks b
 handles-last-other [] n b h = ap (λ x. cond x (replicate DESCRIPTORS_MAX None) []) (ne_eqb n b (λ e. h (sym e)))
 handles-last-other (k ∷ ks) n b h = ap (cond (nat_eq k.client b) k.handles) (handles-last-other ks n b h)
@@ -70,6 +77,7 @@ handles-last (k ∷ ks) n h =
     ap (λ x. cond x k.handles (handles_of (ks ++ free_table n ∷ []) n)) (first-false (nat_eq k.client n) (list_any (of n) ks) h)
     ∙ handles-last ks n (second-false (nat_eq k.client n) (list_any (of n) ks) h)
 
+-- a free table holds nothing
 held-free : (k d : ℕ) → held_in (slice_get (replicate k None) d) ≡ None
 held-free zero d = refl
 held-free (suc k) zero = refl
@@ -84,13 +92,31 @@ unwatched-last (x ∷ es) e a h = (a.0, unwatched-last es e a.1 h)
 abbrev pub open_in : ℕ → Option Descriptors → Option handles.Handle
 open_in d o = option_and_then (λ (x : Descriptors). opened x.slots.items d) o
 
-module _ (t : Tree) (clients : Clients) (ks : List Table) (a : AreTables t clients ks) (new : Clients) (n : ℕ) where
-  come : Attaches clients new n → AreTables t new (ks ++ free_table n ∷ [])
-  come h = record { attached = λ b. attached b (cases_eq b n); room = λ b. room b (cases_eq b n); slots = λ b d. slots b d (cases_eq b n) }
-    where
-      fresh : list_any (of n) ks ≡ false
-      fresh = a.attached n ∙ ap (λ (o : Option Descriptors). is_some o) h.fresh
+module _ (U : Layer) (lowers : List Layer) (t : Tree) (clients : Clients) (ks : List Table) (a : AreTables (IsOpenAs U lowers t clients.directories) clients ks) (new : Clients) (n : ℕ) (h : Attaches clients new n) where
+  -- the client had no table
+  fresh : list_any (of n) ks ≡ false
+  fresh = a.attached n ∙ ap (λ (o : Option Descriptors). is_some o) h.fresh
 
+  -- it has nothing open as it comes
+  opens-none : (d : ℕ) → opened_by new n d ≡ None
+  opens-none d = ap (open_in d) h.there ∙ ap (λ z. opened z d) h.none
+
+  -- and no handle
+  holds-none : (d : ℕ) → handle_of (ks ++ free_table n ∷ []) n d ≡ None
+  holds-none d = ap (λ z. held_in (slice_get z d)) (handles-last ks n fresh) ∙ held-free DESCRIPTORS_MAX d
+
+  -- another client has open what it had
+  opens-other : (b d : ℕ) → b ≢ n → opened_by new b d ≡ opened_by clients b d
+  opens-other b d m = ap (open_in d) (h.others b m)
+
+  -- by the handles that it had
+  holds-other : (b d : ℕ) → b ≢ n → handle_of (ks ++ free_table n ∷ []) b d ≡ handle_of ks b d
+  holds-other b d m = ap (λ z. held_in (slice_get z d)) (handles-last-other ks n b m)
+
+  -- the tables with the client's
+  come : AreTables (IsOpenAs U lowers t new.directories) new (ks ++ free_table n ∷ [])
+  come = record { attached = λ b. attached b (cases_eq b n); room = λ b. room b (cases_eq b n); slots = λ b d. slots b d (cases_eq b n) }
+    where
       attached : (b : ℕ) → (b ≡ n) ⊎ (b ≡ n → ⊥) → list_any (of b) (ks ++ free_table n ∷ []) ≡ is_some (get nat_cmp new.attached b)
       attached b (inl e) = any-last ks n b ∙ ap (λ x. list_any (of b) ks || x) (eq-eqb n b (sym e)) ∙ or-true (list_any (of b) ks) ∙ sym (ap (λ z. is_some (get nat_cmp new.attached z)) e ∙ ap (λ (o : Option Descriptors). is_some o) h.there)
       attached b (inr m) = any-last ks n b ∙ ap (λ x. list_any (of b) ks || x) (ne_eqb n b (λ e. m (sym e))) ∙ or-false (list_any (of b) ks) ∙ a.attached b ∙ sym (ap (λ (o : Option Descriptors). is_some o) (h.others b m))
@@ -101,14 +127,32 @@ module _ (t : Tree) (clients : Clients) (ks : List Table) (a : AreTables t clien
           (ap length (handles-last ks n fresh) ∙ length-replicate {A = Option Handle} DESCRIPTORS_MAX None ∙ sym (ap (λ (o : Option Descriptors). cond (is_some o) DESCRIPTORS_MAX 0) h.there))
       room b (inr m) = ap length (handles-last-other ks n b m) ∙ a.room b ∙ sym (ap (λ (o : Option Descriptors). cond (is_some o) DESCRIPTORS_MAX 0) (h.others b m))
 
-      slots : (b d : ℕ) → (b ≡ n) ⊎ (b ≡ n → ⊥) → IsSlot t new.directories (opened_by new b d) (handle_of (ks ++ free_table n ∷ []) b d)
+      slots : (b d : ℕ) → (b ≡ n) ⊎ (b ≡ n → ⊥) → IsSlot (IsOpenAs U lowers t new.directories) (opened_by new b d) (handle_of (ks ++ free_table n ∷ []) b d)
       slots b d (inl e) =
-          subst (λ z. IsSlot t new.directories (opened_by new z d) (handle_of (ks ++ free_table n ∷ []) z d)) (sym e)
-          (slot-as t new.directories None _ None _
-          (sym (ap (open_in d) h.there ∙ ap (λ z. opened z d) h.none))
-          (sym (ap (λ z. held_in (slice_get z d)) (handles-last ks n fresh) ∙ held-free DESCRIPTORS_MAX d))
-          tt)
-      slots b d (inr m) = slot-as t new.directories _ _ _ _ refl (sym (ap (λ z. held_in (slice_get z d)) (handles-last-other ks n b m))) (carried t clients new (places-same clients new h.places) b d (handle_of ks b d) (ap (open_in d) (h.others b m)) (a.slots b d))
+          subst (λ z. IsSlot (IsOpenAs U lowers t new.directories) (opened_by new z d) (handle_of (ks ++ free_table n ∷ []) z d)) (sym e)
+          (slot-as (IsOpenAs U lowers t new.directories) None _ None _ (sym (opens-none d)) (sym (holds-none d)) tt)
+      slots b d (inr m) =
+          slot-as (IsOpenAs U lowers t new.directories) _ _ _ _ refl (sym (holds-other b d m))
+          (carried U lowers t clients new (places-same clients new h.places) b d (handle_of ks b d) (opens-other b d m) (a.slots b d))
+
+  -- a file that is open was so before the client came
+  come-fewer : OpensFewer clients ks new (ks ++ free_table n ∷ [])
+  come-fewer k d x = by (cases_eq x.client n)
+    where
+      by : (x.client ≡ n) ⊎ (x.client ≡ n → ⊥) → IsOpenOn clients ks k d
+      by (inl e) =
+          let none : opened_by new x.client x.descriptor ≡ None = ap (λ z. opened_by new z x.descriptor) e ∙ opens-none x.descriptor in
+          cc (none, x.opened)
+      by (inr m) = record {
+        client = x.client;
+        descriptor = x.descriptor;
+        file = x.file;
+        handle = x.handle;
+        opened = sym (opens-other x.client x.descriptor m) ∙ x.opened;
+        key = x.key;
+        on = sym (holds-other x.client x.descriptor m) ∙ x.on;
+        at = x.at;
+      }
 
 -- a mount without clients stands for the opening state of the merge
 pub begins : (m : Mount) → ((n : ℕ) → get nat_cmp m.clients.attached n ≡ None) → m.clients.next ≡ 0 → (t : Tree) (redirects : Bool) → AreLayers (layers_of m.layers) → IsMerge (layer_of m.layers.upper) (lowers_of m.layers) t → IsStateOf m (opening t (record { redirects = redirects; read_only = false }))
@@ -119,27 +163,38 @@ begins m none next t redirects a merge = record {
   tables = record {
     attached = λ b. sym (ap (λ (o : Option Descriptors). is_some o) (none b));
     room = λ b. sym (ap (λ (o : Option Descriptors). cond (is_some o) DESCRIPTORS_MAX 0) (none b));
-    slots = λ b d. slot-as t m.clients.directories None _ None _ (sym (ap (open_in d) (none b))) refl tt;
+    slots = λ b d. slot-as _ None _ None _ (sym (ap (open_in d) (none b))) refl tt;
   };
+  one = λ k j d e x y. absurd (opens-nothing x.client x.descriptor x.file x.opened);
 }
+  where
+    opens-nothing : (b d : ℕ) (f : OpenFile) → opened_by m.clients b d ≡ Some (File f) → ⊥
+    opens-nothing b d f e =
+        let free : opened_by m.clients b d ≡ None = ap (open_in d) (none b) in
+        cc (free, e)
 
 module _ (m : Mount) (s : State) (st : IsStateOf m s) (new : Clients) where
+  abbrev U : Layer
+  U = layer_of m.layers.upper
+
+  abbrev lowers : List Layer
+  lowers = lowers_of m.layers
+
   -- nothing changed
   pub stays : IsSame m.clients new → IsStateOf (record m { clients = new }) s
-  stays h = record {
-    layers = st.layers;
-    arrived = h.next ∙ st.arrived;
-    unwatched = st.unwatched;
-    tables = record {
-      attached = λ b. st.tables.attached b ∙ sym (ap (λ (o : Option Descriptors). is_some o) (same b));
-      room = λ b. st.tables.room b ∙ sym (ap (λ (o : Option Descriptors). cond (is_some o) DESCRIPTORS_MAX 0) (same b));
-      slots = λ b d. carried s.tree m.clients new (places-same m.clients new h.places) b d (handle_of s.tables b d) (ap (open_in d) (same b)) (st.tables.slots b d);
-    };
-  }
+  stays h =
+      keep-same m s st new
+      (record {
+        attached = λ b. ap (λ (o : Option Descriptors). is_some o) (same b);
+        opened = λ b d. ap (open_in d) (same b);
+        places = places-same m.clients new h.places;
+        next = h.next;
+      })
     where
       same : (b : ℕ) → get nat_cmp new.attached b ≡ get nat_cmp m.clients.attached b
       same b = rw h.attached refl
 
+  -- a client came on both sides
   pub attaches : (n : ℕ) → Attaches m.clients new n → (tags : List ℕ) → (n ≡ s.arrived) × IsStateOf (record m { clients = new }) (joined s tags)
   attaches n h tags =
       let same : n ≡ s.arrived = h.next ∙ st.arrived in (
@@ -148,10 +203,12 @@ module _ (m : Mount) (s : State) (st : IsStateOf m s) (new : Clients) where
           layers = record { layers = st.layers.layers; shows = st.layers.shows; kept = st.layers.kept; writable = st.layers.writable };
           unwatched = unwatched-last s.instances (silent s.arrived tags) st.unwatched refl;
           arrived = h.rises ∙ add-one n ∙ ap suc same;
-          tables = subst (λ z. AreTables s.tree new (s.tables ++ free_table z ∷ [])) same (come s.tree m.clients s.tables st.tables new n h);
+          tables = subst (λ z. AreTables (Alike m.layers s new) new (s.tables ++ free_table z ∷ [])) same (come U lowers s.tree m.clients s.tables st.tables new n h);
+          one = subst (λ z. AreOne new (s.tables ++ free_table z ∷ [])) same (one-fewer m.clients new s.tables _ (come-fewer U lowers s.tree m.clients s.tables st.tables new n h) st.one);
         },
       )
 
+  -- whether a client is attached
   pub tells : (n : ℕ) (b : Bool) → b ≡ is_some (get nat_cmp m.clients.attached n) → b ≡ is_attached s n
   tells n b e = e ∙ sym (st.tables.attached n)
 
@@ -162,6 +219,7 @@ module _ (m : Mount) (new : Clients) where
   attach-serves (Ok (Err e)) h = tt
   attach-serves (Ok (Ok n)) h = λ s st tags. attaches m s st new n h tags
 
+  -- and where it wanted memory
   pub attach-failed : (r : Result (Result ℕ Errno) AllocError) → OnErr r (IsSame m.clients new) → OnErr r ((s : State) → IsStateOf m s → IsStateOf (record m { clients = new }) s)
   attach-failed (Err e) h = λ s st. stays m s st new h
   attach-failed (Ok a) h = tt

@@ -6,10 +6,13 @@ use Rattle.open_handles.specs.declared.descriptors.Descriptors.{Descriptors}
 use Rattle.open_handles.specs.declared.handle.Handle as handles
 use Rattle.open_handles.specs.declared.handle.Handle.TheVariants.{Directory, File}
 use Rattle.open_handles.specs.declared.handle.OpenDirectory.{OpenDirectory}
+use Rattle.open_handles.specs.declared.open_file.FileSource.{FileSource}
+use Rattle.open_handles.specs.declared.open_file.FileSource.TheVariants.{Upper, Lower}
+use Rattle.open_handles.specs.declared.open_file.OpenFile.{OpenFile}
 use Rattle.open_handles.specs.Descriptors.{opened}
-use Rattle.open_handles.specs.Holding.{holds, handles_on}
-use Rattle.open_handles.proofs.Holding.{handles_on-some}
-use Rattle.overlay_core.specs.Held.{sum_below, handles_by, handles_below}
+use Rattle.open_handles.specs.Holding.{holds, handles_on, is_upper, files_on}
+use Rattle.open_handles.proofs.Holding.{handles_on-some, files_on-some}
+use Rattle.overlay_core.specs.Held.{sum_below, handles_by, handles_below, files_by, files_below}
 
 abbrev Found : Type 0
 Found = ℕ → Option Descriptors
@@ -113,3 +116,67 @@ below-find f (suc n) k h = by (λ more. below-find f n k more) (f n) refl
         of (suc m) some =
             let found = slots-find x.slots.items k (omega arith) in
             record { client = n; descriptor = found.descriptor; handle = found.handle; there = ap (λ z. option_and_then (λ (y : Descriptors). opened y.slots.items found.descriptor) z) e ∙ found.there; on = found.on }
+
+-- a file of the upper that a client has open counts
+pub file-some : (f : Found) (n c d k : ℕ) (x : OpenFile) → c < n → x.source ≡ Upper k → option_and_then (λ (e : Descriptors). opened e.slots.items d) (f c) ≡ Some (File x) → 0 < files_below f n k
+file-some f n c d k x h key is = by (f c) refl is
+  where
+    by : (o : Option Descriptors) → f c ≡ o → option_and_then (λ (e : Descriptors). opened e.slots.items d) o ≡ Some (File x) → 0 < files_below f n k
+    by None e at = let no : None ≡ Some (File x) = at in absurd (cc)
+    by (Some y) e at =
+        let some : 0 < files_on y.slots.items k = files_on-some y.slots.items d k x key at in
+        let same : files_by (f c) k ≡ files_on y.slots.items k = ap (λ z. files_by z k) e in
+        let all : files_by (f c) k ≤ files_below f n k = below-one (λ z. files_by z k) f n c h in
+        omega arith
+
+-- a handle on the upper's file of this key
+record FileIn (slots : List (Option handles.Handle)) (k : ℕ) : Type 0 where
+  pub descriptor : ℕ
+  pub file : OpenFile
+  pub there : opened slots descriptor ≡ Some (File file)
+  pub key : file.source ≡ Upper k
+
+-- one slot further
+next-file : (slot : Option handles.Handle) (slots : List (Option handles.Handle)) (k : ℕ) → FileIn slots k → FileIn (slot ∷ slots) k
+next-file slot slots k x = record { descriptor = suc x.descriptor; file = x.file; there = x.there; key = x.key }
+
+-- where slots hold a file of the upper, one of them does
+files-find : (slots : List (Option handles.Handle)) (k : ℕ) → 0 < files_on slots k → FileIn slots k
+files-find [] k h = absurd (omega arith)
+files-find (None ∷ slots) k h = next-file None slots k (files-find slots k (omega arith))
+files-find (Some (Directory o) ∷ slots) k h = next-file (Some (Directory o)) slots k (files-find slots k (omega arith))
+files-find (Some (File x) ∷ slots) k h = by (λ more. files-find slots k more) x.source refl
+  where
+    later : (0 < files_on slots k → FileIn slots k) → is_upper x.source k ≡ 0 → FileIn (Some (File x) ∷ slots) k
+    later rest none = next-file (Some (File x)) slots k (rest (omega arith))
+
+    by : (0 < files_on slots k → FileIn slots k) → (source : FileSource) → x.source ≡ source → FileIn (Some (File x) ∷ slots) k
+    by rest (Lower layer key) e = later rest (ap (λ z. is_upper z k) e)
+    by rest (Upper key) e = of (nat_eq key k) refl
+      where
+        of : (b : Bool) → nat_eq key k ≡ b → FileIn (Some (File x) ∷ slots) k
+        of true is = record { descriptor = 0; file = x; there = refl; key = e ∙ ap Upper (eqb-true key k is) }
+        of false is = later rest (ap (λ z. is_upper z k) e ∙ ap (λ b. cond {A = ℕ} b 1 0) is)
+
+-- a client's handle on the upper's file of this key
+pub record FileBy (f : Found) (k : ℕ) : Type 0 where
+  pub client : ℕ
+  pub descriptor : ℕ
+  pub file : OpenFile
+  pub there : option_and_then (λ (e : Descriptors). opened e.slots.items descriptor) (f client) ≡ Some (File file)
+  pub key : file.source ≡ Upper k
+
+-- where clients hold a file of the upper, one of them does
+pub file-find : (f : Found) (n k : ℕ) → 0 < files_below f n k → FileBy f k
+file-find f zero k h = absurd (omega arith)
+file-find f (suc n) k h = by (λ more. file-find f n k more) (f n) refl
+  where
+    by : (0 < files_below f n k → FileBy f k) → (x : Option Descriptors) → f n ≡ x → FileBy f k
+    by later None e = let none : files_by (f n) k ≡ 0 = ap (λ z. files_by z k) e in later (omega arith)
+    by later (Some x) e = of (files_on x.slots.items k) refl
+      where
+        of : (m : ℕ) → files_on x.slots.items k ≡ m → FileBy f k
+        of zero none = let same : files_by (f n) k ≡ 0 = ap (λ z. files_by z k) e ∙ none in later (omega arith)
+        of (suc m) some =
+            let found = files-find x.slots.items k (omega arith) in
+            record { client = n; descriptor = found.descriptor; file = found.file; there = ap (λ z. option_and_then (λ (y : Descriptors). opened y.slots.items found.descriptor) z) e ∙ found.there; key = found.key }

@@ -1,11 +1,18 @@
 -- What a removal leaves once what lost its last name is freed.
-use Rattle.std.proofs.Common.{◌≡◌, ℕ, ◌∷◌, ◌++◌, sym, ap, ◌∙◌, subst, inl, inr}
+use Rattle.std.proofs.Common.{◌≡◌, ◌≢◌, ℕ, List, ◌∷◌, ◌++◌, Some, sym, ap, ◌∙◌, subst, inl, inr, is_some}
+use Rattle.std.specs.Option.{option_and_then, option_map}
 use Rattle.ov_base.specs.declared.call.Call.{Call}
-use Rattle.plain_model.specs.Layers.{Path, AreLayers}
+use Rattle.plain_model.specs.Layers.{Path, Inode, AreLayers}
 use Rattle.plain_model.specs.Machine.{State}
 use Rattle.plain_model.specs.Tree.{merged}
 use Rattle.mount_laws.specs.Removals.{Loses, Removes}
-use Rattle.layer_tree.specs.Tree.{layer_of, SameObjects}
+use Rattle.slab.specs.Slab.{get}
+use Rattle.layer_tree.specs.Table.{entry_in, object_key}
+use Rattle.layer_tree.specs.Tree.{layer_of, table_of, inode_of, seen, inode_at, child, IsUnmarked, IsTree, SameObjects}
+use Rattle.layer_tree.specs.Tree.{Tree as LayerTree}
+use Rattle.layer_tree.specs.Nameless.{IsNameless}
+use Rattle.layer_tree.specs.declared.node.Inode.{Inode as StoredInode}
+use Rattle.layer_tree.specs.declared.node.Node.TheVariants as node
 use Rattle.merged_lookup.specs.declared.layers.Layers.{Layers}
 use Rattle.merged_lookup.specs.Merged.{layers_of, lowers_of}
 use Rattle.copy_up.specs.Showing.{ShowsSame, StaysLayers, StaysMount, KeepsPath, KeepsOthers}
@@ -53,3 +60,22 @@ removes-then b c mounts s client p removal r = record {
   held = r.held;
   empty = r.empty;
 }
+
+-- an inode as a layer has it
+abbrev inode_as : StoredInode → Inode
+inode_as x = record { content = x.content; attributes = x.attributes; links = x.links }
+
+-- an inode without links has no name, and nothing stands in it
+pub unlinked : (t : LayerTree) (k : ℕ) (x : StoredInode) → IsTree t → ((key : ℕ) (i : Inode) → inode_at t key ≡ Some i → i.links ≡ 0 → (dir : ℕ) (name : List ℕ) → child t dir name ≢ Some key) → get t k ≡ Some (node.Inode x) → x.links ≡ 0 → IsNameless t k × ((i : Inode) → inode_at t k ≡ Some i → i.links ≡ 0)
+unlinked t k x tree unnamed is none = (
+  record {
+    present = ap is_some is;
+    not_root = λ e. subst IsUnmarked (ap (option_map (seen 0)) (ap (get t) (sym e) ∙ is)) tree.root;
+    unnamed = unnamed k _ here none;
+    bare = λ name. ap (λ o. option_and_then object_key (option_and_then (λ table. entry_in table name) (option_and_then table_of o))) is;
+  },
+  λ i e. (let z : Some (inode_as x) ≡ Some i = sym here ∙ e in let l : (inode_as x).links ≡ i.links = cc in sym l ∙ none),
+)
+  where
+    here : inode_at t k ≡ Some (inode_as x)
+    here = ap (option_and_then inode_of) is

@@ -4,25 +4,29 @@ use Rattle.std.proofs.lemmas.Bool.{cases_eq, ne_eqb}
 use Rattle.std.specs.Option.{option_and_then}
 use Rattle.std.specs.BTreeMap.{get}
 use Rattle.std.specs.Ordering.{nat_cmp}
+use Rattle.std.specs.Result.{IsErr}
 use Rattle.std.specs.declared.alloc.AllocError.{AllocError}
 use Rattle.plain_model.specs.Layers.{Name, Path}
 use Rattle.open_handles.specs.declared.descriptors.Descriptors.{Descriptors}
 use Rattle.open_handles.specs.declared.handle.Handle as handles
 use Rattle.open_handles.specs.declared.handle.Handle.TheVariants.{Directory, File}
 use Rattle.open_handles.specs.declared.handle.OpenDirectory.{OpenDirectory}
+use Rattle.open_handles.specs.declared.open_file.FileSource.{FileSource}
+use Rattle.open_handles.specs.declared.open_file.OpenFile.{OpenFile}
 use Rattle.open_handles.specs.Dentries.{Dentries}
 use Rattle.open_handles.specs.Descriptors.{opened, SetsSlot}
-use Rattle.open_handles.specs.Listings.{ChangesSlot, Closes, GivesNames, with_listing, after_names}
+use Rattle.open_handles.specs.Listings.{ChangesSlot, Closes, GivesNames, with_listing, with_place, after_names}
+use Rattle.ov_base.specs.declared.errno.Errno.{Errno}
 use Rattle.ov_base.specs.declared.errno.Errno.TheVariants.{EBADF}
 use Rattle.overlay_core.specs.Attaching.{opened_by, ChangesClient}
-use Rattle.open_handles.specs.Holding.{holds, handles_on, holds_file, files_on}
-use Rattle.open_handles.specs.FileHolders.{HeldFiles, file_holders}
+use Rattle.open_handles.specs.Holding.{holds, handles_on, is_upper, holds_file, files_on}
+use Rattle.open_handles.specs.FileHolders.{HeldFiles, file_holders, SameCounts}
 use Rattle.open_handles.specs.Opened as places
 use Rattle.open_handles.specs.Opened.{Location, At, holders, SameHandles}
 use Rattle.open_handles.proofs.Holding.{number_of, source_in, handles_on-opens, handles_on-closes, handles_on-changes, files_on-opens, files_on-closes, files_on-changes}
 use Rattle.overlay_core.specs.declared.clients.Clients.{Clients}
 use Rattle.overlay_core.specs.Held.{handles_by, handles_below, files_by, files_below, ClosesAll, ReleasesAll}
-use Rattle.overlay_core.specs.Opening.{OpensAt}
+use Rattle.overlay_core.specs.Opening.{OpensAt, OpensFile}
 use Rattle.overlay_core.proofs.Counting.{below-changes, below-some, has-client}
 
 -- a handle holds its directory, and no other
@@ -63,6 +67,10 @@ open-and-close old mid new p k some there opens closes = record { located = λ j
     located j (inl e) = ap (places.opened new) e ∙ here ∙ sym (ap (places.opened old) e)
     located j (inr off) = closes.others.located j off ∙ opens.others.located j off
 
+-- a file is held by one handle more, and let go again
+pub hold-and-close : (old mid new : HeldFiles) (source : FileSource) → ((k : ℕ) → file_holders mid k ≡ file_holders old k + is_upper source k) → ((k : ℕ) → file_holders new k + is_upper source k ≡ file_holders mid k) → SameCounts old new
+hold-and-close old mid new source up down k = let more = up k in let less = down k in omega arith
+
 -- a change of a listing leaves directory and file
 pub number-with : (l : Option (List Name)) (h : handles.Handle) → number_of (with_listing l h) ≡ number_of h
 number-with l (Directory o) = refl
@@ -71,6 +79,15 @@ number-with l (File f) = refl
 pub source-with : (l : Option (List Name)) (h : handles.Handle) → source_in (with_listing l h) ≡ source_in h
 source-with l (Directory o) = refl
 source-with l (File f) = refl
+
+-- and so does a place
+pub number-placed : (n : ℕ) (h : handles.Handle) → number_of (with_place n h) ≡ number_of h
+number-placed n (Directory o) = refl
+number-placed n (File f) = refl
+
+pub source-placed : (n : ℕ) (h : handles.Handle) → source_in (with_place n h) ≡ source_in h
+source-placed n (Directory o) = refl
+source-placed n (File f) = refl
 
 -- and so do names that are given
 number-after : (n : ℕ) (h : handles.Handle) → number_of (after_names n h) ≡ number_of h
@@ -118,12 +135,16 @@ module _ (old : Clients) (c : ℕ) (before : Descriptors) (was : get nat_cmp old
       let counted = handles.counted k in
       omega arith
 
-  pub files-same : after.slots.items ≡ before.slots.items → (k : ℕ) → file_holders old.files k ≡ files_below g old.next k
-  files-same same k =
+  pub files-kept : after.slots.items ≡ before.slots.items → (new : HeldFiles) → SameCounts old.files new → (k : ℕ) → file_holders new k ≡ files_below g old.next k
+  files-kept same new counts k =
       let all = count-files k in
       let kept : files_on after.slots.items k ≡ files_on before.slots.items k = ap (λ s. files_on s k) same in
       let held = old.held_files k in
+      let counted = counts k in
       omega arith
+
+  pub files-same : after.slots.items ≡ before.slots.items → (k : ℕ) → file_holders old.files k ≡ files_below g old.next k
+  files-same same = files-kept same old.files (λ k. refl)
 
   -- a handle changes, and stays on its directory, or its file
   pub held-listing : (d : ℕ) (change : handles.Handle → handles.Handle) → ((h : handles.Handle) → number_of (change h) ≡ number_of h) → ChangesSlot before.slots.items after.slots.items d change → (k : ℕ) → holders old.directories k ≡ handles_below g old.next k
@@ -170,6 +191,22 @@ module _ (old : Clients) (c : ℕ) (before : Descriptors) (was : get nat_cmp old
       let all = count-files k in
       let more : files_on after.slots.items k ≡ files_on before.slots.items k + 0 = files_on-opens before.slots.items after.slots.items d k (Directory o) free sets in
       let held = old.held_files k in
+      omega arith
+
+  -- a descriptor opens on a file
+  pub held-opens-file : (d : ℕ) (f : OpenFile) → opened before.slots.items d ≡ None → SetsSlot before.slots.items after.slots.items d (Some (File f)) → (k : ℕ) → holders old.directories k ≡ handles_below g old.next k
+  held-opens-file d f free sets k =
+      let all = count k in
+      let more : handles_on after.slots.items k ≡ handles_on before.slots.items k + 0 = handles_on-opens before.slots.items after.slots.items d k (File f) free sets in
+      let held = old.held k in
+      omega arith
+
+  pub files-opens-file : (d : ℕ) (f : OpenFile) (new : HeldFiles) → opened before.slots.items d ≡ None → SetsSlot before.slots.items after.slots.items d (Some (File f)) → ((k : ℕ) → file_holders new k ≡ file_holders old.files k + is_upper f.source k) → (k : ℕ) → file_holders new k ≡ files_below g old.next k
+  files-opens-file d f new free sets counts k =
+      let all = count-files k in
+      let more : files_on after.slots.items k ≡ files_on before.slots.items k + is_upper f.source k = files_on-opens before.slots.items after.slots.items d k (File f) free sets in
+      let held = old.held_files k in
+      let counted = counts k in
       omega arith
 
   -- what has a number that is open keeps its place
@@ -249,6 +286,24 @@ opens-failed old new c p e there same handles next = by (get nat_cmp old.attache
         places = λ b d o l stood at. handles.located o.directory ∙ at;
         next = next;
       };
+    }
+
+-- an open that wanted memory for the file
+pub file-failed : (old new : Clients) (c : ℕ) (f : OpenFile) (r : Result (Result ℕ Errno) AllocError) → IsErr r → IsSome (get nat_cmp old.attached c) → new.attached ≡ old.attached → new.directories ≡ old.directories → new.next ≡ old.next → OpensFile old new c f r
+file-failed old new c f (Ok x) wrong there same handles next = let no : false ≡ true = wrong in absurd (cc)
+file-failed old new c f (Err e) wrong there same handles next = by (get nat_cmp old.attached c) refl there
+  where
+    by : (o : Option Descriptors) → get nat_cmp old.attached c ≡ o → IsSome o → OpensFile old new c f (Err e)
+    by None is h = let no : false ≡ true = h in absurd (cc)
+    by (Some x) is h = record {
+      before = x;
+      was = is;
+      after = x;
+      is = ap (λ z. get nat_cmp z c) same ∙ is;
+      changes = record { lowest = tt; opens = tt; full = tt; refused = tt; err = refl };
+      others = λ m off. ap (λ z. get nat_cmp z m) same;
+      places = λ b d o l stood at. ap (λ z. places.opened z o.directory) handles ∙ at;
+      next = next;
     }
 
 -- a descriptor that isn't open is not closed

@@ -1,39 +1,208 @@
--- Clients go on both sides: each open descriptor is closed, and a removed directory goes with its last handle.
-use Rattle.std.proofs.Common.{◌≡◌, ◌≢◌, ℕ, zero, suc, Bool, true, false, not, cond, ◌||◌, List, [], ◌∷◌, ◌++◌, Option, None, Some, refl, sym, ap, ◌∙◌, subst, ◌⊎◌, inl, inr, is_some, length, filter, slice_get, slice_set, nat_eq}
-use Rattle.std.proofs.lemmas.Bool.{cases_eq, eqb-true, ne_eqb}
+-- Clients go on both sides: each descriptor is closed, the lowest first, and then the client's table goes.
+use Rattle.std.proofs.Common.{arith, ◌≡◌, ◌≢◌, ℕ, zero, suc, ◌+◌, ◌<◌, ◌≤◌, Bool, true, false, not, cond, ◌||◌, List, [], ◌∷◌, ◌++◌, Option, None, Some, refl, sym, ap, ◌∙◌, subst, ◌⊎◌, inl, inr, is_some, is_none, length, filter, slice_get, slice_set, nat_eq, get_or, take}
+use Rattle.std.proofs.lemmas.Bool.{cases_eq, cases_lt, eqb-true, ne_eqb}
+use Rattle.std.proofs.lemmas.List.{take_more, take_all, length-take-le}
+use Rattle.std.proofs.lemmas.Option.{slice_get-get_or, slice_get_past}
 use Rattle.std.specs.List.{list_any, flat_map}
 use Rattle.std.specs.BTreeMap.{get}
 use Rattle.std.specs.Ordering.{nat_cmp}
 use Rattle.std.specs.Prelude.{map, slice_index_or}
+use Rattle.ov_base.specs.declared.call.Call.{Call}
 use Rattle.ov_base.specs.declared.call.Call.TheVariants.{Close}
 use Rattle.ov_base.specs.declared.errno.Errno.{Errno}
+use Rattle.ov_base.specs.declared.errno.Errno.TheVariants.{EBADF}
+use Rattle.ov_base.specs.declared.node_id.NodeId.{NodeId}
 use Rattle.ov_base.specs.declared.reply.Reply.{Reply}
-use Rattle.ov_base.specs.declared.reply.Reply.TheVariants.{Refused}
 use Rattle.plain_model.specs.Layers.{Layer}
 use Rattle.plain_model.specs.Tree.{Tree}
 use Rattle.plain_model.specs.Watching.{Rule, Subject, Instance, AllHear, Puts, events, ends, all_asked, passed, all_passed}
 use Rattle.plain_model.specs.Machine.{Handle, Table, State, DESCRIPTORS_MAX, handles_of, held_in, handle_of}
-use Rattle.plain_model.specs.Refusals.{refusal}
+use Rattle.plain_model.specs.Refusals.{refusal, when}
 use Rattle.plain_model.specs.Changes.{with_handle, after}
-use Rattle.plain_model.specs.Replies.{reply_of}
+use Rattle.plain_model.specs.Subjects.{subjects}
 use Rattle.plain_model.specs.Runs.{Answered, Step, Closes, Leaves, without_instance, without_table}
+use Rattle.plain_model.proofs.Looking.{refusal-reading}
 use Rattle.layer_tree.specs.Tree.{layer_of}
+use Rattle.merged_lookup.specs.declared.layers.Layers.{Layers}
 use Rattle.merged_lookup.specs.Merged.{lowers_of}
-use Rattle.mount_laws.specs.Looks.{IsMountOf}
-use Rattle.mount_laws.specs.Removed.{ClosesHidden}
 use Rattle.mount_laws.proofs.Lists.{law_of_bad_descriptors}
-use Rattle.open_handles.specs.Dentries.{Dentries}
-use Rattle.overlay_core.specs.declared.clients.Clients.{Clients}
 use Rattle.open_handles.specs.declared.descriptors.Descriptors.{Descriptors}
 use Rattle.open_handles.specs.declared.handle.Handle as handles
-use Rattle.open_handles.specs.declared.handle.Handle.TheVariants.{Directory, File}
-use Rattle.open_handles.specs.declared.handle.OpenDirectory.{OpenDirectory}
+use Rattle.overlay_core.specs.declared.clients.Clients.{Clients}
 use Rattle.overlay_core.specs.declared.mount.Mount.{Mount}
-use Rattle.overlay_core.specs.Attaching.{Detaches, opened_by}
-use Rattle.overlay_core.specs.States.{IsHandle, IsSlot, AreTables, AreUnwatched, IsStateOf}
+use Rattle.overlay_core.specs.Attaching.{Detaches, KeepsOthers, KeepsPlaces, opened_by}
+use Rattle.overlay_core.specs.Files.{IsOpenOn}
+use Rattle.overlay_core.specs.Leaving.{ClosesEach}
+use Rattle.overlay_core.specs.Living.{KeepsPaths}
+use Rattle.overlay_core.specs.Rules.{Nothing}
+use Rattle.overlay_core.specs.States.{IsSlot, IsOpenAs, AreTables, AreUnwatched, IsStateOf, Serves}
 use Rattle.overlay_core.proofs.Coming.{of, open_in}
-use Rattle.overlay_core.proofs.Serving.{slot-as, carried, slot-moved, handle-same, handles-set, handles-others, attached-same, get-others}
-use Rattle.overlay_core.proofs.Directories.{closes}
+use Rattle.overlay_core.proofs.Serving.{slot-as, carried, handles-set, get-others, OpensFewer, one-fewer}
+
+unwatched-filter : (f : Instance → Bool) (es : List Instance) → AreUnwatched es → AreUnwatched (filter f es)
+unwatched-filter f [] a = tt
+unwatched-filter f (e ∷ es) a = by (f e) (unwatched-filter f es a.1)
+  where
+    by : (b : Bool) → AreUnwatched (filter f es) → AreUnwatched (cond b (e ∷ filter f es) (filter f es))
+    by true rest = (a.0, rest)
+    by false rest = rest
+
+-- an instance without watches stays as it is whatever is told, and asks nothing
+passed-none : (ss : List Subject) (e : Instance) → e.watches ≡ [] → all_passed e ss ≡ e
+passed-none [] e h = refl
+passed-none (s ∷ ss) e h =
+    let same : passed e s ≡ e = ap (λ ws. record e { watches = filter (λ w. not (ends e.client s w)) ws }) h ∙ sym (ap (λ ws. record e { watches = ws }) h) in
+    ap (λ z. all_passed z ss) same ∙ passed-none ss e h
+
+asked-none : (ss : List Subject) (e : Instance) → e.watches ≡ [] → all_asked e ss ≡ []
+asked-none [] e h = refl
+asked-none (s ∷ ss) e h =
+    ap (λ ws. flat_map (λ w. map (λ v. (slice_index_or e.tags w.slot 0, v)) (events e.client s w)) ws ++ all_asked (passed e s) ss) h
+    ∙ asked-none ss (passed e s) (ap (λ ws. filter (λ w. not (ends e.client s w)) ws) h)
+
+pub all-hear : (shows : Rule) (ss : List Subject) (es : List Instance) → AreUnwatched es → AllHear shows ss es es
+all-hear shows ss [] w = tt
+all-hear shows ss (e ∷ es) w = (
+  record {
+    watches = ap (λ (z : Instance). record z { queue = e.queue }) (sym (passed-none ss e w.0));
+    queue = subst (λ z. Puts shows z e.queue e.queue) (sym (asked-none ss e w.0)) refl;
+  },
+  all-hear shows ss es w.1,
+)
+
+-- a call that is answered is one that the machine takes, and nobody hears of it
+taken : (s : State) (c : ℕ) (k : Call) (r : Reply) (new : Mount) → Serves None s c k r new → Answered None Nothing s c k r (after s c k)
+taken s c k r new h = record { answer = h.0; state = refl; heard = all-hear Nothing (subjects s c k) (after s c k).instances h.1.unwatched }
+
+-- a call that is answered as by the machine is a step of it
+pub step-by : (s : State) (c : ℕ) (k : Call) (r : Reply) (new : Mount) (o : Option Errno) → Serves o s c k r new → (t : State) × Answered o Nothing s c k r t × IsStateOf new t
+step-by s c k r new (Some e) h = (s, (h.0, refl), h.1)
+step-by s c k r new None h = (after s c k, taken s c k r new h, h.1)
+
+-- a descriptor that is closed is free
+closed-none : (hs : List (Option Handle)) (i : ℕ) → held_in (slice_get (slice_set hs i None) i) ≡ None
+closed-none [] i = refl
+closed-none (h ∷ hs) zero = refl
+closed-none (h ∷ hs) (suc i) = closed-none hs i
+
+-- a slot without a handle is not open
+slot-free : (P : handles.Handle → Handle → Type 0) (a : Option handles.Handle) (x : Option Handle) → IsSlot P a x → x ≡ None → a ≡ None
+slot-free P None x s e = refl
+slot-free P (Some o) None s e = absurd s
+slot-free P (Some o) (Some h) s e = cc
+
+-- an open descriptor can be closed
+unrefused : (s : State) (c i : ℕ) (h : Handle) → handle_of s.tables c i ≡ Some h → refusal s c (Close i) ≡ None
+unrefused s c i h on = refusal-reading s c (Close i) refl ∙ ap (λ (x : Option Handle). when (is_none x) EBADF) on
+
+-- one handle more is closed
+closes-more : (s : State) (c j : ℕ) (hs : List (Option Handle)) (x : Option Handle) (t u : State) (i : ℕ) → i ≡ j + length hs → Closes Nothing s c j hs t → Closes Nothing t c i (x ∷ []) u → Closes Nothing s c j (hs ++ x ∷ []) u
+closes-more s c j [] x t u i at h more =
+    let here : i ≡ j = omega arith in
+    subst (λ z. Closes Nothing z c j (x ∷ []) u) h (subst (λ k. Closes Nothing t c k (x ∷ []) u) here more)
+closes-more s c j (None ∷ hs) x t u i at h more = closes-more s c (suc j) hs x t u i (omega arith) h more
+closes-more s c j (Some y ∷ hs) x t u i at h more = (h.0, h.1, h.2, closes-more h.1 c (suc j) hs x t u i (omega arith) h.3 more)
+
+-- a client's descriptors below one are closed, the lowest first, and the others lead where they led
+pub record ClosesBelow (s : State) (c i : ℕ) (new : Mount) : Type 0 where
+  pub last : State
+  pub closes : Closes Nothing (without_instance s c) c 0 (take i (handles_of s.tables c)) last
+  pub stands : IsStateOf new last
+  pub free : (d : ℕ) → d < i → handle_of last.tables c d ≡ None
+  pub rest : (d : ℕ) → i ≤ d → handle_of last.tables c d ≡ handle_of s.tables c d
+
+-- none is closed, and nobody watches for the client
+pub closes-none : (m : Mount) (s : State) (c : ℕ) → IsStateOf m s → ClosesBelow s c 0 m
+closes-none m s c st = record {
+  last = without_instance s c;
+  closes = refl;
+  stands = record {
+    layers = record { layers = st.layers.layers; shows = st.layers.shows; kept = st.layers.kept; writable = st.layers.writable };
+    tables = st.tables;
+    one = st.one;
+    arrived = st.arrived;
+    unwatched = unwatched-filter (λ e. not (nat_eq e.client c)) s.instances st.unwatched;
+  };
+  free = λ d below. absurd (omega arith);
+  rest = λ d above. refl;
+}
+
+module _ (s : State) (m new : Mount) (c i : ℕ) (b : ClosesBelow s c i m) (within : i < length (handles_of s.tables c)) where
+  abbrev slots : List (Option Handle)
+  slots = handles_of s.tables c
+
+  -- what the descriptor leads to
+  abbrev slot : Option Handle
+  slot = get_or slots i None
+
+  leads : (x : Option Handle) → slot ≡ x → handle_of b.last.tables c i ≡ held_in (Some x)
+  leads x is = b.rest i (omega arith) ∙ ap held_in (slice_get-get_or slots i None within) ∙ ap (λ z. held_in (Some z)) is
+
+  -- the descriptor's step comes last
+  closed-to : (last : State) → Closes Nothing b.last c i (slot ∷ []) last → Closes Nothing (without_instance s c) c 0 (take (i + 1) slots) last
+  closed-to last step =
+      subst (λ hs. Closes Nothing (without_instance s c) c 0 hs last) (sym (take_more slots i None within))
+      (closes-more (without_instance s c) c 0 (take i slots) slot b.last last i (omega (arith, length-take-le i slots (omega arith))) b.closes step)
+
+  -- a descriptor that is free makes no step
+  stays-free : slot ≡ None → IsStateOf new b.last → ClosesBelow s c (i + 1) new
+  stays-free none st = record {
+    last = b.last;
+    closes = closed-to b.last (subst (λ x. Closes Nothing b.last c i (x ∷ []) b.last) (sym none) refl);
+    stands = st;
+    free = λ d below. free d (cases_eq d i) below;
+    rest = λ d above. b.rest d (omega arith);
+  }
+    where
+      free : (d : ℕ) → (d ≡ i) ⊎ (d ≡ i → ⊥) → d < i + 1 → handle_of b.last.tables c d ≡ None
+      free d (inl e) below = ap (λ z. handle_of b.last.tables c z) e ∙ leads None none
+      free d (inr n) below = b.free d (omega arith)
+
+  -- an open one is closed
+  is-closed : (h : Handle) (r : Reply) → slot ≡ Some h → Serves None b.last c (Close i) r new → ClosesBelow s c (i + 1) new
+  is-closed h r some served = record {
+    last = after b.last c (Close i);
+    closes = closed-to (after b.last c (Close i)) (subst (λ x. Closes Nothing b.last c i (x ∷ []) (after b.last c (Close i))) (sym some) (r, after b.last c (Close i), step, refl));
+    stands = served.1;
+    free = λ d below. free d (cases_eq d i) below;
+    rest = λ d above. others d (λ e. absurd (omega arith)) ∙ b.rest d (omega arith);
+  }
+    where
+      step : Step Nothing b.last c (Close i) r (after b.last c (Close i))
+      step = subst (λ o. Answered o Nothing b.last c (Close i) r (after b.last c (Close i))) (sym (unrefused b.last c i h (leads (Some h) some))) (taken b.last c (Close i) r new served)
+
+      others : (d : ℕ) → d ≢ i → handle_of (with_handle b.last.tables c i None) c d ≡ handle_of b.last.tables c d
+      others d n = ap (λ z. held_in (slice_get z d)) (handles-set b.last.tables c i None) ∙ ap held_in (get-others (handles_of b.last.tables c) i d None n)
+
+      free : (d : ℕ) → (d ≡ i) ⊎ (d ≡ i → ⊥) → d < i + 1 → handle_of (with_handle b.last.tables c i None) c d ≡ None
+      free d (inl e) below =
+          ap (λ z. handle_of (with_handle b.last.tables c i None) c z) e
+          ∙ ap (λ z. held_in (slice_get z i)) (handles-set b.last.tables c i None)
+          ∙ closed-none (handles_of b.last.tables c) i
+      free d (inr n) below = others d n ∙ b.free d (omega arith)
+
+  -- one descriptor more is closed
+  pub closes-next : (r : Reply) → Serves (refusal b.last c (Close i)) b.last c (Close i) r new → ClosesBelow s c (i + 1) new
+  closes-next r served = by slot refl
+    where
+      by : (x : Option Handle) → slot ≡ x → ClosesBelow s c (i + 1) new
+      by None none =
+          let refused : Serves (Some EBADF) b.last c (Close i) r new = subst (λ o. Serves o b.last c (Close i) r new) (law_of_bad_descriptors b.last c i (leads None none)).closing served in
+          stays-free none refused.1
+      by (Some h) some = is-closed h r some (subst (λ o. Serves o b.last c (Close i) r new) (unrefused b.last c i h (leads (Some h) some)) served)
+
+-- all are closed
+pub closes-each : (s : State) (new : Mount) (c i : ℕ) → length (handles_of s.tables c) ≤ i → ClosesBelow s c i new → ClosesEach s c new
+closes-each s new c i all b = record {
+  last = b.last;
+  closes = subst (λ hs. Closes Nothing (without_instance s c) c 0 hs b.last) (take_all i (handles_of s.tables c) all) b.closes;
+  stands = b.stands;
+  none = λ d. slot-free _ _ _ (b.stands.tables.slots c d) (by d (cases_lt d i));
+}
+  where
+    by : (d : ℕ) → (d < i) ⊎ (i ≤ d) → handle_of b.last.tables c d ≡ None
+    by d (inl below) = b.free d below
+    by d (inr above) = b.rest d above ∙ ap held_in (slice_get_past (handles_of s.tables c) d (omega arith))
 
 -- the tables but a client's
 abbrev without : ℕ → List Table → List Table
@@ -72,203 +241,78 @@ any-kept (k ∷ ks) n b h = by (nat_eq k.client n) refl (any-kept ks n b h)
     by true e rest = rest ∙ sym (ap (λ x. x || list_any (of b) ks) (ne_eqb k.client b (λ f. h (sym f ∙ eqb-true k.client n e))))
     by false e rest = ap (λ x. nat_eq k.client b || x) rest
 
-unwatched-filter : (f : Instance → Bool) (es : List Instance) → AreUnwatched es → AreUnwatched (filter f es)
-unwatched-filter f [] a = tt
-unwatched-filter f (e ∷ es) a = by (f e) (unwatched-filter f es a.1)
-  where
-    by : (b : Bool) → AreUnwatched (filter f es) → AreUnwatched (cond b (e ∷ filter f es) (filter f es))
-    by true rest = (a.0, rest)
-    by false rest = rest
-
--- the tables of all clients but one are those that the server keeps
-record AreOthers (t : Tree) (clients : Clients) (n : ℕ) (ks : List Table) : Type 0 where
-  pub attached : (b : ℕ) → b ≢ n → list_any (of b) ks ≡ is_some (get nat_cmp clients.attached b)
-  pub room : (b : ℕ) → b ≢ n → length (handles_of ks b) ≡ cond (is_some (get nat_cmp clients.attached b)) DESCRIPTORS_MAX 0
-  pub slots : (b d : ℕ) → b ≢ n → IsSlot t clients.directories (opened_by clients b d) (handle_of ks b d)
-
--- without the one they are all the tables
-go : (t : Tree) (clients : Clients) (ks : List Table) (new : Clients) (n : ℕ) → AreOthers t clients n ks → Detaches clients new n → AreTables t new (without n ks)
-go t clients ks new n a h = record { attached = λ b. attached b (cases_eq b n); room = λ b. room b (cases_eq b n); slots = λ b d. slots b d (cases_eq b n) }
+-- without a client that goes the tables are those of the others
+go : (U : Layer) (lowers : List Layer) (t : Tree) (clients new : Clients) (ks : List Table) (n : ℕ) → AreTables (IsOpenAs U lowers t clients.directories) clients ks → Detaches clients new n → KeepsPlaces clients new → AreTables (IsOpenAs U lowers t new.directories) new (without n ks)
+go U lowers t clients new ks n a h places = record { attached = λ b. attached b (cases_eq b n); room = λ b. room b (cases_eq b n); slots = λ b d. slots b d (cases_eq b n) }
   where
     attached : (b : ℕ) → (b ≡ n) ⊎ (b ≡ n → ⊥) → list_any (of b) (without n ks) ≡ is_some (get nat_cmp new.attached b)
     attached b (inl e) = subst (λ z. list_any (of z) (without n ks) ≡ is_some (get nat_cmp new.attached z)) (sym e) (any-gone ks n ∙ sym (ap (λ (o : Option Descriptors). is_some o) h.gone))
-    attached b (inr m) = any-kept ks n b m ∙ a.attached b m ∙ sym (ap (λ (o : Option Descriptors). is_some o) (h.others b m))
+    attached b (inr m) = any-kept ks n b m ∙ a.attached b ∙ sym (ap (λ (o : Option Descriptors). is_some o) (h.others b m))
 
     room : (b : ℕ) → (b ≡ n) ⊎ (b ≡ n → ⊥) → length (handles_of (without n ks) b) ≡ cond (is_some (get nat_cmp new.attached b)) DESCRIPTORS_MAX 0
     room b (inl e) = subst (λ z. length (handles_of (without n ks) z) ≡ cond (is_some (get nat_cmp new.attached z)) DESCRIPTORS_MAX 0) (sym e) (ap length (handles-gone ks n) ∙ sym (ap (λ (o : Option Descriptors). cond (is_some o) DESCRIPTORS_MAX 0) h.gone))
-    room b (inr m) = ap length (handles-kept ks n b m) ∙ a.room b m ∙ sym (ap (λ (o : Option Descriptors). cond (is_some o) DESCRIPTORS_MAX 0) (h.others b m))
+    room b (inr m) = ap length (handles-kept ks n b m) ∙ a.room b ∙ sym (ap (λ (o : Option Descriptors). cond (is_some o) DESCRIPTORS_MAX 0) (h.others b m))
 
-    slots : (b d : ℕ) → (b ≡ n) ⊎ (b ≡ n → ⊥) → IsSlot t new.directories (opened_by new b d) (handle_of (without n ks) b d)
+    slots : (b d : ℕ) → (b ≡ n) ⊎ (b ≡ n → ⊥) → IsSlot (IsOpenAs U lowers t new.directories) (opened_by new b d) (handle_of (without n ks) b d)
     slots b d (inl e) =
-        subst (λ z. IsSlot t new.directories (opened_by new z d) (handle_of (without n ks) z d)) (sym e)
-        (slot-as t new.directories None _ None _ (sym (ap (open_in d) h.gone)) (sym (ap (λ z. held_in (slice_get z d)) (handles-gone ks n))) tt)
-    slots b d (inr m) = slot-as t new.directories _ _ _ _ refl (sym (ap (λ z. held_in (slice_get z d)) (handles-kept ks n b m))) (carried t clients new h.places b d (handle_of ks b d) (ap (open_in d) (h.others b m)) (a.slots b d m))
+        subst (λ z. IsSlot (IsOpenAs U lowers t new.directories) (opened_by new z d) (handle_of (without n ks) z d)) (sym e)
+        (slot-as (IsOpenAs U lowers t new.directories) None _ None _ (sym (ap (open_in d) h.gone)) (sym (ap (λ z. held_in (slice_get z d)) (handles-gone ks n))) tt)
+    slots b d (inr m) =
+        slot-as (IsOpenAs U lowers t new.directories) _ _ _ _ refl (sym (ap (λ z. held_in (slice_get z d)) (handles-kept ks n b m)))
+        (carried U lowers t clients new places b d (handle_of ks b d) (ap (open_in d) (h.others b m)) (a.slots b d))
 
--- an instance without watches stays as it is whatever is told, and asks nothing
-passed-none : (ss : List Subject) (e : Instance) → e.watches ≡ [] → all_passed e ss ≡ e
-passed-none [] e h = refl
-passed-none (s ∷ ss) e h =
-    let same : passed e s ≡ e = ap (λ ws. record e { watches = filter (λ w. not (ends e.client s w)) ws }) h ∙ sym (ap (λ ws. record e { watches = ws }) h) in
-    ap (λ z. all_passed z ss) same ∙ passed-none ss e h
-
-asked-none : (ss : List Subject) (e : Instance) → e.watches ≡ [] → all_asked e ss ≡ []
-asked-none [] e h = refl
-asked-none (s ∷ ss) e h =
-    ap (λ ws. flat_map (λ w. map (λ v. (slice_index_or e.tags w.slot 0, v)) (events e.client s w)) ws ++ all_asked (passed e s) ss) h
-    ∙ asked-none ss (passed e s) (ap (λ ws. filter (λ w. not (ends e.client s w)) ws) h)
-
-pub all-hear : (shows : Rule) (ss : List Subject) (es : List Instance) → AreUnwatched es → AllHear shows ss es es
-all-hear shows ss [] w = tt
-all-hear shows ss (e ∷ es) w = (
-  record {
-    watches = ap (λ (z : Instance). record z { queue = e.queue }) (sym (passed-none ss e w.0));
-    queue = subst (λ z. Puts shows z e.queue e.queue) (sym (asked-none ss e w.0)) refl;
-  },
-  all-hear shows ss es w.1,
-)
-
-unwatched-heard : (shows : Rule) (ss : List Subject) (es fs : List Instance) → AllHear shows ss es fs → AreUnwatched es → AreUnwatched fs
-unwatched-heard shows ss [] [] h w = tt
-unwatched-heard shows ss [] (f ∷ fs) h w = absurd h
-unwatched-heard shows ss (e ∷ es) [] h w = absurd h
-unwatched-heard shows ss (e ∷ es) (f ∷ fs) h w = (ap (λ z. z.watches) h.0.watches ∙ ap (λ z. z.watches) (passed-none ss e w.0) ∙ w.0, unwatched-heard shows ss es fs h.1 w.1)
-
--- a descriptor that is closed is free
-closed-none : (hs : List (Option Handle)) (i : ℕ) → held_in (slice_get (slice_set hs i None) i) ≡ None
-closed-none [] i = refl
-closed-none (h ∷ hs) zero = refl
-closed-none (h ∷ hs) (suc i) = closed-none hs i
-
--- an open descriptor has an open directory
-own-handle : (t : Tree) (ds : Dentries) (a : Option handles.Handle) (x : Option Handle) (h : Handle) → IsSlot t ds a x → x ≡ Some h → (o : OpenDirectory) × IsHandle t ds o h
-own-handle t ds a None h s e = cc
-own-handle t ds None (Some x) h s e = absurd s
-own-handle t ds (Some (File f)) (Some x) h s e = absurd s
-own-handle t ds (Some (Directory o)) (Some x) h s e =
-    let same : x ≡ h = cc in
-    (o, subst (IsHandle t ds o) same s)
-
--- A client's descriptors are being closed: other clients have theirs, and each of its own that is still open is on a directory.
-record Leaving (U : Layer) (lowers : List Layer) (clients : Clients) (n : ℕ) (s : State) : Type 0 where
-  pub mount : IsMountOf U lowers s
-  pub others : AreOthers s.tree clients n s.tables
-  pub own : (d : ℕ) → (o : Option handles.Handle) × IsSlot s.tree clients.directories o (handle_of s.tables n d)
-  pub arrived : clients.next ≡ s.arrived
-  pub unwatched : AreUnwatched s.instances
-
-module _ (U : Layer) (lowers : List Layer) (clients : Clients) (n : ℕ) where
-  module _ (s : State) (l : Leaving U lowers clients n s) (i : ℕ) (h : Handle) (on : handle_of s.tables n i ≡ Some h) where
-    abbrev closed : State
-    closed = after s n (Close i)
-
-    own : (o : OpenDirectory) × IsHandle s.tree clients.directories o h
-    own = own-handle s.tree clients.directories (l.own i).0 _ h (l.own i).1 on
-
-    law : ClosesHidden U lowers s n i h
-    law = closes U lowers s l.mount n i clients.directories own.0 h on own.1
-
-    -- a slot whose handle is still open is one of the tree without what went
-    moved : (b d : ℕ) (o : Option handles.Handle) → IsSlot s.tree clients.directories o (handle_of (with_handle s.tables n i None) b d) → IsSlot closed.tree clients.directories o (handle_of (with_handle s.tables n i None) b d)
-    moved b d o x = slot-moved s.tree closed.tree clients.directories o _ (λ p g e at is. handle-same s.tree closed.tree clients.directories law.paths p g (law.held b d g at) is) x
-
-    own-left : (d : ℕ) → (d ≡ i) ⊎ (d ≡ i → ⊥) → (o : Option handles.Handle) × IsSlot closed.tree clients.directories o (handle_of (with_handle s.tables n i None) n d)
-    own-left d (inl e) = (
-      None,
-      slot-as closed.tree clients.directories None None None _ refl
-          (sym (ap (λ z. held_in (slice_get z d)) (handles-set s.tables n i None) ∙ ap (λ z. held_in (slice_get (slice_set (handles_of s.tables n) i None) z)) e ∙ closed-none (handles_of s.tables n) i))
-          tt,
-    )
-    own-left d (inr m) = (
-      (l.own d).0,
-      moved n d (l.own d).0
-          (slot-as s.tree clients.directories _ _ _ _ refl
-          (sym (ap (λ z. held_in (slice_get z d)) (handles-set s.tables n i None) ∙ ap held_in (get-others (handles_of s.tables n) i d None m)))
-          (l.own d).1),
-    )
-
-    -- one descriptor less
-    closing : (es : List Instance) → AreUnwatched es → Leaving U lowers clients n (record closed { instances = es })
-    closing es w = record {
-      mount = record { layers = law.mounts.layers; shows = law.mounts.shows; kept = law.mounts.kept; writable = law.mounts.writable };
-      others = record {
-        attached = λ b m. attached-same s.tables n i b None ∙ l.others.attached b m;
-        room = λ b m. ap length (handles-others s.tables n i b None m) ∙ l.others.room b m;
-        slots = λ b d m. moved b d (opened_by clients b d) (slot-as s.tree clients.directories _ _ _ _ refl (sym (ap (λ z. held_in (slice_get z d)) (handles-others s.tables n i b None m))) (l.others.slots b d m));
-      };
-      own = λ d. own-left d (cases_eq d i);
-      arrived = l.arrived;
-      unwatched = w;
+-- what is open without it was open with it
+go-fewer : (clients new : Clients) (ks : List Table) (n : ℕ) → Detaches clients new n → OpensFewer clients ks new (without n ks)
+go-fewer clients new ks n h k d on = by (cases_eq on.client n)
+  where
+    by : (on.client ≡ n) ⊎ (on.client ≡ n → ⊥) → IsOpenOn clients ks k d
+    by (inl e) =
+        let none : opened_by new on.client on.descriptor ≡ None = ap (λ z. opened_by new z on.descriptor) e ∙ ap (open_in on.descriptor) h.gone in
+        let some = on.opened in
+        cc
+    by (inr m) = record {
+      client = on.client;
+      descriptor = on.descriptor;
+      file = on.file;
+      handle = on.handle;
+      opened = sym (ap (open_in on.descriptor) (h.others on.client m)) ∙ on.opened;
+      key = on.key;
+      on = sym (ap (λ z. held_in (slice_get z on.descriptor)) (handles-kept ks n on.client m)) ∙ on.on;
+      at = on.at;
     }
 
-  module _ (shows : Rule) where
-    step-leaves : (s : State) (i : ℕ) (r : Reply) (t : State) → Step shows s n (Close i) r t → Leaving U lowers clients n s → Leaving U lowers clients n t
-    step-leaves s i r t step l = by (handle_of s.tables n i) refl
-      where
-        by : (x : Option Handle) → handle_of s.tables n i ≡ x → Leaving U lowers clients n t
-        by None e =
-            let refused : Answered (Some _) shows s n (Close i) r t = subst (λ z. Answered z shows s n (Close i) r t) (law_of_bad_descriptors s n i e).closing step in
-            subst (Leaving U lowers clients n) (sym refused.1) l
-        by (Some h) e =
-            let taken : Answered None shows s n (Close i) r t = subst (λ z. Answered z shows s n (Close i) r t) (law s l i h e).refused step in
-            subst (Leaving U lowers clients n) (sym taken.state) (closing s l i h e t.instances (unwatched-heard shows _ s.instances t.instances taken.heard l.unwatched))
+-- the mount stands for the state without a client that is gone
+gone : (m : Mount) (s : State) (new : Clients) (n : ℕ) → IsStateOf m s → Detaches m.clients new n → KeepsPlaces m.clients new → IsStateOf (record m { clients = new }) (without_table s n)
+gone m s new n st h places = record {
+  layers = record { layers = st.layers.layers; shows = st.layers.shows; kept = st.layers.kept; writable = st.layers.writable };
+  tables = go (layer_of m.layers.upper) (lowers_of m.layers) s.tree m.clients new s.tables n st.tables h places;
+  one = one-fewer m.clients new s.tables (without n s.tables) (go-fewer m.clients new s.tables n h) st.one;
+  arrived = h.next ∙ st.arrived;
+  unwatched = st.unwatched;
+}
 
-    closes-leave : (i : ℕ) (hs : List (Option Handle)) (s t : State) → Closes shows s n i hs t → Leaving U lowers clients n s → Leaving U lowers clients n t
-    closes-leave i [] s t h l = subst (Leaving U lowers clients n) (sym h) l
-    closes-leave i (None ∷ hs) s t h l = closes-leave _ hs s t h l
-    closes-leave i (Some x ∷ hs) s t h l = closes-leave _ hs h.1 t h.3 (step-leaves s i h.0 h.1 h.2 l)
+-- a client whose descriptors are closed leaves
+pub leaves : (s : State) (m : Mount) (new : Clients) (n : ℕ) → ClosesEach s n m → Detaches m.clients new n → KeepsPlaces m.clients new → (t : State) × Leaves Nothing s n t × IsStateOf (record m { clients = new }) t
+leaves s m new n c h places = (without_table c.last n, (c.last, c.closes, refl), gone m c.last new n c.stands h places)
 
--- without watches a client's descriptors can be closed
-step-exists : (shows : Rule) (s : State) (n i : ℕ) → AreUnwatched s.instances → (r : Reply) × (t : State) × Step shows s n (Close i) r t × AreUnwatched t.instances
-step-exists shows s n i w = by (refusal s n (Close i)) refl
-  where
-    by : (o : Option Errno) → refusal s n (Close i) ≡ o → (r : Reply) × (t : State) × Step shows s n (Close i) r t × AreUnwatched t.instances
-    by None e = (
-      reply_of s n (Close i),
-      after s n (Close i),
-      subst (λ z. Answered z shows s n (Close i) (reply_of s n (Close i)) (after s n (Close i))) (sym e) (record { answer = refl; state = refl; heard = all-hear shows _ s.instances w }),
-      w,
-    )
-    by (Some d) e = (Refused d, s, subst (λ z. Answered z shows s n (Close i) (Refused d) s) (sym e) (refl, refl), w)
+-- and what came before its closes stays of the clients
+pub detaches-on : (old between new : Clients) (n : ℕ) → KeepsOthers old between n → Detaches between new n → Detaches old new n
+detaches-on old between new n h g = record { gone = g.gone; others = λ m other. g.others m other ∙ h.others m other; next = g.next ∙ h.next }
 
-closes-exist : (shows : Rule) (n i : ℕ) (hs : List (Option Handle)) (s : State) → AreUnwatched s.instances → (t : State) × Closes shows s n i hs t
-closes-exist shows n i [] s w = (s, refl)
-closes-exist shows n i (None ∷ hs) s w = closes-exist shows n _ hs s w
-closes-exist shows n i (Some x ∷ hs) s w =
-    let step = step-exists shows s n i w in
-    let rest = closes-exist shows n (suc i) hs step.1 step.3 in
-    (rest.0, (step.0, step.1, step.2, rest.1))
+-- the other clients stay as they are, at once and through two changes
+pub others-same : (clients : Clients) (n : ℕ) → KeepsOthers clients clients n
+others-same clients n = record { attached = λ is. is; others = λ m other. refl; next = refl }
 
-module _ (m : Mount) (s : State) (st : IsStateOf m s) (new : Clients) (n : ℕ) (h : Detaches m.clients new n) where
-  abbrev U : Layer
-  U = layer_of m.layers.upper
+pub others-on : (old between new : Clients) (n : ℕ) → KeepsOthers old between n → KeepsOthers between new n → KeepsOthers old new n
+others-on old between new n h g = record { attached = λ is. g.attached (h.attached is); others = λ m other. g.others m other ∙ h.others m other; next = g.next ∙ h.next }
 
-  abbrev lowers : List Layer
-  lowers = lowers_of m.layers
+-- and so do paths
+pub paths-same : (l : Layers) → KeepsPaths l l
+paths-same l = record { lowers = refl; objects = λ x. refl; inodes = λ x k named. refl }
 
-  -- the client's watches are gone
-  unwatching : Leaving U lowers m.clients n (without_instance s n)
-  unwatching = record {
-    mount = record { layers = st.layers.layers; shows = st.layers.shows; kept = st.layers.kept; writable = st.layers.writable };
-    others = record { attached = λ b other. st.tables.attached b; room = λ b other. st.tables.room b; slots = λ b d other. st.tables.slots b d };
-    own = λ d. (opened_by m.clients n d, st.tables.slots n d);
-    arrived = st.arrived;
-    unwatched = unwatched-filter (λ e. not (nat_eq e.client n)) s.instances st.unwatched;
-  }
-
-  -- without its table the client is gone
-  gone : (t : State) → Leaving U lowers m.clients n t → IsStateOf (record m { clients = new }) (without_table t n)
-  gone t l = record {
-    layers = record { layers = l.mount.layers; shows = l.mount.shows; kept = l.mount.kept; writable = l.mount.writable };
-    arrived = h.next ∙ l.arrived;
-    unwatched = l.unwatched;
-    tables = go t.tree m.clients t.tables new n l.others h;
-  }
-
-  -- whatever callbacks may answer, the client leaves
-  pub leaves : (shows : Rule) → (t : State) × Leaves shows s n t × IsStateOf (record m { clients = new }) t
-  leaves shows =
-      let all = closes-exist shows n 0 (handles_of s.tables n) (without_instance s n) unwatching.unwatched in (
-        without_table all.0 n,
-        (all.0, all.1, refl),
-        gone all.0 (closes-leave U lowers m.clients n shows 0 (handles_of s.tables n) (without_instance s n) all.0 all.1 unwatching),
-      )
+pub paths-on : (old between new : Layers) → KeepsPaths old between → KeepsPaths between new → KeepsPaths old new
+paths-on old between new h g = record {
+  lowers = g.lowers ∙ h.lowers;
+  objects = λ x. g.objects x ∙ h.objects x;
+  inodes = λ x k named. g.inodes x k (h.objects x ∙ named) ∙ h.inodes x k named;
+}

@@ -3,7 +3,10 @@ pub mod Counting
 pub mod Holding
 pub mod Ending
 pub mod Serving
+pub mod Closings
 pub mod Stating
+pub mod FileSight
+pub mod Leaves
 pub mod Lasting
 pub mod Directories
 pub mod Answering
@@ -18,5 +21,4 @@ pub mod Coming
 pub mod Leaving
 pub mod Freed
 pub mod Agreeing
-pub mod Flags
 pub mod Driving

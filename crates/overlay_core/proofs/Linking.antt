@@ -33,11 +33,12 @@ link-inode l p d none i =
     ap (λ z. target_reply (inode_target z)) same
     ∙ sym (ap (λ w. link_reply w (shown_target (shows 0 (layers_of l) p))) none ∙ ap (λ o. target_reply (shown_target o)) i.shown)
 
--- a call that may want memory answers the same reply told otherwise, and so what holds of that
+-- a call that may want memory answers the same reply told otherwise
 pub answers-as : (result : Result Reply AllocError) (a b : Reply) → a ≡ b → IfOk result (λ r. r ≡ a) → IfOk result (λ r. r ≡ b)
 answers-as (Ok r) a b e h = h ∙ e
 answers-as (Err x) a b e h = tt
 
+-- and so what holds of that reply
 pub serves-as : (result : Result Reply AllocError) (a : Reply) (P : Reply → Type 0) → ((r : Reply) → r ≡ a → P r) → IfOk result (λ r. r ≡ a) → IfOk result P
 serves-as (Ok r) a P f h = f r h
 serves-as (Err x) a P f h = tt
@@ -46,6 +47,7 @@ serves-as (Err x) a P f h = tt
 abbrev pub Tells : Option Shown → Type 0
 Tells o = ((shown_target o ≡ None) × (shows_link o ≡ false)) ⊎ ((target : List ℕ) × (shown_target o ≡ Some target) × (shows_link o ≡ true))
 
+-- each of what is shown is one of these
 tells : (o : Option Shown) → Tells o
 tells None = inl (refl, refl)
 tells (Some (Folder i k a)) = inl (refl, refl)
@@ -81,6 +83,7 @@ module _ (m : Mount) (s : State) (st : IsStateOf m s) (c : ℕ) (p : Path) where
           (record {
             layers = record { layers = st.layers.layers; shows = st.layers.shows; kept = st.layers.kept; writable = st.layers.writable };
             tables = st.tables;
+            one = st.one;
             arrived = st.arrived;
             unwatched = st.unwatched;
           })

@@ -40,6 +40,7 @@ module _ (m : Mount) (s : State) (st : IsStateOf m s) (c : ℕ) (p : Path) where
       (record {
         layers = record { layers = st.layers.layers; shows = st.layers.shows; kept = st.layers.kept; writable = st.layers.writable };
         tables = st.tables;
+        one = st.one;
         arrived = st.arrived;
         unwatched = st.unwatched;
       })
@@ -55,6 +56,7 @@ module _ (m : Mount) (s : State) (st : IsStateOf m s) (c : ℕ) (p : Path) where
       (record {
         layers = record { layers = st.layers.layers; shows = st.layers.shows; kept = st.layers.kept; writable = st.layers.writable };
         tables = st.tables;
+        one = st.one;
         arrived = st.arrived;
         unwatched = st.unwatched;
       })

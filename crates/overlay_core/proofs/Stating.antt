@@ -1,6 +1,5 @@
 -- A mount stands for a state still when its clients, or its layers, change so.
 use Rattle.std.proofs.Common.{◌≡◌, ℕ, List, Some, sym, ap, ◌∙◌, subst}
-use Rattle.plain_model.specs.Layers.{Layer}
 use Rattle.plain_model.specs.Machine.{State, Table, Handle}
 use Rattle.layer_tree.specs.Tree.{layer_of}
 use Rattle.merged_lookup.specs.declared.layers.Layers.{Layers}

@@ -38,4 +38,7 @@ returns-in-Some c =
     let gone : get nat_cmp c.remove.new.self c.args.client ≡ None = search rules in
     let others : (m : ℕ) → m ≢ c.args.client → get nat_cmp c.remove.new.self m ≡ get nat_cmp c.args.self.now.attached m = search rules in
     let same : c.as_slice.result.now ≡ c.in-Some.descriptors.slots.items = c.as_slice.ensures.value ∙ c.into_slots-slots.ensures.slots in
-    record { gone = gone; others = others; places = placed-left c.args.self.now c.args.client c.in-Some.descriptors was (get nat_cmp c.remove.new.self) gone others c.close_all.new.directories (subst (ClosesAll c.args.self.now.directories c.close_all.new.directories) same c.close_all.ensures.directories); next = refl }
+    record {
+      detaches = record { gone = gone; others = others; next = refl };
+      places = placed-left c.args.self.now c.args.client c.in-Some.descriptors was (get nat_cmp c.remove.new.self) gone others c.close_all.new.directories (subst (ClosesAll c.args.self.now.directories c.close_all.new.directories) same c.close_all.ensures.directories);
+    }

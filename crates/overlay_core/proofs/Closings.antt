@@ -1,0 +1,283 @@
+-- What closing a descriptor does to a mount, where a file that nothing names or holds any more is freed.
+use Rattle.std.proofs.Common.{arith, ◌≡◌, ◌≢◌, ◌↔◌, ℕ, zero, suc, ◌<◌, true, false, cond, ◌||◌, List, Option, None, Some, Ok, Err, refl, sym, ap, ◌∙◌, subst, ◌⊎◌, inl, inr, is_some, length}
+use Rattle.std.proofs.lemmas.Bool.{false≢true, cases_Bool, cases_eq}
+use Rattle.ov_base.specs.declared.call.Call.TheVariants as call
+use Rattle.ov_base.specs.declared.errno.Errno.{Errno}
+use Rattle.ov_base.specs.declared.errno.Errno.TheVariants as errno
+use Rattle.ov_base.specs.declared.node_id.NodeId.{NodeId}
+use Rattle.ov_base.specs.declared.reply.Reply.TheVariants as reply
+use Rattle.plain_model.specs.Layers.{Path, Inode, Layer}
+use Rattle.plain_model.specs.Tree.{Tree, node_at}
+use Rattle.plain_model.specs.Machine.{Handle, Table, State, DESCRIPTORS_MAX, handles_of, handle_of}
+use Rattle.plain_model.specs.Refusals.{refusal}
+use Rattle.plain_model.specs.Changes.{is_named, is_held, settled, with_handle, after}
+use Rattle.plain_model.proofs.Kept.{at-path}
+use Rattle.plain_model.proofs.Lasting.{some-named}
+use Rattle.layer_tree.specs.Tree.{layer_of}
+use Rattle.merged_lookup.specs.declared.layers.Layers.{Layers}
+use Rattle.merged_lookup.specs.Merged.{lowers_of}
+use Rattle.copy_up.specs.Showing.{StaysMount, StaysThin}
+use Rattle.copy_up.proofs.Keeping.{lowers-same}
+use Rattle.mount_laws.specs.Looks.{IsMountOf}
+use Rattle.mount_laws.specs.Descriptors.{ClosesHandle}
+use Rattle.mount_laws.specs.Removed.{ClosesHidden}
+use Rattle.mount_laws.specs.OpenFiles.{IsLive, DropsInode}
+use Rattle.mount_laws.proofs.Opens.{put-same}
+use Rattle.mount_laws.proofs.Lists.{law_of_bad_descriptors}
+use Rattle.mount_laws.proofs.Descriptors.{law_of_handle_close}
+use Rattle.mount_laws.proofs.Removed.{law_of_close_removed}
+use Rattle.mount_laws.proofs.StayOpen.{law_of_live_kept}
+use Rattle.open_handles.specs.declared.handle.Handle as handles
+use Rattle.open_handles.specs.declared.handle.Handle.TheVariants.{Directory, File}
+use Rattle.open_handles.specs.declared.open_file.FileSource.{FileSource}
+use Rattle.open_handles.specs.declared.open_file.FileSource.TheVariants.{Upper, Lower}
+use Rattle.open_handles.specs.declared.open_file.OpenFile.{OpenFile}
+use Rattle.open_handles.specs.Dentries.{Dentries}
+use Rattle.open_handles.specs.Descriptors.{SetsSlot}
+use Rattle.open_handles.specs.FileHolders.{file_holders}
+use Rattle.open_handles.specs.Listings.{Closes, file_in}
+use Rattle.overlay_core.specs.declared.clients.Clients.{Clients}
+use Rattle.overlay_core.specs.declared.mount.Mount.{Mount}
+use Rattle.overlay_core.specs.Attaching.{opened_by, file_by, ChangesClient}
+use Rattle.overlay_core.specs.Files.{lower_inode, is_leaf, IsOf, AreOne, HasFile, upper_of}
+use Rattle.overlay_core.specs.Living.{StaysHeld, KeepsPaths, FreesClosed}
+use Rattle.overlay_core.specs.States.{IsOpenAs, AreTables, IsStateOf, Serves}
+use Rattle.overlay_core.proofs.Serving.{slot-closed, placed, handle-same, tables-moved, open-at, room-of, in-room, tables-set, one-fewer, set-fewer}
+use Rattle.overlay_core.proofs.Stating.{Alike, keep-state}
+use Rattle.overlay_core.proofs.Answering.{serve-refused, serve-done, changes-as}
+
+-- the tables where a descriptor is free
+abbrev freed_tables : State → ℕ → ℕ → List Table
+freed_tables s c fd = with_handle s.tables c fd None
+
+-- any handle closes
+module _ (U : Layer) (lowers : List Layer) (s : State) (m : IsMountOf U lowers s) (c fd : ℕ) (h : Handle) (on : handle_of s.tables c fd ≡ Some h) where
+  -- where its node has a name all else stays
+  closes-named : is_named (s.tree h.node) ≡ true → ClosesHidden U lowers s c fd h
+  closes-named named = record {
+    refused = law.refused;
+    answer = law.answer;
+    tables = ap (λ z. z.tables) state;
+    mounts = subst (IsMountOf U lowers) (sym state) (record { layers = m.layers; shows = m.shows; kept = m.kept; writable = m.writable });
+    paths = λ q. ap (λ z. node_at z.tree q) state;
+    others = λ d apart. ap (λ z. z.tree d) state;
+    held = λ k i g open_on. ap (λ z. z.tree g.node) state;
+  }
+    where
+      law : ClosesHandle s c fd h
+      law = law_of_handle_close s c fd h on
+
+      stays : cond (is_named (s.tree h.node) || is_held (freed_tables s c fd) h.node) (s.tree h.node) None ≡ s.tree h.node
+      stays = ap (λ b. cond (b || is_held (freed_tables s c fd) h.node) (s.tree h.node) None) named
+
+      same : settled (freed_tables s c fd) s.tree (Some h.node) ≡ s.tree
+      same = λ i x. put-same s.tree h.node _ stays x i
+
+      state : after s c (call.Close fd) ≡ record s { tables = freed_tables s c fd }
+      state = law.state ∙ (λ i. record s { tree = same i; tables = freed_tables s c fd })
+
+  -- where it has none no path leads to it
+  closes-handle : ClosesHidden U lowers s c fd h
+  closes-handle = by (cases_Bool (is_named (s.tree h.node)))
+    where
+      by : (is_named (s.tree h.node) ≡ true) ⊎ (is_named (s.tree h.node) ≡ false) → ClosesHidden U lowers s c fd h
+      by (inl named) = closes-named named
+      by (inr bare) =
+          law_of_close_removed U lowers s m c fd h on
+          (λ p at. false≢true (sym bare ∙ some-named (s.tree h.node) (at-path s.tree s.serial m.kept p h.node at)))
+
+-- what freeing a closed file leaves
+module _ (clients : Clients) (old new : Layers) (k : ℕ) (f : FreesClosed clients old new k) (i : Inode) (at : (layer_of old.upper).inodes k ≡ Some i) where
+  -- the files that handles hold stay live
+  freed-held : StaysHeld clients old new
+  freed-held t d j holds l = by (cases_eq j k)
+    where
+      -- nothing was freed
+      unchanged : new ≡ old → IsLive (layer_of new.upper) t d j
+      unchanged e = subst (λ (x : Layers). IsLive (layer_of x.upper) t d j) (sym e) l
+
+      -- another file was freed
+      dropped : j ≢ k → DropsInode (layer_of old.upper) (layer_of new.upper) k → IsLive (layer_of new.upper) t d j
+      dropped apart drops =
+          law_of_live_kept (layer_of old.upper) (layer_of new.upper) t d j
+          (λ q. (λ h. sym (drops.objects q) ∙ h, λ h. drops.objects q ∙ h))
+          (drops.inodes j apart) l
+
+      other : j ≢ k → (n links : ℕ) → file_holders clients.files k ≡ n → i.links ≡ links → IsLive (layer_of new.upper) t d j
+      other apart (suc n) links e g = unchanged (f.held (rw e (omega arith)))
+      other apart zero (suc links) e g = unchanged (f.named i at (rw g (omega arith)))
+      other apart zero zero e g = dropped apart (f.freed e i at g)
+
+      by : (j ≡ k) ⊎ (j ≡ k → ⊥) → IsLive (layer_of new.upper) t d j
+      by (inl e) = unchanged (f.held (subst (λ z. 0 < file_holders clients.files z) e holds))
+      by (inr apart) = other apart (file_holders clients.files k) i.links refl refl
+
+-- What the close of a descriptor leaves of the layers: paths hold what they held, no whiteout is needless, the mount stays one of the
+-- machine's, and the files that handles hold stay live.
+pub record LeavesOpen (clients : Clients) (old new : Layers) (closed : Option ℕ) : Type 0 where
+  pub paths : KeepsPaths old new
+  pub thin : StaysThin old new
+  pub mounts : StaysMount old new
+  pub live : ((k : ℕ) → closed ≡ Some k → is_some ((layer_of old.upper).inodes k) ≡ true) → StaysHeld clients old new
+
+-- layers that stay are left so
+same-leaves : (clients : Clients) (old : Layers) (closed : Option ℕ) → LeavesOpen clients old old closed
+same-leaves clients old closed = record {
+  paths = record { lowers = refl; objects = λ x. refl; inodes = λ x k h. refl };
+  thin = λ thin. thin;
+  mounts = λ s m. m;
+  live = λ there t d k holds l. l;
+}
+
+-- where an open file of the upper was closed, and where anything else was
+pub close-leaves : (clients : Clients) (old new : Layers) (closed : Option ℕ) → ((k : ℕ) → closed ≡ Some k → FreesClosed clients old new k) → (closed ≡ None → new ≡ old) → LeavesOpen clients old new closed
+close-leaves clients old new None freed none = subst (λ (l : Layers). LeavesOpen clients old l None) (sym (none refl)) (same-leaves clients old None)
+close-leaves clients old new (Some k) freed none = record {
+  paths = (freed k refl).keeps;
+  thin = (freed k refl).thin;
+  mounts = (freed k refl).mounts;
+  live = λ there. by ((layer_of old.upper).inodes k) refl (there k refl);
+}
+  where
+    by : (i : Option Inode) → (layer_of old.upper).inodes k ≡ i → is_some i ≡ true → StaysHeld clients old new
+    by None at some = absurd (false≢true some)
+    by (Some i) at some = freed-held clients old new k (freed k refl) i at
+
+-- a live file stays so in a tree with the same paths and the same node
+live-still : (U : Layer) (t u : Tree) (d : NodeId) (k : ℕ) → ((q : Path) → node_at u q ≡ node_at t q) → u d ≡ t d → IsLive U t d k → IsLive U u d k
+live-still U t u d k paths same l = record {
+  bytes = l.bytes;
+  attributes = l.attributes;
+  links = l.links;
+  inode = l.inode;
+  node = same ∙ l.node;
+  paths = λ q. (λ h. (l.paths q).0 (sym (paths q) ∙ h), λ h. paths q ∙ (l.paths q).1 h);
+}
+
+-- in another upper over the same lower layers, and a tree with the same paths and the same node
+module _ (U V : Layer) (lowers low : List Layer) (same_low : low ≡ lowers) (t u : Tree) (paths : (q : Path) → node_at u q ≡ node_at t q) (h : Handle) (same : u h.node ≡ t h.node) where
+  -- a handle is of the file that it was of, if that stays live
+  of-still : (x : FileSource) → ((k : ℕ) → x ≡ Upper k → IsLive U t h.node k → IsLive V t h.node k) → IsOf U lowers t x h → IsOf V low u x h
+  of-still (Upper k) live is = (live-still V t u h.node k paths same (live k refl is.0), is.1)
+  of-still (Lower layer k) live is = record {
+    bytes = is.bytes;
+    attributes = is.attributes;
+    links = is.links;
+    inode = ap (λ Ls. lower_inode Ls layer k) same_low ∙ is.inode;
+    view = is.view;
+    file = ap is_leaf same ∙ is.file;
+    reads_alone = is.reads_alone;
+  }
+
+  -- and so is what is open
+  open-still : (ds : Dentries) (o : handles.Handle) → ((f : OpenFile) (k : ℕ) → o ≡ File f → f.source ≡ Upper k → IsLive U t h.node k → IsLive V t h.node k) → IsOpenAs U lowers t ds o h → IsOpenAs V low u ds o h
+  open-still ds (Directory o) live is = handle-same t u ds paths o h same is
+  open-still ds (File f) live is = record {
+    source = of-still f.source (λ k. live f k refl) is.source;
+    reads = is.reads;
+    writes = is.writes;
+    append = is.append;
+    place = is.place;
+    unlisted = is.unlisted;
+  }
+
+-- what is open on a file of the upper
+upper-open : (o : Option handles.Handle) (k : ℕ) → upper_of (file_in o) ≡ Some k → (f : OpenFile) × (o ≡ Some (File f)) × (f.source ≡ Upper k)
+upper-open None k e = cc
+upper-open (Some (Directory o)) k e = cc
+upper-open (Some (File f)) k e = (f, refl, by f.source e)
+  where
+    by : (x : FileSource) → elim x [ Upper j ↦ Some j | Lower layer j ↦ None ] ≡ Some k → x ≡ Upper k
+    by (Upper j) e = let same : j ≡ k = cc in ap Upper same
+    by (Lower layer j) e = cc
+
+-- a client closes a descriptor
+module _ (m : Mount) (s : State) (st : IsStateOf m s) (c d : ℕ) where
+  abbrev old_upper : Layer
+  old_upper = layer_of m.layers.upper
+
+  -- one that isn't open is refused
+  pub close-refused : (new : Clients) (e : Errno) → ChangesClient m.clients new c (λ x y. Closes x y d (Err e)) → Serves (refusal s c (call.Close d)) s c (call.Close d) (reply.Refused e) (record m { clients = new })
+  close-refused new e ch =
+      subst (λ z. Serves (refusal s c (call.Close d)) s c (call.Close d) (reply.Refused z) (record m { clients = new })) (sym ch.changes.not_open.0)
+      (serve-refused _ s c _ errno.EBADF (record m { clients = new }) (law_of_bad_descriptors s c d none).closing
+      (keep-state m s st c new (changes-as m.clients new c _ _ (λ x y g. g.refused) ch)))
+    where
+      shut : opened_by m.clients c d ≡ None
+      shut = rw ch.was ch.changes.not_open.1
+
+      none : handle_of s.tables c d ≡ None
+      none = slot-closed (Alike m.layers s m.clients) _ _ (st.tables.slots c d) shut
+
+  -- a file of the upper that is open has an inode
+  inode-there : (k : ℕ) → upper_of (file_by m.clients c d) ≡ Some k → is_some (old_upper.inodes k) ≡ true
+  inode-there k e =
+      let file = upper-open (opened_by m.clients c d) k e in
+      let at = open-at (Alike m.layers s m.clients) m.clients s.tables st.tables c d (File file.0) file.1 in
+      let source = subst (λ (x : FileSource). IsOf old_upper (lowers_of m.layers) s.tree x at.0) file.2 at.2.source in
+      ap is_some source.0.inode
+
+  -- an open one is closed
+  module _ (new : Clients) (ch : ChangesClient m.clients new c (λ x y. Closes x y d (Ok tt))) (files : (k : ℕ) → HasFile new k ↔ 0 < file_holders new.files k)
+      (l : Layers) (closed : Option ℕ) (is : closed ≡ upper_of (file_by m.clients c d))
+      (leaves : LeavesOpen new m.layers l closed) where
+    abbrev step : State
+    step = after s c (call.Close d)
+
+    abbrev left : List Table
+    left = freed_tables s c d
+
+    -- the lower layers and the other open files stay
+    low : lowers_of l ≡ lowers_of m.layers
+    low = lowers-same m.layers l leaves.paths.lowers
+
+    live : StaysHeld new m.layers l
+    live = leaves.live (λ k e. inode-there k (sym is ∙ e))
+
+    -- the machine's handle on what is open
+    was-open : (o : Option handles.Handle) → opened_by m.clients c d ≡ o → is_some o ≡ true → (x : handles.Handle) × (h : Handle) × (handle_of s.tables c d ≡ Some h)
+    was-open None e some = absurd (false≢true some)
+    was-open (Some x) e some = let at = open-at (Alike m.layers s m.clients) m.clients s.tables st.tables c d x e in (x, at.0, at.1)
+
+    -- and the client is told so
+    pub close-done : Serves (refusal s c (call.Close d)) s c (call.Close d) reply.Done (record m { layers = l; clients = new })
+    close-done =
+        serve-done _ s c _ _ (record m { layers = l; clients = new }) law.refused (sym law.answer)
+        (record {
+          layers = leaves.mounts step law.mounts;
+          tables = subst (AreTables (IsOpenAs (layer_of l.upper) (lowers_of l) step.tree new.directories) new) (sym law.tables)
+              (tables-moved (Alike m.layers s new) new left set (IsOpenAs (layer_of l.upper) (lowers_of l) step.tree new.directories)
+              (λ b i o g opens on alike. open-still old_upper (layer_of l.upper) (lowers_of m.layers) (lowers_of l) low s.tree step.tree law.paths g (law.held b i g on) new.directories o
+              (λ f k file key. live s.tree g.node k ((files k).0 (record { client = b; descriptor = i; file = f; opened = opens ∙ ap Some file; key = key })))
+              alike));
+          one = subst (AreOne new) (sym law.tables) one;
+          arrived = ch.next ∙ st.arrived;
+          unwatched = st.unwatched;
+        })
+      where
+        there : is_some (opened_by m.clients c d) ≡ true
+        there = rw ch.was ch.changes.was_open
+
+        handle : (x : handles.Handle) × (h : Handle) × (handle_of s.tables c d ≡ Some h)
+        handle = was-open (opened_by m.clients c d) refl there
+
+        law : ClosesHidden old_upper (lowers_of m.layers) s c d handle.1
+        law = closes-handle old_upper (lowers_of m.layers) s st.layers c d handle.1 handle.2
+
+        closes : ChangesClient m.clients new c (λ x y. SetsSlot x y d None)
+        closes = changes-as m.clients new c _ _ (λ x y g. g.closes) ch
+
+        within : d < length (handles_of s.tables c)
+        within = in-room (Alike m.layers s m.clients) m.clients s.tables st.tables c d handle.1 handle.2
+
+        inside : d < DESCRIPTORS_MAX
+        inside = rw (room-of (Alike m.layers s m.clients) m.clients s.tables st.tables c (ap is_some ch.was)) at within
+
+        set : AreTables (Alike m.layers s new) new left
+        set =
+            tables-set (Alike m.layers s m.clients) m.clients s.tables st.tables new (Alike m.layers s new) c d None None closes inside
+            (λ b i o g opens was on alike. placed old_upper (lowers_of m.layers) s.tree m.clients.directories new.directories o g (λ x p e. ch.places b i x p (opens ∙ ap Some e)) alike)
+            tt
+
+        one : AreOne new left
+        one = one-fewer m.clients new s.tables left (set-fewer m.clients new s.tables c d None None closes within (λ f g k e. cc)) st.one
