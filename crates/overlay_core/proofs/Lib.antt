@@ -5,6 +5,8 @@ pub mod Ending
 pub mod Serving
 pub mod Closings
 pub mod Stating
+pub mod Rewritten
+pub mod Writings
 pub mod FileSight
 pub mod Leaves
 pub mod Lasting
