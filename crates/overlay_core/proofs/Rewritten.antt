@@ -1,5 +1,5 @@
 -- A mount stands for the state still where an open file gets other bytes, its place moves, or a change of the layers wants memory.
-use Rattle.std.proofs.Common.{◌≡◌, ◌↔◌, ℕ, ◌<◌, Bool, true, false, List, ◌∷◌, Option, None, Some, refl, sym, ap, ◌∙◌, subst, ◌⊎◌, inl, inr, is_some, length, option_map}
+use Rattle.std.proofs.Common.{◌≡◌, ◌↔◌, ℕ, ◌<◌, Bool, true, false, List, ◌∷◌, Some, refl, sym, ap, ◌∙◌, subst, ◌⊎◌, inl, inr, is_some, length, option_map}
 use Rattle.std.proofs.lemmas.Bool.{false≢true, cases_eq}
 use Rattle.std.specs.Option.{option_and_then}
 use Rattle.ov_base.specs.declared.node_id.NodeId.{NodeId}

@@ -1,10 +1,10 @@
 -- Writes and truncations of open files.
-use Rattle.std.proofs.Common.{arith, ◌≡◌, ◌≢◌, ℕ, ◌+◌, ◌-◌, ◌<◌, Bool, true, false, cond, min, not, ◌&&◌, List, [], ◌∷◌, Option, None, Some, Result, Ok, Err, refl, sym, ap, ◌∙◌, subst, is_none, is_some, length, take, nat_lt}
+use Rattle.std.proofs.Common.{arith, ◌≡◌, ◌≢◌, ℕ, ◌+◌, ◌-◌, Bool, true, false, cond, min, not, ◌&&◌, List, [], ◌∷◌, Option, None, Some, Result, Ok, Err, refl, sym, ap, ◌∙◌, subst, is_none, is_some, length, nat_eq, nat_lt}
 use Rattle.std.specs.Option.{option_and_then}
 use Rattle.std.specs.Result.{OnErr}
 use Rattle.std.specs.declared.alloc.AllocError.{AllocError}
-use Rattle.std.proofs.lemmas.Bool.{false≢true}
-use Rattle.std.proofs.lemmas.List.{length-take}
+use Rattle.std.proofs.lemmas.Bool.{false≢true, eqb-true}
+use Rattle.std.proofs.lemmas.List.{length-take, nil_from_length}
 use Rattle.ov_base.specs.declared.bytes.Content.TheVariants as content
 use Rattle.ov_base.specs.declared.call.Call.TheVariants as call
 use Rattle.ov_base.specs.declared.errno.Errno.{Errno}
@@ -70,20 +70,13 @@ file-open None f h = cc
 file-open (Some (Directory o)) f h = cc
 file-open (Some (File g)) f h = cc
 
--- a file of the upper that is open for writing
-record IsWritable (f : OpenFile) : Type 0 where
-  key : ℕ
-  source : f.source ≡ Upper key
-  writes : f.writes ≡ true
-
--- a file that has a key to write to is one
-writable : (f : OpenFile) → is_none (written_key f) ≡ false → IsWritable f
-writable f some = by f.source refl f.writes refl
+-- a file that has a key to write to is of the upper
+upper-key : (f : OpenFile) → is_none (written_key f) ≡ false → (k : ℕ) × (f.source ≡ Upper k)
+upper-key f some = by f.source refl
   where
-    by : (source : FileSource) → f.source ≡ source → (writes : Bool) → f.writes ≡ writes → IsWritable f
-    by (Upper k) at true may = record { key = k; source = at; writes = may }
-    by (Upper k) at false may = absurd (false≢true (sym some ∙ (λ i. is_none (written_key (record f { source = at i; writes = may i })))))
-    by (Lower layer k) at writes may = absurd (false≢true (sym some ∙ (λ i. is_none (written_key (record f { source = at i })))))
+    by : (source : FileSource) → f.source ≡ source → (k : ℕ) × (f.source ≡ Upper k)
+    by (Upper k) at = (k, at)
+    by (Lower layer k) at = absurd (false≢true (sym some ∙ (λ i. is_none (written_key (record f { source = at i })))))
 
 -- a handle on an open file writes where that has a key to write to
 not-writing : (U : Layer) (lowers : List Layer) (t : Tree) (f : OpenFile) (h : Handle) → IsFile U lowers t f h → not h.writes ≡ is_none (written_key f)
@@ -109,7 +102,7 @@ last-of None None x h = refl
 last-of None (Some b) x h = cc
 last-of (Some a) b x h = cc
 
--- a write and a truncation that are refused nothing are by a file to write to
+-- a write that is refused nothing is of a file to write to
 unrefused-write : (f : OpenFile) (count : ℕ) → write_fault (Some (File f)) count ≡ None → is_none (written_key f) ≡ false
 unrefused-write f count h = by (nat_lt TRANSFER_MAX count) (is_none (written_key f)) h
   where
@@ -118,6 +111,7 @@ unrefused-write f count h = by (nat_lt TRANSFER_MAX count) (is_none (written_key
     by false true h = cc
     by false false h = refl
 
+-- and so is a truncation
 unrefused-truncation : (f : OpenFile) (size : ℕ) → truncate_fault (Some (File f)) size ≡ None → is_none (written_key f) ≡ false
 unrefused-truncation f size h = by (is_none (written_key f)) (nat_lt FILE_MAX size) h
   where
@@ -125,21 +119,29 @@ unrefused-truncation f size h = by (is_none (written_key f)) (nat_lt FILE_MAX si
     by true b h = cc
     by false b h = refl
 
--- how many bytes fit is refused so
-unfitting : (start n : ℕ) (e : Errno) → count_fitting start n ≡ Err e → when (nat_lt 0 n && not (nat_lt start FILE_MAX)) errno.EFBIG ≡ Some e
-unfitting start n e h = by (nat_lt 0 n && not (nat_lt start FILE_MAX)) h
+-- why a write of so many bytes is refused at its place: none of them fits
+abbrev room_fault : ℕ → ℕ → Option Errno
+room_fault n start = when (nat_lt 0 n && not (nat_lt start FILE_MAX)) errno.EFBIG
+
+-- so is a count of those that fit
+unfitting : (n start : ℕ) (e : Errno) → count_fitting start n ≡ Err e → room_fault n start ≡ Some e
+unfitting n start e h = by (nat_lt 0 n && not (nat_lt start FILE_MAX)) h
   where
     by : (b : Bool) → cond b (Err errno.EFBIG) (Ok (min (FILE_MAX - start) n)) ≡ Err e → when b errno.EFBIG ≡ Some e
     by true h = cc
     by false h = cc
 
--- or is as many as there is room for
-fits : (start n count : ℕ) → count_fitting start n ≡ Ok count → (when (nat_lt 0 n && not (nat_lt start FILE_MAX)) errno.EFBIG ≡ None) × (count ≡ min (FILE_MAX - start) n)
-fits start n count h = by (nat_lt 0 n && not (nat_lt start FILE_MAX)) h
+-- or they are as many as there is room for
+fits : (n start count : ℕ) → count_fitting start n ≡ Ok count → (room_fault n start ≡ None) × (count ≡ min (FILE_MAX - start) n)
+fits n start count h = by (nat_lt 0 n && not (nat_lt start FILE_MAX)) h
   where
     by : (b : Bool) → cond b (Err errno.EFBIG) (Ok (min (FILE_MAX - start) n)) ≡ Ok count → (when b errno.EFBIG ≡ None) × (count ≡ min (FILE_MAX - start) n)
     by true h = cc
     by false h = (refl, cc)
+
+-- bytes that aren't none
+some-there : (bytes : List ℕ) → nat_eq (length bytes) 0 ≡ false → bytes ≢ []
+some-there bytes h e = false≢true (sym h ∙ ap (λ z. nat_eq (length z) 0) e)
 
 -- of nothing, nothing fits
 none-fits : (start : ℕ) → length (fitting start []) ≡ 0
@@ -183,9 +185,9 @@ module _ (m : Mount) (s : State) (st : IsStateOf m s) (c d : ℕ) where
   writing : (f : OpenFile) → opened_by m.clients c d ≡ Some (File f) → is_none (written_key f) ≡ false → (h : Handle) × IsWriting m s c d f h
   writing f e some =
       let x = file-at f e in
-      let w : IsWritable f = writable f some in
-      let of : IsOf U lowers s.tree (Upper w.key) x.0 = subst (λ z. IsOf U lowers s.tree z x.0) w.source x.2.source in
-      (x.0, record { opened = e; on = x.1; file = x.2; key = w.key; source = w.source; live = of.0 })
+      let key = upper-key f some in
+      let of : IsOf U lowers s.tree (Upper key.0) x.0 = subst (λ z. IsOf U lowers s.tree z x.0) key.1 x.2.source in
+      (x.0, record { opened = e; on = x.1; file = x.2; key = key.0; source = key.1; live = of.0 })
 
   -- by it the file is open on its node
   open-on : (f : OpenFile) (h : Handle) (w : IsWriting m s c d f h) → IsOpenOn m.clients s.tables w.key h.node
@@ -243,6 +245,7 @@ module _ (m : Mount) (s : State) (st : IsStateOf m s) (c d : ℕ) where
         bytes : List ℕ
         bytes = sized w.live.bytes size
 
+        -- the machine makes the same tree
         same : change (resized size) s.tree (Some h.node) ≡ rewritten s.tree h.node bytes
         same = change-bytes s.tree h.node (resized size) (Leaf (content.File w.live.bytes) w.live.attributes Own w.live.links) bytes w.live.node refl
 
@@ -250,6 +253,12 @@ module _ (m : Mount) (s : State) (st : IsStateOf m s) (c d : ℕ) where
     -- the write is answered so, by a mount that becomes this
     abbrev Writes : Reply → Mount → Type 0
     Writes r new = Serves (refusal s c (call.Write d bytes)) s c (call.Write d bytes) r new
+
+    -- why a write by a handle on an open file is refused: for its count, for want of access, or for its place
+    faults : (f : OpenFile) (h : Handle) → handle_of s.tables c d ≡ Some h → IsFile U lowers s.tree f h → refusal s c (call.Write d bytes) ≡ or_else (when (nat_lt TRANSFER_MAX (length bytes)) errno.EINVAL) (or_else (when (is_none (written_key f)) errno.EBADF) (room_fault (length bytes) (write_start s h)))
+    faults f h on file =
+        let law : WritesFile s c d h = law_of_write s c d h on in
+        law.refused bytes ∙ ap (λ b. or_else (when (nat_lt TRANSFER_MAX (length bytes)) errno.EINVAL) (or_else (when b errno.EBADF) (room_fault (length bytes) (write_start s h)))) (not-writing U lowers s.tree f h file)
 
     -- a write is refused so before its place is asked for
     pub write-refused : (e : Errno) → write_fault (opened_by m.clients c d) (length bytes) ≡ Some e → Writes (reply.Refused e) m
@@ -259,22 +268,22 @@ module _ (m : Mount) (s : State) (st : IsStateOf m s) (c d : ℕ) where
         by None is g = (law_of_unopened s c d (handle-none is)).writing bytes ∙ g
         by (Some (File f)) is g =
             let x = file-at f is in
-            let law : WritesFile s c d x.0 = law_of_write s c d x.0 x.1 in
-            let room : Option Errno = when (nat_lt 0 (length bytes) && not (nat_lt (write_start s x.0) FILE_MAX)) errno.EFBIG in
-            law.refused bytes
-            ∙ ap (λ b. or_else (when (nat_lt TRANSFER_MAX (length bytes)) errno.EINVAL) (or_else (when b errno.EBADF) room)) (not-writing U lowers s.tree f x.0 x.2)
-            ∙ first-of (when (nat_lt TRANSFER_MAX (length bytes)) errno.EINVAL) (when (is_none (written_key f)) errno.EBADF) room e g
+            faults f x.0 x.1 x.2 ∙ first-of (when (nat_lt TRANSFER_MAX (length bytes)) errno.EINVAL) (when (is_none (written_key f)) errno.EBADF) (room_fault (length bytes) (write_start s x.0)) e g
         by (Some (Directory o)) is g =
             let x = directory-at o is in
             (law_of_directory_handle s c d x.0 x.1 x.2.directory).writing (ap (λ (z : Handle). z.writes) x.2.access) bytes ∙ g
 
+    -- one that isn't
     module _ (f : OpenFile) (is : file_by m.clients c d ≡ Some f) (good : write_fault (opened_by m.clients c d) (length bytes) ≡ None) where
+      -- is of an open file
       opens : opened_by m.clients c d ≡ Some (File f)
       opens = file-open (opened_by m.clients c d) f is
 
+      -- on which it is refused nothing
       good-file : write_fault (Some (File f)) (length bytes) ≡ None
       good-file = sym (ap (λ o. write_fault o (length bytes)) opens) ∙ good
 
+      -- that is written to by this handle
       found : (h : Handle) × IsWriting m s c d f h
       found = writing f opens (unrefused-write f (length bytes) good-file)
 
@@ -284,61 +293,69 @@ module _ (m : Mount) (s : State) (st : IsStateOf m s) (c d : ℕ) where
       w : IsWriting m s c d f h
       w = found.1
 
+      -- as the machine writes
       law : WritesFile s c d h
       law = law_of_write s c d h w.on
 
-      -- else it is refused where no byte fits
-      write-refusal : refusal s c (call.Write d bytes) ≡ when (nat_lt 0 (length bytes) && not (nat_lt (write_start s h) FILE_MAX)) errno.EFBIG
-      write-refusal =
-          let room : Option Errno = when (nat_lt 0 (length bytes) && not (nat_lt (write_start s h) FILE_MAX)) errno.EFBIG in
-          law.refused bytes
-          ∙ ap (λ b. or_else (when (nat_lt TRANSFER_MAX (length bytes)) errno.EINVAL) (or_else (when b errno.EBADF) room)) (not-writing U lowers s.tree f h w.file)
-          ∙ last-of (when (nat_lt TRANSFER_MAX (length bytes)) errno.EINVAL) (when (is_none (written_key f)) errno.EBADF) room good-file
+      -- so it is refused only for its place
+      write-refusal : refusal s c (call.Write d bytes) ≡ room_fault (length bytes) (write_start s h)
+      write-refusal = faults f h w.on w.file ∙ last-of (when (nat_lt TRANSFER_MAX (length bytes)) errno.EINVAL) (when (is_none (written_key f)) errno.EBADF) (room_fault (length bytes) (write_start s h)) good-file
 
       -- a write of nothing changes nothing
-      pub write-nothing : bytes ≡ [] → Writes (reply.Written 0) m
-      write-nothing none =
+      pub write-nothing : nat_eq (length bytes) 0 ≡ true → Writes (reply.Written 0) m
+      write-nothing empty =
+          let none : bytes ≡ [] = nil_from_length bytes (eqb-true (length bytes) 0 empty) in
           serve-done _ s c _ _ m
-          (write-refusal ∙ ap (λ z. when (nat_lt 0 (length z) && not (nat_lt (write_start s h) FILE_MAX)) errno.EFBIG) none)
+          (write-refusal ∙ ap (λ z. room_fault (length z) (write_start s h)) none)
           (ap reply.Written (sym (ap (λ z. length (fitting (write_start s h) z)) none ∙ none-fits (write_start s h))) ∙ sym (law.answer bytes))
           (subst (IsStateOf m) (sym (ap (λ z. after s c (call.Write d z)) none ∙ law.nothing)) st)
 
-      -- the place where a write begins in a file of these bytes
+      -- where a write begins in a file of these bytes
       module _ (held : List ℕ) (reads : (i : Inode) → source_inode U lowers f.source ≡ Some i → held ≡ bytes_of_inode i) (start : ℕ) (begins : IsWritePlace f (length held) start) where
+        -- the machine's begins there too
         begin : start ≡ write_start s h
         begin =
             let inode : source_inode U lowers f.source ≡ Some (record { content = content.File w.live.bytes; attributes = w.live.attributes; links = w.live.links }) = ap (source_inode U lowers) w.source ∙ w.live.inode in
             begins s.tree h w.file.append w.file.place (ap (λ o. length (bytes_of_node o)) w.live.node ∙ sym (ap length (reads _ inode)))
 
+        -- so the place is refused alike
+        placed-refusal : refusal s c (call.Write d bytes) ≡ room_fault (length bytes) start
+        placed-refusal = write-refusal ∙ ap (room_fault (length bytes)) (sym begin)
+
         -- where no byte fits the write is refused
         pub write-unfitting : (e : Errno) → count_fitting start (length bytes) ≡ Err e → Writes (reply.Refused e) m
-        write-unfitting e none =
-            serve-refused _ s c _ e m
-            (write-refusal ∙ ap (λ z. when (nat_lt 0 (length bytes) && not (nat_lt z FILE_MAX)) errno.EFBIG) (sym begin) ∙ unfitting start (length bytes) e none)
-            st
+        write-unfitting e none = serve-refused _ s c _ e m (placed-refusal ∙ unfitting (length bytes) start e none) st
 
-        -- else what fits is written
-        pub write-done : bytes ≢ [] → (count : ℕ) → count_fitting start (length bytes) ≡ Ok count → (new : Layers) → StaysLayers m.layers new → ((k : ℕ) (old : List ℕ) → f.source ≡ Upper k → bytes_at m.layers.upper k ≡ Some old → SetsFile m.layers new k (written old start (fitting start bytes))) → (clients : Clients) → ChangesClient m.clients clients c (λ x y. ChangesSlot x y d (with_place (start + count))) → Writes (reply.Written count) (record m { layers = new; clients = clients })
-        write-done some count fit new keeps sets clients moves =
+        -- else what fits is written, and the handle's place is after it
+        pub write-done : nat_eq (length bytes) 0 ≡ false → (count : ℕ) → count_fitting start (length bytes) ≡ Ok count → (given : List ℕ) → given ≡ fitting start bytes → (new : Layers) → StaysLayers m.layers new → ((k : ℕ) (old : List ℕ) → f.source ≡ Upper k → bytes_at m.layers.upper k ≡ Some old → SetsFile m.layers new k (written old start given)) → (clients : Clients) → ChangesClient m.clients clients c (λ x y. ChangesSlot x y d (with_place (start + count))) → Writes (reply.Written count) (record m { layers = new; clients = clients })
+        write-done full count fit given fitted new keeps sets clients moves =
             serve-done _ s c _ _ (record m { layers = new; clients = clients })
-            (write-refusal ∙ ap (λ z. when (nat_lt 0 (length bytes) && not (nat_lt z FILE_MAX)) errno.EFBIG) (sym begin) ∙ (fits start (length bytes) count fit).0)
+            (placed-refusal ∙ (fits (length bytes) start count fit).0)
             (ap reply.Written counted ∙ sym (law.answer bytes))
-            (subst (IsStateOf (record m { layers = new; clients = clients })) (steps ∙ sym (law.state bytes some))
-            (place-moved (record m { layers = new }) (record s { tree = rewritten s.tree h.node now }) wrote_state c d f h opens w.on (start + count) clients moves))
+            (subst (IsStateOf (record m { layers = new; clients = clients })) (steps ∙ sym (law.state bytes (some-there bytes full)))
+            (place-moved (record m { layers = new }) (record s { tree = rewritten s.tree h.node now }) made c d f h opens w.on (start + count) clients moves))
           where
             now : List ℕ
             now = written w.live.bytes start (fitting start bytes)
 
+            -- the upper has the bytes
+            sets_now : SetsFile m.layers new w.key now
+            sets_now = subst (λ z. SetsFile m.layers new w.key (written w.live.bytes start z)) fitted (sets w.key w.live.bytes w.source (bytes-there f h w))
+
+            -- the state before the place moves
+            made : IsStateOf (record m { layers = new }) (record s { tree = rewritten s.tree h.node now })
+            made = state-rewritten m s st new w.key h.node now (open-on f h w) keeps sets_now
+
+            -- the machine writes as many
             counted : count ≡ length (fitting (write_start s h) bytes)
-            counted = (fits start (length bytes) count fit).1 ∙ sym (length-take (FILE_MAX - start) bytes) ∙ ap (λ z. length (fitting z bytes)) begin
+            counted = (fits (length bytes) start count fit).1 ∙ sym (length-take (FILE_MAX - start) bytes) ∙ ap (λ z. length (fitting z bytes)) begin
 
-            wrote_state : IsStateOf (record m { layers = new }) (record s { tree = rewritten s.tree h.node now })
-            wrote_state = state-rewritten m s st new w.key h.node now (open-on f h w) keeps (sets w.key w.live.bytes w.source (bytes-there f h w))
+            -- and makes the same tree
+            tree : rewritten s.tree h.node now ≡ change (wrote (write_start s h) bytes) s.tree (Some h.node)
+            tree =
+                let leaf : Node = Leaf (content.File w.live.bytes) w.live.attributes Own w.live.links in
+                sym (change-bytes s.tree h.node (wrote start bytes) leaf now w.live.node refl) ∙ ap (λ z. change (wrote z bytes) s.tree (Some h.node)) begin
 
-            same : change (wrote start bytes) s.tree (Some h.node) ≡ rewritten s.tree h.node now
-            same = change-bytes s.tree h.node (wrote start bytes) (Leaf (content.File w.live.bytes) w.live.attributes Own w.live.links) now w.live.node refl
-
+            -- so its state is the same
             steps : record s { tree = rewritten s.tree h.node now; tables = with_handle s.tables c d (Some (record h { place = start + count })) } ≡ record s { tree = change (wrote (write_start s h) bytes) s.tree (Some h.node); tables = with_handle s.tables c d (Some (record h { place = write_start s h + length (fitting (write_start s h) bytes) })) }
-            steps =
-                let tree : rewritten s.tree h.node now ≡ change (wrote (write_start s h) bytes) s.tree (Some h.node) = sym same ∙ ap (λ z. change (wrote z bytes) s.tree (Some h.node)) begin in
-                λ i. record s { tree = tree i; tables = with_handle s.tables c d (Some (record h { place = begin i + counted i })) }
+            steps = λ i. record s { tree = tree i; tables = with_handle s.tables c d (Some (record h { place = begin i + counted i })) }
