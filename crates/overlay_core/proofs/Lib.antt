@@ -6,6 +6,8 @@ pub mod Openings
 pub mod Serving
 pub mod Closings
 pub mod Stating
+pub mod Rewritten
+pub mod Writings
 pub mod FileSight
 pub mod Leaves
 pub mod Altered
