@@ -2,14 +2,17 @@ pub mod Shown
 pub mod Counting
 pub mod Holding
 pub mod Ending
+pub mod Openings
 pub mod Serving
 pub mod Closings
 pub mod Stating
 pub mod FileSight
 pub mod Leaves
+pub mod Altered
 pub mod Lasting
 pub mod Directories
 pub mod Answering
+pub mod Carrying
 pub mod Changing
 pub mod Linking
 pub mod Paging
