@@ -3,9 +3,11 @@ pub mod Counting
 pub mod Holding
 pub mod Ending
 pub mod Openings
+pub mod OpeningWrites
 pub mod Serving
 pub mod Closings
 pub mod Stating
+pub mod Rewritten
 pub mod FileSight
 pub mod Leaves
 pub mod Altered
