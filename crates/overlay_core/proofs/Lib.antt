@@ -3,6 +3,7 @@ pub mod Counting
 pub mod Holding
 pub mod Ending
 pub mod Openings
+pub mod OpeningWrites
 pub mod Serving
 pub mod Closings
 pub mod Stating
