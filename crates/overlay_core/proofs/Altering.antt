@@ -1,91 +1,61 @@
 -- The calls that change attributes, by how they end.
 use Rattle.std.proofs.Common.{◌≡◌, ℕ, true, false, not, ◌&&◌, is_none, length, nat_lt, List, Option, None, Some, Result, Ok, Err, MatchResult, IfOk, IfErr, refl, sym, ap, ◌∙◌, subst}
-use Rattle.std.specs.declared.alloc.AllocError.{AllocError}
 use Rattle.ov_base.specs.declared.attributes.Attributes.{Attributes}
 use Rattle.ov_base.specs.declared.call.Call.{Call}
 use Rattle.ov_base.specs.declared.errno.Errno.{Errno}
 use Rattle.ov_base.specs.declared.errno.Errno.TheVariants.{ELOOP}
 use Rattle.plain_model.specs.Layers.{Path, Inode, Layer, Shown, Contents, shows, AreLayers}
-use Rattle.plain_model.specs.Machine.{value_of}
+use Rattle.plain_model.specs.Machine.{State, value_of}
 use Rattle.plain_model.specs.Refusals.{when, bad_attribute}
-use Rattle.layer_tree.specs.Tree.{layer_of}
+use Rattle.layer_tree.specs.Tree.{IsTree, layer_of}
 use Rattle.merged_lookup.specs.declared.layers.Layers.{Layers}
 use Rattle.merged_lookup.specs.Merged.{layers_of, lowers_of, parent, IsFound, IsStackOf}
-use Rattle.mount_laws.specs.Looks.{or_else, walk_fault, is_link_inode, shows_link}
+use Rattle.mount_laws.specs.Looks.{or_else, walk_fault, is_link_inode, shows_link, IsMountOf}
 use Rattle.mount_laws.specs.Attributes.{user_in, shown_attributes, chown_fault, set_fault, get_fault}
 use Rattle.mount_laws.specs.Altered.{Alters, AltersBy, AltersState}
-use Rattle.copy_up.specs.Showing.{ShowsSame, StaysLayers, StaysMount, StaysThin}
+use Rattle.mount_laws.specs.StayOpen.{AltersNamed, LivesThroughChange}
+use Rattle.copy_up.specs.Altering.{AltersObject}
+use Rattle.copy_up.specs.Showing.{StaysLayers, StaysThin}
 use Rattle.copy_up.proofs.Keeping.{lowers-same}
 use Rattle.overlay_core.specs.declared.attributes.Change.{Change}
 use Rattle.overlay_core.specs.Altering.{AltersUnless, IsChange, IsOpenTo, ShowsAttributes}
+use Rattle.overlay_core.specs.Living.{KeepsLive}
+use Rattle.overlay_core.proofs.Altered.{alters-named}
 
--- layers show what they show
-same-shown : (l : Layers) → ShowsSame l l
-same-shown l = record { lowers = refl; sights = λ p. refl; absent = λ p h. h; passes = record { cuts = λ p. refl; spelling = λ p. refl } }
+-- a change that was planned, and made
+module _
+    (fault : List Layer → Option Errno) (old : Layers) (p : Path) (k : Call) (new : Layers) (low : new.lowers ≡ old.lowers)
+    (keeps : StaysLayers old new) (thin : StaysThin old new) (f : Attributes → Attributes) (law : AltersBy f p fault k)
+    (through : LivesThroughChange f p k) (x : Change) (none : fault (layers_of old) ≡ None) (h : IsChange f old p x)
+    (alters : AreLayers (layers_of old) → Alters (layer_of old.upper) (layer_of new.upper) (lowers_of old) p x.attributes) where
+  -- alters each state, over the lower layers that there were
+  state-altered : (s : State) → IsMountOf (layer_of old.upper) (lowers_of old) s → (c : ℕ) → AltersState (layer_of new.upper) (lowers_of old) s c p k
+  state-altered s m c =
+      law (layer_of old.upper) (layer_of new.upper) (lowers_of old) s m c none h.before h.shown
+      (subst (λ (a : Attributes). Alters (layer_of old.upper) (layer_of new.upper) (lowers_of old) p a) h.after (alters m.layers))
 
-module _ (fault : List Layer → Option Errno) (old : Layers) (p : Path) (k : Call) where
-  abbrev Ends : Layers → Result (Result (Unit {0}) Errno) AllocError → Type 0
-  Ends new r = AltersUnless (fault (layers_of old)) old new p k r
+  -- leaves live files live, also where it changes their attributes
+  live-altered : IsTree old.upper → AltersObject old new p x.attributes → KeepsLive old new k
+  live-altered tree object s m c d j l =
+      through (layer_of old.upper) (layer_of new.upper) (lowers_of old) s c h.before h.shown (state-altered s m c) d j
+      (subst (λ (a : Attributes). AltersNamed (layer_of old.upper) (layer_of new.upper) p a j) h.after (alters-named old new tree p x.attributes object j _ l.inode))
+      l
 
-  -- by a refusal
-  pub alters-refused : (e : Errno) → fault (layers_of old) ≡ Some e → Ends old (Ok (Err e))
-  alters-refused e h = record {
-    refused = h;
-    unchanged = refl;
-    allowed = tt;
-    alters = tt;
-    lowers = refl;
-    keeps = λ x. x;
-    thin = λ x. x;
-    no_memory = tt;
-    mounts = tt;
-  }
-
-  -- for want of memory, where nothing was begun
-  pub alters-unbegun : (e : AllocError) → Ends old (Err e)
-  alters-unbegun e = record {
+  -- ends so with the attributes that the call gives
+  pub alters-done : IsTree old.upper → AltersObject old new p x.attributes → AltersUnless (fault (layers_of old)) old new p k (Ok (Ok tt))
+  alters-done tree object = record {
     refused = tt;
     unchanged = tt;
-    allowed = tt;
-    alters = tt;
-    lowers = refl;
-    keeps = λ x. x;
-    thin = λ x. x;
-    no_memory = same-shown old;
-    mounts = λ s m. m;
+    allowed = none;
+    alters = λ s m c. subst (λ (ls : List Layer). AltersState (layer_of new.upper) ls s c p k) (sym (lowers-same old new low)) (state-altered s m c);
+    lowers = low;
+    keeps = keeps;
+    thin = thin;
+    no_memory = tt;
+    mounts = tt;
+    live = live-altered tree object;
+    stays = tt;
   }
-
-  module _ (new : Layers) (low : new.lowers ≡ old.lowers) (keeps : StaysLayers old new) (thin : StaysThin old new) where
-    -- for want of memory, half way
-    pub alters-wanted : (e : AllocError) → ShowsSame old new → StaysMount old new → Ends new (Err e)
-    alters-wanted e same mounts = record {
-      refused = tt;
-      unchanged = tt;
-      allowed = tt;
-      alters = tt;
-      lowers = low;
-      keeps = keeps;
-      thin = thin;
-      no_memory = same;
-      mounts = mounts;
-    }
-
-    -- with the attributes that the call gives
-    pub alters-done : (f : Attributes → Attributes) → AltersBy f p fault k → (x : Change) → fault (layers_of old) ≡ None → IsChange f old p x → (AreLayers (layers_of old) → Alters (layer_of old.upper) (layer_of new.upper) (lowers_of old) p x.attributes) → Ends new (Ok (Ok tt))
-    alters-done f law x none h alters = record {
-      refused = tt;
-      unchanged = tt;
-      allowed = none;
-      alters = λ s m c.
-          subst (λ (ls : List Layer). AltersState (layer_of new.upper) ls s c p k) (sym (lowers-same old new low))
-          (law (layer_of old.upper) (layer_of new.upper) (lowers_of old) s m c none h.before h.shown
-          (subst (λ (a : Attributes). Alters (layer_of old.upper) (layer_of new.upper) (lowers_of old) p a) h.after (alters m.layers)));
-      lowers = low;
-      keeps = keeps;
-      thin = thin;
-      no_memory = tt;
-      mounts = tt;
-    }
 
 -- what is told of an inode is told where it is shown
 pub open-as : {A : Type 0} (now : A → Attributes) (r : Result A Errno) (s : Option Shown) (j k : ℕ) (i : Option Inode) → s ≡ Some (Contents j k i) → MatchResult r (λ a. IsOpenTo (Some (Contents 0 0 i)) (now a)) (λ e. (e ≡ ELOOP) × (is_link_inode i ≡ true)) → MatchResult r (λ a. IsOpenTo s (now a)) (λ e. (e ≡ ELOOP) × (shows_link s ≡ true))

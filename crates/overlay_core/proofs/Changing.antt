@@ -1,8 +1,10 @@
 -- The calls that change the layers: what becomes of open directories, and the machine's steps.
-use Rattle.std.proofs.Common.{arith, ◌≡◌, ◌≢◌, ℕ, ◌<◌, Bool, true, false, not, cond, List, [], ◌∷◌, ◌++◌, Option, None, Some, Ok, Err, IsSome, refl, sym, ap, ◌∙◌, subst, is_some}
+use Rattle.std.proofs.Common.{arith, ◌≡◌, ◌≢◌, ℕ, ◌<◌, Bool, true, false, not, cond, List, [], ◌∷◌, ◌++◌, Option, None, Some, Result, Ok, Err, IsSome, refl, sym, ap, ◌∙◌, subst, is_some}
 use Rattle.std.specs.Option.{option_and_then, option_map}
 use Rattle.std.specs.BTreeMap.{get}
 use Rattle.std.specs.Ordering.{nat_cmp}
+use Rattle.std.specs.Result.{OnErr}
+use Rattle.std.specs.declared.alloc.AllocError.{AllocError}
 use Rattle.std.proofs.lemmas.Bool.{false≢true}
 use Rattle.ov_base.specs.declared.call.Call.{Call}
 use Rattle.ov_base.specs.declared.call.Call.TheVariants as call
@@ -19,6 +21,7 @@ use Rattle.plain_model.specs.Refusals.{when, refusal}
 use Rattle.plain_model.specs.Changes.{after, made_way, way_of, names_in}
 use Rattle.plain_model.proofs.Paths.{ids_tell, paths_tell}
 use Rattle.layer_tree.specs.Tree.{layer_of}
+use Rattle.copy_up.specs.Showing.{StaysMount}
 use Rattle.merged_lookup.specs.declared.layers.Layers.{Layers}
 use Rattle.merged_lookup.specs.Merged.{layers_of, lowers_of}
 use Rattle.mount_laws.specs.Looks.{or_else, walk_fault, IsMountOf, KeepsHidden, Makes, mkdir_fault}
@@ -34,17 +37,20 @@ use Rattle.open_handles.specs.Descriptors.{opened}
 use Rattle.open_handles.specs.Opened as places
 use Rattle.open_handles.specs.Opened.{Location, At, Removed, NoneBelow, after_removal}
 use Rattle.open_handles.specs.declared.handle.Handle as handles
-use Rattle.open_handles.specs.declared.handle.Handle.TheVariants.{Directory, File}
+use Rattle.open_handles.specs.declared.handle.Handle.TheVariants.{Directory}
 use Rattle.open_handles.specs.declared.handle.OpenDirectory.{OpenDirectory}
 use Rattle.overlay_core.specs.declared.mount.Mount.{Mount}
 use Rattle.overlay_core.specs.Altering.{AltersUnless}
-use Rattle.overlay_core.specs.Attaching.{opened_by}
 use Rattle.overlay_core.specs.Held.{handles_below}
 use Rattle.overlay_core.specs.Removing.{IsOpenNowhere, HasAttributes, RemovesOpen}
-use Rattle.overlay_core.specs.States.{Stands, IsHandle, IsSlot, AreTables, AreUnwatched, IsStateOf, Serves}
-use Rattle.overlay_core.proofs.Answering.{serve-refused, serve-done}
+use Rattle.overlay_core.specs.Files.{AreOne}
+use Rattle.overlay_core.specs.Living.{StaysLive, KeepsLive, KeepsHeld, KeepsLeaves, KeepsHeldLeaves}
+use Rattle.overlay_core.specs.States.{Stands, IsHandle, AreTables, AreUnwatched, IsStateOf, StaysState, Serves}
+use Rattle.overlay_core.proofs.Answering.{on-err, serve-refused, serve-done}
 use Rattle.overlay_core.proofs.Counting.{below-find}
-use Rattle.overlay_core.proofs.Serving.{slot-as, slot-open, tables-moved}
+use Rattle.overlay_core.proofs.Serving.{slot-as, slot-open, one-fewer}
+use Rattle.overlay_core.proofs.Stating.{Alike}
+use Rattle.overlay_core.proofs.Carrying.{AreCounted, CarriesFiles, tables-on, files-stay, files-kept, files-held}
 use Rattle.overlay_core.proofs.Directories.{seen, shown-attributes, shown-directory}
 
 -- a directory is there
@@ -154,20 +160,27 @@ module _ (s : State) (c : ℕ) (p : Path) (k : Call) (V : Layer) (lowers : List 
     left = is.left;
   }
 
--- slots whose open directories are marked
-slot-marked : (t u : Tree) (ds es : Dentries) (a : Option handles.Handle) (x : Option Handle) → ((o : OpenDirectory) (h : Handle) → x ≡ Some h → IsHandle t ds o h → IsHandle u es o h) → IsSlot t ds a x → IsSlot u es a x
-slot-marked t u ds es None None g s = tt
-slot-marked t u ds es None (Some h) g s = absurd s
-slot-marked t u ds es (Some o) None g s = absurd s
-slot-marked t u ds es (Some (File f)) (Some h) g s = absurd s
-slot-marked t u ds es (Some (Directory o)) (Some h) g s = g o h refl s
-
-tables-marked : (t u : Tree) (clients new : Clients) (p : Path) (a : Attributes) (ks : List Table) → AreTables t clients ks → RemovesOpen clients new p a → ((b fd : ℕ) (o : OpenDirectory) (h : Handle) → handle_of ks b fd ≡ Some h → IsHandle t clients.directories o h → IsHandle u new.directories o h) → AreTables u new ks
-tables-marked t u clients new p a ks tables marks f = record {
-  attached = λ b. tables.attached b ∙ sym (ap (λ z. is_some (get nat_cmp z b)) marks.attached);
-  room = λ b. tables.room b ∙ sym (ap (λ z. cond (is_some (get nat_cmp z b)) 64 0) marks.attached);
-  slots = λ b d. slot-as u new.directories _ _ _ _ (sym (ap (λ z. option_and_then (λ (e : Descriptors). opened e.slots.items d) (get nat_cmp z b)) marks.attached)) refl (slot-marked t u clients.directories new.directories (opened_by clients b d) (handle_of ks b d) (f b d) (tables.slots b d));
+-- clients that have the same descriptors have the same tables
+tables-attached : (P : handles.Handle → Handle → Type 0) (clients new : Clients) (ks : List Table) → new.attached ≡ clients.attached → AreTables P clients ks → AreTables P new ks
+tables-attached P clients new ks same tables = record {
+  attached = λ b. tables.attached b ∙ sym (ap (λ z. is_some (get nat_cmp z b)) same);
+  room = λ b. tables.room b ∙ sym (ap (λ z. cond (is_some (get nat_cmp z b)) 64 0) same);
+  slots = λ b d. slot-as P _ _ _ _ (sym (ap (λ z. option_and_then (λ (e : Descriptors). opened e.slots.items d) (get nat_cmp z b)) same)) refl (tables.slots b d);
 }
+
+-- and have the same files open
+one-attached : (clients new : Clients) (ks : List Table) → new.attached ≡ clients.attached → AreOne clients ks → AreOne new ks
+one-attached clients new ks same = one-fewer clients new ks ks
+    (λ k d x. record {
+      client = x.client;
+      descriptor = x.descriptor;
+      file = x.file;
+      handle = x.handle;
+      opened = sym (ap (λ z. option_and_then (λ (e : Descriptors). opened e.slots.items x.descriptor) (get nat_cmp z x.client)) same) ∙ x.opened;
+      key = x.key;
+      on = x.on;
+      at = x.at;
+    })
 
 -- a directory below one is below a directory that has a name in it
 record Beneath (t : Tree) (p : Path) : Type 0 where
@@ -189,6 +202,13 @@ beneath t p (x ∷ r) n d at f = by (λ up e g. beneath t p r x up e g) (node_at
     by : ((up : NodeId) → node_at t (x ∷ (r ++ p)) ≡ Some up → is_folder (t up) ≡ true → Beneath t p) → (o : Option NodeId) → node_at t (x ∷ (r ++ p)) ≡ o → entry t o n ≡ Some d → Beneath t p
     by later None e is = let no : None ≡ Some d = is in absurd (cc)
     by later (Some up) e is = later up e (named-is-folder (t up) n d is)
+
+-- a handle on the directory that is open at a path is on the node there
+stands-at : (t : Tree) (ds : Dentries) (o : OpenDirectory) (h : Handle) (k : ℕ) (q : Path) → IsHandle t ds o h → o.directory ≡ k → places.opened ds k ≡ Some (At q) → node_at t q ≡ Some h.node
+stands-at t ds o h k q is on at =
+    let located : Some is.location ≡ Some (At q) = sym is.located ∙ ap (places.opened ds) on ∙ at in
+    let same : is.location ≡ At q = cc in
+    subst (λ z. Stands t z h.node) same is.stands
 
 -- an rmdir that isn't refused is not of the root, and of a directory that is shown where the walk isn't refused
 pub not-root : (Ls : List Layer) (p : Path) → rmdir_fault Ls p false ≡ None → p ≢ []
@@ -213,9 +233,18 @@ module _ (m : Mount) (s : State) (st : IsStateOf m s) (new : Layers) where
   abbrev Ls : List Layer
   Ls = layers_of m.layers
 
-  -- other layers of the same mount
-  pub stays-state : IsMountOf (layer_of new.upper) (lowers_of new) s → IsStateOf (record m { layers = new }) s
-  stays-state x = record { layers = x; tables = st.tables; arrived = st.arrived; unwatched = st.unwatched }
+  abbrev V : Layer
+  V = layer_of new.upper
+
+  -- other layers of the same mount, in which live files stay live
+  stays-state : IsMountOf V (lowers_of new) s → new.lowers ≡ m.layers.lowers → StaysLive m.layers new → IsStateOf (record m { layers = new }) s
+  stays-state x same live = record {
+    layers = x;
+    tables = tables-on m.layers new s.tree s.tree m.clients s.tables same st.tables m.clients.directories (λ b fd o h on is. is) (files-stay m.layers new s.tree m.clients s.tables live);
+    one = st.one;
+    arrived = st.arrived;
+    unwatched = st.unwatched;
+  }
 
   -- a refusal leaves the layers
   pub refused : (c : ℕ) (k : Call) (e : Errno) → refusal s c k ≡ Some e → new ≡ m.layers → Serves (refusal s c k) s c k (reply.Refused e) (record m { layers = new })
@@ -225,50 +254,55 @@ module _ (m : Mount) (s : State) (st : IsStateOf m s) (new : Layers) where
   free : s.tree (New s.serial) ≡ None
   free = st.layers.kept.unused s.serial (omega arith)
 
-  -- a call that alters what a path shows, and no watch
-  pub altered-done : (c : ℕ) (p : Path) (k : Call) (fault : Option Errno) → refusal s c k ≡ fault → (after s c k).instances ≡ s.instances → AltersUnless fault m.layers new p k (Ok (Ok tt)) → Serves (refusal s c k) s c k reply.Done (record m { layers = new })
-  altered-done c p k fault law same y =
-      let u : Tree = (after s c k).tree in
-      let x : AltersState (layer_of new.upper) (lowers_of new) s c p k = y.alters s st.layers c in
-      serve-done _ s c k reply.Done _ (law ∙ y.allowed) (sym x.answer)
-      (record {
-        layers = x.mounts;
-        tables = subst (AreTables u m.clients) (sym x.tables)
-            (tables-moved s.tree m.clients s.tables st.tables u
-            (λ b fd o h at on is. handle-on s.tree u (λ q d at. x.paths q ∙ at) x.hidden (λ d f. x.folders d ∙ f) m.clients.directories o h is));
-        arrived = st.arrived;
-        unwatched = subst AreUnwatched (sym same) st.unwatched;
-      })
+  -- the tables after a call, where open directories and open files stay
+  tables-after : (c : ℕ) (k : Call) → new.lowers ≡ m.layers.lowers → ((b fd : ℕ) (o : OpenDirectory) (h : Handle) → handle_of s.tables b fd ≡ Some h → IsHandle s.tree m.clients.directories o h → IsHandle (after s c k).tree m.clients.directories o h) → CarriesFiles U V s.tree (after s c k).tree m.clients s.tables → AreTables (Alike new (after s c k) m.clients) m.clients s.tables
+  tables-after c k same directories files = tables-on m.layers new s.tree (after s c k).tree m.clients s.tables same st.tables m.clients.directories directories files
+
+  -- the state after a call that sets no descriptor and no watch
+  state-after : (c : ℕ) (k : Call) (clients : Clients) → IsMountOf V (lowers_of new) (after s c k) → (after s c k).tables ≡ s.tables → (after s c k).instances ≡ s.instances → AreTables (Alike new (after s c k) clients) clients s.tables → AreOne clients s.tables → clients.next ≡ m.clients.next → IsStateOf (record m { layers = new; clients = clients }) (after s c k)
+  state-after c k clients mounts same still tables one next = record {
+    layers = mounts;
+    tables = subst (AreTables (Alike new (after s c k) clients) clients) (sym same) tables;
+    one = subst (AreOne clients) (sym same) one;
+    arrived = next ∙ st.arrived;
+    unwatched = subst AreUnwatched (sym still) st.unwatched;
+  }
+
+  -- a call that alters what a path shows, and no watch, and leaves each file of the tree a file
+  pub altered-done : (c : ℕ) (p : Path) (k : Call) (fault : Option Errno) → refusal s c k ≡ fault → (after s c k).instances ≡ s.instances → KeepsLeaves k → AltersUnless fault m.layers new p k (Ok (Ok tt)) → Serves (refusal s c k) s c k reply.Done (record m { layers = new })
+  altered-done c p k fault law still leaves y =
+      let x : AltersState V (lowers_of new) s c p k = y.alters s st.layers c in
+      let directories = handle-on s.tree (after s c k).tree (λ q d at. x.paths q ∙ at) x.hidden (λ d f. x.folders d ∙ f) m.clients.directories in
+      let files = files-kept m.layers new s st.layers c k m.clients y.live leaves in
+      let tables = tables-after c k y.lowers (λ b fd o h on. directories o h) files in
+      serve-done _ s c k reply.Done _ (law ∙ y.allowed) (sym x.answer) (state-after c k m.clients x.mounts x.tables still tables st.one refl)
 
   -- and its refusal
   pub altered-refused : (c : ℕ) (p : Path) (k : Call) (fault : Option Errno) (e : Errno) → refusal s c k ≡ fault → AltersUnless fault m.layers new p k (Ok (Err e)) → Serves (refusal s c k) s c k (reply.Refused e) (record m { layers = new })
   altered-refused c p k fault e law x = refused c k e (law ∙ x.refused) x.unchanged
 
-  pub mkdir-done : (c : ℕ) (p : Path) (mode : ℕ) → mkdir_fault Ls p mode ≡ None → Makes (layer_of new.upper) (lowers_of new) s c p mode → Serves (refusal s c (call.Mkdir p mode)) s c (call.Mkdir p mode) reply.Done (record m { layers = new })
-  mkdir-done c p mode ok x =
-      let u : Tree = (after s c (call.Mkdir p mode)).tree in
-      serve-done _ s c (call.Mkdir p mode) reply.Done _ (law_of_mkdir U lowers s st.layers c p mode ∙ ok) (sym x.answer)
-      (record {
-        layers = x.mounts;
-        tables = subst (AreTables u m.clients) (sym x.tables)
-            (tables-moved s.tree m.clients s.tables st.tables u
-            (λ b fd o h at on is. handle-on s.tree u x.stays x.hidden (λ d f. made-folder s.tree s.serial (way_of s.tree p) _ d free f) m.clients.directories o h is));
-        arrived = st.arrived;
-        unwatched = st.unwatched;
-      })
+  -- open directories stand where they stood after a call that makes a node
+  handle-beside : (c : ℕ) (k : Call) (p : Path) (x : Node) → (after s c k).tree ≡ made_way s.tree s.serial (way_of s.tree p) x → ((q : Path) (d : NodeId) → node_at s.tree q ≡ Some d → node_at (after s c k).tree q ≡ Some d) → KeepsHidden s.tree (after s c k).tree → (o : OpenDirectory) (h : Handle) → IsHandle s.tree m.clients.directories o h → IsHandle (after s c k).tree m.clients.directories o h
+  handle-beside c k p x made stays hidden o h =
+      handle-on s.tree (after s c k).tree stays hidden
+      (λ d f. ap (λ t. is_folder (t d)) made ∙ made-folder s.tree s.serial (way_of s.tree p) x d free f)
+      m.clients.directories o h
 
-  pub symlink-done : (c : ℕ) (target : List ℕ) (p : Path) → symlink_fault Ls target p ≡ None → MakesLink (layer_of new.upper) (lowers_of new) s c target p → Serves (refusal s c (call.Symlink target p)) s c (call.Symlink target p) reply.Done (record m { layers = new })
-  symlink-done c target p ok x =
-      let u : Tree = (after s c (call.Symlink target p)).tree in
-      serve-done _ s c (call.Symlink target p) reply.Done _ (law_of_symlink U lowers s st.layers c target p ∙ ok) (sym x.answer)
-      (record {
-        layers = x.mounts;
-        tables = subst (AreTables u m.clients) (sym x.tables)
-            (tables-moved s.tree m.clients s.tables st.tables u
-            (λ b fd o h at on is. handle-on s.tree u x.stays x.hidden (λ d f. made-folder s.tree s.serial (way_of s.tree p) _ d free f) m.clients.directories o h is));
-        arrived = st.arrived;
-        unwatched = st.unwatched;
-      })
+  -- a mkdir that isn't refused is served
+  pub mkdir-done : (c : ℕ) (p : Path) (mode : ℕ) → mkdir_fault Ls p mode ≡ None → new.lowers ≡ m.layers.lowers → Makes V (lowers_of new) s c p mode → KeepsLive m.layers new (call.Mkdir p mode) → KeepsLeaves (call.Mkdir p mode) → Serves (refusal s c (call.Mkdir p mode)) s c (call.Mkdir p mode) reply.Done (record m { layers = new })
+  mkdir-done c p mode ok same x live leaves =
+      let k = call.Mkdir p mode in
+      let files = files-kept m.layers new s st.layers c k m.clients live leaves in
+      let tables = tables-after c k same (λ b fd o h on. handle-beside c k p _ refl x.stays x.hidden o h) files in
+      serve-done _ s c k reply.Done _ (law_of_mkdir U lowers s st.layers c p mode ∙ ok) (sym x.answer) (state-after c k m.clients x.mounts x.tables refl tables st.one refl)
+
+  -- so is a symlink
+  pub symlink-done : (c : ℕ) (target : List ℕ) (p : Path) → symlink_fault Ls target p ≡ None → new.lowers ≡ m.layers.lowers → MakesLink V (lowers_of new) s c target p → KeepsLive m.layers new (call.Symlink target p) → KeepsLeaves (call.Symlink target p) → Serves (refusal s c (call.Symlink target p)) s c (call.Symlink target p) reply.Done (record m { layers = new })
+  symlink-done c target p ok same x live leaves =
+      let k = call.Symlink target p in
+      let files = files-kept m.layers new s st.layers c k m.clients live leaves in
+      let tables = tables-after c k same (λ b fd o h on. handle-beside c k p _ refl x.stays x.hidden o h) files in
+      serve-done _ s c k reply.Done _ (law_of_symlink U lowers s st.layers c target p ∙ ok) (sym x.answer) (state-after c k m.clients x.mounts x.tables refl tables st.one refl)
 
   -- no directory is open at the path of a file or link
   not-there : (p : Path) → unlink_fault Ls p ≡ None → (l : Location) (d : NodeId) → Stands s.tree l d → is_folder (s.tree d) ≡ true → l ≢ At p
@@ -280,52 +314,58 @@ module _ (m : Mount) (s : State) (st : IsStateOf m s) (new : Layers) where
   pub none-below : (p : Path) → ShowsNoName Ls p → ((k : ℕ) → IsSome (places.opened m.clients.directories k) → 0 < handles_below (get nat_cmp m.clients.attached) m.clients.next k) → NoneBelow m.clients.directories p
   none-below p bare counted k n r is =
       let found = below-find (get nat_cmp m.clients.attached) m.clients.next k (counted k (subst IsSome (sym is) refl)) in
-      let slot = slot-open s.tree m.clients.directories _ _ found.handle (st.tables.slots found.client found.descriptor) found.there in
-      let located : Some slot.2.location ≡ Some (At (n ∷ (r ++ p))) = sym slot.2.located ∙ ap (places.opened m.clients.directories) found.on ∙ is in
-      let same : slot.2.location ≡ At (n ∷ (r ++ p)) = cc in
-      let under = beneath s.tree p r n slot.0.node (subst (λ z. Stands s.tree z slot.0.node) same slot.2.stands) slot.2.directory in
+      let slot = slot-open (Alike m.layers s m.clients) _ _ (Directory found.handle) (st.tables.slots found.client found.descriptor) found.there in
+      let at = stands-at s.tree m.clients.directories found.handle slot.0 k (n ∷ (r ++ p)) slot.2 found.on is in
+      let under = beneath s.tree p r n slot.0.node at slot.2.directory in
       let shown : is_directory (shows 0 Ls (under.name ∷ p)) ≡ true = shown-directory U lowers s st.layers (under.name ∷ p) under.node under.at under.directory in
       false≢true (sym (ap is_directory (bare under.name)) ∙ shown)
 
-  pub unlink-done : (c : ℕ) (p : Path) → unlink_fault Ls p ≡ None → Removes (layer_of new.upper) (lowers_of new) s c p (call.Unlink p) → Serves (refusal s c (call.Unlink p)) s c (call.Unlink p) reply.Done (record m { layers = new })
-  unlink-done c p ok x =
-      let u : Tree = (after s c (call.Unlink p)).tree in
-      serve-done _ s c (call.Unlink p) reply.Done _ (law_of_unlink U lowers s st.layers c p ∙ ok) (sym x.answer)
-      (record {
-        layers = x.mounts;
-        tables = subst (AreTables u m.clients) (sym x.tables)
-            (tables-moved s.tree m.clients s.tables st.tables u
-            (λ b fd o h at on is. handle-apart s c p (call.Unlink p) (layer_of new.upper) (lowers_of new) x m.clients.directories b fd o h on is (not-there p ok is.location h.node is.stands is.directory)));
-        arrived = st.arrived;
-        unwatched = st.unwatched;
-      })
-
-  pub rmdir-done : (c : ℕ) (p : Path) (clients : Clients) → rmdir_fault Ls p false ≡ None → ShowsNoName Ls p → AreTables (after s c (call.Rmdir p)).tree clients s.tables → clients.next ≡ m.clients.next → Removes (layer_of new.upper) (lowers_of new) s c p (call.Rmdir p) → Serves (refusal s c (call.Rmdir p)) s c (call.Rmdir p) reply.Done (record m { layers = new; clients = clients })
-  rmdir-done c p clients ok bare tables next x =
-      serve-done _ s c (call.Rmdir p) reply.Done _ ((law_of_rmdir U lowers s st.layers c p).empty bare ∙ ok) (sym x.answer)
-      (record {
-        layers = x.mounts;
-        tables = subst (AreTables (after s c (call.Rmdir p)).tree clients) (sym x.tables) tables;
-        arrived = next ∙ st.arrived;
-        unwatched = st.unwatched;
-      })
+  -- an unlink that isn't refused is served
+  pub unlink-done : (c : ℕ) (p : Path) → unlink_fault Ls p ≡ None → new.lowers ≡ m.layers.lowers → Removes V (lowers_of new) s c p (call.Unlink p) → AreCounted m.clients → KeepsHeld m.clients m.layers new (call.Unlink p) → KeepsHeldLeaves (call.Unlink p) → Serves (refusal s c (call.Unlink p)) s c (call.Unlink p) reply.Done (record m { layers = new })
+  unlink-done c p ok same x counted live leaves =
+      let k = call.Unlink p in
+      let apart = handle-apart s c p k V (lowers_of new) x m.clients.directories in
+      let files = files-held m.layers new s st.layers c k m.clients live leaves counted in
+      let tables = tables-after c k same (λ b fd o h on is. apart b fd o h on is (not-there p ok is.location h.node is.stands is.directory)) files in
+      serve-done _ s c k reply.Done _ (law_of_unlink U lowers s st.layers c p ∙ ok) (sym x.answer) (state-after c k m.clients x.mounts x.tables refl tables st.one refl)
 
   -- the node at the path of a directory that is shown has its attributes
   folder-has : (p : Path) (a : Attributes) → HasAttributes Ls p a → (e : NodeId) → node_at s.tree p ≡ Some e → folder_attributes (s.tree e) ≡ Some a
   folder-has p a has e at = shown-attributes (s.tree e) (base U lowers p) (shows 0 Ls p) a has (seen U lowers s st.layers p e at)
 
-  -- rmdir of a directory that is open
-  pub rmdir-open : (c : ℕ) (p : Path) (a : Attributes) (clients : Clients) → HasAttributes Ls p a → rmdir_fault Ls p false ≡ None → ShowsNoName Ls p → RemovesOpen m.clients clients p a → Removes (layer_of new.upper) (lowers_of new) s c p (call.Rmdir p) → Serves (refusal s c (call.Rmdir p)) s c (call.Rmdir p) reply.Done (record m { layers = new; clients = clients })
-  rmdir-open c p a clients has ok bare marks x =
-      rmdir-done c p clients ok bare
-      (tables-marked s.tree (after s c (call.Rmdir p)).tree m.clients clients p a s.tables st.tables marks
-      (λ b fd o h on is. handle-marked s c p (call.Rmdir p) (layer_of new.upper) (lowers_of new) x a m.clients.directories clients.directories (folder-has p a has) marks.places b fd o h on is))
-      marks.next x
+  -- rmdir of a directory
+  module _ (c : ℕ) (p : Path) (ok : rmdir_fault Ls p false ≡ None) (bare : ShowsNoName Ls p) (same : new.lowers ≡ m.layers.lowers) (x : Removes V (lowers_of new) s c p (call.Rmdir p)) (counted : AreCounted m.clients) (live : KeepsHeld m.clients m.layers new (call.Rmdir p)) (leaves : KeepsHeldLeaves (call.Rmdir p)) where
+    abbrev u : Tree
+    u = (after s c (call.Rmdir p)).tree
 
-  -- and of one that isn't
-  pub rmdir-unopened : (c : ℕ) (p : Path) → rmdir_fault Ls p false ≡ None → ShowsNoName Ls p → IsOpenNowhere m.clients p → Removes (layer_of new.upper) (lowers_of new) s c p (call.Rmdir p) → Serves (refusal s c (call.Rmdir p)) s c (call.Rmdir p) reply.Done (record m { layers = new })
-  rmdir-unopened c p ok bare nowhere x =
-      rmdir-done c p m.clients ok bare
-      (tables-moved s.tree m.clients s.tables st.tables (after s c (call.Rmdir p)).tree
-      (λ b fd o h at on is. handle-apart s c p (call.Rmdir p) (layer_of new.upper) (lowers_of new) x m.clients.directories b fd o h on is (λ e. nowhere o.directory (is.located ∙ ap Some e))))
-      refl x
+    -- open files stay
+    files : CarriesFiles U V s.tree u m.clients s.tables
+    files = files-held m.layers new s st.layers c (call.Rmdir p) m.clients live leaves counted
+
+    -- it is served where its tables are right
+    rmdir-done : (clients : Clients) → AreTables (Alike new (after s c (call.Rmdir p)) clients) clients s.tables → AreOne clients s.tables → clients.next ≡ m.clients.next → Serves (refusal s c (call.Rmdir p)) s c (call.Rmdir p) reply.Done (record m { layers = new; clients = clients })
+    rmdir-done clients tables one next =
+        serve-done _ s c (call.Rmdir p) reply.Done _ ((law_of_rmdir U lowers s st.layers c p).empty bare ∙ ok) (sym x.answer)
+        (state-after c (call.Rmdir p) clients x.mounts x.tables refl tables one next)
+
+    -- where it is open, its handles are on a removed directory then
+    pub rmdir-open : (a : Attributes) (clients : Clients) → HasAttributes Ls p a → RemovesOpen m.clients clients p a → Serves (refusal s c (call.Rmdir p)) s c (call.Rmdir p) reply.Done (record m { layers = new; clients = clients })
+    rmdir-open a clients has marks =
+        let directories = handle-marked s c p (call.Rmdir p) V (lowers_of new) x a m.clients.directories clients.directories (folder-has p a has) marks.places in
+        let moved = tables-on m.layers new s.tree u m.clients s.tables same st.tables clients.directories directories files in
+        rmdir-done clients
+        (tables-attached (Alike new (after s c (call.Rmdir p)) clients) m.clients clients s.tables marks.attached moved)
+        (one-attached m.clients clients s.tables marks.attached st.one)
+        marks.next
+
+    -- where it isn't, no open directory changes
+    pub rmdir-unopened : IsOpenNowhere m.clients p → Serves (refusal s c (call.Rmdir p)) s c (call.Rmdir p) reply.Done (record m { layers = new })
+    rmdir-unopened nowhere =
+        let apart = handle-apart s c p (call.Rmdir p) V (lowers_of new) x m.clients.directories in
+        rmdir-done m.clients
+        (tables-after c (call.Rmdir p) same (λ b fd o h on is. apart b fd o h on is (λ e. nowhere o.directory (is.located ∙ ap Some e))) files)
+        st.one refl
+
+-- want of memory leaves each state that the mount stood for
+pub no-memory : {T : Type 0} (r : Result T AllocError) (m : Mount) (new : Layers) → StaysMount m.layers new → new.lowers ≡ m.layers.lowers → StaysLive m.layers new → OnErr r (StaysState m (record m { layers = new }))
+no-memory r m new mounts same live = on-err r _ (λ s st. stays-state m s st new (mounts s st.layers) same live)

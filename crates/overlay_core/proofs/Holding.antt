@@ -22,7 +22,7 @@ use Rattle.overlay_core.specs.Attaching.{opened_by, ChangesClient}
 use Rattle.open_handles.specs.Holding.{holds, handles_on, is_upper, holds_file, files_on}
 use Rattle.open_handles.specs.FileHolders.{HeldFiles, file_holders, SameCounts}
 use Rattle.open_handles.specs.Opened as places
-use Rattle.open_handles.specs.Opened.{Location, At, holders, SameHandles}
+use Rattle.open_handles.specs.Opened.{Location, holders, SameHandles}
 use Rattle.open_handles.proofs.Holding.{number_of, source_in, handles_on-opens, handles_on-closes, handles_on-changes, files_on-opens, files_on-closes, files_on-changes}
 use Rattle.overlay_core.specs.declared.clients.Clients.{Clients}
 use Rattle.overlay_core.specs.Held.{handles_by, handles_below, files_by, files_below, ClosesAll, ReleasesAll}

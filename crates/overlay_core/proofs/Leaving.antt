@@ -11,7 +11,6 @@ use Rattle.ov_base.specs.declared.call.Call.{Call}
 use Rattle.ov_base.specs.declared.call.Call.TheVariants.{Close}
 use Rattle.ov_base.specs.declared.errno.Errno.{Errno}
 use Rattle.ov_base.specs.declared.errno.Errno.TheVariants.{EBADF}
-use Rattle.ov_base.specs.declared.node_id.NodeId.{NodeId}
 use Rattle.ov_base.specs.declared.reply.Reply.{Reply}
 use Rattle.plain_model.specs.Layers.{Layer}
 use Rattle.plain_model.specs.Tree.{Tree}
@@ -38,7 +37,9 @@ use Rattle.overlay_core.specs.Rules.{Nothing}
 use Rattle.overlay_core.specs.States.{IsSlot, IsOpenAs, AreTables, AreUnwatched, IsStateOf, Serves}
 use Rattle.overlay_core.proofs.Coming.{of, open_in}
 use Rattle.overlay_core.proofs.Serving.{slot-as, carried, handles-set, get-others, OpensFewer, one-fewer}
+use Rattle.overlay_core.proofs.Stating.{with-tables}
 
+-- fewer instances without watches
 unwatched-filter : (f : Instance → Bool) (es : List Instance) → AreUnwatched es → AreUnwatched (filter f es)
 unwatched-filter f [] a = tt
 unwatched-filter f (e ∷ es) a = by (f e) (unwatched-filter f es a.1)
@@ -47,19 +48,21 @@ unwatched-filter f (e ∷ es) a = by (f e) (unwatched-filter f es a.1)
     by true rest = (a.0, rest)
     by false rest = rest
 
--- an instance without watches stays as it is whatever is told, and asks nothing
+-- an instance without watches stays as it is whatever is told
 passed-none : (ss : List Subject) (e : Instance) → e.watches ≡ [] → all_passed e ss ≡ e
 passed-none [] e h = refl
 passed-none (s ∷ ss) e h =
     let same : passed e s ≡ e = ap (λ ws. record e { watches = filter (λ w. not (ends e.client s w)) ws }) h ∙ sym (ap (λ ws. record e { watches = ws }) h) in
     ap (λ z. all_passed z ss) same ∙ passed-none ss e h
 
+-- and it asks nothing
 asked-none : (ss : List Subject) (e : Instance) → e.watches ≡ [] → all_asked e ss ≡ []
 asked-none [] e h = refl
 asked-none (s ∷ ss) e h =
     ap (λ ws. flat_map (λ w. map (λ v. (slice_index_or e.tags w.slot 0, v)) (events e.client s w)) ws ++ all_asked (passed e s) ss) h
     ∙ asked-none ss (passed e s) (ap (λ ws. filter (λ w. not (ends e.client s w)) ws) h)
 
+-- so each of them hears whatever is told, and stays as it is
 pub all-hear : (shows : Rule) (ss : List Subject) (es : List Instance) → AreUnwatched es → AllHear shows ss es es
 all-hear shows ss [] w = tt
 all-hear shows ss (e ∷ es) w = (
@@ -208,7 +211,7 @@ closes-each s new c i all b = record {
 abbrev without : ℕ → List Table → List Table
 without n ks = filter (λ (k : Table). not (nat_eq k.client n)) ks
 
--- without a client's table
+-- without its table a client has no descriptors
 handles-gone : (ks : List Table) (n : ℕ) → handles_of (without n ks) n ≡ []
 handles-gone [] n = refl
 handles-gone (k ∷ ks) n = by (nat_eq k.client n) refl (handles-gone ks n)
@@ -217,6 +220,7 @@ handles-gone (k ∷ ks) n = by (nat_eq k.client n) refl (handles-gone ks n)
     by true e rest = rest
     by false e rest = ap (λ x. cond x k.handles (handles_of (without n ks) n)) e ∙ rest
 
+-- and the others have theirs
 handles-kept : (ks : List Table) (n b : ℕ) → b ≢ n → handles_of (without n ks) b ≡ handles_of ks b
 handles-kept [] n b h = refl
 handles-kept (k ∷ ks) n b h = by (nat_eq k.client n) refl (handles-kept ks n b h)
@@ -225,6 +229,7 @@ handles-kept (k ∷ ks) n b h = by (nat_eq k.client n) refl (handles-kept ks n b
     by true e rest = rest ∙ sym (ap (λ x. cond x k.handles (handles_of ks b)) (ne_eqb k.client b (λ f. h (sym f ∙ eqb-true k.client n e))))
     by false e rest = ap (cond (nat_eq k.client b) k.handles) rest
 
+-- it is not attached
 any-gone : (ks : List Table) (n : ℕ) → list_any (of n) (without n ks) ≡ false
 any-gone [] n = refl
 any-gone (k ∷ ks) n = by (nat_eq k.client n) refl (any-gone ks n)
@@ -233,6 +238,7 @@ any-gone (k ∷ ks) n = by (nat_eq k.client n) refl (any-gone ks n)
     by true e rest = rest
     by false e rest = ap (λ x. x || list_any (of n) (without n ks)) e ∙ rest
 
+-- and the others are as they were
 any-kept : (ks : List Table) (n b : ℕ) → b ≢ n → list_any (of b) (without n ks) ≡ list_any (of b) ks
 any-kept [] n b h = refl
 any-kept (k ∷ ks) n b h = by (nat_eq k.client n) refl (any-kept ks n b h)
@@ -283,33 +289,28 @@ go-fewer clients new ks n h k d on = by (cases_eq on.client n)
 
 -- the mount stands for the state without a client that is gone
 gone : (m : Mount) (s : State) (new : Clients) (n : ℕ) → IsStateOf m s → Detaches m.clients new n → KeepsPlaces m.clients new → IsStateOf (record m { clients = new }) (without_table s n)
-gone m s new n st h places = record {
-  layers = record { layers = st.layers.layers; shows = st.layers.shows; kept = st.layers.kept; writable = st.layers.writable };
-  tables = go (layer_of m.layers.upper) (lowers_of m.layers) s.tree m.clients new s.tables n st.tables h places;
-  one = one-fewer m.clients new s.tables (without n s.tables) (go-fewer m.clients new s.tables n h) st.one;
-  arrived = h.next ∙ st.arrived;
-  unwatched = st.unwatched;
-}
+gone m s new n st h places =
+    with-tables m s st new (without n s.tables) h.next
+    (go (layer_of m.layers.upper) (lowers_of m.layers) s.tree m.clients new s.tables n st.tables h places)
+    (one-fewer m.clients new s.tables (without n s.tables) (go-fewer m.clients new s.tables n h) st.one)
 
 -- a client whose descriptors are closed leaves
 pub leaves : (s : State) (m : Mount) (new : Clients) (n : ℕ) → ClosesEach s n m → Detaches m.clients new n → KeepsPlaces m.clients new → (t : State) × Leaves Nothing s n t × IsStateOf (record m { clients = new }) t
 leaves s m new n c h places = (without_table c.last n, (c.last, c.closes, refl), gone m c.last new n c.stands h places)
 
--- and what came before its closes stays of the clients
-pub detaches-on : (old between new : Clients) (n : ℕ) → KeepsOthers old between n → Detaches between new n → Detaches old new n
-detaches-on old between new n h g = record { gone = g.gone; others = λ m other. g.others m other ∙ h.others m other; next = g.next ∙ h.next }
-
--- the other clients stay as they are, at once and through two changes
+-- the other clients stay as they are where nothing changes
 pub others-same : (clients : Clients) (n : ℕ) → KeepsOthers clients clients n
 others-same clients n = record { attached = λ is. is; others = λ m other. refl; next = refl }
 
+-- and through two changes
 pub others-on : (old between new : Clients) (n : ℕ) → KeepsOthers old between n → KeepsOthers between new n → KeepsOthers old new n
 others-on old between new n h g = record { attached = λ is. g.attached (h.attached is); others = λ m other. g.others m other ∙ h.others m other; next = g.next ∙ h.next }
 
--- and so do paths
+-- paths hold what they held where nothing changes
 pub paths-same : (l : Layers) → KeepsPaths l l
 paths-same l = record { lowers = refl; objects = λ x. refl; inodes = λ x k named. refl }
 
+-- and through two changes
 pub paths-on : (old between new : Layers) → KeepsPaths old between → KeepsPaths between new → KeepsPaths old new
 paths-on old between new h g = record {
   lowers = g.lowers ∙ h.lowers;

@@ -119,6 +119,7 @@ pub(crate) fn carry_out(
         Ok(change) => change,
         Err(errno) => return Ok(Err(errno)),
     };
+    layers.upper().lawful();
     alter(
         layers,
         path,

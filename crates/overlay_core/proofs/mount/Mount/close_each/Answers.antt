@@ -1,4 +1,4 @@
-use Rattle.std.proofs.Common.{arith, ◌≡◌, ◌+◌, length}
+use Rattle.std.proofs.Common.{arith, ◌≡◌, length}
 use Rattle.plain_model.specs.Machine.{handles_of}
 use Rattle.overlay_core.proofs.Leaving.{closes-none, closes-next, closes-each, others-same, others-on, paths-same, paths-on}
 use Rattle.overlay_core.proofs.Serving.{room-of}

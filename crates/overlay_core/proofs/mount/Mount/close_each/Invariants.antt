@@ -1,4 +1,3 @@
-use Rattle.std.proofs.Common.{◌≡◌}
 use Rattle.plain_model.specs.Machine.{State}
 use Rattle.overlay_core.specs.Attaching.{KeepsOthers}
 use Rattle.overlay_core.specs.Living.{KeepsPaths}

@@ -3,17 +3,21 @@ use Rattle.ov_base.specs.declared.call.Call.TheVariants as call
 use Rattle.layer_tree.specs.Tree.{layer_of}
 use Rattle.merged_lookup.specs.Merged.{lowers_of}
 use Rattle.mount_laws.proofs.Attributes.{law_of_delete_attribute}
-use Rattle.overlay_core.proofs.Changing.{altered-done, altered-refused}
+use Rattle.overlay_core.proofs.Changing.{altered-done, altered-refused, no-memory}
+use Rattle.overlay_core.proofs.Lasting.{delete-leaves}
 use Rattle.overlay_core.proofs.mount.Mount.delete_attribute.Goals as goal
 
 pub returns-in-Ok-clause-serves : goal.returns-in-Ok-clause-serves
 returns-in-Ok-clause-serves c = λ s st client.
     altered-done c.args.self.now s st c.delete_attribute.new.layers client c.args.path.now (call.DeleteAttribute c.args.path.now c.args.name.now) _
     (law_of_delete_attribute (layer_of c.args.self.now.layers.upper) (lowers_of c.args.self.now.layers) s st.layers client c.args.path.now c.args.name.now)
-    refl (rw c.in-Ok.is at c.in_ok-delete_attribute.ensures)
+    refl (delete-leaves c.args.path.now c.args.name.now) (rw c.in-Ok.is at c.in_ok-delete_attribute.ensures)
 
 pub returns-in-Err-clause-serves : goal.returns-in-Err-clause-serves
 returns-in-Err-clause-serves c = λ s st client.
     altered-refused c.args.self.now s st c.delete_attribute.new.layers client c.args.path.now (call.DeleteAttribute c.args.path.now c.args.name.now) _ c.in-Err.errno
     (law_of_delete_attribute (layer_of c.args.self.now.layers.upper) (lowers_of c.args.self.now.layers) s st.layers client c.args.path.now c.args.name.now)
     (rw c.in-Err.is at c.in_ok-delete_attribute.ensures)
+
+pub returns-in_err-delete_attribute-clause-err : goal.returns-in_err-delete_attribute-clause-err
+returns-in_err-delete_attribute-clause-err c = no-memory c.from_residual.result c.args.self.now c.delete_attribute.new.layers c.in_err-delete_attribute.ensures.mounts c.in_err-delete_attribute.ensures.lowers c.in_err-delete_attribute.ensures.stays

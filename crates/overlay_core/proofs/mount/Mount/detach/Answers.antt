@@ -1,4 +1,4 @@
-use Rattle.overlay_core.proofs.Leaving.{leaves, detaches-on}
+use Rattle.overlay_core.proofs.Leaving.{leaves}
 use Rattle.overlay_core.proofs.mount.Mount.detach.Goals as goal
 
 pub returns-clause-leaves : goal.returns-clause-leaves

@@ -1,7 +1,8 @@
 use Rattle.ov_base.specs.declared.call.Call.TheVariants as call
 use mathlib.Core.Logic.{∥∥₁_elim}
 use mathlib.Core.HLevel.{⊥_prop}
-use Rattle.overlay_core.proofs.Changing.{none-below, rmdir-open, rmdir-unopened, refused}
+use Rattle.overlay_core.proofs.Changing.{none-below, rmdir-open, rmdir-unopened, no-memory, refused}
+use Rattle.overlay_core.proofs.Lasting.{rmdir-leaves}
 use Rattle.overlay_core.proofs.mount.Mount.rmdir.Goals as goal
 use Rattle.overlay_core.proofs.mount.Mount.rmdir.Goals.{in-Some, in_default}
 
@@ -18,8 +19,15 @@ pub returns-after-attributes-3-clause-serves : goal.returns-after-attributes-3-c
 returns-after-attributes-3-clause-serves c = λ s st client.
     let allowed = rw c.in-Ok.is at c.in_ok-rmdir_and_free.ensures.allowed in
     let bare = rw c.in-Ok.is at c.in_ok-rmdir_and_free.ensures.bare in
+    let takes = rw c.in-Ok.is at c.in_ok-rmdir_and_free.ensures.takes in
     let steps = rw c.in-Ok.is at c.in_ok-rmdir_and_free.ensures.steps s st.layers client in
+    let live = rw c.in-Ok.is at c.in_ok-rmdir_and_free.ensures.live in
     elim c.match-attributes-3.branch [
-      | in-Some w ↦ rw w.self-is (rmdir-open c.args.self.now s st c.rmdir_and_free.new.layers client c.args.path.now w.in-Some.attributes w.remove.new.self (rw w.in-Some.is at c.in_ok-attributes.ensures.left) allowed bare w.remove.ensures steps)
-      | in_default w ↦ rw w.self-is (rmdir-unopened c.args.self.now s st c.rmdir_and_free.new.layers client c.args.path.now allowed bare (rw w.in_default.is at c.in_ok-attributes.ensures.none allowed) steps)
+      | in-Some w ↦ rw w.self-is (rmdir-open c.args.self.now s st c.rmdir_and_free.new.layers client c.args.path.now allowed bare takes.lowers steps c.lawful.ensures.files live (rmdir-leaves c.args.path.now) w.in-Some.attributes w.remove.new.self (rw w.in-Some.is at c.in_ok-attributes.ensures.left) w.remove.ensures)
+      | in_default w ↦ rw w.self-is (rmdir-unopened c.args.self.now s st c.rmdir_and_free.new.layers client c.args.path.now allowed bare takes.lowers steps c.lawful.ensures.files live (rmdir-leaves c.args.path.now) (rw w.in_default.is at c.in_ok-attributes.ensures.none allowed))
     ]
+
+pub returns-in_err-rmdir_and_free-clause-err : goal.returns-in_err-rmdir_and_free-clause-err
+returns-in_err-rmdir_and_free-clause-err c =
+    let kept = c.in_err-rmdir_and_free.ensures in
+    no-memory c.from_residual-in_err-rmdir_and_free.result c.args.self.now c.rmdir_and_free.new.layers kept.mounts kept.no_memory.lowers kept.stays

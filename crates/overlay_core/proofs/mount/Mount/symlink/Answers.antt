@@ -4,7 +4,8 @@ use Rattle.std.proofs.Common.{◌∙◌, refl}
 use Rattle.layer_tree.specs.Tree.{layer_of}
 use Rattle.merged_lookup.specs.Merged.{lowers_of}
 use Rattle.overlay_core.proofs.Parsed.{target-fault}
-use Rattle.overlay_core.proofs.Changing.{symlink-done, refused}
+use Rattle.overlay_core.proofs.Changing.{symlink-done, no-memory, refused}
+use Rattle.overlay_core.proofs.Lasting.{symlink-live, symlink-leaves, parents-live}
 use Rattle.overlay_core.proofs.mount.Mount.symlink.Goals as goal
 
 pub returns-in-Err-clause-serves : goal.returns-in-Err-clause-serves
@@ -16,7 +17,12 @@ returns-in-Err-clause-serves c = λ s st client.
 pub returns-in-Ok-2-clause-serves : goal.returns-in-Ok-2-clause-serves
 returns-in-Ok-2-clause-serves c = λ s st client.
     let same = (rw c.in-Ok.is at c.parse.ensures.same) ∙ c.in_ok-clone.ensures.cases in
-    symlink-done c.args.self.now s st c.symlink.new.layers client c.args.target.now c.args.path.now (rw (c.in-Ok-2.is, same) at c.in_ok-symlink.ensures.allowed) (rw (c.in-Ok-2.is, same) at c.in_ok-symlink.ensures.steps s st.layers client)
+    let allowed = rw (c.in-Ok-2.is, same) at c.in_ok-symlink.ensures.allowed in
+    let made = rw (c.in-Ok-2.is, same) at c.in_ok-symlink.ensures.made in
+    let steps = rw (c.in-Ok-2.is, same) at c.in_ok-symlink.ensures.steps in
+    symlink-done c.args.self.now s st c.symlink.new.layers client c.args.target.now c.args.path.now allowed made.lowers (steps s st.layers client)
+    (symlink-live c.args.self.now.layers c.symlink.new.layers c.args.target.now c.args.path.now made steps)
+    (symlink-leaves c.args.target.now c.args.path.now)
 
 pub returns-in-Err-2-clause-serves : goal.returns-in-Err-2-clause-serves
 returns-in-Err-2-clause-serves c = λ s st client.
@@ -24,3 +30,8 @@ returns-in-Err-2-clause-serves c = λ s st client.
     refused c.args.self.now s st c.symlink.new.layers client (call.Symlink c.args.target.now c.args.path.now) c.in-Err-2.errno
     (law_of_symlink (layer_of c.args.self.now.layers.upper) (lowers_of c.args.self.now.layers) s st.layers client c.args.target.now c.args.path.now ∙ (rw (c.in-Err-2.is, same) at c.in_ok-symlink.ensures.refused))
     (rw c.in-Err-2.is at c.in_ok-symlink.ensures.unchanged)
+
+pub returns-in_err-symlink-clause-err : goal.returns-in_err-symlink-clause-err
+returns-in_err-symlink-clause-err c =
+    let parents = c.in_err-symlink.ensures.parents in
+    no-memory c.from_residual-in_err-symlink.result c.args.self.now c.symlink.new.layers c.in_err-symlink.ensures.mounts parents.lowers (parents-live c.args.self.now.layers c.symlink.new.layers c.args.path.now parents)

@@ -1,0 +1,101 @@
+-- Open files through changes of the layers and of the tree.
+use Rattle.std.proofs.Common.{◌≡◌, ◌↔◌, ℕ, ◌<◌, true, List, Some, refl, sym, ap, ◌∙◌, subst, map}
+use Rattle.ov_base.specs.declared.call.Call.{Call}
+use Rattle.plain_model.specs.Layers.{Layer}
+use Rattle.plain_model.specs.Tree.{Tree}
+use Rattle.plain_model.specs.Machine.{Handle, Table, State, handle_of}
+use Rattle.plain_model.specs.Changes.{after}
+use Rattle.layer_tree.specs.Tree.{layer_of}
+use Rattle.merged_lookup.specs.declared.layers.Layers.{Layers}
+use Rattle.merged_lookup.specs.Merged.{lowers_of}
+use Rattle.mount_laws.specs.Looks.{IsMountOf}
+use Rattle.mount_laws.specs.OpenFiles.{IsLive}
+use Rattle.mount_laws.proofs.Handles.{held-by}
+use Rattle.open_handles.specs.Dentries.{Dentries}
+use Rattle.open_handles.specs.FileHolders.{file_holders}
+use Rattle.open_handles.specs.declared.handle.Handle as handles
+use Rattle.open_handles.specs.declared.handle.Handle.TheVariants.{Directory, File}
+use Rattle.open_handles.specs.declared.handle.OpenDirectory.{OpenDirectory}
+use Rattle.open_handles.specs.declared.open_file.FileSource.{FileSource}
+use Rattle.open_handles.specs.declared.open_file.FileSource.TheVariants.{Upper, Lower}
+use Rattle.open_handles.specs.declared.open_file.OpenFile.{OpenFile}
+use Rattle.overlay_core.specs.declared.clients.Clients.{Clients}
+use Rattle.overlay_core.specs.Attaching.{opened_by}
+use Rattle.overlay_core.specs.Files.{is_leaf, IsOf, IsFile, HasFile}
+use Rattle.overlay_core.specs.Living.{StaysLive, KeepsLive, KeepsHeld, KeepsLeaves, KeepsHeldLeaves}
+use Rattle.overlay_core.specs.States.{IsHandle, IsOpenAs, AreTables}
+use Rattle.overlay_core.proofs.Serving.{tables-moved}
+
+module _ (U V : Layer) (lowers : List Layer) (t u : Tree) where
+  -- a file that stays live, and a node that stays a file, are of the handle still
+  of-on : (x : FileSource) (h : Handle) → ((k : ℕ) → x ≡ Upper k → IsLive U t h.node k → IsLive V u h.node k) → (is_leaf (t h.node) ≡ true → is_leaf (u h.node) ≡ true) → IsOf U lowers t x h → IsOf V lowers u x h
+  of-on (Upper k) h live leaf s = (live k refl s.0, s.1)
+  of-on (Lower layer k) h live leaf s = record {
+    bytes = s.bytes;
+    attributes = s.attributes;
+    links = s.links;
+    inode = s.inode;
+    view = s.view;
+    file = leaf s.file;
+    reads_alone = s.reads_alone;
+  }
+
+  -- so the handle is on the open file still
+  pub file-on : (f : OpenFile) (h : Handle) → IsFile U lowers t f h → ((k : ℕ) → f.source ≡ Upper k → IsLive U t h.node k → IsLive V u h.node k) → (is_leaf (t h.node) ≡ true → is_leaf (u h.node) ≡ true) → IsFile V lowers u f h
+  file-on f h is live leaf = record {
+    source = of-on f.source h live leaf is.source;
+    reads = is.reads;
+    writes = is.writes;
+    append = is.append;
+    place = is.place;
+    unlisted = is.unlisted;
+  }
+
+  -- and what a descriptor leads to is what it was
+  pub open-on : (ds es : Dentries) (o : handles.Handle) (h : Handle) → ((d : OpenDirectory) → o ≡ Directory d → IsHandle t ds d h → IsHandle u es d h) → ((f : OpenFile) → o ≡ File f → IsFile U lowers t f h → IsFile V lowers u f h) → IsOpenAs U lowers t ds o h → IsOpenAs V lowers u es o h
+  open-on ds es (Directory d) h directory file is = directory d refl is
+  open-on ds es (File f) h directory file is = file f refl is
+
+-- the files of the upper that clients have open are those that handles hold
+abbrev pub AreCounted : Clients → Type 0
+AreCounted clients = (k : ℕ) → HasFile clients k ↔ 0 < file_holders clients.files k
+
+-- each open file of the upper stays live, and each node on which a handle is open stays a file
+pub record CarriesFiles (U V : Layer) (t u : Tree) (clients : Clients) (ks : List Table) : Type 0 where
+  pub live : (c fd : ℕ) (f : OpenFile) (h : Handle) (k : ℕ) → opened_by clients c fd ≡ Some (File f) → handle_of ks c fd ≡ Some h → f.source ≡ Upper k → IsLive U t h.node k → IsLive V u h.node k
+  pub leaves : (c fd : ℕ) (h : Handle) → handle_of ks c fd ≡ Some h → is_leaf (t h.node) ≡ true → is_leaf (u h.node) ≡ true
+
+module _ (old new : Layers) where
+  abbrev U : Layer
+  U = layer_of old.upper
+
+  abbrev V : Layer
+  V = layer_of new.upper
+
+  -- tables over other layers and another tree, where the lower layers are the same
+  pub tables-on : (t u : Tree) (clients : Clients) (ks : List Table) → new.lowers ≡ old.lowers → AreTables (IsOpenAs U (lowers_of old) t clients.directories) clients ks → (es : Dentries) → ((c fd : ℕ) (o : OpenDirectory) (h : Handle) → handle_of ks c fd ≡ Some h → IsHandle t clients.directories o h → IsHandle u es o h) → CarriesFiles U V t u clients ks → AreTables (IsOpenAs V (lowers_of new) u es) clients ks
+  tables-on t u clients ks lowers tables es directories files =
+      subst (λ z. AreTables (IsOpenAs V (map layer_of z.items) u es) clients ks) (sym lowers)
+      (tables-moved (IsOpenAs U (lowers_of old) t clients.directories) clients ks tables (IsOpenAs V (lowers_of old) u es)
+      (λ c fd o h at on. open-on U V (lowers_of old) t u clients.directories es o h
+      (λ d e. directories c fd d h on)
+      (λ f e is. file-on U V (lowers_of old) t u f h is (λ k. files.live c fd f h k (at ∙ ap Some e) on) (files.leaves c fd h on))))
+
+  -- other layers in which live files stay live
+  pub files-stay : (t : Tree) (clients : Clients) (ks : List Table) → StaysLive old new → CarriesFiles U V t t clients ks
+  files-stay t clients ks stays = record { live = λ c fd f h k at on key. stays t h.node k; leaves = λ c fd h on leaf. leaf }
+
+  module _ (s : State) (mounts : IsMountOf U (lowers_of old) s) (c : ℕ) (k : Call) (clients : Clients) where
+    -- a call through which live files stay live, and files files
+    pub files-kept : KeepsLive old new k → KeepsLeaves k → CarriesFiles U V s.tree (after s c k).tree clients s.tables
+    files-kept live leaves = record {
+      live = λ b fd f h j at on key. live s mounts c h.node j;
+      leaves = λ b fd h on. leaves s mounts.kept c h.node;
+    }
+
+    -- a call through which those stay so that a handle holds
+    pub files-held : KeepsHeld clients old new k → KeepsHeldLeaves k → AreCounted clients → CarriesFiles U V s.tree (after s c k).tree clients s.tables
+    files-held live leaves counted = record {
+      live = λ b fd f h j at on key. live s mounts c h.node j ((counted j).0 (record { client = b; descriptor = fd; file = f; opened = at; key = key })) (held-by s.tables b fd h on);
+      leaves = λ b fd h on. leaves s mounts.kept c h.node (held-by s.tables b fd h on);
+    }
