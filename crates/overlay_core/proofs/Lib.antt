@@ -28,5 +28,6 @@ pub mod Reading
 pub mod Coming
 pub mod Leaving
 pub mod Freed
+pub mod Makings
 pub mod Agreeing
 pub mod Driving

@@ -19,6 +19,7 @@ ghost use Rattle.overlay_core.specs.Keeping.{KeepsLayers};
 ghost use Rattle.overlay_core.specs.Opening as opening;
 ghost use Rattle.overlay_core.specs.States.{HasStateOf, IsStateOf, Serves, StaysState};
 
+use crate::attributes::stands;
 use crate::file_bytes::resize_file;
 use crate::files::file_at;
 use crate::mount::Mount;
@@ -276,6 +277,7 @@ fn bring_up(
     let Some((name, parents)) = path.split_last() else {
         unreachable!()
     };
+    stands(layers, place);
     let attributes = attributes_of(layers, place)?;
     copy_leaf(layers, directory, parents, name, place, attributes)
 }
@@ -285,6 +287,7 @@ fn attributes_of(layers: &Layers, place: Place) -> Result<Attributes, AllocError
     requires { (p : Names) × ShowsInode layers.now p place }
     ensures { IfOk result (λ a. (p : Names) (i : HeldInode) → shows 0 (layers_of layers.now) p ≡ Some (Contents place.layer place.key (Some i)) → a ≡ i.attributes) }
 {
+    stands(layers, place);
     match layers.node(place) {
         Some(Node::Inode(inode)) => inode.attributes.clone(),
         _ => unreachable!(),
