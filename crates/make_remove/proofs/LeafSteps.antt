@@ -1,5 +1,5 @@
 -- A file or link that is made in a directory whose missing parents were placed.
-use Rattle.std.proofs.Common.{◌≡◌, ◌↔◌, ◌≤◌, ◌<◌, ℕ, Bool, true, false, not, ◌&&◌, cond, List, [], ◌∷◌, None, Some, Ok, Err, refl, sym, ap, ◌∙◌, subst, length, nat_lt, nat_le, nat_eq, arith}
+use Rattle.std.proofs.Common.{◌≡◌, ◌↔◌, ◌≤◌, ◌<◌, ℕ, Bool, true, false, not, ◌&&◌, cond, List, [], ◌∷◌, None, Some, Ok, Err, is_some, refl, sym, ap, ◌∙◌, subst, length, nat_lt, nat_le, nat_eq, arith}
 use Rattle.std.proofs.lemmas.Bool.{le-ltb, leb-true, ltb-true}
 use Rattle.ov_base.specs.declared.attributes.Attributes.{Attributes}
 use Rattle.ov_base.specs.declared.bytes.Content.{Content}
@@ -16,7 +16,7 @@ use Rattle.mount_laws.proofs.Links.{law_of_link_made}
 use Rattle.mount_laws.proofs.Files.{law_of_file_made}
 use Rattle.layer_tree.specs.Tree.{layer_of}
 use Rattle.merged_lookup.specs.declared.layers.Layers.{Layers}
-use Rattle.merged_lookup.specs.Merged.{layers_of, lowers_of}
+use Rattle.merged_lookup.specs.Merged.{layers_of, lowers_of, parents_fault}
 use Rattle.slab.specs.Slab.{get}
 use Rattle.layer_tree.specs.Nameless.{KeepsObjects}
 use Rattle.layer_tree.proofs.Nameless.{keeps_then, vacant_before}
@@ -98,6 +98,10 @@ mkdir-fine Ls p mode h e = ap (λ b. or_else (when b errno.EINVAL) (vacancy_faul
   where
     small : (mode : ℕ) → mode ≤ 0o7777 → nat_lt 0o7777 mode ≡ false
     small mode h = grind arith
+
+-- nothing keeps a name from being made where its parents are not refused and nothing is shown
+pub vacancy-fine : (Ls : List Layer) (p : Path) → parents_fault Ls p ≡ None → shows 0 Ls p ≡ None → vacancy_fault Ls p ≡ None
+vacancy-fine Ls p parents absent = ap (λ w. or_else w (when (is_some (shows 0 Ls p)) errno.EEXIST)) parents ∙ ap (λ o. when (is_some o) errno.EEXIST) absent
 
 -- an open is the machine's step, as far as the layers, where it makes its file
 pub create-steps : (old new : Layers) (p : Path) (mode : ℕ) → mkdir_fault (layers_of old) p mode ≡ None → MakesLeaf old new p (content.File []) (new_attributes mode) → CreateSteps old new p mode

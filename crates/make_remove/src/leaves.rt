@@ -5,7 +5,6 @@ ghost use Rattle.mount_laws.specs.Leaves.{symlink_fault};
 ghost use Rattle.merged_lookup.specs.Merged.{layers_of, parents_fault, parent, IsStackOf};
 ghost use Rattle.copy_up.specs.Showing.{ShowsSame, GainsParents, StaysLayers, StaysMount, StaysThin};
 ghost use Rattle.make_remove.specs.Making as made;
-ghost use Rattle.make_remove.specs.Making.{mkdir_fault};
 ghost use Rattle.make_remove.specs.Leaves.{MakesLeaf, SymlinkSteps, CreateSteps};
 ghost use Rattle.ov_base.specs.declared.bytes.Content.TheVariants as content;
 
@@ -51,19 +50,20 @@ pub fn symlink(
     Ok(Ok(()))
 }
 
-/// Makes an empty file with this mode, owner 0, group 0 and no user attributes, and gives its key in the upper. It is refused as `mkdir`
-/// is. A refusal changes nothing, and want of memory changes nothing that is shown.
+/// Makes an empty file with this mode, owner 0, group 0 and no user attributes, in the merged directory in which the path's last name
+/// stands and where nothing is shown at it, and gives its key in the upper. Want of memory changes nothing that is shown.
 pub fn create(
     alloc: Global,
     layers: &mut Layers,
+    directory: Stack,
     path: &Path,
     mode: Mode,
-) -> Result<Result<usize, Errno>, AllocError>
-    ensures refused { IfOk result (λ r. IfErr r (λ e. mkdir_fault (layers_of layers.old) path.now mode ≡ Some e)) }
-    ensures unchanged { IfOk result (λ r. OnErr r (layers.new ≡ layers.old)) }
-    ensures allowed { IfOk result (λ r. OnOk r (mkdir_fault (layers_of layers.old) path.now mode ≡ None)) }
-    ensures made { IfOk result (λ r. IfOk r (λ key. (leaf : MakesLeaf layers.old layers.new path.now (content.File []) (made.new_attributes mode)) × (leaf.number ≡ key))) }
-    ensures steps { IfOk result (λ r. OnOk r (CreateSteps layers.old layers.new path.now mode)) }
+) -> Result<usize, AllocError>
+    requires directory { IsStackOf layers.old (parent path.now) directory }
+    requires parents { parents_fault (layers_of layers.old) path.now ≡ None }
+    requires absent { shows 0 (layers_of layers.old) path.now ≡ None }
+    ensures made { IfOk result (λ key. (leaf : MakesLeaf layers.old layers.new path.now (content.File []) (made.new_attributes mode)) × (leaf.number ≡ key)) }
+    ensures steps { OnOk result (CreateSteps layers.old layers.new path.now mode) }
     ensures no_memory { OnErr result (ShowsSame layers.old layers.new) }
     ensures mounts { OnErr result (StaysMount layers.old layers.new) }
     ensures parents { OnErr result (GainsParents layers.old layers.new path.now) }
@@ -71,10 +71,6 @@ pub fn create(
     ensures thin { StaysThin layers.old layers.new }
 {
     mode.lawful();
-    let directory = match vacant(layers, path) {
-        Ok(directory) => directory,
-        Err(errno) => return Ok(Err(errno)),
-    };
     let content = Content::File(Bytes::new(alloc));
     let key = make_leaf(
         layers,
@@ -83,7 +79,7 @@ pub fn create(
         content,
         new_attributes(alloc, mode),
     )?;
-    Ok(Ok(key))
+    Ok(key)
 }
 
 // Makes a file or symbolic link in this merged directory, where nothing is shown, and gives its key.

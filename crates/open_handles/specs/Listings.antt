@@ -1,5 +1,5 @@
 -- What descriptors lead to, and the listings of open directories.
-use Rattle.std.specs.Prelude.{◌≡◌, ℕ, List, [], Option, Some, None, Result, IfOk, IfErr, OnOk, OnErr, IsSome, option_map, take, drop, unwrap_or}
+use Rattle.std.specs.Prelude.{◌≡◌, ℕ, List, [], Option, Some, None, Result, IfOk, IfErr, OnOk, OnErr, IsSome, option_map, take, drop, unwrap_or, ◌<◌, ◌⊎◌, vec_len, vec_capacity}
 use Rattle.std.specs.declared.alloc.AllocError.{AllocError}
 use Rattle.ov_base.specs.declared.errno.Errno.{Errno}
 use Rattle.ov_base.specs.declared.errno.Errno.TheVariants.{EBADF, EMFILE}
@@ -7,6 +7,7 @@ use Rattle.open_handles.specs.declared.handle.Handle.{Handle}
 use Rattle.open_handles.specs.declared.handle.Handle.TheVariants.{Directory, File}
 use Rattle.open_handles.specs.declared.handle.OpenDirectory.{OpenDirectory}
 use Rattle.open_handles.specs.declared.open_file.OpenFile.{OpenFile}
+use Rattle.open_handles.specs.declared.descriptors.Descriptors.{Descriptors}
 use Rattle.open_handles.specs.Descriptors.{opened, SetsSlot, IsLowestFree, IsFull}
 
 -- the directory that a handle is on, and the file
@@ -50,6 +51,12 @@ names_left (Some o) = unwrap_or o.listing []
 -- only the handle under one descriptor changed
 abbrev pub ChangesSlot : List (Option Handle) → List (Option Handle) → ℕ → (Handle → Handle) → Type 0
 ChangesSlot old new d change = SetsSlot old new d (option_map change (opened old d))
+
+-- there is room for a handle under the lowest free descriptor
+pub record HasRoom (d : Descriptors) : Type 0 where
+  pub slot : ℕ
+  pub lowest : IsLowestFree d.slots.items slot
+  pub room : (slot < vec_len d.slots) ⊎ (vec_len d.slots < vec_capacity d.slots)
 
 -- a handle is opened under the lowest free descriptor, or refused where 64 are open; any failure changes nothing
 pub record Opens (old new : List (Option Handle)) (handle : Handle) (result : Result (Result ℕ Errno) AllocError) : Type 0 where

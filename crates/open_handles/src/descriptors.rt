@@ -1,6 +1,6 @@
 // The descriptors of a client.
 ghost use Rattle.std.specs.Prelude.{◌≡◌, ◌≤◌, ◌<◌, [], Some, None, true, Ok, Err, IfOk, OnOk, OnErr, IfSome, IfErr, ℕ, MatchOption, MatchResult, option_copied, is_some, length, take, IsSome, option_map, vec_len};
-ghost use Rattle.open_handles.specs.Descriptors.{opened, SetsSlot};
+ghost use Rattle.open_handles.specs.Descriptors.{opened, SetsSlot, IsFull, IsLowestFree};
 
 use crate::handle::{Handle, OpenDirectory};
 use dir_listing::Cursor;
@@ -18,7 +18,7 @@ pub struct Descriptors {
 }
 
 impl Descriptors {
-    ghost use Rattle.open_handles.specs.Listings.{ChangesSlot, Opens, Closes, GivesNames, with_listing, with_place, open_directory, open_file};
+    ghost use Rattle.open_handles.specs.Listings.{HasRoom, ChangesSlot, Opens, Closes, GivesNames, with_listing, with_place, open_directory, open_file};
 
     /// No descriptors.
     pub fn new(alloc: Global) -> Descriptors
@@ -43,6 +43,37 @@ impl Descriptors {
             self.slots.push(Some(handle))?;
         }
         Ok(Ok(slot as u32))
+    }
+
+    /// Makes room for a handle, so that the next `open_reserved` takes no memory. Where 64 are open it is EMFILE. Nothing is opened.
+    pub fn reserve(&mut self) -> Result<Result<(), Errno>, AllocError>
+        ensures same { self.new.slots.items ≡ self.old.slots.items }
+        ensures room { IfOk result (λ reserving. OnOk reserving (HasRoom self.new)) }
+        ensures full { IfOk result (λ reserving. IfErr reserving (λ errno. (errno ≡ Errno.EMFILE) × IsFull self.old.slots.items)) }
+    {
+        let slot = first_free(self.slots.as_slice());
+        if slot >= DESCRIPTORS_MAX {
+            return Ok(Err(Errno::EMFILE));
+        }
+        if slot == self.slots.len() {
+            self.slots.reserve(1)?;
+        }
+        Ok(Ok(()))
+    }
+
+    /// Opens a handle under the lowest free descriptor, for which there is room, and gives it.
+    pub fn open_reserved(&mut self, handle: Handle) -> u32
+        requires { HasRoom self.old }
+        ensures lowest { IsLowestFree self.old.slots.items result }
+        ensures opens { SetsSlot self.old.slots.items self.new.slots.items result (Some handle) }
+    {
+        let slot = first_free(self.slots.as_slice());
+        if slot < self.slots.len() {
+            self.slots[slot] = Some(handle);
+        } else {
+            self.slots.push_reserved(Some(handle));
+        }
+        slot as u32
     }
 
     /// What stands open under a descriptor.

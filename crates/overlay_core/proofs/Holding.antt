@@ -1,5 +1,5 @@
 -- As many handles hold a directory or a file as its count says, after one client's descriptors changed.
-use Rattle.std.proofs.Common.{arith, ◌≡◌, ◌≢◌, ℕ, zero, suc, ◌+◌, ◌<◌, ◌≤◌, Bool, true, false, cond, List, [], ◌∷◌, Option, None, Some, IsSome, Result, Ok, Err, refl, sym, ap, ◌∙◌, subst, inl, inr, ◌⊎◌, is_some, nat_eq, eq-eqb}
+use Rattle.std.proofs.Common.{arith, ◌≡◌, ◌≢◌, ℕ, zero, suc, ◌+◌, ◌<◌, ◌≤◌, Bool, true, false, cond, List, [], ◌∷◌, Option, None, Some, IsSome, Result, Ok, Err, IsOk, OnOk, refl, sym, ap, ◌∙◌, subst, inl, inr, ◌⊎◌, is_some, nat_eq, eq-eqb}
 use Rattle.std.proofs.lemmas.Bool.{cases_eq, ne_eqb}
 use Rattle.std.specs.Option.{option_and_then}
 use Rattle.std.specs.BTreeMap.{get}
@@ -70,6 +70,11 @@ open-and-close old mid new p k some there opens closes = record { located = λ j
 -- a file is held by one handle more, and let go again
 pub hold-and-close : (old mid new : HeldFiles) (source : FileSource) → ((k : ℕ) → file_holders mid k ≡ file_holders old k + is_upper source k) → ((k : ℕ) → file_holders new k + is_upper source k ≡ file_holders mid k) → SameCounts old new
 hold-and-close old mid new source up down k = let more = up k in let less = down k in omega arith
+
+-- a hold that succeeds counts one handle more
+pub held-now : (old new : HeldFiles) (source : FileSource) (r : Result (Unit {0}) AllocError) → IsOk r → OnOk r ((k : ℕ) → file_holders new k ≡ file_holders old k + is_upper source k) → (k : ℕ) → file_holders new k ≡ file_holders old k + is_upper source k
+held-now old new source (Ok x) ok counts = counts
+held-now old new source (Err e) ok counts = let no : false ≡ true = ok in absurd (cc)
 
 -- a change of a listing leaves directory and file
 pub number-with : (l : Option (List Name)) (h : handles.Handle) → number_of (with_listing l h) ≡ number_of h

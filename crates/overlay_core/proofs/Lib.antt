@@ -3,9 +3,12 @@ pub mod Counting
 pub mod Holding
 pub mod Ending
 pub mod Openings
+pub mod OpeningWrites
 pub mod Serving
 pub mod Closings
 pub mod Stating
+pub mod Rewritten
+pub mod Writings
 pub mod FileSight
 pub mod Leaves
 pub mod Altered
@@ -25,5 +28,6 @@ pub mod Reading
 pub mod Coming
 pub mod Leaving
 pub mod Freed
+pub mod Makings
 pub mod Agreeing
 pub mod Driving

@@ -1,4 +1,4 @@
--- Opens for reading: what they are refused for, and that what is opened is as the machine opens it.
+-- Opens: what they are refused for, and that what is opened for reading is as the machine opens it.
 use Rattle.std.proofs.Common.{arith, ◌≡◌, ◌↔◌, ℕ, zero, suc, ◌<◌, Bool, true, false, not, cond, ◌&&◌, ◌||◌, List, [], ◌∷◌, Option, None, Some, Ok, Err, map, refl, sym, ap, ◌∙◌, subst, ◌⊎◌, inl, inr, is_none, is_some}
 use Rattle.std.proofs.lemmas.Bool.{false≢true, ne_eqb}
 use Rattle.std.specs.Option.{option_and_then}
@@ -10,7 +10,7 @@ use Rattle.ov_base.specs.declared.call.Call.{Call}
 use Rattle.ov_base.specs.declared.call.Call.TheVariants as call
 use Rattle.ov_base.specs.declared.call.OpenFlags.{OpenFlags}
 use Rattle.ov_base.specs.declared.errno.Errno.{Errno}
-use Rattle.ov_base.specs.declared.errno.Errno.TheVariants.{EINVAL, ELOOP, ENOTDIR, EMFILE}
+use Rattle.ov_base.specs.declared.errno.Errno.TheVariants.{EEXIST, EINVAL, EISDIR, ELOOP, ENOTDIR, EMFILE}
 use Rattle.ov_base.specs.declared.node_id.NodeId.{NodeId}
 use Rattle.ov_base.specs.declared.reply.Reply.TheVariants as reply
 use Rattle.plain_model.specs.Layers.{Path, Inode, Layer, Shown, Folder, Contents, shows, is_directory, base}
@@ -66,16 +66,40 @@ faults-last None None None None r = refl
 table-last : (Ls : List Layer) (p : Path) (f : OpenFlags) (mode : ℕ) (free : Option ℕ) → opening_fault Ls p f mode free ≡ or_else (opening_fault Ls p f mode (Some 0)) (when (is_none free) EMFILE)
 table-last Ls p f mode free = faults-last (when (bad_flags f) EINVAL) (bad_mode mode) (parents_fault Ls p) (shown_fault f (shows 0 Ls p)) (when (is_none free) EMFILE)
 
+-- a fault of the flags or of the mode comes first
+pub flags-first : (Ls : List Layer) (p : Path) (f : OpenFlags) (mode : ℕ) (e : Errno) → or_else (when (bad_flags f) EINVAL) (bad_mode mode) ≡ Some e → opening_fault Ls p f mode (Some 0) ≡ Some e
+flags-first Ls p f mode e h = by (when (bad_flags f) EINVAL) (bad_mode mode) _ h
+  where
+    by : (a b r : Option Errno) → or_else a b ≡ Some e → or_else a (or_else b r) ≡ Some e
+    by (Some x) b r is = is
+    by None (Some x) r is = is
+    by None None r is = cc
+
+-- then one of the parents
+pub parents-next : (Ls : List Layer) (p : Path) (f : OpenFlags) (mode : ℕ) (e : Errno) → bad_flags f ≡ false → bad_mode mode ≡ None → parents_fault Ls p ≡ Some e → opening_fault Ls p f mode (Some 0) ≡ Some e
+parents-next Ls p f mode e flags bits way = λ i. or_else (when (flags i) EINVAL) (or_else (bits i) (or_else (way i) (or_else (shown_fault f (shows 0 Ls p)) None)))
+
+-- then one of what is shown
+pub shown-next : (Ls : List Layer) (p : Path) (f : OpenFlags) (mode : ℕ) → bad_flags f ≡ false → bad_mode mode ≡ None → parents_fault Ls p ≡ None → opening_fault Ls p f mode (Some 0) ≡ shown_fault f (shows 0 Ls p)
+shown-next Ls p f mode flags bits way = (λ i. or_else (when (flags i) EINVAL) (or_else (bits i) (or_else (way i) (or_else (shown_fault f (shows 0 Ls p)) None)))) ∙ by (shown_fault f (shows 0 Ls p))
+  where
+    by : (a : Option Errno) → or_else a None ≡ a
+    by None = refl
+    by (Some x) = refl
+
 -- flags that go together and ask not to write ask to read
 reads-flag : (r w u x y z : Bool) → w ≡ false → (not r && not w || u || x || y || z) ≡ false → r ≡ true
 reads-flag true w u x y z unwritten fine = refl
 reads-flag false true u x y z unwritten fine = absurd (false≢true (sym unwritten))
 reads-flag false false u x y z unwritten fine = absurd (false≢true (sym fine))
 
--- what asks neither to write nor to make a file doesn't ask to write
-pub no-write : (w c : Bool) → not (w || c) ≡ true → w ≡ false
-no-write true c h = absurd (false≢true h)
-no-write false c h = refl
+-- a directory that is opened isn't to be written
+no-write : (f : OpenFlags) (j k : ℕ) (a : Attributes) → shown_fault f (Some (Folder j k a)) ≡ None → f.writes ≡ false
+no-write f j k a fine = by f.writes (when-not (f.writes || f.create) EISDIR (second-none (when (f.directory && false) ENOTDIR) _ (second-none (when (f.create && f.exclusive) EEXIST) _ fine)))
+  where
+    by : (w : Bool) → (w || f.create) ≡ false → w ≡ false
+    by true h = h
+    by false h = refl
 
 -- what is opened is no symbolic link
 no-link : (f : OpenFlags) (o : Option Shown) → shown_fault f o ≡ None → shows_link o ≡ false
@@ -86,7 +110,7 @@ no-link f o fine =
     (second-none (when (is_none o && not f.create) _) _ fine)))
 
 -- a file that is shown
-record IsShownFile (o : Option Shown) (j k : ℕ) : Type 0 where
+pub record IsShownFile (o : Option Shown) (j k : ℕ) : Type 0 where
   pub inode : Inode
   pub bytes : List ℕ
   pub content : inode.content ≡ content.File bytes
@@ -189,11 +213,27 @@ module _ (m : Mount) (s : State) (st : IsStateOf m s) (c : ℕ) where
       subst (λ d. IsLive U s.tree d j) (ap (λ (g : Handle). g.node) same ∙ y.at) of.0
 
   -- so an open file at a path is one with it exactly where it is one inode
-  fresh-one : (p : Path) (file : OpenFile) (x : Handle) → node_at s.tree p ≡ Some x.node → IsOf U lowers s.tree file.source x → (g : OpenFile) (k j : ℕ) (e : NodeId) → File file ≡ File g → g.source ≡ Upper k → IsOpenOn m.clients s.tables j e → (x.node ≡ e) ↔ (k ≡ j)
+  pub fresh-one : (p : Path) (file : OpenFile) (x : Handle) → node_at s.tree p ≡ Some x.node → IsOf U lowers s.tree file.source x → (g : OpenFile) (k j : ℕ) (e : NodeId) → File file ≡ File g → g.source ≡ Upper k → IsOpenOn m.clients s.tables j e → (x.node ≡ e) ↔ (k ≡ j)
   fresh-one p file x at of g k j e same key y =
       let files : file ≡ g = cc in
       let live : IsOf U lowers s.tree (Upper k) x = subst (λ w. IsOf U lowers s.tree w x) (ap (λ (z : OpenFile). z.source) files ∙ key) of in
       law_of_live_one U s.tree p x.node e k j at live.0 (open-live j e y)
+
+  -- a descriptor that is opened on both sides, alike
+  module _ (h : handles.Handle) (d : ℕ) (new : Clients) (ch : ChangesClient m.clients new c (λ x y. Opens x y h (Ok (Ok d)))) where
+    -- the machine finds the same descriptor
+    pub free-there : lowest_free s.tables c ≡ Some d
+    free-there = free-lowest alike m.clients s.tables st.tables c d ch.before ch.was ch.changes.lowest
+
+    -- the mount stands for the state in which it is open
+    pub state-open : (made : Handle) → Alike m.layers s new h made → ((g : OpenFile) (k j : ℕ) (e : NodeId) → h ≡ File g → g.source ≡ Upper k → IsOpenOn m.clients s.tables j e → (made.node ≡ e) ↔ (k ≡ j)) → IsStateOf (record m { clients = new }) (record s { tables = with_handle s.tables c d (Some made) })
+    state-open made is fresh =
+        let sets : ChangesClient m.clients new c (λ x y. SetsSlot x y d (Some h)) = changes-as m.clients new c _ _ (λ x y g. g.opens) ch in
+        with-tables m s st new (with_handle s.tables c d (Some made)) ch.next
+        (tables-set alike m.clients s.tables st.tables new (Alike m.layers s new) c d (Some h) (Some made) sets ch.changes.lowest.in_range
+        (λ b i o g now was on like. placed U lowers s.tree m.clients.directories new.directories o g (λ x l q at. ch.places b i x l (now ∙ ap Some q) at) like)
+        is)
+        (one-more m.clients new s.tables alike st.tables c d h made sets ch.changes.lowest.in_range st.one fresh)
 
   module _ (p : Path) (f : OpenFlags) (mode : ℕ) where
     abbrev asked : Call
@@ -220,14 +260,22 @@ module _ (m : Mount) (s : State) (st : IsStateOf m s) (c : ℕ) where
           (table-alone ∙ ap (λ z. when (is_none z) EMFILE) (free-none alike m.clients s.tables st.tables c ch.before ch.was ch.changes.full.1))
           (keep-state m s st c new (changes-as m.clients new c _ _ (λ x y g. g.refused) ch)))
 
+      -- where a descriptor is free nothing refuses it
+      pub unrefused : (d : ℕ) → lowest_free s.tables c ≡ Some d → refusal s c asked ≡ None
+      unrefused d free = table-alone ∙ ap (λ z. when (is_none z) EMFILE) free
+
+      -- nor by what the layers show
+      pub unfaulted : (d : ℕ) → lowest_free s.tables c ≡ Some d → opening_fault Ls p f mode (lowest_free s.tables c) ≡ None
+      unfaulted d free = sym (law_of_open_refusal U lowers s st.layers c p f mode) ∙ unrefused d free
+
       module _ (w : f.writes ≡ false) (there : is_some (shows 0 Ls p) ≡ true) (h : handles.Handle) (d : ℕ) (new : Clients) (ch : ChangesClient m.clients new c (λ x y. Opens x y h (Ok (Ok d)))) where
         -- the machine finds the same descriptor
         free : lowest_free s.tables c ≡ Some d
-        free = free-lowest alike m.clients s.tables st.tables c d ch.before ch.was ch.changes.lowest
+        free = free-there h d new ch
 
         -- the machine opens it
         law : OpensReading Ls s c p f mode
-        law = law_of_opened_for_reading U lowers s st.layers c p f mode (table-last Ls p f mode (lowest_free s.tables c) ∙ ap (λ z. or_else z (when (is_none (lowest_free s.tables c)) EMFILE)) fine ∙ ap (λ z. when (is_none z) EMFILE) free) there w
+        law = law_of_opened_for_reading U lowers s st.layers c p f mode (unfaulted d free) there w
 
         -- its new handle
         abbrev made : Handle
@@ -237,24 +285,24 @@ module _ (m : Mount) (s : State) (st : IsStateOf m s) (c : ℕ) where
         open-done : Alike m.layers s new h made → ((g : OpenFile) (k j : ℕ) (e : NodeId) → h ≡ File g → g.source ≡ Upper k → IsOpenOn m.clients s.tables j e → (law.node ≡ e) ↔ (k ≡ j)) → Serves (refusal s c asked) s c asked (reply.Descriptor d) (record m { clients = new })
         open-done is fresh =
             let same : law.descriptor ≡ d = cc (law.free, free) in
-            let sets : ChangesClient m.clients new c (λ x y. SetsSlot x y d (Some h)) = changes-as m.clients new c _ _ (λ x y g. g.opens) ch in
             serve-done _ s c asked _ (record m { clients = new })
-            (table-alone ∙ ap (λ z. when (is_none z) EMFILE) free)
+            (unrefused d free)
             (sym (law.answer ∙ ap reply.Descriptor same))
             (subst (IsStateOf (record m { clients = new })) (sym (law.state ∙ ap (λ z. record s { tables = with_handle s.tables c z (Some made) }) same))
-            (with-tables m s st new (with_handle s.tables c d (Some made)) ch.next
-            (tables-set alike m.clients s.tables st.tables new (Alike m.layers s new) c d (Some h) (Some made) sets ch.changes.lowest.in_range
-            (λ b i o g now was on like. placed U lowers s.tree m.clients.directories new.directories o g (λ x l q at. ch.places b i x l (now ∙ ap Some q) at) like)
-            is)
-            (one-more m.clients new s.tables alike st.tables c d h made sets ch.changes.lowest.in_range st.one fresh)))
+            (state-open h d new ch made is fresh))
 
       -- the flags ask to read
       reads : f.writes ≡ false → f.reads ≡ true
       reads w = reads-flag f.reads f.writes f.unknown (f.exclusive && not f.create) (f.truncate && not f.writes) (f.directory && f.create) w (when-not (bad_flags f) EINVAL (first-none (when (bad_flags f) EINVAL) _ fine))
 
+      -- what is shown is no fault
+      shown-fine : shown_fault f (shows 0 Ls p) ≡ None
+      shown-fine = first-none (shown_fault f (shows 0 Ls p)) _ (second-none (parents_fault Ls p) _ (second-none (bad_mode mode) _ (second-none (when (bad_flags f) EINVAL) _ fine)))
+
       -- an open of a directory
-      pub open-directory : (j k : ℕ) (a : Attributes) → shows 0 Ls p ≡ Some (Folder j k a) → f.writes ≡ false → (d : ℕ) (new : Clients) → OpensAt m.clients new c p (Ok (Ok d)) → Serves (refusal s c asked) s c asked (reply.Descriptor d) (record m { clients = new })
-      open-directory j k a shown w d new opens =
+      pub open-directory : (j k : ℕ) (a : Attributes) → shows 0 Ls p ≡ Some (Folder j k a) → (d : ℕ) (new : Clients) → OpensAt m.clients new c p (Ok (Ok d)) → Serves (refusal s c asked) s c asked (reply.Descriptor d) (record m { clients = new })
+      open-directory j k a shown d new opens =
+          let w : f.writes ≡ false = no-write f j k a (ap (shown_fault f) (sym shown) ∙ shown-fine) in
           let there : is_some (shows 0 Ls p) ≡ true = ap is_some shown in
           let ch = opens.changes in
           let o : OpensReading Ls s c p f mode = law w there (Directory opens.handle) d new ch in
@@ -271,10 +319,8 @@ module _ (m : Mount) (s : State) (st : IsStateOf m s) (c : ℕ) where
           (λ g k j e is key y. cc)
 
       -- what is shown as a file is one
-      file-there : (d : Place) → ShowsInode m.layers p d → IsShownFile (shows 0 Ls p) d.layer d.key
-      file-there d i =
-          let rest = second-none (parents_fault Ls p) _ (second-none (bad_mode mode) _ (second-none (when (bad_flags f) EINVAL) _ fine)) in
-          shown-file (shows 0 Ls p) d.layer d.key i.inode i.shown (present 0 Ls st.layers.layers p) (no-link f (shows 0 Ls p) (first-none (shown_fault f (shows 0 Ls p)) _ rest))
+      pub file-there : (d : Place) → ShowsInode m.layers p d → IsShownFile (shows 0 Ls p) d.layer d.key
+      file-there d i = shown-file (shows 0 Ls p) d.layer d.key i.inode i.shown (present 0 Ls st.layers.layers p) (no-link f (shows 0 Ls p) shown-fine)
 
       -- the machine's handle on a file of a lower layer sees it as it is now
       frozen : (j k : ℕ) → IsShownFile (shows 0 Ls p) (suc j) k → f.writes ≡ false → (o : OpensReading Ls s c p f mode) → IsFrozen lowers s.tree (suc j) k (new_handle f o.node (way_of s.tree p) (s.tree o.node))

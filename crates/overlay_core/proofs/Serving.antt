@@ -119,6 +119,10 @@ held-some : (o : Option Handle) → held_in (Some o) ≡ o
 held-some None = refl
 held-some (Some h) = refl
 
+-- the handle of a descriptor that was set
+pub handle-set : (ks : List Table) (c fd : ℕ) (h : Option Handle) → fd < length (handles_of ks c) → handle_of (with_handle ks c fd h) c fd ≡ h
+handle-set ks c fd h within = ap (λ z. held_in (slice_get z fd)) (handles-set ks c fd h) ∙ ap held_in (get-set (handles_of ks c) fd h within) ∙ held-some h
+
 -- an open descriptor has a handle
 pub slot-open : (P : handles.Handle → Handle → Type 0) (a : Option handles.Handle) (x : Option Handle) (o : handles.Handle) → IsSlot P a x → a ≡ Some o → (h : Handle) × (x ≡ Some h) × P o h
 slot-open P None x o s e = cc
@@ -308,7 +312,7 @@ module _ (P : handles.Handle → Handle → Type 0) (clients : Clients) (ks : Li
             subst (λ z. IsSlot Q (opened_by new c z) (handle_of (with_handle ks c fd x) c z)) (sym e)
             (slot-as Q _ _ _ _
             (sym (opened-is new c fd h.after h.is ∙ h.changes.here))
-            (sym (ap (λ z. held_in (slice_get z fd)) (handles-set ks c fd x) ∙ ap held_in (get-set (handles_of ks c) fd x within) ∙ held-some x))
+            (sym (handle-set ks c fd x within))
             slot)
         here d (inr n) =
             other c d
@@ -353,7 +357,7 @@ set-fewer old new ks c fd o x h within again k d on = by (cases_eq on.client c) 
     by : (on.client ≡ c) ⊎ (on.client ≡ c → ⊥) → (on.descriptor ≡ fd) ⊎ (on.descriptor ≡ fd → ⊥) → IsOpenOn old ks k d
     by (inl b) (inl i) =
         let opens : o ≡ Some (File on.file) = sym (opened-is new c fd h.after h.is ∙ h.changes.here) ∙ sym (λ n. opened_by new (b n) (i n)) ∙ on.opened in
-        let holds : x ≡ Some on.handle = sym (ap (λ z. held_in (slice_get z fd)) (handles-set ks c fd x) ∙ ap held_in (get-set (handles_of ks c) fd x within) ∙ held-some x) ∙ sym (λ n. handle_of (with_handle ks c fd x) (b n) (i n)) ∙ on.on in
+        let holds : x ≡ Some on.handle = sym (handle-set ks c fd x within) ∙ sym (λ n. handle_of (with_handle ks c fd x) (b n) (i n)) ∙ on.on in
         subst (λ z. IsOpenOn old ks k z) on.at (again on.file on.handle k opens holds on.key)
     by (inl b) (inr n) =
         before

@@ -1,6 +1,6 @@
 -- What a handle on a file is of: an inode of the upper, which it sees as it comes to be, or one of a lower layer, as it was when it was
 -- opened for reading alone (overlayfs.rst, "Non-standard behavior").
-use Rattle.std.specs.Prelude.{◌≡◌, ◌↔◌, ℕ, zero, suc, Bool, true, false, cond, nat_eq, List, [], Option, None, Some, slice_get}
+use Rattle.std.specs.Prelude.{◌≡◌, ◌↔◌, ℕ, zero, suc, Bool, true, false, cond, nat_eq, List, [], Option, None, Some, slice_get, ◌<◌}
 use Rattle.std.specs.Option.{option_and_then}
 use Rattle.ov_base.specs.declared.attributes.Attributes.{Attributes}
 use Rattle.ov_base.specs.declared.bytes.Content.TheVariants as content
@@ -15,6 +15,12 @@ use Rattle.open_handles.specs.declared.handle.Handle.TheVariants.{File}
 use Rattle.open_handles.specs.declared.open_file.FileSource.{FileSource}
 use Rattle.open_handles.specs.declared.open_file.FileSource.TheVariants.{Upper, Lower}
 use Rattle.open_handles.specs.declared.open_file.OpenFile.{OpenFile}
+use Rattle.std.specs.BTreeMap.{get}
+use Rattle.std.specs.Ordering.{nat_cmp}
+use Rattle.open_handles.specs.declared.descriptors.Descriptors.{Descriptors}
+use Rattle.open_handles.specs.Descriptors.{IsFull}
+use Rattle.open_handles.specs.FileHolders.{room}
+use Rattle.open_handles.specs.Listings.{HasRoom}
 use Rattle.overlay_core.specs.declared.clients.Clients.{Clients}
 use Rattle.overlay_core.specs.Attaching.{opened_by}
 
@@ -101,3 +107,16 @@ pub record HasFile (clients : Clients) (k : ℕ) : Type 0 where
 abbrev pub upper_of : Option OpenFile → Option ℕ
 upper_of None = None
 upper_of (Some f) = elim f.source [ Upper k ↦ Some k | Lower layer k ↦ None ]
+
+-- there is room for a file that a client opens
+pub record HasFileRoom (clients : Clients) (n : ℕ) : Type 0 where
+  pub descriptors : Descriptors
+  pub attached : get nat_cmp clients.attached n ≡ Some descriptors
+  pub place : HasRoom descriptors
+  pub spare : 0 < room clients.files
+
+-- a client has all its descriptors open
+pub record HasAllOpen (clients : Clients) (n : ℕ) : Type 0 where
+  pub descriptors : Descriptors
+  pub attached : get nat_cmp clients.attached n ≡ Some descriptors
+  pub full : IsFull descriptors.slots.items

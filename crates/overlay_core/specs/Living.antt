@@ -1,6 +1,6 @@
 -- What changes of the layers leave of open files: those of the upper stay live (POSIX.1-2017, unlink() and close(): a file without a name
 -- is there until its last descriptor is closed).
-use Rattle.std.specs.Prelude.{◌≡◌, ℕ, ◌<◌, true, Some}
+use Rattle.std.specs.Prelude.{◌≡◌, ℕ, ◌<◌, true, Some, List}
 use Rattle.ov_base.specs.declared.call.Call.{Call}
 use Rattle.ov_base.specs.declared.node_id.NodeId.{NodeId}
 use Rattle.plain_model.specs.Layers.{Path, Named, Inode, held}
@@ -11,7 +11,7 @@ use Rattle.layer_tree.specs.Tree.{layer_of, SameObjects}
 use Rattle.merged_lookup.specs.declared.layers.Layers.{Layers}
 use Rattle.merged_lookup.specs.Merged.{lowers_of}
 use Rattle.mount_laws.specs.Looks.{IsMountOf}
-use Rattle.mount_laws.specs.OpenFiles.{IsLive, DropsInode}
+use Rattle.mount_laws.specs.OpenFiles.{IsLive, DropsInode, WritesInode}
 use Rattle.copy_up.specs.Showing.{StaysLayers, StaysMount, StaysThin}
 use Rattle.open_handles.specs.FileHolders.{file_holders}
 use Rattle.overlay_core.specs.declared.clients.Clients.{Clients}
@@ -68,3 +68,8 @@ pub record FreesClosed (clients : Clients) (old new : Layers) (k : ℕ) : Type 0
   pub layers : StaysLayers old new
   pub mounts : StaysMount old new
   pub thin : StaysThin old new
+
+-- the upper has these bytes of the inode of this key, and nothing else changes
+pub record SetsFile (old new : Layers) (k : ℕ) (bytes : List ℕ) : Type 0 where
+  pub writes : WritesInode (layer_of old.upper) (layer_of new.upper) k bytes
+  pub lowers : new.lowers ≡ old.lowers

@@ -1,13 +1,9 @@
 -- The calls that are offered.
-use Rattle.std.specs.Prelude.{Bool, true, false, not, ◌&&◌, ◌||◌}
+use Rattle.std.specs.Prelude.{Bool, true, false}
 use Rattle.ov_base.specs.declared.call.Call.{Call}
 use Rattle.ov_base.specs.declared.call.Call.TheVariants as call
-use Rattle.ov_base.specs.declared.call.OpenFlags.{OpenFlags}
 
--- whether the flags ask neither to write nor to make a file
-abbrev pub leaves_files : OpenFlags → Bool
-leaves_files f = not (f.writes || f.create)
-
+-- all calls but those on hard links, renames and watches
 abbrev pub is_offered : Call → Bool
 is_offered (call.Stat p) = true
 is_offered (call.Readlink p) = true
@@ -19,11 +15,13 @@ is_offered (call.DeleteAttribute p n) = true
 is_offered (call.ListAttributes p) = true
 is_offered (call.Mkdir p mode) = true
 is_offered (call.Symlink target p) = true
-is_offered (call.Open p f mode) = leaves_files f
+is_offered (call.Open p f mode) = true
 is_offered (call.Unlink p) = true
 is_offered (call.Rmdir p) = true
 is_offered (call.Read d n) = true
+is_offered (call.Write d bytes) = true
 is_offered (call.Seek d offset whence) = true
+is_offered (call.Truncate d size) = true
 is_offered (call.Fstat d) = true
 is_offered (call.ListNames d n) = true
 is_offered (call.Close d) = true

@@ -1,9 +1,9 @@
 -- What an open opens, and why calls by a descriptor are refused.
-use Rattle.std.specs.Prelude.{OnOk, IfOk, ◌≡◌, ℕ, ℤ, nat_abs, nat_eq, nat_lt, not, ◌&&◌, ◌||◌, Option, None, Some, Result, Ok, Err, MatchResult}
+use Rattle.std.specs.Prelude.{OnOk, IfOk, ◌≡◌, ℕ, ℤ, nat_abs, nat_eq, nat_lt, not, ◌&&◌, ◌||◌, Option, None, Some, Result, Ok, Err, MatchResult, cond, is_none}
 use Rattle.std.specs.declared.alloc.AllocError.{AllocError}
 use Rattle.ov_base.specs.declared.call.OpenFlags.{OpenFlags}
 use Rattle.ov_base.specs.declared.errno.Errno.{Errno}
-use Rattle.ov_base.specs.declared.errno.Errno.TheVariants.{EBADF, EINVAL, EISDIR, ELOOP, ENOTDIR}
+use Rattle.ov_base.specs.declared.errno.Errno.TheVariants.{EBADF, EFBIG, EINVAL, EISDIR, ELOOP, ENOTDIR}
 use Rattle.open_handles.specs.declared.handle.Handle as handles
 use Rattle.open_handles.specs.declared.handle.Handle.TheVariants.{Directory, File}
 use Rattle.open_handles.specs.declared.handle.OpenDirectory.{OpenDirectory}
@@ -15,9 +15,10 @@ use Rattle.overlay_core.specs.Attaching.{ChangesClient, located}
 use Rattle.merged_lookup.specs.declared.layers.Layers.{Layers}
 use Rattle.merged_lookup.specs.declared.found.Topmost.{Topmost}
 use Rattle.merged_lookup.specs.Merged.{layers_of, IsTopmost}
+use Rattle.open_handles.specs.declared.open_file.FileSource.TheVariants.{Upper, Lower}
 use Rattle.open_handles.specs.declared.open_file.OpenFile.{OpenFile}
 use Rattle.open_handles.specs.Places.{base_of, sought_from}
-use Rattle.plain_model.specs.Refusals.{when}
+use Rattle.plain_model.specs.Refusals.{FILE_MAX, when}
 use Rattle.mount_laws.specs.Looks.{or_else, shows_link}
 use Rattle.mount_laws.specs.Opening.{opening_fault}
 
@@ -40,6 +41,22 @@ abbrev pub read_fault : Option handles.Handle → ℕ → Option Errno
 read_fault None count = Some EBADF
 read_fault (Some (Directory o)) count = or_else (when (nat_lt TRANSFER_MAX count) EINVAL) (Some EISDIR)
 read_fault (Some (File f)) count = or_else (when (nat_lt TRANSFER_MAX count) EINVAL) (when (not f.reads) EBADF)
+
+-- the upper's file to which an open file writes
+abbrev pub written_key : OpenFile → Option ℕ
+written_key f = elim f.source [ Upper k ↦ cond f.writes (Some k) None | Lower layer k ↦ None ]
+
+-- why a write of so many bytes is refused before its place is asked for: nothing is open, too many bytes, or no write access
+abbrev pub write_fault : Option handles.Handle → ℕ → Option Errno
+write_fault None count = Some EBADF
+write_fault (Some (Directory o)) count = or_else (when (nat_lt TRANSFER_MAX count) EINVAL) (Some EBADF)
+write_fault (Some (File f)) count = or_else (when (nat_lt TRANSFER_MAX count) EINVAL) (when (is_none (written_key f)) EBADF)
+
+-- why a truncation is refused: nothing is open, no write access, or a size over the most bytes of a file
+abbrev pub truncate_fault : Option handles.Handle → ℕ → Option Errno
+truncate_fault None size = Some EBADF
+truncate_fault (Some (Directory o)) size = Some EINVAL
+truncate_fault (Some (File f)) size = or_else (when (is_none (written_key f)) EINVAL) (when (nat_lt FILE_MAX size) EFBIG)
 
 -- why a list is refused: nothing is open, or a file, or it asks for no names or too many
 abbrev pub list_fault : Option handles.Handle → ℕ → Option Errno

@@ -188,8 +188,8 @@ fn attributes_in(layers: &Layers, place: Place) -> Result<&Attributes, Errno>
     }
 }
 
-// The inode that is shown at a place stands there; it does nothing.
-fn stands(layers: &Layers, place: Place)
+/// The inode that is shown at a place stands there; it does nothing.
+pub(crate) fn stands(layers: &Layers, place: Place)
     requires { (p : Names) × ShowsInode layers.now p place }
     ensures { (p : Names) → ShowsInode layers.now p place → (i : HeldInode) × (shows 0 (layers_of layers.now) p ≡ Some (held.Contents place.layer place.key (Some i))) }
 {

@@ -1,5 +1,5 @@
 // The attached clients.
-ghost use Rattle.std.specs.Prelude.{◌≡◌, ◌≢◌, ◌+◌, ◌<◌, ◌^◌, ℕ, true, false, Some, None, IfOk, IfErr, OnOk, OnErr, IsSome, is_some, [], option_copied, ◌↔◌, nat_lt};
+ghost use Rattle.std.specs.Prelude.{◌≡◌, ◌≢◌, ◌+◌, ◌<◌, ◌^◌, ℕ, true, false, Some, None, Ok, IfOk, IfErr, OnOk, OnErr, IsSome, is_some, [], option_copied, ◌↔◌, nat_lt};
 ghost use Rattle.std.specs.Option.{option_and_then};
 ghost use Rattle.std.specs.BTreeMap.{get, btree_map_len};
 ghost use Rattle.std.specs.Ordering.{nat_cmp};
@@ -33,7 +33,8 @@ pub struct Clients {
 
 impl Clients {
     ghost use Rattle.overlay_core.specs.Attaching.{HasNoRoom, Attaches, Detaches, IsSame, ChangesClient, KeepsPlaces, opened_by, directory_by, file_by, located, path_of};
-    ghost use Rattle.overlay_core.specs.Files.{HasFile};
+    ghost use Rattle.open_handles.specs.declared.open_file.FileSource.TheVariants as sources;
+    ghost use Rattle.overlay_core.specs.Files.{HasFile, HasFileRoom, HasAllOpen};
     ghost use Rattle.overlay_core.specs.Opening.{OpensAt, OpensFile};
     ghost use Rattle.overlay_core.specs.Removing.{IsOpenNowhere, IsOpenAt, RemovesOpen};
     ghost use Rattle.open_handles.specs.Listings.{ChangesSlot, Closes, GivesNames, with_listing, with_place};
@@ -172,6 +173,36 @@ impl Clients {
                 Err(fault)
             }
         }
+    }
+
+    /// Makes room for a file that a client opens, so that the next `open_reserved` takes no memory. Where 64 descriptors are open it is
+    /// EMFILE. Nothing is opened.
+    pub fn reserve_file(&mut self, client: u64) -> Result<Result<(), Errno>, AllocError>
+        requires { IsSome (get nat_cmp self.old.attached client) }
+        ensures same { ChangesClient self.old self.new client (λ before after. after ≡ before) }
+        ensures room { IfOk result (λ reserving. OnOk reserving (HasFileRoom self.new client)) }
+        ensures full { IfOk result (λ reserving. IfErr reserving (λ errno. (errno ≡ Errno.EMFILE) × HasAllOpen self.old client)) }
+    {
+        match self.attached.get_mut(&client).unwrap().reserve()? {
+            Ok(()) => {
+                self.files.reserve()?;
+                Ok(Ok(()))
+            }
+            Err(errno) => Ok(Err(errno)),
+        }
+    }
+
+    /// Opens a file that no handle holds yet under the lowest free descriptor of a client, for which there is room, and gives it.
+    pub fn open_reserved(&mut self, client: u64, file: OpenFile) -> u32
+        requires room { HasFileRoom self.old client }
+        requires fresh { (k : ℕ) → file.source ≡ sources.Upper k → file_holders self.old.files k ≡ 0 }
+        ensures { OpensFile self.old self.new client file (Ok (Ok result)) }
+    {
+        let _ = hold_file(&mut self.files, file.source);
+        self.attached
+            .get_mut(&client)
+            .unwrap()
+            .open_reserved(Handle::File(file))
     }
 
     /// The file to which a descriptor of a client leads, if it leads to one.

@@ -5,6 +5,7 @@ mod attribute_calls;
 mod attributes;
 mod clients;
 mod closing;
+mod file_bytes;
 mod file_calls;
 mod files;
 mod job;
@@ -15,6 +16,7 @@ mod removals;
 mod schedule;
 mod status;
 mod user_attributes;
+mod write_calls;
 
 pub use job::{Job, Standing};
 pub use mount::Mount;

@@ -130,9 +130,8 @@ impl Mount {
         }
     }
 
-    /// Makes a call of a client that is attached. Offered are stat, readlink, chmod, chown, the calls on user attributes, mkdir, symlink,
-    /// open of what is there for reading alone, unlink, rmdir, read, seek, fstat, list and close; another is EOPNOTSUPP and changes nothing.
-    /// Want of memory leaves all that is shown as it was.
+    /// Makes a call of a client that is attached. Offered are all calls but those on hard links, renames and watches, which are EOPNOTSUPP
+    /// and change nothing. Want of memory leaves all that is shown as it was.
     pub(crate) fn perform(&mut self, client: u64, call: &Call) -> Result<Reply, AllocError>
         requires there { IsSome (get nat_cmp self.old.clients.attached client) }
         requires state { ∥ HasStateOf self.old ∥₁ }
@@ -161,6 +160,8 @@ impl Mount {
             Call::Rmdir { path } => self.rmdir(path),
             Call::Open { path, flags, mode } => self.open(client, path, *flags, *mode),
             Call::Read { descriptor, count } => self.read(client, *descriptor, *count),
+            Call::Write { descriptor, bytes } => self.write(client, *descriptor, bytes),
+            Call::Truncate { descriptor, size } => self.truncate(client, *descriptor, *size),
             Call::Fstat { descriptor } => self.fstat(client, *descriptor),
             Call::Seek {
                 descriptor,

@@ -1,38 +1,46 @@
-use Rattle.std.proofs.Common.{◌≡◌, Some, Ok, Err, sym, ◌∙◌}
+use Rattle.std.proofs.Common.{◌≡◌, true, Some, Ok, Err, ap, ◌∙◌}
 use Rattle.ov_base.specs.declared.attributes.Attributes.{Attributes}
 use Rattle.plain_model.specs.Layers.{Folder, shows}
 use Rattle.merged_lookup.specs.Merged.{layers_of, ShowsInode}
+use Rattle.open_handles.specs.declared.open_file.OpenFile.{OpenFile}
+use Rattle.overlay_core.specs.Opening.{OpensAt, OpensFile}
+use Rattle.overlay_core.specs.Files.{file_at}
 use Rattle.overlay_core.proofs.Answering.{on-err}
-use Rattle.overlay_core.proofs.Openings.{no-write, open-wanted, open-full, open-directory, open-file}
+use Rattle.overlay_core.proofs.Openings.{open-wanted, open-full, open-directory}
+use Rattle.overlay_core.proofs.OpeningWrites.{truncate-writes, open-emptied, open-whole}
 use Rattle.overlay_core.proofs.mount.Mount.open_shown.Goals as goal
-use Rattle.overlay_core.proofs.mount.Mount.open_shown.Goals.{in-Directory+in_ok-opening-in-Directory, in-Inode+in_ok-opening-in-Inode}
+use Rattle.overlay_core.proofs.mount.Mount.open_shown.Goals.{then-flags+in_ok-resize_file-in-Ok-2, else-flags}
 
-pub returns-in_err-opening-in-Directory-clause-err : goal.returns-in_err-opening-in-Directory-clause-err
-returns-in_err-opening-in-Directory-clause-err c = on-err c.from_residual.result _ (λ s st. open-wanted c.args.self.now s st c.args.client _ c.«open».new.self _ c.in_err-opening-in-Directory.ensures.changes)
-
-pub returns-in_err-opening-in-Inode-clause-err : goal.returns-in_err-opening-in-Inode-clause-err
-returns-in_err-opening-in-Inode-clause-err c = on-err c.from_residual-in_err-opening-in-Inode.result _ (λ s st. open-wanted c.args.self.now s st c.args.client _ c.open_file.new.self _ c.in_err-opening-in-Inode.ensures)
+pub returns-in_err-descriptor-clause-err : goal.returns-in_err-descriptor-clause-err
+returns-in_err-descriptor-clause-err c = on-err c.from_residual.result _ (λ s st. open-wanted c.args.self.now s st c.args.client _ c.«open».new.self _ c.in_err-descriptor.ensures.changes)
 
 pub returns-in-Ok-clause-serves : goal.returns-in-Ok-clause-serves
-returns-in-Ok-clause-serves c = λ mode fine s st.
-    elim c.match-top.branch [
-      | in-Directory+in_ok-opening-in-Directory w ↦
-          let opening : w.in_ok-opening-in-Directory.opening ≡ Ok c.in-Ok.descriptor = sym w.opening-is ∙ c.in-Ok.is in
-          let found : (a : Attributes) × (shows 0 (layers_of c.args.self.now.layers) c.args.path.now ≡ Some (Folder w.in-Directory.field-0.layer w.in-Directory.field-0.key a)) = rw w.in-Directory.is at fine.1 in
-          rw w.self-is (open-directory c.args.self.now s st c.args.client c.args.path.now c.args.flags mode fine.0 w.in-Directory.field-0.layer w.in-Directory.field-0.key found.0 found.1 (no-write c.args.flags.writes c.args.flags.create c.requires.reading) c.in-Ok.descriptor w.«open».new.self (rw opening at w.in_ok-opening-in-Directory.ensures))
-      | in-Inode+in_ok-opening-in-Inode w ↦
-          let opening : w.in_ok-opening-in-Inode.opening ≡ Ok c.in-Ok.descriptor = sym w.opening-is ∙ c.in-Ok.is in
-          let found : ShowsInode c.args.self.now.layers c.args.path.now w.in-Inode.place = rw w.in-Inode.is at fine.1 in
-          rw w.self-is (open-file c.args.self.now s st c.args.client c.args.path.now c.args.flags mode fine.0 w.in-Inode.place found (no-write c.args.flags.writes c.args.flags.create c.requires.reading) c.in-Ok.descriptor w.open_file.new.self (rw (opening, w.file_at.ensures) at w.in_ok-opening-in-Inode.ensures))
-    ]
+returns-in-Ok-clause-serves c = λ s st.
+    let found : (a : Attributes) × (shows 0 (layers_of c.args.self.now.layers) c.args.path.now ≡ Some (Folder c.in_default.field-0.layer c.in_default.field-0.key a)) = rw c.in_default.is at c.requires.shown in
+    let opens : OpensAt c.args.self.now.clients c.«open».new.self c.args.client c.args.path.now (Ok (Ok c.in-Ok.descriptor)) = rw c.in-Ok.is at c.in_ok-descriptor.ensures in
+    open-directory c.args.self.now s st c.args.client c.args.path.now c.args.flags c.args.mode c.requires.allowed _ _ found.0 found.1 c.in-Ok.descriptor c.«open».new.self opens
 
 pub returns-in-Err-clause-serves : goal.returns-in-Err-clause-serves
-returns-in-Err-clause-serves c = λ mode fine s st.
-    elim c.match-top.branch [
-      | in-Directory+in_ok-opening-in-Directory w ↦
-          let opening : w.in_ok-opening-in-Directory.opening ≡ Err c.in-Err.errno = sym w.opening-is ∙ c.in-Err.is in
-          rw w.self-is (open-full c.args.self.now s st c.args.client c.args.path.now c.args.flags mode fine.0 _ w.«open».new.self c.in-Err.errno (rw opening at w.in_ok-opening-in-Directory.ensures).changes)
-      | in-Inode+in_ok-opening-in-Inode w ↦
-          let opening : w.in_ok-opening-in-Inode.opening ≡ Err c.in-Err.errno = sym w.opening-is ∙ c.in-Err.is in
-          rw w.self-is (open-full c.args.self.now s st c.args.client c.args.path.now c.args.flags mode fine.0 _ w.open_file.new.self c.in-Err.errno (rw opening at w.in_ok-opening-in-Inode.ensures))
+returns-in-Err-clause-serves c = λ s st.
+    let opens : OpensAt c.args.self.now.clients c.«open».new.self c.args.client c.args.path.now (Ok (Err c.in-Err.errno)) = rw c.in-Err.is at c.in_ok-descriptor.ensures in
+    open-full c.args.self.now s st c.args.client c.args.path.now c.args.flags c.args.mode c.requires.allowed _ c.«open».new.self c.in-Err.errno opens.changes
+
+pub returns-in_err-descriptor-2-clause-err : goal.returns-in_err-descriptor-2-clause-err
+returns-in_err-descriptor-2-clause-err c = on-err c.from_residual-in_err-descriptor-2.result _ (λ s st. open-wanted c.args.self.now s st c.args.client _ c.open_file.new.self _ c.in_err-descriptor-2.ensures)
+
+pub returns-after-flags-clause-serves : goal.returns-after-flags-clause-serves
+returns-after-flags-clause-serves c = λ s st.
+    let shown : ShowsInode c.args.self.now.layers c.args.path.now c.in-Inode.place = rw c.in-Inode.is at c.requires.shown in
+    let opens : OpensFile c.args.self.now.clients c.open_file.new.self c.args.client (file_at c.in-Inode.place c.args.flags) (Ok (Ok c.in-Ok-2.descriptor)) = rw (c.in-Ok-2.is, c.file_at-file.ensures) at c.in_ok-descriptor-2.ensures in
+    elim c.if-flags.branch [
+      | then-flags+in_ok-resize_file-in-Ok-2 w ↦
+          let writes : c.args.flags.writes ≡ true = truncate-writes (layers_of c.args.self.now.layers) c.args.path.now c.args.flags c.args.mode c.requires.allowed w.if-flags.true in
+          let own : c.in-Inode.place.layer ≡ 0 = c.requires.own writes c.in-Inode.place c.in-Inode.is in
+          rw w.self-is (open-emptied c.args.self.now s st c.args.client c.args.path.now c.args.flags c.args.mode c.requires.allowed writes c.in-Inode.place own shown c.in-Ok-2.descriptor c.open_file.new.self opens w.if-flags.true w.resize_file.new.layers w.resize_file.ensures.keeps (λ k old is. w.in_ok-resize_file-in-Ok-2.ensures.sets k old (ap (λ (x : OpenFile). x.source) c.file_at-file.ensures ∙ is)))
+      | else-flags w ↦ rw w.self-is (open-whole c.args.self.now s st c.args.client c.args.path.now c.args.flags c.args.mode c.requires.allowed w.if-flags.false c.in-Inode.place (λ writes. c.requires.own writes c.in-Inode.place c.in-Inode.is) shown c.in-Ok-2.descriptor c.open_file.new.self opens)
     ]
+
+pub returns-in-Err-2-clause-serves : goal.returns-in-Err-2-clause-serves
+returns-in-Err-2-clause-serves c = λ s st.
+    let opens : OpensFile c.args.self.now.clients c.open_file.new.self c.args.client c.file_at-file.result (Ok (Err c.in-Err-2.errno)) = rw c.in-Err-2.is at c.in_ok-descriptor-2.ensures in
+    open-full c.args.self.now s st c.args.client c.args.path.now c.args.flags c.args.mode c.requires.allowed _ c.open_file.new.self c.in-Err-2.errno opens
