@@ -1,5 +1,5 @@
 -- Opens that make a file: the states that the mount stands for on the way.
-use Rattle.std.proofs.Common.{arith, ◌≡◌, ◌↔◌, ℕ, zero, suc, ◌<◌, true, false, cond, List, [], ◌∷◌, Option, None, Some, Ok, Err, refl, sym, ap, ◌∙◌, subst, is_none, is_some}
+use Rattle.std.proofs.Common.{arith, ◌≡◌, ◌↔◌, ℕ, zero, suc, cond, List, [], None, Some, Ok, Err, refl, sym, ap, ◌∙◌, subst, is_none, is_some}
 use Rattle.std.proofs.lemmas.Bool.{false≢true}
 use Rattle.std.specs.Option.{option_and_then}
 use mathlib.Core.Logic.{∥∥₁_elim}
@@ -15,8 +15,8 @@ use Rattle.ov_base.specs.declared.node_id.NodeId.{NodeId}
 use Rattle.ov_base.specs.declared.node_id.NodeId.TheVariants.{New}
 use Rattle.ov_base.specs.declared.reply.Reply.TheVariants as reply
 use Rattle.plain_model.specs.Layers.{Path, Layer, shows}
-use Rattle.plain_model.specs.Tree.{Leaf, Own, Tree, node_at}
-use Rattle.plain_model.specs.Machine.{Handle, State, handle_of, lowest_free}
+use Rattle.plain_model.specs.Tree.{Leaf, Own, Tree}
+use Rattle.plain_model.specs.Machine.{Handle, State, lowest_free}
 use Rattle.plain_model.specs.Refusals.{refusal}
 use Rattle.plain_model.specs.Changes.{fresh, way_of, change, opened, made_way, with_handle, after}
 use Rattle.layer_tree.specs.Tree.{layer_of, inode_of}
