@@ -131,6 +131,7 @@ closes-none m s c st = record {
 }
 
 module _ (s : State) (m new : Mount) (c i : ℕ) (b : ClosesBelow s c i m) (within : i < length (handles_of s.tables c)) where
+  -- the client's descriptors as they were
   abbrev slots : List (Option Handle)
   slots = handles_of s.tables c
 
@@ -138,6 +139,7 @@ module _ (s : State) (m new : Mount) (c i : ℕ) (b : ClosesBelow s c i m) (with
   abbrev slot : Option Handle
   slot = get_or slots i None
 
+  -- nothing before it changed that
   leads : (x : Option Handle) → slot ≡ x → handle_of b.last.tables c i ≡ held_in (Some x)
   leads x is = b.rest i (omega arith) ∙ ap held_in (slice_get-get_or slots i None within) ∙ ap (λ z. held_in (Some z)) is
 

@@ -8,6 +8,7 @@ pub mod Serving
 pub mod Closings
 pub mod Stating
 pub mod Rewritten
+pub mod Writings
 pub mod FileSight
 pub mod Leaves
 pub mod Altered
@@ -15,6 +16,8 @@ pub mod Lasting
 pub mod Directories
 pub mod Answering
 pub mod Carrying
+pub mod Seeking
+pub mod FileReads
 pub mod Changing
 pub mod Linking
 pub mod Paging

@@ -66,6 +66,27 @@ faults-last None None None None r = refl
 table-last : (Ls : List Layer) (p : Path) (f : OpenFlags) (mode : ℕ) (free : Option ℕ) → opening_fault Ls p f mode free ≡ or_else (opening_fault Ls p f mode (Some 0)) (when (is_none free) EMFILE)
 table-last Ls p f mode free = faults-last (when (bad_flags f) EINVAL) (bad_mode mode) (parents_fault Ls p) (shown_fault f (shows 0 Ls p)) (when (is_none free) EMFILE)
 
+-- a fault of the flags or of the mode comes first
+pub flags-first : (Ls : List Layer) (p : Path) (f : OpenFlags) (mode : ℕ) (e : Errno) → or_else (when (bad_flags f) EINVAL) (bad_mode mode) ≡ Some e → opening_fault Ls p f mode (Some 0) ≡ Some e
+flags-first Ls p f mode e h = by (when (bad_flags f) EINVAL) (bad_mode mode) _ h
+  where
+    by : (a b r : Option Errno) → or_else a b ≡ Some e → or_else a (or_else b r) ≡ Some e
+    by (Some x) b r is = is
+    by None (Some x) r is = is
+    by None None r is = cc
+
+-- then one of the parents
+pub parents-next : (Ls : List Layer) (p : Path) (f : OpenFlags) (mode : ℕ) (e : Errno) → bad_flags f ≡ false → bad_mode mode ≡ None → parents_fault Ls p ≡ Some e → opening_fault Ls p f mode (Some 0) ≡ Some e
+parents-next Ls p f mode e flags bits way = λ i. or_else (when (flags i) EINVAL) (or_else (bits i) (or_else (way i) (or_else (shown_fault f (shows 0 Ls p)) None)))
+
+-- then one of what is shown
+pub shown-next : (Ls : List Layer) (p : Path) (f : OpenFlags) (mode : ℕ) → bad_flags f ≡ false → bad_mode mode ≡ None → parents_fault Ls p ≡ None → opening_fault Ls p f mode (Some 0) ≡ shown_fault f (shows 0 Ls p)
+shown-next Ls p f mode flags bits way = (λ i. or_else (when (flags i) EINVAL) (or_else (bits i) (or_else (way i) (or_else (shown_fault f (shows 0 Ls p)) None)))) ∙ by (shown_fault f (shows 0 Ls p))
+  where
+    by : (a : Option Errno) → or_else a None ≡ a
+    by None = refl
+    by (Some x) = refl
+
 -- flags that go together and ask not to write ask to read
 reads-flag : (r w u x y z : Bool) → w ≡ false → (not r && not w || u || x || y || z) ≡ false → r ≡ true
 reads-flag true w u x y z unwritten fine = refl

@@ -1,5 +1,5 @@
 -- A mount stands for the state still where an open file gets other bytes, its place moves, or a change of the layers wants memory.
-use Rattle.std.proofs.Common.{◌≡◌, ◌↔◌, ℕ, ◌<◌, Bool, true, false, List, ◌∷◌, Option, None, Some, refl, sym, ap, ◌∙◌, subst, ◌⊎◌, inl, inr, is_some, length, option_map}
+use Rattle.std.proofs.Common.{◌≡◌, ◌↔◌, ℕ, ◌<◌, Bool, true, false, List, ◌∷◌, Some, refl, sym, ap, ◌∙◌, subst, ◌⊎◌, inl, inr, is_some, length, option_map}
 use Rattle.std.proofs.lemmas.Bool.{false≢true, cases_eq}
 use Rattle.std.specs.Option.{option_and_then}
 use Rattle.ov_base.specs.declared.node_id.NodeId.{NodeId}
@@ -176,8 +176,8 @@ module _ (m : Mount) (s : State) (st : IsStateOf m s) where
       rewrites = law_of_written U V lowers s st.layers (subst (λ z. AreLayers (V ∷ z)) (lowers-same m.layers new sets.lowers) (keeps st.layers.layers)) d k bytes (live-open k d on) sets.writes
 
   -- the place of an open file moves
-  pub place-moved : (c d : ℕ) (f : OpenFile) (h : Handle) → opened_by m.clients c d ≡ Some (File f) → handle_of s.tables c d ≡ Some h → IsFile U lowers s.tree f h → (place : ℕ) (new : Clients) → ChangesClient m.clients new c (λ x y. ChangesSlot x y d (with_place place)) → IsStateOf (record m { clients = new }) (record s { tables = with_handle s.tables c d (Some (record h { place = place })) })
-  place-moved c d f h opens on file place new changes =
+  pub place-moved : (c d : ℕ) (f : OpenFile) (h : Handle) → opened_by m.clients c d ≡ Some (File f) → handle_of s.tables c d ≡ Some h → (place : ℕ) (new : Clients) → ChangesClient m.clients new c (λ x y. ChangesSlot x y d (with_place place)) → IsStateOf (record m { clients = new }) (record s { tables = with_handle s.tables c d (Some (record h { place = place })) })
+  place-moved c d f h opens on place new changes =
       with-tables m s st new (with_handle s.tables c d (Some moved)) changes.next
       (tables-set alike m.clients s.tables st.tables new (Alike m.layers s new) c d (Some (File (record f { place = place }))) (Some moved) set inside stay here)
       (one-fewer m.clients new s.tables (with_handle s.tables c d (Some moved)) (set-fewer m.clients new s.tables c d (Some (File (record f { place = place }))) (Some moved) set within again) st.one)
@@ -197,6 +197,12 @@ module _ (m : Mount) (s : State) (st : IsStateOf m s) where
       -- what else is open
       stay : (b i : ℕ) (o : handles.Handle) (x : Handle) → opened_by new b i ≡ Some o → opened_by m.clients b i ≡ Some o → handle_of s.tables b i ≡ Some x → alike o x → Alike m.layers s new o x
       stay b i o x is was at like = placed U lowers s.tree m.clients.directories new.directories o x (λ e l same stood. changes.places b i e l (is ∙ ap Some same) stood) like
+
+      file : IsFile U lowers s.tree f h
+      file =
+          let x = open-at alike m.clients s.tables st.tables c d (File f) opens in
+          let same : x.0 ≡ h = cc (x.1, on) in
+          subst (λ (z : Handle). IsFile U lowers s.tree f z) same x.2
 
       -- the file itself
       here : IsFile U lowers s.tree (record f { place = place }) moved

@@ -1,0 +1,18 @@
+use Rattle.overlay_core.proofs.Answering.{on-err}
+use Rattle.overlay_core.proofs.Rewritten.{state-unwritten}
+use Rattle.overlay_core.proofs.Writings.{truncate-refused, truncate-done}
+use Rattle.overlay_core.proofs.mount.Mount.truncate.Goals as goal
+
+pub returns-in-Err-clause-serves : goal.returns-in-Err-clause-serves
+returns-in-Err-clause-serves c = λ s st. truncate-refused c.args.self.now s st c.args.client c.args.descriptor c.args.size c.in-Err.errno c.in-Err.ensures.refused
+
+pub returns-in_err-resize_file-clause-err : goal.returns-in_err-resize_file-clause-err
+returns-in_err-resize_file-clause-err c =
+    let made = c.in_err-resize_file.ensures in
+    on-err c.from_residual.result _ (state-unwritten c.args.self.now c.resize_file.new.layers made.lowers made.mounts made.stays)
+
+pub returns-clause-serves : goal.returns-clause-serves
+returns-clause-serves c =
+    let file = c.in-Ok.ensures.file in
+    let made = c.in_ok-resize_file.ensures in
+    λ s st. truncate-done c.args.self.now s st c.args.client c.args.descriptor c.args.size c.in-Ok.file file.0 file.1 c.resize_file.new.layers made.keeps made.sets

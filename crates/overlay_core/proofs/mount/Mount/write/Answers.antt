@@ -1,0 +1,30 @@
+use Rattle.std.proofs.Common.{sym, ap, ◌∙◌, length, nat_eq, take}
+use Rattle.overlay_core.proofs.Answering.{on-err}
+use Rattle.overlay_core.proofs.Rewritten.{state-unwritten}
+use Rattle.overlay_core.proofs.Writings.{write-refused, write-nothing, write-unfitting, write-done}
+use Rattle.overlay_core.proofs.mount.Mount.write.Goals as goal
+
+pub returns-in-Err-clause-serves : goal.returns-in-Err-clause-serves
+returns-in-Err-clause-serves c = λ s st. write-refused c.args.self.now s st c.args.client c.args.descriptor c.args.bytes.now c.in-Err.errno (rw c.as_slice-bytes.ensures at c.in-Err.ensures.refused)
+
+pub returns-then-is_empty-clause-serves : goal.returns-then-is_empty-clause-serves
+returns-then-is_empty-clause-serves c =
+    let file = rw c.as_slice-bytes.ensures at c.in-Ok.ensures.file in
+    λ s st. write-nothing c.args.self.now s st c.args.client c.args.descriptor c.args.bytes.now c.in-Ok.file file.0 file.1 (sym (ap (λ z. nat_eq (length z) 0) c.as_slice-bytes.ensures) ∙ sym c.is_empty.ensures ∙ c.if-is_empty.true)
+
+pub returns-in-Err-fitting-clause-serves : goal.returns-in-Err-fitting-clause-serves
+returns-in-Err-fitting-clause-serves c =
+    let file = rw c.as_slice-bytes.ensures at c.in-Ok.ensures.file in
+    λ s st. write-unfitting c.args.self.now s st c.args.client c.args.descriptor c.args.bytes.now c.in-Ok.file file.0 file.1 c.bytes_in.result.now c.bytes_in.ensures c.write_place-start.result c.write_place-start.ensures.machine c.in-Err-fitting.errno (sym (rw c.as_slice-bytes.ensures at c.in-Err-fitting.ensures.count))
+
+pub returns-in_err-write_file-clause-err : goal.returns-in_err-write_file-clause-err
+returns-in_err-write_file-clause-err c =
+    let made = c.in_err-write_file.ensures in
+    on-err c.from_residual.result _ (state-unwritten c.args.self.now c.write_file.new.layers made.lowers made.mounts made.stays)
+
+pub returns-clause-serves : goal.returns-clause-serves
+returns-clause-serves c =
+    let file = rw c.as_slice-bytes.ensures at c.in-Ok.ensures.file in
+    let made = c.in_ok-write_file.ensures in
+    let fit = ap (take c.in-Ok-fitting.count) c.as_slice-bytes.ensures ∙ c.in-Ok-fitting.ensures.machine c.args.bytes.now (ap length (sym c.as_slice-bytes.ensures)) in
+    λ s st. write-done c.args.self.now s st c.args.client c.args.descriptor c.args.bytes.now c.in-Ok.file file.0 file.1 c.bytes_in.result.now c.bytes_in.ensures c.write_place-start.result c.write_place-start.ensures.machine (sym (ap (λ z. nat_eq (length z) 0) c.as_slice-bytes.ensures) ∙ sym c.is_empty.ensures ∙ c.if-is_empty.false) c.in-Ok-fitting.count (sym (rw c.as_slice-bytes.ensures at c.in-Ok-fitting.ensures.count)) (take c.in-Ok-fitting.count c.as_slice-bytes.result.now) fit c.write_file.new.layers made.keeps made.sets c.move_to.new.self c.move_to.ensures
