@@ -192,8 +192,7 @@ module _ (m : Mount) (s : State) (st : IsStateOf m s) (c : ℕ) (clients : Clien
     made-fresh j e y =
         let live : IsLive U s.tree e j = open-live reserved s reserved-state c j e y in
         let unused : s.tree (New s.serial) ≡ None = st.layers.kept.unused s.serial (omega arith) in
-        let vacant : U.inodes key ≡ None = ap (λ k. option_and_then inode_of (get m.layers.upper k)) (sym number) ∙ ap (option_and_then inode_of) leaf.vacant in
-        (
+        let vacant : U.inodes key ≡ None = ap (λ k. option_and_then inode_of (get m.layers.upper k)) (sym number) ∙ ap (option_and_then inode_of) leaf.vacant in (
           λ same. absurd (false≢true (sym (ap is_some unused) ∙ ap (λ x. is_some (s.tree x)) same ∙ ap is_some live.node)),
           λ same. absurd (false≢true (sym (ap is_some vacant) ∙ ap (λ k. is_some (U.inodes k)) same ∙ ap is_some live.inode)),
         )
@@ -204,10 +203,10 @@ module _ (m : Mount) (s : State) (st : IsStateOf m s) (c : ℕ) (clients : Clien
         state-open (record m { layers = new; clients = clients }) (record s { tree = u; serial = suc s.serial }) made-state c (File file) d last ch made
         (record { source = (made-live, refl); reads = refl; writes = refl; append = refl; place = refl; unlisted = refl })
         (λ g k j e same_file of y.
-            let files : file ≡ g = cc in
-            let keys : Upper key ≡ Upper k = ap (λ (z : OpenFile). z.source) files ∙ of in
-            let keyed : key ≡ k = cc in
-            subst (λ z. (New s.serial ≡ e) ↔ (z ≡ j)) keyed (made-fresh j e y))
+        let files : file ≡ g = cc in
+        let keys : Upper key ≡ Upper k = ap (λ (z : OpenFile). z.source) files ∙ of in
+        let keyed : key ≡ k = cc in
+        subst (λ z. (New s.serial ≡ e) ↔ (z ≡ j)) keyed (made-fresh j e y))
 
     -- and answers as the machine
     pub open-made : Serves (refusal s c asked) s c asked (reply.Descriptor d) (record m { layers = new; clients = last })

@@ -29,8 +29,8 @@ open_reserved-requires-clause-room c =
 pub open_reserved-requires-clause-fresh : goal.open_reserved-requires-clause-fresh
 open_reserved-requires-clause-fresh c = λ k of.
     let none = none-holds c.args.self.now c.args.client c.reserve_file.new.self c.in_ok-errno.ensures.same c.requires.state c.lawful.ensures.files c.in_ok-key.key
-        (λ s st. vacant c.args.self.now s st c.args.client c.reserve_file.new.self c.in_ok-errno.ensures.same c.args.path.now c.args.flags c.args.mode c.requires.allowed c.requires.writes c.args.place c.requires.shown c.requires.lower c.bring_up.new.layers c.in_ok-key.key c.in_ok-key.ensures.copied)
-        k (ap (λ (x : OpenFile). x.source) (sym c.file_at-file.ensures) ∙ of) in
+    (λ s st. vacant c.args.self.now s st c.args.client c.reserve_file.new.self c.in_ok-errno.ensures.same c.args.path.now c.args.flags c.args.mode c.requires.allowed c.requires.writes c.args.place c.requires.shown c.requires.lower c.bring_up.new.layers c.in_ok-key.key c.in_ok-key.ensures.copied)
+    k (ap (λ (x : OpenFile). x.source) (sym c.file_at-file.ensures) ∙ of) in
     elim c.if-flags.branch [
       | then-flags+in_ok-resize_file w ↦ rw w.self-is none
       | else-flags w ↦ rw w.self-is none
