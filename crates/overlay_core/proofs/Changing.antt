@@ -282,7 +282,7 @@ module _ (m : Mount) (s : State) (st : IsStateOf m s) (new : Layers) where
   altered-refused c p k fault e law x = refused c k e (law ∙ x.refused) x.unchanged
 
   -- open directories stand where they stood after a call that makes a node
-  handle-beside : (c : ℕ) (k : Call) (p : Path) (x : Node) → (after s c k).tree ≡ made_way s.tree s.serial (way_of s.tree p) x → ((q : Path) (d : NodeId) → node_at s.tree q ≡ Some d → node_at (after s c k).tree q ≡ Some d) → KeepsHidden s.tree (after s c k).tree → (o : OpenDirectory) (h : Handle) → IsHandle s.tree m.clients.directories o h → IsHandle (after s c k).tree m.clients.directories o h
+  pub handle-beside : (c : ℕ) (k : Call) (p : Path) (x : Node) → (after s c k).tree ≡ made_way s.tree s.serial (way_of s.tree p) x → ((q : Path) (d : NodeId) → node_at s.tree q ≡ Some d → node_at (after s c k).tree q ≡ Some d) → KeepsHidden s.tree (after s c k).tree → (o : OpenDirectory) (h : Handle) → IsHandle s.tree m.clients.directories o h → IsHandle (after s c k).tree m.clients.directories o h
   handle-beside c k p x made stays hidden o h =
       handle-on s.tree (after s c k).tree stays hidden
       (λ d f. ap (λ t. is_folder (t d)) made ∙ made-folder s.tree s.serial (way_of s.tree p) x d free f)

@@ -66,7 +66,7 @@ module _ (old new : Layers) (p : Path) (others : KeepsOthers old new p) where
   )
 
   -- each path but its own names what it named
-  other-names : (q : Path) → q ≢ p → (k : ℕ) → (held (layer_of new.upper) q ≡ Some (Named k)) ↔ (held (layer_of old.upper) q ≡ Some (Named k))
+  pub other-names : (q : Path) → q ≢ p → (k : ℕ) → (held (layer_of new.upper) q ≡ Some (Named k)) ↔ (held (layer_of old.upper) q ≡ Some (Named k))
   other-names q away k = elim (place p q) [
     | inl y ↦ by y.0 y.1
     | inr out ↦ kept-name old new p q (others.paths q out) k

@@ -29,5 +29,6 @@ pub mod Coming
 pub mod Leaving
 pub mod Freed
 pub mod Makings
+pub mod CopiedOpens
 pub mod Agreeing
 pub mod Driving

@@ -1,51 +1,218 @@
--- What opens that make a file, or copy one up, need.
-use Rattle.std.proofs.Common.{◌≡◌, ℕ, Bool, Option, Some, Result, Ok, Err, MatchResult, IfOk, OnErr, refl, sym, ap, ◌∙◌, subst}
+-- Opens that make a file: the states that the mount stands for on the way.
+use Rattle.std.proofs.Common.{arith, ◌≡◌, ◌↔◌, ℕ, zero, suc, cond, List, [], None, Some, Ok, Err, refl, sym, ap, ◌∙◌, subst, is_none, is_some}
+use Rattle.std.proofs.lemmas.Bool.{false≢true}
 use Rattle.std.specs.Option.{option_and_then}
-use Rattle.std.specs.declared.alloc.AllocError.{AllocError}
-use Rattle.ov_base.specs.declared.attributes.Attributes.{Attributes}
+use mathlib.Core.Logic.{∥∥₁_elim}
+use mathlib.Core.HLevel.{⊥_prop}
+use Rattle.slab.specs.Slab.{get}
+use Rattle.ov_base.specs.declared.bytes.Content.TheVariants as content
+use Rattle.ov_base.specs.declared.call.Call.{Call}
+use Rattle.ov_base.specs.declared.call.Call.TheVariants as call
 use Rattle.ov_base.specs.declared.call.OpenFlags.{OpenFlags}
-use Rattle.ov_base.specs.declared.errno.Errno.TheVariants.{ELOOP, ENOTDIR}
-use Rattle.plain_model.specs.Layers.{Path, Inode, Contents, shows}
-use Rattle.plain_model.specs.Refusals.{when}
-use Rattle.layer_tree.specs.Tree.{inode_of}
-use Rattle.layer_tree.specs.declared.node.Inode.{Inode as StoredInode}
-use Rattle.layer_tree.specs.declared.node.Node.{Node}
-use Rattle.layer_tree.specs.declared.node.Node.TheVariants as node
+use Rattle.ov_base.specs.declared.errno.Errno.{Errno}
+use Rattle.ov_base.specs.declared.errno.Errno.TheVariants.{EMFILE}
+use Rattle.ov_base.specs.declared.node_id.NodeId.{NodeId}
+use Rattle.ov_base.specs.declared.node_id.NodeId.TheVariants.{New}
+use Rattle.ov_base.specs.declared.reply.Reply.TheVariants as reply
+use Rattle.plain_model.specs.Layers.{Path, Layer, shows}
+use Rattle.plain_model.specs.Tree.{Leaf, Own, Tree}
+use Rattle.plain_model.specs.Machine.{Handle, State, lowest_free}
+use Rattle.plain_model.specs.Refusals.{refusal}
+use Rattle.plain_model.specs.Changes.{fresh, way_of, change, opened, made_way, with_handle, after}
+use Rattle.layer_tree.specs.Tree.{layer_of, inode_of}
 use Rattle.merged_lookup.specs.declared.layers.Layers.{Layers}
-use Rattle.merged_lookup.specs.declared.stack.Place.{Place}
-use Rattle.merged_lookup.specs.Merged.{trees, node_in, layers_of, ShowsInode}
-use Rattle.merged_lookup.proofs.Looking.{inode-shown}
-use Rattle.mount_laws.specs.Looks.{or_else, is_link_inode, shows_link}
-use Rattle.copy_up.specs.Leaves.{CopiesLeaf}
-use Rattle.copy_up.specs.Showing.{ShowsSame}
-use Rattle.overlay_core.specs.Opening.{inode_refusal}
+use Rattle.merged_lookup.specs.Merged.{layers_of, lowers_of}
+use Rattle.mount_laws.specs.Looks.{IsMountOf}
+use Rattle.mount_laws.specs.Leaves.{GainsLeaf, MakesFile}
+use Rattle.mount_laws.specs.OpenFiles.{IsLive}
+use Rattle.mount_laws.specs.Opening.{opening_fault, live_handle, OpensMaking}
+use Rattle.mount_laws.proofs.OpenFiles.{one-number, law_of_live_made}
+use Rattle.mount_laws.proofs.Opening.{law_of_opened_making}
+use Rattle.copy_up.specs.Showing.{GainsParents, StaysMount}
+use Rattle.copy_up.proofs.Keeping.{lowers-same}
+use Rattle.make_remove.specs.Making.{new_attributes}
+use Rattle.make_remove.specs.Leaves.{MakesLeaf, CreateSteps}
+use Rattle.open_handles.specs.declared.descriptors.Descriptors.{Descriptors}
+use Rattle.open_handles.specs.declared.handle.Handle as handles
+use Rattle.open_handles.specs.declared.handle.Handle.TheVariants.{Directory, File}
+use Rattle.open_handles.specs.declared.handle.OpenDirectory.{OpenDirectory}
+use Rattle.open_handles.specs.declared.open_file.FileSource.TheVariants.{Upper}
+use Rattle.open_handles.specs.declared.open_file.OpenFile.{OpenFile}
+use Rattle.open_handles.specs.FileHolders.{file_holders}
+use Rattle.open_handles.specs.Listings.{Opens}
+use Rattle.overlay_core.specs.declared.clients.Clients.{Clients}
+use Rattle.overlay_core.specs.declared.mount.Mount.{Mount}
+use Rattle.overlay_core.specs.Attaching.{ChangesClient}
+use Rattle.overlay_core.specs.Files.{HasFile, HasAllOpen, IsOpenOn, file_at}
+use Rattle.overlay_core.specs.Opening.{OpensFile}
+use Rattle.overlay_core.specs.States.{IsHandle, HasStateOf, IsStateOf, Serves}
+use Rattle.overlay_core.proofs.Answering.{serve-done}
+use Rattle.overlay_core.proofs.Carrying.{AreCounted, CarriesFiles, files-kept, tables-on}
+use Rattle.overlay_core.proofs.Changing.{handle-beside}
+use Rattle.overlay_core.proofs.Lasting.{create-live, open-leaves, parents-live}
+use Rattle.overlay_core.proofs.Openings.{open-live, open-full, free-there, state-open, unrefused, unfaulted}
+use Rattle.overlay_core.proofs.Rewritten.{state-unwritten}
+use Rattle.overlay_core.proofs.Serving.{open-at}
+use Rattle.overlay_core.proofs.Stating.{Alike, keep-state}
 
--- why a file or link isn't opened, told by what stands at its place
-pub refused-at : (f : OpenFlags) (l : Layers) (p : Path) (d : Place) → ShowsInode l p d → (o : Option Node) → o ≡ node_in (trees l) d → (link : Bool) → is_link_inode (option_and_then inode_of o) ≡ link → or_else (when link ELOOP) (when f.directory ENOTDIR) ≡ inode_refusal f (shows 0 (layers_of l) p)
-refused-at f l p d s o is link e =
-    let stood : option_and_then inode_of (node_in (trees l) d) ≡ s.inode = inode-shown 0 (trees l) (trees l) refl p d.layer d.key s.inode s.shown in
-    let told : shows_link (shows 0 (layers_of l) p) ≡ link = ap shows_link s.shown ∙ ap is_link_inode (sym stood) ∙ sym (ap (λ x. is_link_inode (option_and_then inode_of x)) is) ∙ e in
-    ap (λ b. or_else (when b ELOOP) (when f.directory ENOTDIR)) (sym told)
+-- room that is made where all descriptors are open is an open that is refused
+pub full-opens : (old new : Clients) (c : ℕ) (h : handles.Handle) (e : Errno) → ChangesClient old new c (λ x y. y ≡ x) → (e ≡ EMFILE) × HasAllOpen old c → ChangesClient old new c (λ x y. Opens x y h (Ok (Err e)))
+full-opens old new c h e same full =
+    let two : Some same.before ≡ Some full.1.descriptors = sym same.was ∙ full.1.attached in
+    let before : same.before ≡ full.1.descriptors = cc in
+    record {
+      before = full.1.descriptors;
+      was = full.1.attached;
+      after = same.after;
+      is = same.is;
+      changes = record { lowest = tt; opens = tt; full = (full.0, full.1.full); refused = same.changes ∙ ap (λ (x : Descriptors). x.slots.items) before; err = tt };
+      others = same.others;
+      places = same.places;
+      next = same.next;
+    }
 
--- a copy of what stands at a place has the attributes that are shown
-pub attributes-stored : (l : Layers) (d : Place) (x : StoredInode) → Some (node.Inode x) ≡ node_in (trees l) d → (E : AllocError → Type 0) (r : Result Attributes AllocError) → MatchResult r (λ b. b ≡ x.attributes) E → IfOk r (λ a. (p : Path) (i : Inode) → shows 0 (layers_of l) p ≡ Some (Contents d.layer d.key (Some i)) → a ≡ i.attributes)
-attributes-stored l d x is E (Err e) h = tt
-attributes-stored l d x is E (Ok a) h = λ p i shown.
-    let same : option_and_then inode_of (Some (node.Inode x)) ≡ Some i = ap (option_and_then inode_of) is ∙ inode-shown 0 (trees l) (trees l) refl p d.layer d.key (Some i) shown in
-    h ∙ (let z : x.attributes ≡ i.attributes = cc in z)
+-- no client has a file open under whose key nothing stands
+not-open : (m : Mount) (s : State) → IsStateOf m s → (k : ℕ) → get m.layers.upper k ≡ None → HasFile m.clients k → ⊥
+not-open m s st k vacant has =
+    let at = open-at (Alike m.layers s m.clients) m.clients s.tables st.tables has.client has.descriptor (File has.file) has.opened in
+    let live = open-live m s st 0 k at.0.node (record { client = has.client; descriptor = has.descriptor; file = has.file; handle = at.0; opened = has.opened; key = has.key; on = at.1; at = refl }) in
+    false≢true (sym (ap (λ o. is_some (option_and_then inode_of o)) vacant) ∙ ap is_some live.inode)
 
--- a file of a lower layer is copied, with its own attributes
-abbrev pub Copied : Layers → Layers → Path → Place → (Inode → Attributes) → ℕ → Type 0
-Copied old new p d a key = (i : Inode) → shows 0 (layers_of old) p ≡ Some (Contents d.layer d.key (Some i)) → (leaf : CopiesLeaf old new p i.content (a i)) × (leaf.number ≡ key)
+-- so no handle holds it, where room is made
+pub none-holds : (m : Mount) (c : ℕ) (clients : Clients) → ChangesClient m.clients clients c (λ x y. y ≡ x) → ∥ HasStateOf m ∥₁ → AreCounted clients → (key : ℕ) → ((s : State) → IsStateOf m s → get m.layers.upper key ≡ None) → (k : ℕ) → Upper key ≡ Upper k → file_holders clients.files k ≡ 0
+none-holds m c clients same state counted key vacant k is = by (file_holders clients.files k) refl
+  where
+    -- a client would have it open
+    open-no : HasFile clients k → ⊥
+    open-no has =
+        let keyed : key ≡ k = cc in
+        ∥∥₁_elim state ⊥_prop (λ x. not-open (record m { clients = clients }) x.0 (keep-state m x.0 x.1 c clients same) k (ap (get m.layers.upper) (sym keyed) ∙ vacant x.0 x.1) has)
 
-pub copied-as : (old new : Layers) (p q : Path) (d : Place) (a : Attributes) → p ≡ q → ((p : Path) (i : Inode) → shows 0 (layers_of old) p ≡ Some (Contents d.layer d.key (Some i)) → a ≡ i.attributes) → (r : Result ℕ AllocError) → IfOk r (Copied old new q d (λ i. a)) → IfOk r (Copied old new p d (λ i. i.attributes))
-copied-as old new p q d a same own (Err e) h = tt
-copied-as old new p q d a same own (Ok key) h = λ i shown.
-    subst (λ (z : Path). (leaf : CopiesLeaf old new z i.content i.attributes) × (leaf.number ≡ key)) (sym same)
-    (subst (λ (b : Attributes). (leaf : CopiesLeaf old new q i.content b) × (leaf.number ≡ key)) (own p i shown)
-    (h i (ap (shows 0 (layers_of old)) (sym same) ∙ shown)))
+    by : (n : ℕ) → file_holders clients.files k ≡ n → n ≡ 0
+    by zero e = refl
+    by (suc n) e = absurd (open-no ((counted k).1 (rw e (omega arith))))
 
--- the lower layers stay where a file is copied, and where memory is wanted for that
-pub copied-lowers : (old new : Layers) (q : Path) (d : Place) (a : Attributes) (i : Inode) → shows 0 (layers_of old) q ≡ Some (Contents d.layer d.key (Some i)) → (r : Result ℕ AllocError) → IfOk r (Copied old new q d (λ i. a)) → OnErr r (ShowsSame old new) → new.lowers ≡ old.lowers
-copied-lowers old new q d a i shown (Ok key) h same = (h i shown).0.lowers
-copied-lowers old new q d a i shown (Err e) h same = same.lowers
+module _ (m : Mount) (s : State) (st : IsStateOf m s) (c : ℕ) (clients : Clients) (same : ChangesClient m.clients clients c (λ x y. y ≡ x)) where
+  -- the mount in which room is made
+  abbrev reserved : Mount
+  reserved = record m { clients = clients }
+
+  -- stands for the state still
+  pub reserved-state : IsStateOf reserved s
+  reserved-state = keep-state m s st c clients same
+
+  -- an open for which there is no room is refused
+  pub reserve-full : (p : Path) (f : OpenFlags) (mode : ℕ) → opening_fault (layers_of m.layers) p f mode (Some 0) ≡ None → (e : Errno) → (e ≡ EMFILE) × HasAllOpen m.clients c → Serves (refusal s c (call.Open p f mode)) s c (call.Open p f mode) (reply.Refused e) reserved
+  reserve-full p f mode fine e full =
+      let h : handles.Handle = Directory (record { directory = 0; listing = None }) in
+      open-full m s st c p f mode fine h clients e (full-opens m.clients clients c h e same full)
+
+  -- and one that then wants memory leaves the state
+  pub wanted-state : (new : Layers) (p : Path) → StaysMount m.layers new → GainsParents m.layers new p → IsStateOf (record m { layers = new; clients = clients }) s
+  wanted-state new p mounts parents = state-unwritten reserved new parents.lowers mounts (parents-live m.layers new p parents) s reserved-state
+
+  module _ (new : Layers) (low : new.lowers ≡ m.layers.lowers) (t : Tree) (serial : ℕ) where
+    abbrev between : State
+    between = record s { tree = t; serial = serial }
+
+    -- other layers and another tree, in which what is open is what it was
+    pub state-between : IsMountOf (layer_of new.upper) (lowers_of new) between → ((o : OpenDirectory) (h : Handle) → IsHandle s.tree clients.directories o h → IsHandle t clients.directories o h) → CarriesFiles (layer_of m.layers.upper) (layer_of new.upper) s.tree t clients s.tables → IsStateOf (record m { layers = new; clients = clients }) between
+    state-between mounts directories files = record {
+      layers = mounts;
+      tables = tables-on m.layers new s.tree t clients s.tables low reserved-state.tables clients.directories (λ b fd o h on. directories o h) files;
+      one = reserved-state.one;
+      arrived = reserved-state.arrived;
+      unwatched = st.unwatched;
+    }
+
+  -- an open that makes its file
+  module _ (p : Path) (f : OpenFlags) (mode : ℕ) (fine : opening_fault (layers_of m.layers) p f mode (Some 0) ≡ None) (absent : shows 0 (layers_of m.layers) p ≡ None)
+      (new : Layers) (key : ℕ) (leaf : MakesLeaf m.layers new p (content.File []) (new_attributes mode)) (number : leaf.number ≡ key) (steps : CreateSteps m.layers new p mode)
+      (d : ℕ) (last : Clients) (ch : OpensFile clients last c (file_at (record { layer = 0; key = key }) f) (Ok (Ok d))) where
+    abbrev U : Layer
+    U = layer_of m.layers.upper
+
+    abbrev V : Layer
+    V = layer_of new.upper
+
+    abbrev lowers : List Layer
+    lowers = lowers_of m.layers
+
+    abbrev asked : Call
+    asked = call.Open p f mode
+
+    abbrev file : OpenFile
+    file = file_at (record { layer = 0; key = key }) f
+
+    abbrev u : Tree
+    u = (after s c asked).tree
+
+    -- the machine finds the same descriptor
+    free : lowest_free s.tables c ≡ Some d
+    free = free-there reserved s reserved-state c (File file) d last ch
+
+    -- the machine makes a file
+    law : OpensMaking s c p f mode
+    law = law_of_opened_making U lowers s st.layers c p f mode (unfaulted m s st c p f mode fine d free) absent
+
+    -- which is the one that the upper gains
+    steps-there : MakesFile V (lowers_of new) s c p f mode
+    steps-there = steps s st.layers c f
+
+    -- its handle
+    abbrev made : Handle
+    made = live_handle f (New s.serial) (way_of s.tree p)
+
+    -- the mount of the state in which it is made
+    made-mounts : IsMountOf V (lowers_of new) (record s { tree = u; serial = suc s.serial })
+    made-mounts =
+        let x = subst (IsMountOf V (lowers_of new)) law.state steps-there.mounts in
+        record { layers = x.layers; shows = x.shows; kept = x.kept; writable = x.writable }
+
+    -- the machine's tree
+    tree-made : u ≡ made_way s.tree s.serial (way_of s.tree p) (Leaf (content.File []) (fresh mode) Own 1)
+    tree-made = ap (λ o. cond (is_none o) (made_way s.tree s.serial (way_of s.tree p) (Leaf (content.File []) (fresh mode) Own 1)) (change (opened f) s.tree o)) law.absent
+
+    -- what was open is what it was
+    made-state : IsStateOf (record m { layers = new; clients = clients }) (record s { tree = u; serial = suc s.serial })
+    made-state =
+        state-between new leaf.lowers u (suc s.serial) made-mounts
+        (handle-beside reserved s reserved-state new c asked p _ tree-made steps-there.stays steps-there.hidden)
+        (files-kept m.layers new s st.layers c asked clients (create-live m.layers new p mode leaf steps f) (open-leaves p f mode))
+
+    -- the new file is live
+    made-live : IsLive V u (New s.serial) key
+    made-live =
+        let g : GainsLeaf U V lowers p (content.File []) (fresh mode) = leaf.gains st.layers.layers in
+        let x = subst (λ (Ls : List Layer). MakesFile V Ls s c p f mode) (lowers-same m.layers new leaf.lowers) steps-there in
+        subst (IsLive V u (New s.serial)) (sym (one-number V p leaf.number g.number leaf.held_there g.here) ∙ number) (law_of_live_made U V lowers s c p f mode g x)
+
+    -- no open file is on its node or under its key
+    made-fresh : (j : ℕ) (e : NodeId) → IsOpenOn clients s.tables j e → (New s.serial ≡ e) ↔ (key ≡ j)
+    made-fresh j e y =
+        let live : IsLive U s.tree e j = open-live reserved s reserved-state c j e y in
+        let unused : s.tree (New s.serial) ≡ None = st.layers.kept.unused s.serial (omega arith) in
+        let vacant : U.inodes key ≡ None = ap (λ k. option_and_then inode_of (get m.layers.upper k)) (sym number) ∙ ap (option_and_then inode_of) leaf.vacant in (
+          λ same. absurd (false≢true (sym (ap is_some unused) ∙ ap (λ x. is_some (s.tree x)) same ∙ ap is_some live.node)),
+          λ same. absurd (false≢true (sym (ap is_some vacant) ∙ ap (λ k. is_some (U.inodes k)) same ∙ ap is_some live.inode)),
+        )
+
+    -- the mount stands for the state in which the file is open
+    opened-state : IsStateOf (record m { layers = new; clients = last }) (record s { tree = u; serial = suc s.serial; tables = with_handle s.tables c d (Some made) })
+    opened-state =
+        state-open (record m { layers = new; clients = clients }) (record s { tree = u; serial = suc s.serial }) made-state c (File file) d last ch made
+        (record { source = (made-live, refl); reads = refl; writes = refl; append = refl; place = refl; unlisted = refl })
+        (λ g k j e same_file of y.
+        let files : file ≡ g = cc in
+        let keys : Upper key ≡ Upper k = ap (λ (z : OpenFile). z.source) files ∙ of in
+        let keyed : key ≡ k = cc in
+        subst (λ z. (New s.serial ≡ e) ↔ (z ≡ j)) keyed (made-fresh j e y))
+
+    -- and answers as the machine
+    pub open-made : Serves (refusal s c asked) s c asked (reply.Descriptor d) (record m { layers = new; clients = last })
+    open-made =
+        let same_slot : law.descriptor ≡ d = cc (law.free, free) in
+        serve-done _ s c asked _ (record m { layers = new; clients = last })
+        (unrefused m s st c p f mode fine d free)
+        (sym (law.answer ∙ ap reply.Descriptor same_slot))
+        (subst (IsStateOf (record m { layers = new; clients = last })) (sym (law.state ∙ ap (λ z. record s { tree = u; serial = suc s.serial; tables = with_handle s.tables c z (Some made) }) same_slot)) opened-state)

@@ -65,7 +65,7 @@ pub truncate-writes : (Ls : List Layer) (p : Path) (f : OpenFlags) (mode : ℕ) 
 truncate-writes Ls p f mode fine t = writes-flag f (when-not (bad_flags f) EINVAL (first-none (when (bad_flags f) EINVAL) _ fine)) t
 
 -- a file of no size has no bytes
-sized-none : (bytes : List ℕ) → sized bytes 0 ≡ []
+pub sized-none : (bytes : List ℕ) → sized bytes 0 ≡ []
 sized-none bytes =
     let none : 0 - length bytes ≡ 0 = omega arith in
     ap (λ n. take 0 bytes ++ replicate n 0) none

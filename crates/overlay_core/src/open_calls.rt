@@ -136,6 +136,7 @@ impl Mount {
         if let Err(errno) = self.clients.reserve_file(client)? {
             return Ok(Reply::Refused(errno));
         }
+        self.clients.lawful();
         let key = bring_up(&mut self.layers, path, directory, place)?;
         let file = file_at(Place { layer: 0, key }, flags);
         if flags.truncate {
@@ -168,6 +169,7 @@ impl Mount {
         if let Err(errno) = self.clients.reserve_file(client)? {
             return Ok(Reply::Refused(errno));
         }
+        self.clients.lawful();
         let key = create(self.alloc, &mut self.layers, directory, path, mode)?;
         let file = file_at(Place { layer: 0, key }, flags);
         Ok(Reply::Descriptor(self.clients.open_reserved(client, file)))

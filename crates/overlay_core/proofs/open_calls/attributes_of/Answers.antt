@@ -3,7 +3,7 @@ use Rattle.std.specs.Option.{option_copied}
 use Rattle.layer_tree.specs.declared.node.Node.TheVariants as node
 use Rattle.merged_lookup.specs.Merged.{trees, node_in}
 use Rattle.copy_up.proofs.Copying.{IsStored, is-stored, inode-stands}
-use Rattle.overlay_core.proofs.Makings.{attributes-stored}
+use Rattle.overlay_core.proofs.CopiedOpens.{attributes-stored}
 use Rattle.overlay_core.proofs.open_calls.attributes_of.Goals as goal
 use Rattle.overlay_core.proofs.open_calls.attributes_of.Goals.{in_default-via-in-Some+in_default, in_default-via-in_default}
 

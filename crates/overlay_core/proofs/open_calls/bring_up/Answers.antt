@@ -1,7 +1,7 @@
 use Rattle.std.proofs.Common.{◌∷◌, reverse, sym, ap, ◌∙◌}
 use Rattle.plain_model.specs.Layers.{shows}
 use Rattle.merged_lookup.specs.Merged.{layers_of}
-use Rattle.overlay_core.proofs.Makings.{copied-as, copied-lowers}
+use Rattle.overlay_core.proofs.CopiedOpens.{copied-as, copied-lowers}
 use Rattle.overlay_core.proofs.open_calls.bring_up.Goals as goal
 
 pub copy_leaf-requires-clause-shown : goal.copy_leaf-requires-clause-shown

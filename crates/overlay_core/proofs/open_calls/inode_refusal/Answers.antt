@@ -4,14 +4,14 @@ use Rattle.ov_base.specs.declared.errno.Errno.TheVariants.{ENOTDIR}
 use Rattle.plain_model.specs.Refusals.{when}
 use Rattle.layer_tree.specs.Tree.{inode_of}
 use Rattle.mount_laws.specs.Looks.{is_link_inode}
-use Rattle.overlay_core.proofs.Makings.{refused-at}
+use Rattle.overlay_core.proofs.Openings.{inode-refused}
 use Rattle.overlay_core.proofs.open_calls.inode_refusal.Goals as goal
 use Rattle.overlay_core.proofs.open_calls.inode_refusal.Goals.{in_default-via-in-Some+in-Inode+in_default, in_default-via-in-Some+in_default, in_default-via-in_default}
 
 pub returns-in-Some-Inode-SymbolicLink : goal.returns-in-Some-Inode-SymbolicLink
 returns-in-Some-Inode-SymbolicLink c = λ p shown.
     let link : is_link_inode (option_and_then inode_of (option_copied c.node.result)) ≡ true = search rules in
-    refused-at c.args.flags c.args.layers.now p c.args.place shown (option_copied c.node.result) c.node.ensures true link
+    sym (inode-refused c.args.layers.now p c.args.place c.args.flags true shown (sym (ap (λ o. is_link_inode (option_and_then inode_of o)) c.node.ensures) ∙ link))
 
 pub returns-in_default : goal.returns-in_default
 returns-in_default c = λ p shown.
@@ -21,7 +21,7 @@ returns-in_default c = λ p shown.
       | in_default-via-in_default w ↦ search rules
     ] in
     sym (ap (λ b. when b ENOTDIR) c.if-flags.true) ∙
-    refused-at c.args.flags c.args.layers.now p c.args.place shown (option_copied c.node.result) c.node.ensures false link
+    sym (inode-refused c.args.layers.now p c.args.place c.args.flags false shown (sym (ap (λ o. is_link_inode (option_and_then inode_of o)) c.node.ensures) ∙ link))
 
 pub returns-in_default-2 : goal.returns-in_default-2
 returns-in_default-2 c = λ p shown.
@@ -31,4 +31,4 @@ returns-in_default-2 c = λ p shown.
       | in_default-via-in_default w ↦ search rules
     ] in
     sym (ap (λ b. when b ENOTDIR) c.if-flags.false) ∙
-    refused-at c.args.flags c.args.layers.now p c.args.place shown (option_copied c.node.result) c.node.ensures false link
+    sym (inode-refused c.args.layers.now p c.args.place c.args.flags false shown (sym (ap (λ o. is_link_inode (option_and_then inode_of o)) c.node.ensures) ∙ link))

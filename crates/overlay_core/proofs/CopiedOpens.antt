@@ -1,0 +1,320 @@
+-- Opens that copy a file up: the states that the mount stands for on the way.
+use Rattle.std.proofs.Common.{◌≡◌, ◌≢◌, ◌↔◌, ℕ, ◌<◌, Bool, true, false, cond, List, [], Option, None, Some, Result, Ok, Err, MatchResult, IfOk, OnErr, refl, sym, ap, ◌∙◌, subst, inl, inr, is_some}
+use Rattle.std.proofs.lemmas.Bool.{false≢true}
+use Rattle.std.specs.Option.{option_and_then}
+use Rattle.std.specs.declared.alloc.AllocError.{AllocError}
+use Rattle.slab.specs.Slab.{get}
+use Rattle.ov_base.specs.declared.attributes.Attributes.{Attributes}
+use Rattle.ov_base.specs.declared.bytes.Content.{Content}
+use Rattle.ov_base.specs.declared.bytes.Content.TheVariants as content
+use Rattle.ov_base.specs.declared.call.Call.{Call}
+use Rattle.ov_base.specs.declared.call.Call.TheVariants as call
+use Rattle.ov_base.specs.declared.call.OpenFlags.{OpenFlags}
+use Rattle.ov_base.specs.declared.errno.Errno.TheVariants.{EINVAL, ELOOP}
+use Rattle.ov_base.specs.declared.node_id.NodeId.{NodeId}
+use Rattle.ov_base.specs.declared.reply.Reply.TheVariants as reply
+use Rattle.plain_model.specs.Layers.{Path, Named, Inode, Layer, held, below, cuts, Contents, over, unless, shows, base}
+use Rattle.plain_model.specs.Tree.{Node, Branch, Leaf, Origin, Own, Tree, origin_in, same_id, node_at, put, face, SeenLeaf, see}
+use Rattle.plain_model.specs.Machine.{Handle, State, MountOptions, lowest_free}
+use Rattle.plain_model.specs.Refusals.{when, bad_flags, bad_mode, refusal}
+use Rattle.plain_model.specs.Changes.{sized, over_node, change, opened, touched, way_of, with_attributes, with_bytes, with_handle, with_owner, after}
+use Rattle.plain_model.proofs.Keeping.{put-here}
+use Rattle.plain_model.proofs.Paths.{ids_tell}
+use Rattle.layer_tree.specs.Tree.{layer_of, inode_of, file_bytes, bytes_at}
+use Rattle.layer_tree.specs.declared.node.Inode.{Inode as StoredInode}
+use Rattle.layer_tree.specs.declared.node.Node.TheVariants as node
+use Rattle.layer_tree.proofs.Walks.{same_path}
+use Rattle.merged_lookup.specs.declared.layers.Layers.{Layers}
+use Rattle.merged_lookup.specs.declared.stack.Place.{Place}
+use Rattle.merged_lookup.specs.Merged.{trees, node_in, layers_of, lowers_of, ShowsInode}
+use Rattle.merged_lookup.proofs.Looking.{inode-shown}
+use Rattle.mount_laws.specs.Looks.{or_else, parents_fault, absent, is_link_inode, shows_link, IsMountOf}
+use Rattle.mount_laws.specs.Attributes.{shown_attributes, chown_fault}
+use Rattle.mount_laws.specs.Altered.{AltersState}
+use Rattle.mount_laws.specs.StayOpen.{AltersNamed}
+use Rattle.mount_laws.specs.OpenFiles.{IsLive, rewritten}
+use Rattle.mount_laws.specs.Opening.{opening_fault, live_handle, OpensWriting}
+use Rattle.mount_laws.proofs.Altered.{law_of_owner_changed}
+use Rattle.mount_laws.proofs.Links.{first-none, second-none}
+use Rattle.mount_laws.proofs.OpenFiles.{law_of_live_shown}
+use Rattle.mount_laws.proofs.Opening.{law_of_opened_for_writing}
+use Rattle.mount_laws.proofs.Outlive.{law_of_live_through_owner}
+use Rattle.copy_up.specs.Leaves.{CopiesLeaf}
+use Rattle.copy_up.specs.Showing.{ShowsSame, StaysLayers}
+use Rattle.copy_up.proofs.Copying.{free-inode}
+use Rattle.copy_up.proofs.Keeping.{lowers-same}
+use Rattle.open_handles.specs.declared.handle.Handle.TheVariants.{File}
+use Rattle.open_handles.specs.declared.open_file.FileSource.TheVariants.{Upper}
+use Rattle.open_handles.specs.declared.open_file.OpenFile.{OpenFile}
+use Rattle.overlay_core.specs.declared.clients.Clients.{Clients}
+use Rattle.overlay_core.specs.declared.mount.Mount.{Mount}
+use Rattle.overlay_core.specs.Attaching.{ChangesClient}
+use Rattle.overlay_core.specs.Files.{IsOpenOn, file_at}
+use Rattle.overlay_core.specs.Living.{SetsFile}
+use Rattle.overlay_core.specs.Opening.{OpensFile}
+use Rattle.overlay_core.specs.States.{IsStateOf, Serves}
+use Rattle.overlay_core.proofs.Answering.{changes-as, opened-after, serve-done}
+use Rattle.overlay_core.proofs.Changing.{handle-on}
+use Rattle.overlay_core.proofs.Directories.{seen}
+use Rattle.overlay_core.proofs.Lasting.{chown-leaves, other-names}
+use Rattle.overlay_core.proofs.Makings.{reserved-state, state-between}
+use Rattle.overlay_core.proofs.Openings.{IsShownFile, file-there, free-there, fresh-one, state-open, unrefused, unfaulted}
+use Rattle.overlay_core.proofs.OpeningWrites.{sized-none}
+use Rattle.overlay_core.proofs.Rewritten.{state-rewritten}
+use Rattle.overlay_core.proofs.Serving.{handle-set, room-of}
+use Rattle.overlay_core.proofs.Stating.{Alike}
+
+-- a copy of what stands at a place has the attributes that are shown
+pub attributes-stored : (l : Layers) (d : Place) (x : StoredInode) → Some (node.Inode x) ≡ node_in (trees l) d → (E : AllocError → Type 0) (r : Result Attributes AllocError) → MatchResult r (λ b. b ≡ x.attributes) E → IfOk r (λ a. (p : Path) (i : Inode) → shows 0 (layers_of l) p ≡ Some (Contents d.layer d.key (Some i)) → a ≡ i.attributes)
+attributes-stored l d x is E (Err e) h = tt
+attributes-stored l d x is E (Ok a) h = λ p i shown.
+    let same : option_and_then inode_of (Some (node.Inode x)) ≡ Some i = ap (option_and_then inode_of) is ∙ inode-shown 0 (trees l) (trees l) refl p d.layer d.key (Some i) shown in
+    h ∙ (let z : x.attributes ≡ i.attributes = cc in z)
+
+-- a file of a lower layer is copied, with its own attributes
+abbrev pub Copied : Layers → Layers → Path → Place → (Inode → Attributes) → ℕ → Type 0
+Copied old new p d a key = (i : Inode) → shows 0 (layers_of old) p ≡ Some (Contents d.layer d.key (Some i)) → (leaf : CopiesLeaf old new p i.content (a i)) × (leaf.number ≡ key)
+
+pub copied-as : (old new : Layers) (p q : Path) (d : Place) (a : Attributes) → p ≡ q → ((p : Path) (i : Inode) → shows 0 (layers_of old) p ≡ Some (Contents d.layer d.key (Some i)) → a ≡ i.attributes) → (r : Result ℕ AllocError) → IfOk r (Copied old new q d (λ i. a)) → IfOk r (Copied old new p d (λ i. i.attributes))
+copied-as old new p q d a same own (Err e) h = tt
+copied-as old new p q d a same own (Ok key) h = λ i shown.
+    subst (λ (z : Path). (leaf : CopiesLeaf old new z i.content i.attributes) × (leaf.number ≡ key)) (sym same)
+    (subst (λ (b : Attributes). (leaf : CopiesLeaf old new q i.content b) × (leaf.number ≡ key)) (own p i shown)
+    (h i (ap (shows 0 (layers_of old)) (sym same) ∙ shown)))
+
+-- the lower layers stay where a file is copied, and where memory is wanted for that
+pub copied-lowers : (old new : Layers) (q : Path) (d : Place) (a : Attributes) (i : Inode) → shows 0 (layers_of old) q ≡ Some (Contents d.layer d.key (Some i)) → (r : Result ℕ AllocError) → IfOk r (Copied old new q d (λ i. a)) → OnErr r (ShowsSame old new) → new.lowers ≡ old.lowers
+copied-lowers old new q d a i shown (Ok key) h same = (h i shown).0.lowers
+copied-lowers old new q d a i shown (Err e) h same = same.lowers
+
+-- a node that is seen as a file or link is one
+leaf-seen : (o : Option Node) (content : Content) (a : Attributes) (u : Origin) (l : ℕ) → face o ≡ Some (SeenLeaf content a u l) → (n : ℕ) × (o ≡ Some (Leaf content a u n))
+leaf-seen None content a u l h = cc
+leaf-seen (Some (Branch x b names c)) content a u l h = cc
+leaf-seen (Some (Leaf y x v n)) content a u l h =
+    let contents : y ≡ content = cc in
+    let attributes : x ≡ a = cc in
+    let origins : v ≡ u = cc in
+    (n, λ i. Some (Leaf (contents i) (attributes i) (origins i) n))
+
+-- a node that is put at an identity twice is put there once
+put-again : (t : Tree) (d : NodeId) (o q : Option Node) → put (put t d o) d q ≡ put t d q
+put-again t d o q = λ i x. by (same_id d x) (t x) i
+  where
+    by : (b : Bool) (z : Option Node) → cond b q (cond b o z) ≡ cond b q z
+    by true z = refl
+    by false z = refl
+
+-- a file of a lower layer that is opened to be written, on its node, becomes the upper's own
+module _ (f : OpenFlags) (w : f.writes ≡ true) (options : MountOptions) (t : Tree) (d : NodeId) (bytes : List ℕ) (a : Attributes) (u : Origin) (n : ℕ) (is : t d ≡ Some (Leaf (content.File bytes) a u n)) where
+  abbrev x : Node
+  x = Leaf (content.File bytes) a u n
+
+  abbrev own : List ℕ → Tree
+  own now = put t d (Some (Leaf (content.File now) a Own n))
+
+  -- as it does by a change of its owner to the same
+  own-owned : change (with_attributes options (with_owner a.uid a.gid)) t (Some d) ≡ own bytes
+  own-owned = ap (λ o. put t d (over_node (with_attributes options (with_owner a.uid a.gid)) o)) is
+
+  -- with its bytes
+  own-kept : f.truncate ≡ false → change (opened f) t (Some d) ≡ own bytes
+  own-kept e = ap (λ o. put t d (over_node (opened f) o)) is ∙ (λ i. put t d (Some (cond (w i) (cond (e i) (with_bytes [] (touched x)) (touched x)) x)))
+
+  -- or emptied
+  own-emptied : f.truncate ≡ true → change (opened f) t (Some d) ≡ own []
+  own-emptied e = ap (λ o. put t d (over_node (opened f) o)) is ∙ (λ i. put t d (Some (cond (w i) (cond (e i) (with_bytes [] (touched x)) (touched x)) x)))
+
+  -- which a rewriting does then
+  own-rewritten : rewritten (own bytes) d [] ≡ own []
+  own-rewritten =
+      ap (λ o. put (own bytes) d (over_node (with_bytes []) o)) (put-here t d (Some (Leaf (content.File bytes) a Own n)) d ((ids_tell d d).1 refl)) ∙
+      put-again t d (Some (Leaf (content.File bytes) a Own n)) (Some (Leaf (content.File []) a Own n))
+
+-- an open that copies its file up
+module _ (m : Mount) (s : State) (st : IsStateOf m s) (c : ℕ) (clients : Clients) (same : ChangesClient m.clients clients c (λ x y. y ≡ x))
+    (p : Path) (f : OpenFlags) (mode : ℕ) (fine : opening_fault (layers_of m.layers) p f mode (Some 0) ≡ None) (w : f.writes ≡ true)
+    (place : Place) (shown : ShowsInode m.layers p place) (lower : 0 < place.layer)
+    (new : Layers) (key : ℕ) (copied : Copied m.layers new p place (λ i. i.attributes) key) where
+  abbrev U : Layer
+  U = layer_of m.layers.upper
+
+  abbrev V : Layer
+  V = layer_of new.upper
+
+  abbrev lowers : List Layer
+  lowers = lowers_of m.layers
+
+  abbrev Ls : List Layer
+  Ls = layers_of m.layers
+
+  -- the file is shown
+  there : IsShownFile (shows 0 Ls p) place.layer place.key
+  there = file-there m s st c p f mode fine place shown
+
+  abbrev a : Attributes
+  a = there.inode.attributes
+
+  -- and copied
+  copy : (leaf : CopiesLeaf m.layers new p there.inode.content a) × (leaf.number ≡ key)
+  copy = copied there.inode there.shown
+
+  abbrev leaf : CopiesLeaf m.layers new p there.inode.content a
+  leaf = copy.0
+
+  -- nothing stood under its key
+  pub vacant : get m.layers.upper key ≡ None
+  vacant = ap (get m.layers.upper) (sym copy.1) ∙ leaf.vacant
+
+  -- a change of its owner to the same
+  abbrev owned : Call
+  owned = call.Chown p a.uid a.gid
+
+  abbrev t : Tree
+  t = (after s c owned).tree
+
+  -- is not refused
+  unrefused-owner : chown_fault Ls p ≡ None
+  unrefused-owner =
+      let way : parents_fault Ls p ≡ None = first-none (parents_fault Ls p) _ (second-none (bad_mode mode) _ (second-none (when (bad_flags f) EINVAL) _ fine)) in
+      let link : shows_link (shows 0 Ls p) ≡ false = ap shows_link there.shown ∙ ap (λ z. is_link_inode (Some (record there.inode { content = z }))) there.content in
+      λ i. or_else (or_else (way i) (absent (there.shown i))) (when (link i) ELOOP)
+
+  -- its attributes are those that are shown
+  attributes-shown : shown_attributes (shows 0 Ls p) ≡ Some a
+  attributes-shown = ap shown_attributes there.shown
+
+  -- it copies the file up too
+  owns : AltersState V lowers s c p owned
+  owns = law_of_owner_changed p a.uid a.gid U V lowers s st.layers c unrefused-owner a attributes-shown (leaf.alters st.layers.layers)
+
+  -- the upper held nothing at the path
+  unheld : held U p ≡ None
+  unheld = free-inode U.inodes (held U p) (unless (cuts U p) (shows 1 lowers (below U p))) place.layer place.key (Some there.inode) there.shown lower
+
+  -- a live file is another inode, which keeps its names and its attributes
+  other-file : (e : NodeId) (j : ℕ) → IsLive U s.tree e j → AltersNamed U V p a j
+  other-file e j live = record {
+    names = λ q. elim (same_path q p) [
+      | inl here ↦ subst (λ z. (held V z ≡ Some (Named j)) ↔ (held U z ≡ Some (Named j))) (sym here) (λ h. absurd (not-now h), λ h. absurd (not-before h))
+      | inr away ↦ other-names m.layers new p leaf.others q away j
+    ];
+    altered = λ i h is. absurd (not-before h);
+    same = λ not. leaf.objects.inodes j (λ is. apart (let z : Some leaf.number ≡ Some j = is in cc));
+  }
+    where
+      apart : leaf.number ≢ j
+      apart is = false≢true (sym (ap (λ o. is_some (option_and_then inode_of o)) (ap (get m.layers.upper) (sym is) ∙ leaf.vacant)) ∙ ap is_some live.inode)
+
+      not-now : held V p ≡ Some (Named j) → ⊥
+      not-now h = apart (let z : Some (Named leaf.number) ≡ Some (Named j) = sym leaf.held_there ∙ h in cc)
+
+      not-before : held U p ≡ Some (Named j) → ⊥
+      not-before h = let z : None ≡ Some (Named j) = sym unheld ∙ h in cc
+
+  -- the mount stands for the state in which the file is the upper's own
+  copied-state : IsStateOf (record m { layers = new; clients = clients }) (record s { tree = t })
+  copied-state =
+      state-between m s st c clients same new leaf.lowers t s.serial mounts
+      (handle-on s.tree t (λ q d at. owns.paths q ∙ at) owns.hidden (λ d folder. owns.folders d ∙ folder) clients.directories)
+      (record {
+        live = λ b fd g h k at on is live. law_of_live_through_owner p a.uid a.gid U V lowers s c a attributes-shown owns h.node k (other-file h.node k live) live;
+        leaves = λ b fd h on. chown-leaves p a.uid a.gid s st.layers.kept c h.node;
+      })
+    where
+      mounts : IsMountOf V (lowers_of new) (record s { tree = t })
+      mounts =
+          let x = subst (λ z. IsMountOf V z (after s c owned)) (sym (lowers-same m.layers new leaf.lowers)) owns.mounts in
+          record { layers = x.layers; shows = x.shows; kept = x.kept; writable = x.writable }
+
+  -- the upper shows it
+  shown-now : shows 0 (layers_of new) p ≡ Some (Contents 0 key (Some (record { content = there.inode.content; attributes = a; links = 1 })))
+  shown-now =
+      ap (λ o. over 0 V.inodes o (unless (cuts V p) (shows 1 (lowers_of new) (below V p)))) leaf.held_there ∙
+      ap (λ i. Some (Contents 0 leaf.number i)) leaf.inode ∙
+      ap (λ k. Some (Contents 0 k (Some (record { content = there.inode.content; attributes = a; links = 1 })))) copy.1
+
+  module _ (d : ℕ) (last : Clients) (ch : OpensFile clients last c (file_at (record { layer = 0; key = key }) f) (Ok (Ok d))) where
+    abbrev asked : Call
+    asked = call.Open p f mode
+
+    abbrev file : OpenFile
+    file = file_at (record { layer = 0; key = key }) f
+
+    -- the machine finds the same descriptor
+    free : lowest_free s.tables c ≡ Some d
+    free = free-there (record m { clients = clients }) s (reserved-state m s st c clients same) c (File file) d last ch
+
+    -- the machine opens the file
+    law : OpensWriting s c p f mode
+    law = law_of_opened_for_writing U lowers s st.layers c p f mode (unfaulted m s st c p f mode fine d free) (ap is_some there.shown) w
+
+    -- its handle
+    abbrev made : Handle
+    made = live_handle f law.node (way_of s.tree p)
+
+    -- the path leads to its node still
+    at-node : node_at t p ≡ Some law.node
+    at-node = owns.paths p ∙ law.at
+
+    -- it is live
+    live : IsLive V t law.node key
+    live = law_of_live_shown V (lowers_of new) (record s { tree = t }) copied-state.layers p key _ there.bytes law.node shown-now there.content at-node
+
+    -- the mount stands for the state in which it is open
+    abbrev held-open : State
+    held-open = record s { tree = t; tables = with_handle s.tables c d (Some made) }
+
+    opened-state : IsStateOf (record m { layers = new; clients = last }) held-open
+    opened-state =
+        state-open (record m { layers = new; clients = clients }) (record s { tree = t }) copied-state c (File file) d last ch made
+        (record { source = (live, refl); reads = refl; writes = refl; append = refl; place = refl; unlisted = refl })
+        (fresh-one (record m { layers = new; clients = clients }) (record s { tree = t }) copied-state c p file made at-node (live, refl))
+
+    -- the descriptor leads to the file, on both sides
+    on : IsOpenOn last held-open.tables key law.node
+    on = record {
+      client = c;
+      descriptor = d;
+      file = file;
+      handle = made;
+      opened = opened-after clients last c d (File file) (changes-as clients last c _ _ (λ x y g. g.opens) ch);
+      key = refl;
+      on = handle-set s.tables c d (Some made) (rw (room-of (Alike m.layers s m.clients) m.clients s.tables st.tables c (ap is_some same.was)) ch.changes.lowest.in_range);
+      at = refl;
+    }
+
+    -- the node was a file of a lower layer
+    abbrev origin : Origin
+    origin = origin_in place.layer there.inode
+
+    was : (n : ℕ) × (s.tree law.node ≡ Some (Leaf (content.File there.bytes) a origin n))
+    was =
+        leaf-seen (s.tree law.node) (content.File there.bytes) a origin there.inode.links
+        (seen U lowers s st.layers p law.node law.at ∙ ap (see (base U lowers p)) there.shown ∙ ap (λ z. Some (SeenLeaf z a origin there.inode.links)) there.content)
+
+    -- it is the upper's own now
+    tree-owned : t ≡ own f w s.options s.tree law.node there.bytes a origin was.0 was.1 there.bytes
+    tree-owned = ap (change (with_attributes s.options (with_owner a.uid a.gid)) s.tree) law.at ∙ own-owned f w s.options s.tree law.node there.bytes a origin was.0 was.1
+
+    -- the machine's answer and its state, where this becomes of the tree
+    done : (layers : Layers) (u : Tree) → change (opened f) s.tree (Some law.node) ≡ u → IsStateOf (record m { layers = layers; clients = last }) (record held-open { tree = u }) → Serves (refusal s c asked) s c asked (reply.Descriptor d) (record m { layers = layers; clients = last })
+    done layers u becomes after =
+        let slot : law.descriptor ≡ d = cc (law.free, free) in
+        serve-done _ s c asked _ (record m { layers = layers; clients = last })
+        (unrefused m s st c p f mode fine d free)
+        (sym (law.answer ∙ ap reply.Descriptor slot))
+        (subst (IsStateOf (record m { layers = layers; clients = last })) (sym (law.state ∙ (λ i. record s { tree = becomes i; tables = with_handle s.tables c (slot i) (Some made) }))) after)
+
+    -- an open that keeps the bytes
+    pub copied-kept : f.truncate ≡ false → Serves (refusal s c asked) s c asked (reply.Descriptor d) (record m { layers = new; clients = last })
+    copied-kept e = done new t (own-kept f w s.options s.tree law.node there.bytes a origin was.0 was.1 e ∙ sym tree-owned) opened-state
+
+    -- an open that empties the file
+    pub copied-emptied : f.truncate ≡ true → (layers : Layers) → StaysLayers new layers → ((k : ℕ) (old : List ℕ) → file.source ≡ Upper k → bytes_at new.upper k ≡ Some old → SetsFile new layers k (sized old 0)) → Serves (refusal s c asked) s c asked (reply.Descriptor d) (record m { layers = layers; clients = last })
+    copied-emptied e layers keeps sets =
+        let bytes : bytes_at new.upper key ≡ Some live.bytes = ap (option_and_then (λ (i : Inode). file_bytes i.content)) live.inode in
+        let empties : SetsFile new layers key [] = subst (SetsFile new layers key) (sized-none live.bytes) (sets key live.bytes refl bytes) in
+        done layers (rewritten t law.node [])
+        (own-emptied f w s.options s.tree law.node there.bytes a origin was.0 was.1 e ∙ sym (own-rewritten f w s.options s.tree law.node there.bytes a origin was.0 was.1) ∙ ap (λ z. rewritten z law.node []) (sym tree-owned))
+        (state-rewritten (record m { layers = new; clients = last }) held-open opened-state layers key law.node [] on keeps empties)
