@@ -75,6 +75,7 @@ attributes-stored l d x is E (Ok a) h = λ p i shown.
 abbrev pub Copied : Layers → Layers → Path → Place → (Inode → Attributes) → ℕ → Type 0
 Copied old new p d a key = (i : Inode) → shows 0 (layers_of old) p ≡ Some (Contents d.layer d.key (Some i)) → (leaf : CopiesLeaf old new p i.content (a i)) × (leaf.number ≡ key)
 
+-- as it is told by the path that leads to it, and of attributes that are the file's own
 pub copied-as : (old new : Layers) (p q : Path) (d : Place) (a : Attributes) → p ≡ q → ((p : Path) (i : Inode) → shows 0 (layers_of old) p ≡ Some (Contents d.layer d.key (Some i)) → a ≡ i.attributes) → (r : Result ℕ AllocError) → IfOk r (Copied old new q d (λ i. a)) → IfOk r (Copied old new p d (λ i. i.attributes))
 copied-as old new p q d a same own (Err e) h = tt
 copied-as old new p q d a same own (Ok key) h = λ i shown.
@@ -261,10 +262,11 @@ module _ (m : Mount) (s : State) (st : IsStateOf m s) (c : ℕ) (clients : Clien
     live : IsLive V t law.node key
     live = law_of_live_shown V (lowers_of new) (record s { tree = t }) copied-state.layers p key _ there.bytes law.node shown-now there.content at-node
 
-    -- the mount stands for the state in which it is open
+    -- the state in which it is open
     abbrev held-open : State
     held-open = record s { tree = t; tables = with_handle s.tables c d (Some made) }
 
+    -- the mount stands for it
     opened-state : IsStateOf (record m { layers = new; clients = last }) held-open
     opened-state =
         state-open (record m { layers = new; clients = clients }) (record s { tree = t }) copied-state c (File file) d last ch made
