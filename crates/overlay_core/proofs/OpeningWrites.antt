@@ -1,5 +1,5 @@
 -- Opens for writing of files of the upper: what is opened is as the machine opens it, emptied where that is asked for.
-use Rattle.std.proofs.Common.{arith, ◌≡◌, ◌-◌, ℕ, Bool, true, false, not, cond, ◌&&◌, ◌||◌, List, [], ◌∷◌, ◌++◌, length, take, replicate, Option, None, Some, Ok, refl, sym, ap, ◌∙◌, subst, ◌⊎◌, inl, inr, nat_eq, is_some}
+use Rattle.std.proofs.Common.{arith, ◌≡◌, ◌-◌, ℕ, Bool, true, false, not, cond, ◌&&◌, ◌||◌, List, [], ◌++◌, length, take, replicate, None, Some, Ok, refl, sym, ap, ◌∙◌, subst, ◌⊎◌, inl, inr, nat_eq, is_some}
 use Rattle.std.proofs.lemmas.Bool.{cases_Bool}
 use Rattle.std.specs.Option.{option_and_then}
 use Rattle.ov_base.specs.declared.attributes.Attributes.{Attributes}
@@ -12,9 +12,9 @@ use Rattle.ov_base.specs.declared.node_id.NodeId.{NodeId}
 use Rattle.ov_base.specs.declared.reply.Reply.TheVariants as reply
 use Rattle.plain_model.specs.Layers.{Path, Inode, Layer, Contents, shows}
 use Rattle.plain_model.specs.Tree.{Node, Leaf, Own, Tree, put}
-use Rattle.plain_model.specs.Machine.{Live, Handle, State, lowest_free, handle_of}
+use Rattle.plain_model.specs.Machine.{Handle, State, lowest_free}
 use Rattle.plain_model.specs.Refusals.{when, bad_flags, refusal}
-use Rattle.plain_model.specs.Changes.{sized, over_node, change, opened, touched, way_of, with_bytes, with_handle}
+use Rattle.plain_model.specs.Changes.{sized, over_node, change, opened, way_of, with_bytes, with_handle}
 use Rattle.plain_model.proofs.Looking.{when-not}
 use Rattle.layer_tree.specs.Tree.{layer_of, file_bytes, bytes_at}
 use Rattle.merged_lookup.specs.declared.layers.Layers.{Layers}
