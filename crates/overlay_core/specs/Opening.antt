@@ -1,5 +1,5 @@
 -- What an open opens, and why calls by a descriptor are refused.
-use Rattle.std.specs.Prelude.{OnOk, IfOk, ◌≡◌, ℕ, ℤ, nat_abs, nat_eq, nat_lt, not, ◌&&◌, ◌||◌, Option, None, Some, Result, Ok, Err, MatchResult, cond, is_none}
+use Rattle.std.specs.Prelude.{OnOk, IfOk, ◌≡◌, ℕ, ℤ, nat_abs, nat_eq, nat_lt, not, ◌&&◌, ◌||◌, Option, None, Some, Result, Ok, Err, cond, is_none}
 use Rattle.std.specs.declared.alloc.AllocError.{AllocError}
 use Rattle.ov_base.specs.declared.call.OpenFlags.{OpenFlags}
 use Rattle.ov_base.specs.declared.errno.Errno.{Errno}
@@ -12,15 +12,11 @@ use Rattle.open_handles.specs.Opened.{At}
 use Rattle.plain_model.specs.Layers.{Path, Shown}
 use Rattle.overlay_core.specs.declared.clients.Clients.{Clients}
 use Rattle.overlay_core.specs.Attaching.{ChangesClient, located}
-use Rattle.merged_lookup.specs.declared.layers.Layers.{Layers}
-use Rattle.merged_lookup.specs.declared.found.Topmost.{Topmost}
-use Rattle.merged_lookup.specs.Merged.{layers_of, IsTopmost}
 use Rattle.open_handles.specs.declared.open_file.FileSource.TheVariants.{Upper, Lower}
 use Rattle.open_handles.specs.declared.open_file.OpenFile.{OpenFile}
 use Rattle.open_handles.specs.Places.{base_of, sought_from}
 use Rattle.plain_model.specs.Refusals.{FILE_MAX, when}
 use Rattle.mount_laws.specs.Looks.{or_else, shows_link}
-use Rattle.mount_laws.specs.Opening.{opening_fault}
 
 -- why a seek is refused that is told by what is open alone: nothing is open, or it isn't to the start of a directory
 abbrev pub seek_fault : Option handles.Handle → ℤ → ℕ → Option Errno
@@ -63,13 +59,6 @@ abbrev pub list_fault : Option handles.Handle → ℕ → Option Errno
 list_fault None n = Some EBADF
 list_fault (Some (File f)) n = Some ENOTDIR
 list_fault (Some (Directory o)) n = when (nat_eq n 0 || nat_lt 256 n) EINVAL
-
--- what the path shows is opened for reading, or refused: for the flags, the mode, the walk and what is shown
-abbrev pub Openable : Layers → Path → OpenFlags → ℕ → Result Topmost Errno → Type 0
-Openable l p f mode r =
-    MatchResult r
-    (λ top. (opening_fault (layers_of l) p f mode (Some 0) ≡ None) × IsTopmost l p (Some top))
-    (λ e. opening_fault (layers_of l) p f mode (Some 0) ≡ Some e)
 
 -- why a file or symbolic link that is shown isn't opened for reading: the link, and no directory where one is asked for
 abbrev pub inode_refusal : OpenFlags → Option Shown → Option Errno
