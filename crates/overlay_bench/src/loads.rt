@@ -1,6 +1,7 @@
 // The loads by their names, each timed by the monotonic clock.
 use crate::calls::{Kind, Series, measure_list, measure_made, measure_stat, measure_unlink};
 use crate::colliding::{Names, measure_directory};
+use crate::deeds::{Deed, measure_deeds};
 use crate::manifests::nested;
 use crate::redirects::{DEPTH, Shape, redirected};
 use crate::trees::{DIRECTORIES, FILES, MERGED, OBJECTS, WIDE, deep, served};
@@ -17,6 +18,8 @@ pub enum Load {
     Directory(Names),
     /// A call of a client on a mount of so many lower layers.
     Called(Called, u32),
+    /// What a client does with files, on a mount of so many lower layers.
+    Deed(Deed, u32),
     /// `stat` below nested directories with redirects, of the file there or of a name that isn't.
     Redirected(Shape, bool),
 }
@@ -50,9 +53,10 @@ impl Load {
         match word {
             "collide" => Some(Load::Directory(Names::Colliding)),
             "others" => Some(Load::Directory(Names::Others)),
-            _ => match redirect_named(word) {
-                Some(load) => Some(load),
-                None => Some(Load::Called(call_named(word)?, lowers)),
+            _ => match (redirect_named(word), deed_named(word)) {
+                (Some(load), _) => Some(load),
+                (None, Some(deed)) => Some(Load::Deed(deed, lowers)),
+                (None, None) => Some(Load::Called(call_named(word)?, lowers)),
             },
         }
     }
@@ -69,6 +73,18 @@ fn call_named(word: &str) -> Option<Called> {
         "symlink" => Some(Called::Symlink),
         "mkdir" => Some(Called::Mkdir),
         "whiteout" => Some(Called::Whiteout),
+        _ => None,
+    }
+}
+
+fn deed_named(word: &str) -> Option<Deed> {
+    match word {
+        "open_read" => Some(Deed::Read),
+        "create" => Some(Deed::Create),
+        "copy_64k" => Some(Deed::Copy64K),
+        "copy_1m" => Some(Deed::Copy1M),
+        "setattr" => Some(Deed::SetAttribute),
+        "write_4k" => Some(Deed::Write),
         _ => None,
     }
 }
@@ -96,6 +112,7 @@ pub fn measure<C: Clock>(
     match load {
         Load::Directory(names) => measure_directory(clock, alloc, keys, names, count),
         Load::Called(called, lowers) => measure_call(clock, alloc, keys, called, lowers, count),
+        Load::Deed(deed, lowers) => measure_deeds(clock, alloc, keys, deed, lowers, count),
         Load::Redirected(shape, found) => measure_redirected(
             clock, alloc, keys, shape, found, count,
         ),

@@ -30,6 +30,12 @@ impl ManifestText {
         self.entry("file", path)
     }
 
+    /// A file of so many zero bytes.
+    pub fn zeros(&mut self, path: &str, count: u32) -> Result<(), AllocError> {
+        self.file(path)?;
+        writeln!(self.text, "zeros = {count}")
+    }
+
     /// A directory without marks.
     pub fn directory(&mut self, path: &str) -> Result<(), AllocError> {
         self.entry("dir", path)

@@ -11,6 +11,9 @@ pub const DIRECTORIES: u32 = 3;
 /// How many files are looked up one after the other, and how many names the directory of all lower layers has.
 pub const FILES: u32 = 256;
 
+/// How many bytes each file has that is looked up, and how many are read or written at a time.
+pub const BLOCK: u32 = 4096;
+
 /// The directory that has `FILES` names, of all lower layers.
 pub const MERGED: &str = "/list-256-all";
 
@@ -38,7 +41,7 @@ pub fn deep(alloc: Global, layers: u32) -> Result<ManifestText, AllocError> {
 }
 
 /// An empty upper over so many lower layers, for whole calls: all have the directories and part of the names of `MERGED`, the lowest has
-/// the files that are looked up and those of `WIDE`.
+/// the files that are looked up, of `BLOCK` zero bytes each, and those of `WIDE`.
 pub fn served(alloc: Global, lowers: u32) -> Result<ManifestText, AllocError> {
     let mut manifest = ManifestText::new(alloc);
     manifest.layer()?;
@@ -49,9 +52,22 @@ pub fn served(alloc: Global, lowers: u32) -> Result<ManifestText, AllocError> {
         share_in(alloc, &mut manifest, lower, lowers)?;
     }
     let last = nested(alloc, DIRECTORIES)?;
-    files_in(alloc, &mut manifest, last.as_str(), FILES)?;
+    zeros_in(alloc, &mut manifest, last.as_str(), "name-", FILES, BLOCK)?;
     manifest.directory(WIDE)?;
     files_in(alloc, &mut manifest, WIDE, OBJECTS)?;
+    Ok(manifest)
+}
+
+/// `served`, with so many files of so many bytes to be copied up, beside those that are looked up.
+pub fn copied(
+    alloc: Global,
+    lowers: u32,
+    files: u32,
+    size: u32,
+) -> Result<ManifestText, AllocError> {
+    let mut manifest = served(alloc, lowers)?;
+    let last = nested(alloc, DIRECTORIES)?;
+    zeros_in(alloc, &mut manifest, last.as_str(), "copy-", files, size)?;
     Ok(manifest)
 }
 
@@ -79,6 +95,21 @@ pub fn files_in(
 ) -> Result<(), AllocError> {
     for number in 0..files {
         manifest.file(child(alloc, parent, "name-", number)?.as_str())?;
+    }
+    Ok(())
+}
+
+// So many files of so many zero bytes in a directory, whose names begin with these five bytes.
+fn zeros_in(
+    alloc: Global,
+    manifest: &mut ManifestText,
+    parent: &str,
+    first: &str,
+    files: u32,
+    size: u32,
+) -> Result<(), AllocError> {
+    for number in 0..files {
+        manifest.zeros(child(alloc, parent, first, number)?.as_str(), size)?;
     }
     Ok(())
 }

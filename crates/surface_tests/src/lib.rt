@@ -1,5 +1,5 @@
-//! Tests of what no script reaches: streams that fail, command lines, options, schedules of jobs, and public functions that no command calls. Scripts and
-//! manifests with what they come to are rows of `side_by_side`.
+//! Tests of what no script reaches: streams that fail, command lines, options, schedules of jobs, places that are freed, and public
+//! functions that no command calls. Scripts and manifests with what they come to are rows of `side_by_side`.
 #![tactic(auto)]
 
 #[cfg(test)]
@@ -8,6 +8,8 @@ mod command_lines;
 mod files;
 #[cfg(test)]
 mod fixtures;
+#[cfg(test)]
+mod freed_places;
 #[cfg(test)]
 mod look_ups;
 #[cfg(test)]

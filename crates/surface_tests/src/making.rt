@@ -3,7 +3,8 @@ use crate::fixtures::{mount, path, seen};
 use copy_up::{Need, need_at, place_dir, place_parents};
 use make_remove::create;
 use merged_lookup::Layers;
-use ov_base::{Errno, Mode, Path};
+use ov_base::{Mode, Path};
+use std::alloc::{AllocError, Global};
 use std::hash::RandomState;
 use std::process::Abort;
 use std::test::Fail;
@@ -13,28 +14,41 @@ const NESTED: &str = "layer = [{}, {entry = [
   {path = '/a/b', kind = 'dir', mode = 0o711},
 ]}]";
 
+// Makes a file where nothing is shown yet, and gives the number of its bytes.
+fn make_file(
+    alloc: Global,
+    layers: &mut Layers,
+    path: &Path,
+    mode: Mode,
+) -> Result<Option<usize>, AllocError> {
+    let Ok(Some(parent)) = layers.parent_of(path) else {
+        return Ok(None);
+    };
+    if layers.shows(&parent.stack, parent.name) {
+        return Ok(None);
+    }
+    let key = create(alloc, layers, parent.stack, path, mode)?;
+    Ok(layers.upper().read(key).map(<[u8]>::len))
+}
+
 #[test]
 fn makes_files(rt: HostRuntime) -> Result<(), Fail> {
     let alloc = rt.alloc();
     let mut layers = mount(alloc, RandomState::new(&rt)?, NESTED)?;
     for (text, mode, wanted) in [
-        ("/a/b/f", 0o640, Ok(Some(0))),
-        ("/a/b/f", 0o640, Err(Errno::EEXIST)),
-        ("/x/f", 0o640, Err(Errno::ENOENT)),
-        ("/g", 0o10000, Err(Errno::EINVAL)),
+        ("/a/b/f", 0o640, Some(0)),
+        ("/a/b/f", 0o600, None),
+        ("/g", 0o7777, Some(0)),
     ] {
-        let made = match Mode::parse(mode) {
-            Ok(mode) => create(alloc, &mut layers, &path(&rt, alloc, text), mode)?,
-            Err(errno) => Err(errno),
-        };
-        let length = made.map(|key| layers.upper().read(key).map(<[u8]>::len));
+        let mode = Mode::parse(mode).expect(&rt, "a mode");
+        let length = make_file(alloc, &mut layers, &path(&rt, alloc, text), mode)?;
         assert!(rt; length == wanted, "{text}");
     }
     for (text, wanted) in [
         ("/a", Ok((0, 2, 0o700))),
         ("/a/b", Ok((0, 2, 0o711))),
         ("/a/b/f", Ok((0, 0, 0o640))),
-        ("/g", Err(Errno::ENOENT)),
+        ("/g", Ok((0, 0, 0o7777))),
     ] {
         assert!(rt; seen(&layers, &path(&rt, alloc, text)) == wanted, "{text}");
     }

@@ -1,0 +1,231 @@
+// Loads of calls on files, of a client on a mount.
+use crate::loads::since;
+use crate::manifests::{ManifestText, nested};
+use crate::mounts::{made, mounted, path_to};
+use crate::trees::{BLOCK, DIRECTORIES, FILES, copied, served};
+use ov_base::{Bytes, Call, OpenFlags, Path, Reply};
+use overlay_core::Core;
+use std::alloc::{AllocError, Global};
+use std::hash::RandomState;
+use std::io;
+use std::rt::Clock;
+use std::time::Instant;
+
+/// How many operations are made ready at a time.
+const BATCH: u32 = 64;
+
+/// The lowest descriptor, which all that is opened has, as nothing else is open.
+const DESCRIPTOR: u32 = 0;
+
+/// What a client does with a file at depth 4, by one or more calls.
+#[derive(Clone, Copy)]
+pub enum Deed {
+    /// Opening a file of the lowest layer, reading its 4,096 bytes and closing it, 256 files in turn.
+    Read,
+    /// Making a file by opening it, closing it and removing it.
+    Create,
+    /// Opening a file of 65,536 bytes for writing, for which it is copied up, and closing it, each time another one.
+    Copy64K,
+    /// The same of 1,048,576 bytes.
+    Copy1M,
+    /// Setting a user attribute that is there, on a file of the upper.
+    SetAttribute,
+    /// Seeking to the start of an open file of the upper and writing 4,096 bytes.
+    Write,
+}
+
+impl Deed {
+    // Whether an operation ends by this call.
+    fn ends_by(self, call: &Call) -> bool {
+        match self {
+            Deed::Read | Deed::Copy64K | Deed::Copy1M => matches!(call, Call::Close { .. }),
+            Deed::Create => matches!(call, Call::Unlink { .. }),
+            Deed::SetAttribute => matches!(call, Call::SetAttribute { .. }),
+            Deed::Write => matches!(call, Call::Write { .. }),
+        }
+    }
+
+    // The flags by which the file is opened.
+    fn flags(self) -> OpenFlags {
+        let reads = matches!(&self, Deed::Read);
+        let creates = matches!(&self, Deed::Create);
+        OpenFlags {
+            reads,
+            writes: !reads,
+            create: creates,
+            exclusive: creates,
+            truncate: false,
+            append: false,
+            directory: false,
+            unknown: false,
+        }
+    }
+}
+
+/// Doing this so often, on a mount of so many lower layers.
+pub fn measure_deeds<C: Clock>(
+    clock: &C,
+    alloc: Global,
+    keys: RandomState,
+    deed: Deed,
+    lowers: u32,
+    count: u32,
+) -> io::Result<(u64, u32)> {
+    let manifest = layers_for(alloc, deed, lowers, count)?;
+    let (mut core, client) = mounted(alloc, keys, &manifest)?;
+    let calls = before(alloc, deed)?;
+    let _ = do_all(&mut core, client, deed, calls)?;
+    let mut nanos = 0u64;
+    let mut done = 0u32;
+    for batch in 0..count.div_ceil(BATCH) {
+        let first = batch.saturating_mul(BATCH);
+        let calls = operations(alloc, deed, first, count.saturating_sub(first).min(BATCH))?;
+        let start = Instant::now(clock)?;
+        done = done.saturating_add(do_all(&mut core, client, deed, calls)?);
+        nanos = nanos.saturating_add(since(clock, start)?);
+    }
+    Ok((nanos, done))
+}
+
+// The layers. For each copy there is a file.
+fn layers_for(
+    alloc: Global,
+    deed: Deed,
+    lowers: u32,
+    count: u32,
+) -> Result<ManifestText, AllocError> {
+    match deed {
+        Deed::Copy64K => copied(alloc, lowers, count, 65_536),
+        Deed::Copy1M => copied(alloc, lowers, count, 1_048_576),
+        Deed::Read | Deed::Create | Deed::SetAttribute | Deed::Write => served(alloc, lowers),
+    }
+}
+
+// The calls that come first and aren't measured: they bring into the upper what is written, and leave it open, or what gets the attribute.
+fn before(alloc: Global, deed: Deed) -> Result<Vec<Call>, AllocError> {
+    let mut calls = Vec::new(alloc);
+    match deed {
+        Deed::Write => calls.push(opening(alloc, deed, 0)?)?,
+        Deed::SetAttribute => operation_in(alloc, &mut calls, deed, 0)?,
+        Deed::Read | Deed::Create | Deed::Copy64K | Deed::Copy1M => {}
+    }
+    Ok(calls)
+}
+
+// The calls of so many operations from this number on.
+fn operations(alloc: Global, deed: Deed, first: u32, count: u32) -> Result<Vec<Call>, AllocError> {
+    let mut calls = Vec::new(alloc);
+    for number in 0..count {
+        operation_in(alloc, &mut calls, deed, first.saturating_add(number))?;
+    }
+    Ok(calls)
+}
+
+// The calls of one operation.
+fn operation_in(
+    alloc: Global,
+    calls: &mut Vec<Call>,
+    deed: Deed,
+    number: u32,
+) -> Result<(), AllocError> {
+    let descriptor = DESCRIPTOR;
+    match deed {
+        Deed::Read => {
+            let count = BLOCK;
+            calls.push(opening(alloc, deed, number)?)?;
+            calls.push(Call::Read { descriptor, count })?;
+            calls.push(Call::Close { descriptor })?;
+        }
+        Deed::Create => {
+            calls.push(opening(alloc, deed, number)?)?;
+            calls.push(Call::Close { descriptor })?;
+            let path = path_for(alloc, deed, number)?;
+            calls.push(Call::Unlink { path })?;
+        }
+        Deed::Copy64K | Deed::Copy1M => {
+            calls.push(opening(alloc, deed, number)?)?;
+            calls.push(Call::Close { descriptor })?;
+        }
+        Deed::SetAttribute => calls.push(setting(alloc, path_for(alloc, deed, number)?)?)?,
+        Deed::Write => {
+            calls.push(seeking())?;
+            calls.push(writing(alloc)?)?;
+        }
+    }
+    Ok(())
+}
+
+// The file of an operation.
+fn path_for(alloc: Global, deed: Deed, number: u32) -> Result<Path, AllocError> {
+    let (first, number) = match deed {
+        Deed::Read => ("name-", number % FILES),
+        Deed::Create => ("made-", 0),
+        Deed::Copy64K | Deed::Copy1M => ("copy-", number),
+        Deed::SetAttribute | Deed::Write => ("name-", 0),
+    };
+    let parent = nested(alloc, DIRECTORIES)?;
+    path_to(alloc, parent.as_str(), first, number)
+}
+
+// The call that opens the file.
+fn opening(alloc: Global, deed: Deed, number: u32) -> Result<Call, AllocError> {
+    Ok(Call::Open {
+        path: path_for(alloc, deed, number)?,
+        flags: deed.flags(),
+        mode: 0o644,
+    })
+}
+
+// The call that sets the attribute of a file.
+fn setting(alloc: Global, path: Path) -> Result<Call, AllocError> {
+    Ok(Call::SetAttribute {
+        path,
+        name: Bytes::from_slice(alloc, b"user.note")?,
+        value: Bytes::from_slice(alloc, b"value")?,
+    })
+}
+
+// The call that seeks to the start of what is open.
+fn seeking() -> Call {
+    Call::Seek {
+        descriptor: DESCRIPTOR,
+        offset: 0,
+        whence: 0,
+    }
+}
+
+// The call that writes.
+fn writing(alloc: Global) -> Result<Call, AllocError> {
+    let mut bytes = Vec::new(alloc);
+    bytes.resize(BLOCK as usize, b'w')?;
+    Ok(Call::Write {
+        descriptor: DESCRIPTOR,
+        bytes: Bytes::from_vec(bytes),
+    })
+}
+
+// How many operations were done, of which each call was answered as it should be.
+fn do_all(core: &mut Core, client: u64, deed: Deed, calls: Vec<Call>) -> Result<u32, AllocError> {
+    let mut done = 0u32;
+    let mut fine = true;
+    for call in calls {
+        let ends = deed.ends_by(&call);
+        let reply = made(core, client, call)?;
+        fine = fine && is_fine(&reply);
+        if ends {
+            done = done.saturating_add(u32::from(fine));
+            fine = true;
+        }
+    }
+    Ok(done)
+}
+
+// Whether a call was neither refused nor read or wrote fewer bytes than it was to.
+fn is_fine(reply: &Reply) -> bool {
+    match reply {
+        Reply::Refused(_) => false,
+        Reply::Read(bytes) => bytes.as_slice().len() == BLOCK as usize,
+        Reply::Written(count) => *count == BLOCK,
+        _ => true,
+    }
+}

@@ -1,0 +1,131 @@
+// Files that lose their name while they are open leave their places in the upper to others.
+use crate::fixtures::path;
+use merged_lookup::Topmost;
+use ov_base::{Call, OpenFlags, Path, Reply};
+use ov_wire::manifest_of;
+use overlay_core::{Core, Job, Turn};
+use std::alloc::Global;
+use std::hash::RandomState;
+use std::process::Abort;
+use std::test::Fail;
+
+const DIRECTORY: &str = "history = 1000000
+layer = [{}, {entry = [{path = '/d', kind = 'dir'}]}]";
+
+const FILE: &str = "/d/f";
+
+/// More attaches, calls and detaches than a test makes.
+const DEEDS_MAX: u64 = 1 << 32;
+
+// A mount of the directory.
+fn mounted(alloc: Global, keys: RandomState) -> Result<Core, Fail> {
+    let (upper, lowers, options) = manifest_of(alloc, keys, DIRECTORY.as_bytes())?;
+    match Core::mount(alloc, keys, upper, lowers, options)? {
+        Ok(core) => Ok(core),
+        Err(_) => Err(Fail::from("no mount")),
+    }
+}
+
+// Attaches a client.
+fn attached(core: &mut Core) -> Result<u64, Fail> {
+    if core.finished() >= DEEDS_MAX {
+        return Err(Fail::from("too many deeds"));
+    }
+    match core.attach()? {
+        Ok(client) => Ok(client),
+        Err(_) => Err(Fail::from("no client")),
+    }
+}
+
+// Detaches a client.
+fn detach(core: &mut Core, client: u64) -> Result<(), Fail> {
+    if core.finished() >= DEEDS_MAX || !core.is_attached(client) {
+        return Err(Fail::from("not attached"));
+    }
+    core.detach(client);
+    Ok(())
+}
+
+// The reply to a call of a client.
+fn reply(core: &mut Core, client: u64, call: Call) -> Result<Reply, Fail> {
+    if core.finished() >= DEEDS_MAX || !core.is_attached(client) {
+        return Err(Fail::from("not attached"));
+    }
+    let mut job = Job::new(client, call);
+    let turn = core.advance(&mut job);
+    let _ = job.into_call();
+    match turn {
+        Turn::Done(reply) => Ok(reply),
+        Turn::More | Turn::NoMemory => Err(Fail::from("no reply")),
+    }
+}
+
+// Makes a file, opens it for writing, and removes its name.
+fn open_nameless(rt: &impl Abort, alloc: Global, core: &mut Core, client: u64) -> Result<(), Fail> {
+    let opened = reply(core, client, making(path(rt, alloc, FILE)))?;
+    assert!(rt; matches!(&opened, Reply::Descriptor(0)));
+    let call = Call::Unlink {
+        path: path(rt, alloc, FILE),
+    };
+    let removed = reply(core, client, call)?;
+    assert!(rt; matches!(&removed, Reply::Done));
+    Ok(())
+}
+
+// The call that makes a file and opens it for writing.
+fn making(path: Path) -> Call {
+    let flags = OpenFlags {
+        reads: false,
+        writes: true,
+        create: true,
+        exclusive: true,
+        truncate: false,
+        append: false,
+        directory: false,
+        unknown: false,
+    };
+    Call::Open {
+        path,
+        flags,
+        mode: 0o600,
+    }
+}
+
+// The key in the upper of a file that is made now.
+fn key_given(rt: &impl Abort, alloc: Global, core: &mut Core, client: u64) -> Result<usize, Fail> {
+    let opened = reply(core, client, making(path(rt, alloc, FILE)))?;
+    assert!(rt; matches!(&opened, Reply::Descriptor(0)));
+    match core.layers().walk_topmost(&path(rt, alloc, FILE)) {
+        Ok(Topmost::Inode(place)) if place.layer == 0 => Ok(place.key),
+        _ => Err(Fail::from("no file of the upper")),
+    }
+}
+
+// The upper has its root and the directory, and all files had one place.
+#[test]
+fn closed_files_leave_their_places(rt: HostRuntime) -> Result<(), Fail> {
+    let alloc = rt.alloc();
+    let mut core = mounted(alloc, RandomState::new(&rt)?)?;
+    let client = attached(&mut core)?;
+    for _ in 0..100_000u32 {
+        open_nameless(&rt, alloc, &mut core, client)?;
+        let closed = reply(&mut core, client, Call::Close { descriptor: 0 })?;
+        assert!(rt; matches!(&closed, Reply::Done));
+    }
+    assert!(rt; key_given(&rt, alloc, &mut core, client)? < 3);
+    Ok(())
+}
+
+#[test]
+fn clients_that_detach_leave_places(rt: HostRuntime) -> Result<(), Fail> {
+    let alloc = rt.alloc();
+    let mut core = mounted(alloc, RandomState::new(&rt)?)?;
+    for _ in 0..1_000u32 {
+        let client = attached(&mut core)?;
+        open_nameless(&rt, alloc, &mut core, client)?;
+        detach(&mut core, client)?;
+    }
+    let client = attached(&mut core)?;
+    assert!(rt; key_given(&rt, alloc, &mut core, client)? < 3);
+    Ok(())
+}
