@@ -5,7 +5,7 @@ ghost use Rattle.plain_model.specs.Tree as plain;
 ghost use Rattle.plain_model.specs.Machine.{opening};
 ghost use Rattle.plain_reference.specs.Nodes.{plain as node_of, origin_of};
 ghost use Rattle.plain_reference.specs.Slots.{tree_of};
-ghost use Rattle.plain_reference.specs.Planted.{root_alone, planted};
+ghost use Rattle.plain_reference.specs.Planted.{root_alone, planted, named};
 ghost use Rattle.plain_reference.specs.States.{state_of};
 
 use crate::clients::Clients;
@@ -85,16 +85,17 @@ impl Builder {
         )
     }
 
-    /// Puts a file or a symbolic link at a path, of the upper layer or untouched in a lower one. Nothing changes where the path has no
-    /// parent, and where memory is refused.
+    /// Puts a file or a symbolic link at a path, of the upper layer or untouched in a lower one, and says how many names it has: this
+    /// one, and those that `name` gives it. Nothing changes where the path has no parent, and where memory is refused.
     pub fn leaf(
         &mut self,
         path: &Path,
         content: Content,
         attributes: Attributes,
         origin: Origin,
+        count: u64,
     ) -> Result<(), AllocError>
-        ensures ok { OnOk result (tree_of self.new.tree.slots.items ≡ planted (tree_of self.old.tree.slots.items) path.now (plain.Leaf content attributes (origin_of origin) 1)) }
+        ensures ok { OnOk result (tree_of self.new.tree.slots.items ≡ planted (tree_of self.old.tree.slots.items) path.now (plain.Leaf content attributes (origin_of origin) count)) }
         ensures err { OnErr result (tree_of self.new.tree.slots.items ≡ tree_of self.old.tree.slots.items) }
         ensures redirects { self.new.redirects ≡ self.old.redirects }
     {
@@ -104,9 +105,24 @@ impl Builder {
                 content,
                 attributes,
                 origin,
-                count: 1,
+                count,
             },
         )
+    }
+
+    /// Makes a path a further name of the file or symbolic link at another one, which was said to have it. Nothing changes where nothing
+    /// is there or the path has no parent, and where memory is refused.
+    pub fn name(&mut self, path: &Path, of: &Path) -> Result<(), AllocError>
+        ensures ok { OnOk result (tree_of self.new.tree.slots.items ≡ named (tree_of self.old.tree.slots.items) path.now of.now) }
+        ensures err { OnErr result (tree_of self.new.tree.slots.items ≡ tree_of self.old.tree.slots.items) }
+        ensures redirects { self.new.redirects ≡ self.old.redirects }
+    {
+        let way = self.tree.way_of(self.alloc, path.names())?;
+        let node = self.tree.node_at(self.alloc, of.names())?;
+        if let (Some((directory, name)), Some(node)) = (way, node) {
+            self.tree.lead(&directory, &name, node)?;
+        }
+        Ok(())
     }
 
     /// The plain machine at the tree, with no client.

@@ -3,7 +3,7 @@ use crate::plain_layer::PlainLayer;
 use std::alloc::{AllocError, Global};
 use toml::{Table, Value};
 
-/// The kinds of entries.
+/// What entries describe.
 #[derive(Clone, Copy, Debug, PartialEq, Eq)]
 pub enum Kind {
     Directory,
@@ -12,16 +12,31 @@ pub enum Kind {
     Whiteout,
 }
 
+/// The bytes of a file, or of the target of a symbolic link, as a manifest spells them.
+#[derive(Clone, Copy)]
+pub enum Spelling<'a> {
+    Text(&'a str),
+    /// Two hexadecimal digits for each byte.
+    Digits(&'a str),
+    /// So many zero bytes.
+    Zeros(u32),
+}
+
 /// An entry of a layer, whose path is `/a/b`, and empty for the root.
 #[derive(Clone, Copy)]
 pub struct Entry<'a> {
     pub path: &'a str,
+    /// Where the object was described first: elsewhere for an entry of kind `link`.
+    pub first: &'a str,
     pub kind: Kind,
     pub mode: u32,
     pub uid: u32,
     pub gid: u32,
-    /// The bytes of a file, the target of a symbolic link.
-    pub text: &'a str,
+    /// The user attributes, each an array of its name and its value.
+    pub user: &'a [Value],
+    pub bytes: Spelling<'a>,
+    /// How many names the object has in its layer.
+    pub links: u32,
     pub opaque: bool,
     pub redirect: Option<&'a str>,
 }
@@ -39,6 +54,7 @@ pub fn layers_of<'a>(
         let Some(entries) = entries_of(alloc, items(layer.get("entry")))? else {
             return Ok(None);
         };
+        let entries = with_links(alloc, entries.as_slice())?;
         layers.push(PlainLayer { entries })?;
     }
     Ok(Some(layers))
@@ -57,7 +73,7 @@ fn entries_of<'a>(
 ) -> Result<Option<Vec<Entry<'a>>>, AllocError> {
     let mut list = Vec::new(alloc);
     for entry in entries {
-        match entry_of(entry) {
+        match entry_of(list.as_slice(), entry) {
             Some(entry) => list.push(entry)?,
             None => return Ok(None),
         }
@@ -65,16 +81,53 @@ fn entries_of<'a>(
     Ok(Some(list))
 }
 
-fn entry_of(entry: &Value) -> Option<Entry<'_>> {
+// The entries, each with the number of its object's names.
+fn with_links<'a>(alloc: Global, entries: &[Entry<'a>]) -> Result<Vec<Entry<'a>>, AllocError> {
+    let mut list = Vec::new(alloc);
+    for entry in entries {
+        let links = names_of(entries, entry.first);
+        list.push(Entry { links, ..*entry })?;
+    }
+    Ok(list)
+}
+
+// How many names the object has that was described first at a path.
+fn names_of(entries: &[Entry<'_>], first: &str) -> u32 {
+    let mut count = 0u32;
+    for entry in entries {
+        if entry.first == first {
+            count = count.saturating_add(1);
+        }
+    }
+    count
+}
+
+fn entry_of<'a>(earlier: &[Entry<'a>], entry: &'a Value) -> Option<Entry<'a>> {
     let table = entry.as_table()?;
-    let kind = kind_named(text_at(table, "kind")?)?;
+    let path = path_in(text_at(table, "path")?);
+    match text_at(table, "kind")? {
+        "link" => further_name(earlier, path, text_at(table, "to")?),
+        kind => object_of(table, path, kind_named(kind)?),
+    }
+}
+
+// A further name of what an earlier entry describes.
+fn further_name<'a>(earlier: &[Entry<'a>], path: &'a str, to: &str) -> Option<Entry<'a>> {
+    let described = earlier.iter().find(|entry| entry.path == to)?;
+    Some(Entry { path, ..*described })
+}
+
+fn object_of<'a>(table: &'a Table, path: &'a str, kind: Kind) -> Option<Entry<'a>> {
     Some(Entry {
-        path: path_in(text_at(table, "path")?),
+        path,
+        first: path,
         kind,
         mode: number_at(table, "mode", mode_unless_told(kind))?,
         uid: number_at(table, "uid", 0)?,
         gid: number_at(table, "gid", 0)?,
-        text: text_of(kind, table),
+        user: items(table.get("attrs")),
+        bytes: spelling_in(kind, table)?,
+        links: 1,
         opaque: table
             .get("opaque")
             .and_then(Value::as_bool)
@@ -87,15 +140,21 @@ fn text_at<'a>(table: &'a Table, key: &str) -> Option<&'a str> {
     table.get(key)?.as_str()
 }
 
-fn text_of(kind: Kind, table: &Table) -> &str {
-    let key = match kind {
-        Kind::SymbolicLink => "target",
-        _ => "text",
-    };
-    text_at(table, key).unwrap_or("")
+fn spelling_in(kind: Kind, table: &Table) -> Option<Spelling<'_>> {
+    if kind == Kind::SymbolicLink {
+        return Some(Spelling::Text(text_at(table, "target")?));
+    }
+    if let Some(digits) = text_at(table, "hex") {
+        return Some(Spelling::Digits(digits));
+    }
+    match text_at(table, "text") {
+        Some(text) => Some(Spelling::Text(text)),
+        None => Some(Spelling::Zeros(number_at(table, "zeros", 0)?)),
+    }
 }
 
-fn path_in(path: &str) -> &str {
+/// The path of an entry, for a path text.
+pub fn path_in(path: &str) -> &str {
     if path == "/" { "" } else { path }
 }
 

@@ -2,20 +2,25 @@
 //! whether both answer what is wanted.
 #![tactic(auto)]
 
+mod contents;
+mod dice;
 mod engine;
 mod entries;
 mod expanded;
 mod generated;
+mod history;
+mod layer_lines;
 mod merged;
 mod mount;
-mod opens;
+mod opening;
 mod plain_layer;
 mod playing;
+mod random_calls;
 mod rows;
+mod told_entries;
 mod tree_lines;
 
 use crate::generated::play_generated;
-use crate::opens::play_opens;
 use crate::playing::difference;
 use crate::rows::rows_in;
 use std::hash::RandomState;
@@ -23,7 +28,7 @@ use std::rt::Files;
 use std::{fs, io};
 
 /// The files of the rows, each on one subject.
-const FILES: [&str; 10] = [
+const FILES: [&str; 13] = [
     "look_up.rows",
     "redirects.rows",
     "listings.rows",
@@ -34,13 +39,13 @@ const FILES: [&str; 10] = [
     "script_forms.rows",
     "manifest_faults.rows",
     "entry_faults.rows",
+    "manifest_objects.rows",
+    "opens.rows",
+    "files.rows",
 ];
 
-/// The file of the calls that only the reference is asked.
-const OPENS: &str = "opens.rows";
-
-/// The manifests over which generated scripts are played.
-const MANIFESTS: [&str; 2] = ["two_layers.toml", "four_layers.toml"];
+/// The manifests over which generated scripts are played, and how many layers each has.
+const MANIFESTS: [(&str, u32); 2] = [("two_layers.toml", 2), ("four_layers.toml", 4)];
 
 fn main(rt: HostRuntime) -> io::Result<()> {
     let keys = RandomState::new(&rt)?;
@@ -48,7 +53,6 @@ fn main(rt: HostRuntime) -> io::Result<()> {
     for file in FILES {
         count = count.saturating_add(play_file(&rt, keys, file)?);
     }
-    count = count.saturating_add(play_opens(&rt, OPENS)?);
     println!(rt; "{count} rows agree")?;
     for manifest in MANIFESTS {
         play_generated(&rt, keys, manifest)?;

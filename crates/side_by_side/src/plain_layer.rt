@@ -1,6 +1,7 @@
 // What one layer holds at a whole path, and how it hands the path on.
-use crate::entries::{Entry, Kind};
+use crate::entries::{Entry, Kind, Spelling};
 use std::alloc::{AllocError, Global};
+use std::cmp::Reverse;
 
 /// A layer: its entries in the order of the manifest.
 #[derive(Drop)]
@@ -22,6 +23,26 @@ impl<'a> PlainLayer<'a> {
             .iter()
             .find(|entry| entry.path == path)
             .copied()
+    }
+
+    /// The root, as an entry says or else as each layer has it.
+    pub fn root(&self) -> Entry<'a> {
+        match self.held("") {
+            Some(entry) => entry,
+            None => bare_root(),
+        }
+    }
+
+    /// What it holds in a directory, the last name first.
+    pub fn inside(&self, alloc: Global, directory: &str) -> Result<Vec<Entry<'a>>, AllocError> {
+        let mut inside = Vec::new(alloc);
+        for entry in self.entries.as_slice() {
+            if parent_of(entry.path) == Some(directory) {
+                inside.push(*entry)?;
+            }
+        }
+        inside.sort_by_key(|entry| Reverse(entry.path))?;
+        Ok(inside)
     }
 
     /// Whether it holds a directory at a path. The root is one.
@@ -47,6 +68,29 @@ impl<'a> PlainLayer<'a> {
         }
         Ok(handed)
     }
+}
+
+// The root of a layer of which no entry says anything.
+fn bare_root<'a>() -> Entry<'a> {
+    Entry {
+        path: "",
+        first: "",
+        kind: Kind::Directory,
+        mode: 0o755,
+        uid: 0,
+        gid: 0,
+        user: &[],
+        bytes: Spelling::Zeros(0),
+        links: 1,
+        opaque: false,
+        redirect: None,
+    }
+}
+
+// None for the root.
+fn parent_of(path: &str) -> Option<&str> {
+    let (parent, _) = path.rsplit_once('/')?;
+    Some(parent)
 }
 
 // One name on, where the layer holds this there.

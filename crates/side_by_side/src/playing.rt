@@ -2,7 +2,6 @@
 use crate::engine::run_of;
 use crate::mount::{PlainMount, mount_of};
 use crate::rows::Row;
-use crate::tree_lines::push_tree;
 use ov_base::{Call, Errno, Reply};
 use ov_script::{CallText, Command, ReplyLine, command_of};
 use std::alloc::{AllocError, Global};
@@ -14,8 +13,8 @@ use std::io;
 enum Answer {
     /// These lines.
     Lines(String),
-    /// The lines of a layer, of which it has none.
-    Layer,
+    /// The lines of a layer.
+    Layer(usize),
     BadCommand,
 }
 
@@ -35,7 +34,7 @@ pub fn difference(alloc: Global, keys: RandomState, row: &Row<'_>) -> io::Result
     Ok(found)
 }
 
-/// How the answers of the reference differ from those that are wanted, but for the lines of layers.
+/// How the answers of the reference differ from those that are wanted.
 pub fn reference_difference(
     alloc: Global,
     manifest: &[u8],
@@ -48,8 +47,7 @@ pub fn reference_difference(
     match script {
         Some(script) => played_difference(alloc, &mut mount, script, wanted),
         None => {
-            let mut tree = String::new(alloc);
-            push_tree(alloc, &mount.reference, &mut tree)?;
+            let tree = mount.merge_lines(alloc)?;
             if tree.as_bytes() == wanted {
                 Ok(None)
             } else {
@@ -75,7 +73,14 @@ fn played_difference(
     for line in script.split(|byte| *byte == b'\n') {
         number = number.saturating_add(1);
         match answer_of(alloc, mount, line)? {
-            Answer::Layer => left = after_layer(left),
+            Answer::Layer(index) => {
+                let rest = after_layer(left);
+                let told = left.strip_suffix(rest).unwrap_or(left);
+                if let Some(found) = layer_difference(alloc, mount, index, told)? {
+                    return Ok(Some(differs(alloc, number, found.as_str())?));
+                }
+                left = rest;
+            }
             Answer::Lines(lines) => match left.strip_prefix(lines.as_bytes()) {
                 Some(rest) => left = rest,
                 None => return Ok(Some(differs(alloc, number, lines.as_str())?)),
@@ -101,6 +106,32 @@ fn bad_line_difference(
     } else {
         Ok(Some(differs(alloc, number, fault.as_str())?))
     }
+}
+
+// What is against the lines that are told of a layer. A lower layer is as the manifest describes it; the upper shows over the lower layers
+// what the reference shows, which isn't seen where lines have escapes.
+fn layer_difference(
+    alloc: Global,
+    mount: &PlainMount,
+    index: usize,
+    told: &[u8],
+) -> Result<Option<String>, AllocError> {
+    if index > 0 {
+        let lines = mount.layer_lines(alloc, index)?;
+        return Ok(unless_same(lines.as_bytes() == told, lines));
+    }
+    let Ok(told) = std::str::from_utf8(told) else {
+        return Ok(None);
+    };
+    let Some(over) = mount.lines_over(alloc, told)? else {
+        return Ok(None);
+    };
+    let tree = mount.merge_lines(alloc)?;
+    Ok(unless_same(over.as_str() == tree.as_str(), tree))
+}
+
+fn unless_same(are_same: bool, lines: String) -> Option<String> {
+    if are_same { None } else { Some(lines) }
 }
 
 // What follows the lines of a layer: that of its root, and those of other objects after it.
@@ -151,17 +182,13 @@ fn answer_of(alloc: Global, mount: &mut PlainMount, line: &[u8]) -> Result<Answe
         Command::Detach { client } => detached(alloc, mount, client),
         Command::Call { client, call } => called(alloc, mount, client, &call),
         Command::Layer { index } => Ok(layer_answer(index as usize, mount.layers)),
-        Command::Merge => {
-            let mut tree = String::new(alloc);
-            push_tree(alloc, &mount.reference, &mut tree)?;
-            Ok(Answer::Lines(tree))
-        }
+        Command::Merge => Ok(Answer::Lines(mount.merge_lines(alloc)?)),
     }
 }
 
 fn layer_answer(index: usize, layers: usize) -> Answer {
     if index < layers {
-        Answer::Layer
+        Answer::Layer(index)
     } else {
         Answer::BadCommand
     }

@@ -56,7 +56,8 @@ fn push_object(
     lines: &mut String,
 ) -> Result<(), AllocError> {
     if let Reply::Status(stat) = reference.status(path)? {
-        push_words(alloc, stat, path, lines)?;
+        push_words(alloc, stat, lines)?;
+        push_path(alloc, path, lines)?;
         if stat.kind == ObjectKind::SymbolicLink {
             push_target(alloc, reference, path, lines)?;
         }
@@ -65,15 +66,14 @@ fn push_object(
     Ok(())
 }
 
-fn push_words(
-    alloc: Global,
-    stat: Stat,
-    path: &Path,
-    lines: &mut String,
-) -> Result<(), AllocError> {
+/// Appends the words of an object line before its path, and a space.
+pub fn push_words(alloc: Global, stat: Stat, lines: &mut String) -> Result<(), AllocError> {
     let words = StatWords(stat);
-    lines.push_str(format!(in alloc; "{words}")?.as_str())?;
-    lines.push_str(" ")?;
+    lines.push_str(format!(in alloc; "{words} ")?.as_str())
+}
+
+/// Appends a path as lines have it.
+pub fn push_path(alloc: Global, path: &Path, lines: &mut String) -> Result<(), AllocError> {
     if path.names().is_empty() {
         lines.push_str("/")?;
     }

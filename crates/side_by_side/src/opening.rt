@@ -1,0 +1,92 @@
+// The slow reference as layers begin with it.
+use crate::contents::{attributes_of, content_of};
+use crate::entries::Kind;
+use crate::merged::{Shown, shown_below};
+use crate::plain_layer::PlainLayer;
+use ov_base::Path;
+use plain_reference::{Builder, Origin, Reference};
+use std::alloc::{AllocError, Global};
+
+/// The reference at the tree that layers show. None where there is no layer, or the root of the upper has no mode.
+pub fn reference_of(
+    alloc: Global,
+    layers: &[PlainLayer<'_>],
+) -> Result<Option<Reference>, AllocError> {
+    let Some(upper) = layers.first() else {
+        return Ok(None);
+    };
+    let Some(root) = attributes_of(alloc, &upper.root())? else {
+        return Ok(None);
+    };
+    let mut builder = Builder::new(alloc, root, false)?;
+    let objects = shown_below(alloc, layers)?;
+    for shown in objects.as_slice() {
+        put(alloc, &mut builder, objects.as_slice(), shown)?;
+    }
+    Ok(Some(builder.finish()))
+}
+
+// Puts what is shown at a path, whose parent is there. The names of one file or symbolic link of the upper are names of one node.
+fn put(
+    alloc: Global,
+    builder: &mut Builder,
+    objects: &[Shown<'_>],
+    shown: &Shown<'_>,
+) -> Result<(), AllocError> {
+    let Ok(path) = Path::parse(alloc, shown.path.as_bytes())? else {
+        return Ok(());
+    };
+    match put_before(objects, shown) {
+        Some(other) => put_name(alloc, builder, &path, other),
+        None => put_object(alloc, builder, &path, shown),
+    }
+}
+
+// The path of the object among those that are shown that is put in place of this one: another name of it in the upper, which comes first.
+fn put_before<'a>(objects: &'a [Shown<'_>], shown: &Shown<'_>) -> Option<&'a str> {
+    if !shown.is_upper {
+        return None;
+    }
+    let first = objects.iter().find(|other| other.is_upper
+        && other.entry.first == shown.entry.first)?;
+    if first.path.as_str() == shown.path.as_str() {
+        None
+    } else {
+        Some(first.path.as_str())
+    }
+}
+
+fn put_name(
+    alloc: Global,
+    builder: &mut Builder,
+    path: &Path,
+    other: &str,
+) -> Result<(), AllocError> {
+    match Path::parse(alloc, other.as_bytes())? {
+        Ok(other) => builder.name(path, &other),
+        Err(_) => Ok(()),
+    }
+}
+
+fn put_object(
+    alloc: Global,
+    builder: &mut Builder,
+    path: &Path,
+    shown: &Shown<'_>,
+) -> Result<(), AllocError> {
+    let Some(attributes) = attributes_of(alloc, &shown.entry)? else {
+        return Ok(());
+    };
+    if shown.entry.kind == Kind::Directory {
+        return builder.directory(path, attributes, shown.is_base);
+    }
+    let Some(content) = content_of(alloc, &shown.entry)? else {
+        return Ok(());
+    };
+    let links = u64::from(shown.entry.links);
+    if shown.is_upper {
+        builder.leaf(path, content, attributes, Origin::Own, links)
+    } else {
+        builder.leaf(path, content, attributes, Origin::Untouched(links), 1)
+    }
+}
