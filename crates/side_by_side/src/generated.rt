@@ -2,14 +2,17 @@
 use crate::dice::Dice;
 use crate::engine::run_of;
 use crate::playing::reference_difference;
-use crate::random_calls::push_call;
+use crate::random_calls::{push_call, push_open_of};
 use std::alloc::{AllocError, Global};
 use std::hash::RandomState;
 use std::rt::Files;
 use std::{fs, io};
 
-/// How many scripts are played over a manifest, and how many lines of calls each has before a client goes and after it.
+/// How many scripts are played over a manifest, and how many lines each has: of opens at first, then of any calls, and more after a client
+/// went.
 const SCRIPTS: u64 = 1_000;
+
+const OPENS: u32 = 12;
 
 const LINES: u32 = 40;
 
@@ -44,11 +47,14 @@ fn script_difference(
     Ok(found)
 }
 
-// Three clients come and make calls, one goes with what it has open, another comes, and there are more calls. Then what stands at some paths
-// is read, and the layers and the whole tree are printed.
+// Three clients come, open files and make calls, one goes with what it has open, another comes, and there are more calls. Then what stands at
+// some paths is read, and the layers and the whole tree are printed.
 fn script_of(alloc: Global, seed: u64, layers: u32) -> Result<String, AllocError> {
     let mut dice = Dice::new(seed);
     let mut script = String::from_str(alloc, "attach\nattach\nattach\n")?;
+    for _ in 0..OPENS {
+        push_open_of(&mut dice, &["0", "1", "2"], &mut script)?;
+    }
     for _ in 0..LINES {
         push_call(&mut dice, &["0", "1", "2"], &mut script)?;
     }
@@ -67,8 +73,8 @@ fn script_of(alloc: Global, seed: u64, layers: u32) -> Result<String, AllocError
 // A further client reads the bytes and user attributes of paths of one name and of two.
 fn push_readings(alloc: Global, script: &mut String) -> Result<(), AllocError> {
     script.push_str("attach\n")?;
-    for first in ["/a", "/b", "/c"] {
-        for second in ["", "/a", "/b", "/c"] {
+    for first in ["/a", "/b", "/c", "/d"] {
+        for second in ["", "/a", "/b", "/c", "/d"] {
             let path = format!(in alloc; "{first}{second}")?;
             let opened = format!(in alloc;
                 "4 open r {path}\n4 fstat 0\n4 read 0 200\n4 close 0\n"

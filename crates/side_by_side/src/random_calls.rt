@@ -1,9 +1,32 @@
-// Lines of calls, as dice choose them: names `a` to `c`, three names deep, and user attributes `user.a` to `user.c`.
+// Lines of calls, as dice choose them: names `a` to `d`, three names deep, and user attributes `user.a` to `user.c`.
 use crate::dice::Dice;
 use std::alloc::AllocError;
 
 // Words that stand twice are chosen more often.
-const DESCRIPTORS: [&str; 4] = ["0", "0", "1", "2"];
+const DESCRIPTOR_CALLS: [&str; 16] = [
+    "read", "read", "read", "read", "write", "write", "write", "write", "seek", "seek", "seek",
+    "truncate", "fstat", "list", "list", "close",
+];
+
+const PATH_CALLS: [&str; 11] = [
+    "stat", "readlink", "mkdir", "symlink", "unlink", "unlink", "unlink", "rmdir", "chmod",
+    "chown", "attrs",
+];
+
+const DESCRIPTORS: [&str; 6] = ["0", "0", "0", "0", "1", "2"];
+
+const FLAGS: [&str; 20] = [
+    "r", "r", "r", "rd", "ra", "rc", "w", "wa", "wc", "wt", "b", "b", "bc", "bc", "ba", "bt",
+    "bca", "bct", "wcx", "bcx",
+];
+
+// Where the mounts begin with files, and in some places with a link or with nothing.
+const FILES: [&str; 11] = [
+    "/a/a", "/a/b/a", "/a/b/b", "/a/b/c", "/a/b/c", "/a/a/a", "/a/a/b", "/b", "/c", "/c/b/c", "/d",
+];
+
+// Where the mounts begin with nothing, so that directories come and go there.
+const PLACES: [&str; 5] = ["/d", "/d", "/a/d", "/a/b/d", "/d/d"];
 
 const MODES: [&str; 6] = ["0", "600", "644", "755", "7777", "10000"];
 
@@ -57,17 +80,28 @@ const ATTRIBUTES: [&str; 7] = [
     "trusted.a",
 ];
 
-/// Appends a line of a call of one of these clients.
+/// Appends the line of an open of one of these clients.
+pub fn push_open_of(
+    dice: &mut Dice,
+    clients: &[&'static str],
+    script: &mut String,
+) -> Result<(), AllocError> {
+    script.push_str(dice.pick(clients))?;
+    push_open(dice, script)?;
+    script.push_str("\n")
+}
+
+/// Appends the line of any call of one of these clients.
 pub fn push_call(
     dice: &mut Dice,
     clients: &[&'static str],
     script: &mut String,
 ) -> Result<(), AllocError> {
     script.push_str(dice.pick(clients))?;
-    match dice.roll(32) {
-        kind @ 0..=12 => push_descriptor_call(dice, kind, script)?,
-        13..=18 => push_open(dice, script)?,
-        kind @ 19..=28 => push_path_call(dice, kind, script)?,
+    match dice.roll(36) {
+        0..=15 => push_descriptor_call(dice, script)?,
+        16..=21 => push_open(dice, script)?,
+        22..=32 => push_path_call(dice, script)?,
         _ => push_attribute_call(dice, script)?,
     }
     script.push_str("\n")
@@ -88,16 +122,8 @@ fn push_one_of(
 }
 
 // A call of a descriptor.
-fn push_descriptor_call(dice: &mut Dice, kind: u8, script: &mut String) -> Result<(), AllocError> {
-    let name = match kind {
-        0..=2 => "read",
-        3..=6 => "write",
-        7 | 8 => "seek",
-        9 => "truncate",
-        10 => "fstat",
-        11 => "list",
-        _ => "close",
-    };
+fn push_descriptor_call(dice: &mut Dice, script: &mut String) -> Result<(), AllocError> {
+    let name = dice.pick(&DESCRIPTOR_CALLS);
     push_word(script, name)?;
     push_one_of(dice, &DESCRIPTORS, script)?;
     match name {
@@ -116,32 +142,34 @@ fn push_descriptor_call(dice: &mut Dice, kind: u8, script: &mut String) -> Resul
 // An open with any flags, and in some lines with a mode.
 fn push_open(dice: &mut Dice, script: &mut String) -> Result<(), AllocError> {
     push_word(script, "open")?;
-    push_one_of(dice, &["r", "r", "w", "b", "b"], script)?;
-    script.push_str(dice.pick(&["c", ""]))?;
-    script.push_str(dice.pick(&["x", "", "", "", "", ""]))?;
-    script.push_str(dice.pick(&["t", "", "", "", ""]))?;
-    script.push_str(dice.pick(&["a", "", "", ""]))?;
-    script.push_str(dice.pick(&["d", "", "", "", "", "", "", ""]))?;
-    push_path(dice, script)?;
+    if dice.roll(4) == 0 {
+        push_any_flags(dice, script)?;
+    } else {
+        push_one_of(dice, &FLAGS, script)?;
+    }
     if dice.roll(3) == 0 {
+        push_path(dice, script)?;
+    } else {
+        push_one_of(dice, &FILES, script)?;
+    }
+    if dice.roll(6) == 0 {
         push_one_of(dice, &MODES, script)?;
     }
     Ok(())
 }
 
+// Flags of which not all go together.
+fn push_any_flags(dice: &mut Dice, script: &mut String) -> Result<(), AllocError> {
+    push_one_of(dice, &["r", "w", "b"], script)?;
+    for flag in [["c", ""], ["x", ""], ["t", ""], ["a", ""], ["d", ""]] {
+        script.push_str(dice.pick(&flag))?;
+    }
+    Ok(())
+}
+
 // A call of a path, but for opens and the calls on user attributes.
-fn push_path_call(dice: &mut Dice, kind: u8, script: &mut String) -> Result<(), AllocError> {
-    let name = match kind {
-        19 => "stat",
-        20 => "readlink",
-        21 => "mkdir",
-        22 => "symlink",
-        23 | 24 => "unlink",
-        25 => "rmdir",
-        26 => "chmod",
-        27 => "chown",
-        _ => "attrs",
-    };
+fn push_path_call(dice: &mut Dice, script: &mut String) -> Result<(), AllocError> {
+    let name = dice.pick(&PATH_CALLS);
     push_word(script, name)?;
     match name {
         "mkdir" | "chmod" => push_one_of(dice, &MODES, script)?,
@@ -151,6 +179,9 @@ fn push_path_call(dice: &mut Dice, kind: u8, script: &mut String) -> Result<(), 
             push_one_of(dice, &["0", "8"], script)?;
         }
         _ => {}
+    }
+    if matches!(name, "mkdir" | "rmdir") && dice.roll(2) == 0 {
+        return push_one_of(dice, &PLACES, script);
     }
     push_path(dice, script)
 }
@@ -167,19 +198,17 @@ fn push_attribute_call(dice: &mut Dice, script: &mut String) -> Result<(), Alloc
     Ok(())
 }
 
+// A path of at most three names, of which the first are more often those of directories that a mount begins with.
 fn push_path(dice: &mut Dice, script: &mut String) -> Result<(), AllocError> {
     script.push_str(" ")?;
-    let depth = match dice.roll(8) {
-        0 => 0,
-        1 | 2 => 1,
-        3..=5 => 2,
-        _ => 3,
+    let parent = match dice.roll(10) {
+        0 => return script.push_str("/"),
+        1 | 2 => "",
+        3..=6 => dice.pick(&["/a", "/a", "/a", "/b", "/c", "/d"]),
+        _ => dice.pick(&[
+            "/a/a", "/a/b", "/a/b", "/a/b", "/a/c", "/a/d", "/b/b", "/c/a", "/c/b", "/d/d",
+        ]),
     };
-    if depth == 0 {
-        script.push_str("/")?;
-    }
-    for _ in 0..depth {
-        script.push_str(dice.pick(&["/a", "/b", "/c"]))?;
-    }
-    Ok(())
+    script.push_str(parent)?;
+    script.push_str(dice.pick(&["/a", "/b", "/c", "/d"]))
 }
