@@ -10,7 +10,7 @@ ghost use Rattle.merged_lookup.specs.Merged.{layers_of, lowers_of, parent, paren
 ghost use Rattle.copy_up.specs.Showing.{ShowsSame, GainsParents, StaysLayers, StaysMount, StaysThin};
 ghost use Rattle.copy_up.specs.Altering.{AltersObject};
 
-use crate::leaves::copy_leaf;
+use crate::leaves::all_at_once;
 use crate::parents::place_parents;
 use merged_lookup::{Found, Layers, Place, Stack};
 use ov_base::{Attributes, Path};
@@ -107,7 +107,7 @@ fn alter_inode(
     let Some((name, parents)) = path.split_last() else {
         unreachable!()
     };
-    copy_leaf(layers, directory, parents, name, place, attributes)?;
+    all_at_once(layers, directory, parents, name, place, attributes)?;
     Ok(())
 }
 

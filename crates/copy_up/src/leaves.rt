@@ -18,7 +18,7 @@ use std::alloc::AllocError;
 /// Copies the file or symbolic link that a lower layer shows at a name of the merged directory at these names into the upper: an inode of
 /// its own, with these attributes, in directories that are placed where the upper lacks them (overlayfs.rst, "Non-directories"), and gives
 /// its key. It fails only for want of memory, and changes nothing that is shown then.
-pub fn copy_leaf(
+pub fn all_at_once(
     layers: &mut Layers,
     directory: Stack,
     parents: &[Name],

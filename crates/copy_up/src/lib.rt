@@ -7,6 +7,6 @@ mod needs;
 mod parents;
 
 pub use altering::alter;
-pub use leaves::{copy_leaf, insert_leaf};
+pub use leaves::{all_at_once, insert_leaf};
 pub use needs::{Need, need_at, place_dir};
 pub use parents::{insert_directory, place_parents};

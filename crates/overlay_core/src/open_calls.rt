@@ -23,7 +23,7 @@ use crate::attributes::stands;
 use crate::file_bytes::resize_file;
 use crate::files::file_at;
 use crate::mount::Mount;
-use copy_up::copy_leaf;
+use copy_up::all_at_once;
 use layer_tree::{Inode, Node};
 use make_remove::create;
 use merged_lookup::{Layers, Place, Stack, Topmost};
@@ -281,7 +281,7 @@ fn bring_up(
     };
     stands(layers, place);
     let attributes = attributes_of(layers, place)?;
-    copy_leaf(layers, directory, parents, name, place, attributes)
+    all_at_once(layers, directory, parents, name, place, attributes)
 }
 
 // A copy of the attributes of the file that is shown at a place.

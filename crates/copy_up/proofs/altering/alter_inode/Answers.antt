@@ -35,8 +35,8 @@ returns-then-place-eq0-clause-thin c =
     let named = upper-named c.args.layers.now c.args.path.now c.args.place (Some found.0) c.if-place-eq0.true found.1 in
     thin-inode c.args.layers.now c.set_attributes.new.layers c.set_attributes.ensures.lowers c.args.place.key c.args.attributes (c.set_attributes.ensures.inode found.0 named.inode)
 
-pub copy_leaf-requires-clause-shown : goal.copy_leaf-requires-clause-shown
-copy_leaf-requires-clause-shown c =
+pub all_at_once-requires-clause-shown : goal.all_at_once-requires-clause-shown
+all_at_once-requires-clause-shown c =
     let found = c.stands.ensures c.args.path.now c.requires.shown in
     (found.0, sym (ap (shows 0 (layers_of c.args.layers.now)) c.in-Some.ensures) ∙ found.1)
 
@@ -44,25 +44,25 @@ pub returns-clause-altered : goal.returns-clause-altered
 returns-clause-altered c = λ h.
     let found = c.stands.ensures c.args.path.now c.requires.shown in
     let shown = sym (ap (shows 0 (layers_of c.args.layers.now)) c.in-Some.ensures) ∙ found.1 in
-    let leaf = (c.in_ok-copy_leaf.ensures.copied found.0 shown).0 in
-    subst (λ (q : Path). Alters (layer_of c.args.layers.now.upper) (layer_of c.copy_leaf.new.layers.upper) (lowers_of c.args.layers.now) q c.args.attributes) (sym c.in-Some.ensures) (leaf.alters h)
+    let leaf = (c.in_ok-all_at_once.ensures.copied found.0 shown).0 in
+    subst (λ (q : Path). Alters (layer_of c.args.layers.now.upper) (layer_of c.all_at_once.new.layers.upper) (lowers_of c.args.layers.now) q c.args.attributes) (sym c.in-Some.ensures) (leaf.alters h)
 
 pub returns-clause-object : goal.returns-clause-object
 returns-clause-object c =
     let found = c.stands.ensures c.args.path.now c.requires.shown in
     let shown = sym (ap (shows 0 (layers_of c.args.layers.now)) c.in-Some.ensures) ∙ found.1 in
-    let leaf = (c.in_ok-copy_leaf.ensures.copied found.0 shown).0 in
-    subst (λ (q : Path). AltersObject c.args.layers.now c.copy_leaf.new.layers q c.args.attributes) (sym c.in-Some.ensures)
-    (object-copied c.args.layers.now c.copy_leaf.new.layers _ found.0.content c.args.attributes leaf c.args.place.layer c.args.place.key (Some found.0) shown (omega (arith, c.if-place-eq0.false)))
+    let leaf = (c.in_ok-all_at_once.ensures.copied found.0 shown).0 in
+    subst (λ (q : Path). AltersObject c.args.layers.now c.all_at_once.new.layers q c.args.attributes) (sym c.in-Some.ensures)
+    (object-copied c.args.layers.now c.all_at_once.new.layers _ found.0.content c.args.attributes leaf c.args.place.layer c.args.place.key (Some found.0) shown (omega (arith, c.if-place-eq0.false)))
 
 pub returns-clause-lowers : goal.returns-clause-lowers
 returns-clause-lowers c =
     let found = c.stands.ensures c.args.path.now c.requires.shown in
     let shown = sym (ap (shows 0 (layers_of c.args.layers.now)) c.in-Some.ensures) ∙ found.1 in
-    (c.in_ok-copy_leaf.ensures.copied found.0 shown).0.lowers
+    (c.in_ok-all_at_once.ensures.copied found.0 shown).0.lowers
 
 pub returns-clause-nameless : goal.returns-clause-nameless
 returns-clause-nameless c =
     let found = c.stands.ensures c.args.path.now c.requires.shown in
     let shown = sym (ap (shows 0 (layers_of c.args.layers.now)) c.in-Some.ensures) ∙ found.1 in
-    (c.in_ok-copy_leaf.ensures.copied found.0 shown).0.objects.nameless
+    (c.in_ok-all_at_once.ensures.copied found.0 shown).0.objects.nameless

@@ -5,7 +5,7 @@ use Rattle.layer_tree.specs.Tree.{layer_of}
 use Rattle.copy_up.proofs.Frames.{gains-then, gains-unchanged}
 use Rattle.copy_up.proofs.Keeping.{same-then, same-unchanged, stays-unchanged, then-layers, on-err}
 use Rattle.copy_up.proofs.Copying.{leaf_of, copy-place, leaf-copied, thin-copied}
-use Rattle.copy_up.proofs.leaves.copy_leaf.Goals as goal
+use Rattle.copy_up.proofs.leaves.all_at_once.Goals as goal
 
 pub insert_leaf-requires : goal.insert_leaf-requires
 insert_leaf-requires c = (reverse c.args.parents.now, copy-place c.args.layers.now c.place_parents.new.layers c.place_parents.ensures.same c.args.name.now (reverse c.args.parents.now) (c.place_parents.ensures.gains c.args.name.now) c.args.place.layer c.args.place.key (Some c.requires.shown.0) c.requires.shown.1 c.requires.lower c.in_ok-parent.parent c.top-dir.result c.in_ok-parent.ensures.stack c.in_ok-parent.ensures.upper c.top-dir.ensures)
