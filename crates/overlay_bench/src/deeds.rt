@@ -2,7 +2,7 @@
 use crate::loads::since;
 use crate::manifests::{ManifestText, nested};
 use crate::mounts::{made, mounted, path_to};
-use crate::trees::{BLOCK, DIRECTORIES, FILES, copied, served};
+use crate::trees::{BLOCK, DIRECTORIES, FILES, copied, copied_again, served};
 use ov_base::{Bytes, Call, OpenFlags, Path, Reply};
 use overlay_core::Core;
 use std::alloc::{AllocError, Global};
@@ -24,10 +24,10 @@ pub enum Deed {
     Read,
     /// Making a file by opening it, closing it and removing it.
     Create,
-    /// Opening a file of 65,536 bytes for writing, for which it is copied up, and closing it, each time another one.
-    Copy64K,
-    /// The same of 1,048,576 bytes.
-    Copy1M,
+    /// Opening a file of so many bytes for writing, for which it is copied up, and closing it, each time another one.
+    Copy(u32),
+    /// The same by another name of one lower file each time, and removing it, so that a copy takes the memory of the one before.
+    CopyAgain(u32),
     /// Setting a user attribute that is there, on a file of the upper.
     SetAttribute,
     /// Seeking to the start of an open file of the upper and writing 4,096 bytes.
@@ -38,8 +38,8 @@ impl Deed {
     // Whether an operation ends by this call.
     fn ends_by(self, call: &Call) -> bool {
         match self {
-            Deed::Read | Deed::Copy64K | Deed::Copy1M => matches!(call, Call::Close { .. }),
-            Deed::Create => matches!(call, Call::Unlink { .. }),
+            Deed::Read | Deed::Copy(_) => matches!(call, Call::Close { .. }),
+            Deed::Create | Deed::CopyAgain(_) => matches!(call, Call::Unlink { .. }),
             Deed::SetAttribute => matches!(call, Call::SetAttribute { .. }),
             Deed::Write => matches!(call, Call::Write { .. }),
         }
@@ -87,7 +87,7 @@ pub fn measure_deeds<C: Clock>(
     Ok((nanos, done))
 }
 
-// The layers. For each copy there is a file.
+// The layers. For each copy there is a file, or a name of one file.
 fn layers_for(
     alloc: Global,
     deed: Deed,
@@ -95,8 +95,8 @@ fn layers_for(
     count: u32,
 ) -> Result<ManifestText, AllocError> {
     match deed {
-        Deed::Copy64K => copied(alloc, lowers, count, 65_536),
-        Deed::Copy1M => copied(alloc, lowers, count, 1_048_576),
+        Deed::Copy(size) => copied(alloc, lowers, count, size),
+        Deed::CopyAgain(size) => copied_again(alloc, lowers, count, size),
         Deed::Read | Deed::Create | Deed::SetAttribute | Deed::Write => served(alloc, lowers),
     }
 }
@@ -107,7 +107,7 @@ fn before(alloc: Global, deed: Deed) -> Result<Vec<Call>, AllocError> {
     match deed {
         Deed::Write => calls.push(opening(alloc, deed, 0)?)?,
         Deed::SetAttribute => operation_in(alloc, &mut calls, deed, 0)?,
-        Deed::Read | Deed::Create | Deed::Copy64K | Deed::Copy1M => {}
+        Deed::Read | Deed::Create | Deed::Copy(_) | Deed::CopyAgain(_) => {}
     }
     Ok(calls)
 }
@@ -136,13 +136,13 @@ fn operation_in(
             calls.push(Call::Read { descriptor, count })?;
             calls.push(Call::Close { descriptor })?;
         }
-        Deed::Create => {
+        Deed::Create | Deed::CopyAgain(_) => {
             calls.push(opening(alloc, deed, number)?)?;
             calls.push(Call::Close { descriptor })?;
             let path = path_for(alloc, deed, number)?;
             calls.push(Call::Unlink { path })?;
         }
-        Deed::Copy64K | Deed::Copy1M => {
+        Deed::Copy(_) => {
             calls.push(opening(alloc, deed, number)?)?;
             calls.push(Call::Close { descriptor })?;
         }
@@ -160,7 +160,7 @@ fn path_for(alloc: Global, deed: Deed, number: u32) -> Result<Path, AllocError> 
     let (first, number) = match deed {
         Deed::Read => ("name-", number % FILES),
         Deed::Create => ("made-", 0),
-        Deed::Copy64K | Deed::Copy1M => ("copy-", number),
+        Deed::Copy(_) | Deed::CopyAgain(_) => ("copy-", number),
         Deed::SetAttribute | Deed::Write => ("name-", 0),
     };
     let parent = nested(alloc, DIRECTORIES)?;

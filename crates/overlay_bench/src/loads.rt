@@ -81,8 +81,10 @@ fn deed_named(word: &str) -> Option<Deed> {
     match word {
         "open_read" => Some(Deed::Read),
         "create" => Some(Deed::Create),
-        "copy_64k" => Some(Deed::Copy64K),
-        "copy_1m" => Some(Deed::Copy1M),
+        "copy_64k" => Some(Deed::Copy(65_536)),
+        "copy_1m" => Some(Deed::Copy(1_048_576)),
+        "copy_64k_again" => Some(Deed::CopyAgain(65_536)),
+        "copy_1m_again" => Some(Deed::CopyAgain(1_048_576)),
         "setattr" => Some(Deed::SetAttribute),
         "write_4k" => Some(Deed::Write),
         _ => None,

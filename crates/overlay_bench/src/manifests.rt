@@ -36,6 +36,12 @@ impl ManifestText {
         writeln!(self.text, "zeros = {count}")
     }
 
+    /// Another name of a file that stands earlier.
+    pub fn link(&mut self, path: &str, to: &str) -> Result<(), AllocError> {
+        self.entry("link", path)?;
+        self.key("to", to)
+    }
+
     /// A directory without marks.
     pub fn directory(&mut self, path: &str) -> Result<(), AllocError> {
         self.entry("dir", path)

@@ -71,6 +71,23 @@ pub fn copied(
     Ok(manifest)
 }
 
+/// `served`, with a file of so many bytes that has so many names.
+pub fn copied_again(
+    alloc: Global,
+    lowers: u32,
+    names: u32,
+    size: u32,
+) -> Result<ManifestText, AllocError> {
+    let mut manifest = copied(alloc, lowers, 1, size)?;
+    let last = nested(alloc, DIRECTORIES)?;
+    let file = child(alloc, last.as_str(), "copy-", 0)?;
+    for number in 1..names {
+        let name = child(alloc, last.as_str(), "copy-", number)?;
+        manifest.link(name.as_str(), file.as_str())?;
+    }
+    Ok(manifest)
+}
+
 // The names of `MERGED` that one of so many lower layers has: every so many.
 fn share_in(
     alloc: Global,
