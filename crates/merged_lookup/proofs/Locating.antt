@@ -1,9 +1,9 @@
 -- Keys at paths: what stands below a path, at how many paths a directory stands, and where the mount shows an object of the upper.
-use Rattle.std.proofs.Common.{◌≡◌, ℕ, List, [], ◌∷◌, ◌++◌, Option, None, Some, IsSome, is_some, true, refl, sym, ap, ◌∙◌, subst}
+use Rattle.std.proofs.Common.{◌≡◌, ℕ, [], ◌∷◌, ◌++◌, Option, None, Some, IsSome, is_some, true, refl, sym, ap, ◌∙◌}
 use Rattle.std.proofs.lemmas.Bool.{false≢true}
 use Rattle.std.specs.Option.{option_and_then, option_map}
 use Rattle.slab.specs.Slab.{get}
-use Rattle.plain_model.specs.Layers.{Name, Path, Object, Inode, Layer, held, over, shows, Shown, unless, cuts, below}
+use Rattle.plain_model.specs.Layers.{Name, Path, Inode, held, over, shows, Shown, unless, cuts, below}
 use Rattle.layer_tree.specs.Table.{Table, entry_in, object_key}
 use Rattle.layer_tree.specs.Tree.{Tree, ROOT, layer_of, table_of, key_at, entry, child, seen, seen_at, seen_entry, directory_number, IsDirectory, IsTree, IsHeldTogether}
 use Rattle.layer_tree.specs.declared.name_table.Entry.{Entry}
@@ -11,7 +11,6 @@ use Rattle.layer_tree.specs.declared.name_table.Entry.TheVariants as bound
 use Rattle.layer_tree.specs.declared.node.Node.{Node}
 use Rattle.layer_tree.specs.declared.node.Node.TheVariants as node
 use Rattle.merged_lookup.specs.declared.layers.Layers.{Layers}
-use Rattle.merged_lookup.specs.declared.stack.Place.{Place}
 use Rattle.merged_lookup.specs.Merged.{lowers_of}
 use Rattle.merged_lookup.specs.Locating.{IsPlaceOf, ShowsUpper, place_of}
 use Rattle.merged_lookup.proofs.Descending.{held-in}

@@ -123,8 +123,8 @@ pub offered-meets : (t : Tree) → IsTree t → IsHeldTogether (layer_of t) → 
 offered-meets t is together old new p at o r h = elim (itself-or-below p r) [
   | inl e ↦ subst (IsCovered new) (sym e) covered
   | inr w ↦
-    let directory : IsDirectory t old.key = below-directory t w.0 p w.1 old.key old.key at (sym (ap (key_at t) w.2) ∙ h) in
-    subst (IsCovered new) (one-path t is together p (r ++ p) old.key directory at h) covered
+      let directory : IsDirectory t old.key = below-directory t w.0 p w.1 old.key old.key at (sym (ap (key_at t) w.2) ∙ h) in
+      subst (IsCovered new) (one-path t is together p (r ++ p) old.key directory at h) covered
 ]
   where
     covered : IsCovered new p
@@ -167,9 +167,9 @@ pub covers-more : (t : Tree) (k : ℕ) (s : Search) (p : Path) (names : List Nam
 covers-more t k s p names i m within is before met n h r = elim (cases_Bool (list_any (bytes_eq n) (take i names))) [
   | inl g ↦ before n g r
   | inr g ↦
-    let same : bytes_eq n (get_or names i m) ≡ true = ap (λ b. b || bytes_eq n (get_or names i m)) (sym g) ∙ sym (list_any_more (bytes_eq n) names i m within) ∙ h in
-    let P : Name → Type 0 = λ x. Covers t k s (r ++ x ∷ p) in
-    subst P (is ∙ sym ((bytes_eq-Decides n (get_or names i m)).0 same)) (met r)
+      let same : bytes_eq n (get_or names i m) ≡ true = ap (λ b. b || bytes_eq n (get_or names i m)) (sym g) ∙ sym (list_any_more (bytes_eq n) names i m within) ∙ h in
+      let P : Name → Type 0 = λ x. Covers t k s (r ++ x ∷ p) in
+      subst P (is ∙ sym ((bytes_eq-Decides n (get_or names i m)).0 same)) (met r)
 ]
 
 -- a search ends with the place of what stands under the key

@@ -1,4 +1,4 @@
-use Rattle.std.proofs.Common.{◌≡◌, ◌∙◌, ap, ap₂, refl}
+use Rattle.std.proofs.Common.{◌∙◌, ap, ap₂, refl}
 use Rattle.std.specs.Ordering.{is_gt, is_some_and, nat_cmp}
 use Rattle.std.specs.Cmp.Lexicographic.{slice_cmp, lists_agrees}
 use Rattle.merged_lookup.proofs.candidate.Candidate.is_after.Goals as goal

@@ -1,8 +1,7 @@
-use Rattle.std.proofs.Common.{◌≡◌, ◌++◌, ◌∷◌, Some, None, [], sym, ap, ◌∙◌, subst, length, refl, arith}
+use Rattle.std.proofs.Common.{◌≡◌, ◌∙◌, subst, length, refl, arith}
 use Rattle.std.proofs.lemmas.List.{nil_from_length}
 use Rattle.layer_tree.specs.Tree.{IsTree}
 use Rattle.merged_lookup.specs.declared.locate.Search.{Search}
-use Rattle.merged_lookup.specs.Locating.{IsPlaceOf}
 use Rattle.merged_lookup.proofs.Locating.{place-shown}
 use Rattle.merged_lookup.proofs.Searching.{begun, ended, taken-stand, taken-goes}
 use Rattle.merged_lookup.proofs.layers.Layers.locate.Goals as goal

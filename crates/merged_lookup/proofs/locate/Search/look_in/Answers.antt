@@ -1,9 +1,7 @@
-use Rattle.std.proofs.Common.{◌≡◌, ◌∷◌, ◌++◌, Some, None, sym, ap, ◌∙◌, true, take}
+use Rattle.std.proofs.Common.{◌∷◌, ◌++◌, Some, sym, ap, ◌∙◌}
 use Rattle.std.proofs.lemmas.List.{take_all}
 use Rattle.std.specs.List.{list_any}
 use Rattle.std.specs.Str.{bytes_eq}
-use Rattle.plain_model.specs.Layers.{Name, Path}
-use Rattle.merged_lookup.specs.Searching.{Covers, GoesOn}
 use Rattle.merged_lookup.proofs.Locating.{child-below, bound-below}
 use Rattle.merged_lookup.proofs.Searching.{further, covers-more}
 use Rattle.merged_lookup.proofs.locate.Search.look_in.Goals as goal
@@ -16,9 +14,9 @@ loop-name-preserved c =
     record {
       goes = further t c.args.self.now c.loop-name.self c.meet.new.self c.loop-name.invariant.goes c.in_ok-meet.ensures.goes;
       looked =
-        covers-more t k c.meet.new.self p c.bound_names-name-items.result.now c.loop-name.name-index c.name-item.result c.loop-name-test.true c.name-item.is
-        (λ n h r e. c.in_ok-meet.ensures.goes.keeps (r ++ n ∷ p) (c.loop-name.invariant.looked n h r e))
-        (λ r e. c.in_ok-meet.ensures.met r (e ∙ ap Some (sym c.loop-name.invariant.goes.key)));
+          covers-more t k c.meet.new.self p c.bound_names-name-items.result.now c.loop-name.name-index c.name-item.result c.loop-name-test.true c.name-item.is
+          (λ n h r e. c.in_ok-meet.ensures.goes.keeps (r ++ n ∷ p) (c.loop-name.invariant.looked n h r e))
+          (λ r e. c.in_ok-meet.ensures.met r (e ∙ ap Some (sym c.loop-name.invariant.goes.key)));
     }
 
 pub loop-name-preserved-in_default : goal.loop-name-preserved-in_default
@@ -29,8 +27,8 @@ loop-name-preserved-in_default c =
     record {
       goes = c.loop-name.invariant.goes;
       looked =
-        covers-more t k c.loop-name.self p c.bound_names-name-items.result.now c.loop-name.name-index c.name-item.result c.loop-name-test.true c.name-item.is c.loop-name.invariant.looked
-        (λ r e. let w = child-below t r p c.name-item.result c.args.directory.now.key k c.requires e in absurd (cc (w.1, c.in_default.is, c.object_at.ensures)));
+          covers-more t k c.loop-name.self p c.bound_names-name-items.result.now c.loop-name.name-index c.name-item.result c.loop-name-test.true c.name-item.is c.loop-name.invariant.looked
+          (λ r e. let w = child-below t r p c.name-item.result c.args.directory.now.key k c.requires e in absurd (cc (w.1, c.in_default.is, c.object_at.ensures)));
     }
 
 pub returns-clause-looked : goal.returns-clause-looked

@@ -1,11 +1,11 @@
-use Rattle.std.proofs.Common.{◌≡◌, ◌∷◌, ◌++◌, Some, sym, ap, ◌∙◌, subst, refl, rules}
+use Rattle.std.proofs.Common.{◌∷◌, ◌++◌, Some, sym, ap, ◌∙◌, subst, refl}
 use Rattle.std.proofs.lemmas.Bool.{true≢false}
 use Rattle.std.proofs.lemmas.Result.{on_ok_weaker}
 use Rattle.plain_model.specs.Layers.{Path}
-use Rattle.layer_tree.specs.Tree.{key_at, IsDirectory}
+use Rattle.layer_tree.specs.Tree.{key_at}
 use Rattle.merged_lookup.specs.declared.locate.Waiting.{Waiting}
 use Rattle.merged_lookup.specs.declared.locate.Search.{Search}
-use Rattle.merged_lookup.specs.Searching.{GoesOn, Covers, Offers}
+use Rattle.merged_lookup.specs.Searching.{Covers, Offers}
 use Rattle.merged_lookup.proofs.Searching.{offered-goes, offered-meets, put-off-goes, put-off-meets, passed-meets}
 use Rattle.merged_lookup.proofs.locate.Search.meet.Goals as goal
 
