@@ -17,6 +17,7 @@ use Rattle.layer_tree.specs.declared.node.Node.{Node}
 use Rattle.layer_tree.specs.declared.node.Node.TheVariants as node
 use Rattle.merged_lookup.specs.declared.stack.Place.{Place}
 use Rattle.merged_lookup.specs.Merged.{level, unless_cut, places_at}
+use Rattle.merged_lookup.specs.Locating.{place_of}
 use Rattle.merged_lookup.specs.Descent.{holds_in, places_from, onward, topmost, anew, onward_in, descend, topmost_in, first}
 
 -- a list cut at i begins with its element at i
@@ -129,12 +130,6 @@ length-level i o c s m h = grind arith
 pub length-places : (i : ℕ) (Ls : List Layer) (p : Path) → length (places_at i Ls p) ≤ length Ls
 length-places i [] p = omega arith
 length-places i (L ∷ Ls) p = length-level i (held L p) (cuts L p) (places_at (suc i) Ls (below L p)) (length Ls) (length-places (suc i) Ls (below L p))
-
--- the place of what is shown
-abbrev pub place_of : Option Shown → Option Place
-place_of None = None
-place_of (Some (Folder i k a)) = Some (record { layer = i; key = k })
-place_of (Some (Contents i k x)) = Some (record { layer = i; key = k })
 
 -- the topmost of these places is the directory shown, and without a place no directory is
 abbrev pub IsTop : List Place → Option Shown → Type 0

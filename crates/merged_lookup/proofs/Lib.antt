@@ -5,3 +5,5 @@ pub mod Passing
 pub mod Rows
 pub mod Walking
 pub mod Ways
+pub mod Locating
+pub mod Searching

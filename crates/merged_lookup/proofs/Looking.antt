@@ -16,7 +16,8 @@ use Rattle.merged_lookup.specs.declared.found.Topmost.{Topmost}
 use Rattle.merged_lookup.specs.declared.found.Topmost.TheVariants as shown
 use Rattle.merged_lookup.specs.Merged.{trees, layers_of, IsStackOf, ShowsDirectory, ShowsInode, ShowsNothing, IsTopmost, level, unless_cut, places_at, top_of, fault, or_else, way_fault, inode_fault, node_in, place_fault}
 use Rattle.merged_lookup.specs.Descent.{places_from, descend, first, place_shown, leads, without_upper}
-use Rattle.merged_lookup.proofs.Descending.{IsTop, top-shown, place_of, first-places, first-unless, shown-inode, shown-none, walk-step, descend-places, descend-unless, drop-get, reverse-more}
+use Rattle.merged_lookup.specs.Locating.{place_of}
+use Rattle.merged_lookup.proofs.Descending.{IsTop, top-shown, first-places, first-unless, shown-inode, shown-none, walk-step, descend-places, descend-unless, drop-get, reverse-more}
 
 -- the first of some places is the directory shown
 pub top-of : (s : List Place) (x : Option Shown) → 0 < length s → IsTop s x → (a : Attributes) × (x ≡ Some (Folder (top_of s).layer (top_of s).key a))

@@ -10,7 +10,8 @@ use Rattle.merged_lookup.specs.declared.stack.Place.{Place}
 use Rattle.merged_lookup.specs.declared.layers.Layers.{Layers}
 use Rattle.merged_lookup.specs.Merged.{trees, layers_of, top_of, fault, way_fault, inode_fault, node_in}
 use Rattle.merged_lookup.specs.Descent.{places_from, descend, first}
-use Rattle.merged_lookup.proofs.Descending.{top-shown, place_of, first-places, shown-inode, shown-none, descend-places, reverse-more}
+use Rattle.merged_lookup.specs.Locating.{place_of}
+use Rattle.merged_lookup.proofs.Descending.{top-shown, first-places, shown-inode, shown-none, descend-places, reverse-more}
 use Rattle.merged_lookup.proofs.Looking.{top-of, no-top, way-next, fault-at, nothing-fault, inode-fault}
 
 some-length : (s : List Place) → s ≢ [] → 0 < length s

@@ -4,3 +4,5 @@ pub mod Passing
 pub mod Cursors
 pub mod Spelling
 pub mod Changing
+pub mod Locating
+pub mod Searching

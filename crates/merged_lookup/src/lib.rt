@@ -2,11 +2,13 @@
 //! redirects.
 #![tactic(auto)]
 
+mod candidate;
 mod crossing;
 mod cursor;
 mod descent;
 mod found;
 mod layers;
+mod locate;
 mod onward;
 mod spelling;
 mod stack;

@@ -1,6 +1,8 @@
-// Chains of redirects in as many layers as there may be.
-use crate::fixtures::{mount, path, seen};
-use ov_base::Errno;
+// Chains of redirects in as many layers as there may be, and the way back from an object of the upper to its path.
+use crate::fixtures::{mount, path, read, seen};
+use layer_tree::{Entry, ROOT};
+use merged_lookup::Layers;
+use ov_base::{Errno, Name};
 use std::alloc::Global;
 use std::hash::RandomState;
 use std::test::Fail;
@@ -43,5 +45,43 @@ fn chains_of_redirects_answer_at_once(rt: HostRuntime) -> Result<(), Fail> {
         let found = seen(&layers, &path(&rt, alloc, text));
         assert!(rt; found == wanted, "{text}");
     }
+    Ok(())
+}
+
+// The text of `/a-` is less than that of `/a/b`, since `-` is less than `/`, and the list of its names is greater.
+const TWO_NAMES: &str = "layer = [{entry = [
+  {path = '/a', kind = 'dir'},
+  {path = '/a/b', kind = 'file'},
+  {path = '/a-', kind = 'link', to = '/a/b'},
+]}, {}]";
+
+#[test]
+fn an_object_is_located_at_the_least_text(rt: HostRuntime) -> Result<(), Fail> {
+    let alloc = rt.alloc();
+    let layers = mount(alloc, RandomState::new(&rt)?, TWO_NAMES)?;
+    for (text, wanted) in [("/a/b", "/a-"), ("/a-", "/a-"), ("/a", "/a"), ("/", "/")] {
+        let Some(Entry::Object(key)) = layers.upper().find(&path(&rt, alloc, text)) else {
+            return Err(Fail::from("no object"));
+        };
+        let Some(located) = layers.locate(alloc, key)? else {
+            return Err(Fail::from("no path"));
+        };
+        assert!(rt; located.names() == path(&rt, alloc, wanted).names(), "{text}");
+    }
+    Ok(())
+}
+
+#[test]
+fn an_object_without_a_name_has_no_path(rt: HostRuntime) -> Result<(), Fail> {
+    let alloc = rt.alloc();
+    let manifest = "layer = [{entry = [{path = '/f', kind = 'file'}]}, {}]";
+    let (mut upper, lowers, _) = read(alloc, RandomState::new(&rt)?, manifest)?;
+    let name = Name::parse(alloc, b"f")?.expect(&rt, "a name");
+    assert!(rt; upper.is_directory(ROOT));
+    let Some(Entry::Object(key)) = upper.take_out(ROOT, &name) else {
+        return Err(Fail::from("no file"));
+    };
+    assert!(rt; upper.node(key).is_some());
+    assert!(rt; Layers::new(upper, lowers).locate(alloc, key)?.is_none());
     Ok(())
 }
