@@ -55,17 +55,18 @@ answer-more P Q F (Err e) h more = tt
 pub inode-stands : (l : Layers) (p : Path) (d : Place) (i : Inode) → shows 0 (layers_of l) p ≡ Some (Contents d.layer d.key (Some i)) → option_and_then inode_of (node_in (trees l) d) ≡ Some i
 inode-stands l p d i h = inode-shown 0 (trees l) (trees l) refl p d.layer d.key (Some i) h
 
--- what stands where an inode is shown is an inode, with its content
+-- what stands where an inode is shown is an inode, with its content and attributes
 pub record IsStored (x : Option Node) (i : Inode) : Type 0 where
   pub inode : stored.Inode
   pub is : x ≡ Some (node.Inode inode)
   pub content : inode.content ≡ i.content
+  pub attributes : inode.attributes ≡ i.attributes
 
 -- where an inode is seen, it stands
 pub is-stored : (x : Option Node) (i : Inode) → option_and_then inode_of x ≡ Some i → IsStored x i
 is-stored None i h = cc
 is-stored (Some (node.Directory d)) i h = cc
-is-stored (Some (node.Inode y)) i h = let e : ◌≡◌ {A = Inode} (record { content = y.content; attributes = y.attributes; links = y.links }) i = cc in record { inode = y; is = refl; content = ap (λ (z : Inode). z.content) e }
+is-stored (Some (node.Inode y)) i h = let e : ◌≡◌ {A = Inode} (record { content = y.content; attributes = y.attributes; links = y.links }) i = cc in record { inode = y; is = refl; content = ap (λ (z : Inode). z.content) e; attributes = ap (λ (z : Inode). z.attributes) e }
 
 -- the upper holds nothing where a lower layer's file or link is shown
 pub free-inode : (inodes : ℕ → Option Inode) (o : Option Object) (s : Option Shown) (j k : ℕ) (x : Option Inode) → over 0 inodes o s ≡ Some (Contents j k x) → 0 < j → o ≡ None

@@ -1,8 +1,9 @@
 -- Other attributes of what the upper has, or gets first from the lower layers.
-use Rattle.std.proofs.Common.{◌≡◌, ◌≤◌, ◌<◌, ℕ, suc, Bool, true, false, List, [], ◌∷◌, Option, None, Some, refl, sym, ap, ◌∙◌, subst, is_some, IsSome, length, map, drop, reverse, arith}
+use Rattle.std.proofs.Common.{◌≡◌, ◌≤◌, ◌<◌, ℕ, suc, Bool, true, false, List, [], ◌∷◌, Option, None, Some, Result, Ok, Err, OnOk, OnErr, refl, sym, ap, ◌∙◌, subst, is_some, IsSome, length, map, drop, reverse, arith}
 use Rattle.std.proofs.lemmas.List.{reverse-reverse}
 use Rattle.std.specs.Option.{option_and_then}
-use Rattle.std.specs.Prelude.{slice_get}
+use Rattle.std.specs.Prelude.{slice_get, option_map}
+use Rattle.std.specs.declared.alloc.AllocError.{AllocError}
 use Rattle.slab.specs.Slab.{get}
 use Rattle.ov_base.specs.declared.attributes.Attributes.{Attributes}
 use Rattle.ov_base.specs.declared.redirect.Redirect.{Redirect}
@@ -12,7 +13,8 @@ use Rattle.plain_model.specs.Tree.{IsThin}
 use Rattle.plain_model.proofs.Uppers.{AgreeTo, agree-where, under-agree}
 use Rattle.mount_laws.specs.Altered.{Alters}
 use Rattle.mount_laws.proofs.Changed.{law_of_altered_inode, law_of_altered_directory}
-use Rattle.layer_tree.specs.AttributeChange.{SetsInode, SetsDirectory}
+use Rattle.mount_laws.specs.Attributes.{shown_attributes}
+use Rattle.layer_tree.specs.AttributeChange.{attributes_of, attributes_at, SetsInode, SetsDirectory}
 use Rattle.layer_tree.specs.Tree.{Tree, IsTree, IsHeldTogether, IsDirectory, layer_of, inode_of, inode_at, key_at}
 use Rattle.layer_tree.specs.declared.node.Node.{Node}
 use Rattle.merged_lookup.specs.declared.found.Found.{Found}
@@ -25,6 +27,7 @@ use Rattle.merged_lookup.proofs.Descending.{drop-get, key-of}
 use Rattle.merged_lookup.proofs.Folders.{IsDirectoryWith, held-node}
 use Rattle.merged_lookup.proofs.Looking.{way-next, directory-fault, head-places, head-unless}
 use Rattle.copy_up.specs.Showing.{ShowsSame, StaysLayers, StaysThin}
+use Rattle.copy_up.specs.Altering.{ShowsAttributes}
 use Rattle.copy_up.proofs.Nodes.{table-some}
 use Rattle.copy_up.proofs.Placing.{Alike, agree-all, IsHeldDirectory, top-held}
 use Rattle.copy_up.proofs.Keeping.{lowers-same, or-first}
@@ -55,7 +58,7 @@ module _ (old new : Layers) (low : new.lowers ≡ old.lowers) (p : Path) (key : 
   thin-directory = thin-agree old new low (agree-all (layer_of old.upper) (layer_of new.upper) p directory-alike s.elsewhere) no-whiteout
 
   -- shows them and changes no more
-  alters-directory : (IsLayer (layer_of old.upper) → IsLayer (layer_of new.upper)) → AreLayers (layers_of old) → Alters (layer_of old.upper) (layer_of new.upper) (lowers_of old) p a
+  pub alters-directory : (IsLayer (layer_of old.upper) → IsLayer (layer_of new.upper)) → AreLayers (layers_of old) → Alters (layer_of old.upper) (layer_of new.upper) (lowers_of old) p a
   alters-directory keep h = law_of_altered_directory (layer_of old.upper) (layer_of new.upper) (lowers_of old) (keep h.0, h.1) p a (record {
     number = key;
     old = s.was;
@@ -94,18 +97,67 @@ pub record StandsAt (t : Tree) (p : Path) (dir : ℕ) : Type 0 where
   pub key : key_at t p ≡ Some dir
   pub directory : IsDirectory t dir
 
--- a directory whose topmost place is in the upper stands there
-pub stands-at : (l : Layers) (p : Path) (s : Stack) (dir : Place) → IsTree l.upper → IsStackOf l p s → (top_of s.places.items).layer ≡ 0 → dir ≡ top_of s.places.items → StandsAt l.upper p dir.key
-stands-at l p s dir tree is top is_dir =
+-- a directory whose topmost place is in the upper is held there
+upper-directory : (l : Layers) (p : Path) (s : Stack) → IsStackOf l p s → (top_of s.places.items).layer ≡ 0 → IsHeldDirectory (held (layer_of l.upper) p) (top_of s.places.items).key
+upper-directory l p s is top =
     let U : Layer = layer_of l.upper in
     let rest : List Place = unless_cut (cuts U p) (places_at 1 (lowers_of l) (below U p)) in
     let some : 0 < length s.places.items = omega (arith, s.some_place) in
-    let d : IsHeldDirectory (held U p) (top_of s.places.items).key = top-held (held U p) rest s.places.items is.places (head-unless (cuts U p) (places_at 1 (lowers_of l) (below U p)) (head-places 1 (lowers_of l) (below U p))) some top in
+    top-held (held U p) rest s.places.items is.places (head-unless (cuts U p) (places_at 1 (lowers_of l) (below U p)) (head-places 1 (lowers_of l) (below U p))) some top
+
+-- and stands there
+pub stands-at : (l : Layers) (p : Path) (s : Stack) (dir : Place) → IsTree l.upper → IsStackOf l p s → (top_of s.places.items).layer ≡ 0 → dir ≡ top_of s.places.items → StandsAt l.upper p dir.key
+stands-at l p s dir tree is top is_dir =
+    let d = upper-directory l p s is top in
     let node : IsDirectoryWith (get l.upper (top_of s.places.items).key) d.attributes = held-node l.upper tree p (top_of s.places.items).key d.attributes d.opaque d.redirect d.is in
     subst (λ (x : Place). StandsAt l.upper p x.key) (sym is_dir) (record {
       key = key-of l.upper p (top_of s.places.items).key d.attributes d.opaque d.redirect d.is;
       directory = table-some (get l.upper (top_of s.places.items).key) d.attributes node;
     })
+
+-- the attributes of a directory under a key
+under-key : (t : Tree) (k : ℕ) (a : Attributes) → IsDirectoryWith (get t k) a → attributes_at t k ≡ Some a
+under-key t k a d = ap (option_map attributes_of) d.is ∙ ap Some d.attributes
+
+-- a directory that is shown, whose topmost place is in the upper
+module _ (l : Layers) (p : Path) (s : Stack) (dir : Place) (tree : IsTree l.upper) (shown : ShowsDirectory l p s.places.items) (top : dir.layer ≡ 0) (is_dir : dir ≡ top_of s.places.items) where
+  first : (top_of s.places.items).layer ≡ 0
+  first = sym (ap (λ (x : Place). x.layer) is_dir) ∙ top
+
+  -- stands there
+  pub shown-stands : StandsAt l.upper p dir.key
+  shown-stands = stands-at l p s dir tree (record { places = shown.places }) first is_dir
+
+  -- with the attributes that are shown
+  pub shown-under : attributes_at l.upper dir.key ≡ Some shown.attributes
+  shown-under =
+      let U : Layer = layer_of l.upper in
+      let d = upper-directory l p s (record { places = shown.places }) first in
+      let here : shows 0 (layers_of l) p ≡ Some (Folder 0 (top_of s.places.items).key d.attributes) = ap (λ o. over 0 U.inodes o (unless (cuts U p) (shows 1 (lowers_of l) (below U p)))) d.is in
+      let two : Some (Folder (top_of s.places.items).layer (top_of s.places.items).key shown.attributes) ≡ Some (Folder 0 (top_of s.places.items).key d.attributes) = sym shown.shown ∙ here in
+      let same : d.attributes ≡ shown.attributes = cc in
+      ap (λ (x : Place). attributes_at l.upper x.key) is_dir
+      ∙ under-key l.upper (top_of s.places.items).key d.attributes (held-node l.upper tree p (top_of s.places.items).key d.attributes d.opaque d.redirect d.is)
+      ∙ ap Some same
+
+-- what is shown has one set of attributes
+pub shown-folder : (l : Layers) (p : Path) (j k : ℕ) (a b : Attributes) → shows 0 (layers_of l) p ≡ Some (Folder j k a) → ShowsAttributes l p b → a ≡ b
+shown-folder l p j k a b is shows = let two : Some a ≡ Some b = sym (ap shown_attributes is) ∙ shows in cc
+
+pub shown-inode : (l : Layers) (p : Path) (j k : ℕ) (i : Inode) (b : Attributes) → shows 0 (layers_of l) p ≡ Some (Contents j k (Some i)) → ShowsAttributes l p b → i.attributes ≡ b
+shown-inode l p j k i b is shows = let two : Some i.attributes ≡ Some b = sym (ap shown_attributes is) ∙ shows in cc
+
+-- two facts of one success
+pub both-ok : {P Q R : Type 0} (r : Result (Unit {0}) AllocError) → (P → Q → R) → OnOk r P → OnOk r Q → OnOk r R
+both-ok (Ok u) f p q = f p q
+both-ok (Err e) f p q = p
+
+-- an upper that is thin after success, and the same after want of memory, stays thin
+pub thin-either : (old new : Layers) (r : Result (Unit {0}) AllocError) → new.lowers ≡ old.lowers → OnOk r (StaysThin old new) → OnErr r (new.upper ≡ old.upper) → StaysThin old new
+thin-either old new (Ok u) low ok same = ok
+thin-either old new (Err e) low ok same = thin-agree old new low
+    (λ x. agree-where (layer_of old.upper) (layer_of new.upper) (λ _. Unit {0}) (λ k y u. tt) (λ y u. ap (λ (t : Tree). held (layer_of t) y) same) x tt)
+    (λ x h. sym (ap (λ (t : Tree). held (layer_of t) x) same) ∙ h)
 
 over-from : (i : ℕ) (inodes : ℕ → Option Inode) (o : Option Object) (c : Bool) (s : Option Shown) (j k : ℕ) (x : Option Inode) → (s ≡ Some (Contents j k x) → suc i ≤ j) → over i inodes o (unless c s) ≡ Some (Contents j k x) → i ≤ j
 over-from i inodes None true s j k x rest h = cc

@@ -2,11 +2,16 @@
 -- "Non-directories").
 use Rattle.std.specs.Prelude.{◌≡◌, ◌≢◌, ◌⊎◌, ℕ, Option, None, Some, IsSome, option_map}
 use Rattle.slab.specs.Slab.{get}
+use Rattle.ov_base.specs.AttributeChanges.{changed}
+use Rattle.ov_base.specs.declared.attribute_change.AttributeChange.{AttributeChange}
 use Rattle.ov_base.specs.declared.attributes.Attributes.{Attributes}
-use Rattle.plain_model.specs.Layers.{Path, Object, Directory, Named, Inode, Layer, held}
+use Rattle.plain_model.specs.Layers.{Path, Object, Directory, Named, Inode, Layer, held, shows, AreLayers}
+use Rattle.mount_laws.specs.Altered.{Alters}
+use Rattle.mount_laws.specs.Attributes.{shown_attributes}
 use Rattle.layer_tree.specs.Tree.{layer_of, seen_at, inode_at}
 use Rattle.layer_tree.specs.Nameless.{IsNameless}
 use Rattle.merged_lookup.specs.declared.layers.Layers.{Layers}
+use Rattle.merged_lookup.specs.Merged.{layers_of, lowers_of}
 use Rattle.copy_up.specs.Showing.{number_of, KeepsPath}
 
 -- a directory with other attributes; the name of an inode stays
@@ -37,3 +42,16 @@ pub record AltersObject (old new : Layers) (p : Path) (a : Attributes) : Type 0 
   pub inodes : (k : ℕ) → k ≢ key → inode_at new.upper k ≡ inode_at old.upper k
   pub paths : (x : Path) → x ≢ p → KeepsPath old new p x
   pub nameless : (k : ℕ) → IsNameless old.upper k → IsNameless new.upper k
+
+-- the path shows these attributes
+abbrev pub ShowsAttributes : Layers → Path → Attributes → Type 0
+ShowsAttributes l p a = shown_attributes (shows 0 (layers_of l) p) ≡ Some a
+
+-- the path shows the attributes that it showed after a change of them, and so do the other names of its inode; nothing else is shown
+-- otherwise
+abbrev pub AltersAs : Layers → Layers → Path → AttributeChange → Type 0
+AltersAs old new p x = (a : Attributes) → ShowsAttributes old p a → AreLayers (layers_of old) → Alters (layer_of old.upper) (layer_of new.upper) (lowers_of old) p (changed x a)
+
+-- the object at the path has them, and every other object is as before
+abbrev pub AltersObjectAs : Layers → Layers → Path → AttributeChange → Type 0
+AltersObjectAs old new p x = (a : Attributes) → ShowsAttributes old p a → AltersObject old new p (changed x a)

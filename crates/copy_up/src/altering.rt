@@ -1,22 +1,25 @@
 // Other attributes of what a path shows.
-ghost use Rattle.std.specs.Prelude.{◌≡◌, List, ℕ, Some, None, IsSome, OnOk, OnErr};
+ghost use Rattle.std.specs.Prelude.{◌≡◌, List, ℕ, Some, None, IsSome, IfOk, OnOk, OnErr};
 ghost use Rattle.slab.specs.Slab.{get};
-ghost use Rattle.plain_model.specs.Layers.{Path as Names, Inode, Contents, shows, IsLayer, AreLayers};
+ghost use Rattle.ov_base.specs.AttributeChanges.{changed};
+ghost use Rattle.ov_base.specs.declared.attributes.Attributes.{Attributes as AttributesOf};
+ghost use Rattle.plain_model.specs.Layers.{Path as Names, Inode, Folder, Contents, shows, IsLayer, AreLayers};
 ghost use Rattle.mount_laws.specs.Altered.{Alters};
-ghost use Rattle.layer_tree.specs.AttributeChange.{SetsAttributes, SetsInode, SetsDirectory};
+ghost use Rattle.layer_tree.specs.AttributeChange.{attributes_at, SetsAttributes, SetsInode, SetsDirectory};
 ghost use Rattle.layer_tree.specs.Nameless.{IsNameless};
 ghost use Rattle.layer_tree.specs.Tree.{layer_of, key_at, inode_at, IsDirectory, IsTree};
-ghost use Rattle.merged_lookup.specs.Merged.{layers_of, lowers_of, parent, parents_fault, walk_fault, way_fault, IsFound, IsStackOf, ShowsInode};
+ghost use Rattle.merged_lookup.specs.Merged.{layers_of, lowers_of, parent, parents_fault, walk_fault, way_fault, IsFound, IsStackOf, ShowsDirectory, ShowsInode};
 ghost use Rattle.copy_up.specs.Showing.{ShowsSame, GainsParents, StaysLayers, StaysMount, StaysThin};
-ghost use Rattle.copy_up.specs.Altering.{AltersObject};
+ghost use Rattle.copy_up.specs.Altering.{AltersObject, AltersAs, AltersObjectAs};
 
 use crate::leaves::all_at_once;
 use crate::parents::place_parents;
+use layer_tree::Node;
 use merged_lookup::{Found, Layers, Place, Stack};
-use ov_base::{Attributes, Path};
+use ov_base::{AttributeChange, Attributes, Path};
 use std::alloc::AllocError;
 
-/// Gives what a walk found at a path other attributes, as chmod(2), chown(2) and setxattr(2) do: in place where the upper has it; a
+/// Changes the attributes of what a walk found at a path, as chmod(2), chown(2) and setxattr(2) do: in place where the upper has it; a
 /// directory of lower layers is placed first, and a file or symbolic link of one is copied up with them (overlayfs.rst,
 /// "Non-directories"). It fails only for want of memory, and changes nothing that is shown then.
 pub fn alter(
@@ -24,13 +27,13 @@ pub fn alter(
     path: &Path,
     directory: Stack,
     found: Found,
-    attributes: Attributes,
+    change: AttributeChange,
 ) -> Result<(), AllocError>
     requires walked { walk_fault (layers_of layers.old) path.now ≡ None }
     requires directory { IsStackOf layers.old (parent path.now) directory }
     requires found { IsFound layers.old path.now found }
-    ensures altered { OnOk result (AreLayers (layers_of layers.old) → Alters (layer_of layers.old.upper) (layer_of layers.new.upper) (lowers_of layers.old) path.now attributes) }
-    ensures object { OnOk result (AltersObject layers.old layers.new path.now attributes) }
+    ensures altered { OnOk result (AltersAs layers.old layers.new path.now change) }
+    ensures object { OnOk result (AltersObjectAs layers.old layers.new path.now change) }
     ensures lowers { layers.new.lowers ≡ layers.old.lowers }
     ensures nameless { (k : ℕ) → IsNameless layers.old.upper k → IsNameless layers.new.upper k }
     ensures no_memory { OnErr result (ShowsSame layers.old layers.new) }
@@ -40,13 +43,55 @@ pub fn alter(
     ensures thin { StaysThin layers.old layers.new }
 {
     match found {
-        Found::Directory(stack) => alter_directory(layers, path, stack, attributes),
-        Found::Inode(place) => alter_inode(layers, path, directory, place, attributes),
+        Found::Directory(stack) => alter_directory(layers, path, stack, change),
+        Found::Inode(place) => alter_inode(layers, path, directory, place, change),
     }
 }
 
 // `alter` of a directory, which is placed first where the upper lacks it.
 fn alter_directory(
+    layers: &mut Layers,
+    path: &Path,
+    directory: Stack,
+    change: AttributeChange,
+) -> Result<(), AllocError>
+    requires way { way_fault (layers_of layers.old) path.now ≡ None }
+    requires shown { ShowsDirectory layers.old path.now directory.places.items }
+    ensures altered { OnOk result (AltersAs layers.old layers.new path.now change) }
+    ensures object { OnOk result (AltersObjectAs layers.old layers.new path.now change) }
+    ensures lowers { layers.new.lowers ≡ layers.old.lowers }
+    ensures nameless { (k : ℕ) → IsNameless layers.old.upper k → IsNameless layers.new.upper k }
+    ensures no_memory { OnErr result (ShowsSame layers.old layers.new) }
+    ensures mounts { OnErr result (StaysMount layers.old layers.new) }
+    ensures parents { OnErr result (GainsParents layers.old layers.new path.now) }
+    ensures keeps { StaysLayers layers.old layers.new }
+    ensures thin { StaysThin layers.old layers.new }
+{
+    let top = directory.top();
+    if top.layer == 0 {
+        lawful(layers);
+        return alter_upper(layers, top.key, change);
+    }
+    let attributes = changed_directory(layers, top, change)?;
+    place_with(layers, path, directory, attributes)
+}
+
+// A copy of the attributes of the directory that is shown at a place, changed.
+fn changed_directory(
+    layers: &Layers,
+    place: Place,
+    change: AttributeChange,
+) -> Result<Attributes, AllocError>
+    requires { (p : Names) × (a : AttributesOf) × (shows 0 (layers_of layers.now) p ≡ Some (Folder place.layer place.key a)) }
+    ensures { IfOk result (λ x. (p : Names) (a : AttributesOf) → shows 0 (layers_of layers.now) p ≡ Some (Folder place.layer place.key a) → x ≡ changed change a) }
+{
+    let mut attributes = layers.attributes_at(place).clone()?;
+    change.apply(&mut attributes)?;
+    Ok(attributes)
+}
+
+// Places the directory that a path shows in the upper, where the upper lacks it, with other attributes.
+fn place_with(
     layers: &mut Layers,
     path: &Path,
     directory: Stack,
@@ -84,13 +129,13 @@ fn alter_inode(
     path: &Path,
     directory: Stack,
     place: Place,
-    attributes: Attributes,
+    change: AttributeChange,
 ) -> Result<(), AllocError>
     requires way { parents_fault (layers_of layers.old) path.now ≡ None }
     requires directory { IsStackOf layers.old (parent path.now) directory }
     requires shown { ShowsInode layers.old path.now place }
-    ensures altered { OnOk result (AreLayers (layers_of layers.old) → Alters (layer_of layers.old.upper) (layer_of layers.new.upper) (lowers_of layers.old) path.now attributes) }
-    ensures object { OnOk result (AltersObject layers.old layers.new path.now attributes) }
+    ensures altered { OnOk result (AltersAs layers.old layers.new path.now change) }
+    ensures object { OnOk result (AltersObjectAs layers.old layers.new path.now change) }
     ensures lowers { layers.new.lowers ≡ layers.old.lowers }
     ensures nameless { (k : ℕ) → IsNameless layers.old.upper k → IsNameless layers.new.upper k }
     ensures no_memory { OnErr result (ShowsSame layers.old layers.new) }
@@ -101,14 +146,31 @@ fn alter_inode(
 {
     stands(layers, place);
     if place.layer == 0 {
-        set_attributes(layers, place.key, attributes);
-        return Ok(());
+        return alter_upper(layers, place.key, change);
     }
+    let attributes = changed_inode(layers, place, change)?;
     let Some((name, parents)) = path.split_last() else {
         unreachable!()
     };
     all_at_once(layers, directory, parents, name, place, attributes)?;
     Ok(())
+}
+
+// A copy of the attributes of the file or symbolic link that is shown at a place, changed.
+fn changed_inode(
+    layers: &Layers,
+    place: Place,
+    change: AttributeChange,
+) -> Result<Attributes, AllocError>
+    requires { (p : Names) × (i : Inode) × (shows 0 (layers_of layers.now) p ≡ Some (Contents place.layer place.key (Some i))) }
+    ensures { IfOk result (λ x. (p : Names) (i : Inode) → shows 0 (layers_of layers.now) p ≡ Some (Contents place.layer place.key (Some i)) → x ≡ changed change i.attributes) }
+{
+    let mut attributes = match layers.node(place) {
+        Some(Node::Inode(inode)) => inode.attributes.clone()?,
+        _ => unreachable!(),
+    };
+    change.apply(&mut attributes)?;
+    Ok(attributes)
 }
 
 // The inode that is shown at a place stands there; it does nothing.
@@ -120,6 +182,20 @@ fn stands(layers: &Layers, place: Place)
         unreachable!()
     };
     layer.lawful();
+}
+
+// Changes the attributes of what stands under a key of the upper, where they stand; the lower layers stay.
+fn alter_upper(layers: &mut Layers, key: usize, change: AttributeChange) -> Result<(), AllocError>
+    requires { IsSome (get layers.old.upper key) }
+    ensures lowers { layers.new.lowers ≡ layers.old.lowers }
+    ensures sets { OnOk result ((a : AttributesOf) → attributes_at layers.old.upper key ≡ Some a → SetsAttributes layers.old.upper layers.new.upper key (changed change a)) }
+    ensures inode { OnOk result ((i : Inode) → inode_at layers.old.upper key ≡ Some i → SetsInode (layer_of layers.old.upper) (layer_of layers.new.upper) key (changed change i.attributes)) }
+    ensures directory { OnOk result ((p : Names) (a : AttributesOf) → attributes_at layers.old.upper key ≡ Some a → key_at layers.old.upper p ≡ Some key → IsDirectory layers.old.upper key → SetsDirectory (layer_of layers.old.upper) (layer_of layers.new.upper) p key (changed change a)) }
+    ensures unchanged { OnErr result (layers.new.upper ≡ layers.old.upper) }
+    ensures keeps { IsLayer (layer_of layers.old.upper) → IsLayer (layer_of layers.new.upper) }
+    ensures nameless { (k : ℕ) → IsNameless layers.old.upper k → IsNameless layers.new.upper k }
+{
+    layers.upper_mut().alter(key, change)
 }
 
 // Gives what stands under a key of the upper these attributes; the lower layers stay.

@@ -1,10 +1,13 @@
 -- What other attributes of an object mean for the keys, and for the layer that they make.
-use Rattle.std.proofs.Common.{◌≡◌, ℕ, List, [], ◌∷◌, Bool, false, Option, Some, None, IsSome, is_some, refl, sym, ap, subst, ◌∙◌, inl, inr, true≢false}
+use Rattle.std.proofs.Common.{◌≡◌, ℕ, List, [], ◌∷◌, Bool, false, Option, Some, None, IsSome, is_some, Result, Ok, Err, OnOk, refl, sym, ap, subst, ◌∙◌, inl, inr, true≢false}
 use Rattle.std.specs.Option.{option_and_then, option_map_or}
 use Rattle.std.specs.Prelude.{option_map}
 use Rattle.std.proofs.lemmas.Bool.{cases_eq}
+use Rattle.std.specs.declared.alloc.AllocError.{AllocError}
 use Rattle.slab.specs.Slab.{get, with_value, Updates}
 use Rattle.slab.proofs.SlabLemmas.{Updates-with_value}
+use Rattle.ov_base.specs.AttributeChanges.{changed}
+use Rattle.ov_base.specs.declared.attribute_change.AttributeChange.{AttributeChange}
 use Rattle.ov_base.specs.declared.attributes.Attributes.{Attributes}
 use Rattle.ov_base.specs.declared.redirect.Redirect.{Redirect}
 use Rattle.plain_model.specs.Layers as layers
@@ -12,7 +15,7 @@ use Rattle.plain_model.specs.Layers.{Path, held, IsLayer}
 use Rattle.layer_tree.specs.Table.{Table, entry_in, object_key}
 use Rattle.layer_tree.specs.Tree.{Tree, ROOT, table_of, inode_of, seen, entry, child, key_at, entry_at, seen_at, seen_entry, inode_at, names_room, layer_of, directory_attributes, leads_on, IsDirectory, IsUnmarked, IsTree}
 use Rattle.layer_tree.specs.Places.{HasNames}
-use Rattle.layer_tree.specs.AttributeChange.{with_attributes, SetsAttributes, SetsInode, SetsDirectory}
+use Rattle.layer_tree.specs.AttributeChange.{attributes_of, attributes_at, with_attributes, SetsAttributes, SetsInode, SetsDirectory}
 use Rattle.layer_tree.specs.declared.name_table.Entry.{Entry}
 use Rattle.layer_tree.specs.declared.name_table.Entry.TheVariants as to
 use Rattle.layer_tree.specs.declared.node.Node.{Node}
@@ -230,3 +233,23 @@ module _ (old : Tree) (key : ℕ) (before : Node) (found : get old key ≡ Some 
               | inr differs ↦ ap (option_and_then inode_of) (updates.others k differs)
             ];
           }
+
+-- the attributes of an inode are those under its key
+pub inode_attributes : (t : Tree) (key : ℕ) (i : layers.Inode) → inode_at t key ≡ Some i → attributes_at t key ≡ Some i.attributes
+inode_attributes t key i is = of (get t key) is
+  where
+    of : (o : Option Node) → option_and_then inode_of o ≡ Some i → option_map attributes_of o ≡ Some i.attributes
+    of None h = absurd (cc)
+    of (Some (node.Directory d)) h = absurd (cc)
+    of (Some (node.Inode x)) h = cc
+
+-- a node whose attributes were changed is the node with the changed ones
+pub changed_node : (t : Tree) (key : ℕ) (before now : Node) → get t key ≡ Some before → now ≡ with_attributes (attributes_of now) before → (x : AttributeChange) → attributes_of now ≡ changed x (attributes_of before) → (a : Attributes) → attributes_at t key ≡ Some a → now ≡ with_attributes (changed x a) before
+changed_node t key before now found is x done a at =
+    let same : Some (attributes_of before) ≡ Some a = sym (ap (option_map attributes_of) found) ∙ at in
+    is ∙ ap (λ (b : Attributes). with_attributes b before) (done ∙ ap (changed x) (unwrapped (attributes_of before) a same))
+
+-- what follows from success
+pub on_ok : {A B : Type 0} (r : Result (Unit {0}) AllocError) → OnOk r A → (A → B) → OnOk r B
+on_ok (Ok u) a f = f a
+on_ok (Err e) a f = a

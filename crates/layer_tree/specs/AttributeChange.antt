@@ -14,6 +14,14 @@ abbrev pub with_attributes : Attributes → Node → Node
 with_attributes a (node.Directory d) = node.Directory (record d { attributes = a })
 with_attributes a (node.Inode i) = node.Inode (record i { attributes = a })
 
+-- the attributes of a node, and of what stands under a key
+abbrev pub attributes_of : Node → Attributes
+attributes_of (node.Directory d) = d.attributes
+attributes_of (node.Inode i) = i.attributes
+
+abbrev pub attributes_at : Tree → ℕ → Option Attributes
+attributes_at t key = option_map attributes_of (get t key)
+
 -- what stands under the key has these attributes, every other key has what it had, and names and paths lead where they led
 pub record SetsAttributes (old new : Tree) (key : ℕ) (a : Attributes) : Type 0 where
   pub there : get new key ≡ option_map (with_attributes a) (get old key)

@@ -1,3 +1,4 @@
+pub mod AttributeChanges
 pub mod AttributeNames
 pub mod Errnos
 pub mod Modes

@@ -62,6 +62,13 @@ impl AttributeName {
         &self.bytes
     }
 
+    /// The bytes, handed over.
+    pub fn into_bytes(self) -> Bytes
+        ensures { result ≡ self }
+    {
+        self.bytes
+    }
+
     /// What each name is; it does nothing.
     pub fn lawful(&self)
         ensures { attribute_of self.now ≡ Ok self.now }

@@ -1,6 +1,7 @@
 //! What every crate of the engine speaks of: names, paths, numbers of refusals, attributes, calls, replies and notices.
 #![tactic(auto)]
 
+mod attribute_change;
 mod attribute_name;
 mod attributes;
 mod bytes;
@@ -16,6 +17,7 @@ mod path;
 mod redirect;
 mod reply;
 
+pub use attribute_change::AttributeChange;
 pub use attribute_name::AttributeName;
 pub use attributes::{Attributes, UserAttributes};
 pub use bytes::{Bytes, Content, Texts};

@@ -1,5 +1,6 @@
 -- The calls that change attributes, by how they end.
 use Rattle.std.proofs.Common.{◌≡◌, ℕ, true, false, not, ◌&&◌, is_none, length, nat_lt, List, Option, None, Some, Result, Ok, Err, MatchResult, IfOk, IfErr, refl, sym, ap, ◌∙◌, subst}
+use Rattle.ov_base.specs.AttributeChanges.{changed}
 use Rattle.ov_base.specs.declared.attributes.Attributes.{Attributes}
 use Rattle.ov_base.specs.declared.call.Call.{Call}
 use Rattle.ov_base.specs.declared.errno.Errno.{Errno}
@@ -14,7 +15,7 @@ use Rattle.mount_laws.specs.Looks.{or_else, walk_fault, is_link_inode, shows_lin
 use Rattle.mount_laws.specs.Attributes.{user_in, shown_attributes, chown_fault, set_fault, get_fault}
 use Rattle.mount_laws.specs.Altered.{Alters, AltersBy, AltersState}
 use Rattle.mount_laws.specs.StayOpen.{AltersNamed, LivesThroughChange}
-use Rattle.copy_up.specs.Altering.{AltersObject}
+use Rattle.copy_up.specs.Altering.{AltersAs, AltersObjectAs}
 use Rattle.copy_up.specs.Showing.{StaysLayers, StaysThin}
 use Rattle.copy_up.proofs.Keeping.{lowers-same}
 use Rattle.overlay_core.specs.declared.attributes.Change.{Change}
@@ -27,22 +28,22 @@ module _
     (fault : List Layer → Option Errno) (old : Layers) (p : Path) (k : Call) (new : Layers) (low : new.lowers ≡ old.lowers)
     (keeps : StaysLayers old new) (thin : StaysThin old new) (f : Attributes → Attributes) (law : AltersBy f p fault k)
     (through : LivesThroughChange f p k) (x : Change) (none : fault (layers_of old) ≡ None) (h : IsChange f old p x)
-    (alters : AreLayers (layers_of old) → Alters (layer_of old.upper) (layer_of new.upper) (lowers_of old) p x.attributes) where
+    (alters : AltersAs old new p x.change) where
   -- alters each state, over the lower layers that there were
   state-altered : (s : State) → IsMountOf (layer_of old.upper) (lowers_of old) s → (c : ℕ) → AltersState (layer_of new.upper) (lowers_of old) s c p k
   state-altered s m c =
       law (layer_of old.upper) (layer_of new.upper) (lowers_of old) s m c none h.before h.shown
-      (subst (λ (a : Attributes). Alters (layer_of old.upper) (layer_of new.upper) (lowers_of old) p a) h.after (alters m.layers))
+      (subst (λ (a : Attributes). Alters (layer_of old.upper) (layer_of new.upper) (lowers_of old) p a) h.after (alters h.before h.shown m.layers))
 
   -- leaves live files live, also where it changes their attributes
-  live-altered : IsTree old.upper → AltersObject old new p x.attributes → KeepsLive old new k
+  live-altered : IsTree old.upper → AltersObjectAs old new p x.change → KeepsLive old new k
   live-altered tree object s m c d j l =
       through (layer_of old.upper) (layer_of new.upper) (lowers_of old) s c h.before h.shown (state-altered s m c) d j
-      (subst (λ (a : Attributes). AltersNamed (layer_of old.upper) (layer_of new.upper) p a j) h.after (alters-named old new tree p x.attributes object j _ l.inode))
+      (subst (λ (a : Attributes). AltersNamed (layer_of old.upper) (layer_of new.upper) p a j) h.after (alters-named old new tree p (changed x.change h.before) (object h.before h.shown) j _ l.inode))
       l
 
   -- ends so with the attributes that the call gives
-  pub alters-done : IsTree old.upper → AltersObject old new p x.attributes → AltersUnless (fault (layers_of old)) old new p k (Ok (Ok tt))
+  pub alters-done : IsTree old.upper → AltersObjectAs old new p x.change → AltersUnless (fault (layers_of old)) old new p k (Ok (Ok tt))
   alters-done tree object = record {
     refused = tt;
     unchanged = tt;
@@ -96,7 +97,7 @@ pub get-none : (Ls : List Layer) (p : Path) (n : List ℕ) (a : Attributes) → 
 get-none Ls p n a good s there = rw (good, s.allowed, ap user_in s.shown, there) refl
 
 -- a change of the attributes that are shown
-pub changes-shown : (f : Attributes → Attributes) (l : Layers) (p : Path) (x : Change) (a : Attributes) → ShowsAttributes (layers_of l) p a → IsStackOf l (parent p) x.directory → IsFound l p x.found → x.attributes ≡ f a → IsChange f l p x
+pub changes-shown : (f : Attributes → Attributes) (l : Layers) (p : Path) (x : Change) (a : Attributes) → ShowsAttributes (layers_of l) p a → IsStackOf l (parent p) x.directory → IsFound l p x.found → changed x.change a ≡ f a → IsChange f l p x
 changes-shown f l p x a s directory found after = record {
   walked = walk-none (layers_of l) p s.allowed;
   directory = directory;

@@ -1,6 +1,7 @@
 -- What the calls on attributes read at a path, and what those that change them leave of the layers of a mount.
 use Rattle.std.specs.Prelude.{◌≡◌, ℕ, false, List, Option, None, Some, Result, MatchResult, IfOk, IfErr, OnOk, OnErr}
 use Rattle.std.specs.declared.alloc.AllocError.{AllocError}
+use Rattle.ov_base.specs.AttributeChanges.{changed}
 use Rattle.ov_base.specs.declared.attributes.Attributes.{Attributes}
 use Rattle.ov_base.specs.declared.call.Call.{Call}
 use Rattle.ov_base.specs.declared.errno.Errno.{Errno}
@@ -47,14 +48,14 @@ pub record AltersUnless (fault : Option Errno) (old new : Layers) (p : Path) (k 
   pub live : IfOk result (λ r. OnOk r (KeepsLive old new k))
   pub stays : OnErr result (StaysLive old new)
 
--- the change is of what the path shows, which gets f of the attributes that it shows
+-- the change is of what the path shows, and makes f of the attributes that it shows
 pub record IsChange (f : Attributes → Attributes) (l : Layers) (p : Path) (x : Change) : Type 0 where
   pub walked : walk_fault (layers_of l) p ≡ None
   pub directory : IsStackOf l (parent p) x.directory
   pub found : IsFound l p x.found
   pub before : Attributes
   pub shown : shown_attributes (shows 0 (layers_of l) p) ≡ Some before
-  pub after : x.attributes ≡ f before
+  pub after : changed x.change before ≡ f before
 
 -- such a change is to be made where there is no fault, and else the fault is told
 abbrev pub Plans : (List Layer → Option Errno) → (Attributes → Attributes) → Layers → Path → Result Change Errno → Type 0

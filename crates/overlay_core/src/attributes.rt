@@ -14,7 +14,7 @@ ghost use Rattle.overlay_core.specs.Altering.{AltersUnless, CarriesOut, IsOpenTo
 use copy_up::alter;
 use layer_tree::{Inode, Node};
 use merged_lookup::{Found, Layers, Place, Stack, Topmost};
-use ov_base::{Attributes, Content, Errno, Mode, Path};
+use ov_base::{AttributeChange, Attributes, Content, Errno, Mode, Path};
 use std::alloc::AllocError;
 
 /// What a call alters: the merged directory in which it stands, what was found there, and its attributes.
@@ -26,25 +26,25 @@ pub(crate) struct Target<'a> {
 }
 
 impl<'a> Target<'a> {
-    /// The change that gives it these attributes.
-    pub(crate) fn into_change(self, attributes: Attributes) -> Change
+    /// This change of it.
+    pub(crate) fn into_change(self, change: AttributeChange) -> Change
         ensures what { (result.directory ≡ self.entry.directory) × (result.found ≡ self.entry.found) }
-        ensures attributes { result.attributes ≡ attributes }
+        ensures change { result.change ≡ change }
     {
         Change {
             directory: self.directory,
             found: self.found,
-            attributes,
+            change,
         }
     }
 }
 
-/// A change that is to be made: what a call alters, and the attributes that it gets.
+/// A change that is to be made: what a call alters, and how.
 #[derive(Drop)]
 pub(crate) struct Change {
     directory: Stack,
     found: Found,
-    attributes: Attributes,
+    change: AttributeChange,
 }
 
 /// Gives what a path shows another mode, as chmod(2). A mode of more than twelve bits is EINVAL; then it is refused as `chown` is.
@@ -55,24 +55,17 @@ pub(crate) fn chmod(
 ) -> Result<Result<(), Errno>, AllocError>
     ensures { AltersUnless (chmod_fault (layers_of layers.old) path.now mode) layers.old layers.new path.now (call.Chmod path.now mode) result }
 {
-    let change = mode_change(layers, path, mode)?;
+    let change = mode_change(layers, path, mode);
     carry_out(layers, path, change)
 }
 
 // The change of a mode.
-fn mode_change(layers: &Layers, path: &Path, mode: u32) -> Result<Result<Change, Errno>, AllocError>
-    ensures { IfOk result (Plans (λ Ls. chmod_fault Ls path.now mode) (changes.with_mode mode) layers.now path.now) }
+fn mode_change(layers: &Layers, path: &Path, mode: u32) -> Result<Change, Errno>
+    ensures { Plans (λ Ls. chmod_fault Ls path.now mode) (changes.with_mode mode) layers.now path.now result }
 {
-    let mode = match Mode::parse(mode) {
-        Ok(mode) => mode,
-        Err(errno) => return Ok(Err(errno)),
-    };
-    let target = match target_at(layers, path) {
-        Ok(target) => target,
-        Err(errno) => return Ok(Err(errno)),
-    };
-    let attributes = with_mode(target.attributes, mode)?;
-    Ok(Ok(target.into_change(attributes)))
+    let mode = Mode::parse(mode)?;
+    let target = target_at(layers, path)?;
+    Ok(target.into_change(AttributeChange::Mode(mode)))
 }
 
 /// Gives what a path shows another owner and group, as chown(2). On the way to the last name a name that shows nothing is ENOENT, a file
@@ -85,25 +78,16 @@ pub(crate) fn chown(
 ) -> Result<Result<(), Errno>, AllocError>
     ensures { AltersUnless (chown_fault (layers_of layers.old) path.now) layers.old layers.new path.now (call.Chown path.now uid gid) result }
 {
-    let change = owner_change(layers, path, uid, gid)?;
+    let change = owner_change(layers, path, uid, gid);
     carry_out(layers, path, change)
 }
 
 // The change of an owner and group.
-fn owner_change(
-    layers: &Layers,
-    path: &Path,
-    uid: u32,
-    gid: u32,
-) -> Result<Result<Change, Errno>, AllocError>
-    ensures { IfOk result (Plans (λ Ls. chown_fault Ls path.now) (changes.with_owner uid gid) layers.now path.now) }
+fn owner_change(layers: &Layers, path: &Path, uid: u32, gid: u32) -> Result<Change, Errno>
+    ensures { Plans (λ Ls. chown_fault Ls path.now) (changes.with_owner uid gid) layers.now path.now result }
 {
-    let target = match target_at(layers, path) {
-        Ok(target) => target,
-        Err(errno) => return Ok(Err(errno)),
-    };
-    let attributes = with_owner(target.attributes, uid, gid)?;
-    Ok(Ok(target.into_change(attributes)))
+    let target = target_at(layers, path)?;
+    Ok(target.into_change(AttributeChange::Owner(uid, gid)))
 }
 
 /// Makes a change, or hands back why it is refused.
@@ -120,13 +104,7 @@ pub(crate) fn carry_out(
         Err(errno) => return Ok(Err(errno)),
     };
     layers.upper().lawful();
-    alter(
-        layers,
-        path,
-        change.directory,
-        change.found,
-        change.attributes,
-    )?;
+    alter(layers, path, change.directory, change.found, change.change)?;
     Ok(Ok(()))
 }
 
@@ -207,21 +185,4 @@ fn attributes_on(inode: &Inode) -> Result<&Attributes, Errno>
         Content::File(_) => Ok(&inode.attributes),
         Content::SymbolicLink(_) => Err(Errno::ELOOP),
     }
-}
-
-fn with_mode(attributes: &Attributes, mode: Mode) -> Result<Attributes, AllocError>
-    ensures { IfOk result (λ a. a ≡ changes.with_mode mode attributes.now) }
-{
-    let mut copy = attributes.clone()?;
-    copy.mode = mode;
-    Ok(copy)
-}
-
-fn with_owner(attributes: &Attributes, uid: u32, gid: u32) -> Result<Attributes, AllocError>
-    ensures { IfOk result (λ a. a ≡ changes.with_owner uid gid attributes.now) }
-{
-    let mut copy = attributes.clone()?;
-    copy.uid = uid;
-    copy.gid = gid;
-    Ok(copy)
 }

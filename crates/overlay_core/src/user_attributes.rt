@@ -10,7 +10,7 @@ ghost use Rattle.overlay_core.specs.Altering.{AltersUnless, Plans};
 
 use crate::attributes::{Change, attributes_at, carry_out, target_at};
 use merged_lookup::Layers;
-use ov_base::{AttributeName, Attributes, Bytes, Errno, Path, Texts, UserAttributes};
+use ov_base::{AttributeChange, AttributeName, Bytes, Errno, Path, Texts, UserAttributes};
 use std::alloc::{AllocError, Global};
 
 /// The most bytes of a user attribute's value.
@@ -56,8 +56,8 @@ fn value_change(
     if has_no_room(&target.attributes.user, name.as_bytes()) {
         return Ok(Err(Errno::EFBIG));
     }
-    let attributes = with_value(target.attributes, name.as_bytes(), value)?;
-    Ok(Ok(target.into_change(attributes)))
+    let value = value.clone()?;
+    Ok(Ok(target.into_change(AttributeChange::Set(name, value))))
 }
 
 /// Deletes a user attribute of what a path shows, as removexattr(2). It is refused as `get_attribute` is.
@@ -87,8 +87,7 @@ fn deletion(layers: &Layers, path: &Path, name: &Bytes) -> Result<Result<Change,
     if is_unset(&target.attributes.user, name.as_bytes()) {
         return Ok(Err(Errno::ENODATA));
     }
-    let attributes = without_value(target.attributes, name.as_bytes())?;
-    Ok(Ok(target.into_change(attributes)))
+    Ok(Ok(target.into_change(AttributeChange::Delete(name))))
 }
 
 /// The value of a user attribute of what a path shows, as getxattr(2). A malformed name is EINVAL and one outside `user.` EOPNOTSUPP; then
@@ -153,24 +152,4 @@ fn has_no_room(user: &UserAttributes, name: &Bytes) -> bool
     ensures { result ≡ (is_none (value_of user.now name.now) && not (nat_lt (length user.now) 64)) }
 {
     is_unset(user, name) && user.len() >= ATTRIBUTES_MAX
-}
-
-fn with_value(
-    attributes: &Attributes,
-    name: &Bytes,
-    value: &Bytes,
-) -> Result<Attributes, AllocError>
-    ensures { IfOk result (λ a. a ≡ record attributes.now { user = set_value attributes.now.user name.now value.now }) }
-{
-    let mut copy = attributes.clone()?;
-    copy.user.set(name.clone()?, value.clone()?)?;
-    Ok(copy)
-}
-
-fn without_value(attributes: &Attributes, name: &Bytes) -> Result<Attributes, AllocError>
-    ensures { IfOk result (λ a. a ≡ record attributes.now { user = drop_value attributes.now.user name.now }) }
-{
-    let mut copy = attributes.clone()?;
-    copy.user.remove(name.as_slice());
-    Ok(copy)
 }

@@ -2,20 +2,22 @@
 ghost use Rattle.std.specs.Prelude.{◌≡◌, ℕ, ◌+◌, ◌^◌, ◌<◌, ◌≤◌, Some, OnOk, OnErr, IsOk, is_ok, IsSome, if◌then◌else◌, List, length};
 ghost use Rattle.std.specs.Option.{option_copied};
 ghost use Rattle.slab.specs.Slab.{get};
+ghost use Rattle.ov_base.specs.AttributeChanges.{changed};
+ghost use Rattle.ov_base.specs.declared.attributes.Attributes.{Attributes as AttributesOf};
 ghost use Rattle.plain_model.specs.Changes.{sized};
 ghost use Rattle.plain_model.specs.Layers as layers;
 ghost use Rattle.plain_model.specs.Layers.{IsLayer};
 ghost use Rattle.layer_tree.specs.Tree.{key_at, inode_at, bytes_at, layer_of, Writes, written, IsDirectory, names_room, SameObjects, SameTree, UsesObjects};
 ghost use Rattle.layer_tree.specs.Nameless.{IsNameless};
-ghost use Rattle.layer_tree.specs.AttributeChange.{SetsAttributes, SetsInode, SetsDirectory};
+ghost use Rattle.layer_tree.specs.AttributeChange.{attributes_at, SetsAttributes, SetsInode, SetsDirectory};
 ghost use Rattle.layer_tree.specs.ContentChange.{SetsBytes};
 
 use super::Layer;
-use crate::attribute_change::set_attributes_in;
+use crate::attribute_change::{alter_in, set_attributes_in};
 use crate::file_size::resize_in;
 use crate::file_write::write_in;
 use crate::node::{Inode, Node};
-use ov_base::{Attributes, Content};
+use ov_base::{AttributeChange, Attributes, Content};
 use std::alloc::AllocError;
 
 impl Layer {
@@ -90,5 +92,23 @@ impl Layer {
     {
         let node = &mut self.nodes[key];
         set_attributes_in(node, attributes);
+    }
+
+    /// Changes the attributes of what stands under a key, where they stand; nothing else changes. It fails only for want of memory, and
+    /// changes nothing then.
+    pub fn alter(&mut self, key: usize, change: AttributeChange) -> Result<(), AllocError>
+        requires { IsSome (get self.old key) }
+        ensures sets { OnOk result ((a : AttributesOf) → attributes_at self.old key ≡ Some a → SetsAttributes self.old self.new key (changed change a)) }
+        ensures inode { OnOk result ((i : layers.Inode) → inode_at self.old key ≡ Some i → SetsInode (layer_of self.old) (layer_of self.new) key (changed change i.attributes)) }
+        ensures directory { OnOk result ((path : List (List ℕ)) (a : AttributesOf) → attributes_at self.old key ≡ Some a → key_at self.old path ≡ Some key → IsDirectory self.old key → SetsDirectory (layer_of self.old) (layer_of self.new) path key (changed change a)) }
+        ensures unchanged { OnErr result (self.new ≡ self.old) }
+        ensures kinds { (d : ℕ) → IsDirectory self.old d → IsDirectory self.new d }
+        ensures names { (d : ℕ) → names_room self.new d ≡ names_room self.old d }
+        ensures objects { UsesObjects self.old self.new 0 }
+        ensures keeps { IsLayer (layer_of self.old) → IsLayer (layer_of self.new) }
+        ensures nameless { (k : ℕ) → IsNameless self.old k → IsNameless self.new k }
+    {
+        let node = &mut self.nodes[key];
+        alter_in(node, change)
     }
 }

@@ -6,4 +6,4 @@ use Rattle.mount_laws.proofs.Outlive.{law_of_live_through_mode}
 use Rattle.overlay_core.proofs.attributes.chmod.Goals as goal
 
 pub returns : goal.returns
-returns c = c.carry_out.ensures (λ Ls. chmod_fault Ls c.args.path.now c.args.mode) (with_mode c.args.mode) (call.Chmod c.args.path.now c.args.mode) (law_of_mode_changed c.args.path.now c.args.mode) (law_of_live_through_mode c.args.path.now c.args.mode) c.in_ok-change.ensures
+returns c = c.carry_out.ensures (λ Ls. chmod_fault Ls c.args.path.now c.args.mode) (with_mode c.args.mode) (call.Chmod c.args.path.now c.args.mode) (law_of_mode_changed c.args.path.now c.args.mode) (law_of_live_through_mode c.args.path.now c.args.mode) c.mode_change-change.ensures

@@ -6,4 +6,4 @@ use Rattle.mount_laws.proofs.Outlive.{law_of_live_through_owner}
 use Rattle.overlay_core.proofs.attributes.chown.Goals as goal
 
 pub returns : goal.returns
-returns c = c.carry_out.ensures (λ Ls. chown_fault Ls c.args.path.now) (with_owner c.args.uid c.args.gid) (call.Chown c.args.path.now c.args.uid c.args.gid) (law_of_owner_changed c.args.path.now c.args.uid c.args.gid) (law_of_live_through_owner c.args.path.now c.args.uid c.args.gid) c.in_ok-change.ensures
+returns c = c.carry_out.ensures (λ Ls. chown_fault Ls c.args.path.now) (with_owner c.args.uid c.args.gid) (call.Chown c.args.path.now c.args.uid c.args.gid) (law_of_owner_changed c.args.path.now c.args.uid c.args.gid) (law_of_live_through_owner c.args.path.now c.args.uid c.args.gid) c.owner_change-change.ensures

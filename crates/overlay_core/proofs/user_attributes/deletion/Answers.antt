@@ -1,4 +1,6 @@
-use Rattle.std.proofs.Common.{sym, ◌∙◌, subst}
+use Rattle.std.proofs.Common.{sym, ap, ◌∙◌, subst}
+use Rattle.ov_base.specs.AttributeChanges.{changed}
+use Rattle.ov_base.specs.declared.attribute_change.AttributeChange.{AttributeChange}
 use Rattle.merged_lookup.specs.declared.found.Found.{Found}
 use Rattle.merged_lookup.specs.declared.stack.Stack.{Stack}
 use Rattle.merged_lookup.specs.Merged.{layers_of, parent, IsFound, IsStackOf}
@@ -16,5 +18,5 @@ returns c =
       changes-shown _ c.args.layers.now c.args.path.now c.into_change.result c.in-Ok-target_at.target.attributes.now shown
           (subst (λ (d : Stack). IsStackOf c.args.layers.now (parent c.args.path.now) d) (sym c.into_change.ensures.what.0) c.in-Ok-target_at.ensures.directory)
           (subst (λ (f : Found). IsFound c.args.layers.now c.args.path.now f) (sym c.into_change.ensures.what.1) c.in-Ok-target_at.ensures.found)
-          (c.into_change.ensures.attributes ∙ (rw (c.as_bytes-2.ensures, same) at c.in_ok-attributes.ensures)),
+          (ap (λ (x : AttributeChange). changed x c.in-Ok-target_at.target.attributes.now) (rw same at c.into_change.ensures.change)),
     )
