@@ -12,7 +12,7 @@ use Rattle.std.specs.declared.cmp.Ordering.{Ordering}
 use Rattle.std.specs.declared.cmp.Ordering.TheVariants.{Less, Equal, Greater}
 use Rattle.plain_model.specs.Layers.{Name, Path}
 use Rattle.plain_model.specs.Merging.{text, text_cmp, lesser}
-use Rattle.layer_tree.specs.Tree.{Tree, ROOT, layer_of, key_at, IsDirectory, IsTree, IsHeldTogether}
+use Rattle.layer_tree.specs.Tree.{Tree, ROOT, layer_of, key_at, IsDirectory, IsHeldTogether}
 use Rattle.merged_lookup.specs.declared.layers.Layers.{Layers}
 use Rattle.merged_lookup.specs.Locating.{IsPlaceOf}
 use Rattle.merged_lookup.specs.declared.locate.Waiting.{Waiting}
@@ -118,12 +118,12 @@ offered-goes t old new p at o = record {
     keep x (inr h) = inr (rw o.best (lesser-second p (path_of old.best) x h))
 
 -- and it is covered; nothing leads on from it to the key
-pub offered-meets : (t : Tree) → IsTree t → IsHeldTogether (layer_of t) → (old new : Search) (p : Path) → key_at t p ≡ Some old.key → Offers p old new → (r : Path) → Covers t old.key new (r ++ p)
-offered-meets t is together old new p at o r h = elim (itself-or-below p r) [
+pub offered-meets : (t : Tree) → IsHeldTogether (layer_of t) → (old new : Search) (p : Path) → key_at t p ≡ Some old.key → Offers p old new → (r : Path) → Covers t old.key new (r ++ p)
+offered-meets t together old new p at o r h = elim (itself-or-below p r) [
   | inl e ↦ subst (IsCovered new) (sym e) covered
   | inr w ↦
       let directory : IsDirectory t old.key = below-directory t w.0 p w.1 old.key old.key at (sym (ap (key_at t) w.2) ∙ h) in
-      subst (IsCovered new) (one-path t is together p (r ++ p) old.key directory at h) covered
+      subst (IsCovered new) (one-path t together p (r ++ p) old.key directory at h) covered
 ]
   where
     covered : IsCovered new p
