@@ -1,4 +1,4 @@
--- A search for a key: what stays covered when a directory is put off, and when a path is taken for the best.
+-- A search for a key: what is covered at its start, when a name is met, when a directory is taken or put off, and at its end.
 use Rattle.std.proofs.Common.{◌+◌, ◌<◌, ◌||◌, length, get_or, take, ◌≡◌, ◌≢◌, ℕ, true, false, cond, List, [], ◌∷◌, ◌++◌, Option, None, Some, refl, sym, ap, ◌∙◌, subst, ◌⊎◌, inl, inr}
 use Rattle.std.proofs.lemmas.Bool.{cases_Bool, false≢true}
 use Rattle.std.proofs.lemmas.Cmp.{nat_list_cmp_total, upto, tied_itself}
@@ -12,7 +12,7 @@ use Rattle.std.specs.declared.cmp.Ordering.{Ordering}
 use Rattle.std.specs.declared.cmp.Ordering.TheVariants.{Less, Equal, Greater}
 use Rattle.plain_model.specs.Layers.{Name, Path}
 use Rattle.plain_model.specs.Merging.{text, text_cmp, lesser}
-use Rattle.layer_tree.specs.Tree.{Tree, ROOT, layer_of, key_at, IsDirectory, IsTree, IsHeldTogether}
+use Rattle.layer_tree.specs.Tree.{Tree, ROOT, layer_of, key_at, IsDirectory, IsHeldTogether}
 use Rattle.merged_lookup.specs.declared.layers.Layers.{Layers}
 use Rattle.merged_lookup.specs.Locating.{IsPlaceOf}
 use Rattle.merged_lookup.specs.declared.locate.Waiting.{Waiting}
@@ -21,7 +21,7 @@ use Rattle.merged_lookup.specs.Searching.{IsBelow, IsAhead, IsUpTo, IsCovered, C
 use Rattle.merged_lookup.proofs.Locating.{below-directory, one-path}
 
 -- a text doesn't come after itself
-pub text-itself : (p : Path) → is_gt (text_cmp p p) ≡ false
+text-itself : (p : Path) → is_gt (text_cmp p p) ≡ false
 text-itself p = ap is_gt (tied_itself nat_list_cmp_total (text p))
 
 -- of two texts one doesn't come after the other
@@ -66,7 +66,7 @@ itself-or-below p (n ∷ r) = elim (itself-or-below p r) [
 ]
 
 -- each path but the root's leads on from the root
-pub below-root : (n : Name) (p : Path) → IsBelow [] (n ∷ p)
+below-root : (n : Name) (p : Path) → IsBelow [] (n ∷ p)
 below-root n [] = ([], n, refl)
 below-root n (m ∷ p) = let w = below-root m p in (n ∷ w.0, w.1, ap (λ z. n ∷ z) w.2)
 
@@ -79,7 +79,7 @@ ahead-more (e ∷ ds) d x (inl (inr h)) = inr (ahead-more ds d x (inl h))
 ahead-more (e ∷ ds) d x (inr h) = inr (ahead-more ds d x (inr h))
 
 -- and one less
-pub ahead-less : (ds : List Waiting) (d : Waiting) (x : Path) → IsAhead (ds ++ d ∷ []) x → IsAhead ds x ⊎ IsBelow d.path x
+ahead-less : (ds : List Waiting) (d : Waiting) (x : Path) → IsAhead (ds ++ d ∷ []) x → IsAhead ds x ⊎ IsBelow d.path x
 ahead-less [] d x (inl h) = inr h
 ahead-less [] d x (inr h) = absurd h
 ahead-less (e ∷ ds) d x (inl h) = inl (inl h)
@@ -88,18 +88,17 @@ ahead-less (e ∷ ds) d x (inr h) = elim (ahead-less ds d x h) [
   | inr g ↦ inr g
 ]
 
+-- with one directory more, all stand at their paths
 stand-more : (t : Tree) (ds : List Waiting) (d : Waiting) → AllStand t ds → key_at t d.path ≡ Some d.key → AllStand t (ds ++ d ∷ [])
 stand-more t [] d h e = (e, tt)
 stand-more t (c ∷ ds) d h e = (h.0, stand-more t ds d h.1 e)
 
-pub stand-less : (t : Tree) (ds : List Waiting) (d : Waiting) → AllStand t (ds ++ d ∷ []) → AllStand t ds × (key_at t d.path ≡ Some d.key)
+-- and with one less
+stand-less : (t : Tree) (ds : List Waiting) (d : Waiting) → AllStand t (ds ++ d ∷ []) → AllStand t ds × (key_at t d.path ≡ Some d.key)
 stand-less t [] d h = (tt, h.0)
 stand-less t (c ∷ ds) d h = let w = stand-less t ds d h.1 in ((h.0, w.0), w.1)
 
--- a search that stays goes on, and what goes on twice does
-pub stays : (t : Tree) (s : Search) → GoesOn t s s
-stays t s = record { key = refl; sound = λ h. h; keeps = λ x h. h }
-
+-- what goes on twice goes on
 pub further : (t : Tree) (a b c : Search) → GoesOn t a b → GoesOn t b c → GoesOn t a c
 further t a b c g h = record { key = h.key ∙ g.key; sound = λ s. h.sound (g.sound s); keeps = λ x w. h.keeps x (g.keeps x w) }
 
@@ -119,12 +118,12 @@ offered-goes t old new p at o = record {
     keep x (inr h) = inr (rw o.best (lesser-second p (path_of old.best) x h))
 
 -- and it is covered; nothing leads on from it to the key
-pub offered-meets : (t : Tree) → IsTree t → IsHeldTogether (layer_of t) → (old new : Search) (p : Path) → key_at t p ≡ Some old.key → Offers p old new → (r : Path) → Covers t old.key new (r ++ p)
-offered-meets t is together old new p at o r h = elim (itself-or-below p r) [
+pub offered-meets : (t : Tree) → IsHeldTogether (layer_of t) → (old new : Search) (p : Path) → key_at t p ≡ Some old.key → Offers p old new → (r : Path) → Covers t old.key new (r ++ p)
+offered-meets t together old new p at o r h = elim (itself-or-below p r) [
   | inl e ↦ subst (IsCovered new) (sym e) covered
   | inr w ↦
       let directory : IsDirectory t old.key = below-directory t w.0 p w.1 old.key old.key at (sym (ap (key_at t) w.2) ∙ h) in
-      subst (IsCovered new) (one-path t is together p (r ++ p) old.key directory at h) covered
+      subst (IsCovered new) (one-path t together p (r ++ p) old.key directory at h) covered
 ]
   where
     covered : IsCovered new p
@@ -195,10 +194,11 @@ begun t s k key other first none = (record { stand = subst (AllStand t) (sym fir
     covers [] h = let e : k ≡ ROOT = cc in absurd (other e)
     covers (n ∷ p) h = inl (subst (λ ds. IsAhead ds (n ∷ p)) (sym first) (inl (below-root n p)))
 
--- a search goes on by one directory less that waits
+-- the last directory that waits, and all others, stand at their paths
 pub taken-stand : (t : Tree) (s : Search) (ds : List Waiting) (d : Waiting) → s.waiting.items ≡ ds ++ d ∷ [] → IsSound t s → AllStand t ds × (key_at t d.path ≡ Some d.key)
 taken-stand t s ds d is sound = stand-less t ds d (subst (AllStand t) is sound.stand)
 
+-- the paths to the key stay covered when that directory is taken and its names are looked at
 pub taken-goes : (t : Tree) (s between new : Search) (d : Waiting) (k : ℕ) → s.key ≡ k → between.key ≡ s.key → between.best ≡ s.best → s.waiting.items ≡ between.waiting.items ++ d ∷ [] → ((x : Path) → Covers t k s x) → GoesOn t between new → ((n : Name) (r : Path) → Covers t between.key new (r ++ n ∷ d.path)) → (x : Path) → Covers t k new x
 taken-goes t s between new d k key same best is covers goes looked x h = by (covers x h)
   where

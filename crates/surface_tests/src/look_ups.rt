@@ -66,7 +66,10 @@ fn an_object_is_located_at_the_least_text(rt: HostRuntime) -> Result<(), Fail> {
         let Some(located) = layers.locate(alloc, key)? else {
             return Err(Fail::from("no path"));
         };
-        assert!(rt; located.names() == path(&rt, alloc, wanted).names(), "{text}");
+        assert!(rt;
+            located.names() == path(&rt, alloc, wanted).names(),
+            "{text}"
+        );
     }
     Ok(())
 }

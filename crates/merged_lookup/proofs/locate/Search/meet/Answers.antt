@@ -18,7 +18,7 @@ pub returns-then-key-self-clause-met : goal.returns-then-key-self-clause-met
 returns-then-key-self-clause-met c =
     let at = c.requires ∙ ap Some c.if-key-self.true in
     let P : Path → Type 0 = λ p. Offers p c.args.self.now c.offer.new.self in
-    on_ok_weaker c.offer.result (λ o. offered-meets c.args.layer.now c.lawful.ensures.tree c.lawful.ensures.together c.args.self.now c.offer.new.self (c.args.name.now ∷ c.args.directory.now.path) at (subst P c.in_ok-path_below.ensures o)) c.offer.ensures
+    on_ok_weaker c.offer.result (λ o. offered-meets c.args.layer.now c.lawful.ensures.together c.args.self.now c.offer.new.self (c.args.name.now ∷ c.args.directory.now.path) at (subst P c.in_ok-path_below.ensures o)) c.offer.ensures
 
 pub returns-in_ok-push-clause-goes : goal.returns-in_ok-push-clause-goes
 returns-in_ok-push-clause-goes c =
