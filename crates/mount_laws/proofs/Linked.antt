@@ -5,7 +5,7 @@ use Rattle.ov_base.specs.declared.call.Call.TheVariants.{Hardlink}
 use Rattle.ov_base.specs.declared.errno.Errno.{Errno}
 use Rattle.ov_base.specs.declared.errno.Errno.TheVariants.{EPERM, EEXIST}
 use Rattle.ov_base.specs.declared.node_id.NodeId.{NodeId}
-use Rattle.plain_model.specs.Layers.{Name, Path, Named, Layer, held, shows, is_directory, same_path}
+use Rattle.plain_model.specs.Layers.{Name, Path, Named, Layer, shows, is_directory, same_path}
 use Rattle.plain_model.specs.Tree.{same_id, Node, Branch, Leaf, Own, Untouched, Tree, names_of, entry, node_at, node_of, with_name, lead, face, sight_at, SeenLeaf, merged, AreLinked, Remounts, is_folder, count_of, is_untouched}
 use Rattle.plain_model.specs.Machine.{MountOptions, State, look, is_found}
 use Rattle.plain_model.specs.Refusals.{when, walked, there}
@@ -45,6 +45,7 @@ face-more m (Some (Branch a b names c)) one = refl
 face-more m (Some (Leaf content a Own l)) one = refl
 face-more m (Some (Leaf content a (Untouched k) l)) one = ap (λ n. Some (SeenLeaf content a Own (n + 1))) (one refl)
 
+-- a name that leads elsewhere is not seen of its directory
 face-named : (n : Name) (e : Option NodeId) (o : Option Node) → face (with_name n e o) ≡ face o
 face-named n e None = refl
 face-named n e (Some (Branch a b names c)) = refl
@@ -129,10 +130,11 @@ pub record Joined (V : Layer) (lowers : List Layer) (s : State) (old new : Path)
   pub joined : node_at u new ≡ node_at s.tree old
   pub hidden : KeepsHidden s.tree u
 
--- of two links, the second's ends turned, and one after the other
+-- two paths that are one object are so either way round
 turned : (V : Layer) (x z : Path) → AreLinked V x z → AreLinked V z x
 turned V x z l = record { number = l.number; first = l.second; second = l.first }
 
+-- and so are two that are one object with a third
 joined-links : (V : Layer) (x y z : Path) → AreLinked V x y → AreLinked V y z → AreLinked V x z
 joined-links V x y z k l =
     let number : l.number ≡ k.number = (let w : Some (Named l.number) ≡ Some (Named k.number) = sym l.first ∙ k.second in cc) in

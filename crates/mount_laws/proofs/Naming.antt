@@ -1,7 +1,6 @@
 -- Uppers that gain a further name of an inode: of their own, and of one that was copied up first.
-use Rattle.std.proofs.Common.{◌≡◌, ◌≢◌, ℕ, suc, false, List, [], ◌∷◌, ◌++◌, Option, None, Some, option_map, refl, sym, ap, ◌∙◌, ◌⊎◌, inl, inr}
-use Rattle.plain_model.specs.Layers.{Name, Path, Named, Inode, Layer, held, spell, below, cut, cuts, Shown, Contents, unless, over, shows, through, is_directory, base, AreLayers}
-use Rattle.plain_model.specs.Laws.{IsOutside}
+use Rattle.std.proofs.Common.{◌≡◌, ◌≢◌, ℕ, suc, false, List, [], ◌∷◌, ◌++◌, None, Some, option_map, sym, ap, ◌∙◌, ◌⊎◌, inl, inr}
+use Rattle.plain_model.specs.Layers.{Name, Path, Named, Inode, Layer, held, spell, below, cut, cuts, Contents, unless, over, shows, through, is_directory, base, AreLayers}
 use Rattle.plain_model.specs.Tree.{see, see_inode, merged, AreLinked}
 use Rattle.plain_model.proofs.Merged.{named-seen}
 use Rattle.plain_model.proofs.Paths.{place}

@@ -68,7 +68,7 @@ LawOfAddedName =
     (p : Path) (n : Name) (q : Path) → shows 0 (U ∷ lowers) (n ∷ q) ≡ None →
     AddsName U V p (n ∷ q) → GainsName U V lowers p (n ∷ q)
 
--- so it is of a file or link of a lower layer that was copied up to W first, with the attributes that it shows
+-- so it is where p shows a file or link of a lower layer, which is copied up first, to W, with the attributes that it shows
 abbrev pub LawOfCopiedName : Type 0
 LawOfCopiedName =
     (U W V : Layer) (lowers : List Layer) (p q : Path) (j l : ℕ) (i : Inode) → shows 0 (U ∷ lowers) p ≡ Some (Contents (suc j) l (Some i)) →

@@ -311,8 +311,8 @@ pub fn law_of_added_name()
     ensures { LawOfAddedName }
 {}
 
-/// So it is of a file or link of a lower layer that was copied up first: its two names are one inode of the upper then (link(2);
-/// overlayfs.rst, "Non-directories").
+/// A further name of a file or link of a lower layer, which is copied up first, is all that is gained: both names show one inode of the
+/// upper, with two links (link(2); POSIX.1-2017, link(); overlayfs.rst, "Non-directories").
 pub fn law_of_copied_name()
     ensures { LawOfCopiedName }
 {}
