@@ -48,7 +48,7 @@ shown-some None a h = cc
 shown-some (Some s) a h = refl
 
 -- one name, where there is at least one and at most one
-one-name : (n : ℕ) → (n ≡ 0 → ⊥) → n ≤ 1 → n ≡ 1
+pub one-name : (n : ℕ) → (n ≡ 0 → ⊥) → n ≤ 1 → n ≡ 1
 one-name n some most = omega arith
 
 -- the facts of a tree in which p's attributes are others

@@ -20,3 +20,5 @@ pub mod OpenFiles
 pub mod Written
 pub mod StayOpen
 pub mod Outlive
+pub mod Naming
+pub mod Linked

@@ -10,3 +10,4 @@ pub mod Attributes
 pub mod Altered
 pub mod OpenFiles
 pub mod StayOpen
+pub mod Linking

@@ -3,6 +3,7 @@ ghost use Rattle.mount_laws.specs.Altered.{LawOfAlteredDirectory, LawOfAlteredIn
 ghost use Rattle.mount_laws.specs.Attributes.{LawOfChmod, LawOfChown, LawOfDeleteAttribute, LawOfGetAttribute, LawOfListAttributes, LawOfSetAttribute};
 ghost use Rattle.mount_laws.specs.Removed.{LawOfCloseRemoved, LawOfListRemoved};
 ghost use Rattle.mount_laws.specs.Leaves.{LawOfFileMade, LawOfLinkMade, LawOfPlacedLeaf, LawOfReadlink, LawOfSymlink};
+ghost use Rattle.mount_laws.specs.Linking.{LawOfAddedName, LawOfCopiedName, LawOfLink, LawOfNameMade};
 ghost use Rattle.mount_laws.specs.Looks.{LawOfBadDescriptors, LawOfBeginning, LawOfClose, LawOfDirectories, LawOfList, LawOfMade, LawOfMkdir, LawOfOpen, LawOfPlacedDirectory, LawOfPlacedParent, LawOfStat, LawOfWalks};
 ghost use Rattle.mount_laws.specs.OpenFiles.{LawOfForgotten, LawOfLiveMade, LawOfLiveOne, LawOfLiveShown, LawOfWritten};
 ghost use Rattle.mount_laws.specs.Removals.{LawOfRemovedDirectory, LawOfRmdir, LawOfTakenAway, LawOfUnlink, LawOfUnlinked};
@@ -96,6 +97,12 @@ pub fn law_of_symlink()
 /// `readlink` is refused as the layers' walk is, then where they show no symbolic link, and answers the target of the link.
 pub fn law_of_readlink()
     ensures { LawOfReadlink }
+{}
+
+/// `link` is refused as the layers' walk of the old path is, then as that of the new one's parents is, then where they show something
+/// there, and last where they show a directory at the old path (link(2); POSIX.1-2017, link()).
+pub fn law_of_link()
+    ensures { LawOfLink }
 {}
 
 /// An upper from which an object is taken away loses it and no more: a whiteout stands in its place exactly where the layers below show
@@ -296,4 +303,22 @@ pub fn law_of_live_through_deleted()
 /// Where the attributes that a path shows change, an inode of the upper keeps its names, and changes only if the path is one of them.
 pub fn law_of_alters_named()
     ensures { LawOfAltersNamed }
+{}
+
+/// A further name of an inode of the upper, where nothing was shown, is all that is gained: its names show one link more (link(2);
+/// POSIX.1-2017, link()).
+pub fn law_of_added_name()
+    ensures { LawOfAddedName }
+{}
+
+/// A further name of a file or link of a lower layer, which is copied up first, is all that is gained: both names show one inode of the
+/// upper, with two links (link(2); POSIX.1-2017, link(); overlayfs.rst, "Non-directories").
+pub fn law_of_copied_name()
+    ensures { LawOfCopiedName }
+{}
+
+/// A `link` that is not refused makes the mount one of the upper that gains the name, which leads to the old path's node; no other path
+/// and no handle changes (link(2); POSIX.1-2017, link()).
+pub fn law_of_name_made()
+    ensures { LawOfNameMade }
 {}
