@@ -66,7 +66,7 @@ pub fn size_of(spelling: Spelling<'_>) -> u64 {
 
 fn bytes_of(alloc: Global, spelling: Spelling<'_>) -> Result<Option<Bytes>, AllocError> {
     match spelling {
-        Spelling::Text(text) => Ok(Some(Bytes::from_slice(alloc, text.as_bytes())?)),
+        Spelling::Text(text) => Ok(Some(Bytes::from_slice(alloc, text)?)),
         Spelling::Digits(digits) => match hex::decode(alloc, digits) {
             Ok(bytes) => Ok(Some(Bytes::from_vec(bytes))),
             Err(FromHexError::OutOfMemory) => Err(AllocError),

@@ -15,7 +15,7 @@ pub enum Kind {
 /// The bytes of a file, or of the target of a symbolic link, as a manifest spells them.
 #[derive(Clone, Copy)]
 pub enum Spelling<'a> {
-    Text(&'a str),
+    Text(&'a [u8]),
     /// Two hexadecimal digits for each byte.
     Digits(&'a str),
     /// So many zero bytes.
@@ -25,9 +25,9 @@ pub enum Spelling<'a> {
 /// An entry of a layer, whose path is `/a/b`, and empty for the root.
 #[derive(Clone, Copy)]
 pub struct Entry<'a> {
-    pub path: &'a str,
+    pub path: &'a [u8],
     /// Where the object was described first: elsewhere for an entry of kind `link`.
-    pub first: &'a str,
+    pub first: &'a [u8],
     pub kind: Kind,
     pub mode: u32,
     pub uid: u32,
@@ -38,7 +38,7 @@ pub struct Entry<'a> {
     /// How many names the object has in its layer.
     pub links: u32,
     pub opaque: bool,
-    pub redirect: Option<&'a str>,
+    pub redirect: Option<&'a [u8]>,
 }
 
 /// The layers of a manifest, the upper first. None where the manifest isn't of that form.
@@ -92,7 +92,7 @@ fn with_links<'a>(alloc: Global, entries: &[Entry<'a>]) -> Result<Vec<Entry<'a>>
 }
 
 // How many names the object has that was described first at a path.
-fn names_of(entries: &[Entry<'_>], first: &str) -> u32 {
+fn names_of(entries: &[Entry<'_>], first: &[u8]) -> u32 {
     let mut count = 0u32;
     for entry in entries {
         if entry.first == first {
@@ -104,20 +104,20 @@ fn names_of(entries: &[Entry<'_>], first: &str) -> u32 {
 
 fn entry_of<'a>(earlier: &[Entry<'a>], entry: &'a Value) -> Option<Entry<'a>> {
     let table = entry.as_table()?;
-    let path = path_in(text_at(table, "path")?);
+    let path = path_in(bytes_at(table, "path")?);
     match text_at(table, "kind")? {
-        "link" => further_name(earlier, path, text_at(table, "to")?),
+        "link" => further_name(earlier, path, bytes_at(table, "to")?),
         kind => object_of(table, path, kind_named(kind)?),
     }
 }
 
 // A further name of what an earlier entry describes.
-fn further_name<'a>(earlier: &[Entry<'a>], path: &'a str, to: &str) -> Option<Entry<'a>> {
+fn further_name<'a>(earlier: &[Entry<'a>], path: &'a [u8], to: &[u8]) -> Option<Entry<'a>> {
     let described = earlier.iter().find(|entry| entry.path == to)?;
     Some(Entry { path, ..*described })
 }
 
-fn object_of<'a>(table: &'a Table, path: &'a str, kind: Kind) -> Option<Entry<'a>> {
+fn object_of<'a>(table: &'a Table, path: &'a [u8], kind: Kind) -> Option<Entry<'a>> {
     Some(Entry {
         path,
         first: path,
@@ -132,8 +132,12 @@ fn object_of<'a>(table: &'a Table, path: &'a str, kind: Kind) -> Option<Entry<'a
             .get("opaque")
             .and_then(Value::as_bool)
             .unwrap_or(false),
-        redirect: text_at(table, "redirect"),
+        redirect: bytes_at(table, "redirect"),
     })
+}
+
+fn bytes_at<'a>(table: &'a Table, key: &str) -> Option<&'a [u8]> {
+    Some(text_at(table, key)?.as_bytes())
 }
 
 fn text_at<'a>(table: &'a Table, key: &str) -> Option<&'a str> {
@@ -142,20 +146,20 @@ fn text_at<'a>(table: &'a Table, key: &str) -> Option<&'a str> {
 
 fn spelling_in(kind: Kind, table: &Table) -> Option<Spelling<'_>> {
     if kind == Kind::SymbolicLink {
-        return Some(Spelling::Text(text_at(table, "target")?));
+        return Some(Spelling::Text(bytes_at(table, "target")?));
     }
     if let Some(digits) = text_at(table, "hex") {
         return Some(Spelling::Digits(digits));
     }
-    match text_at(table, "text") {
+    match bytes_at(table, "text") {
         Some(text) => Some(Spelling::Text(text)),
         None => Some(Spelling::Zeros(number_at(table, "zeros", 0)?)),
     }
 }
 
 /// The path of an entry, for a path text.
-pub fn path_in(path: &str) -> &str {
-    if path == "/" { "" } else { path }
+pub fn path_in(path: &[u8]) -> &[u8] {
+    if path == b"/".as_slice() { &[] } else { path }
 }
 
 fn kind_named(kind: &str) -> Option<Kind> {

@@ -23,19 +23,21 @@ pub fn push_layer(
             break;
         };
         push_entry(alloc, &entry, lines)?;
-        let inside = layer.inside(alloc, entry.path)?;
-        left.extend_from_slice(inside.as_slice())?;
+        if entry.kind == Kind::Directory {
+            let inside = layer.inside(alloc, entry.path)?;
+            left.extend_from_slice(inside.as_slice())?;
+        }
     }
     Ok(())
 }
 
 fn push_entry(alloc: Global, entry: &Entry<'_>, lines: &mut String) -> Result<(), AllocError> {
     let text = if entry.path.is_empty() {
-        "/"
+        b"/"
     } else {
         entry.path
     };
-    let Ok(path) = Path::parse(alloc, text.as_bytes())? else {
+    let Ok(path) = Path::parse(alloc, text)? else {
         return Ok(());
     };
     match stat_of(entry) {
@@ -71,11 +73,11 @@ fn push_rest(alloc: Global, entry: &Entry<'_>, lines: &mut String) -> Result<(),
         lines.push_str(" opaque")?;
     }
     if let Some(redirect) = entry.redirect {
-        let redirect = Escaped(redirect.as_bytes());
+        let redirect = Escaped(redirect);
         lines.push_str(format!(in alloc; " redirect {redirect}")?.as_str())?;
     }
     if let (Kind::SymbolicLink, Spelling::Text(target)) = (entry.kind, entry.bytes) {
-        let target = Escaped(target.as_bytes());
+        let target = Escaped(target);
         lines.push_str(format!(in alloc; " -> {target}")?.as_str())?;
     }
     Ok(())

@@ -18,6 +18,7 @@ mod playing;
 mod random_calls;
 mod rows;
 mod told_entries;
+mod told_layers;
 mod tree_lines;
 
 use crate::generated::play_generated;

@@ -4,7 +4,6 @@ use crate::history::History;
 use crate::layer_lines::push_layer;
 use crate::opening::reference_of;
 use crate::plain_layer::PlainLayer;
-use crate::told_entries::entries_in;
 use crate::tree_lines::push_tree;
 use plain_reference::Reference;
 use std::alloc::{AllocError, Global};
@@ -55,44 +54,42 @@ impl PlainMount {
         Ok(lines)
     }
 
+    /// The layers of the manifest, the upper first.
+    pub fn layers(&self, alloc: Global) -> Result<Vec<PlainLayer<'_>>, AllocError> {
+        match layers_of(alloc, &self.manifest)? {
+            Some(layers) => Ok(layers),
+            None => Ok(Vec::new(alloc)),
+        }
+    }
+
+    /// The layers of the manifest, with this upper in place of its own.
+    pub fn layers_below<'a>(
+        &'a self,
+        alloc: Global,
+        upper: PlainLayer<'a>,
+    ) -> Result<Vec<PlainLayer<'a>>, AllocError> {
+        let mut layers = self.layers(alloc)?;
+        if let Some(first) = layers.first_mut() {
+            *first = upper;
+        }
+        Ok(layers)
+    }
+
     /// The lines of a layer, as the manifest describes it. A lower layer stays so.
     pub fn layer_lines(&self, alloc: Global, index: usize) -> Result<String, AllocError> {
         let mut lines = String::new(alloc);
-        if let Some(layers) = layers_of(alloc, &self.manifest)? {
-            if let Some(layer) = layers.get(index) {
-                push_layer(alloc, layer, &mut lines)?;
-            }
+        if let Some(layer) = self.layers(alloc)?.get(index) {
+            push_layer(alloc, layer, &mut lines)?;
         }
         Ok(lines)
     }
-
-    /// The lines of the tree that is shown by an upper of these lines over the lower layers of the manifest. None where the lines have
-    /// escapes, which aren't read.
-    pub fn lines_over(&self, alloc: Global, upper: &str) -> Result<Option<String>, AllocError> {
-        let Some(entries) = entries_in(alloc, upper)? else {
-            return Ok(None);
-        };
-        let Some(layers) = layers_of(alloc, &self.manifest)? else {
-            return Ok(None);
-        };
-        lines_of(alloc, PlainLayer { entries }, layers)
-    }
 }
 
-// The lines of the tree that layers show, of which another one is the upper.
-fn lines_of<'a>(
-    alloc: Global,
-    upper: PlainLayer<'a>,
-    layers: Vec<PlainLayer<'a>>,
-) -> Result<Option<String>, AllocError> {
-    let mut layers = layers;
-    if let Some(first) = layers.first_mut() {
-        *first = upper;
-    }
-    let Some(reference) = reference_of(alloc, layers.as_slice())? else {
-        return Ok(None);
-    };
+/// The lines of the tree that layers show; none where the root of the upper has no mode.
+pub fn lines_of(alloc: Global, layers: &[PlainLayer<'_>]) -> Result<String, AllocError> {
     let mut lines = String::new(alloc);
-    push_tree(alloc, &reference, &mut lines)?;
-    Ok(Some(lines))
+    if let Some(reference) = reference_of(alloc, layers)? {
+        push_tree(alloc, &reference, &mut lines)?;
+    }
+    Ok(lines)
 }

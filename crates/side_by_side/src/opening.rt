@@ -33,7 +33,7 @@ fn put(
     objects: &[Shown<'_>],
     shown: &Shown<'_>,
 ) -> Result<(), AllocError> {
-    let Ok(path) = Path::parse(alloc, shown.path.as_bytes())? else {
+    let Ok(path) = Path::parse(alloc, shown.path.as_slice())? else {
         return Ok(());
     };
     match put_before(objects, shown) {
@@ -43,16 +43,16 @@ fn put(
 }
 
 // The path of the object among those that are shown that is put in place of this one: another name of it in the upper, which comes first.
-fn put_before<'a>(objects: &'a [Shown<'_>], shown: &Shown<'_>) -> Option<&'a str> {
+fn put_before<'a>(objects: &'a [Shown<'_>], shown: &Shown<'_>) -> Option<&'a [u8]> {
     if !shown.is_upper {
         return None;
     }
     let first = objects.iter().find(|other| other.is_upper
         && other.entry.first == shown.entry.first)?;
-    if first.path.as_str() == shown.path.as_str() {
+    if first.path.as_slice() == shown.path.as_slice() {
         None
     } else {
-        Some(first.path.as_str())
+        Some(first.path.as_slice())
     }
 }
 
@@ -60,9 +60,9 @@ fn put_name(
     alloc: Global,
     builder: &mut Builder,
     path: &Path,
-    other: &str,
+    other: &[u8],
 ) -> Result<(), AllocError> {
-    match Path::parse(alloc, other.as_bytes())? {
+    match Path::parse(alloc, other)? {
         Ok(other) => builder.name(path, &other),
         Err(_) => Ok(()),
     }

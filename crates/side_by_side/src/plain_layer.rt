@@ -12,32 +12,37 @@ pub struct PlainLayer<'a> {
 /// How a layer hands a path on to the layer below it: in which spelling, and whether it is cut, so that nothing below is shown there.
 #[derive(Drop)]
 pub struct HandedOn {
-    pub spelling: String,
+    pub spelling: Vec<u8>,
     pub is_cut: bool,
 }
 
 impl<'a> PlainLayer<'a> {
     /// What the layer holds at a path.
-    pub fn held(&self, path: &str) -> Option<Entry<'a>> {
+    pub fn held(&self, path: &[u8]) -> Option<Entry<'a>> {
         self.entries
             .iter()
             .find(|entry| entry.path == path)
             .copied()
     }
 
-    /// The root, as an entry says or else as each layer has it.
+    /// The root, a directory without marks, as an entry says or else as each layer has it.
     pub fn root(&self) -> Entry<'a> {
-        match self.held("") {
-            Some(entry) => entry,
+        match self.held(&[]) {
+            Some(entry) => Entry {
+                kind: Kind::Directory,
+                opaque: false,
+                redirect: None,
+                ..entry
+            },
             None => bare_root(),
         }
     }
 
     /// What it holds in a directory, the last name first.
-    pub fn inside(&self, alloc: Global, directory: &str) -> Result<Vec<Entry<'a>>, AllocError> {
+    pub fn inside(&self, alloc: Global, directory: &[u8]) -> Result<Vec<Entry<'a>>, AllocError> {
         let mut inside = Vec::new(alloc);
         for entry in self.entries.as_slice() {
-            if parent_of(entry.path) == Some(directory) {
+            if is_inside(entry.path, directory) {
                 inside.push(*entry)?;
             }
         }
@@ -45,8 +50,20 @@ impl<'a> PlainLayer<'a> {
         Ok(inside)
     }
 
+    /// Takes its whiteouts out.
+    pub fn take_whiteouts(&mut self, alloc: Global) -> Result<Vec<Entry<'a>>, AllocError> {
+        let mut whiteouts = Vec::new(alloc);
+        for entry in self.entries.as_slice() {
+            if entry.kind == Kind::Whiteout {
+                whiteouts.push(*entry)?;
+            }
+        }
+        self.entries.retain(|entry| entry.kind != Kind::Whiteout);
+        Ok(whiteouts)
+    }
+
     /// Whether it holds a directory at a path. The root is one.
-    pub fn holds_directory(&self, path: &str) -> bool {
+    pub fn holds_directory(&self, path: &[u8]) -> bool {
         match self.held(path) {
             Some(entry) => entry.kind == Kind::Directory,
             None => path.is_empty(),
@@ -55,16 +72,15 @@ impl<'a> PlainLayer<'a> {
 
     /// How the layer hands a path on, told from the root down: a redirect from the root begins a spelling anew and lifts a cut, one name
     /// stands for another, and whatever is no directory, or an opaque one, cuts.
-    pub fn hands_on(&self, alloc: Global, path: &str) -> Result<HandedOn, AllocError> {
-        let mut at = String::new(alloc);
+    pub fn hands_on(&self, alloc: Global, path: &[u8]) -> Result<HandedOn, AllocError> {
+        let mut at = Vec::new(alloc);
         let mut handed = HandedOn {
-            spelling: String::new(alloc),
+            spelling: Vec::new(alloc),
             is_cut: false,
         };
-        for name in path.split('/').skip(1) {
-            at.push('/')?;
-            at.push_str(name)?;
-            hand_on(&mut handed, self.held(at.as_str()), name)?;
+        for name in path.split(|byte| *byte == b'/').skip(1) {
+            push_name(&mut at, name)?;
+            hand_on(&mut handed, self.held(at.as_slice()), name)?;
         }
         Ok(handed)
     }
@@ -73,8 +89,8 @@ impl<'a> PlainLayer<'a> {
 // The root of a layer of which no entry says anything.
 fn bare_root<'a>() -> Entry<'a> {
     Entry {
-        path: "",
-        first: "",
+        path: &[],
+        first: &[],
         kind: Kind::Directory,
         mode: 0o755,
         uid: 0,
@@ -87,14 +103,22 @@ fn bare_root<'a>() -> Entry<'a> {
     }
 }
 
-// None for the root.
-fn parent_of(path: &str) -> Option<&str> {
-    let (parent, _) = path.rsplit_once('/')?;
-    Some(parent)
+fn is_inside(path: &[u8], directory: &[u8]) -> bool {
+    match split_last(path) {
+        Some((parent, _)) => parent == directory,
+        None => false,
+    }
+}
+
+/// The directory of a path, and its last name. None for the root.
+pub fn split_last(path: &[u8]) -> Option<(&[u8], &[u8])> {
+    let slash = path.iter().rposition(|byte| *byte == b'/')?;
+    let name = path.get(slash.saturating_add(1)..)?;
+    Some((path.get(..slash)?, name))
 }
 
 // One name on, where the layer holds this there.
-fn hand_on(handed: &mut HandedOn, held: Option<Entry<'_>>, name: &str) -> Result<(), AllocError> {
+fn hand_on(handed: &mut HandedOn, held: Option<Entry<'_>>, name: &[u8]) -> Result<(), AllocError> {
     match held {
         None => {
             push_name(&mut handed.spelling, name)?;
@@ -110,19 +134,20 @@ fn hand_on(handed: &mut HandedOn, held: Option<Entry<'_>>, name: &str) -> Result
 }
 
 // The spelling of a name whose directory may have a redirect.
-fn spell(handed: &mut HandedOn, redirect: Option<&str>, name: &str) -> Result<(), AllocError> {
+fn spell(handed: &mut HandedOn, redirect: Option<&[u8]>, name: &[u8]) -> Result<(), AllocError> {
     match redirect {
         None => push_name(&mut handed.spelling, name),
-        Some(redirect) if redirect.starts_with('/') => {
+        Some(redirect) if redirect.starts_with(b"/") => {
             handed.spelling.clear();
             handed.is_cut = false;
-            handed.spelling.push_str(redirect)
+            handed.spelling.extend_from_slice(redirect)
         }
         Some(other) => push_name(&mut handed.spelling, other),
     }
 }
 
-fn push_name(path: &mut String, name: &str) -> Result<(), AllocError> {
-    path.push('/')?;
-    path.push_str(name)
+/// Appends a name to a path.
+pub fn push_name(path: &mut Vec<u8>, name: &[u8]) -> Result<(), AllocError> {
+    path.push(b'/')?;
+    path.extend_from_slice(name)
 }

@@ -2,6 +2,7 @@
 use crate::engine::run_of;
 use crate::mount::{PlainMount, mount_of};
 use crate::rows::Row;
+use crate::told_layers::layer_difference;
 use ov_base::{Call, Errno, Reply};
 use ov_script::{CallText, Command, ReplyLine, command_of};
 use std::alloc::{AllocError, Global};
@@ -77,7 +78,7 @@ fn played_difference(
                 let rest = after_layer(left);
                 let told = left.strip_suffix(rest).unwrap_or(left);
                 if let Some(found) = layer_difference(alloc, mount, index, told)? {
-                    return Ok(Some(differs(alloc, number, found.as_str())?));
+                    return Ok(Some(format!(in alloc; "line {number}: {found}")?));
                 }
                 left = rest;
             }
@@ -106,32 +107,6 @@ fn bad_line_difference(
     } else {
         Ok(Some(differs(alloc, number, fault.as_str())?))
     }
-}
-
-// What is against the lines that are told of a layer. A lower layer is as the manifest describes it; the upper shows over the lower layers
-// what the reference shows, which isn't seen where lines have escapes.
-fn layer_difference(
-    alloc: Global,
-    mount: &PlainMount,
-    index: usize,
-    told: &[u8],
-) -> Result<Option<String>, AllocError> {
-    if index > 0 {
-        let lines = mount.layer_lines(alloc, index)?;
-        return Ok(unless_same(lines.as_bytes() == told, lines));
-    }
-    let Ok(told) = std::str::from_utf8(told) else {
-        return Ok(None);
-    };
-    let Some(over) = mount.lines_over(alloc, told)? else {
-        return Ok(None);
-    };
-    let tree = mount.merge_lines(alloc)?;
-    Ok(unless_same(over.as_str() == tree.as_str(), tree))
-}
-
-fn unless_same(are_same: bool, lines: String) -> Option<String> {
-    if are_same { None } else { Some(lines) }
 }
 
 // What follows the lines of a layer: that of its root, and those of other objects after it.
