@@ -1,6 +1,6 @@
 // Changes of an object's attributes.
-ghost use Rattle.std.specs.Prelude.{◌≡◌, IfOk, OnErr};
-ghost use Rattle.ov_base.specs.AttributeChanges.{changed};
+ghost use Rattle.std.specs.Prelude.{◌≡◌, IfOk, IsOk, OnErr};
+ghost use Rattle.ov_base.specs.AttributeChanges.{TakesNoMemory, changed};
 
 use crate::attribute_name::AttributeName;
 use crate::attributes::Attributes;
@@ -26,6 +26,7 @@ impl AttributeChange {
     pub fn apply(self, attributes: &mut Attributes) -> Result<(), AllocError>
         ensures ok { IfOk result (λ _. attributes.new ≡ changed self attributes.old) }
         ensures err { OnErr result (attributes.new ≡ attributes.old) }
+        ensures succeeds { TakesNoMemory self attributes.old → IsOk result }
     {
         match self {
             AttributeChange::Mode(mode) => attributes.mode = mode,
