@@ -22,3 +22,4 @@ pub mod StayOpen
 pub mod Outlive
 pub mod Naming
 pub mod Linked
+pub mod LinkedOpen

@@ -22,11 +22,11 @@ use Rattle.mount_laws.proofs.OpenFiles.{one-number, lead-leaf}
 use Rattle.mount_laws.proofs.Places.{nothing-below, named-shown}
 
 -- a way in leaves files and links as they were
-way-leaf :
-    (t : Tree) (w : Option (NodeId × Name)) (e : NodeId) (content : Content) (a : Attributes) (u : Origin) (l : ℕ) →
-    t e ≡ Some (Leaf content a u l) → lead_way t w None e ≡ t e
-way-leaf t None e content a u l h = refl
-way-leaf t (Some w) e content a u l h = lead-leaf t w.0 w.1 None e content a u l h
+pub way-leaf :
+    (t : Tree) (w : Option (NodeId × Name)) (o : Option NodeId) (e : NodeId) (content : Content) (a : Attributes) (u : Origin) (l : ℕ) →
+    t e ≡ Some (Leaf content a u l) → lead_way t w o e ≡ t e
+way-leaf t None o e content a u l h = refl
+way-leaf t (Some w) o e content a u l h = lead-leaf t w.0 w.1 o e content a u l h
 
 -- a file or link at e, in a tree that a name goes from
 module _
@@ -34,10 +34,10 @@ module _
     (is : t e ≡ Some (Leaf content a u l)) where
   -- it is as it was where the name led to another node
   dropped-other : (o : Option NodeId) → (o ≡ Some e → ⊥) → settled ks (lead_way (change one_fewer t o) w None) o e ≡ t e
-  dropped-other None away = way-leaf t w e content a u l is
+  dropped-other None away = way-leaf t w None e content a u l is
   dropped-other (Some d) away =
       put-there led d (cond (is_named (led d) || is_held ks d) (led d) None) e apart
-      ∙ way-leaf (change one_fewer t (Some d)) w e content a u l (there ∙ is)
+      ∙ way-leaf (change one_fewer t (Some d)) w None e content a u l (there ∙ is)
       ∙ there
     where
       led : Tree
@@ -59,7 +59,7 @@ module _
   counted-own = put-here t e (over_node one_fewer (t e)) e ((ids_tell e e).1 refl) ∙ ap (over_node one_fewer) is
 
   led-own : led_own e ≡ fewer_own
-  led-own = way-leaf (change one_fewer t (Some e)) w e content a u (l - 1) counted-own ∙ counted-own
+  led-own = way-leaf (change one_fewer t (Some e)) w None e content a u (l - 1) counted-own ∙ counted-own
 
   -- it has a name fewer where the name led to it, if a handle is open on it
   dropped-own : is_held ks e ≡ true → settled ks led_own (Some e) e ≡ fewer_own

@@ -1,6 +1,6 @@
 -- Open files of the upper stay live through changes of the mount that are not of their bytes (POSIX.1-2017, mkdir(), symlink(), open(),
--- unlink(), rmdir(), chmod() and chown(); overlayfs.rst, "Non-directories": a file of a lower layer is copied up first).
-use Rattle.std.specs.Prelude.{◌≡◌, ◌≢◌, ◌↔◌, ℕ, suc, ◌-◌, true, false, List, [], ◌∷◌, None, Some, is_some}
+-- link(), unlink(), rmdir(), chmod() and chown(); overlayfs.rst, "Non-directories": a file of a lower layer is copied up first).
+use Rattle.std.specs.Prelude.{◌≡◌, ◌≢◌, ◌↔◌, ℕ, suc, ◌+◌, ◌-◌, true, false, List, [], ◌∷◌, None, Some, is_some}
 use Rattle.ov_base.specs.declared.attributes.Attributes.{Attributes}
 use Rattle.ov_base.specs.declared.bytes.Content.TheVariants as content
 use Rattle.ov_base.specs.declared.call.Call.{Call}
@@ -15,6 +15,7 @@ use Rattle.plain_model.specs.Changes.{fresh, with_mode, with_owner, set_value, d
 use Rattle.mount_laws.specs.Looks.{IsMountOf, Gains, Makes}
 use Rattle.mount_laws.specs.Leaves.{PlacesLeaf, GainsLeaf, MakesLink, MakesFile}
 use Rattle.mount_laws.specs.Removals.{Loses, Removes}
+use Rattle.mount_laws.specs.Linking.{AddsName, GainsName, MakesName}
 use Rattle.mount_laws.specs.Attributes.{shown_attributes}
 use Rattle.mount_laws.specs.Altered.{AltersState, AltersInode, AltersDirectory}
 use Rattle.mount_laws.specs.OpenFiles.{IsLive}
@@ -59,6 +60,33 @@ LawOfLiveThroughUnlink = (p : Path) → LivesThroughRemoval p (call.Unlink p)
 
 abbrev pub LawOfLiveThroughRmdir : Type 0
 LawOfLiveThroughRmdir = (p : Path) → LivesThroughRemoval p (call.Rmdir p)
+
+-- the inode has the name q as well where p names it, one link more then, and else stays
+pub record GainsLink (U V : Layer) (p q : Path) (j : ℕ) : Type 0 where
+  pub names : (x : Path) → x ≢ q → (held V x ≡ Some (Named j)) ↔ (held U x ≡ Some (Named j))
+  pub further : (held V q ≡ Some (Named j)) ↔ (held U p ≡ Some (Named j))
+  pub more : (i : Inode) → held U p ≡ Some (Named j) → U.inodes j ≡ Some i → V.inodes j ≡ Some (record i { links = i.links + 1 })
+  pub same : (held U p ≡ Some (Named j) → ⊥) → V.inodes j ≡ U.inodes j
+
+-- a live file stays so where link makes a further name, also one of its own
+abbrev pub LawOfLiveThroughName : Type 0
+LawOfLiveThroughName =
+    (U V : Layer) (lowers : List Layer) (s : State) → IsMountOf U lowers s →
+    (c : ℕ) (old new : Path) → GainsName U V lowers old new → MakesName V lowers s c old new → (e : NodeId) (j : ℕ) →
+    GainsLink U V old new j → IsLive U s.tree e j → IsLive V (after s c (call.Hardlink old new)).tree e j
+
+-- each inode gains a link so where a name of the upper gets a further one
+abbrev pub LawOfAddedLink : Type 0
+LawOfAddedLink =
+    (U V : Layer) (lowers : List Layer) → AreLayers (U ∷ lowers) → (p q : Path) → shows 0 (U ∷ lowers) q ≡ None →
+    AddsName U V p q → (j : ℕ) → GainsLink U V p q j
+
+-- and so does an inode that is there where p is copied up first, to W
+abbrev pub LawOfCopiedLink : Type 0
+LawOfCopiedLink =
+    (U W V : Layer) (lowers : List Layer) → AreLayers (U ∷ lowers) → (p q : Path) (l k n : ℕ) (x i : Inode) →
+    shows 0 (U ∷ lowers) p ≡ Some (Contents (suc l) n (Some x)) → PlacesLeaf U W p k i → shows 0 (U ∷ lowers) q ≡ None →
+    AddsName W V p q → (j : ℕ) → is_some (U.inodes j) ≡ true → GainsLink U V p q j
 
 -- the inode has the names that it had, and the attributes a where p is one of them; else it stays
 pub record AltersNamed (U V : Layer) (p : Path) (a : Attributes) (j : ℕ) : Type 0 where

@@ -8,7 +8,7 @@ ghost use Rattle.mount_laws.specs.Looks.{LawOfBadDescriptors, LawOfBeginning, La
 ghost use Rattle.mount_laws.specs.OpenFiles.{LawOfForgotten, LawOfLiveMade, LawOfLiveOne, LawOfLiveShown, LawOfWritten};
 ghost use Rattle.mount_laws.specs.Removals.{LawOfRemovedDirectory, LawOfRmdir, LawOfTakenAway, LawOfUnlink, LawOfUnlinked};
 ghost use Rattle.mount_laws.specs.Seeks.{LawOfSeek};
-ghost use Rattle.mount_laws.specs.StayOpen.{LawOfAltersNamed, LawOfLiveKept, LawOfLiveThroughDeleted, LawOfLiveThroughFile, LawOfLiveThroughLink, LawOfLiveThroughMade, LawOfLiveThroughMode, LawOfLiveThroughOwner, LawOfLiveThroughParent, LawOfLiveThroughRmdir, LawOfLiveThroughSet, LawOfLiveThroughUnlink};
+ghost use Rattle.mount_laws.specs.StayOpen.{LawOfAddedLink, LawOfAltersNamed, LawOfCopiedLink, LawOfLiveKept, LawOfLiveThroughDeleted, LawOfLiveThroughFile, LawOfLiveThroughLink, LawOfLiveThroughMade, LawOfLiveThroughMode, LawOfLiveThroughName, LawOfLiveThroughOwner, LawOfLiveThroughParent, LawOfLiveThroughRmdir, LawOfLiveThroughSet, LawOfLiveThroughUnlink};
 ghost use Rattle.mount_laws.specs.Thin.{LawOfThin};
 
 /// A mount begins as one of its layers.
@@ -321,4 +321,19 @@ pub fn law_of_copied_name()
 /// and no handle changes (link(2); POSIX.1-2017, link()).
 pub fn law_of_name_made()
     ensures { LawOfNameMade }
+{}
+
+/// A live file stays so where `link` makes a further name, also one of its own: it has one link more then (link(2); POSIX.1-2017, link()).
+pub fn law_of_live_through_name()
+    ensures { LawOfLiveThroughName }
+{}
+
+/// Where the upper gets a further name of what a path names, an inode gains it, and one link, exactly if the path is a name of it.
+pub fn law_of_added_link()
+    ensures { LawOfAddedLink }
+{}
+
+/// Where a file or link of a lower layer is copied up and gets a further name, an inode that was there keeps its names and its links.
+pub fn law_of_copied_link()
+    ensures { LawOfCopiedLink }
 {}
