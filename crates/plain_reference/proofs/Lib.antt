@@ -8,3 +8,4 @@ pub mod TableLemmas
 pub mod HandleLemmas
 pub mod CloseLemmas
 pub mod AttributeLemmas
+pub mod LinkLemmas

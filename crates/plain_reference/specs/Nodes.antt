@@ -1,5 +1,5 @@
 -- The nodes of the plain tree that the reference's nodes stand for.
-use Rattle.std.specs.Prelude.{Option, None, Some}
+use Rattle.std.specs.Prelude.{◌+◌, min, Option, None, Some}
 use Rattle.ov_base.specs.declared.attributes.Attributes.{Attributes}
 use Rattle.plain_model.specs.Tree as tree
 use Rattle.plain_reference.specs.declared.node.Origin.{Origin}
@@ -29,3 +29,8 @@ attributes_at (Some (tree.Leaf content a u l)) = Some a
 abbrev pub given : Attributes → tree.Node → tree.Node
 given other (tree.Branch a b names c) = tree.Branch other b names c
 given other (tree.Leaf content a u l) = tree.Leaf content other tree.Own l
+
+-- a node with a name more, as far as numbers go; a file or link of a lower layer is copied up, and a directory stays as it is
+abbrev pub gained : tree.Node → tree.Node
+gained (tree.Leaf content a u l) = tree.Leaf content a tree.Own (min (l + 1) 0xffff_ffff_ffff_ffff)
+gained x = x

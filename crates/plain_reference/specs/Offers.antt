@@ -1,9 +1,10 @@
 -- Which calls the reference offers, and how it answers.
 use Rattle.std.specs.Prelude.{◌≡◌, ℕ, Bool, true, false, not, ◌||◌, Option, None, Some, is_some, nat_eq, nat_lt, [], length}
 use Rattle.ov_base.specs.declared.call.Call.{Call}
-use Rattle.ov_base.specs.declared.call.Call.TheVariants.{Stat, Readlink, Chmod, Chown, SetAttribute, GetAttribute, DeleteAttribute, ListAttributes, Mkdir, Symlink, Open, Unlink, Rmdir, Read, Write, Seek, Truncate, Fstat, ListNames, Close}
+use Rattle.ov_base.specs.declared.call.Call.TheVariants.{Stat, Readlink, Chmod, Chown, SetAttribute, GetAttribute, DeleteAttribute, ListAttributes, Mkdir, Symlink, Open, Unlink, Rmdir, Hardlink, Read, Write, Seek, Truncate, Fstat, ListNames, Close}
 use Rattle.ov_base.specs.declared.reply.Reply.{Reply}
-use Rattle.plain_model.specs.Tree.{node_at}
+use Rattle.plain_model.specs.Layers.{Path}
+use Rattle.plain_model.specs.Tree.{node_at, node_of, count_of}
 use Rattle.plain_model.specs.Machine.{State}
 use Rattle.plain_model.specs.Refusals.{refusal}
 use Rattle.plain_model.specs.Runs.{Step, CLIENTS_MAX, Attached, Detached, Does, is_attached}
@@ -13,7 +14,12 @@ use Rattle.plain_reference.specs.States.{Mute}
 abbrev pub has_serial : State → Bool
 has_serial s = not (nat_eq s.serial 0xffff_ffff_ffff_ffff)
 
--- the calls that are offered: those of names, attributes and handles, but no new node when the serials have run out
+-- whether what is at a path can count a name more: no count goes past the last number
+abbrev pub has_count : State → Path → Bool
+has_count s p = nat_lt (count_of (node_of s.tree (node_at s.tree p))) 0xffff_ffff_ffff_ffff
+
+-- the calls that are offered: those of names, attributes and handles, but no new node when the serials have run out, and no further name
+-- of a node that can't count it
 abbrev pub offers : State → ℕ → Call → Bool
 offers s c (Stat p) = true
 offers s c (Readlink p) = true
@@ -28,6 +34,7 @@ offers s c (Symlink target p) = has_serial s
 offers s c (Open p f mode) = is_some (refusal s c (Open p f mode)) || is_some (node_at s.tree p) || has_serial s
 offers s c (Unlink p) = true
 offers s c (Rmdir p) = true
+offers s c (Hardlink old new) = is_some (refusal s c (Hardlink old new)) || has_count s old
 offers s c (Read fd n) = true
 offers s c (Write fd bytes) = true
 offers s c (Seek fd offset whence) = true

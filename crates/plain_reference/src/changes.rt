@@ -4,9 +4,9 @@ ghost use Rattle.std.specs.FinMap as map;
 ghost use Rattle.ov_base.specs.declared.bytes.Content.TheVariants as content;
 ghost use Rattle.ov_base.specs.declared.call.Call.TheVariants as call;
 ghost use Rattle.plain_model.specs.Tree as plain;
-ghost use Rattle.plain_model.specs.Changes.{fresh, made_way, way_of, dropped, settled};
+ghost use Rattle.plain_model.specs.Changes.{change, dropped, fresh, lead_way, made_way, settled, way_of};
 ghost use Rattle.plain_model.specs.Runs.{Step};
-ghost use Rattle.plain_reference.specs.Nodes.{plain as node_of};
+ghost use Rattle.plain_reference.specs.Nodes.{plain as node_of, gained};
 ghost use Rattle.plain_reference.specs.Slots.{tree_of};
 ghost use Rattle.plain_reference.specs.States.{state_of, Mute};
 ghost use Rattle.plain_reference.specs.Offers.{Answers};
@@ -14,7 +14,7 @@ ghost use Rattle.plain_reference.specs.Offers.{Answers};
 use crate::clients::is_held;
 use crate::id::Id;
 use crate::names::Names;
-use crate::node::{Node, Origin, is_named};
+use crate::node::{Node, Origin, count_of, is_named};
 use crate::reference::Reference;
 use ov_base::{Attributes, Bytes, Content, LinkTarget, Mode, Path, Reply, UserAttributes};
 use std::alloc::{AllocError, Global};
@@ -110,6 +110,20 @@ impl Reference {
         Ok(())
     }
 
+    // Gives a node a further name, the last one of a path. The name is there before it is counted.
+    fn add_name(&mut self, path: &Path, id: &Id) -> Result<(), AllocError>
+        ensures ok { OnOk result (tree_of self.new.tree.slots.items ≡ lead_way (change gained (tree_of self.old.tree.slots.items) (Some id.now)) (way_of (tree_of self.old.tree.slots.items) path.now) (Some id.now)) }
+        ensures err { OnErr result (tree_of self.new.tree.slots.items ≡ tree_of self.old.tree.slots.items) }
+        ensures rest { self.new ≡ record self.old { tree = self.new.tree } }
+    {
+        let leads_to = id.clone()?;
+        if let Some((directory, name)) = self.tree.way_of(self.alloc, path.names())? {
+            self.tree.lead(&directory, &name, leads_to)?;
+        }
+        self.tree.gain_name(id);
+        Ok(())
+    }
+
     pub(crate) fn mkdir(
         &mut self,
         client: u32,
@@ -176,5 +190,28 @@ impl Reference {
         }
         self.drop_name(path)?;
         Ok(Reply::Done)
+    }
+
+    /// Gives what is at a path a further name. That is not offered when its names can't be counted any further.
+    pub(crate) fn link(
+        &mut self,
+        client: u32,
+        old: &Path,
+        new: &Path,
+    ) -> Result<Option<Reply>, AllocError>
+        ensures answer { IfOk result (λ answer. Answers (state_of self.old) client (call.Hardlink old.now new.now) answer (state_of self.new)) }
+        ensures err { OnErr result (state_of self.new ≡ state_of self.old) }
+    {
+        if let Some(errno) = self.link_refusal(client, old, new)? {
+            return Ok(Some(Reply::Refused(errno)));
+        }
+        let Some(node) = self.tree.node_at(self.alloc, old.names())? else {
+            unreachable!()
+        };
+        if count_of(self.tree.node(&node)) == u64::MAX {
+            return Ok(None);
+        }
+        self.add_name(new, &node)?;
+        Ok(Some(Reply::Done))
     }
 }

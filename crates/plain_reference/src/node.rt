@@ -1,12 +1,12 @@
 // The nodes of the tree.
 ghost use Rattle.std.specs.Prelude.{◌≡◌, [], IfOk, OnOk, OnErr, length, map, unwrap_or};
 ghost use Rattle.std.specs.Option.{option_copied};
-ghost use Rattle.plain_model.specs.Tree.{with_name, shown_links};
+ghost use Rattle.plain_model.specs.Tree.{with_name, shown_links, count_of};
 ghost use Rattle.plain_model.specs.Machine.{is_link, has_names, bytes_of_node, user_of, value_of};
 ghost use Rattle.plain_model.specs.Tree.{is_folder};
 ghost use Rattle.plain_model.specs.Changes.{one_fewer, is_named, names_in, opened, touched, with_bytes};
 ghost use Rattle.plain_model.specs.Replies.{stat_of, stat_by, capped};
-ghost use Rattle.plain_reference.specs.Nodes.{shown, plain, origin_of, attributes_at, given};
+ghost use Rattle.plain_reference.specs.Nodes.{shown, plain, origin_of, attributes_at, given, gained};
 
 use crate::id::Id;
 use crate::names::Names;
@@ -79,6 +79,17 @@ pub fn is_named(node: Option<&Node>) -> bool
         Some(Node::Directory { count, .. }) => *count > 0,
         Some(Node::Leaf { count, .. }) => *count > 0,
         None => false,
+    }
+}
+
+/// How many names lead to a node.
+pub fn count_of(node: Option<&Node>) -> u64
+    ensures { result ≡ count_of (shown (option_copied node.entry)) }
+{
+    match node {
+        Some(Node::Directory { count, .. }) => *count,
+        Some(Node::Leaf { count, .. }) => *count,
+        None => 0,
     }
 }
 
@@ -164,6 +175,16 @@ impl Node {
         match self {
             Node::Directory { count, .. } => *count = count.saturating_sub(1),
             Node::Leaf { count, .. } => *count = count.saturating_sub(1),
+        }
+    }
+
+    /// Lets a file or symbolic link have a name more, as far as numbers go; it then stands in the upper layer.
+    pub fn gain_name(&mut self)
+        ensures { plain self.new ≡ gained (plain self.old) }
+    {
+        if let Node::Leaf { origin, count, .. } = self {
+            *origin = Origin::Own;
+            *count = count.saturating_add(1);
         }
     }
 

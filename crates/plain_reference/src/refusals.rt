@@ -226,6 +226,21 @@ fn rmdir_line(path: &Path, look: &Look, node: Option<&Node>) -> Option<Errno>
     when(has_names(node), Errno::ENOTEMPTY)
 }
 
+fn link_line(look: &Look, node: Option<&Node>, new: &Look) -> Option<Errno>
+    ensures { result ≡ (rule.there (look_of look.now) or_else rule.walked (look_of new.now) or_else rule.when (machine.is_found (look_of new.now)) Errno.EEXIST or_else rule.when (plain.is_folder (shown (option_copied node.entry))) Errno.EPERM) }
+{
+    if let Some(errno) = there(look) {
+        return Some(errno);
+    }
+    if let Some(errno) = walked(new) {
+        return Some(errno);
+    }
+    if is_found(new) {
+        return Some(Errno::EEXIST);
+    }
+    when(is_folder(node), Errno::EPERM)
+}
+
 fn open_line(
     flags: OpenFlags,
     mode: u32,
@@ -429,6 +444,20 @@ impl Reference {
         let look = self.look(path)?;
         let node = self.tree.node_found(&look);
         Ok(rmdir_line(path, &look, node))
+    }
+
+    pub(crate) fn link_refusal(
+        &self,
+        client: u32,
+        old: &Path,
+        new: &Path,
+    ) -> Result<Option<Errno>, AllocError>
+        ensures { IfOk result (λ errno. errno ≡ refusal (state_of self.now) client (call.Hardlink old.now new.now)) }
+    {
+        let look = self.look(old)?;
+        let node = self.tree.node_found(&look);
+        let further = self.look(new)?;
+        Ok(link_line(&look, node, &further))
     }
 
     pub(crate) fn open_refusal(

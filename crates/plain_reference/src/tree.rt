@@ -3,7 +3,7 @@ ghost use Rattle.std.specs.Prelude.{◌≡◌, ◌<◌, [], Some, None, OnOk, On
 ghost use Rattle.std.specs.Option.{option_copied};
 ghost use Rattle.plain_model.specs.Tree.{same_id, put, lead};
 ghost use Rattle.plain_model.specs.Changes.{change, one_fewer, opened, with_bytes};
-ghost use Rattle.plain_reference.specs.Nodes.{shown, plain, given};
+ghost use Rattle.plain_reference.specs.Nodes.{shown, plain, given, gained};
 ghost use Rattle.plain_reference.specs.Slots.{tree_of};
 
 use crate::id::Id;
@@ -101,6 +101,18 @@ impl Tree {
             let slot = &mut self.slots[index];
             if let Some(node) = &mut slot.node {
                 node.lose_name();
+            }
+        }
+    }
+
+    /// Lets a file or symbolic link have a name more, as far as numbers go.
+    pub fn gain_name(&mut self, id: &Id)
+        ensures { tree_of self.new.slots.items ≡ change gained (tree_of self.old.slots.items) (Some id.now) }
+    {
+        if let Some(index) = self.index(id) {
+            let slot = &mut self.slots[index];
+            if let Some(node) = &mut slot.node {
+                node.gain_name();
             }
         }
     }
