@@ -1,18 +1,17 @@
 -- A further name of an inode of a layer, and what it leaves.
-use Rattle.std.proofs.Common.{◌≡◌, ◌≢◌, ◌≤◌, ◌<◌, ◌^◌, ◌+◌, ℕ, List, [], ◌∷◌, ◌++◌, Option, Some, None, IsSome, is_some, true, false, refl, sym, ap, ◌∙◌, subst, inl, inr, arith}
+use Rattle.std.proofs.Common.{◌≡◌, ◌≢◌, ◌<◌, ◌^◌, ◌+◌, ℕ, [], ◌∷◌, ◌++◌, Option, Some, None, is_some, true, false, refl, sym, ap, ◌∙◌, inl, inr, arith}
 use Rattle.std.specs.Option.{option_and_then}
 use Rattle.std.specs.Prelude.{option_map}
-use Rattle.std.proofs.lemmas.Bool.{false≢true, cases_eq}
+use Rattle.std.proofs.lemmas.Bool.{false≢true}
 use Rattle.slab.specs.Slab.{get}
 use Rattle.ov_base.specs.declared.attributes.Attributes.{Attributes}
 use Rattle.ov_base.specs.declared.bytes.Content.{Content}
-use Rattle.ov_base.specs.declared.redirect.Redirect.{Redirect}
-use Rattle.plain_model.specs.Layers.{Name, Path, Object, Directory, Named, Inode, Layer, held, holds_directory, IsLayer}
+use Rattle.plain_model.specs.Layers.{Name, Path, Object, Directory, Named, Inode, Layer, held, IsLayer}
 use Rattle.mount_laws.specs.Leaves.{PlacesLeaf}
 use Rattle.mount_laws.specs.Linking.{AddsName}
 use Rattle.mount_laws.proofs.Places.{longer}
 use Rattle.layer_tree.specs.Table.{object_key}
-use Rattle.layer_tree.specs.Tree.{Tree, layer_of, key_at, child, inode_at, inode_of, IsTree, IsHeldTogether, SetsPath, SameObjects, SameTree, Inserts}
+use Rattle.layer_tree.specs.Tree.{Tree, layer_of, key_at, child, inode_at, inode_of, IsHeldTogether, SetsPath, SameObjects, SameTree, Inserts}
 use Rattle.layer_tree.specs.Link.{Links, HasCountRoom, with_more}
 use Rattle.layer_tree.specs.Nameless.{IsNameless, KeepsObjects}
 use Rattle.layer_tree.specs.declared.node.Node.{Node}
@@ -21,11 +20,10 @@ use Rattle.layer_tree.specs.declared.node.Object.TheVariants as object
 use Rattle.layer_tree.proofs.Changing.{same_presence}
 use Rattle.layer_tree.proofs.Keeping.{named_key}
 use Rattle.layer_tree.proofs.Nameless.{nameless_apart, keeps_same, keeps_leaf, keeps_then}
-use Rattle.layer_tree.proofs.Walks.{cases_pair, same_path}
+use Rattle.layer_tree.proofs.Walks.{cases_pair}
 use Rattle.merged_lookup.proofs.Descending.{key-of}
 use Rattle.copy_up.specs.Showing.{is_object, HasPlace}
 use Rattle.copy_up.proofs.Copying.{leaf_of, leaf-placed}
-use Rattle.copy_up.proofs.Nodes.{place-directory, place-free}
 use Rattle.copy_up.proofs.Placing.{free-directory, nothing-held}
 use Rattle.rename_redirect.specs.Linking.{KeepsDirectories, CopiesName}
 

@@ -1,7 +1,5 @@
 -- A further name in an upper whose missing parents were placed.
-use Rattle.std.proofs.Common.{◌≡◌, ◌↔◌, ◌<◌, ℕ, zero, suc, true, false, List, [], ◌∷◌, Option, None, Some, is_some, option_map, refl, sym, ap, ◌∙◌, subst, arith}
-use Rattle.ov_base.specs.declared.attributes.Attributes.{Attributes}
-use Rattle.ov_base.specs.declared.bytes.Content.{Content}
+use Rattle.std.proofs.Common.{◌≡◌, ◌<◌, ℕ, zero, suc, true, false, List, ◌∷◌, None, Some, is_some, option_map, refl, sym, ap, ◌∙◌, subst, arith}
 use Rattle.ov_base.specs.declared.errno.Errno.TheVariants as errno
 use Rattle.plain_model.specs.Layers.{Name, Path, Directory, Named, Inode, Layer, held, Contents, shows, is_directory, IsLayer, AreLayers}
 use Rattle.plain_model.specs.Laws.{IsOutside}

@@ -1,5 +1,5 @@
 -- Room that is made in two directories of a layer, one after the other.
-use Rattle.std.proofs.Common.{◌≡◌, ◌≢◌, ◌≤◌, ◌<◌, ◌+◌, ℕ, ◌∙◌, sym, ap, inl, inr, arith, Result, Ok, Err, OnErr, IsOk, true, false}
+use Rattle.std.proofs.Common.{◌≢◌, ◌≤◌, ◌<◌, ◌+◌, ℕ, ◌∙◌, ap, inl, inr, arith, Result, Ok, Err, OnErr, IsOk}
 use Rattle.std.proofs.lemmas.Bool.{false≢true, cases_eq}
 use Rattle.layer_tree.specs.Tree.{Tree, SameTree, names_room}
 

@@ -35,12 +35,7 @@ pub(crate) fn link_in_upper(
 }
 
 // Gives an inode of a layer a further name, in a directory in which no object stands at it.
-fn link_inode(
-    upper: &mut Layer,
-    dir: usize,
-    name: &Name,
-    key: usize,
-) -> Result<(), AllocError>
+fn link_inode(upper: &mut Layer, dir: usize, name: &Name, key: usize) -> Result<(), AllocError>
     requires place { (q : Names) × HasPlace (layer_of upper.old) dir name.now q }
     requires source { (p : Names) × (held (layer_of upper.old) p ≡ Some (Named key)) }
     ensures added { OnOk result ((p q : Names) → held (layer_of upper.old) p ≡ Some (Named key) → HasPlace (layer_of upper.old) dir name.now q → AddsName (layer_of upper.old) (layer_of upper.new) p (name.now ∷ q)) }

@@ -1,4 +1,4 @@
-use Rattle.std.proofs.Common.{◌≡◌, [], ◌∷◌, Some, None, reverse, sym, ap, ◌∙◌, subst}
+use Rattle.std.proofs.Common.{[], ◌∷◌, Some, None, reverse, sym, ap, ◌∙◌, subst}
 use Rattle.ov_base.specs.declared.attributes.Attributes.{Attributes}
 use Rattle.ov_base.specs.declared.bytes.Content.{Content}
 use Rattle.plain_model.specs.Layers.{Path, Contents, shows}
@@ -85,8 +85,8 @@ returns-clause-linked c =
     let shown = sym (ap (shows 0 (layers_of l1)) c.in-Some.ensures) ∙ p.shown (Some i) found.1 ∙ ap (λ j. Some (Contents j c.args.place.key (Some i))) s.1 in
     let absent = p.same.absent (m ∷ u) (sym (ap (shows 0 (layers_of l0)) c.in-Some-split_last.ensures) ∙ c.requires.absent) in
     let copy = subst (λ (z : Content). CopiesName (layer_of l1.upper) (layer_of l2.upper) (n ∷ t) (m ∷ u) z i.attributes) found.2
-        (subst (λ (z : Attributes). CopiesName (layer_of l1.upper) (layer_of l2.upper) (n ∷ t) (m ∷ u) c.in_ok-copy.copy.0 z) found.3
-        (c.in_ok-insert_in_upper.ensures.copied t u from onto (λ e. out [] e))) in
+    (subst (λ (z : Attributes). CopiesName (layer_of l1.upper) (layer_of l2.upper) (n ∷ t) (m ∷ u) c.in_ok-copy.copy.0 z) found.3
+    (c.in_ok-insert_in_upper.ensures.copied t u from onto (λ e. out [] e))) in
     let objects = c.in_ok-insert_in_upper.ensures.objects in
     subst (λ (z : Path). GivesName l0 l2 z c.args.new.now) (sym c.in-Some.ensures)
     (subst (λ (z : Path). GivesName l0 l2 (n ∷ t) z) (sym c.in-Some-split_last.ensures)
@@ -117,6 +117,6 @@ returns-clause-thin c = λ h.
     let shown = sym (ap (shows 0 (layers_of l1)) c.in-Some.ensures) ∙ p.shown (Some i) found.1 ∙ ap (λ j. Some (Contents j c.args.place.key (Some i))) s.1 in
     let absent = p.same.absent (m ∷ u) (sym (ap (shows 0 (layers_of l0)) c.in-Some-split_last.ensures) ∙ c.requires.absent) in
     let copy = subst (λ (z : Content). CopiesName (layer_of l1.upper) (layer_of l2.upper) (n ∷ t) (m ∷ u) z i.attributes) found.2
-        (subst (λ (z : Attributes). CopiesName (layer_of l1.upper) (layer_of l2.upper) (n ∷ t) (m ∷ u) c.in_ok-copy.copy.0 z) found.3
-        (c.in_ok-insert_in_upper.ensures.copied t u from onto (λ e. out [] e))) in
+    (subst (λ (z : Attributes). CopiesName (layer_of l1.upper) (layer_of l2.upper) (n ∷ t) (m ∷ u) c.in_ok-copy.copy.0 z) found.3
+    (c.in_ok-insert_in_upper.ensures.copied t u from onto (λ e. out [] e))) in
     copy-thin l1 l2 c.insert_in_upper.ensures.lowers c.insert_in_upper.ensures.keeps n t m u s.0 c.args.place.key i shown absent out copy (p.stays.thin h)

@@ -1,4 +1,4 @@
-use Rattle.std.proofs.Common.{◌≡◌, ◌∷◌, Some, None, reverse, sym, ap, ◌∙◌, subst, arith}
+use Rattle.std.proofs.Common.{◌∷◌, reverse, sym, ap, ◌∙◌, subst, arith}
 use Rattle.plain_model.specs.Layers.{shows}
 use Rattle.layer_tree.specs.Tree.{layer_of}
 use Rattle.merged_lookup.specs.Merged.{layers_of}
@@ -35,7 +35,7 @@ pub unreachable-requires-in_default-parent_of : goal.unreachable-requires-in_def
 unreachable-requires-in_default-parent_of c =
     let p = c.place_parents.ensures in
     let found = parent-found c.place_parents.new.layers c.args.new.now c.parent_of.result c.parent_of.ensures.found c.parent_of.ensures.refused
-        (parents-same c.args.layers.now c.place_parents.new.layers p.same c.args.new.now c.requires.parents) (p.same.absent c.args.new.now c.requires.absent) in
+    (parents-same c.args.layers.now c.place_parents.new.layers p.same c.args.new.now c.requires.parents) (p.same.absent c.args.new.now c.requires.absent) in
     elim c.in_default-parent_of.branch [
       | in_default-parent_of-via-in-Ok+in_default w ↦ let same = sym found.1 ∙ w.in_default-parent_of.is in grind arith
       | in_default-parent_of-via-in_default w ↦ let same = sym found.1 ∙ w.in_default-parent_of.is in cc

@@ -1,4 +1,4 @@
-use Rattle.std.proofs.Common.{refl, ap, ◌∙◌}
+use Rattle.std.proofs.Common.{refl, ap}
 use Rattle.plain_model.specs.Layers.{is_directory}
 use Rattle.merged_lookup.specs.Merged.{layers_of}
 use Rattle.copy_up.proofs.OtherAttributes.{found-inode}

@@ -1,4 +1,4 @@
-use Rattle.std.proofs.Common.{◌≡◌, ◌∷◌, Some, None, reverse, sym, ap, ◌∙◌, subst}
+use Rattle.std.proofs.Common.{◌∷◌, reverse, sym, ap, ◌∙◌, subst}
 use Rattle.plain_model.specs.Layers.{Path, shows}
 use Rattle.merged_lookup.specs.Merged.{layers_of}
 use Rattle.copy_up.specs.Showing.{GainsParents, Stays}

@@ -1,4 +1,4 @@
-use Rattle.std.proofs.Common.{◌≡◌, ◌≢◌, ◌∷◌, ℕ, Some, OnOk, subst}
+use Rattle.std.proofs.Common.{◌≢◌, ◌∷◌, ℕ, Some, OnOk, subst}
 use Rattle.plain_model.specs.Layers.{Path, IsLayer}
 use Rattle.layer_tree.specs.Tree.{Tree, layer_of}
 use Rattle.layer_tree.specs.Nameless.{KeepsObjects}

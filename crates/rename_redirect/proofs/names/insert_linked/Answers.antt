@@ -1,4 +1,4 @@
-use Rattle.std.proofs.Common.{◌∙◌, ap, refl, Some, None}
+use Rattle.std.proofs.Common.{◌∙◌, ap, refl}
 use Rattle.std.specs.Option.{option_and_then}
 use Rattle.layer_tree.specs.Table.{object_key}
 use Rattle.layer_tree.proofs.Roots.{key_at-bound}
@@ -45,10 +45,12 @@ returns-clause-directories c = both-ok c.link.result (λ l s.
     c.link.ensures.links c.link.ensures.sets
 
 pub returns-clause-objects : goal.returns-clause-objects
-returns-clause-objects c = both-ok c.link.result (λ l s. (c.insert_reserved-key.result,
-    copies-kept c.args.upper.now c.room_for_both.new.upper c.insert_reserved-key.new.self c.room_for_both.ensures.same c.room_for_both.ensures.objects_held c.args.from c.args.name.now c.args.object.0 c.args.object.1 c.insert_reserved-key.result
-    (rw c.in_ok-name.ensures.cases at c.insert_reserved-key.ensures.inserts) (rw c.in_ok-name.ensures.cases at c.insert_reserved-key.ensures.sets) c.requires.places.0 c.requires.places.2 c.args.to c.args.further.now c.requires.places.1 c.requires.places.3 c.requires.places.4
-    c.link.new.self (rw c.in_ok-further.ensures.cases at l) (rw c.in_ok-further.ensures.cases at s)))
+returns-clause-objects c = both-ok c.link.result (λ l s. (
+  c.insert_reserved-key.result,
+  copies-kept c.args.upper.now c.room_for_both.new.upper c.insert_reserved-key.new.self c.room_for_both.ensures.same c.room_for_both.ensures.objects_held c.args.from c.args.name.now c.args.object.0 c.args.object.1 c.insert_reserved-key.result
+      (rw c.in_ok-name.ensures.cases at c.insert_reserved-key.ensures.inserts) (rw c.in_ok-name.ensures.cases at c.insert_reserved-key.ensures.sets) c.requires.places.0 c.requires.places.2 c.args.to c.args.further.now c.requires.places.1 c.requires.places.3 c.requires.places.4
+      c.link.new.self (rw c.in_ok-further.ensures.cases at l) (rw c.in_ok-further.ensures.cases at s),
+))
     c.link.ensures.links c.link.ensures.sets
 
 pub returns-clause-same : goal.returns-clause-same
@@ -61,7 +63,7 @@ returns-clause-keeps c = λ h.
     let f = c.requires.places.2 in
     let q = c.requires.places.1 in
     let at = second-place c.args.upper.now c.room_for_both.new.upper c.insert_reserved-key.new.self c.room_for_both.ensures.same c.room_for_both.ensures.objects_held c.args.from c.args.name.now c.args.object.0 c.args.object.1 c.insert_reserved-key.result
-        (rw c.in_ok-name.ensures.cases at c.insert_reserved-key.ensures.inserts) (rw c.in_ok-name.ensures.cases at c.insert_reserved-key.ensures.sets) c.requires.places.0 f c.args.to c.args.further.now q c.requires.places.3 c.requires.places.4 in
+    (rw c.in_ok-name.ensures.cases at c.insert_reserved-key.ensures.inserts) (rw c.in_ok-name.ensures.cases at c.insert_reserved-key.ensures.sets) c.requires.places.0 f c.args.to c.args.further.now q c.requires.places.3 c.requires.places.4 in
     c.link.ensures.keeps q (key-of c.insert_reserved-key.new.self q c.args.to at.attributes at.opaque at.redirect at.directory)
     (c.insert_reserved-key.ensures.keeps c.requires.places.0 (key_at-bound c.args.upper.now c.room_for_both.new.upper c.room_for_both.ensures.same.entries c.requires.places.0 ∙ key-of c.args.upper.now c.requires.places.0 c.args.from f.attributes f.opaque f.redirect f.directory) (c.room_for_both.ensures.keeps h))
 

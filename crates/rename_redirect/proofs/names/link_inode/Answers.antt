@@ -5,7 +5,7 @@ use Rattle.merged_lookup.proofs.Descending.{key-of}
 use Rattle.plain_model.specs.Layers.{Named}
 use Rattle.layer_tree.specs.Tree.{layer_of}
 use Rattle.std.proofs.Common.{◌∷◌}
-use Rattle.rename_redirect.proofs.Further.{adds-name, keeps-linked, sets-directories, there}
+use Rattle.rename_redirect.proofs.Further.{adds-name, keeps-linked, sets-directories}
 use Rattle.rename_redirect.proofs.names.link_inode.Goals as goal
 
 pub link-requires-clause-is_dir : goal.link-requires-clause-is_dir
