@@ -10,4 +10,5 @@ mod removals;
 pub use directories::mkdir;
 pub use freeing::free;
 pub use leaves::{create, symlink};
+pub use objects::vacant;
 pub use removals::{rmdir, unlink};

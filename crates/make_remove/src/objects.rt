@@ -9,8 +9,9 @@ use merged_lookup::{Layers, Stack};
 use ov_base::{Attributes, Errno, Mode, Path, UserAttributes};
 use std::alloc::Global;
 
-// The merged directory in which an object may be made at a path: its parents lead to it, and nothing is shown at the last name.
-pub(crate) fn vacant(layers: &Layers, path: &Path) -> Result<Stack, Errno>
+/// The merged directory in which an object may be made at a path. The way to the last name is refused as `mkdir`'s, and where something
+/// is shown it is EEXIST.
+pub fn vacant(layers: &Layers, path: &Path) -> Result<Stack, Errno>
     ensures cases { MatchResult result (λ _. vacancy_fault (layers_of layers.now) path.now ≡ None) (λ e. vacancy_fault (layers_of layers.now) path.now ≡ Some e) }
     ensures parents { IfOk result (λ _. parents_fault (layers_of layers.now) path.now ≡ None) }
     ensures absent { IfOk result (λ _. shows 0 (layers_of layers.now) path.now ≡ None) }

@@ -1,0 +1,148 @@
+-- A further name in an upper whose missing parents were placed.
+use Rattle.std.proofs.Common.{◌≡◌, ◌<◌, ℕ, zero, suc, true, false, List, ◌∷◌, None, Some, is_some, option_map, refl, sym, ap, ◌∙◌, subst, arith}
+use Rattle.ov_base.specs.declared.errno.Errno.TheVariants as errno
+use Rattle.plain_model.specs.Layers.{Name, Path, Directory, Named, Inode, Layer, held, Contents, shows, is_directory, IsLayer, AreLayers}
+use Rattle.plain_model.specs.Laws.{IsOutside}
+use Rattle.plain_model.specs.Tree.{IsThin, merged}
+use Rattle.plain_model.specs.Refusals.{when}
+use Rattle.mount_laws.specs.Looks.{or_else, parents_fault, walk_fault}
+use Rattle.mount_laws.specs.Linking.{AddsName, GainsName, MakesName, linked_sight, link_fault}
+use Rattle.mount_laws.specs.StayOpen.{GainsLink}
+use Rattle.mount_laws.proofs.Alters.{law_of_thin}
+use Rattle.mount_laws.proofs.Changed.{law_of_copied_leaf}
+use Rattle.mount_laws.proofs.Linked.{law_of_name_made}
+use Rattle.mount_laws.proofs.LinkedOpen.{law_of_added_link, law_of_copied_link}
+use Rattle.mount_laws.proofs.Naming.{law_of_added_name, law_of_copied_name}
+use Rattle.layer_tree.specs.Tree.{layer_of, SameObjects}
+use Rattle.layer_tree.specs.Nameless.{KeepsObjects}
+use Rattle.layer_tree.proofs.Nameless.{keeps_then}
+use Rattle.merged_lookup.specs.declared.layers.Layers.{Layers}
+use Rattle.merged_lookup.specs.Merged.{layers_of, lowers_of}
+use Rattle.copy_up.specs.Showing.{ShowsSame, Stays, StaysThin, GainsParents}
+use Rattle.copy_up.proofs.Frames.{gains-self, gains-then, gains-unchanged}
+use Rattle.copy_up.proofs.Keeping.{lowers-same, linked-by, lift, same-self, same-then, same-unchanged, stays-then, stays-unchanged}
+use Rattle.rename_redirect.specs.Linking.{GivesName, GainsBoth, CopiesName, KeepsDirectories, LinkSteps}
+use Rattle.rename_redirect.proofs.Shown.{still-absent, thin-linked}
+
+-- parents of the second path alone
+pub gains-second : (old new : Layers) (p q : Path) → ShowsSame old new → GainsParents old new q → GainsBoth old new p q
+gains-second old new p q same gains = record { mid = old; first = gains-self old p; same_first = same-self old; second = gains; same_second = same }
+
+-- parents of the first path alone
+pub gains-first : (old new : Layers) (p q : Path) → ShowsSame old new → GainsParents old new p → GainsBoth old new p q
+gains-first old new p q same gains = record { mid = new; first = gains; same_first = same; second = gains-self new q; same_second = same-self new }
+
+-- what is gained by a further name over an upper whose missing parents were placed is gained over the upper before that
+module _ (start mid : Layers) (V : Layer) (same : ShowsSame start mid) (stays : Stays start mid) (p q : Path) where
+  abbrev A : Layer
+  A = layer_of start.upper
+
+  abbrev B : Layer
+  B = layer_of mid.upper
+
+  low : lowers_of mid ≡ lowers_of start
+  low = lowers-same start mid same.lowers
+
+  up : (x : Path) (k : ℕ) → held A x ≡ Some (Named k) → held B x ≡ Some (Named k)
+  up x k = (stays.names x k).1
+
+  down : (x : Path) (k : ℕ) → held B x ≡ Some (Named k) → held A x ≡ Some (Named k)
+  down x k = (stays.names x k).0
+
+  name-since : GainsName B V (lowers_of mid) p q → GainsName A V (lowers_of start) p q
+  name-since g =
+      record {
+        layers = subst (λ (Ls : List Layer). AreLayers (V ∷ Ls)) low g.layers;
+        here = sym (ap (λ Ls. merged V Ls p) low) ∙ g.here ∙ ap (option_map linked_sight) (same.sights p);
+        there = sym (ap (λ Ls. merged V Ls q) low) ∙ g.there ∙ ap (option_map linked_sight) (same.sights p);
+        together = g.together;
+        linked = λ x a b l. sym (ap (λ Ls. merged V Ls x) low) ∙ g.linked x a b (linked-by A B up p x l) ∙ ap (option_map linked_sight) (same.sights x);
+        others = λ x a b off. sym (ap (λ Ls. merged V Ls x) low) ∙ g.others x a b (λ l. off (linked-by B A down p x l)) ∙ same.sights x;
+        earlier = λ x z a b l. lift (linked-by B A down x z) (g.earlier x z a b l);
+        later = λ x z l. g.later x z (linked-by A B up x z l);
+        at = λ x a l. lift (linked-by B A down p x) (g.at x a l);
+      }
+
+  link-since : (j : ℕ) → GainsLink B V p q j → GainsLink A V p q j
+  link-since j g =
+      record {
+        names = λ x off. (λ h. down x j ((g.names x off).0 h), λ h. (g.names x off).1 (up x j h));
+        further = (λ h. down p j (g.further.0 h), λ h. g.further.1 (up p j h));
+        more = λ i h is. g.more i (up p j h) (stays.inodes j ∙ is);
+        same = λ off. g.same (λ h. off (down p j h)) ∙ stays.inodes j;
+      }
+
+-- what p showed is given the further name q
+pub gives-name : (start mid new : Layers) → ShowsSame start mid → Stays start mid → KeepsObjects start.upper mid.upper None → (p q : Path) → (AreLayers (layers_of mid) → GainsName (layer_of mid.upper) (layer_of new.upper) (lowers_of mid) p q) → (AreLayers (layers_of mid) → (j : ℕ) → is_some ((layer_of mid.upper).inodes j) ≡ true → GainsLink (layer_of mid.upper) (layer_of new.upper) p q j) → KeepsDirectories (layer_of mid.upper) (layer_of new.upper) → (key : ℕ) → KeepsObjects mid.upper new.upper (Some key) → GivesName start new p q
+gives-name start mid new same stays placed p q name links directories key kept =
+    let all = keeps_then start.upper mid.upper new.upper (Some key) placed kept in
+    record {
+      gains = λ h. name-since start mid (layer_of new.upper) same stays p q (name (stays.layers h));
+      links = λ h j is. link-since start mid (layer_of new.upper) same stays p q j (links (stays.layers h) j (ap is_some (stays.inodes j) ∙ is));
+      directories = λ x k a o r h. directories x k a o r (stays.holds x (Directory k a o r) h);
+      seen = all.seen;
+      nameless = all.nameless;
+    }
+
+-- want of memory after parents were placed
+module _ (start mid new : Layers) (same : ShowsSame start mid) (stays : Stays start mid) (low : new.lowers ≡ mid.lowers) (unchanged : SameObjects (layer_of mid.upper) (layer_of new.upper)) (kept : KeepsObjects mid.upper new.upper None) where
+  pub fails-same : ShowsSame start new
+  fails-same = same-then start mid new same (same-unchanged mid new low unchanged (λ k. kept.inodes k (λ e. cc)))
+
+  pub fails-stays : (IsLayer (layer_of mid.upper) → IsLayer (layer_of new.upper)) → Stays start new
+  fails-stays keep = stays-then start mid new stays (stays-unchanged mid new low unchanged (λ k. kept.inodes k (λ e. cc)) keep)
+
+  pub fails-both : (p q : Path) → GainsBoth start mid p q → GainsBoth start new p q
+  fails-both p q g =
+      record {
+        mid = g.mid;
+        first = g.first;
+        same_first = g.same_first;
+        second = gains-then g.mid mid new q g.same_second g.second (gains-unchanged mid new q low unchanged kept);
+        same_second = same-then g.mid mid new g.same_second (same-unchanged mid new low unchanged (λ k. kept.inodes k (λ e. cc)));
+      }
+
+-- an inode of the upper is given a further name
+module _ (mid new : Layers) (low : new.lowers ≡ mid.lowers) (keep : IsLayer (layer_of mid.upper) → IsLayer (layer_of new.upper)) (p : Path) (n : Name) (q : Path) (absent : shows 0 (layers_of mid) (n ∷ q) ≡ None) (adds : AddsName (layer_of mid.upper) (layer_of new.upper) p (n ∷ q)) where
+  pub own-name : AreLayers (layers_of mid) → GainsName (layer_of mid.upper) (layer_of new.upper) (lowers_of mid) p (n ∷ q)
+  own-name h = law_of_added_name (layer_of mid.upper) (layer_of new.upper) (lowers_of mid) h (keep h.0, h.1) p n q absent adds
+
+  pub own-links : AreLayers (layers_of mid) → (j : ℕ) → is_some ((layer_of mid.upper).inodes j) ≡ true → GainsLink (layer_of mid.upper) (layer_of new.upper) p (n ∷ q) j
+  own-links h j is = law_of_added_link (layer_of mid.upper) (layer_of new.upper) (lowers_of mid) h p (n ∷ q) absent adds j
+
+  pub own-thin : StaysThin mid new
+  own-thin h = subst (λ (Ls : List Layer). IsThin (layer_of new.upper) Ls) (sym (lowers-same mid new low)) (thin-linked (layer_of mid.upper) (layer_of new.upper) (lowers_of mid) p (n ∷ q) adds h)
+
+-- one of a lower layer is copied up and given a further name
+module _ (mid new : Layers) (low : new.lowers ≡ mid.lowers) (keep : IsLayer (layer_of mid.upper) → IsLayer (layer_of new.upper)) (n : Name) (p : Path) (m : Name) (q : Path) (l k : ℕ) (i : Inode) (shown : shows 0 (layers_of mid) (n ∷ p) ≡ Some (Contents (suc l) k (Some i))) (absent : shows 0 (layers_of mid) (m ∷ q) ≡ None) (out : IsOutside (n ∷ p) (m ∷ q)) (copy : CopiesName (layer_of mid.upper) (layer_of new.upper) (n ∷ p) (m ∷ q) i.content i.attributes) where
+  copy-absent : shows 0 (copy.copied ∷ lowers_of mid) (m ∷ q) ≡ None
+  copy-absent = still-absent (layer_of mid.upper) copy.copied (lowers_of mid) (n ∷ p) copy.number (record { content = i.content; attributes = i.attributes; links = 1 }) copy.leaf (m ∷ q) out absent
+
+  pub copy-name : AreLayers (layers_of mid) → GainsName (layer_of mid.upper) (layer_of new.upper) (lowers_of mid) (n ∷ p) (m ∷ q)
+  copy-name h =
+      law_of_copied_name (layer_of mid.upper) copy.copied (layer_of new.upper) (lowers_of mid) (n ∷ p) (m ∷ q) l k i shown
+      (law_of_copied_leaf (layer_of mid.upper) copy.copied (lowers_of mid) h (copy.lawful h.0, h.1) n p l k copy.number i i.attributes shown copy.leaf)
+      (law_of_added_name copy.copied (layer_of new.upper) (lowers_of mid) (copy.lawful h.0, h.1) (keep h.0, h.1) (n ∷ p) m q copy-absent copy.further)
+
+  pub copy-links : AreLayers (layers_of mid) → (j : ℕ) → is_some ((layer_of mid.upper).inodes j) ≡ true → GainsLink (layer_of mid.upper) (layer_of new.upper) (n ∷ p) (m ∷ q) j
+  copy-links h j is = law_of_copied_link (layer_of mid.upper) copy.copied (layer_of new.upper) (lowers_of mid) h (n ∷ p) (m ∷ q) l copy.number k i (record { content = i.content; attributes = i.attributes; links = 1 }) shown copy.leaf absent copy.further j is
+
+  pub copy-thin : StaysThin mid new
+  copy-thin h =
+      subst (λ (Ls : List Layer). IsThin (layer_of new.upper) Ls) (sym (lowers-same mid new low))
+      (thin-linked copy.copied (layer_of new.upper) (lowers_of mid) (n ∷ p) (m ∷ q) copy.further
+      ((law_of_thin (layer_of mid.upper) copy.copied (lowers_of mid) h n p).leaf copy.number (record { content = i.content; attributes = i.attributes; links = 1 }) copy.leaf))
+
+-- a number above 0 follows one
+pub follows : (j : ℕ) → 0 < j → (l : ℕ) × (j ≡ suc l)
+follows zero h = absurd (omega (arith, h))
+follows (suc l) h = (l, refl)
+
+-- nothing refuses a link of a file to a path that shows nothing
+pub link-fine : (Ls : List Layer) (p q : Path) → walk_fault Ls p ≡ None → parents_fault Ls q ≡ None → shows 0 Ls q ≡ None → is_directory (shows 0 Ls p) ≡ false → link_fault Ls p q ≡ None
+link-fine Ls p q walk way none file = λ i. or_else (walk i) (or_else (way i) (or_else (when (is_some (none i)) errno.EEXIST) (when (file i) errno.EPERM)))
+
+-- link is the machine's step where the name is given
+pub link-steps : (old new : Layers) (p q : Path) → new.lowers ≡ old.lowers → link_fault (layers_of old) p q ≡ None → GivesName old new p q → LinkSteps old new p q
+link-steps old new p q low fine given s h c =
+    subst (λ (Ls : List Layer). MakesName (layer_of new.upper) Ls s c p q) (sym (lowers-same old new low)) (law_of_name_made (layer_of old.upper) (layer_of new.upper) (lowers_of old) s h c p q fine (given.gains h.layers))

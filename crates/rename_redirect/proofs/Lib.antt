@@ -1,0 +1,4 @@
+pub mod Rooms
+pub mod Further
+pub mod Given
+pub mod Shown

@@ -1,0 +1,52 @@
+-- What link leaves of the upper (link(2); overlayfs.rst, "Non-directories": a file of a lower layer is copied up first).
+use Rattle.std.specs.Prelude.{◌≡◌, ℕ, Bool, Option, Some, IsSome, is_some, true}
+use Rattle.slab.specs.Slab.{get}
+use Rattle.ov_base.specs.declared.attributes.Attributes.{Attributes}
+use Rattle.ov_base.specs.declared.bytes.Content.{Content}
+use Rattle.ov_base.specs.declared.redirect.Redirect.{Redirect}
+use Rattle.plain_model.specs.Layers.{Path, Directory, Layer, held, IsLayer, AreLayers}
+use Rattle.plain_model.specs.Machine.{State}
+use Rattle.mount_laws.specs.Leaves.{PlacesLeaf}
+use Rattle.mount_laws.specs.Linking.{AddsName, GainsName, MakesName}
+use Rattle.mount_laws.specs.Looks.{IsMountOf}
+use Rattle.mount_laws.specs.StayOpen.{GainsLink}
+use Rattle.layer_tree.specs.Tree.{layer_of, seen_at}
+use Rattle.layer_tree.specs.Nameless.{IsNameless}
+use Rattle.merged_lookup.specs.declared.layers.Layers.{Layers}
+use Rattle.merged_lookup.specs.Merged.{layers_of, lowers_of}
+use Rattle.copy_up.specs.Showing.{GainsParents, ShowsSame}
+
+-- every state of the machine whose mount has the old layers goes on to one with the new layers by link
+abbrev pub LinkSteps : Layers → Layers → Path → Path → Type 0
+LinkSteps old new p q =
+    (s : State) → IsMountOf (layer_of old.upper) (lowers_of old) s → (c : ℕ) → MakesName (layer_of new.upper) (lowers_of new) s c p q
+
+-- the directories that a layer holds stay, with their numbers, attributes and marks
+abbrev pub KeepsDirectories : Layer → Layer → Type 0
+KeepsDirectories U V =
+    (x : Path) (k : ℕ) (a : Attributes) (opaque : Bool) (r : Option Redirect) → held U x ≡ Some (Directory k a opaque r) → held V x ≡ Some (Directory k a opaque r)
+
+-- What p showed has the further name q, which is all that is shown anew but for its link count, and each inode that the upper had gained a
+-- link so. The directories that the upper held stay, and so does what stood under its keys, also what has no name.
+pub record GivesName (old new : Layers) (p q : Path) : Type 0 where
+  pub gains : AreLayers (layers_of old) → GainsName (layer_of old.upper) (layer_of new.upper) (lowers_of old) p q
+  pub links : AreLayers (layers_of old) → (j : ℕ) → is_some ((layer_of old.upper).inodes j) ≡ true → GainsLink (layer_of old.upper) (layer_of new.upper) p q j
+  pub directories : KeepsDirectories (layer_of old.upper) (layer_of new.upper)
+  pub seen : (k : ℕ) → IsSome (get old.upper k) → seen_at new.upper k ≡ seen_at old.upper k
+  pub nameless : (k : ℕ) → IsNameless old.upper k → IsNameless new.upper k
+
+-- nothing changes but that parents of p are gained, and then parents of q; the same is shown all the while
+pub record GainsBoth (old new : Layers) (p q : Path) : Type 0 where
+  pub mid : Layers
+  pub first : GainsParents old mid p
+  pub same_first : ShowsSame old mid
+  pub second : GainsParents mid new q
+  pub same_second : ShowsSame mid new
+
+-- the layer gets a new inode at p, with this content and these attributes, which has the further name q
+pub record CopiesName (U V : Layer) (p q : Path) (content : Content) (a : Attributes) : Type 0 where
+  pub copied : Layer
+  pub number : ℕ
+  pub leaf : PlacesLeaf U copied p number (record { content = content; attributes = a; links = 1 })
+  pub lawful : IsLayer U → IsLayer copied
+  pub further : AddsName copied V p q

@@ -1,0 +1,103 @@
+// `link` of what a lower layer has, which is copied up first.
+ghost use Rattle.std.specs.Prelude.{◌≡◌, ◌≢◌, ◌<◌, ◌∷◌, ℕ, Option, Some, None, IfOk, OnOk, OnErr};
+ghost use Rattle.plain_model.specs.Layers.{Name as NameOf, Path as Names, Inode, Contents, shows};
+ghost use Rattle.layer_tree.specs.Nameless.{KeepsObjects};
+ghost use Rattle.layer_tree.specs.Tree.{layer_of};
+ghost use Rattle.merged_lookup.specs.Merged.{layers_of, parents_fault, parent, IsStackOf, ShowsInode};
+ghost use Rattle.copy_up.specs.Showing.{ShowsSame, HasPlace, Stays, StaysLayers, StaysMount, StaysThin};
+ghost use Rattle.rename_redirect.specs.Linking.{GainsBoth, GivesName};
+
+use crate::names::insert_in_upper;
+use copy_up::place_parents;
+use layer_tree::Node;
+use merged_lookup::{Layers, Place, Stack};
+use ov_base::{Attributes, Content, Path};
+use std::alloc::AllocError;
+
+// `link` of what a path shows of a lower layer: all that needs memory comes before the first change that shows.
+pub(crate) fn link_copy(
+    layers: &mut Layers,
+    old: &Path,
+    new: &Path,
+    directory: Stack,
+    place: Place,
+) -> Result<(), AllocError>
+    requires way { parents_fault (layers_of layers.old) old.now ≡ None }
+    requires directory { IsStackOf layers.old (parent old.now) directory }
+    requires shown { ShowsInode layers.old old.now place }
+    requires lower { 0 < place.layer }
+    requires parents { parents_fault (layers_of layers.old) new.now ≡ None }
+    requires absent { shows 0 (layers_of layers.old) new.now ≡ None }
+    ensures linked { OnOk result (GivesName layers.old layers.new old.now new.now) }
+    ensures lowers { layers.new.lowers ≡ layers.old.lowers }
+    ensures no_memory { OnErr result (ShowsSame layers.old layers.new) }
+    ensures mounts { OnErr result (StaysMount layers.old layers.new) }
+    ensures parents { OnErr result (GainsBoth layers.old layers.new old.now new.now) }
+    ensures keeps { StaysLayers layers.old layers.new }
+    ensures thin { StaysThin layers.old layers.new }
+{
+    let Some((name, _)) = old.split_last() else {
+        unreachable!()
+    };
+    let Some((further, _)) = new.split_last() else {
+        unreachable!()
+    };
+    let copy = copy_of(layers, place)?;
+    let (from, onto) = place_both(layers, old, new, directory, place)?;
+    insert_in_upper(layers, from, name, onto, further, copy)?;
+    Ok(())
+}
+
+// A copy of the file or symbolic link that is shown at a place: what it holds, and its attributes.
+fn copy_of(layers: &Layers, place: Place) -> Result<(Content, Attributes), AllocError>
+    requires { (p : Names) × ShowsInode layers.now p place }
+    ensures { IfOk result (λ copy. (p : Names) → ShowsInode layers.now p place → (i : Inode) × (shows 0 (layers_of layers.now) p ≡ Some (Contents place.layer place.key (Some i))) × (copy.0 ≡ i.content) × (copy.1 ≡ i.attributes)) }
+{
+    let Some(layer) = layers.layer(place.layer) else {
+        unreachable!()
+    };
+    layer.lawful();
+    let Some(Node::Inode(inode)) = layers.node(place) else {
+        unreachable!()
+    };
+    let content = inode.content.clone()?;
+    let attributes = inode.attributes.clone()?;
+    Ok((content, attributes))
+}
+
+// The keys of the directories of the upper in which the last names of two paths stand; those that the upper lacks are placed. The old
+// path shows what a lower layer has, and the new one nothing.
+fn place_both(
+    layers: &mut Layers,
+    old: &Path,
+    new: &Path,
+    directory: Stack,
+    place: Place,
+) -> Result<(usize, usize), AllocError>
+    requires way { parents_fault (layers_of layers.old) old.now ≡ None }
+    requires directory { IsStackOf layers.old (parent old.now) directory }
+    requires shown { ShowsInode layers.old old.now place }
+    requires lower { 0 < place.layer }
+    requires parents { parents_fault (layers_of layers.old) new.now ≡ None }
+    requires absent { shows 0 (layers_of layers.old) new.now ≡ None }
+    ensures same { ShowsSame layers.old layers.new }
+    ensures stays { Stays layers.old layers.new }
+    ensures gains { GainsBoth layers.old layers.new old.now new.now }
+    ensures from { IfOk result (λ dirs. (n : NameOf) (p : Names) → old.now ≡ n ∷ p → HasPlace (layer_of layers.new.upper) dirs.0 n p) }
+    ensures onto { IfOk result (λ dirs. (n : NameOf) (p : Names) → new.now ≡ n ∷ p → HasPlace (layer_of layers.new.upper) dirs.1 n p) }
+    ensures shown { (x : Option Inode) → shows 0 (layers_of layers.old) old.now ≡ Some (Contents place.layer place.key x) → shows 0 (layers_of layers.new) old.now ≡ Some (Contents place.layer place.key x) }
+{
+    let Some((_, parents)) = old.split_last() else {
+        unreachable!()
+    };
+    let from = place_parents(layers, directory, parents)?;
+    let key = from.top().key;
+    let Ok(Some(found)) = layers.parent_of(new) else {
+        unreachable!()
+    };
+    let Some((_, parents)) = new.split_last() else {
+        unreachable!()
+    };
+    let onto = place_parents(layers, found.stack, parents)?;
+    Ok((key, onto.top().key))
+}

@@ -1,0 +1,118 @@
+// Further names in the upper, of an inode that it has and of a new one.
+ghost use Rattle.std.specs.Prelude.{◌≡◌, ◌≢◌, ◌<◌, ◌≤◌, ◌∷◌, ℕ, Some, None, OnOk, OnErr};
+ghost use Rattle.slab.specs.Slab.{HasRoomFor};
+ghost use Rattle.plain_model.specs.Layers.{Path as Names, Named, held, IsLayer};
+ghost use Rattle.plain_model.specs.Tree.{IsThin};
+ghost use Rattle.mount_laws.specs.Linking.{AddsName};
+ghost use Rattle.layer_tree.specs.Nameless.{KeepsObjects};
+ghost use Rattle.layer_tree.specs.Tree.{layer_of, names_room, IsDirectory, SameObjects, SameTree};
+ghost use Rattle.copy_up.specs.Showing.{HasPlace};
+ghost use Rattle.rename_redirect.specs.Linking.{CopiesName, KeepsDirectories};
+
+use layer_tree::{Layer, Object};
+use merged_lookup::Layers;
+use ov_base::{Attributes, Content, Name};
+use std::alloc::AllocError;
+
+// Gives an inode of the upper a further name, in a directory in which no object stands at it; the lower layers stay.
+pub(crate) fn link_in_upper(
+    layers: &mut Layers,
+    dir: usize,
+    name: &Name,
+    key: usize,
+) -> Result<(), AllocError>
+    requires place { (q : Names) × HasPlace (layer_of layers.old.upper) dir name.now q }
+    requires source { (p : Names) × (held (layer_of layers.old.upper) p ≡ Some (Named key)) }
+    ensures lowers { layers.new.lowers ≡ layers.old.lowers }
+    ensures added { OnOk result ((p q : Names) → held (layer_of layers.old.upper) p ≡ Some (Named key) → HasPlace (layer_of layers.old.upper) dir name.now q → AddsName (layer_of layers.old.upper) (layer_of layers.new.upper) p (name.now ∷ q)) }
+    ensures directories { OnOk result (KeepsDirectories (layer_of layers.old.upper) (layer_of layers.new.upper)) }
+    ensures objects { OnOk result (KeepsObjects layers.old.upper layers.new.upper (Some key)) }
+    ensures unchanged { OnErr result (SameObjects (layer_of layers.old.upper) (layer_of layers.new.upper)) }
+    ensures same { OnErr result (KeepsObjects layers.old.upper layers.new.upper None) }
+    ensures keeps { IsLayer (layer_of layers.old.upper) → IsLayer (layer_of layers.new.upper) }
+{
+    link_inode(layers.upper_mut(), dir, name, key)
+}
+
+// Gives an inode of a layer a further name, in a directory in which no object stands at it.
+fn link_inode(upper: &mut Layer, dir: usize, name: &Name, key: usize) -> Result<(), AllocError>
+    requires place { (q : Names) × HasPlace (layer_of upper.old) dir name.now q }
+    requires source { (p : Names) × (held (layer_of upper.old) p ≡ Some (Named key)) }
+    ensures added { OnOk result ((p q : Names) → held (layer_of upper.old) p ≡ Some (Named key) → HasPlace (layer_of upper.old) dir name.now q → AddsName (layer_of upper.old) (layer_of upper.new) p (name.now ∷ q)) }
+    ensures directories { OnOk result (KeepsDirectories (layer_of upper.old) (layer_of upper.new)) }
+    ensures objects { OnOk result (KeepsObjects upper.old upper.new (Some key)) }
+    ensures unchanged { OnErr result (SameObjects (layer_of upper.old) (layer_of upper.new)) }
+    ensures same { OnErr result (KeepsObjects upper.old upper.new None) }
+    ensures keeps { IsLayer (layer_of upper.old) → IsLayer (layer_of upper.new) }
+{
+    upper.lawful();
+    let name = name.clone()?;
+    upper.link(dir, name, key)?;
+    Ok(())
+}
+
+// Puts a new file or symbolic link at a name of a directory of the upper, and gives it a further name, in that directory or another; no
+// object stands at either. The lower layers stay.
+pub(crate) fn insert_in_upper(
+    layers: &mut Layers,
+    from: usize,
+    name: &Name,
+    to: usize,
+    further: &Name,
+    object: (Content, Attributes),
+) -> Result<(), AllocError>
+    requires places { (p q : Names) × HasPlace (layer_of layers.old.upper) from name.now p × HasPlace (layer_of layers.old.upper) to further.now q × (further.now ∷ q ≢ name.now ∷ p) }
+    ensures lowers { layers.new.lowers ≡ layers.old.lowers }
+    ensures copied { OnOk result ((p q : Names) → HasPlace (layer_of layers.old.upper) from name.now p → HasPlace (layer_of layers.old.upper) to further.now q → further.now ∷ q ≢ name.now ∷ p → CopiesName (layer_of layers.old.upper) (layer_of layers.new.upper) (name.now ∷ p) (further.now ∷ q) object.0 object.1) }
+    ensures directories { OnOk result (KeepsDirectories (layer_of layers.old.upper) (layer_of layers.new.upper)) }
+    ensures objects { OnOk result ((key : ℕ) × KeepsObjects layers.old.upper layers.new.upper (Some key)) }
+    ensures unchanged { OnErr result (SameObjects (layer_of layers.old.upper) (layer_of layers.new.upper)) }
+    ensures same { OnErr result (KeepsObjects layers.old.upper layers.new.upper None) }
+    ensures keeps { IsLayer (layer_of layers.old.upper) → IsLayer (layer_of layers.new.upper) }
+{
+    insert_linked(layers.upper_mut(), from, name, to, further, object)
+}
+
+// Puts a new file or symbolic link at a name of a directory of a layer, and gives it a further name, in that directory or another; no
+// object stands at either.
+fn insert_linked(
+    upper: &mut Layer,
+    from: usize,
+    name: &Name,
+    to: usize,
+    further: &Name,
+    object: (Content, Attributes),
+) -> Result<(), AllocError>
+    requires places { (p q : Names) × HasPlace (layer_of upper.old) from name.now p × HasPlace (layer_of upper.old) to further.now q × (further.now ∷ q ≢ name.now ∷ p) }
+    ensures copied { OnOk result ((p q : Names) → HasPlace (layer_of upper.old) from name.now p → HasPlace (layer_of upper.old) to further.now q → further.now ∷ q ≢ name.now ∷ p → CopiesName (layer_of upper.old) (layer_of upper.new) (name.now ∷ p) (further.now ∷ q) object.0 object.1) }
+    ensures directories { OnOk result (KeepsDirectories (layer_of upper.old) (layer_of upper.new)) }
+    ensures objects { OnOk result ((key : ℕ) × KeepsObjects upper.old upper.new (Some key)) }
+    ensures unchanged { OnErr result (SameObjects (layer_of upper.old) (layer_of upper.new)) }
+    ensures same { OnErr result (KeepsObjects upper.old upper.new None) }
+    ensures keeps { IsLayer (layer_of upper.old) → IsLayer (layer_of upper.new) }
+{
+    upper.lawful();
+    let name = name.clone()?;
+    let further = further.clone()?;
+    room_for_both(upper, from, to)?;
+    let (content, attributes) = object;
+    let key = upper.insert_reserved(from, name, Object::Inode(content, attributes));
+    upper.lawful();
+    upper.link(to, further, key)
+}
+
+// Makes room for a new object, for a name of it in one directory, and for one more in a directory that may be the same.
+fn room_for_both(upper: &mut Layer, from: usize, to: usize) -> Result<(), AllocError>
+    requires from { IsDirectory upper.old from }
+    requires to { IsDirectory upper.old to }
+    ensures same { SameTree upper.old upper.new }
+    ensures objects_held { SameObjects (layer_of upper.old) (layer_of upper.new) }
+    ensures kinds { (d : ℕ) → IsDirectory upper.old d → IsDirectory upper.new d }
+    ensures first { OnOk result (0 < names_room upper.new from) }
+    ensures second { OnOk result (2 ≤ names_room upper.new to) }
+    ensures object { OnOk result (HasRoomFor upper.new 1) }
+    ensures keeps { IsLayer (layer_of upper.old) → IsLayer (layer_of upper.new) }
+{
+    upper.room(from, 1, 1)?;
+    upper.room(to, 2, 0)
+}
