@@ -27,7 +27,7 @@ use Rattle.open_handles.proofs.Holding.{handles_on-alike, handles_on-sets, handl
 use Rattle.overlay_core.specs.declared.clients.Clients.{Clients}
 use Rattle.overlay_core.specs.Held.{handles_by, handles_below, files_by, files_below, ClosesAll, ReleasesAll}
 use Rattle.overlay_core.specs.Opening.{OpensAt, OpensFile}
-use Rattle.overlay_core.proofs.Counting.{below-changes, below-one, below-some, has-client}
+use Rattle.overlay_core.proofs.Counting.{below-same, below-changes, below-one, below-some, has-client}
 
 -- what counts as held isn't gone
 pub kept-located : (n : ℕ) (o : Option Location) → 0 < n → cond (nat_eq n 0) None o ≡ o
@@ -96,22 +96,43 @@ Counts old g ds fs = record {
   held_files : (k : ℕ) → file_holders fs k ≡ files_below g old.next k;
 }
 
--- an attached client has these descriptors, or none, and every other client what it had
-pub record Becomes (old : Clients) (c : ℕ) (before : Descriptors) (g : ℕ → Option Descriptors) (after : Option Descriptors) : Type 0 where
+-- an attached client has these descriptors, and every other client what it had
+pub record Becomes (old : Clients) (c : ℕ) (before : Descriptors) (g : ℕ → Option Descriptors) (after : Descriptors) : Type 0 where
   pub was : get nat_cmp old.attached c ≡ Some before
-  pub is : g c ≡ after
+  pub is : g c ≡ Some after
   pub others : (m : ℕ) → m ≢ c → g m ≡ get nat_cmp old.attached m
 
 -- so it changes
-pub client-changes : (old new : Clients) (c : ℕ) (x y : Descriptors) (P : List (Option handles.Handle) → List (Option handles.Handle) → Type 0) → Becomes old c x (get nat_cmp new.attached) (Some y) → P x.slots.items y.slots.items → KeepsPlaces old new → new.next ≡ old.next → ChangesClient old new c P
+pub client-changes : (old new : Clients) (c : ℕ) (x y : Descriptors) (P : List (Option handles.Handle) → List (Option handles.Handle) → Type 0) → Becomes old c x (get nat_cmp new.attached) y → P x.slots.items y.slots.items → KeepsPlaces old new → new.next ≡ old.next → ChangesClient old new c P
 client-changes old new c x y P b changes places next = record { before = x; was = b.was; after = y; is = b.is; changes = changes; others = b.others; places = places; next = next }
 
-module _ (old : Clients) (c : ℕ) (before : Descriptors) (g : ℕ → Option Descriptors) (after : Option Descriptors) (b : Becomes old c before g after) where
+-- a client goes that has nothing open
+pub counts-gone : (old : Clients) (c : ℕ) (g : ℕ → Option Descriptors) → g c ≡ None → ((m : ℕ) → m ≢ c → g m ≡ get nat_cmp old.attached m) → ((d : ℕ) → opened_by old c d ≡ None) → Counts old g old.directories old.files
+counts-gone old c g gone others none = record {
+  rising = λ n there. elim (cases_eq n c) [
+    | inl e ↦ let no : false ≡ true = sym (ap (λ (o : Option Descriptors). is_some o) (ap g e ∙ gone)) ∙ there in absurd (cc)
+    | inr off ↦ old.rising n (sym (ap (λ (o : Option Descriptors). is_some o) (others n off)) ∙ there)
+  ];
+  held = λ k. old.held k ∙ sym (below-same (λ x. handles_by x k) (get nat_cmp old.attached) g old.next (λ m l. same (λ x. handles_by x k) (λ x none. handles_on-alike x.slots.items [] k none) refl m));
+  held_files = λ k. old.held_files k ∙ sym (below-same (λ x. files_by x k) (get nat_cmp old.attached) g old.next (λ m l. same (λ x. files_by x k) (λ x none. files_on-alike x.slots.items [] k none) refl m));
+}
+  where
+    same : (count : Option Descriptors → ℕ) → ((x : Descriptors) → ((d : ℕ) → opened x.slots.items d ≡ None) → count (Some x) ≡ 0) → count None ≡ 0 → (m : ℕ) → count (g m) ≡ count (get nat_cmp old.attached m)
+    same count free bare m = elim (cases_eq m c) [
+      | inl e ↦ ap (λ n. count (g n)) e ∙ ap count gone ∙ bare ∙ sym (ap (λ n. count (get nat_cmp old.attached n)) e ∙ by (get nat_cmp old.attached c) none)
+      | inr off ↦ ap count (others m off)
+    ]
+      where
+        by : (o : Option Descriptors) → ((d : ℕ) → option_and_then (λ (x : Descriptors). opened x.slots.items d) o ≡ None) → count o ≡ 0
+        by None free_all = bare
+        by (Some x) free_all = free x free_all
+
+module _ (old : Clients) (c : ℕ) (before : Descriptors) (g : ℕ → Option Descriptors) (after : Descriptors) (b : Becomes old c before g after) where
   inside : c < old.next
   inside = old.rising c (ap (λ (o : Option Descriptors). is_some o) b.was)
 
   -- the counts are right that change as the client's do
-  pub counts-by : (ds : Dentries) (fs : HeldFiles) → ((k : ℕ) → holders ds k + handles_on before.slots.items k ≡ holders old.directories k + handles_by after k) → ((k : ℕ) → file_holders fs k + files_on before.slots.items k ≡ file_holders old.files k + files_by after k) → Counts old g ds fs
+  counts-by : (ds : Dentries) (fs : HeldFiles) → ((k : ℕ) → holders ds k + handles_on before.slots.items k ≡ holders old.directories k + handles_on after.slots.items k) → ((k : ℕ) → file_holders fs k + files_on before.slots.items k ≡ file_holders old.files k + files_on after.slots.items k) → Counts old g ds fs
   counts-by ds fs held held_files = record {
     rising = λ n there. elim (cases_eq n c) [
       | inl e ↦ let below = inside in omega arith
@@ -121,25 +142,17 @@ module _ (old : Clients) (c : ℕ) (before : Descriptors) (g : ℕ → Option De
     held_files = λ k. omega (arith, below-changes (λ x. files_by x k) (get nat_cmp old.attached) g old.next c inside b.others, ap (λ o. files_by o k) b.was, ap (λ o. files_by o k) b.is, old.held_files k, held_files k);
   }
 
--- a client that has nothing open goes
-pub counts-gone : (old : Clients) (c : ℕ) (before : Descriptors) (g : ℕ → Option Descriptors) → Becomes old c before g None → ((d : ℕ) → opened before.slots.items d ≡ None) → Counts old g old.directories old.files
-counts-gone old c before g b none =
-    counts-by old c before g None b old.directories old.files
-    (λ k. omega (arith, handles_on-alike before.slots.items [] k none))
-    (λ k. omega (arith, files_on-alike before.slots.items [] k none))
-
-module _ (old : Clients) (c : ℕ) (before : Descriptors) (g : ℕ → Option Descriptors) (after : Descriptors) (b : Becomes old c before g (Some after)) where
   -- the slots stay
   pub counts-same : (ds : Dentries) (fs : HeldFiles) → after.slots.items ≡ before.slots.items → SameHandles old.directories ds → SameCounts old.files fs → Counts old g ds fs
   counts-same ds fs same directories files =
-      counts-by old c before g (Some after) b ds fs
+      counts-by ds fs
       (λ k. omega (arith, ap (λ s. handles_on s k) same, directories.counted k))
       (λ k. omega (arith, ap (λ s. files_on s k) same, files k))
 
   -- one slot is set
   counts-set : (d : ℕ) (x : Option handles.Handle) → SetsSlot before.slots.items after.slots.items d x → (ds : Dentries) (fs : HeldFiles) → ((k : ℕ) → holders ds k + holds (opened before.slots.items d) k ≡ holders old.directories k + holds x k) → ((k : ℕ) → file_holders fs k + holds_file (opened before.slots.items d) k ≡ file_holders old.files k + holds_file x k) → Counts old g ds fs
   counts-set d x sets ds fs held held_files =
-      counts-by old c before g (Some after) b ds fs
+      counts-by ds fs
       (λ k. omega (arith, handles_on-sets before.slots.items after.slots.items d k x sets, held k))
       (λ k. omega (arith, files_on-sets before.slots.items after.slots.items d k x sets, held_files k))
 
@@ -186,10 +199,10 @@ module _ (old : Clients) (c : ℕ) (before : Descriptors) (g : ℕ → Option De
   module _ (d : ℕ) (h : handles.Handle) (stood : opened before.slots.items d ≡ Some h) (sets : SetsSlot before.slots.items after.slots.items d None) where
     -- what it is on is held
     pub held-enough : (k : ℕ) → handles_on (Some h ∷ []) k ≤ holders old.directories k
-    held-enough k = omega (arith, below-one (λ x. handles_by x k) (get nat_cmp old.attached) old.next c (inside old c before g (Some after) b), ap (λ o. handles_by o k) b.was, handles_on-closes before.slots.items after.slots.items d k sets, ap (λ x. holds x k) stood, old.held k)
+    held-enough k = omega (arith, below-one (λ x. handles_by x k) (get nat_cmp old.attached) old.next c inside, ap (λ o. handles_by o k) b.was, handles_on-closes before.slots.items after.slots.items d k sets, ap (λ x. holds x k) stood, old.held k)
 
     pub files-enough : (k : ℕ) → files_on (Some h ∷ []) k ≤ file_holders old.files k
-    files-enough k = omega (arith, below-one (λ x. files_by x k) (get nat_cmp old.attached) old.next c (inside old c before g (Some after) b), ap (λ o. files_by o k) b.was, files_on-closes before.slots.items after.slots.items d k sets, ap (λ x. holds_file x k) stood, old.held_files k)
+    files-enough k = omega (arith, below-one (λ x. files_by x k) (get nat_cmp old.attached) old.next c inside, ap (λ o. files_by o k) b.was, files_on-closes before.slots.items after.slots.items d k sets, ap (λ x. holds_file x k) stood, old.held_files k)
 
     module _ (ds : Dentries) (fs : HeldFiles) (closes : ClosesAll old.directories ds (Some h ∷ [])) (releases : ReleasesAll old.files fs (Some h ∷ [])) where
       pub counts-closes : Counts old g ds fs

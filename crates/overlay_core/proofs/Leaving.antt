@@ -4,6 +4,8 @@ use Rattle.std.proofs.lemmas.Bool.{cases_eq, cases_lt, eqb-true, ne_eqb}
 use Rattle.std.proofs.lemmas.List.{take_more, take_all, length-take-le}
 use Rattle.std.proofs.lemmas.Option.{slice_get-get_or, slice_get_past}
 use Rattle.std.specs.List.{list_any, flat_map}
+use mathlib.Core.Logic.{∥∥₁_elim}
+use mathlib.Core.HLevel.{⊥_prop}
 use Rattle.std.specs.BTreeMap.{get}
 use Rattle.std.specs.Ordering.{nat_cmp}
 use Rattle.std.specs.Prelude.{map, slice_index_or}
@@ -34,7 +36,7 @@ use Rattle.overlay_core.specs.Files.{IsOpenOn}
 use Rattle.overlay_core.specs.Leaving.{ClosesEach}
 use Rattle.overlay_core.specs.Living.{KeepsPaths}
 use Rattle.overlay_core.specs.Rules.{Nothing}
-use Rattle.overlay_core.specs.States.{IsSlot, IsOpenAs, AreTables, AreUnwatched, IsStateOf, Serves}
+use Rattle.overlay_core.specs.States.{IsSlot, IsOpenAs, AreTables, AreUnwatched, HasStateOf, IsStateOf, Serves}
 use Rattle.overlay_core.proofs.Coming.{of, open_in}
 use Rattle.overlay_core.proofs.Serving.{slot-as, carried, handles-set, get-others, OpensFewer, one-fewer}
 use Rattle.overlay_core.proofs.Stating.{with-tables}
@@ -299,6 +301,14 @@ gone m s new n st h places =
 -- a client whose descriptors are closed leaves
 pub leaves : (s : State) (m : Mount) (new : Clients) (n : ℕ) → ClosesEach s n m → Detaches m.clients new n → KeepsPlaces m.clients new → (t : State) × Leaves Nothing s n t × IsStateOf (record m { clients = new }) t
 leaves s m new n c h places = (without_table c.last n, (c.last, c.closes, refl), gone m c.last new n c.stands h places)
+
+-- and it has nothing open
+pub none-open : (m new : Mount) (c : ℕ) → ∥ HasStateOf m ∥₁ → ((s : State) → IsStateOf m s → ClosesEach s c new) → (d : ℕ) → opened_by new.clients c d ≡ None
+none-open m new c state closes d = by (opened_by new.clients c d) refl
+  where
+    by : (o : Option handles.Handle) → opened_by new.clients c d ≡ o → opened_by new.clients c d ≡ None
+    by None is = is
+    by (Some h) is = absurd (∥∥₁_elim state ⊥_prop (λ x. let no : Some h ≡ None = sym is ∙ (closes x.0 x.1).none d in cc))
 
 -- the other clients stay as they are where nothing changes
 pub others-same : (clients : Clients) (n : ℕ) → KeepsOthers clients clients n

@@ -1,7 +1,6 @@
 pub mod Shown
 pub mod Counting
 pub mod Holding
-pub mod Ending
 pub mod Openings
 pub mod OpeningWrites
 pub mod Serving

@@ -7,7 +7,7 @@ use Rattle.overlay_core.proofs.Holding.{Becomes, client-changes, held-enough, fi
 use Rattle.overlay_core.proofs.clients.Clients.close.Goals.{After-unwrap-handle}
 use Rattle.overlay_core.proofs.clients.Clients.close.Goals as goal
 
-becomes : (c : After-unwrap-handle) → Becomes c.args.self.now c.args.client c.unwrap-descriptors.result.now (get nat_cmp (c.get_mut.follows.lender c.take.new.self)) (Some c.take.new.self)
+becomes : (c : After-unwrap-handle) → Becomes c.args.self.now c.args.client c.unwrap-descriptors.result.now (get nat_cmp (c.get_mut.follows.lender c.take.new.self)) c.take.new.self
 becomes c = record { was = search rules; is = search rules; others = search rules }
 
 -- what was open

@@ -6,7 +6,7 @@ use Rattle.overlay_core.proofs.Holding.{Becomes, client-changes, counts-changed,
 use Rattle.overlay_core.proofs.clients.Clients.keep_listing.Goals.{After-keep_listing}
 use Rattle.overlay_core.proofs.clients.Clients.keep_listing.Goals as goal
 
-becomes : (c : After-keep_listing) → Becomes c.args.self.now c.args.client c.unwrap.result.now (get nat_cmp (c.get_mut.follows.lender c.keep_listing.new.self)) (Some c.keep_listing.new.self)
+becomes : (c : After-keep_listing) → Becomes c.args.self.now c.args.client c.unwrap.result.now (get nat_cmp (c.get_mut.follows.lender c.keep_listing.new.self)) c.keep_listing.new.self
 becomes c = record { was = search rules; is = search rules; others = search rules }
 
 pub returns : goal.returns

@@ -6,7 +6,7 @@ use Rattle.overlay_core.proofs.Holding.{Becomes, client-changes, counts-changed,
 use Rattle.overlay_core.proofs.clients.Clients.move_to.Goals.{After-move_to}
 use Rattle.overlay_core.proofs.clients.Clients.move_to.Goals as goal
 
-becomes : (c : After-move_to) → Becomes c.args.self.now c.args.client c.unwrap.result.now (get nat_cmp (c.get_mut.follows.lender c.move_to.new.self)) (Some c.move_to.new.self)
+becomes : (c : After-move_to) → Becomes c.args.self.now c.args.client c.unwrap.result.now (get nat_cmp (c.get_mut.follows.lender c.move_to.new.self)) c.move_to.new.self
 becomes c = record { was = search rules; is = search rules; others = search rules }
 
 pub returns : goal.returns

@@ -5,7 +5,7 @@ use Rattle.overlay_core.proofs.Holding.{Becomes, client-changes, counts-gives}
 use Rattle.overlay_core.proofs.clients.Clients.next_names.Goals.{After-next_names}
 use Rattle.overlay_core.proofs.clients.Clients.next_names.Goals as goal
 
-becomes : (c : After-next_names) → Becomes c.args.self.now c.args.client c.unwrap.result.now (get nat_cmp (c.get_mut.follows.lender c.next_names.new.self)) (Some c.next_names.new.self)
+becomes : (c : After-next_names) → Becomes c.args.self.now c.args.client c.unwrap.result.now (get nat_cmp (c.get_mut.follows.lender c.next_names.new.self)) c.next_names.new.self
 becomes c = record { was = search rules; is = search rules; others = search rules }
 
 pub returns : goal.returns

@@ -8,7 +8,7 @@ use Rattle.overlay_core.proofs.Holding.{Becomes, client-changes, counts-same, co
 use Rattle.overlay_core.proofs.clients.Clients.open.Goals.{After-open-2}
 use Rattle.overlay_core.proofs.clients.Clients.open.Goals as goal
 
-becomes : (c : After-open-2) → Becomes c.args.self.now c.args.client c.unwrap.result.now (get nat_cmp (c.get_mut.follows.lender c.open-2.new.self)) (Some c.open-2.new.self)
+becomes : (c : After-open-2) → Becomes c.args.self.now c.args.client c.unwrap.result.now (get nat_cmp (c.get_mut.follows.lender c.open-2.new.self)) c.open-2.new.self
 becomes c = record { was = search rules; is = search rules; others = search rules }
 
 -- what is opened and closed again stands as it stood

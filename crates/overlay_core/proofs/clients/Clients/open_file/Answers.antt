@@ -5,7 +5,7 @@ use Rattle.overlay_core.proofs.Holding.{Becomes, client-changes, counts-same, co
 use Rattle.overlay_core.proofs.clients.Clients.open_file.Goals.{After-open}
 use Rattle.overlay_core.proofs.clients.Clients.open_file.Goals as goal
 
-becomes : (c : After-open) → Becomes c.args.self.now c.args.client c.unwrap.result.now (get nat_cmp (c.get_mut.follows.lender c.open.new.self)) (Some c.open.new.self)
+becomes : (c : After-open) → Becomes c.args.self.now c.args.client c.unwrap.result.now (get nat_cmp (c.get_mut.follows.lender c.open.new.self)) c.open.new.self
 becomes c = record { was = search rules; is = search rules; others = search rules }
 
 pub returns-in_err-hold_file : goal.returns-in_err-hold_file

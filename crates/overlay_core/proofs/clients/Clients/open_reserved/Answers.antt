@@ -5,7 +5,7 @@ use Rattle.overlay_core.proofs.Holding.{Becomes, client-changes, counts-opens-fi
 use Rattle.overlay_core.proofs.clients.Clients.open_reserved.Goals.{After-open_reserved}
 use Rattle.overlay_core.proofs.clients.Clients.open_reserved.Goals as goal
 
-becomes : (c : After-open_reserved) → Becomes c.args.self.now c.args.client c.unwrap.result.now (get nat_cmp (c.get_mut.follows.lender c.open_reserved.new.self)) (Some c.open_reserved.new.self)
+becomes : (c : After-open_reserved) → Becomes c.args.self.now c.args.client c.unwrap.result.now (get nat_cmp (c.get_mut.follows.lender c.open_reserved.new.self)) c.open_reserved.new.self
 becomes c = record { was = search rules; is = search rules; others = search rules }
 
 pub invariant_of-self : goal.invariant_of-self

@@ -5,7 +5,7 @@ use Rattle.overlay_core.proofs.Holding.{Becomes, client-changes}
 use Rattle.overlay_core.proofs.clients.Clients.reserve_file.Goals.{After-reserve}
 use Rattle.overlay_core.proofs.clients.Clients.reserve_file.Goals as goal
 
-becomes : (c : After-reserve) → Becomes c.args.self.now c.args.client c.unwrap.result.now (get nat_cmp (c.get_mut.follows.lender c.reserve.new.self)) (Some c.reserve.new.self)
+becomes : (c : After-reserve) → Becomes c.args.self.now c.args.client c.unwrap.result.now (get nat_cmp (c.get_mut.follows.lender c.reserve.new.self)) c.reserve.new.self
 becomes c = record { was = search rules; is = search rules; others = search rules }
 
 pub returns-in_err-reserve-clause-same : goal.returns-in_err-reserve-clause-same

@@ -6,7 +6,7 @@ use Rattle.overlay_core.proofs.Holding.{Becomes, client-changes, counts-changed,
 use Rattle.overlay_core.proofs.clients.Clients.rewind.Goals.{After-rewind}
 use Rattle.overlay_core.proofs.clients.Clients.rewind.Goals as goal
 
-becomes : (c : After-rewind) → Becomes c.args.self.now c.args.client c.unwrap.result.now (get nat_cmp (c.get_mut.follows.lender c.rewind.new.self)) (Some c.rewind.new.self)
+becomes : (c : After-rewind) → Becomes c.args.self.now c.args.client c.unwrap.result.now (get nat_cmp (c.get_mut.follows.lender c.rewind.new.self)) c.rewind.new.self
 becomes c = record { was = search rules; is = search rules; others = search rules }
 
 pub returns : goal.returns
