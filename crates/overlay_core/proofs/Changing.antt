@@ -18,7 +18,7 @@ use Rattle.plain_model.specs.Layers.{Name, Path, Layer, shows, base, is_director
 use Rattle.plain_model.specs.Tree.{same_id, Node, Branch, Leaf, Tree, names_of, entry, node_at, put, with_name, is_folder}
 use Rattle.plain_model.specs.Machine.{Handle, Table, State, is_root, handle_of}
 use Rattle.plain_model.specs.Refusals.{when, refusal}
-use Rattle.plain_model.specs.Changes.{after, made_way, way_of, names_in}
+use Rattle.plain_model.specs.Changes.{after, made_way, way_of}
 use Rattle.plain_model.proofs.Paths.{ids_tell, paths_tell}
 use Rattle.layer_tree.specs.Tree.{layer_of}
 use Rattle.copy_up.specs.Showing.{StaysMount}
@@ -48,9 +48,9 @@ use Rattle.overlay_core.specs.Living.{StaysLive, KeepsLive, KeepsHeld, KeepsLeav
 use Rattle.overlay_core.specs.States.{Stands, IsHandle, AreTables, AreUnwatched, IsStateOf, StaysState, Serves}
 use Rattle.overlay_core.proofs.Answering.{on-err, serve-refused, serve-done}
 use Rattle.overlay_core.proofs.Counting.{below-find}
-use Rattle.overlay_core.proofs.Serving.{slot-as, slot-open, one-fewer}
+use Rattle.overlay_core.proofs.Serving.{slot-as, slot-open, handle-now, removed-same, one-fewer}
 use Rattle.overlay_core.proofs.Stating.{Alike}
-use Rattle.overlay_core.proofs.Carrying.{AreCounted, CarriesFiles, tables-on, files-stay, files-kept, files-held}
+use Rattle.overlay_core.proofs.Carrying.{AreCounted, CarriesFiles, tables-on, state-stays, files-kept, files-held}
 use Rattle.overlay_core.proofs.Directories.{seen, shown-attributes, shown-directory}
 
 -- a directory is there
@@ -81,23 +81,15 @@ made-folder t i (Some w) x d free f =
     (λ e. named-folder w.1 (Some (New i)) (put t (New i) (Some x) w.0) (ap (λ z. is_folder (put t (New i) (Some x) z)) e ∙ there))
     there
 
+-- a directory stands where it stood if its path leads there still, or it was removed
+stands-on : (t u : Tree) → KeepsHidden t u → (l : Location) (d : NodeId) → is_folder (t d) ≡ true → ((q : Path) → l ≡ At q → node_at t q ≡ Some d → node_at u q ≡ Some d) → Stands t l d → Stands u l d
+stands-on t u hidden (At p) d f stays at = stays p refl at
+stands-on t u hidden (Removed a) d f stays gone = let kept = hidden d (folder-some (t d) f) gone.hidden in removed-same t u a d kept.0 kept.1 gone
+
 -- open directories where nothing is removed
 module _ (t u : Tree) (stays : (q : Path) (d : NodeId) → node_at t q ≡ Some d → node_at u q ≡ Some d) (hidden : KeepsHidden t u) (folders : (d : NodeId) → is_folder (t d) ≡ true → is_folder (u d) ≡ true) where
-  stands-on : (l : Location) (d : NodeId) → is_folder (t d) ≡ true → Stands t l d → Stands u l d
-  stands-on (At p) d f at = stays p d at
-  stands-on (Removed a) d f gone =
-      let kept = hidden d (folder-some (t d) f) gone.hidden in
-      record { hidden = kept.1; empty = ap names_in kept.0 ∙ gone.empty; attributes = ap folder_attributes kept.0 ∙ gone.attributes }
-
   pub handle-on : (ds : Dentries) (o : OpenDirectory) (h : Handle) → IsHandle t ds o h → IsHandle u ds o h
-  handle-on ds o h is = record {
-    location = is.location;
-    located = is.located;
-    stands = stands-on is.location h.node is.directory is.stands;
-    directory = folders h.node is.directory;
-    access = is.access;
-    left = is.left;
-  }
+  handle-on ds o h is = handle-now t u ds ds o h is is.location is.located (stands-on t u hidden is.location h.node is.directory (λ q e. stays q h.node) is.stands) (folders h.node is.directory)
 
 -- an unlink that isn't refused is not of a directory
 unlinked-none : (root : Bool) (w : Option Errno) (d : Bool) → or_else (when root EBUSY) (or_else w (when d EISDIR)) ≡ None → d ≡ false
@@ -120,21 +112,11 @@ module _ (s : State) (c : ℕ) (p : Path) (k : Call) (V : Layer) (lowers : List 
   t = (after s c k).tree
 
   -- another one
-  apart-on : (l : Location) (d : NodeId) → l ≢ At p → is_folder (s.tree d) ≡ true → Stands s.tree l d → Stands t l d
-  apart-on (At q) d away f at = x.stays q (λ e. away (ap At e)) ∙ at
-  apart-on (Removed a) d away f gone =
-      let kept = x.hidden d (folder-some (s.tree d) f) gone.hidden in
-      record { hidden = kept.1; empty = ap names_in kept.0 ∙ gone.empty; attributes = ap folder_attributes kept.0 ∙ gone.attributes }
-
   pub handle-apart : (ds : Dentries) (b fd : ℕ) (o : OpenDirectory) (h : Handle) → handle_of s.tables b fd ≡ Some h → (is : IsHandle s.tree ds o h) → is.location ≢ At p → IsHandle t ds o h
-  handle-apart ds b fd o h on is away = record {
-    location = is.location;
-    located = is.located;
-    stands = apart-on is.location h.node away is.directory is.stands;
-    directory = still-folder (s.tree h.node) (t h.node) (x.held b fd h on) is.directory;
-    access = is.access;
-    left = is.left;
-  }
+  handle-apart ds b fd o h on is away =
+      handle-now s.tree t ds ds o h is is.location is.located
+      (stands-on s.tree t x.hidden is.location h.node is.directory (λ q e at. x.stays q (λ same. away (e ∙ ap At same)) ∙ at) is.stands)
+      (still-folder (s.tree h.node) (t h.node) (x.held b fd h on) is.directory)
 
   -- the one itself, which has these attributes, and others
   stands-marked : (a : Attributes) (l : Location) (d : NodeId) → ((e : NodeId) → node_at s.tree p ≡ Some e → folder_attributes (s.tree e) ≡ Some a) → folder_attributes (t d) ≡ folder_attributes (s.tree d) → is_folder (s.tree d) ≡ true → Stands s.tree l d → Stands t (after_removal p a l) d
@@ -146,19 +128,14 @@ module _ (s : State) (c : ℕ) (p : Path) (k : Call) (V : Layer) (lowers : List 
           let none = x.empty d there f in
           record { hidden = none.1; empty = none.0; attributes = same ∙ has d there }
       by false away = x.stays q (λ e. false≢true (sym away ∙ (paths_tell p q).1 (sym e))) ∙ at
-  stands-marked a (Removed b) d has same f gone =
-      let kept = x.hidden d (folder-some (s.tree d) f) gone.hidden in
-      record { hidden = kept.1; empty = ap names_in kept.0 ∙ gone.empty; attributes = ap folder_attributes kept.0 ∙ gone.attributes }
+  stands-marked a (Removed b) d has same f gone = stands-on s.tree t x.hidden (Removed b) d f (λ q e at. cc) gone
 
   pub handle-marked : (a : Attributes) (ds es : Dentries) → ((e : NodeId) → node_at s.tree p ≡ Some e → folder_attributes (s.tree e) ≡ Some a) → places.Removes ds es p a → (b fd : ℕ) (o : OpenDirectory) (h : Handle) → handle_of s.tables b fd ≡ Some h → IsHandle s.tree ds o h → IsHandle t es o h
-  handle-marked a ds es has removes b fd o h on is = record {
-    location = after_removal p a is.location;
-    located = removes.located o.directory ∙ ap (option_map (after_removal p a)) is.located;
-    stands = stands-marked a is.location h.node has (x.held b fd h on) is.directory is.stands;
-    directory = still-folder (s.tree h.node) (t h.node) (x.held b fd h on) is.directory;
-    access = is.access;
-    left = is.left;
-  }
+  handle-marked a ds es has removes b fd o h on is =
+      handle-now s.tree t ds es o h is (after_removal p a is.location)
+      (removes.located o.directory ∙ ap (option_map (after_removal p a)) is.located)
+      (stands-marked a is.location h.node has (x.held b fd h on) is.directory is.stands)
+      (still-folder (s.tree h.node) (t h.node) (x.held b fd h on) is.directory)
 
 -- clients that have the same descriptors have the same tables
 tables-attached : (P : handles.Handle → Handle → Type 0) (clients new : Clients) (ks : List Table) → new.attached ≡ clients.attached → AreTables P clients ks → AreTables P new ks
@@ -235,16 +212,6 @@ module _ (m : Mount) (s : State) (st : IsStateOf m s) (new : Layers) where
 
   abbrev V : Layer
   V = layer_of new.upper
-
-  -- other layers of the same mount, in which live files stay live
-  stays-state : IsMountOf V (lowers_of new) s → new.lowers ≡ m.layers.lowers → StaysLive m.layers new → IsStateOf (record m { layers = new }) s
-  stays-state x same live = record {
-    layers = x;
-    tables = tables-on m.layers new s.tree s.tree m.clients s.tables same st.tables m.clients.directories (λ b fd o h on is. is) (files-stay m.layers new s.tree m.clients s.tables live);
-    one = st.one;
-    arrived = st.arrived;
-    unwatched = st.unwatched;
-  }
 
   -- a refusal leaves the layers
   pub refused : (c : ℕ) (k : Call) (e : Errno) → refusal s c k ≡ Some e → new ≡ m.layers → Serves (refusal s c k) s c k (reply.Refused e) (record m { layers = new })
@@ -368,4 +335,4 @@ module _ (m : Mount) (s : State) (st : IsStateOf m s) (new : Layers) where
 
 -- want of memory leaves each state that the mount stood for
 pub no-memory : {T : Type 0} (r : Result T AllocError) (m : Mount) (new : Layers) → StaysMount m.layers new → new.lowers ≡ m.layers.lowers → StaysLive m.layers new → OnErr r (StaysState m (record m { layers = new }))
-no-memory r m new mounts same live = on-err r _ (λ s st. stays-state m s st new (mounts s st.layers) same live)
+no-memory r m new mounts same live = on-err r _ (λ s st. state-stays m s st new same (mounts s st.layers) live)

@@ -53,11 +53,13 @@ use Rattle.overlay_core.specs.Files.{IsOpenOn, file_at}
 use Rattle.overlay_core.specs.Living.{SetsFile}
 use Rattle.overlay_core.specs.Opening.{OpensFile}
 use Rattle.overlay_core.specs.States.{IsStateOf, Serves}
-use Rattle.overlay_core.proofs.Answering.{changes-as, opened-after, serve-done}
+use Rattle.overlay_core.proofs.Answering.{serve-done}
+use Rattle.overlay_core.proofs.Carrying.{state-on}
+use Rattle.overlay_core.proofs.Slots.{changes-as, opened-after}
 use Rattle.overlay_core.proofs.Changing.{handle-on}
 use Rattle.overlay_core.proofs.Directories.{seen}
 use Rattle.overlay_core.proofs.Lasting.{chown-leaves, other-names}
-use Rattle.overlay_core.proofs.Makings.{reserved-state, state-between}
+use Rattle.overlay_core.proofs.Makings.{reserved-state}
 use Rattle.overlay_core.proofs.Openings.{IsShownFile, file-there, free-there, fresh-one, state-open, unrefused, unfaulted}
 use Rattle.overlay_core.proofs.OpeningWrites.{sized-none}
 use Rattle.overlay_core.proofs.Rewritten.{state-rewritten}
@@ -216,7 +218,7 @@ module _ (m : Mount) (s : State) (st : IsStateOf m s) (c : ℕ) (clients : Clien
   -- the mount stands for the state in which the file is the upper's own
   copied-state : IsStateOf (record m { layers = new; clients = clients }) (record s { tree = t })
   copied-state =
-      state-between m s st c clients same new leaf.lowers t s.serial mounts
+      state-on (record m { clients = clients }) s (reserved-state m s st c clients same) new leaf.lowers t s.serial mounts
       (handle-on s.tree t (λ q d at. owns.paths q ∙ at) owns.hidden (λ d folder. owns.folders d ∙ folder) clients.directories)
       (record {
         live = λ b fd g h k at on is live. law_of_live_through_owner p a.uid a.gid U V lowers s c a attributes-shown owns h.node k (other-file h.node k live) live;

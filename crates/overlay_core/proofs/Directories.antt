@@ -1,5 +1,5 @@
 -- Open directories where the layers show them, and what closing and listing them does.
-use Rattle.std.proofs.Common.{◌≡◌, ℕ, Bool, true, ◌||◌, List, ◌∷◌, Option, None, Some, refl, sym, ap, ◌∙◌, subst, take, drop, nat_eq, nat_lt}
+use Rattle.std.proofs.Common.{◌≡◌, ℕ, Bool, true, ◌||◌, List, ◌∷◌, Option, None, Some, refl, sym, ap, ◌∙◌, take, drop, nat_eq, nat_lt}
 use Rattle.std.proofs.lemmas.Bool.{false≢true}
 use Rattle.ov_base.specs.declared.attributes.Attributes.{Attributes}
 use Rattle.ov_base.specs.declared.call.Call.TheVariants as call
@@ -12,11 +12,11 @@ use Rattle.plain_model.specs.Machine.{Handle, State, handle_of}
 use Rattle.plain_model.specs.Refusals.{when, refusal}
 use Rattle.plain_model.specs.Changes.{after, with_handle, listing, listed_on}
 use Rattle.plain_model.specs.Replies.{reply_of}
-use Rattle.mount_laws.specs.Looks.{IsMountOf, Closes, Lists}
+use Rattle.mount_laws.specs.Looks.{IsMountOf, Lists}
 use Rattle.mount_laws.specs.Removals.{folder_attributes}
-use Rattle.mount_laws.specs.Removed.{ClosesHidden, ListsRemoved}
-use Rattle.mount_laws.proofs.Lists.{law_of_list, law_of_close}
-use Rattle.mount_laws.proofs.Removed.{law_of_close_removed, law_of_list_removed}
+use Rattle.mount_laws.specs.Removed.{ListsRemoved}
+use Rattle.mount_laws.proofs.Lists.{law_of_list}
+use Rattle.mount_laws.proofs.Removed.{law_of_list_removed}
 use Rattle.open_handles.specs.Dentries.{Dentries}
 use Rattle.open_handles.specs.Opened.{Location, At, Removed}
 use Rattle.open_handles.specs.declared.handle.OpenDirectory.{OpenDirectory}
@@ -64,26 +64,6 @@ module _ (U : Layer) (lowers : List Layer) (s : State) (m : IsMountOf U lowers s
   directory-folder p d e f = folder-if-shown (s.tree d) (base U lowers p) (shows 0 (U ∷ lowers) p) (seen p d e) f
 
   module _ (c fd : ℕ) (ds : Dentries) (o : OpenDirectory) (h : Handle) (on : handle_of s.tables c fd ≡ Some h) (is : IsHandle s.tree ds o h) where
-    -- a handle on a directory that has a path closes, and all else stays
-    closes-named : Closes s c fd → ClosesHidden U lowers s c fd h
-    closes-named law = record {
-      refused = law.refused;
-      answer = law.answer;
-      tables = ap (λ z. z.tables) law.state;
-      mounts = subst (IsMountOf U lowers) (sym law.state) (record { layers = m.layers; shows = m.shows; kept = m.kept; writable = m.writable });
-      paths = λ q. ap (λ z. node_at z.tree q) law.state;
-      others = λ d apart. ap (λ z. z.tree d) law.state;
-      held = λ k i g at. ap (λ z. z.tree g.node) law.state;
-    }
-
-    -- an open directory closes
-    pub closes : ClosesHidden U lowers s c fd h
-    closes = by is.location is.stands
-      where
-        by : (l : Location) → Stands s.tree l h.node → ClosesHidden U lowers s c fd h
-        by (At p) at = closes-named (law_of_close U lowers s m c fd p h (record { handle = on; at = at }))
-        by (Removed a) gone = law_of_close_removed U lowers s m c fd h on gone.hidden
-
     -- an open directory lists
     pub turns : Turns s c fd h
     turns = by is.location is.stands

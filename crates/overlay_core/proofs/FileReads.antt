@@ -28,7 +28,7 @@ use Rattle.open_handles.specs.declared.handle.Handle.TheVariants.{Directory, Fil
 use Rattle.open_handles.specs.declared.handle.OpenDirectory.{OpenDirectory}
 use Rattle.open_handles.specs.declared.open_file.FileSource.{FileSource}
 use Rattle.open_handles.specs.declared.open_file.OpenFile.{OpenFile}
-use Rattle.open_handles.specs.Listings.{ChangesSlot, directory_in, file_in, with_place}
+use Rattle.open_handles.specs.Listings.{ChangesSlot, directory_in, with_place}
 use Rattle.open_handles.specs.Opened.{Location, At, Removed, path_in, attributes_in}
 use Rattle.overlay_core.specs.declared.clients.Clients.{Clients}
 use Rattle.overlay_core.specs.declared.mount.Mount.{Mount}
@@ -40,7 +40,8 @@ use Rattle.overlay_core.specs.States.{Stands, IsHandle, IsStateOf, Serves}
 use Rattle.overlay_core.proofs.Answering.{serve-refused, serve-done, walk-none}
 use Rattle.overlay_core.proofs.Directories.{seen, shown-directory, shown-attributes}
 use Rattle.overlay_core.proofs.FileSight.{Sees, file-sees, file-not-folder}
-use Rattle.overlay_core.proofs.Seeking.{AreBytes, bytes-read, file-at, directory-at, handle-none, place-moved}
+use Rattle.overlay_core.proofs.Seeking.{AreBytes, bytes-read}
+use Rattle.overlay_core.proofs.Slots.{file-open, file-at, directory-at, handle-none, place-moved}
 
 -- the reply that a status is told by, or its refusal
 abbrev pub status_reply : Result Stat Errno → Reply
@@ -106,7 +107,7 @@ module _ (m : Mount) (s : State) (st : IsStateOf m s) (c d : ℕ) where
         by : (o : Option handles.Handle) → opened_by m.clients c d ≡ o → refusal s c (call.Read d n) ≡ read_fault o n
         by None is = (law_of_unopened s c d (handle-none m s st c d is)).reading n
         by (Some (File f)) is =
-            let x = file-at m s st c d f (ap file_in is) in
+            let x = file-at m s st c d f is in
             let law : ReadsFile s c d x.0 = law_of_read s c d x.0 x.1 (file-not-folder U lowers s.tree f x.0 x.2) in
             law.refused n ∙ ap (λ b. or_else (when (nat_lt TRANSFER_MAX n) errno.EINVAL) (when (not b) errno.EBADF)) x.2.reads
         by (Some (Directory o)) is =
@@ -120,7 +121,8 @@ module _ (m : Mount) (s : State) (st : IsStateOf m s) (c d : ℕ) where
     -- a read gives the next bytes, and the file's place is after them
     pub read-done : (f : OpenFile) → file_by m.clients c d ≡ Some f → read_fault (opened_by m.clients c d) n ≡ None → (bytes given : List ℕ) → AreBytes m.layers f.source bytes → given ≡ take n (drop f.place bytes) → (new : Clients) → ChangesClient m.clients new c (λ x y. ChangesSlot x y d (with_place (f.place + length given))) → Reads (reply.Read given) (record m { clients = new })
     read-done f is good bytes given are next new ch =
-        let x = file-at m s st c d f is in
+        let opens = file-open (opened_by m.clients c d) f is in
+        let x = file-at m s st c d f opens in
         let law : ReadsFile s c d x.0 = law_of_read s c d x.0 x.1 (file-not-folder U lowers s.tree f x.0 x.2) in
         let read : laws.seen s x.0 ≡ bytes = bytes-read m.layers s f x.0 bytes x.2 are in
         let same : next_bytes s x.0 n ≡ given = (λ i. take n (drop (x.2.place i) (read i))) ∙ sym next in
@@ -129,7 +131,7 @@ module _ (m : Mount) (s : State) (st : IsStateOf m s) (c d : ℕ) where
         (ap reply.Read (sym same) ∙ sym (law.answer n))
         (subst (IsStateOf (record m { clients = new }))
         (ap (λ z. record s { tables = with_handle s.tables c d (Some (record x.0 { place = z })) }) end ∙ sym (law.state n))
-        (place-moved m s st c d f is x.0 x.1 x.2 (f.place + length given) new ch))
+        (place-moved m s st c d x.0 x.1 f opens (f.place + length given) new ch))
 
   -- the fstat is answered so
   abbrev Shows : Reply → Type 0
@@ -144,7 +146,7 @@ module _ (m : Mount) (s : State) (st : IsStateOf m s) (c d : ℕ) where
   -- of a file, its inode
   pub file-status : (f : OpenFile) → file_by m.clients c d ≡ Some f → (source : FileSource) → f.source ≡ source → (r : Result Stat Errno) → ((i : Inode) → source_inode U lowers source ≡ Some i → r ≡ stat_of_inode (Some i)) → Shows (status_reply r)
   file-status f is source at r tells =
-      let x = file-at m s st c d f is in
+      let x = file-at m s st c d f (file-open (opened_by m.clients c d) f is) in
       let sees : Sees U lowers s.tree f x.0 = file-sees U lowers s.tree f x.0 x.2 in
       status-shown x.0 x.1 (status_reply r) (ap status_reply (tells _ (ap (source_inode U lowers) (sym at) ∙ sees.inode)) ∙ sym sees.status)
 

@@ -294,7 +294,7 @@ go-fewer clients new ks n h k d on = by (cases_eq on.client n)
 -- the mount stands for the state without a client that is gone
 gone : (m : Mount) (s : State) (new : Clients) (n : ℕ) → IsStateOf m s → Detaches m.clients new n → KeepsPlaces m.clients new → IsStateOf (record m { clients = new }) (without_table s n)
 gone m s new n st h places =
-    with-tables m s st new (without n s.tables) h.next
+    with-tables m s st (record m { clients = new }) (without n s.tables) refl h.next
     (go (layer_of m.layers.upper) (lowers_of m.layers) s.tree m.clients new s.tables n st.tables h places)
     (one-fewer m.clients new s.tables (without n s.tables) (go-fewer m.clients new s.tables n h) st.one)
 

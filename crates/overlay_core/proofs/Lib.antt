@@ -6,6 +6,7 @@ pub mod OpeningWrites
 pub mod Serving
 pub mod Closings
 pub mod Stating
+pub mod Slots
 pub mod Rewritten
 pub mod Writings
 pub mod FileSight

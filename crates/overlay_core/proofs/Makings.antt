@@ -35,7 +35,6 @@ use Rattle.make_remove.specs.Leaves.{MakesLeaf, CreateSteps}
 use Rattle.open_handles.specs.declared.descriptors.Descriptors.{Descriptors}
 use Rattle.open_handles.specs.declared.handle.Handle as handles
 use Rattle.open_handles.specs.declared.handle.Handle.TheVariants.{Directory, File}
-use Rattle.open_handles.specs.declared.handle.OpenDirectory.{OpenDirectory}
 use Rattle.open_handles.specs.declared.open_file.FileSource.TheVariants.{Upper}
 use Rattle.open_handles.specs.declared.open_file.OpenFile.{OpenFile}
 use Rattle.open_handles.specs.FileHolders.{file_holders}
@@ -45,14 +44,14 @@ use Rattle.overlay_core.specs.declared.mount.Mount.{Mount}
 use Rattle.overlay_core.specs.Attaching.{ChangesClient}
 use Rattle.overlay_core.specs.Files.{HasFile, HasAllOpen, IsOpenOn, file_at}
 use Rattle.overlay_core.specs.Opening.{OpensFile}
-use Rattle.overlay_core.specs.States.{IsHandle, HasStateOf, IsStateOf, Serves}
+use Rattle.overlay_core.specs.States.{HasStateOf, IsStateOf, Serves}
 use Rattle.overlay_core.proofs.Answering.{serve-done}
-use Rattle.overlay_core.proofs.Carrying.{AreCounted, CarriesFiles, files-kept, tables-on}
+use Rattle.overlay_core.proofs.Carrying.{AreCounted, files-kept, state-on, state-stays}
 use Rattle.overlay_core.proofs.Changing.{handle-beside}
 use Rattle.overlay_core.proofs.Lasting.{create-live, open-leaves, parents-live}
-use Rattle.overlay_core.proofs.Openings.{open-live, open-full, free-there, state-open, unrefused, unfaulted}
-use Rattle.overlay_core.proofs.Rewritten.{state-unwritten}
+use Rattle.overlay_core.proofs.Openings.{open-full, free-there, state-open, unrefused, unfaulted}
 use Rattle.overlay_core.proofs.Serving.{open-at}
+use Rattle.overlay_core.proofs.Slots.{open-live}
 use Rattle.overlay_core.proofs.Stating.{Alike, keep-state}
 
 -- room that is made where all descriptors are open is an open that is refused
@@ -75,7 +74,7 @@ full-opens old new c h e same full =
 not-open : (m : Mount) (s : State) → IsStateOf m s → (k : ℕ) → get m.layers.upper k ≡ None → HasFile m.clients k → ⊥
 not-open m s st k vacant has =
     let at = open-at (Alike m.layers s m.clients) m.clients s.tables st.tables has.client has.descriptor (File has.file) has.opened in
-    let live = open-live m s st 0 k at.0.node (record { client = has.client; descriptor = has.descriptor; file = has.file; handle = at.0; opened = has.opened; key = has.key; on = at.1; at = refl }) in
+    let live = open-live m s st k at.0.node (record { client = has.client; descriptor = has.descriptor; file = has.file; handle = at.0; opened = has.opened; key = has.key; on = at.1; at = refl }) in
     false≢true (sym (ap (λ o. is_some (option_and_then inode_of o)) vacant) ∙ ap is_some live.inode)
 
 -- so no handle holds it, where room is made
@@ -109,21 +108,7 @@ module _ (m : Mount) (s : State) (st : IsStateOf m s) (c : ℕ) (clients : Clien
 
   -- and one that then wants memory leaves the state
   pub wanted-state : (new : Layers) (p : Path) → StaysMount m.layers new → GainsParents m.layers new p → IsStateOf (record m { layers = new; clients = clients }) s
-  wanted-state new p mounts parents = state-unwritten reserved new parents.lowers mounts (parents-live m.layers new p parents) s reserved-state
-
-  module _ (new : Layers) (low : new.lowers ≡ m.layers.lowers) (t : Tree) (serial : ℕ) where
-    abbrev between : State
-    between = record s { tree = t; serial = serial }
-
-    -- other layers and another tree, in which what is open is what it was
-    pub state-between : IsMountOf (layer_of new.upper) (lowers_of new) between → ((o : OpenDirectory) (h : Handle) → IsHandle s.tree clients.directories o h → IsHandle t clients.directories o h) → CarriesFiles (layer_of m.layers.upper) (layer_of new.upper) s.tree t clients s.tables → IsStateOf (record m { layers = new; clients = clients }) between
-    state-between mounts directories files = record {
-      layers = mounts;
-      tables = tables-on m.layers new s.tree t clients s.tables low reserved-state.tables clients.directories (λ b fd o h on. directories o h) files;
-      one = reserved-state.one;
-      arrived = reserved-state.arrived;
-      unwatched = st.unwatched;
-    }
+  wanted-state new p mounts parents = state-stays reserved s reserved-state new parents.lowers (mounts s st.layers) (parents-live m.layers new p parents)
 
   -- an open that makes its file
   module _ (p : Path) (f : OpenFlags) (mode : ℕ) (fine : opening_fault (layers_of m.layers) p f mode (Some 0) ≡ None) (absent : shows 0 (layers_of m.layers) p ≡ None)
@@ -176,7 +161,7 @@ module _ (m : Mount) (s : State) (st : IsStateOf m s) (c : ℕ) (clients : Clien
     -- what was open is what it was
     made-state : IsStateOf (record m { layers = new; clients = clients }) (record s { tree = u; serial = suc s.serial })
     made-state =
-        state-between new leaf.lowers u (suc s.serial) made-mounts
+        state-on reserved s reserved-state new leaf.lowers u (suc s.serial) made-mounts
         (handle-beside reserved s reserved-state new c asked p _ tree-made steps-there.stays steps-there.hidden)
         (files-kept m.layers new s st.layers c asked clients (create-live m.layers new p mode leaf steps f) (open-leaves p f mode))
 
@@ -190,7 +175,7 @@ module _ (m : Mount) (s : State) (st : IsStateOf m s) (c : ℕ) (clients : Clien
     -- no open file is on its node or under its key
     made-fresh : (j : ℕ) (e : NodeId) → IsOpenOn clients s.tables j e → (New s.serial ≡ e) ↔ (key ≡ j)
     made-fresh j e y =
-        let live : IsLive U s.tree e j = open-live reserved s reserved-state c j e y in
+        let live : IsLive U s.tree e j = open-live reserved s reserved-state j e y in
         let unused : s.tree (New s.serial) ≡ None = st.layers.kept.unused s.serial (omega arith) in
         let vacant : U.inodes key ≡ None = ap (λ k. option_and_then inode_of (get m.layers.upper k)) (sym number) ∙ ap (option_and_then inode_of) leaf.vacant in (
           λ same. absurd (false≢true (sym (ap is_some unused) ∙ ap (λ x. is_some (s.tree x)) same ∙ ap is_some live.node)),

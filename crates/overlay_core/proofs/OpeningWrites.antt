@@ -36,7 +36,8 @@ use Rattle.overlay_core.specs.Files.{IsOf, IsOpenOn, source_at, file_at}
 use Rattle.overlay_core.specs.Living.{SetsFile}
 use Rattle.overlay_core.specs.Opening.{OpensFile}
 use Rattle.overlay_core.specs.States.{IsStateOf, Serves}
-use Rattle.overlay_core.proofs.Answering.{changes-as, opened-after, serve-done}
+use Rattle.overlay_core.proofs.Answering.{serve-done}
+use Rattle.overlay_core.proofs.Slots.{changes-as, opened-after}
 use Rattle.overlay_core.proofs.Openings.{IsShownFile, fresh-one, free-there, state-open, unrefused, unfaulted, file-there, open-file}
 use Rattle.overlay_core.proofs.Rewritten.{state-rewritten}
 use Rattle.overlay_core.proofs.Serving.{handle-set, room-of}

@@ -26,7 +26,6 @@ use Rattle.merged_lookup.specs.Merged.{layers_of, lowers_of, trees, node_in, Sho
 use Rattle.merged_lookup.proofs.Looking.{inode_in, inode-shown}
 use Rattle.mount_laws.specs.Looks.{or_else, parents_fault, is_link_inode, shows_link}
 use Rattle.mount_laws.specs.Opening.{shown_fault, opening_fault, inode_view, shown_view, OpensReading}
-use Rattle.mount_laws.specs.OpenFiles.{IsLive}
 use Rattle.mount_laws.proofs.Looks.{is_present, present}
 use Rattle.mount_laws.proofs.Links.{first-none, second-none}
 use Rattle.mount_laws.proofs.Opening.{law_of_open_refusal, law_of_opened_for_reading}
@@ -44,7 +43,8 @@ use Rattle.overlay_core.specs.Attaching.{ChangesClient}
 use Rattle.overlay_core.specs.Files.{lower_inode, is_leaf, IsFrozen, IsOf, IsOpenOn, AreOne, source_at, file_at}
 use Rattle.overlay_core.specs.Opening.{inode_refusal, OpensAt, OpensFile}
 use Rattle.overlay_core.specs.States.{IsLeft, AreTables, IsStateOf, Serves}
-use Rattle.overlay_core.proofs.Answering.{serve-refused, serve-done, changes-as}
+use Rattle.overlay_core.proofs.Answering.{serve-refused, serve-done}
+use Rattle.overlay_core.proofs.Slots.{changes-as, open-live}
 use Rattle.overlay_core.proofs.Serving.{placed, open-at, free-lowest, free-none, tables-set}
 use Rattle.overlay_core.proofs.Stating.{Alike, with-tables, keep-state}
 
@@ -204,20 +204,12 @@ module _ (m : Mount) (s : State) (st : IsStateOf m s) (c : ℕ) where
   pub open-wanted : (h : handles.Handle) (new : Clients) (e : AllocError) → ChangesClient m.clients new c (λ x y. Opens x y h (Err e)) → IsStateOf (record m { clients = new }) s
   open-wanted h new e ch = keep-state m s st c new (changes-as m.clients new c _ _ (λ x y g. g.err) ch)
 
-  -- a file of the upper that is open is live
-  pub open-live : (j : ℕ) (e : NodeId) → IsOpenOn m.clients s.tables j e → IsLive U s.tree e j
-  open-live j e y =
-      let z = open-at alike m.clients s.tables st.tables y.client y.descriptor (File y.file) y.opened in
-      let same : z.0 ≡ y.handle = cc (z.1, y.on) in
-      let of : IsOf U lowers s.tree (Upper j) z.0 = subst (λ w. IsOf U lowers s.tree w z.0) y.key z.2.source in
-      subst (λ d. IsLive U s.tree d j) (ap (λ (g : Handle). g.node) same ∙ y.at) of.0
-
-  -- so an open file at a path is one with it exactly where it is one inode
+  -- an open file at a path is one with it exactly where it is one inode
   pub fresh-one : (p : Path) (file : OpenFile) (x : Handle) → node_at s.tree p ≡ Some x.node → IsOf U lowers s.tree file.source x → (g : OpenFile) (k j : ℕ) (e : NodeId) → File file ≡ File g → g.source ≡ Upper k → IsOpenOn m.clients s.tables j e → (x.node ≡ e) ↔ (k ≡ j)
   fresh-one p file x at of g k j e same key y =
       let files : file ≡ g = cc in
       let live : IsOf U lowers s.tree (Upper k) x = subst (λ w. IsOf U lowers s.tree w x) (ap (λ (z : OpenFile). z.source) files ∙ key) of in
-      law_of_live_one U s.tree p x.node e k j at live.0 (open-live j e y)
+      law_of_live_one U s.tree p x.node e k j at live.0 (open-live m s st j e y)
 
   -- a descriptor that is opened on both sides, alike
   module _ (h : handles.Handle) (d : ℕ) (new : Clients) (ch : ChangesClient m.clients new c (λ x y. Opens x y h (Ok (Ok d)))) where
@@ -229,7 +221,7 @@ module _ (m : Mount) (s : State) (st : IsStateOf m s) (c : ℕ) where
     pub state-open : (made : Handle) → Alike m.layers s new h made → ((g : OpenFile) (k j : ℕ) (e : NodeId) → h ≡ File g → g.source ≡ Upper k → IsOpenOn m.clients s.tables j e → (made.node ≡ e) ↔ (k ≡ j)) → IsStateOf (record m { clients = new }) (record s { tables = with_handle s.tables c d (Some made) })
     state-open made is fresh =
         let sets : ChangesClient m.clients new c (λ x y. SetsSlot x y d (Some h)) = changes-as m.clients new c _ _ (λ x y g. g.opens) ch in
-        with-tables m s st new (with_handle s.tables c d (Some made)) ch.next
+        with-tables m s st (record m { clients = new }) (with_handle s.tables c d (Some made)) refl ch.next
         (tables-set alike m.clients s.tables st.tables new (Alike m.layers s new) c d (Some h) (Some made) sets ch.changes.lowest.in_range
         (λ b i o g now was on like. placed U lowers s.tree m.clients.directories new.directories o g (λ x l q at. ch.places b i x l (now ∙ ap Some q) at) like)
         is)

@@ -6,6 +6,7 @@ use Rattle.std.specs.List.{list_any, position, position_or_len}
 use Rattle.std.specs.Option.{option_and_then}
 use Rattle.std.specs.BTreeMap.{get}
 use Rattle.std.specs.Ordering.{nat_cmp}
+use Rattle.ov_base.specs.declared.attributes.Attributes.{Attributes}
 use Rattle.ov_base.specs.declared.node_id.NodeId.{NodeId}
 use Rattle.plain_model.specs.Layers.{Path, Layer}
 use Rattle.plain_model.specs.Tree.{Tree, node_at, is_folder}
@@ -15,6 +16,7 @@ use Rattle.overlay_core.specs.declared.clients.Clients.{Clients}
 use Rattle.open_handles.specs.declared.descriptors.Descriptors.{Descriptors}
 use Rattle.open_handles.specs.Dentries.{Dentries}
 use Rattle.open_handles.specs.Opened as places
+use Rattle.mount_laws.specs.Looks.{IsHidden}
 use Rattle.mount_laws.specs.Removals.{folder_attributes}
 use Rattle.open_handles.specs.Opened.{Location, At, Removed}
 use Rattle.open_handles.specs.declared.handle.Handle as handles
@@ -25,7 +27,7 @@ use Rattle.overlay_core.specs.Attaching.{KeepsAttached, KeepsPlaces, is_attached
 use Rattle.open_handles.specs.Descriptors.{opened, IsFull, IsLowestFree, SetsSlot}
 use Rattle.open_handles.specs.declared.open_file.FileSource.TheVariants.{Upper}
 use Rattle.overlay_core.specs.Files.{IsOpenOn, AreOne}
-use Rattle.overlay_core.specs.States.{Stands, IsHandle, IsOpenAs, IsSlot, AreTables}
+use Rattle.overlay_core.specs.States.{Stands, IsRemoved, IsHandle, IsOpenAs, IsSlot, AreTables}
 
 -- one element of a list after it is set, and the others
 get-set : {A : Type 0} (xs : List A) (i : ℕ) (v : A) → i < length xs → slice_get (slice_set xs i v) i ≡ Some v
@@ -85,17 +87,14 @@ slot-moved P Q None (Some h) f s = absurd s
 slot-moved P Q (Some o) None f s = absurd s
 slot-moved P Q (Some o) (Some h) f s = f o h refl refl s
 
+-- a handle on an open directory, told of where that stands now
+pub handle-now : (t u : Tree) (ds es : Dentries) (o : OpenDirectory) (h : Handle) → IsHandle t ds o h → (l : Location) → places.opened es o.directory ≡ Some l → Stands u l h.node → is_folder (u h.node) ≡ true → IsHandle u es o h
+handle-now t u ds es o h is l located stands directory = record { location = l; located = located; stands = stands; directory = directory; access = is.access; left = is.left }
+
 -- what is open stays so where its directory stands where it stood
 pub placed : (U : Layer) (lowers : List Layer) (t : Tree) (ds es : Dentries) (o : handles.Handle) (h : Handle) → ((d : OpenDirectory) (l : Location) → o ≡ Directory d → places.opened ds d.directory ≡ Some l → places.opened es d.directory ≡ Some l) → IsOpenAs U lowers t ds o h → IsOpenAs U lowers t es o h
 placed U lowers t ds es (File x) h f s = s
-placed U lowers t ds es (Directory o) h f s = record {
-  location = s.location;
-  located = f o s.location refl s.located;
-  stands = s.stands;
-  directory = s.directory;
-  access = s.access;
-  left = s.left;
-}
+placed U lowers t ds es (Directory o) h f s = handle-now t t ds es o h s s.location (f o s.location refl s.located) s.stands s.directory
 
 -- a descriptor that stays open, on a directory that stands where it stood
 pub carried : (U : Layer) (lowers : List Layer) (t : Tree) (clients new : Clients) → KeepsPlaces clients new → (b d : ℕ) (x : Option Handle) → opened_by new b d ≡ opened_by clients b d → IsSlot (IsOpenAs U lowers t clients.directories) (opened_by clients b d) x → IsSlot (IsOpenAs U lowers t new.directories) (opened_by new b d) x
@@ -145,21 +144,18 @@ slot-closed P None None s e = refl
 slot-closed P None (Some h) s e = absurd s
 slot-closed P (Some a) x s e = cc
 
+-- a directory that was removed is so in another tree with the same node, if no path leads there
+pub removed-same : (t u : Tree) (a : Attributes) (d : NodeId) → u d ≡ t d → IsHidden u d → IsRemoved t a d → IsRemoved u a d
+removed-same t u a d same hidden gone = record { hidden = hidden; empty = ap names_in same ∙ gone.empty; attributes = ap folder_attributes same ∙ gone.attributes }
+
 -- a directory stands in another tree where it did, if its paths and its node are the same
 stands-same : (t u : Tree) → ((q : Path) → node_at u q ≡ node_at t q) → (l : Location) (d : NodeId) → u d ≡ t d → Stands t l d → Stands u l d
 stands-same t u paths (At p) d same s = paths p ∙ s
-stands-same t u paths (Removed a) d same s = record { hidden = λ p e. s.hidden p (sym (paths p) ∙ e); empty = ap names_in same ∙ s.empty; attributes = ap folder_attributes same ∙ s.attributes }
+stands-same t u paths (Removed a) d same s = removed-same t u a d same (λ p e. s.hidden p (sym (paths p) ∙ e)) s
 
 -- and so is a handle on it
 pub handle-same : (t u : Tree) (ds : Dentries) → ((q : Path) → node_at u q ≡ node_at t q) → (o : OpenDirectory) (h : Handle) → u h.node ≡ t h.node → IsHandle t ds o h → IsHandle u ds o h
-handle-same t u ds paths o h same x = record {
-  location = x.location;
-  located = x.located;
-  stands = stands-same t u paths x.location h.node same x.stands;
-  directory = ap is_folder same ∙ x.directory;
-  access = x.access;
-  left = x.left;
-}
+handle-same t u ds paths o h same x = handle-now t u ds ds o h x x.location x.located (stands-same t u paths x.location h.node same x.stands) (ap is_folder same ∙ x.directory)
 
 -- the lowest free descriptor
 lowest-at : (hs : List (Option Handle)) (d : ℕ) → d < length hs → held_in (slice_get hs d) ≡ None → ((k : ℕ) → k < d → is_some (held_in (slice_get hs k)) ≡ true) → position_or_len is_none hs ≡ d
@@ -189,7 +185,7 @@ abbrev there : Option Descriptors → Bool
 there o = is_some o
 
 -- what a client has open under a descriptor
-opened-is : (clients : Clients) (c d : ℕ) (ds : Descriptors) → get nat_cmp clients.attached c ≡ Some ds → opened_by clients c d ≡ opened ds.slots.items d
+pub opened-is : (clients : Clients) (c d : ℕ) (ds : Descriptors) → get nat_cmp clients.attached c ≡ Some ds → opened_by clients c d ≡ opened ds.slots.items d
 opened-is clients c d ds e = ap (option_and_then (λ (x : Descriptors). opened x.slots.items d)) e
 
 -- the same clients are attached, with the same directories open, and the next number is the same
@@ -212,15 +208,8 @@ keeps-attached old new c P h = record { attached = same; next = h.next }
 
 -- a client's descriptors stay as they are
 pub same-clients : (clients new : Clients) (c : ℕ) → ChangesClient clients new c (λ x y. y ≡ x) → SameClients clients new
-same-clients clients new c h = record { attached = same; opened = opens; places = h.places; next = h.next }
+same-clients clients new c h = record { attached = (keeps-attached clients new c _ h).attached; opened = opens; places = h.places; next = h.next }
   where
-    same : (b : ℕ) → is_some (get nat_cmp new.attached b) ≡ is_some (get nat_cmp clients.attached b)
-    same b = by (cases_eq b c)
-      where
-        by : (b ≡ c) ⊎ (b ≡ c → ⊥) → is_some (get nat_cmp new.attached b) ≡ is_some (get nat_cmp clients.attached b)
-        by (inl e) = rw e (ap there h.is ∙ sym (ap there h.was))
-        by (inr n) = ap there (h.others b n)
-
     opens : (b d : ℕ) → opened_by new b d ≡ opened_by clients b d
     opens b d = by (cases_eq b c)
       where
@@ -285,11 +274,7 @@ module _ (P : handles.Handle → Handle → Type 0) (clients : Clients) (ks : Li
     }
       where
         same : (b : ℕ) → is_some (get nat_cmp new.attached b) ≡ is_some (get nat_cmp clients.attached b)
-        same b = by (cases_eq b c)
-          where
-            by : (b ≡ c) ⊎ (b ≡ c → ⊥) → is_some (get nat_cmp new.attached b) ≡ is_some (get nat_cmp clients.attached b)
-            by (inl e) = rw e (ap there h.is ∙ sym (ap there h.was))
-            by (inr n) = ap there (h.others b n)
+        same = (keeps-attached clients new c _ h).attached
 
         long : (b : ℕ) → length (handles_of (with_handle ks c fd x) b) ≡ length (handles_of ks b)
         long b = by (cases_eq b c)

@@ -29,11 +29,10 @@ use Rattle.copy_up.specs.Showing.{StaysLayers, StaysMount, StaysThin}
 use Rattle.copy_up.proofs.Keeping.{lowers-same, mounts-alike}
 use Rattle.open_handles.specs.declared.handle.Handle as handles
 use Rattle.open_handles.specs.declared.handle.Handle.TheVariants.{Directory, File}
-use Rattle.open_handles.specs.declared.handle.OpenDirectory.{OpenDirectory}
 use Rattle.open_handles.specs.declared.open_file.FileSource.{FileSource}
 use Rattle.open_handles.specs.declared.open_file.FileSource.TheVariants.{Upper, Lower}
 use Rattle.open_handles.specs.declared.open_file.OpenFile.{OpenFile}
-use Rattle.open_handles.specs.Listings.{ChangesSlot, file_in, with_place}
+use Rattle.open_handles.specs.Listings.{ChangesSlot, with_place}
 use Rattle.open_handles.specs.Places.{IsWritePlace, count_fitting}
 use Rattle.overlay_core.specs.declared.clients.Clients.{Clients}
 use Rattle.overlay_core.specs.declared.mount.Mount.{Mount}
@@ -41,11 +40,10 @@ use Rattle.overlay_core.specs.Attaching.{file_by, opened_by, ChangesClient}
 use Rattle.overlay_core.specs.Files.{IsFile, IsOf, IsOpenOn, bytes_of_inode, source_inode}
 use Rattle.overlay_core.specs.Living.{SetsFile}
 use Rattle.overlay_core.specs.Opening.{truncate_fault, write_fault, written_key}
-use Rattle.overlay_core.specs.States.{IsHandle, IsStateOf, Serves}
+use Rattle.overlay_core.specs.States.{IsStateOf, Serves}
 use Rattle.overlay_core.proofs.Answering.{serve-done, serve-refused}
-use Rattle.overlay_core.proofs.Rewritten.{place-moved, state-rewritten}
-use Rattle.overlay_core.proofs.Serving.{open-at, slot-closed}
-use Rattle.overlay_core.proofs.Stating.{Alike}
+use Rattle.overlay_core.proofs.Rewritten.{state-rewritten}
+use Rattle.overlay_core.proofs.Slots.{file-open, file-at, directory-at, handle-none, place-moved}
 
 -- where every path holds what it held, no whiteout is needless that was needed
 pub thin-held : (old new : Layers) → new.lowers ≡ old.lowers → SameObjects (layer_of old.upper) (layer_of new.upper) → StaysThin old new
@@ -63,12 +61,6 @@ thin-held old new low same thin =
 pub mounts-unwritten : (old new : Layers) (r : Result (Unit {0}) AllocError) → new.lowers ≡ old.lowers → SameObjects (layer_of old.upper) (layer_of new.upper) → (IsLayer (layer_of old.upper) → IsLayer (layer_of new.upper)) → OnErr r (SameTree old.upper new.upper) → OnErr r (StaysMount old new)
 mounts-unwritten old new (Ok x) low same keep tree = tt
 mounts-unwritten old new (Err e) low same keep tree = mounts-alike old new low same (λ p k h. tree.inodes k) keep
-
--- a file that a client has open under a descriptor
-file-open : (o : Option handles.Handle) (f : OpenFile) → file_in o ≡ Some f → o ≡ Some (File f)
-file-open None f h = cc
-file-open (Some (Directory o)) f h = cc
-file-open (Some (File g)) f h = cc
 
 -- a file that has a key to write to is of the upper
 upper-key : (f : OpenFile) → is_none (written_key f) ≡ false → (k : ℕ) × (f.source ≡ Upper k)
@@ -169,22 +161,10 @@ module _ (m : Mount) (s : State) (st : IsStateOf m s) (c d : ℕ) where
   abbrev lowers : List Layer
   lowers = lowers_of m.layers
 
-  -- what isn't open has no handle
-  handle-none : opened_by m.clients c d ≡ None → handle_of s.tables c d ≡ None
-  handle-none e = slot-closed (Alike m.layers s m.clients) _ _ (st.tables.slots c d) e
-
-  -- the handle of an open file
-  file-at : (f : OpenFile) → opened_by m.clients c d ≡ Some (File f) → (h : Handle) × (handle_of s.tables c d ≡ Some h) × IsFile U lowers s.tree f h
-  file-at f e = open-at (Alike m.layers s m.clients) m.clients s.tables st.tables c d (File f) e
-
-  -- the handle of an open directory
-  directory-at : (o : OpenDirectory) → opened_by m.clients c d ≡ Some (Directory o) → (h : Handle) × (handle_of s.tables c d ≡ Some h) × IsHandle s.tree m.clients.directories o h
-  directory-at o e = open-at (Alike m.layers s m.clients) m.clients s.tables st.tables c d (Directory o) e
-
   -- a file that has a key to write to is of the upper, and live
   writing : (f : OpenFile) → opened_by m.clients c d ≡ Some (File f) → is_none (written_key f) ≡ false → (h : Handle) × IsWriting m s c d f h
   writing f e some =
-      let x = file-at f e in
+      let x = file-at m s st c d f e in
       let key = upper-key f some in
       let of : IsOf U lowers s.tree (Upper key.0) x.0 = subst (λ z. IsOf U lowers s.tree z x.0) key.1 x.2.source in
       (x.0, record { opened = e; on = x.1; file = x.2; key = key.0; source = key.1; live = of.0 })
@@ -207,13 +187,13 @@ module _ (m : Mount) (s : State) (st : IsStateOf m s) (c d : ℕ) where
     truncate-refusal = by (opened_by m.clients c d) refl
       where
         by : (o : Option handles.Handle) → opened_by m.clients c d ≡ o → refusal s c (call.Truncate d size) ≡ truncate_fault o size
-        by None is = (law_of_unopened s c d (handle-none is)).sizing size
+        by None is = (law_of_unopened s c d (handle-none m s st c d is)).sizing size
         by (Some (File f)) is =
-            let x = file-at f is in
+            let x = file-at m s st c d f is in
             let law : TruncatesFile s c d x.0 = law_of_truncate s c d x.0 x.1 in
             law.refused size ∙ ap (λ b. or_else (when b errno.EINVAL) (when (nat_lt FILE_MAX size) errno.EFBIG)) (not-writing U lowers s.tree f x.0 x.2)
         by (Some (Directory o)) is =
-            let x = directory-at o is in
+            let x = directory-at m s st c d o is in
             (law_of_directory_handle s c d x.0 x.1 x.2.directory).sizing (ap (λ (z : Handle). z.writes) x.2.access) size
 
     -- it is refused so
@@ -265,12 +245,12 @@ module _ (m : Mount) (s : State) (st : IsStateOf m s) (c d : ℕ) where
     write-refused e h = serve-refused _ s c _ e m (by (opened_by m.clients c d) refl h) st
       where
         by : (o : Option handles.Handle) → opened_by m.clients c d ≡ o → write_fault o (length bytes) ≡ Some e → refusal s c (call.Write d bytes) ≡ Some e
-        by None is g = (law_of_unopened s c d (handle-none is)).writing bytes ∙ g
+        by None is g = (law_of_unopened s c d (handle-none m s st c d is)).writing bytes ∙ g
         by (Some (File f)) is g =
-            let x = file-at f is in
+            let x = file-at m s st c d f is in
             faults f x.0 x.1 x.2 ∙ first-of (when (nat_lt TRANSFER_MAX (length bytes)) errno.EINVAL) (when (is_none (written_key f)) errno.EBADF) (room_fault (length bytes) (write_start s x.0)) e g
         by (Some (Directory o)) is g =
-            let x = directory-at o is in
+            let x = directory-at m s st c d o is in
             (law_of_directory_handle s c d x.0 x.1 x.2.directory).writing (ap (λ (z : Handle). z.writes) x.2.access) bytes ∙ g
 
     -- one that isn't
@@ -333,7 +313,7 @@ module _ (m : Mount) (s : State) (st : IsStateOf m s) (c d : ℕ) where
             (placed-refusal ∙ (fits (length bytes) start count fit).0)
             (ap reply.Written counted ∙ sym (law.answer bytes))
             (subst (IsStateOf (record m { layers = new; clients = clients })) (steps ∙ sym (law.state bytes (some-there bytes full)))
-            (place-moved (record m { layers = new }) (record s { tree = rewritten s.tree h.node now }) made c d f h opens w.on (start + count) clients moves))
+            (place-moved (record m { layers = new }) (record s { tree = rewritten s.tree h.node now }) made c d h w.on f opens (start + count) clients moves))
           where
             now : List ℕ
             now = written w.live.bytes start (fitting start bytes)

@@ -1,4 +1,4 @@
-use Rattle.std.proofs.Common.{rules, Some, refl}
+use Rattle.std.proofs.Common.{rules, refl}
 use Rattle.std.specs.BTreeMap.{get}
 use Rattle.std.specs.Ordering.{nat_cmp}
 use Rattle.overlay_core.proofs.Holding.{Becomes, client-changes, counts-same, counts-opens-file, hold-and-close, file-failed}

@@ -1,4 +1,4 @@
-use Rattle.std.proofs.Common.{rules, None, Some, refl}
+use Rattle.std.proofs.Common.{rules, None, refl}
 use Rattle.std.specs.BTreeMap.{get}
 use Rattle.std.specs.Ordering.{nat_cmp}
 use Rattle.open_handles.specs.Listings.{with_listing}
