@@ -1,5 +1,6 @@
 -- What clients do to a mount is what they do to each state that agrees with it.
 use Rattle.std.proofs.Common.{arith, ◌≡◌, ℕ, ◌<◌, ◌≤◌, Bool, true, false, ◌||◌, List, [], ◌∷◌, refl, sym, ap, ◌∙◌, subst, length, nat_eq, nat_lt}
+use Rattle.std.proofs.Math.Bool.{or-true}
 use Rattle.std.proofs.lemmas.Bool.{false≢true, eq-eqb, eqb-true, le-ltb}
 use Rattle.std.proofs.lemmas.Cmp.{eq_by_cmp_equiv, nat_cmp_total}
 use Rattle.std.proofs.lemmas.List.{length-map}
@@ -83,10 +84,6 @@ any-back : (c : ℕ) (xs : List ℕ) → list_any (λ x. nat_eq c x) xs ≡ true
 any-back c [] h = h
 any-back c (x ∷ xs) h = by (any-back c xs) (nat_eq c x) refl h
   where
-    or-true : (b : Bool) → (b || true) ≡ true
-    or-true true = refl
-    or-true false = refl
-
     by : (list_any (λ y. nat_eq c y) xs ≡ true → list_any (λ y. nat_eq y c) xs ≡ true) → (b : Bool) → nat_eq c x ≡ b → (b || list_any (λ y. nat_eq c y) xs) ≡ true → (nat_eq x c || list_any (λ y. nat_eq y c) xs) ≡ true
     by rest true e g = ap (λ z. z || list_any (λ y. nat_eq y c) xs) (eq-back c x e)
     by rest false e g = ap (λ z. nat_eq x c || z) (rest g) ∙ or-true (nat_eq x c)

@@ -1,6 +1,8 @@
 -- Clients come on both sides.
 use Rattle.std.proofs.Common.{◌≡◌, ◌≢◌, ℕ, zero, suc, Bool, true, false, cond, ◌||◌, List, [], ◌∷◌, ◌++◌, Option, None, Some, Result, Ok, Err, refl, sym, ap, ◌∙◌, subst, ◌⊎◌, inl, inr, is_some, length, replicate, slice_get, nat_eq, add-one}
-use Rattle.std.proofs.lemmas.Bool.{false≢true, cases_eq, eq-eqb, ne_eqb}
+use Rattle.std.proofs.Math.Bool.{or-false, or-true}
+use Rattle.std.proofs.lemmas.Bool.{cases_eq, eq-eqb, ne_eqb, or_parts}
+use Rattle.std.proofs.lemmas.List.Folds.{list_any-append}
 use Rattle.std.proofs.lemmas.List.{length-replicate}
 use Rattle.std.specs.List.{list_any}
 use Rattle.std.specs.Option.{option_and_then}
@@ -37,34 +39,7 @@ of b k = nat_eq k.client b
 
 -- a client's table last
 any-last : (ks : List Table) (n b : ℕ) → list_any (of b) (ks ++ free_table n ∷ []) ≡ (list_any (of b) ks || nat_eq n b)
-any-last [] n b = by (nat_eq n b)
-  where
-    by : (x : Bool) → (x || false) ≡ (false || x)
-    by true = refl
-    by false = refl
-any-last (k ∷ ks) n b = ap (λ x. nat_eq k.client b || x) (any-last ks n b) ∙ by (nat_eq k.client b) (list_any (of b) ks) (nat_eq n b)
-  where
-    by : (x y z : Bool) → (x || (y || z)) ≡ ((x || y) || z)
-    by true y z = refl
-    by false y z = refl
-
--- with false, and with true, on the right
-or-false : (x : Bool) → (x || false) ≡ x
-or-false true = refl
-or-false false = refl
-
-or-true : (x : Bool) → (x || true) ≡ true
-or-true true = refl
-or-true false = refl
-
--- where it is false that one of two holds, neither does
-first-false : (x y : Bool) → (x || y) ≡ false → x ≡ false
-first-false true y h = h
-first-false false y h = refl
-
-second-false : (x y : Bool) → (x || y) ≡ false → y ≡ false
-second-false true y h = absurd (false≢true (sym h))
-second-false false y h = h
+any-last ks n b = list_any-append (of b) ks (free_table n ∷ []) ∙ ap (λ x. list_any (of b) ks || x) (or-false (nat_eq n b))
 
 -- the handles of another client, and of this one
 handles-last-other : (ks : List Table) (n b : ℕ) → b ≢ n → handles_of (ks ++ free_table n ∷ []) b ≡ handles_of ks b
@@ -74,8 +49,8 @@ handles-last-other (k ∷ ks) n b h = ap (cond (nat_eq k.client b) k.handles) (h
 handles-last : (ks : List Table) (n : ℕ) → list_any (of n) ks ≡ false → handles_of (ks ++ free_table n ∷ []) n ≡ replicate DESCRIPTORS_MAX None
 handles-last [] n h = ap (λ x. cond x (replicate DESCRIPTORS_MAX None) []) (eq-eqb n n refl)
 handles-last (k ∷ ks) n h =
-    ap (λ x. cond x k.handles (handles_of (ks ++ free_table n ∷ []) n)) (first-false (nat_eq k.client n) (list_any (of n) ks) h)
-    ∙ handles-last ks n (second-false (nat_eq k.client n) (list_any (of n) ks) h)
+    ap (λ x. cond x k.handles (handles_of (ks ++ free_table n ∷ []) n)) (or_parts (nat_eq k.client n) (list_any (of n) ks) h).0
+    ∙ handles-last ks n (or_parts (nat_eq k.client n) (list_any (of n) ks) h).1
 
 -- a free table holds nothing
 held-free : (k d : ℕ) → held_in (slice_get (replicate k None) d) ≡ None
