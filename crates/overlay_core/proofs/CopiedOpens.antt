@@ -60,8 +60,8 @@ use Rattle.overlay_core.proofs.Changing.{handle-on}
 use Rattle.overlay_core.proofs.Directories.{seen}
 use Rattle.overlay_core.proofs.Lasting.{chown-leaves, other-names}
 use Rattle.overlay_core.proofs.Makings.{reserved-state}
-use Rattle.overlay_core.proofs.Openings.{IsShownFile, file-there, free-there, fresh-one, state-open, unrefused, unfaulted}
-use Rattle.overlay_core.proofs.OpeningWrites.{sized-none}
+use Rattle.overlay_core.proofs.Openings.{IsShownFile, leaf-seen, file-there, free-there, fresh-one, open-leads, state-open, unfaulted}
+use Rattle.overlay_core.proofs.OpeningWrites.{sized-none, writing-served}
 use Rattle.overlay_core.proofs.Rewritten.{state-rewritten}
 use Rattle.overlay_core.proofs.Serving.{handle-set, room-of}
 use Rattle.overlay_core.proofs.Stating.{Alike}
@@ -89,16 +89,6 @@ copied-as old new p q d a same own (Ok key) h = λ i shown.
 pub copied-lowers : (old new : Layers) (q : Path) (d : Place) (a : Attributes) (i : Inode) → shows 0 (layers_of old) q ≡ Some (Contents d.layer d.key (Some i)) → (r : Result ℕ AllocError) → IfOk r (Copied old new q d (λ i. a)) → OnErr r (ShowsSame old new) → new.lowers ≡ old.lowers
 copied-lowers old new q d a i shown (Ok key) h same = (h i shown).0.lowers
 copied-lowers old new q d a i shown (Err e) h same = same.lowers
-
--- a node that is seen as a file or link is one
-leaf-seen : (o : Option Node) (content : Content) (a : Attributes) (u : Origin) (l : ℕ) → face o ≡ Some (SeenLeaf content a u l) → (n : ℕ) × (o ≡ Some (Leaf content a u n))
-leaf-seen None content a u l h = cc
-leaf-seen (Some (Branch x b names c)) content a u l h = cc
-leaf-seen (Some (Leaf y x v n)) content a u l h =
-    let contents : y ≡ content = cc in
-    let attributes : x ≡ a = cc in
-    let origins : v ≡ u = cc in
-    (n, λ i. Some (Leaf (contents i) (attributes i) (origins i) n))
 
 -- a node that is put at an identity twice is put there once
 put-again : (t : Tree) (d : NodeId) (o q : Option Node) → put (put t d o) d q ≡ put t d q
@@ -275,19 +265,6 @@ module _ (m : Mount) (s : State) (st : IsStateOf m s) (c : ℕ) (clients : Clien
         (record { source = (live, refl); reads = refl; writes = refl; append = refl; place = refl; unlisted = refl })
         (fresh-one (record m { layers = new; clients = clients }) (record s { tree = t }) copied-state c p file made at-node (live, refl))
 
-    -- the descriptor leads to the file, on both sides
-    on : IsOpenOn last held-open.tables key law.node
-    on = record {
-      client = c;
-      descriptor = d;
-      file = file;
-      handle = made;
-      opened = opened-after clients last c d (File file) (changes-as clients last c _ _ (λ x y g. g.opens) ch);
-      key = refl;
-      on = handle-set s.tables c d (Some made) (rw (room-of (Alike m.layers s m.clients) m.clients s.tables st.tables c (ap is_some same.was)) ch.changes.lowest.in_range);
-      at = refl;
-    }
-
     -- the node was a file of a lower layer
     abbrev origin : Origin
     origin = origin_in place.layer there.inode
@@ -303,12 +280,7 @@ module _ (m : Mount) (s : State) (st : IsStateOf m s) (c : ℕ) (clients : Clien
 
     -- the machine's answer and its state, where this becomes of the tree
     done : (layers : Layers) (u : Tree) → change (opened f) s.tree (Some law.node) ≡ u → IsStateOf (record m { layers = layers; clients = last }) (record held-open { tree = u }) → Serves (refusal s c asked) s c asked (reply.Descriptor d) (record m { layers = layers; clients = last })
-    done layers u becomes after =
-        let slot : law.descriptor ≡ d = cc (law.free, free) in
-        serve-done _ s c asked _ (record m { layers = layers; clients = last })
-        (unrefused m s st c p f mode fine d free)
-        (sym (law.answer ∙ ap reply.Descriptor slot))
-        (subst (IsStateOf (record m { layers = layers; clients = last })) (sym (law.state ∙ (λ i. record s { tree = becomes i; tables = with_handle s.tables c (slot i) (Some made) }))) after)
+    done layers u becomes = writing-served m s st c p f mode fine law d free u becomes (record m { layers = layers; clients = last })
 
     -- an open that keeps the bytes
     pub copied-kept : f.truncate ≡ false → Serves (refusal s c asked) s c asked (reply.Descriptor d) (record m { layers = new; clients = last })
@@ -321,4 +293,4 @@ module _ (m : Mount) (s : State) (st : IsStateOf m s) (c : ℕ) (clients : Clien
         let empties : SetsFile new layers key [] = subst (SetsFile new layers key) (sized-none live.bytes) (sets key live.bytes refl bytes) in
         done layers (rewritten t law.node [])
         (own-emptied f w s.options s.tree law.node there.bytes a origin was.0 was.1 e ∙ sym (own-rewritten f w s.options s.tree law.node there.bytes a origin was.0 was.1) ∙ ap (λ z. rewritten z law.node []) (sym tree-owned))
-        (state-rewritten (record m { layers = new; clients = last }) held-open opened-state layers key law.node [] on keeps empties)
+        (state-rewritten (record m { layers = new; clients = last }) held-open opened-state layers key law.node [] (open-leads (record m { layers = new; clients = clients }) (record s { tree = t }) copied-state c (File file) d last ch file made key refl refl) keeps empties)

@@ -79,14 +79,7 @@ module _ (m : Mount) (s : State) (st : IsStateOf m s) (c : ℕ) (p : Path) where
           rw same (serve-refused _ s c (call.Readlink p) EINVAL m (is-refused None false h t.1) st)
       by (inr t) =
           let same : r ≡ reply.Target t.0 = is ∙ ap target_reply t.1 in
-          serve-done _ s c (call.Readlink p) r m (is-refused None true h t.2) (same ∙ sym (law.answer t.0 t.1))
-          (record {
-            layers = record { layers = st.layers.layers; shows = st.layers.shows; kept = st.layers.kept; writable = st.layers.writable };
-            tables = st.tables;
-            one = st.one;
-            arrived = st.arrived;
-            unwatched = st.unwatched;
-          })
+          serve-done _ s c (call.Readlink p) r m (is-refused None true h t.2) (same ∙ sym (law.answer t.0 t.1)) st
 
   pub readlink-serves : (r : Reply) → r ≡ readlink_reply Ls p → Serves (refusal s c (call.Readlink p)) s c (call.Readlink p) r m
   readlink-serves r is = serves r (walk_fault Ls p) refl is

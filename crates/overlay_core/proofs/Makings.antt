@@ -49,7 +49,7 @@ use Rattle.overlay_core.proofs.Answering.{serve-done}
 use Rattle.overlay_core.proofs.Carrying.{AreCounted, files-kept, state-on, state-stays}
 use Rattle.overlay_core.proofs.Changing.{handle-beside}
 use Rattle.overlay_core.proofs.Lasting.{create-live, open-leaves, parents-live}
-use Rattle.overlay_core.proofs.Openings.{open-full, free-there, state-open, unrefused, unfaulted}
+use Rattle.overlay_core.proofs.Openings.{open-full, free-there, state-open, open-served, unfaulted}
 use Rattle.overlay_core.proofs.Serving.{open-at}
 use Rattle.overlay_core.proofs.Slots.{open-live}
 use Rattle.overlay_core.proofs.Stating.{Alike, keep-state}
@@ -196,8 +196,5 @@ module _ (m : Mount) (s : State) (st : IsStateOf m s) (c : ℕ) (clients : Clien
     -- and answers as the machine
     pub open-made : Serves (refusal s c asked) s c asked (reply.Descriptor d) (record m { layers = new; clients = last })
     open-made =
-        let same_slot : law.descriptor ≡ d = cc (law.free, free) in
-        serve-done _ s c asked _ (record m { layers = new; clients = last })
-        (unrefused m s st c p f mode fine d free)
-        (sym (law.answer ∙ ap reply.Descriptor same_slot))
-        (subst (IsStateOf (record m { layers = new; clients = last })) (sym (law.state ∙ ap (λ z. record s { tree = u; serial = suc s.serial; tables = with_handle s.tables c z (Some made) }) same_slot)) opened-state)
+        open-served m s st c p f mode fine d law.descriptor free law.free law.answer (λ z. record s { tree = u; serial = suc s.serial; tables = with_handle s.tables c z (Some made) }) law.state
+        (record m { layers = new; clients = last }) opened-state

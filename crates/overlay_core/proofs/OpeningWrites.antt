@@ -38,7 +38,7 @@ use Rattle.overlay_core.specs.Opening.{OpensFile}
 use Rattle.overlay_core.specs.States.{IsStateOf, Serves}
 use Rattle.overlay_core.proofs.Answering.{serve-done}
 use Rattle.overlay_core.proofs.Slots.{changes-as, opened-after}
-use Rattle.overlay_core.proofs.Openings.{IsShownFile, fresh-one, free-there, state-open, unrefused, unfaulted, file-there, open-file}
+use Rattle.overlay_core.proofs.Openings.{IsShownFile, fresh-one, free-there, state-open, unfaulted, file-there, open-file, open-leads, open-served}
 use Rattle.overlay_core.proofs.Rewritten.{state-rewritten}
 use Rattle.overlay_core.proofs.Serving.{handle-set, room-of}
 use Rattle.overlay_core.proofs.Stating.{Alike}
@@ -86,6 +86,13 @@ module _ (f : OpenFlags) (w : f.writes ≡ true) (t : Tree) (d : NodeId) (bytes 
   tree-emptied e =
       let same : over_node (opened f) (t d) ≡ over_node (with_bytes []) (t d) = ap (over_node (opened f)) is ∙ (λ i. Some (cond (w i) (cond (e i) (with_bytes [] x) x) x)) ∙ sym (ap (over_node (with_bytes [])) is) in
       ap (put t d) same
+
+-- an open for writing is served where this becomes of the tree
+pub writing-served : (m : Mount) (s : State) (st : IsStateOf m s) (c : ℕ) (p : Path) (f : OpenFlags) (mode : ℕ) → opening_fault (layers_of m.layers) p f mode (Some 0) ≡ None → (law : OpensWriting s c p f mode) (d : ℕ) → lowest_free s.tables c ≡ Some d → (t : Tree) → change (opened f) s.tree (Some law.node) ≡ t → (new : Mount) → IsStateOf new (record s { tree = t; tables = with_handle s.tables c d (Some (live_handle f law.node (way_of s.tree p))) }) → Serves (refusal s c (call.Open p f mode)) s c (call.Open p f mode) (reply.Descriptor d) new
+writing-served m s st c p f mode fine law d free t becomes =
+    open-served m s st c p f mode fine d law.descriptor free law.free law.answer
+    (λ z. record s { tree = t; tables = with_handle s.tables c z (Some (live_handle f law.node (way_of s.tree p))) })
+    (law.state ∙ ap (λ y. record s { tree = y; tables = with_handle s.tables c law.descriptor (Some (live_handle f law.node (way_of s.tree p))) }) becomes)
 
 -- a file of the upper is opened to be written
 module _ (m : Mount) (s : State) (st : IsStateOf m s) (c : ℕ) (p : Path) (f : OpenFlags) (mode : ℕ) (fine : opening_fault (layers_of m.layers) p f mode (Some 0) ≡ None) (w : f.writes ≡ true) (place : Place) (own : place.layer ≡ 0) (shown : ShowsInode m.layers p place) (d : ℕ) (new : Clients) (ch : OpensFile m.clients new c (file_at place f) (Ok (Ok d))) where
@@ -143,27 +150,9 @@ module _ (m : Mount) (s : State) (st : IsStateOf m s) (c : ℕ) (p : Path) (f : 
       (record { source = of; reads = refl; writes = refl; append = refl; place = refl; unlisted = refl })
       (fresh-one m s st c p file made law.at of)
 
-  -- the descriptor leads to the file, on both sides
-  on : IsOpenOn new held.tables place.key law.node
-  on = record {
-    client = c;
-    descriptor = d;
-    file = file;
-    handle = made;
-    opened = opened-after m.clients new c d (File file) (changes-as m.clients new c _ _ (λ x y g. g.opens) ch);
-    key = key;
-    on = handle-set s.tables c d (Some made) (rw (room-of (Alike m.layers s m.clients) m.clients s.tables st.tables c (ap is_some ch.was)) ch.changes.lowest.in_range);
-    at = refl;
-  }
-
   -- the machine's answer and its state, where this becomes of the tree
   done : (layers : Layers) (t : Tree) → change (opened f) s.tree (Some law.node) ≡ t → IsStateOf (record m { layers = layers; clients = new }) (record held { tree = t }) → Serves (refusal s c asked) s c asked (reply.Descriptor d) (record m { layers = layers; clients = new })
-  done layers t becomes after =
-      let same : law.descriptor ≡ d = cc (law.free, free) in
-      serve-done _ s c asked _ (record m { layers = layers; clients = new })
-      (unrefused m s st c p f mode fine d free)
-      (sym (law.answer ∙ ap reply.Descriptor same))
-      (subst (IsStateOf (record m { layers = layers; clients = new })) (sym (law.state ∙ (λ i. record s { tree = becomes i; tables = with_handle s.tables c (same i) (Some made) }))) after)
+  done layers t becomes = writing-served m s st c p f mode fine law d free t becomes (record m { layers = layers; clients = new })
 
   -- an open that keeps the bytes
   pub open-kept : f.truncate ≡ false → Serves (refusal s c asked) s c asked (reply.Descriptor d) (record m { clients = new })
@@ -176,7 +165,7 @@ module _ (m : Mount) (s : State) (st : IsStateOf m s) (c : ℕ) (p : Path) (f : 
       let empties : SetsFile m.layers layers place.key [] = subst (SetsFile m.layers layers place.key) (sized-none live.bytes) (sets place.key live.bytes key bytes) in
       done layers (rewritten s.tree law.node [])
       (tree-emptied f w s.tree law.node live.bytes live.attributes live.links live.node e)
-      (state-rewritten (record m { clients = new }) held held-state layers place.key law.node [] on keeps empties)
+      (state-rewritten (record m { clients = new }) held held-state layers place.key law.node [] (open-leads m s st c (File file) d new ch file made place.key refl key) keeps empties)
 
 -- an open of a file that isn't emptied, for writing where it is the upper's
 pub open-whole : (m : Mount) (s : State) (st : IsStateOf m s) (c : ℕ) (p : Path) (f : OpenFlags) (mode : ℕ) → opening_fault (layers_of m.layers) p f mode (Some 0) ≡ None → f.truncate ≡ false → (place : Place) → (f.writes ≡ true → place.layer ≡ 0) → ShowsInode m.layers p place → (d : ℕ) (new : Clients) → OpensFile m.clients new c (file_at place f) (Ok (Ok d)) → Serves (refusal s c (call.Open p f mode)) s c (call.Open p f mode) (reply.Descriptor d) (record m { clients = new })

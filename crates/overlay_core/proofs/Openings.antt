@@ -17,7 +17,8 @@ use Rattle.plain_model.specs.Layers.{Path, Inode, Layer, Shown, Folder, Contents
 use Rattle.plain_model.specs.Tree.{Node, Branch, Leaf, Origin, node_at, node_of, face, SeenLeaf, see}
 use Rattle.plain_model.specs.Machine.{Live, Handle, Table, State, DESCRIPTORS_MAX, lowest_free}
 use Rattle.plain_model.specs.Refusals.{when, bad_flags, bad_mode, refusal}
-use Rattle.plain_model.specs.Changes.{way_of, new_handle, with_handle, view_of}
+use Rattle.plain_model.specs.Changes.{after, way_of, new_handle, with_handle, view_of}
+use Rattle.plain_model.specs.Replies.{reply_of}
 use Rattle.plain_model.proofs.Looking.{when-not}
 use Rattle.layer_tree.specs.Tree.{Tree, layer_of, inode_of}
 use Rattle.merged_lookup.specs.declared.layers.Layers.{Layers}
@@ -44,8 +45,8 @@ use Rattle.overlay_core.specs.Files.{lower_inode, is_leaf, IsFrozen, IsOf, IsOpe
 use Rattle.overlay_core.specs.Opening.{inode_refusal, OpensAt, OpensFile}
 use Rattle.overlay_core.specs.States.{IsLeft, AreTables, IsStateOf, Serves}
 use Rattle.overlay_core.proofs.Answering.{serve-refused, serve-done}
-use Rattle.overlay_core.proofs.Slots.{changes-as, open-live}
-use Rattle.overlay_core.proofs.Serving.{placed, open-at, free-lowest, free-none, tables-set}
+use Rattle.overlay_core.proofs.Slots.{changes-as, opened-after, open-live}
+use Rattle.overlay_core.proofs.Serving.{handle-set, room-of, placed, open-at, free-lowest, free-none, tables-set}
 use Rattle.overlay_core.proofs.Stating.{Alike, with-tables, keep-state}
 
 -- why a file or symbolic link isn't opened for reading is told by the node at its place
@@ -137,11 +138,15 @@ lower-in u (t ∷ ts) (suc j) k = lower-in t ts j k
 source-below : (j k : ℕ) → source_at (record { layer = suc j; key = k }) ≡ Lower (suc j) k
 source-below j k = ap (λ b. cond b (Upper k) (Lower (suc j) k)) (ne_eqb (suc j) 0 (λ e. absurd (omega arith)))
 
--- a node that is seen as a file or symbolic link is one
-leaf-seen : (o : Option Node) (content : Content) (a : Attributes) (u : Origin) (l : ℕ) → face o ≡ Some (SeenLeaf content a u l) → is_leaf o ≡ true
+-- a node that is seen as a file or link is one
+pub leaf-seen : (o : Option Node) (content : Content) (a : Attributes) (u : Origin) (l : ℕ) → face o ≡ Some (SeenLeaf content a u l) → (n : ℕ) × (o ≡ Some (Leaf content a u n))
 leaf-seen None content a u l h = cc
 leaf-seen (Some (Branch x b names c)) content a u l h = cc
-leaf-seen (Some (Leaf y x v c)) content a u l h = refl
+leaf-seen (Some (Leaf y x v n)) content a u l h =
+    let contents : y ≡ content = cc in
+    let attributes : x ≡ a = cc in
+    let origins : v ≡ u = cc in
+    (n, λ i. Some (Leaf (contents i) (attributes i) (origins i) n))
 
 -- a handle leads to the upper's file of this key, on this node
 record LeadsTo (o : handles.Handle) (x : Handle) (k : ℕ) (d : NodeId) : Type 0 where
@@ -217,6 +222,19 @@ module _ (m : Mount) (s : State) (st : IsStateOf m s) (c : ℕ) where
     pub free-there : lowest_free s.tables c ≡ Some d
     free-there = free-lowest alike m.clients s.tables st.tables c d ch.before ch.was ch.changes.lowest
 
+    -- on both sides it leads to its file
+    pub open-leads : (file : OpenFile) (made : Handle) (k : ℕ) → h ≡ File file → file.source ≡ Upper k → IsOpenOn new (with_handle s.tables c d (Some made)) k made.node
+    open-leads file made k is key = record {
+      client = c;
+      descriptor = d;
+      file = file;
+      handle = made;
+      opened = opened-after m.clients new c d h (changes-as m.clients new c _ _ (λ x y g. g.opens) ch) ∙ ap Some is;
+      key = key;
+      on = handle-set s.tables c d (Some made) (rw (room-of alike m.clients s.tables st.tables c (ap is_some ch.was)) ch.changes.lowest.in_range);
+      at = refl;
+    }
+
     -- the mount stands for the state in which it is open
     pub state-open : (made : Handle) → Alike m.layers s new h made → ((g : OpenFile) (k j : ℕ) (e : NodeId) → h ≡ File g → g.source ≡ Upper k → IsOpenOn m.clients s.tables j e → (made.node ≡ e) ↔ (k ≡ j)) → IsStateOf (record m { clients = new }) (record s { tables = with_handle s.tables c d (Some made) })
     state-open made is fresh =
@@ -253,12 +271,18 @@ module _ (m : Mount) (s : State) (st : IsStateOf m s) (c : ℕ) where
           (keep-state m s st c new (changes-as m.clients new c _ _ (λ x y g. g.refused) ch)))
 
       -- where a descriptor is free nothing refuses it
-      pub unrefused : (d : ℕ) → lowest_free s.tables c ≡ Some d → refusal s c asked ≡ None
+      unrefused : (d : ℕ) → lowest_free s.tables c ≡ Some d → refusal s c asked ≡ None
       unrefused d free = table-alone ∙ ap (λ z. when (is_none z) EMFILE) free
 
       -- nor by what the layers show
       pub unfaulted : (d : ℕ) → lowest_free s.tables c ≡ Some d → opening_fault Ls p f mode (lowest_free s.tables c) ≡ None
       unfaulted d free = sym (law_of_open_refusal U lowers s st.layers c p f mode) ∙ unrefused d free
+
+      -- an open is served where the mount stands for the state with the descriptor that the machine finds too
+      pub open-served : (d x : ℕ) → lowest_free s.tables c ≡ Some d → lowest_free s.tables c ≡ Some x → reply_of s c asked ≡ reply.Descriptor x → (next : ℕ → State) → after s c asked ≡ next x → (new : Mount) → IsStateOf new (next d) → Serves (refusal s c asked) s c asked (reply.Descriptor d) new
+      open-served d x free found answer next state new stands =
+          let same : x ≡ d = cc (found, free) in
+          serve-done _ s c asked _ new (unrefused d free) (sym (answer ∙ ap reply.Descriptor same)) (subst (IsStateOf new) (sym (state ∙ ap next same)) stands)
 
       module _ (w : f.writes ≡ false) (there : is_some (shows 0 Ls p) ≡ true) (h : handles.Handle) (d : ℕ) (new : Clients) (ch : ChangesClient m.clients new c (λ x y. Opens x y h (Ok (Ok d)))) where
         -- the machine finds the same descriptor
@@ -275,13 +299,7 @@ module _ (m : Mount) (s : State) (st : IsStateOf m s) (c : ℕ) where
 
         -- what is opened is as the machine opens it
         open-done : Alike m.layers s new h made → ((g : OpenFile) (k j : ℕ) (e : NodeId) → h ≡ File g → g.source ≡ Upper k → IsOpenOn m.clients s.tables j e → (law.node ≡ e) ↔ (k ≡ j)) → Serves (refusal s c asked) s c asked (reply.Descriptor d) (record m { clients = new })
-        open-done is fresh =
-            let same : law.descriptor ≡ d = cc (law.free, free) in
-            serve-done _ s c asked _ (record m { clients = new })
-            (unrefused d free)
-            (sym (law.answer ∙ ap reply.Descriptor same))
-            (subst (IsStateOf (record m { clients = new })) (sym (law.state ∙ ap (λ z. record s { tables = with_handle s.tables c z (Some made) }) same))
-            (state-open h d new ch made is fresh))
+        open-done is fresh = open-served d law.descriptor free law.free law.answer (λ z. record s { tables = with_handle s.tables c z (Some made) }) law.state (record m { clients = new }) (state-open h d new ch made is fresh)
 
       -- the flags ask to read
       reads : f.writes ≡ false → f.reads ≡ true
@@ -326,7 +344,7 @@ module _ (m : Mount) (s : State) (st : IsStateOf m s) (c : ℕ) where
             links = i.links;
             inode = lower-in m.layers.upper m.layers.lowers.items j k ∙ below ∙ ap (λ z. Some (record i { content = z })) file.content;
             view = o.view ∙ ap shown_view file.shown ∙ ap (λ z. inode_view (suc j) (Some (record i { content = z }))) file.content;
-            file = leaf-seen (s.tree o.node) i.content i.attributes _ i.links (seen ∙ ap (see (base U lowers p)) file.shown);
+            file = ap is_leaf (leaf-seen (s.tree o.node) i.content i.attributes _ i.links (seen ∙ ap (see (base U lowers p)) file.shown)).1;
             reads_alone = w;
           }
 

@@ -35,15 +35,7 @@ module _ (m : Mount) (s : State) (st : IsStateOf m s) (c : ℕ) (p : Path) where
 
   -- a get of a user attribute that is set
   pub get-done : (n value : List ℕ) → get_fault Ls p n ≡ None → value_of (shown_user (shows 0 Ls p)) n ≡ Some value → Serves (refusal s c (call.GetAttribute p n)) s c (call.GetAttribute p n) (reply.Value value) m
-  get-done n value ok is =
-      serve-done _ s c _ _ m ((gets n).refused ∙ ok) (sym ((gets n).answer value is))
-      (record {
-        layers = record { layers = st.layers.layers; shows = st.layers.shows; kept = st.layers.kept; writable = st.layers.writable };
-        tables = st.tables;
-        one = st.one;
-        arrived = st.arrived;
-        unwatched = st.unwatched;
-      })
+  get-done n value ok is = serve-done _ s c _ _ m ((gets n).refused ∙ ok) (sym ((gets n).answer value is)) st
 
   -- and its refusal
   pub get-refused : (n : List ℕ) (e : Errno) → get_fault Ls p n ≡ Some e → Serves (refusal s c (call.GetAttribute p n)) s c (call.GetAttribute p n) (reply.Refused e) m
@@ -51,15 +43,7 @@ module _ (m : Mount) (s : State) (st : IsStateOf m s) (c : ℕ) (p : Path) where
 
   -- a list of the user attributes
   pub list-attributes-done : (names : List (List ℕ)) → chown_fault Ls p ≡ None → names ≡ map (λ x. x.0) (shown_user (shows 0 Ls p)) → Serves (refusal s c (call.ListAttributes p)) s c (call.ListAttributes p) (reply.AttributeNames names) m
-  list-attributes-done names ok is =
-      serve-done _ s c _ _ m (lists.refused ∙ ok) (ap reply.AttributeNames is ∙ sym lists.answer)
-      (record {
-        layers = record { layers = st.layers.layers; shows = st.layers.shows; kept = st.layers.kept; writable = st.layers.writable };
-        tables = st.tables;
-        one = st.one;
-        arrived = st.arrived;
-        unwatched = st.unwatched;
-      })
+  list-attributes-done names ok is = serve-done _ s c _ _ m (lists.refused ∙ ok) (ap reply.AttributeNames is ∙ sym lists.answer) st
 
   -- and its refusal
   pub list-attributes-refused : (e : Errno) → chown_fault Ls p ≡ Some e → Serves (refusal s c (call.ListAttributes p)) s c (call.ListAttributes p) (reply.Refused e) m
