@@ -39,7 +39,7 @@ use Rattle.overlay_core.specs.Status.{stat_at, stat_shown, unless_refused}
 use Rattle.overlay_core.specs.States.{IsLeft, Stands, IsHandle, IsStateOf, StaysState, Serves, AreNamesIn, AreLeft, Pages}
 use Rattle.overlay_core.proofs.Directories.{Turns, shown-directory, turns}
 use Rattle.overlay_core.proofs.FileSight.{file-not-folder}
-use Rattle.overlay_core.proofs.Slots.{changes-as, opened-after, file-at, directory-at, handle-none, state-set}
+use Rattle.overlay_core.proofs.Slots.{changes-as, opened-after, directory-at, by-opened, state-set}
 use Rattle.overlay_core.proofs.Stating.{keep-state}
 
 -- a refusal answers as the machine does, where it refuses so
@@ -152,16 +152,11 @@ module _ (m : Mount) (s : State) (st : IsStateOf m s) (c : ℕ) where
 
   -- why a list is refused, told by what is open
   refused-list : (d n : ℕ) → refusal s c (call.ListNames d n) ≡ list_fault (opened_by m.clients c d) n
-  refused-list d n = by (opened_by m.clients c d) refl
-    where
-      by : (o : Option handles.Handle) → opened_by m.clients c d ≡ o → refusal s c (call.ListNames d n) ≡ list_fault o n
-      by None e = (law_of_bad_descriptors s c d (handle-none m s st c d e)).listing n
-      by (Some (File f)) e =
-          let x = file-at m s st c d f e in
-          (law_of_file_list s c d x.0 x.1 (file-not-folder U lowers s.tree f x.0 x.2)).refused n
-      by (Some (Directory o)) e =
-          let x = directory-at m s st c d o e in
-          (turns U lowers s st.layers c d m.clients.directories o x.0 x.1 x.2).refused n
+  refused-list d n =
+      by-opened m s st c d (λ o. refusal s c (call.ListNames d n) ≡ list_fault o n)
+      (λ none. (law_of_bad_descriptors s c d none).listing n)
+      (λ f h on is. (law_of_file_list s c d h on (file-not-folder U lowers s.tree f h is)).refused n)
+      (λ o h on is. (turns U lowers s st.layers c d m.clients.directories o h on is).refused n)
 
   -- a list that is refused
   pub list-refused : (d n : ℕ) (e : Errno) → list_fault (opened_by m.clients c d) n ≡ Some e → Serves (refusal s c (call.ListNames d n)) s c (call.ListNames d n) (reply.Refused e) m

@@ -19,6 +19,7 @@ use Rattle.plain_model.specs.Tree.{same_id, Node, Branch, Leaf, Tree, names_of, 
 use Rattle.plain_model.specs.Machine.{Handle, Table, State, is_root, handle_of}
 use Rattle.plain_model.specs.Refusals.{when, refusal}
 use Rattle.plain_model.specs.Changes.{after, made_way, way_of}
+use Rattle.plain_model.specs.Replies.{reply_of}
 use Rattle.plain_model.proofs.Paths.{ids_tell, paths_tell}
 use Rattle.layer_tree.specs.Tree.{layer_of}
 use Rattle.copy_up.specs.Showing.{StaysMount}
@@ -235,14 +236,18 @@ module _ (m : Mount) (s : State) (st : IsStateOf m s) (new : Layers) where
     unwatched = subst AreUnwatched (sym still) st.unwatched;
   }
 
+  -- a call that isn't refused is served, where open directories and open files stay
+  done : (c : ℕ) (k : Call) → refusal s c k ≡ None → reply_of s c k ≡ reply.Done → IsMountOf V (lowers_of new) (after s c k) → (after s c k).tables ≡ s.tables → (after s c k).instances ≡ s.instances → new.lowers ≡ m.layers.lowers → ((b fd : ℕ) (o : OpenDirectory) (h : Handle) → handle_of s.tables b fd ≡ Some h → IsHandle s.tree m.clients.directories o h → IsHandle (after s c k).tree m.clients.directories o h) → CarriesFiles U V s.tree (after s c k).tree m.clients s.tables → Serves (refusal s c k) s c k reply.Done (record m { layers = new })
+  done c k ok answer mounts tables still same directories files =
+      serve-done _ s c k reply.Done _ ok (sym answer) (state-after c k m.clients mounts tables still (tables-after c k same directories files) st.one refl)
+
   -- a call that alters what a path shows, and no watch, and leaves each file of the tree a file
   pub altered-done : (c : ℕ) (p : Path) (k : Call) (fault : Option Errno) → refusal s c k ≡ fault → (after s c k).instances ≡ s.instances → KeepsLeaves k → AltersUnless fault m.layers new p k (Ok (Ok tt)) → Serves (refusal s c k) s c k reply.Done (record m { layers = new })
   altered-done c p k fault law still leaves y =
       let x : AltersState V (lowers_of new) s c p k = y.alters s st.layers c in
-      let directories = handle-on s.tree (after s c k).tree (λ q d at. x.paths q ∙ at) x.hidden (λ d f. x.folders d ∙ f) m.clients.directories in
-      let files = files-kept m.layers new s st.layers c k m.clients y.live leaves in
-      let tables = tables-after c k y.lowers (λ b fd o h on. directories o h) files in
-      serve-done _ s c k reply.Done _ (law ∙ y.allowed) (sym x.answer) (state-after c k m.clients x.mounts x.tables still tables st.one refl)
+      done c k (law ∙ y.allowed) x.answer x.mounts x.tables still y.lowers
+      (λ b fd o h on. handle-on s.tree (after s c k).tree (λ q d at. x.paths q ∙ at) x.hidden (λ d f. x.folders d ∙ f) m.clients.directories o h)
+      (files-kept m.layers new s st.layers c k m.clients y.live leaves)
 
   -- and its refusal
   pub altered-refused : (c : ℕ) (p : Path) (k : Call) (fault : Option Errno) (e : Errno) → refusal s c k ≡ fault → AltersUnless fault m.layers new p k (Ok (Err e)) → Serves (refusal s c k) s c k (reply.Refused e) (record m { layers = new })
@@ -259,17 +264,15 @@ module _ (m : Mount) (s : State) (st : IsStateOf m s) (new : Layers) where
   pub mkdir-done : (c : ℕ) (p : Path) (mode : ℕ) → mkdir_fault Ls p mode ≡ None → new.lowers ≡ m.layers.lowers → Makes V (lowers_of new) s c p mode → KeepsLive m.layers new (call.Mkdir p mode) → KeepsLeaves (call.Mkdir p mode) → Serves (refusal s c (call.Mkdir p mode)) s c (call.Mkdir p mode) reply.Done (record m { layers = new })
   mkdir-done c p mode ok same x live leaves =
       let k = call.Mkdir p mode in
-      let files = files-kept m.layers new s st.layers c k m.clients live leaves in
-      let tables = tables-after c k same (λ b fd o h on. handle-beside c k p _ refl x.stays x.hidden o h) files in
-      serve-done _ s c k reply.Done _ (law_of_mkdir U lowers s st.layers c p mode ∙ ok) (sym x.answer) (state-after c k m.clients x.mounts x.tables refl tables st.one refl)
+      done c k (law_of_mkdir U lowers s st.layers c p mode ∙ ok) x.answer x.mounts x.tables refl same
+      (λ b fd o h on. handle-beside c k p _ refl x.stays x.hidden o h) (files-kept m.layers new s st.layers c k m.clients live leaves)
 
   -- so is a symlink
   pub symlink-done : (c : ℕ) (target : List ℕ) (p : Path) → symlink_fault Ls target p ≡ None → new.lowers ≡ m.layers.lowers → MakesLink V (lowers_of new) s c target p → KeepsLive m.layers new (call.Symlink target p) → KeepsLeaves (call.Symlink target p) → Serves (refusal s c (call.Symlink target p)) s c (call.Symlink target p) reply.Done (record m { layers = new })
   symlink-done c target p ok same x live leaves =
       let k = call.Symlink target p in
-      let files = files-kept m.layers new s st.layers c k m.clients live leaves in
-      let tables = tables-after c k same (λ b fd o h on. handle-beside c k p _ refl x.stays x.hidden o h) files in
-      serve-done _ s c k reply.Done _ (law_of_symlink U lowers s st.layers c target p ∙ ok) (sym x.answer) (state-after c k m.clients x.mounts x.tables refl tables st.one refl)
+      done c k (law_of_symlink U lowers s st.layers c target p ∙ ok) x.answer x.mounts x.tables refl same
+      (λ b fd o h on. handle-beside c k p _ refl x.stays x.hidden o h) (files-kept m.layers new s st.layers c k m.clients live leaves)
 
   -- no directory is open at the path of a file or link
   not-there : (p : Path) → unlink_fault Ls p ≡ None → (l : Location) (d : NodeId) → Stands s.tree l d → is_folder (s.tree d) ≡ true → l ≢ At p
@@ -291,10 +294,9 @@ module _ (m : Mount) (s : State) (st : IsStateOf m s) (new : Layers) where
   pub unlink-done : (c : ℕ) (p : Path) → unlink_fault Ls p ≡ None → new.lowers ≡ m.layers.lowers → Removes V (lowers_of new) s c p (call.Unlink p) → AreCounted m.clients → KeepsHeld m.clients m.layers new (call.Unlink p) → KeepsHeldLeaves (call.Unlink p) → Serves (refusal s c (call.Unlink p)) s c (call.Unlink p) reply.Done (record m { layers = new })
   unlink-done c p ok same x counted live leaves =
       let k = call.Unlink p in
-      let apart = handle-apart s c p k V (lowers_of new) x m.clients.directories in
-      let files = files-held m.layers new s st.layers c k m.clients live leaves counted in
-      let tables = tables-after c k same (λ b fd o h on is. apart b fd o h on is (not-there p ok is.location h.node is.stands is.directory)) files in
-      serve-done _ s c k reply.Done _ (law_of_unlink U lowers s st.layers c p ∙ ok) (sym x.answer) (state-after c k m.clients x.mounts x.tables refl tables st.one refl)
+      done c k (law_of_unlink U lowers s st.layers c p ∙ ok) x.answer x.mounts x.tables refl same
+      (λ b fd o h on is. handle-apart s c p k V (lowers_of new) x m.clients.directories b fd o h on is (not-there p ok is.location h.node is.stands is.directory))
+      (files-held m.layers new s st.layers c k m.clients live leaves counted)
 
   -- the node at the path of a directory that is shown has its attributes
   folder-has : (p : Path) (a : Attributes) → HasAttributes Ls p a → (e : NodeId) → node_at s.tree p ≡ Some e → folder_attributes (s.tree e) ≡ Some a

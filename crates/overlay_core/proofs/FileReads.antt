@@ -41,7 +41,7 @@ use Rattle.overlay_core.proofs.Answering.{serve-refused, serve-done, walk-none}
 use Rattle.overlay_core.proofs.Directories.{seen, shown-directory, shown-attributes}
 use Rattle.overlay_core.proofs.FileSight.{Sees, file-sees, file-not-folder}
 use Rattle.overlay_core.proofs.Seeking.{AreBytes, bytes-read}
-use Rattle.overlay_core.proofs.Slots.{file-open, file-at, directory-at, handle-none, place-moved}
+use Rattle.overlay_core.proofs.Slots.{file-open, file-at, directory-at, by-opened, place-moved}
 
 -- the reply that a status is told by, or its refusal
 abbrev pub status_reply : Result Stat Errno → Reply
@@ -102,17 +102,11 @@ module _ (m : Mount) (s : State) (st : IsStateOf m s) (c d : ℕ) where
 
     -- why a read is refused
     read-refusal : refusal s c (call.Read d n) ≡ read_fault (opened_by m.clients c d) n
-    read-refusal = by (opened_by m.clients c d) refl
-      where
-        by : (o : Option handles.Handle) → opened_by m.clients c d ≡ o → refusal s c (call.Read d n) ≡ read_fault o n
-        by None is = (law_of_unopened s c d (handle-none m s st c d is)).reading n
-        by (Some (File f)) is =
-            let x = file-at m s st c d f is in
-            let law : ReadsFile s c d x.0 = law_of_read s c d x.0 x.1 (file-not-folder U lowers s.tree f x.0 x.2) in
-            law.refused n ∙ ap (λ b. or_else (when (nat_lt TRANSFER_MAX n) errno.EINVAL) (when (not b) errno.EBADF)) x.2.reads
-        by (Some (Directory o)) is =
-            let x = directory-at m s st c d o is in
-            (law_of_directory_handle s c d x.0 x.1 x.2.directory).reading n
+    read-refusal =
+        by-opened m s st c d (λ o. refusal s c (call.Read d n) ≡ read_fault o n)
+        (λ none. (law_of_unopened s c d none).reading n)
+        (λ f h on is. (law_of_read s c d h on (file-not-folder U lowers s.tree f h is)).refused n ∙ ap (λ b. or_else (when (nat_lt TRANSFER_MAX n) errno.EINVAL) (when (not b) errno.EBADF)) is.reads)
+        (λ o h on is. (law_of_directory_handle s c d h on is.directory).reading n)
 
     -- it is refused so
     pub read-refused : (e : Errno) → read_fault (opened_by m.clients c d) n ≡ Some e → Reads (reply.Refused e) m

@@ -34,7 +34,7 @@ use Rattle.overlay_core.specs.Opening.{seek_fault, seek_place}
 use Rattle.overlay_core.specs.States.{IsStateOf, Serves}
 use Rattle.overlay_core.proofs.Answering.{serve-refused, serve-done}
 use Rattle.overlay_core.proofs.FileSight.{Sees, file-sees, file-not-folder}
-use Rattle.overlay_core.proofs.Slots.{opened-after, slot-becomes, file-open, file-at, directory-at, handle-none, state-set, place-moved}
+use Rattle.overlay_core.proofs.Slots.{opened-after, slot-becomes, file-open, file-at, directory-at, by-opened, state-set, place-moved}
 
 -- these are the bytes of an open file
 abbrev pub AreBytes : Layers → FileSource → List ℕ → Type 0
@@ -100,15 +100,17 @@ module _ (m : Mount) (s : State) (st : IsStateOf m s) (c d : ℕ) where
 
     -- a seek that is told by what is open alone is refused so
     pub seek-refused : (e : Errno) → seek_fault (opened_by m.clients c d) offset whence ≡ Some e → Sought (reply.Refused e) m
-    seek-refused e h = serve-refused _ s c _ e m (by (opened_by m.clients c d) refl h) st
+    seek-refused e fault =
+        serve-refused _ s c _ e m
+        (by-opened m s st c d (λ o. seek_fault o offset whence ≡ Some e → refusal s c (call.Seek d offset whence) ≡ Some e)
+        (λ none g. (law_of_bad_descriptors s c d none).seeking offset whence ∙ g)
+        (λ f h on is g. absurd (no-fault g))
+        (λ o h on is g. (law_of_seek s c d h on is.directory).refused offset whence ∙ g)
+        fault)
+        st
       where
-        by : (o : Option handles.Handle) → opened_by m.clients c d ≡ o → seek_fault o offset whence ≡ Some e → refusal s c (call.Seek d offset whence) ≡ Some e
-        by None is g = (law_of_bad_descriptors s c d (handle-none m s st c d is)).seeking offset whence ∙ g
-        by (Some (File f)) is g = cc
-        by (Some (Directory o)) is g =
-            let x = directory-at m s st c d o is in
-            let law : Seeks s c d x.0 = law_of_seek s c d x.0 x.1 x.2.directory in
-            law.refused offset whence ∙ g
+        no-fault : None ≡ Some e → ⊥
+        no-fault g = cc
 
     -- seeks in an open file of these bytes
     module _ (f : OpenFile) (is : file_by m.clients c d ≡ Some f) (bytes : List ℕ) (are : AreBytes m.layers f.source bytes) where

@@ -92,6 +92,15 @@ module _ (m : Mount) (s : State) (st : IsStateOf m s) where
     pub handle-none : opened_by m.clients c d ≡ None → handle_of s.tables c d ≡ None
     handle-none e = slot-closed alike _ _ (st.tables.slots c d) e
 
+    -- what holds where nothing is open, where a file is, and where a directory is
+    pub by-opened : (P : Option handles.Handle → Type 0) → (handle_of s.tables c d ≡ None → P None) → ((f : OpenFile) (h : Handle) → handle_of s.tables c d ≡ Some h → IsFile U lowers s.tree f h → P (Some (File f))) → ((o : OpenDirectory) (h : Handle) → handle_of s.tables c d ≡ Some h → IsHandle s.tree m.clients.directories o h → P (Some (Directory o))) → P (opened_by m.clients c d)
+    by-opened P none file directory = by (opened_by m.clients c d) refl
+      where
+        by : (o : Option handles.Handle) → opened_by m.clients c d ≡ o → P o
+        by None is = none (handle-none is)
+        by (Some (File f)) is = let x = file-at f is in file f x.0 x.1 x.2
+        by (Some (Directory o)) is = let x = directory-at o is in directory o x.0 x.1 x.2
+
     module _ (h : Handle) (on : handle_of s.tables c d ≡ Some h) where
       -- a descriptor is set on both sides, alike, and to a file of the upper only where it led to the same
       pub state-set : (new : Mount) → new.layers ≡ m.layers → (o : Option handles.Handle) (x : Option Handle) → ChangesClient m.clients new.clients c (λ b y. SetsSlot b y d o) → ((f : OpenFile) (z : Handle) (k : ℕ) → o ≡ Some (File f) → x ≡ Some z → f.source ≡ Upper k → IsOpenOn m.clients s.tables k z.node) → IsSlot (Alike m.layers s new.clients) o x → IsStateOf new (record s { tables = with_handle s.tables c d x })

@@ -43,7 +43,7 @@ use Rattle.overlay_core.specs.Opening.{truncate_fault, write_fault, written_key}
 use Rattle.overlay_core.specs.States.{IsStateOf, Serves}
 use Rattle.overlay_core.proofs.Answering.{serve-done, serve-refused}
 use Rattle.overlay_core.proofs.Rewritten.{state-rewritten}
-use Rattle.overlay_core.proofs.Slots.{file-open, file-at, directory-at, handle-none, place-moved}
+use Rattle.overlay_core.proofs.Slots.{file-open, file-at, by-opened, place-moved}
 
 -- where every path holds what it held, no whiteout is needless that was needed
 pub thin-held : (old new : Layers) → new.lowers ≡ old.lowers → SameObjects (layer_of old.upper) (layer_of new.upper) → StaysThin old new
@@ -184,17 +184,11 @@ module _ (m : Mount) (s : State) (st : IsStateOf m s) (c d : ℕ) where
 
     -- why a truncation is refused
     truncate-refusal : refusal s c (call.Truncate d size) ≡ truncate_fault (opened_by m.clients c d) size
-    truncate-refusal = by (opened_by m.clients c d) refl
-      where
-        by : (o : Option handles.Handle) → opened_by m.clients c d ≡ o → refusal s c (call.Truncate d size) ≡ truncate_fault o size
-        by None is = (law_of_unopened s c d (handle-none m s st c d is)).sizing size
-        by (Some (File f)) is =
-            let x = file-at m s st c d f is in
-            let law : TruncatesFile s c d x.0 = law_of_truncate s c d x.0 x.1 in
-            law.refused size ∙ ap (λ b. or_else (when b errno.EINVAL) (when (nat_lt FILE_MAX size) errno.EFBIG)) (not-writing U lowers s.tree f x.0 x.2)
-        by (Some (Directory o)) is =
-            let x = directory-at m s st c d o is in
-            (law_of_directory_handle s c d x.0 x.1 x.2.directory).sizing (ap (λ (z : Handle). z.writes) x.2.access) size
+    truncate-refusal =
+        by-opened m s st c d (λ o. refusal s c (call.Truncate d size) ≡ truncate_fault o size)
+        (λ none. (law_of_unopened s c d none).sizing size)
+        (λ f h on is. (law_of_truncate s c d h on).refused size ∙ ap (λ b. or_else (when b errno.EINVAL) (when (nat_lt FILE_MAX size) errno.EFBIG)) (not-writing U lowers s.tree f h is))
+        (λ o h on is. (law_of_directory_handle s c d h on is.directory).sizing (ap (λ (z : Handle). z.writes) is.access) size)
 
     -- it is refused so
     pub truncate-refused : (e : Errno) → truncate_fault (opened_by m.clients c d) size ≡ Some e → Truncates (reply.Refused e) m
@@ -242,16 +236,14 @@ module _ (m : Mount) (s : State) (st : IsStateOf m s) (c d : ℕ) where
 
     -- a write is refused so before its place is asked for
     pub write-refused : (e : Errno) → write_fault (opened_by m.clients c d) (length bytes) ≡ Some e → Writes (reply.Refused e) m
-    write-refused e h = serve-refused _ s c _ e m (by (opened_by m.clients c d) refl h) st
-      where
-        by : (o : Option handles.Handle) → opened_by m.clients c d ≡ o → write_fault o (length bytes) ≡ Some e → refusal s c (call.Write d bytes) ≡ Some e
-        by None is g = (law_of_unopened s c d (handle-none m s st c d is)).writing bytes ∙ g
-        by (Some (File f)) is g =
-            let x = file-at m s st c d f is in
-            faults f x.0 x.1 x.2 ∙ first-of (when (nat_lt TRANSFER_MAX (length bytes)) errno.EINVAL) (when (is_none (written_key f)) errno.EBADF) (room_fault (length bytes) (write_start s x.0)) e g
-        by (Some (Directory o)) is g =
-            let x = directory-at m s st c d o is in
-            (law_of_directory_handle s c d x.0 x.1 x.2.directory).writing (ap (λ (z : Handle). z.writes) x.2.access) bytes ∙ g
+    write-refused e fault =
+        serve-refused _ s c _ e m
+        (by-opened m s st c d (λ o. write_fault o (length bytes) ≡ Some e → refusal s c (call.Write d bytes) ≡ Some e)
+        (λ none g. (law_of_unopened s c d none).writing bytes ∙ g)
+        (λ f h on is g. faults f h on is ∙ first-of (when (nat_lt TRANSFER_MAX (length bytes)) errno.EINVAL) (when (is_none (written_key f)) errno.EBADF) (room_fault (length bytes) (write_start s h)) e g)
+        (λ o h on is g. (law_of_directory_handle s c d h on is.directory).writing (ap (λ (z : Handle). z.writes) is.access) bytes ∙ g)
+        fault)
+        st
 
     -- one that isn't
     module _ (f : OpenFile) (is : file_by m.clients c d ≡ Some f) (good : write_fault (opened_by m.clients c d) (length bytes) ≡ None) where
