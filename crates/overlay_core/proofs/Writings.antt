@@ -19,6 +19,7 @@ use Rattle.plain_model.specs.Refusals.{FILE_MAX, TRANSFER_MAX, when, refusal}
 use Rattle.plain_model.specs.Changes.{after, change, fitting, over_node, sized, with_bytes, with_handle, wrote}
 use Rattle.plain_model.proofs.Uppers.{agree-where, under-agree}
 use Rattle.layer_tree.specs.Tree.{SameObjects, SameTree, bytes_at, file_bytes, layer_of, written}
+use Rattle.layer_tree.specs.Tree.{Tree as LayerTree}
 use Rattle.merged_lookup.specs.declared.layers.Layers.{Layers}
 use Rattle.merged_lookup.specs.Merged.{lowers_of}
 use Rattle.mount_laws.specs.Descriptors.{TruncatesFile, WritesFile, resized, write_start}
@@ -27,8 +28,7 @@ use Rattle.mount_laws.specs.OpenFiles.{IsLive, rewritten}
 use Rattle.mount_laws.proofs.Descriptors.{law_of_directory_handle, law_of_truncate, law_of_unopened, law_of_write}
 use Rattle.copy_up.specs.Showing.{StaysLayers, StaysMount, StaysThin}
 use Rattle.copy_up.proofs.Keeping.{lowers-same, mounts-alike}
-use Rattle.open_handles.specs.declared.handle.Handle as handles
-use Rattle.open_handles.specs.declared.handle.Handle.TheVariants.{Directory, File}
+use Rattle.open_handles.specs.declared.handle.Handle.TheVariants.{File}
 use Rattle.open_handles.specs.declared.open_file.FileSource.{FileSource}
 use Rattle.open_handles.specs.declared.open_file.FileSource.TheVariants.{Upper, Lower}
 use Rattle.open_handles.specs.declared.open_file.OpenFile.{OpenFile}
@@ -46,7 +46,7 @@ use Rattle.overlay_core.proofs.Rewritten.{state-rewritten}
 use Rattle.overlay_core.proofs.Slots.{file-open, file-at, by-opened, place-moved}
 
 -- where every path holds what it held, no whiteout is needless that was needed
-pub thin-held : (old new : Layers) → new.lowers ≡ old.lowers → SameObjects (layer_of old.upper) (layer_of new.upper) → StaysThin old new
+thin-held : (old new : Layers) → new.lowers ≡ old.lowers → SameObjects (layer_of old.upper) (layer_of new.upper) → StaysThin old new
 thin-held old new low same thin =
     subst (IsThin V) (sym (lowers-same old new low))
     (λ n p is. ap is_some (under-agree U V (lowers_of old) n p (agree-where U V (λ q. Unit {0}) (λ name q h. tt) (λ q h. same q) p tt)) ∙ thin n p (sym (same (n ∷ p)) ∙ is))
@@ -57,10 +57,18 @@ thin-held old new low same thin =
     V : Layer
     V = layer_of new.upper
 
--- a change of the upper that wants memory leaves the mount of each state
-pub mounts-unwritten : (old new : Layers) (r : Result (Unit {0}) AllocError) → new.lowers ≡ old.lowers → SameObjects (layer_of old.upper) (layer_of new.upper) → (IsLayer (layer_of old.upper) → IsLayer (layer_of new.upper)) → OnErr r (SameTree old.upper new.upper) → OnErr r (StaysMount old new)
-mounts-unwritten old new (Ok x) low same keep tree = tt
-mounts-unwritten old new (Err e) low same keep tree = mounts-alike old new low same (λ p k h. tree.inodes k) keep
+-- a write to the upper that leaves what each path holds leaves it thin, and where it wants memory, the mount of each state
+pub upper-written : (l : Layers) (u new : LayerTree) (r : Result (Unit {0}) AllocError) → l.upper ≡ u → SameObjects (layer_of u) (layer_of new) → (IsLayer (layer_of u) → IsLayer (layer_of new)) → OnErr r (SameTree u new) → StaysThin l (record l { upper = new }) × OnErr r (StaysMount l (record l { upper = new }))
+upper-written l u new r is objects keeps same = (thin-held l (record l { upper = new }) refl held, by r same)
+  where
+    held : SameObjects (layer_of l.upper) (layer_of new)
+    held = subst (λ (z : LayerTree). SameObjects (layer_of z) (layer_of new)) (sym is) objects
+
+    by : (x : Result (Unit {0}) AllocError) → OnErr x (SameTree u new) → OnErr x (StaysMount l (record l { upper = new }))
+    by (Ok x) tree = tt
+    by (Err e) tree =
+        mounts-alike l (record l { upper = new }) refl held (λ p k h. tree.inodes k ∙ sym (ap (λ (z : LayerTree). (layer_of z).inodes k) is))
+        (subst (λ (z : LayerTree). IsLayer (layer_of z) → IsLayer (layer_of new)) (sym is) keeps)
 
 -- a file that has a key to write to is of the upper
 upper-key : (f : OpenFile) → is_none (written_key f) ≡ false → (k : ℕ) × (f.source ≡ Upper k)
