@@ -18,8 +18,6 @@ use Rattle.plain_model.specs.Machine.{Handle, State, Look, Found, Absent, Fails,
 use Rattle.plain_model.specs.Refusals.{there, refusal}
 use Rattle.plain_model.specs.Changes.{after, names_in, listing, listed_on}
 use Rattle.plain_model.specs.Replies.{reply_of}
-use Rattle.layer_tree.specs.Tree.{layer_of}
-use Rattle.merged_lookup.specs.Merged.{layers_of, lowers_of}
 use Rattle.mount_laws.specs.Looks.{or_else, absent, parents_fault, walk_fault, shown_status, Stats, Lists}
 use Rattle.mount_laws.specs.Removed.{ListsRemoved}
 use Rattle.mount_laws.proofs.Looks.{is_present, present, law_of_walks, law_of_stat}
@@ -40,7 +38,7 @@ use Rattle.overlay_core.specs.States.{IsLeft, Stands, IsHandle, IsStateOf, Stays
 use Rattle.overlay_core.proofs.Directories.{Turns, shown-directory, turns}
 use Rattle.overlay_core.proofs.FileSight.{file-not-folder}
 use Rattle.overlay_core.proofs.Slots.{changes-as, opened-after, directory-at, by-opened, state-set}
-use Rattle.overlay_core.proofs.Stating.{keep-state}
+use Rattle.overlay_core.proofs.Stating.{the_layers, the_lowers, the_upper, keep-state}
 
 -- a refusal answers as the machine does, where it refuses so
 pub serve-refused : (o : Option Errno) (s : State) (c : ℕ) (k : Call) (e : Errno) (new : Mount) → o ≡ Some e → IsStateOf new s → Serves o s c k (reply.Refused e) new
@@ -107,45 +105,36 @@ unrefused-list (Some (File f)) n h = cc
 unrefused-list (Some (Directory x)) n h = refl
 
 module _ (m : Mount) (s : State) (st : IsStateOf m s) (c : ℕ) where
-  abbrev Ls : List Layer
-  Ls = layers_of m.layers
-
-  abbrev U : Layer
-  U = layer_of m.layers.upper
-
-  abbrev lowers : List Layer
-  lowers = lowers_of m.layers
-
   -- what is shown at a path is there
-  pub here : (p : Path) → is_present (shows 0 Ls p) ≡ true
-  here p = present 0 Ls st.layers.layers p
+  pub here : (p : Path) → is_present (shows 0 (the_layers m) p) ≡ true
+  here p = present 0 (the_layers m) st.layers.layers p
 
   -- a walk to a directory that is shown is not refused
-  pub walk-none : (p : Path) → is_directory (shows 0 Ls p) ≡ true → walk_fault Ls p ≡ None
+  pub walk-none : (p : Path) → is_directory (shows 0 (the_layers m) p) ≡ true → walk_fault (the_layers m) p ≡ None
   walk-none p h =
-      let w = law_of_walks U lowers s st.layers p in
-      sym w.to_last ∙ there-found (look s.tree p) (w.finds ∙ directory-some (shows 0 Ls p) h)
+      let w = law_of_walks (the_upper m) (the_lowers m) s st.layers p in
+      sym w.to_last ∙ there-found (look s.tree p) (w.finds ∙ directory-some (shows 0 (the_layers m) p) h)
 
   -- stat answers the status that is shown
-  pub stat-ok : (p : Path) (a : Stat) → Ok a ≡ stat_at Ls p → Serves (refusal s c (call.Stat p)) s c (call.Stat p) (reply.Status a) m
-  stat-ok p a h = by (walk_fault Ls p) refl h
+  pub stat-ok : (p : Path) (a : Stat) → Ok a ≡ stat_at (the_layers m) p → Serves (refusal s c (call.Stat p)) s c (call.Stat p) (reply.Status a) m
+  stat-ok p a h = by (walk_fault (the_layers m) p) refl h
     where
-      law : Stats Ls s c p
-      law = law_of_stat U lowers s st.layers c p
+      law : Stats (the_layers m) s c p
+      law = law_of_stat (the_upper m) (the_lowers m) s st.layers c p
 
-      by : (w : Option Errno) → walk_fault Ls p ≡ w → Ok a ≡ unless_refused w (stat_shown (shows 0 Ls p)) → Serves (refusal s c (call.Stat p)) s c (call.Stat p) (reply.Status a) m
-      by None e g = serve-done _ s c (call.Stat p) _ m (law.refused ∙ e) (ap reply.Status (sym (status-shown (shows 0 Ls p) a (here p) (sym g))) ∙ sym (law.answer e)) st
+      by : (w : Option Errno) → walk_fault (the_layers m) p ≡ w → Ok a ≡ unless_refused w (stat_shown (shows 0 (the_layers m) p)) → Serves (refusal s c (call.Stat p)) s c (call.Stat p) (reply.Status a) m
+      by None e g = serve-done _ s c (call.Stat p) _ m (law.refused ∙ e) (ap reply.Status (sym (status-shown (shows 0 (the_layers m) p) a (here p) (sym g))) ∙ sym (law.answer e)) st
       by (Some d) e g = cc
 
   -- and its refusal
-  pub stat-err : (p : Path) (d : Errno) → Err d ≡ stat_at Ls p → Serves (refusal s c (call.Stat p)) s c (call.Stat p) (reply.Refused d) m
-  stat-err p d h = by (walk_fault Ls p) refl h
+  pub stat-err : (p : Path) (d : Errno) → Err d ≡ stat_at (the_layers m) p → Serves (refusal s c (call.Stat p)) s c (call.Stat p) (reply.Refused d) m
+  stat-err p d h = by (walk_fault (the_layers m) p) refl h
     where
-      law : Stats Ls s c p
-      law = law_of_stat U lowers s st.layers c p
+      law : Stats (the_layers m) s c p
+      law = law_of_stat (the_upper m) (the_lowers m) s st.layers c p
 
-      by : (w : Option Errno) → walk_fault Ls p ≡ w → Err d ≡ unless_refused w (stat_shown (shows 0 Ls p)) → Serves (refusal s c (call.Stat p)) s c (call.Stat p) (reply.Refused d) m
-      by None e g = absurd (no-status (parents_fault Ls p) (shows 0 Ls p) d (here p) e (sym g))
+      by : (w : Option Errno) → walk_fault (the_layers m) p ≡ w → Err d ≡ unless_refused w (stat_shown (shows 0 (the_layers m) p)) → Serves (refusal s c (call.Stat p)) s c (call.Stat p) (reply.Refused d) m
+      by None e g = absurd (no-status (parents_fault (the_layers m) p) (shows 0 (the_layers m) p) d (here p) e (sym g))
       by (Some x) e g =
           let same : x ≡ d = cc in
           serve-refused _ s c (call.Stat p) d m (law.refused ∙ e ∙ ap Some same) st
@@ -155,8 +144,8 @@ module _ (m : Mount) (s : State) (st : IsStateOf m s) (c : ℕ) where
   refused-list d n =
       by-opened m s st c d (λ o. refusal s c (call.ListNames d n) ≡ list_fault o n)
       (λ none. (law_of_bad_descriptors s c d none).listing n)
-      (λ f h on is. (law_of_file_list s c d h on (file-not-folder U lowers s.tree f h is)).refused n)
-      (λ o h on is. (turns U lowers s st.layers c d m.clients.directories o h on is).refused n)
+      (λ f h on is. (law_of_file_list s c d h on (file-not-folder (the_upper m) (the_lowers m) s.tree f h is)).refused n)
+      (λ o h on is. (turns (the_upper m) (the_lowers m) s st.layers c d m.clients.directories o h on is).refused n)
 
   -- a list that is refused
   pub list-refused : (d n : ℕ) (e : Errno) → list_fault (opened_by m.clients c d) n ≡ Some e → Serves (refusal s c (call.ListNames d n)) s c (call.ListNames d n) (reply.Refused e) m
@@ -192,20 +181,20 @@ module _ (m : Mount) (s : State) (st : IsStateOf m s) (c : ℕ) where
       now = listing s.tree h
 
       law : Turns s c d h
-      law = turns U lowers s st.layers c d m.clients.directories o h x.1 x.2
+      law = turns (the_upper m) (the_lowers m) s st.layers c d m.clients.directories o h x.1 x.2
 
       -- the names of the directory are those of a new listing
-      alone : (l : Location) → Stands s.tree l h.node → h.listed ≡ None → (names : List Name) → AreNamesIn Ls (path_in l) names → names ≡ now
+      alone : (l : Location) → Stands s.tree l h.node → h.listed ≡ None → (names : List Name) → AreNamesIn (the_layers m) (path_in l) names → names ≡ now
       alone (At p) at none names are =
-          let dir = shown-directory U lowers s st.layers p h.node at x.2.directory in
-          let lists : Lists Ls s c d p h = law_of_list U lowers s st.layers c d p dir h (record { handle = x.1; at = at }) in
+          let dir = shown-directory (the_upper m) (the_lowers m) s st.layers p h.node at x.2.directory in
+          let lists : Lists (the_layers m) s c d p h = law_of_list (the_upper m) (the_lowers m) s st.layers c d p dir h (record { handle = x.1; at = at }) in
           lists.alone none names (are dir (walk-none p dir))
       alone (Removed a) gone none names are =
           let lists : ListsRemoved s c d h = law_of_list_removed s c d h x.1 x.2.directory gone.empty in
           are ∙ sym (lists.empty none)
 
       left : pages.left ≡ drop h.place now
-      left = left-is Ls (path_of m.clients o) o.listing h.listed h.place (names_in (s.tree h.node)) pages.left pages.from x.2.left (λ none names are. alone x.2.location x.2.stands none names (subst (λ z. AreNamesIn Ls z names) (ap (option_and_then path_in) x.2.located) are))
+      left = left-is (the_layers m) (path_of m.clients o) o.listing h.listed h.place (names_in (s.tree h.node)) pages.left pages.from x.2.left (λ none names are. alone x.2.location x.2.stands none names (subst (λ z. AreNamesIn (the_layers m) z names) (ap (option_and_then path_in) x.2.located) are))
 
 -- a page that wanted memory
 pub page-failed : (m : Mount) (new : Clients) (c d n : ℕ) (r : Result (List Name) AllocError) → ChangesClient m.clients new c (λ x y. GivesNames x y d n r) → OnErr r (StaysState m (record m { clients = new }))

@@ -24,7 +24,7 @@ use Rattle.plain_model.proofs.Paths.{ids_tell, paths_tell}
 use Rattle.layer_tree.specs.Tree.{layer_of}
 use Rattle.copy_up.specs.Showing.{StaysMount}
 use Rattle.merged_lookup.specs.declared.layers.Layers.{Layers}
-use Rattle.merged_lookup.specs.Merged.{layers_of, lowers_of}
+use Rattle.merged_lookup.specs.Merged.{lowers_of}
 use Rattle.mount_laws.specs.Looks.{or_else, walk_fault, IsMountOf, KeepsHidden, Makes, mkdir_fault}
 use Rattle.mount_laws.specs.Leaves.{MakesLink, symlink_fault}
 use Rattle.mount_laws.specs.Removals.{folder_attributes, Removes, unlink_fault, rmdir_fault, ShowsNoName}
@@ -50,7 +50,7 @@ use Rattle.overlay_core.specs.States.{Stands, IsHandle, AreTables, AreUnwatched,
 use Rattle.overlay_core.proofs.Answering.{on-err, serve-refused, serve-done}
 use Rattle.overlay_core.proofs.Counting.{below-find}
 use Rattle.overlay_core.proofs.Serving.{slot-as, slot-open, handle-now, removed-same, one-fewer}
-use Rattle.overlay_core.proofs.Stating.{Alike}
+use Rattle.overlay_core.proofs.Stating.{the_layers, the_lowers, the_upper, Alike}
 use Rattle.overlay_core.proofs.Carrying.{AreCounted, CarriesFiles, tables-on, state-stays, files-kept, files-held}
 use Rattle.overlay_core.proofs.Directories.{seen, shown-attributes, shown-directory}
 
@@ -202,15 +202,6 @@ pub rmdir-walks : (Ls : List Layer) (p : Path) → rmdir_fault Ls p false ≡ No
 rmdir-walks Ls p ok = unrefused-rmdir (is_root p) (walk_fault Ls p) (is_directory (shows 0 Ls p)) ok
 
 module _ (m : Mount) (s : State) (st : IsStateOf m s) (new : Layers) where
-  abbrev U : Layer
-  U = layer_of m.layers.upper
-
-  abbrev lowers : List Layer
-  lowers = lowers_of m.layers
-
-  abbrev Ls : List Layer
-  Ls = layers_of m.layers
-
   abbrev V : Layer
   V = layer_of new.upper
 
@@ -223,7 +214,7 @@ module _ (m : Mount) (s : State) (st : IsStateOf m s) (new : Layers) where
   free = st.layers.kept.unused s.serial (omega arith)
 
   -- the tables after a call, where open directories and open files stay
-  tables-after : (c : ℕ) (k : Call) → new.lowers ≡ m.layers.lowers → ((b fd : ℕ) (o : OpenDirectory) (h : Handle) → handle_of s.tables b fd ≡ Some h → IsHandle s.tree m.clients.directories o h → IsHandle (after s c k).tree m.clients.directories o h) → CarriesFiles U V s.tree (after s c k).tree m.clients s.tables → AreTables (Alike new (after s c k) m.clients) m.clients s.tables
+  tables-after : (c : ℕ) (k : Call) → new.lowers ≡ m.layers.lowers → ((b fd : ℕ) (o : OpenDirectory) (h : Handle) → handle_of s.tables b fd ≡ Some h → IsHandle s.tree m.clients.directories o h → IsHandle (after s c k).tree m.clients.directories o h) → CarriesFiles (the_upper m) V s.tree (after s c k).tree m.clients s.tables → AreTables (Alike new (after s c k) m.clients) m.clients s.tables
   tables-after c k same directories files = tables-on m.layers new s.tree (after s c k).tree m.clients s.tables same st.tables m.clients.directories directories files
 
   -- the state after a call that sets no descriptor and no watch
@@ -237,7 +228,7 @@ module _ (m : Mount) (s : State) (st : IsStateOf m s) (new : Layers) where
   }
 
   -- a call that isn't refused is served, where open directories and open files stay
-  done : (c : ℕ) (k : Call) → refusal s c k ≡ None → reply_of s c k ≡ reply.Done → IsMountOf V (lowers_of new) (after s c k) → (after s c k).tables ≡ s.tables → (after s c k).instances ≡ s.instances → new.lowers ≡ m.layers.lowers → ((b fd : ℕ) (o : OpenDirectory) (h : Handle) → handle_of s.tables b fd ≡ Some h → IsHandle s.tree m.clients.directories o h → IsHandle (after s c k).tree m.clients.directories o h) → CarriesFiles U V s.tree (after s c k).tree m.clients s.tables → Serves (refusal s c k) s c k reply.Done (record m { layers = new })
+  done : (c : ℕ) (k : Call) → refusal s c k ≡ None → reply_of s c k ≡ reply.Done → IsMountOf V (lowers_of new) (after s c k) → (after s c k).tables ≡ s.tables → (after s c k).instances ≡ s.instances → new.lowers ≡ m.layers.lowers → ((b fd : ℕ) (o : OpenDirectory) (h : Handle) → handle_of s.tables b fd ≡ Some h → IsHandle s.tree m.clients.directories o h → IsHandle (after s c k).tree m.clients.directories o h) → CarriesFiles (the_upper m) V s.tree (after s c k).tree m.clients s.tables → Serves (refusal s c k) s c k reply.Done (record m { layers = new })
   done c k ok answer mounts tables still same directories files =
       serve-done _ s c k reply.Done _ ok (sym answer) (state-after c k m.clients mounts tables still (tables-after c k same directories files) st.one refl)
 
@@ -261,64 +252,64 @@ module _ (m : Mount) (s : State) (st : IsStateOf m s) (new : Layers) where
       m.clients.directories o h
 
   -- a mkdir that isn't refused is served
-  pub mkdir-done : (c : ℕ) (p : Path) (mode : ℕ) → mkdir_fault Ls p mode ≡ None → new.lowers ≡ m.layers.lowers → Makes V (lowers_of new) s c p mode → KeepsLive m.layers new (call.Mkdir p mode) → KeepsLeaves (call.Mkdir p mode) → Serves (refusal s c (call.Mkdir p mode)) s c (call.Mkdir p mode) reply.Done (record m { layers = new })
+  pub mkdir-done : (c : ℕ) (p : Path) (mode : ℕ) → mkdir_fault (the_layers m) p mode ≡ None → new.lowers ≡ m.layers.lowers → Makes V (lowers_of new) s c p mode → KeepsLive m.layers new (call.Mkdir p mode) → KeepsLeaves (call.Mkdir p mode) → Serves (refusal s c (call.Mkdir p mode)) s c (call.Mkdir p mode) reply.Done (record m { layers = new })
   mkdir-done c p mode ok same x live leaves =
       let k = call.Mkdir p mode in
-      done c k (law_of_mkdir U lowers s st.layers c p mode ∙ ok) x.answer x.mounts x.tables refl same
+      done c k (law_of_mkdir (the_upper m) (the_lowers m) s st.layers c p mode ∙ ok) x.answer x.mounts x.tables refl same
       (λ b fd o h on. handle-beside c k p _ refl x.stays x.hidden o h) (files-kept m.layers new s st.layers c k m.clients live leaves)
 
   -- so is a symlink
-  pub symlink-done : (c : ℕ) (target : List ℕ) (p : Path) → symlink_fault Ls target p ≡ None → new.lowers ≡ m.layers.lowers → MakesLink V (lowers_of new) s c target p → KeepsLive m.layers new (call.Symlink target p) → KeepsLeaves (call.Symlink target p) → Serves (refusal s c (call.Symlink target p)) s c (call.Symlink target p) reply.Done (record m { layers = new })
+  pub symlink-done : (c : ℕ) (target : List ℕ) (p : Path) → symlink_fault (the_layers m) target p ≡ None → new.lowers ≡ m.layers.lowers → MakesLink V (lowers_of new) s c target p → KeepsLive m.layers new (call.Symlink target p) → KeepsLeaves (call.Symlink target p) → Serves (refusal s c (call.Symlink target p)) s c (call.Symlink target p) reply.Done (record m { layers = new })
   symlink-done c target p ok same x live leaves =
       let k = call.Symlink target p in
-      done c k (law_of_symlink U lowers s st.layers c target p ∙ ok) x.answer x.mounts x.tables refl same
+      done c k (law_of_symlink (the_upper m) (the_lowers m) s st.layers c target p ∙ ok) x.answer x.mounts x.tables refl same
       (λ b fd o h on. handle-beside c k p _ refl x.stays x.hidden o h) (files-kept m.layers new s st.layers c k m.clients live leaves)
 
   -- no directory is open at the path of a file or link
-  not-there : (p : Path) → unlink_fault Ls p ≡ None → (l : Location) (d : NodeId) → Stands s.tree l d → is_folder (s.tree d) ≡ true → l ≢ At p
+  not-there : (p : Path) → unlink_fault (the_layers m) p ≡ None → (l : Location) (d : NodeId) → Stands s.tree l d → is_folder (s.tree d) ≡ true → l ≢ At p
   not-there p ok l d stands f e =
-      let none : is_directory (shows 0 Ls p) ≡ false = unlinked-none (is_root p) (walk_fault Ls p) (is_directory (shows 0 Ls p)) ok in
-      false≢true (sym none ∙ shown-directory U lowers s st.layers p d (subst (λ z. Stands s.tree z d) e stands) f)
+      let none : is_directory (shows 0 (the_layers m) p) ≡ false = unlinked-none (is_root p) (walk_fault (the_layers m) p) (is_directory (shows 0 (the_layers m) p)) ok in
+      false≢true (sym none ∙ shown-directory (the_upper m) (the_lowers m) s st.layers p d (subst (λ z. Stands s.tree z d) e stands) f)
 
   -- no directory is open below one in which no name is shown
-  pub none-below : (p : Path) → ShowsNoName Ls p → ((k : ℕ) → IsSome (places.opened m.clients.directories k) → 0 < handles_below (get nat_cmp m.clients.attached) m.clients.next k) → NoneBelow m.clients.directories p
+  pub none-below : (p : Path) → ShowsNoName (the_layers m) p → ((k : ℕ) → IsSome (places.opened m.clients.directories k) → 0 < handles_below (get nat_cmp m.clients.attached) m.clients.next k) → NoneBelow m.clients.directories p
   none-below p bare counted k n r is =
       let found = below-find (get nat_cmp m.clients.attached) m.clients.next k (counted k (subst IsSome (sym is) refl)) in
       let slot = slot-open (Alike m.layers s m.clients) _ _ (Directory found.handle) (st.tables.slots found.client found.descriptor) found.there in
       let at = stands-at s.tree m.clients.directories found.handle slot.0 k (n ∷ (r ++ p)) slot.2 found.on is in
       let under = beneath s.tree p r n slot.0.node at slot.2.directory in
-      let shown : is_directory (shows 0 Ls (under.name ∷ p)) ≡ true = shown-directory U lowers s st.layers (under.name ∷ p) under.node under.at under.directory in
+      let shown : is_directory (shows 0 (the_layers m) (under.name ∷ p)) ≡ true = shown-directory (the_upper m) (the_lowers m) s st.layers (under.name ∷ p) under.node under.at under.directory in
       false≢true (sym (ap is_directory (bare under.name)) ∙ shown)
 
   -- an unlink that isn't refused is served
-  pub unlink-done : (c : ℕ) (p : Path) → unlink_fault Ls p ≡ None → new.lowers ≡ m.layers.lowers → Removes V (lowers_of new) s c p (call.Unlink p) → AreCounted m.clients → KeepsHeld m.clients m.layers new (call.Unlink p) → KeepsHeldLeaves (call.Unlink p) → Serves (refusal s c (call.Unlink p)) s c (call.Unlink p) reply.Done (record m { layers = new })
+  pub unlink-done : (c : ℕ) (p : Path) → unlink_fault (the_layers m) p ≡ None → new.lowers ≡ m.layers.lowers → Removes V (lowers_of new) s c p (call.Unlink p) → AreCounted m.clients → KeepsHeld m.clients m.layers new (call.Unlink p) → KeepsHeldLeaves (call.Unlink p) → Serves (refusal s c (call.Unlink p)) s c (call.Unlink p) reply.Done (record m { layers = new })
   unlink-done c p ok same x counted live leaves =
       let k = call.Unlink p in
-      done c k (law_of_unlink U lowers s st.layers c p ∙ ok) x.answer x.mounts x.tables refl same
+      done c k (law_of_unlink (the_upper m) (the_lowers m) s st.layers c p ∙ ok) x.answer x.mounts x.tables refl same
       (λ b fd o h on is. handle-apart s c p k V (lowers_of new) x m.clients.directories b fd o h on is (not-there p ok is.location h.node is.stands is.directory))
       (files-held m.layers new s st.layers c k m.clients live leaves counted)
 
   -- the node at the path of a directory that is shown has its attributes
-  folder-has : (p : Path) (a : Attributes) → HasAttributes Ls p a → (e : NodeId) → node_at s.tree p ≡ Some e → folder_attributes (s.tree e) ≡ Some a
-  folder-has p a has e at = shown-attributes (s.tree e) (base U lowers p) (shows 0 Ls p) a has (seen U lowers s st.layers p e at)
+  folder-has : (p : Path) (a : Attributes) → HasAttributes (the_layers m) p a → (e : NodeId) → node_at s.tree p ≡ Some e → folder_attributes (s.tree e) ≡ Some a
+  folder-has p a has e at = shown-attributes (s.tree e) (base (the_upper m) (the_lowers m) p) (shows 0 (the_layers m) p) a has (seen (the_upper m) (the_lowers m) s st.layers p e at)
 
   -- rmdir of a directory
-  module _ (c : ℕ) (p : Path) (ok : rmdir_fault Ls p false ≡ None) (bare : ShowsNoName Ls p) (same : new.lowers ≡ m.layers.lowers) (x : Removes V (lowers_of new) s c p (call.Rmdir p)) (counted : AreCounted m.clients) (live : KeepsHeld m.clients m.layers new (call.Rmdir p)) (leaves : KeepsHeldLeaves (call.Rmdir p)) where
+  module _ (c : ℕ) (p : Path) (ok : rmdir_fault (the_layers m) p false ≡ None) (bare : ShowsNoName (the_layers m) p) (same : new.lowers ≡ m.layers.lowers) (x : Removes V (lowers_of new) s c p (call.Rmdir p)) (counted : AreCounted m.clients) (live : KeepsHeld m.clients m.layers new (call.Rmdir p)) (leaves : KeepsHeldLeaves (call.Rmdir p)) where
     abbrev u : Tree
     u = (after s c (call.Rmdir p)).tree
 
     -- open files stay
-    files : CarriesFiles U V s.tree u m.clients s.tables
+    files : CarriesFiles (the_upper m) V s.tree u m.clients s.tables
     files = files-held m.layers new s st.layers c (call.Rmdir p) m.clients live leaves counted
 
     -- it is served where its tables are right
     rmdir-done : (clients : Clients) → AreTables (Alike new (after s c (call.Rmdir p)) clients) clients s.tables → AreOne clients s.tables → clients.next ≡ m.clients.next → Serves (refusal s c (call.Rmdir p)) s c (call.Rmdir p) reply.Done (record m { layers = new; clients = clients })
     rmdir-done clients tables one next =
-        serve-done _ s c (call.Rmdir p) reply.Done _ ((law_of_rmdir U lowers s st.layers c p).empty bare ∙ ok) (sym x.answer)
+        serve-done _ s c (call.Rmdir p) reply.Done _ ((law_of_rmdir (the_upper m) (the_lowers m) s st.layers c p).empty bare ∙ ok) (sym x.answer)
         (state-after c (call.Rmdir p) clients x.mounts x.tables refl tables one next)
 
     -- where it is open, its handles are on a removed directory then
-    pub rmdir-open : (a : Attributes) (clients : Clients) → HasAttributes Ls p a → RemovesOpen m.clients clients p a → Serves (refusal s c (call.Rmdir p)) s c (call.Rmdir p) reply.Done (record m { layers = new; clients = clients })
+    pub rmdir-open : (a : Attributes) (clients : Clients) → HasAttributes (the_layers m) p a → RemovesOpen m.clients clients p a → Serves (refusal s c (call.Rmdir p)) s c (call.Rmdir p) reply.Done (record m { layers = new; clients = clients })
     rmdir-open a clients has marks =
         let directories = handle-marked s c p (call.Rmdir p) V (lowers_of new) x a m.clients.directories clients.directories (folder-has p a has) marks.places in
         let moved = tables-on m.layers new s.tree u m.clients s.tables same st.tables clients.directories directories files in

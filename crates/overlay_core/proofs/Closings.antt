@@ -43,7 +43,7 @@ use Rattle.overlay_core.specs.States.{IsOpenAs, AreTables, IsStateOf, Serves}
 use Rattle.overlay_core.proofs.Carrying.{tables-on}
 use Rattle.overlay_core.proofs.Serving.{handle-same, open-at}
 use Rattle.overlay_core.proofs.Slots.{changes-as, handle-none, state-set}
-use Rattle.overlay_core.proofs.Stating.{Alike, keep-state}
+use Rattle.overlay_core.proofs.Stating.{the_upper, Alike, keep-state}
 use Rattle.overlay_core.proofs.Answering.{serve-refused, serve-done}
 
 -- the tables where a descriptor is free
@@ -166,9 +166,6 @@ upper-open (Some (File f)) k e = (f, refl, by f.source e)
 
 -- a client closes a descriptor
 module _ (m : Mount) (s : State) (st : IsStateOf m s) (c d : ℕ) where
-  abbrev old_upper : Layer
-  old_upper = layer_of m.layers.upper
-
   -- one that isn't open is refused
   pub close-refused : (new : Clients) (e : Errno) → ChangesClient m.clients new c (λ x y. Closes x y d (Err e)) → Serves (refusal s c (call.Close d)) s c (call.Close d) (reply.Refused e) (record m { clients = new })
   close-refused new e ch =
@@ -183,11 +180,11 @@ module _ (m : Mount) (s : State) (st : IsStateOf m s) (c d : ℕ) where
       none = handle-none m s st c d shut
 
   -- a file of the upper that is open has an inode
-  inode-there : (k : ℕ) → upper_of (file_by m.clients c d) ≡ Some k → is_some (old_upper.inodes k) ≡ true
+  inode-there : (k : ℕ) → upper_of (file_by m.clients c d) ≡ Some k → is_some ((the_upper m).inodes k) ≡ true
   inode-there k e =
       let file = upper-open (opened_by m.clients c d) k e in
       let at = open-at (Alike m.layers s m.clients) m.clients s.tables st.tables c d (File file.0) file.1 in
-      let source = subst (λ (x : FileSource). IsOf old_upper (lowers_of m.layers) s.tree x at.0) file.2 at.2.source in
+      let source = subst (λ (x : FileSource). IsOf (the_upper m) (lowers_of m.layers) s.tree x at.0) file.2 at.2.source in
       ap is_some source.0.inode
 
   -- an open one is closed
@@ -234,8 +231,8 @@ module _ (m : Mount) (s : State) (st : IsStateOf m s) (c d : ℕ) where
         handle : (x : handles.Handle) × (h : Handle) × (handle_of s.tables c d ≡ Some h)
         handle = was-open (opened_by m.clients c d) refl there
 
-        law : ClosesHidden old_upper (lowers_of m.layers) s c d handle.1
-        law = closes-handle old_upper (lowers_of m.layers) s st.layers c d handle.1 handle.2
+        law : ClosesHidden (the_upper m) (lowers_of m.layers) s c d handle.1
+        law = closes-handle (the_upper m) (lowers_of m.layers) s st.layers c d handle.1 handle.2
 
         closes : ChangesClient m.clients new c (λ x y. SetsSlot x y d None)
         closes = changes-as m.clients new c _ _ (λ x y g. g.closes) ch

@@ -1,5 +1,5 @@
 -- Clients come on both sides.
-use Rattle.std.proofs.Common.{◌≡◌, ◌≢◌, ℕ, zero, suc, Bool, true, false, cond, ◌||◌, List, [], ◌∷◌, ◌++◌, Option, None, Some, Result, Ok, Err, refl, sym, ap, ◌∙◌, subst, ◌⊎◌, inl, inr, is_some, length, replicate, slice_get, nat_eq, add-one}
+use Rattle.std.proofs.Common.{◌≡◌, ◌≢◌, ℕ, zero, suc, Bool, false, cond, ◌||◌, List, [], ◌∷◌, ◌++◌, Option, None, Some, Result, Ok, Err, refl, sym, ap, ◌∙◌, subst, ◌⊎◌, inl, inr, is_some, length, replicate, slice_get, nat_eq, add-one}
 use Rattle.std.proofs.Math.Bool.{or-false, or-true}
 use Rattle.std.proofs.lemmas.Bool.{cases_eq, eq-eqb, ne_eqb, or_parts}
 use Rattle.std.proofs.lemmas.List.Folds.{list_any-append}
@@ -31,7 +31,7 @@ use Rattle.open_handles.specs.Descriptors.{opened}
 use Rattle.overlay_core.specs.Files.{IsOpenOn, AreOne}
 use Rattle.overlay_core.specs.States.{IsOpenAs, IsSlot, AreTables, AreUnwatched, IsStateOf}
 use Rattle.overlay_core.proofs.Serving.{slot-as, carried, places-same, OpensFewer, one-fewer}
-use Rattle.overlay_core.proofs.Stating.{Alike, keep-same}
+use Rattle.overlay_core.proofs.Stating.{the_lowers, the_upper, Alike, keep-same}
 
 -- whether a table is of a client
 abbrev pub of : ℕ → Table → Bool
@@ -149,12 +149,6 @@ begins m none next t redirects a merge = record {
         cc (free, e)
 
 module _ (m : Mount) (s : State) (st : IsStateOf m s) (new : Clients) where
-  abbrev U : Layer
-  U = layer_of m.layers.upper
-
-  abbrev lowers : List Layer
-  lowers = lowers_of m.layers
-
   -- nothing changed
   pub stays : IsSame m.clients new → IsStateOf (record m { clients = new }) s
   stays h =
@@ -178,8 +172,8 @@ module _ (m : Mount) (s : State) (st : IsStateOf m s) (new : Clients) where
           layers = record { layers = st.layers.layers; shows = st.layers.shows; kept = st.layers.kept; writable = st.layers.writable };
           unwatched = unwatched-last s.instances (silent s.arrived tags) st.unwatched refl;
           arrived = h.rises ∙ add-one n ∙ ap suc same;
-          tables = subst (λ z. AreTables (Alike m.layers s new) new (s.tables ++ free_table z ∷ [])) same (come U lowers s.tree m.clients s.tables st.tables new n h);
-          one = subst (λ z. AreOne new (s.tables ++ free_table z ∷ [])) same (one-fewer m.clients new s.tables _ (come-fewer U lowers s.tree m.clients s.tables st.tables new n h) st.one);
+          tables = subst (λ z. AreTables (Alike m.layers s new) new (s.tables ++ free_table z ∷ [])) same (come (the_upper m) (the_lowers m) s.tree m.clients s.tables st.tables new n h);
+          one = subst (λ z. AreOne new (s.tables ++ free_table z ∷ [])) same (one-fewer m.clients new s.tables _ (come-fewer (the_upper m) (the_lowers m) s.tree m.clients s.tables st.tables new n h) st.one);
         },
       )
 

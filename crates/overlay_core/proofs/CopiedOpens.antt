@@ -5,7 +5,6 @@ use Rattle.std.specs.Option.{option_and_then}
 use Rattle.std.specs.declared.alloc.AllocError.{AllocError}
 use Rattle.slab.specs.Slab.{get}
 use Rattle.ov_base.specs.declared.attributes.Attributes.{Attributes}
-use Rattle.ov_base.specs.declared.bytes.Content.{Content}
 use Rattle.ov_base.specs.declared.bytes.Content.TheVariants as content
 use Rattle.ov_base.specs.declared.call.Call.{Call}
 use Rattle.ov_base.specs.declared.call.Call.TheVariants as call
@@ -14,7 +13,7 @@ use Rattle.ov_base.specs.declared.errno.Errno.TheVariants.{EINVAL, ELOOP}
 use Rattle.ov_base.specs.declared.node_id.NodeId.{NodeId}
 use Rattle.ov_base.specs.declared.reply.Reply.TheVariants as reply
 use Rattle.plain_model.specs.Layers.{Path, Named, Inode, Layer, held, below, cuts, Contents, over, unless, shows, base}
-use Rattle.plain_model.specs.Tree.{Node, Branch, Leaf, Origin, Own, Tree, origin_in, same_id, node_at, put, face, SeenLeaf, see}
+use Rattle.plain_model.specs.Tree.{Node, Leaf, Origin, Own, Tree, origin_in, same_id, node_at, put, SeenLeaf, see}
 use Rattle.plain_model.specs.Machine.{Handle, State, MountOptions, lowest_free}
 use Rattle.plain_model.specs.Refusals.{when, bad_flags, bad_mode, refusal}
 use Rattle.plain_model.specs.Changes.{sized, over_node, change, opened, touched, way_of, with_attributes, with_bytes, with_handle, with_owner, after}
@@ -49,13 +48,11 @@ use Rattle.open_handles.specs.declared.open_file.OpenFile.{OpenFile}
 use Rattle.overlay_core.specs.declared.clients.Clients.{Clients}
 use Rattle.overlay_core.specs.declared.mount.Mount.{Mount}
 use Rattle.overlay_core.specs.Attaching.{ChangesClient}
-use Rattle.overlay_core.specs.Files.{IsOpenOn, file_at}
+use Rattle.overlay_core.specs.Files.{file_at}
 use Rattle.overlay_core.specs.Living.{SetsFile}
 use Rattle.overlay_core.specs.Opening.{OpensFile}
 use Rattle.overlay_core.specs.States.{IsStateOf, Serves}
-use Rattle.overlay_core.proofs.Answering.{serve-done}
 use Rattle.overlay_core.proofs.Carrying.{state-on}
-use Rattle.overlay_core.proofs.Slots.{changes-as, opened-after}
 use Rattle.overlay_core.proofs.Changing.{handle-on}
 use Rattle.overlay_core.proofs.Directories.{seen}
 use Rattle.overlay_core.proofs.Lasting.{chown-leaves, other-names}
@@ -63,8 +60,7 @@ use Rattle.overlay_core.proofs.Makings.{reserved-state}
 use Rattle.overlay_core.proofs.Openings.{IsShownFile, leaf-seen, file-there, free-there, fresh-one, open-leads, state-open, unfaulted}
 use Rattle.overlay_core.proofs.OpeningWrites.{sized-none, writing-served}
 use Rattle.overlay_core.proofs.Rewritten.{state-rewritten}
-use Rattle.overlay_core.proofs.Serving.{handle-set, room-of}
-use Rattle.overlay_core.proofs.Stating.{Alike}
+use Rattle.overlay_core.proofs.Stating.{the_layers, the_lowers, the_upper}
 
 -- a copy of what stands at a place has the attributes that are shown
 pub attributes-stored : (l : Layers) (d : Place) (x : StoredInode) → Some (node.Inode x) ≡ node_in (trees l) d → (E : AllocError → Type 0) (r : Result Attributes AllocError) → MatchResult r (λ b. b ≡ x.attributes) E → IfOk r (λ a. (p : Path) (i : Inode) → shows 0 (layers_of l) p ≡ Some (Contents d.layer d.key (Some i)) → a ≡ i.attributes)
@@ -129,20 +125,11 @@ module _ (m : Mount) (s : State) (st : IsStateOf m s) (c : ℕ) (clients : Clien
     (p : Path) (f : OpenFlags) (mode : ℕ) (fine : opening_fault (layers_of m.layers) p f mode (Some 0) ≡ None) (w : f.writes ≡ true)
     (place : Place) (shown : ShowsInode m.layers p place) (lower : 0 < place.layer)
     (new : Layers) (key : ℕ) (copied : Copied m.layers new p place (λ i. i.attributes) key) where
-  abbrev U : Layer
-  U = layer_of m.layers.upper
-
   abbrev V : Layer
   V = layer_of new.upper
 
-  abbrev lowers : List Layer
-  lowers = lowers_of m.layers
-
-  abbrev Ls : List Layer
-  Ls = layers_of m.layers
-
   -- the file is shown
-  there : IsShownFile (shows 0 Ls p) place.layer place.key
+  there : IsShownFile (shows 0 (the_layers m) p) place.layer place.key
   there = file-there m s st c p f mode fine place shown
 
   abbrev a : Attributes
@@ -167,29 +154,29 @@ module _ (m : Mount) (s : State) (st : IsStateOf m s) (c : ℕ) (clients : Clien
   t = (after s c owned).tree
 
   -- is not refused
-  unrefused-owner : chown_fault Ls p ≡ None
+  unrefused-owner : chown_fault (the_layers m) p ≡ None
   unrefused-owner =
-      let way : parents_fault Ls p ≡ None = first-none (parents_fault Ls p) _ (second-none (bad_mode mode) _ (second-none (when (bad_flags f) EINVAL) _ fine)) in
-      let link : shows_link (shows 0 Ls p) ≡ false = ap shows_link there.shown ∙ ap (λ z. is_link_inode (Some (record there.inode { content = z }))) there.content in
+      let way : parents_fault (the_layers m) p ≡ None = first-none (parents_fault (the_layers m) p) _ (second-none (bad_mode mode) _ (second-none (when (bad_flags f) EINVAL) _ fine)) in
+      let link : shows_link (shows 0 (the_layers m) p) ≡ false = ap shows_link there.shown ∙ ap (λ z. is_link_inode (Some (record there.inode { content = z }))) there.content in
       λ i. or_else (or_else (way i) (absent (there.shown i))) (when (link i) ELOOP)
 
   -- its attributes are those that are shown
-  attributes-shown : shown_attributes (shows 0 Ls p) ≡ Some a
+  attributes-shown : shown_attributes (shows 0 (the_layers m) p) ≡ Some a
   attributes-shown = ap shown_attributes there.shown
 
   -- it copies the file up too
-  owns : AltersState V lowers s c p owned
-  owns = law_of_owner_changed p a.uid a.gid U V lowers s st.layers c unrefused-owner a attributes-shown (leaf.alters st.layers.layers)
+  owns : AltersState V (the_lowers m) s c p owned
+  owns = law_of_owner_changed p a.uid a.gid (the_upper m) V (the_lowers m) s st.layers c unrefused-owner a attributes-shown (leaf.alters st.layers.layers)
 
   -- the upper held nothing at the path
-  unheld : held U p ≡ None
-  unheld = free-inode U.inodes (held U p) (unless (cuts U p) (shows 1 lowers (below U p))) place.layer place.key (Some there.inode) there.shown lower
+  unheld : held (the_upper m) p ≡ None
+  unheld = free-inode (the_upper m).inodes (held (the_upper m) p) (unless (cuts (the_upper m) p) (shows 1 (the_lowers m) (below (the_upper m) p))) place.layer place.key (Some there.inode) there.shown lower
 
   -- a live file is another inode, which keeps its names and its attributes
-  other-file : (e : NodeId) (j : ℕ) → IsLive U s.tree e j → AltersNamed U V p a j
+  other-file : (e : NodeId) (j : ℕ) → IsLive (the_upper m) s.tree e j → AltersNamed (the_upper m) V p a j
   other-file e j live = record {
     names = λ q. elim (same_path q p) [
-      | inl here ↦ subst (λ z. (held V z ≡ Some (Named j)) ↔ (held U z ≡ Some (Named j))) (sym here) (λ h. absurd (not-now h), λ h. absurd (not-before h))
+      | inl here ↦ subst (λ z. (held V z ≡ Some (Named j)) ↔ (held (the_upper m) z ≡ Some (Named j))) (sym here) (λ h. absurd (not-now h), λ h. absurd (not-before h))
       | inr away ↦ other-names m.layers new p leaf.others q away j
     ];
     altered = λ i h is. absurd (not-before h);
@@ -202,7 +189,7 @@ module _ (m : Mount) (s : State) (st : IsStateOf m s) (c : ℕ) (clients : Clien
       not-now : held V p ≡ Some (Named j) → ⊥
       not-now h = apart (let z : Some (Named leaf.number) ≡ Some (Named j) = sym leaf.held_there ∙ h in cc)
 
-      not-before : held U p ≡ Some (Named j) → ⊥
+      not-before : held (the_upper m) p ≡ Some (Named j) → ⊥
       not-before h = let z : None ≡ Some (Named j) = sym unheld ∙ h in cc
 
   -- the mount stands for the state in which the file is the upper's own
@@ -211,7 +198,7 @@ module _ (m : Mount) (s : State) (st : IsStateOf m s) (c : ℕ) (clients : Clien
       state-on (record m { clients = clients }) s (reserved-state m s st c clients same) new leaf.lowers t s.serial mounts
       (handle-on s.tree t (λ q d at. owns.paths q ∙ at) owns.hidden (λ d folder. owns.folders d ∙ folder) clients.directories)
       (record {
-        live = λ b fd g h k at on is live. law_of_live_through_owner p a.uid a.gid U V lowers s c a attributes-shown owns h.node k (other-file h.node k live) live;
+        live = λ b fd g h k at on is live. law_of_live_through_owner p a.uid a.gid (the_upper m) V (the_lowers m) s c a attributes-shown owns h.node k (other-file h.node k live) live;
         leaves = λ b fd h on. chown-leaves p a.uid a.gid s st.layers.kept c h.node;
       })
     where
@@ -240,7 +227,7 @@ module _ (m : Mount) (s : State) (st : IsStateOf m s) (c : ℕ) (clients : Clien
 
     -- the machine opens the file
     law : OpensWriting s c p f mode
-    law = law_of_opened_for_writing U lowers s st.layers c p f mode (unfaulted m s st c p f mode fine d free) (ap is_some there.shown) w
+    law = law_of_opened_for_writing (the_upper m) (the_lowers m) s st.layers c p f mode (unfaulted m s st c p f mode fine d free) (ap is_some there.shown) w
 
     -- its handle
     abbrev made : Handle
@@ -272,7 +259,7 @@ module _ (m : Mount) (s : State) (st : IsStateOf m s) (c : ℕ) (clients : Clien
     was : (n : ℕ) × (s.tree law.node ≡ Some (Leaf (content.File there.bytes) a origin n))
     was =
         leaf-seen (s.tree law.node) (content.File there.bytes) a origin there.inode.links
-        (seen U lowers s st.layers p law.node law.at ∙ ap (see (base U lowers p)) there.shown ∙ ap (λ z. Some (SeenLeaf z a origin there.inode.links)) there.content)
+        (seen (the_upper m) (the_lowers m) s st.layers p law.node law.at ∙ ap (see (base (the_upper m) (the_lowers m) p)) there.shown ∙ ap (λ z. Some (SeenLeaf z a origin there.inode.links)) there.content)
 
     -- it is the upper's own now
     tree-owned : t ≡ own f w s.options s.tree law.node there.bytes a origin was.0 was.1 there.bytes

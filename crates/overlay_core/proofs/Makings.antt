@@ -45,14 +45,13 @@ use Rattle.overlay_core.specs.Attaching.{ChangesClient}
 use Rattle.overlay_core.specs.Files.{HasFile, HasAllOpen, IsOpenOn, file_at}
 use Rattle.overlay_core.specs.Opening.{OpensFile}
 use Rattle.overlay_core.specs.States.{HasStateOf, IsStateOf, Serves}
-use Rattle.overlay_core.proofs.Answering.{serve-done}
 use Rattle.overlay_core.proofs.Carrying.{AreCounted, files-kept, state-on, state-stays}
 use Rattle.overlay_core.proofs.Changing.{handle-beside}
 use Rattle.overlay_core.proofs.Lasting.{create-live, open-leaves, parents-live}
 use Rattle.overlay_core.proofs.Openings.{open-full, free-there, state-open, open-served, unfaulted}
 use Rattle.overlay_core.proofs.Serving.{open-at}
 use Rattle.overlay_core.proofs.Slots.{open-live}
-use Rattle.overlay_core.proofs.Stating.{Alike, keep-state}
+use Rattle.overlay_core.proofs.Stating.{the_lowers, the_upper, Alike, keep-state}
 
 -- room that is made where all descriptors are open is an open that is refused
 pub full-opens : (old new : Clients) (c : ℕ) (h : handles.Handle) (e : Errno) → ChangesClient old new c (λ x y. y ≡ x) → (e ≡ EMFILE) × HasAllOpen old c → ChangesClient old new c (λ x y. Opens x y h (Ok (Err e)))
@@ -114,14 +113,8 @@ module _ (m : Mount) (s : State) (st : IsStateOf m s) (c : ℕ) (clients : Clien
   module _ (p : Path) (f : OpenFlags) (mode : ℕ) (fine : opening_fault (layers_of m.layers) p f mode (Some 0) ≡ None) (absent : shows 0 (layers_of m.layers) p ≡ None)
       (new : Layers) (key : ℕ) (leaf : MakesLeaf m.layers new p (content.File []) (new_attributes mode)) (number : leaf.number ≡ key) (steps : CreateSteps m.layers new p mode)
       (d : ℕ) (last : Clients) (ch : OpensFile clients last c (file_at (record { layer = 0; key = key }) f) (Ok (Ok d))) where
-    abbrev U : Layer
-    U = layer_of m.layers.upper
-
     abbrev V : Layer
     V = layer_of new.upper
-
-    abbrev lowers : List Layer
-    lowers = lowers_of m.layers
 
     abbrev asked : Call
     asked = call.Open p f mode
@@ -138,7 +131,7 @@ module _ (m : Mount) (s : State) (st : IsStateOf m s) (c : ℕ) (clients : Clien
 
     -- the machine makes a file
     law : OpensMaking s c p f mode
-    law = law_of_opened_making U lowers s st.layers c p f mode (unfaulted m s st c p f mode fine d free) absent
+    law = law_of_opened_making (the_upper m) (the_lowers m) s st.layers c p f mode (unfaulted m s st c p f mode fine d free) absent
 
     -- which is the one that the upper gains
     steps-there : MakesFile V (lowers_of new) s c p f mode
@@ -168,18 +161,18 @@ module _ (m : Mount) (s : State) (st : IsStateOf m s) (c : ℕ) (clients : Clien
     -- the new file is live
     made-live : IsLive V u (New s.serial) key
     made-live =
-        let g : GainsLeaf U V lowers p (content.File []) (fresh mode) = leaf.gains st.layers.layers in
+        let g : GainsLeaf (the_upper m) V (the_lowers m) p (content.File []) (fresh mode) = leaf.gains st.layers.layers in
         let x = subst (λ (Ls : List Layer). MakesFile V Ls s c p f mode) (lowers-same m.layers new leaf.lowers) steps-there in
-        subst (IsLive V u (New s.serial)) (sym (one-number V p leaf.number g.number leaf.held_there g.here) ∙ number) (law_of_live_made U V lowers s c p f mode g x)
+        subst (IsLive V u (New s.serial)) (sym (one-number V p leaf.number g.number leaf.held_there g.here) ∙ number) (law_of_live_made (the_upper m) V (the_lowers m) s c p f mode g x)
 
     -- no open file is on its node or under its key
     made-fresh : (j : ℕ) (e : NodeId) → IsOpenOn clients s.tables j e → (New s.serial ≡ e) ↔ (key ≡ j)
     made-fresh j e y =
-        let live : IsLive U s.tree e j = open-live reserved s reserved-state j e y in
+        let live : IsLive (the_upper m) s.tree e j = open-live reserved s reserved-state j e y in
         let unused : s.tree (New s.serial) ≡ None = st.layers.kept.unused s.serial (omega arith) in
-        let vacant : U.inodes key ≡ None = ap (λ k. option_and_then inode_of (get m.layers.upper k)) (sym number) ∙ ap (option_and_then inode_of) leaf.vacant in (
+        let vacant : (the_upper m).inodes key ≡ None = ap (λ k. option_and_then inode_of (get m.layers.upper k)) (sym number) ∙ ap (option_and_then inode_of) leaf.vacant in (
           λ same. absurd (false≢true (sym (ap is_some unused) ∙ ap (λ x. is_some (s.tree x)) same ∙ ap is_some live.node)),
-          λ same. absurd (false≢true (sym (ap is_some vacant) ∙ ap (λ k. is_some (U.inodes k)) same ∙ ap is_some live.inode)),
+          λ same. absurd (false≢true (sym (ap is_some vacant) ∙ ap (λ k. is_some ((the_upper m).inodes k)) same ∙ ap is_some live.inode)),
         )
 
     -- the mount stands for the state in which the file is open

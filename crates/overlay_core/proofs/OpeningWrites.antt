@@ -16,10 +16,10 @@ use Rattle.plain_model.specs.Machine.{Handle, State, lowest_free}
 use Rattle.plain_model.specs.Refusals.{when, bad_flags, refusal}
 use Rattle.plain_model.specs.Changes.{sized, over_node, change, opened, way_of, with_bytes, with_handle}
 use Rattle.plain_model.proofs.Looking.{when-not}
-use Rattle.layer_tree.specs.Tree.{layer_of, file_bytes, bytes_at}
+use Rattle.layer_tree.specs.Tree.{file_bytes, bytes_at}
 use Rattle.merged_lookup.specs.declared.layers.Layers.{Layers}
 use Rattle.merged_lookup.specs.declared.stack.Place.{Place}
-use Rattle.merged_lookup.specs.Merged.{layers_of, lowers_of, ShowsInode}
+use Rattle.merged_lookup.specs.Merged.{layers_of, ShowsInode}
 use Rattle.mount_laws.specs.Opening.{opening_fault, live_handle, OpensWriting}
 use Rattle.mount_laws.specs.OpenFiles.{IsLive, rewritten}
 use Rattle.mount_laws.proofs.Links.{first-none}
@@ -32,16 +32,13 @@ use Rattle.open_handles.specs.declared.open_file.FileSource.TheVariants.{Upper, 
 use Rattle.open_handles.specs.declared.open_file.OpenFile.{OpenFile}
 use Rattle.overlay_core.specs.declared.clients.Clients.{Clients}
 use Rattle.overlay_core.specs.declared.mount.Mount.{Mount}
-use Rattle.overlay_core.specs.Files.{IsOf, IsOpenOn, source_at, file_at}
+use Rattle.overlay_core.specs.Files.{IsOf, source_at, file_at}
 use Rattle.overlay_core.specs.Living.{SetsFile}
 use Rattle.overlay_core.specs.Opening.{OpensFile}
 use Rattle.overlay_core.specs.States.{IsStateOf, Serves}
-use Rattle.overlay_core.proofs.Answering.{serve-done}
-use Rattle.overlay_core.proofs.Slots.{changes-as, opened-after}
 use Rattle.overlay_core.proofs.Openings.{IsShownFile, fresh-one, free-there, state-open, unfaulted, file-there, open-file, open-leads, open-served}
 use Rattle.overlay_core.proofs.Rewritten.{state-rewritten}
-use Rattle.overlay_core.proofs.Serving.{handle-set, room-of}
-use Rattle.overlay_core.proofs.Stating.{Alike}
+use Rattle.overlay_core.proofs.Stating.{the_layers, the_lowers, the_upper}
 
 -- flags that go together don't ask to empty a file that isn't to be written
 fourth-false : (a u x y z : Bool) → (a || u || x || y || z) ≡ false → y ≡ false
@@ -96,15 +93,6 @@ writing-served m s st c p f mode fine law d free t becomes =
 
 -- a file of the upper is opened to be written
 module _ (m : Mount) (s : State) (st : IsStateOf m s) (c : ℕ) (p : Path) (f : OpenFlags) (mode : ℕ) (fine : opening_fault (layers_of m.layers) p f mode (Some 0) ≡ None) (w : f.writes ≡ true) (place : Place) (own : place.layer ≡ 0) (shown : ShowsInode m.layers p place) (d : ℕ) (new : Clients) (ch : OpensFile m.clients new c (file_at place f) (Ok (Ok d))) where
-  abbrev Ls : List Layer
-  Ls = layers_of m.layers
-
-  abbrev U : Layer
-  U = layer_of m.layers.upper
-
-  abbrev lowers : List Layer
-  lowers = lowers_of m.layers
-
   abbrev asked : Call
   asked = call.Open p f mode
 
@@ -116,28 +104,28 @@ module _ (m : Mount) (s : State) (st : IsStateOf m s) (c : ℕ) (p : Path) (f : 
   free = free-there m s st c (File file) d new ch
 
   -- the file is shown
-  there : IsShownFile (shows 0 Ls p) place.layer place.key
+  there : IsShownFile (shows 0 (the_layers m) p) place.layer place.key
   there = file-there m s st c p f mode fine place shown
 
   -- the machine opens it
   law : OpensWriting s c p f mode
-  law = law_of_opened_for_writing U lowers s st.layers c p f mode (unfaulted m s st c p f mode fine d free) (ap is_some there.shown) w
+  law = law_of_opened_for_writing (the_upper m) (the_lowers m) s st.layers c p f mode (unfaulted m s st c p f mode fine d free) (ap is_some there.shown) w
 
   -- it is the upper's
   key : source_at place ≡ Upper place.key
   key = ap (λ j. cond (nat_eq j 0) (Upper place.key) (Lower j place.key)) own
 
   -- it is live
-  live : IsLive U s.tree law.node place.key
-  live = law_of_live_shown U lowers s st.layers p place.key there.inode there.bytes law.node (there.shown ∙ ap (λ j. Some (Contents j place.key (Some there.inode))) own) there.content law.at
+  live : IsLive (the_upper m) s.tree law.node place.key
+  live = law_of_live_shown (the_upper m) (the_lowers m) s st.layers p place.key there.inode there.bytes law.node (there.shown ∙ ap (λ j. Some (Contents j place.key (Some there.inode))) own) there.content law.at
 
   -- the new handle
   abbrev made : Handle
   made = live_handle f law.node (way_of s.tree p)
 
   -- it is of the file
-  of : IsOf U lowers s.tree (source_at place) made
-  of = subst (λ z. IsOf U lowers s.tree z made) (sym key) (live, refl)
+  of : IsOf (the_upper m) (the_lowers m) s.tree (source_at place) made
+  of = subst (λ z. IsOf (the_upper m) (the_lowers m) s.tree z made) (sym key) (live, refl)
 
   -- the state with the new handle alone
   abbrev held : State

@@ -23,7 +23,7 @@ use Rattle.plain_model.proofs.Looking.{when-not}
 use Rattle.layer_tree.specs.Tree.{Tree, layer_of, inode_of}
 use Rattle.merged_lookup.specs.declared.layers.Layers.{Layers}
 use Rattle.merged_lookup.specs.declared.stack.Place.{Place}
-use Rattle.merged_lookup.specs.Merged.{layers_of, lowers_of, trees, node_in, ShowsInode}
+use Rattle.merged_lookup.specs.Merged.{layers_of, trees, node_in, ShowsInode}
 use Rattle.merged_lookup.proofs.Looking.{inode_in, inode-shown}
 use Rattle.mount_laws.specs.Looks.{or_else, parents_fault, is_link_inode, shows_link}
 use Rattle.mount_laws.specs.Opening.{shown_fault, opening_fault, inode_view, shown_view, OpensReading}
@@ -47,7 +47,7 @@ use Rattle.overlay_core.specs.States.{IsLeft, AreTables, IsStateOf, Serves}
 use Rattle.overlay_core.proofs.Answering.{serve-refused, serve-done}
 use Rattle.overlay_core.proofs.Slots.{changes-as, opened-after, open-live}
 use Rattle.overlay_core.proofs.Serving.{handle-set, room-of, placed, open-at, free-lowest, free-none, tables-set}
-use Rattle.overlay_core.proofs.Stating.{Alike, with-tables, keep-state}
+use Rattle.overlay_core.proofs.Stating.{the_layers, the_lowers, the_upper, Alike, with-tables, keep-state}
 
 -- why a file or symbolic link isn't opened for reading is told by the node at its place
 pub inode-refused : (l : Layers) (p : Path) (d : Place) (f : OpenFlags) (b : Bool) → ShowsInode l p d → is_link_inode (option_and_then inode_of (node_in (trees l) d)) ≡ b → inode_refusal f (shows 0 (layers_of l) p) ≡ or_else (when b ELOOP) (when f.directory ENOTDIR)
@@ -193,15 +193,6 @@ module _ (old new : Clients) (ks : List Table) (P : handles.Handle → Handle �
           (λ i. cc, λ i. sym u.at ∙ v.at)
 
 module _ (m : Mount) (s : State) (st : IsStateOf m s) (c : ℕ) where
-  abbrev Ls : List Layer
-  Ls = layers_of m.layers
-
-  abbrev U : Layer
-  U = layer_of m.layers.upper
-
-  abbrev lowers : List Layer
-  lowers = lowers_of m.layers
-
   abbrev alike : handles.Handle → Handle → Type 0
   alike = Alike m.layers s m.clients
 
@@ -210,11 +201,11 @@ module _ (m : Mount) (s : State) (st : IsStateOf m s) (c : ℕ) where
   open-wanted h new e ch = keep-state m s st c new (changes-as m.clients new c _ _ (λ x y g. g.err) ch)
 
   -- an open file at a path is one with it exactly where it is one inode
-  pub fresh-one : (p : Path) (file : OpenFile) (x : Handle) → node_at s.tree p ≡ Some x.node → IsOf U lowers s.tree file.source x → (g : OpenFile) (k j : ℕ) (e : NodeId) → File file ≡ File g → g.source ≡ Upper k → IsOpenOn m.clients s.tables j e → (x.node ≡ e) ↔ (k ≡ j)
+  pub fresh-one : (p : Path) (file : OpenFile) (x : Handle) → node_at s.tree p ≡ Some x.node → IsOf (the_upper m) (the_lowers m) s.tree file.source x → (g : OpenFile) (k j : ℕ) (e : NodeId) → File file ≡ File g → g.source ≡ Upper k → IsOpenOn m.clients s.tables j e → (x.node ≡ e) ↔ (k ≡ j)
   fresh-one p file x at of g k j e same key y =
       let files : file ≡ g = cc in
-      let live : IsOf U lowers s.tree (Upper k) x = subst (λ w. IsOf U lowers s.tree w x) (ap (λ (z : OpenFile). z.source) files ∙ key) of in
-      law_of_live_one U s.tree p x.node e k j at live.0 (open-live m s st j e y)
+      let live : IsOf (the_upper m) (the_lowers m) s.tree (Upper k) x = subst (λ w. IsOf (the_upper m) (the_lowers m) s.tree w x) (ap (λ (z : OpenFile). z.source) files ∙ key) of in
+      law_of_live_one (the_upper m) s.tree p x.node e k j at live.0 (open-live m s st j e y)
 
   -- a descriptor that is opened on both sides, alike
   module _ (h : handles.Handle) (d : ℕ) (new : Clients) (ch : ChangesClient m.clients new c (λ x y. Opens x y h (Ok (Ok d)))) where
@@ -241,7 +232,7 @@ module _ (m : Mount) (s : State) (st : IsStateOf m s) (c : ℕ) where
         let sets : ChangesClient m.clients new c (λ x y. SetsSlot x y d (Some h)) = changes-as m.clients new c _ _ (λ x y g. g.opens) ch in
         with-tables m s st (record m { clients = new }) (with_handle s.tables c d (Some made)) refl ch.next
         (tables-set alike m.clients s.tables st.tables new (Alike m.layers s new) c d (Some h) (Some made) sets ch.changes.lowest.in_range
-        (λ b i o g now was on like. placed U lowers s.tree m.clients.directories new.directories o g (λ x l q at. ch.places b i x l (now ∙ ap Some q) at) like)
+        (λ b i o g now was on like. placed (the_upper m) (the_lowers m) s.tree m.clients.directories new.directories o g (λ x l q at. ch.places b i x l (now ∙ ap Some q) at) like)
         is)
         (one-more m.clients new s.tables alike st.tables c d h made sets ch.changes.lowest.in_range st.one fresh)
 
@@ -250,14 +241,14 @@ module _ (m : Mount) (s : State) (st : IsStateOf m s) (c : ℕ) where
     asked = call.Open p f mode
 
     -- an open is refused as the layers say, and last for want of a descriptor
-    refused : refusal s c asked ≡ or_else (opening_fault Ls p f mode (Some 0)) (when (is_none (lowest_free s.tables c)) EMFILE)
-    refused = law_of_open_refusal U lowers s st.layers c p f mode ∙ table-last Ls p f mode (lowest_free s.tables c)
+    refused : refusal s c asked ≡ or_else (opening_fault (the_layers m) p f mode (Some 0)) (when (is_none (lowest_free s.tables c)) EMFILE)
+    refused = law_of_open_refusal (the_upper m) (the_lowers m) s st.layers c p f mode ∙ table-last (the_layers m) p f mode (lowest_free s.tables c)
 
     -- an open that is refused by what the layers show
-    pub open-fault : (e : Errno) → opening_fault Ls p f mode (Some 0) ≡ Some e → Serves (refusal s c asked) s c asked (reply.Refused e) m
+    pub open-fault : (e : Errno) → opening_fault (the_layers m) p f mode (Some 0) ≡ Some e → Serves (refusal s c asked) s c asked (reply.Refused e) m
     open-fault e h = serve-refused _ s c asked e m (refused ∙ ap (λ z. or_else z (when (is_none (lowest_free s.tables c)) EMFILE)) h) st
 
-    module _ (fine : opening_fault Ls p f mode (Some 0) ≡ None) where
+    module _ (fine : opening_fault (the_layers m) p f mode (Some 0) ≡ None) where
       -- it is refused for want of a descriptor alone
       table-alone : refusal s c asked ≡ when (is_none (lowest_free s.tables c)) EMFILE
       table-alone = refused ∙ ap (λ z. or_else z (when (is_none (lowest_free s.tables c)) EMFILE)) fine
@@ -275,8 +266,8 @@ module _ (m : Mount) (s : State) (st : IsStateOf m s) (c : ℕ) where
       unrefused d free = table-alone ∙ ap (λ z. when (is_none z) EMFILE) free
 
       -- nor by what the layers show
-      pub unfaulted : (d : ℕ) → lowest_free s.tables c ≡ Some d → opening_fault Ls p f mode (lowest_free s.tables c) ≡ None
-      unfaulted d free = sym (law_of_open_refusal U lowers s st.layers c p f mode) ∙ unrefused d free
+      pub unfaulted : (d : ℕ) → lowest_free s.tables c ≡ Some d → opening_fault (the_layers m) p f mode (lowest_free s.tables c) ≡ None
+      unfaulted d free = sym (law_of_open_refusal (the_upper m) (the_lowers m) s st.layers c p f mode) ∙ unrefused d free
 
       -- an open is served where the mount stands for the state with the descriptor that the machine finds too
       pub open-served : (d x : ℕ) → lowest_free s.tables c ≡ Some d → lowest_free s.tables c ≡ Some x → reply_of s c asked ≡ reply.Descriptor x → (next : ℕ → State) → after s c asked ≡ next x → (new : Mount) → IsStateOf new (next d) → Serves (refusal s c asked) s c asked (reply.Descriptor d) new
@@ -284,14 +275,14 @@ module _ (m : Mount) (s : State) (st : IsStateOf m s) (c : ℕ) where
           let same : x ≡ d = cc (found, free) in
           serve-done _ s c asked _ new (unrefused d free) (sym (answer ∙ ap reply.Descriptor same)) (subst (IsStateOf new) (sym (state ∙ ap next same)) stands)
 
-      module _ (w : f.writes ≡ false) (there : is_some (shows 0 Ls p) ≡ true) (h : handles.Handle) (d : ℕ) (new : Clients) (ch : ChangesClient m.clients new c (λ x y. Opens x y h (Ok (Ok d)))) where
+      module _ (w : f.writes ≡ false) (there : is_some (shows 0 (the_layers m) p) ≡ true) (h : handles.Handle) (d : ℕ) (new : Clients) (ch : ChangesClient m.clients new c (λ x y. Opens x y h (Ok (Ok d)))) where
         -- the machine finds the same descriptor
         free : lowest_free s.tables c ≡ Some d
         free = free-there h d new ch
 
         -- the machine opens it
-        law : OpensReading Ls s c p f mode
-        law = law_of_opened_for_reading U lowers s st.layers c p f mode (unfaulted d free) there w
+        law : OpensReading (the_layers m) s c p f mode
+        law = law_of_opened_for_reading (the_upper m) (the_lowers m) s st.layers c p f mode (unfaulted d free) there w
 
         -- its new handle
         abbrev made : Handle
@@ -306,16 +297,16 @@ module _ (m : Mount) (s : State) (st : IsStateOf m s) (c : ℕ) where
       reads w = reads-flag f.reads f.writes f.unknown (f.exclusive && not f.create) (f.truncate && not f.writes) (f.directory && f.create) w (when-not (bad_flags f) EINVAL (first-none (when (bad_flags f) EINVAL) _ fine))
 
       -- what is shown is no fault
-      shown-fine : shown_fault f (shows 0 Ls p) ≡ None
-      shown-fine = first-none (shown_fault f (shows 0 Ls p)) _ (second-none (parents_fault Ls p) _ (second-none (bad_mode mode) _ (second-none (when (bad_flags f) EINVAL) _ fine)))
+      shown-fine : shown_fault f (shows 0 (the_layers m) p) ≡ None
+      shown-fine = first-none (shown_fault f (shows 0 (the_layers m) p)) _ (second-none (parents_fault (the_layers m) p) _ (second-none (bad_mode mode) _ (second-none (when (bad_flags f) EINVAL) _ fine)))
 
       -- an open of a directory
-      pub open-directory : (j k : ℕ) (a : Attributes) → shows 0 Ls p ≡ Some (Folder j k a) → (d : ℕ) (new : Clients) → OpensAt m.clients new c p (Ok (Ok d)) → Serves (refusal s c asked) s c asked (reply.Descriptor d) (record m { clients = new })
+      pub open-directory : (j k : ℕ) (a : Attributes) → shows 0 (the_layers m) p ≡ Some (Folder j k a) → (d : ℕ) (new : Clients) → OpensAt m.clients new c p (Ok (Ok d)) → Serves (refusal s c asked) s c asked (reply.Descriptor d) (record m { clients = new })
       open-directory j k a shown d new opens =
           let w : f.writes ≡ false = no-write f j k a (ap (shown_fault f) (sym shown) ∙ shown-fine) in
-          let there : is_some (shows 0 Ls p) ≡ true = ap is_some shown in
+          let there : is_some (shows 0 (the_layers m) p) ≡ true = ap is_some shown in
           let ch = opens.changes in
-          let o : OpensReading Ls s c p f mode = law w there (Directory opens.handle) d new ch in
+          let o : OpensReading (the_layers m) s c p f mode = law w there (Directory opens.handle) d new ch in
           let view : view_of f (s.tree o.node) ≡ Live = o.view ∙ ap shown_view shown in
           open-done w there (Directory opens.handle) d new ch
           (record {
@@ -329,37 +320,37 @@ module _ (m : Mount) (s : State) (st : IsStateOf m s) (c : ℕ) where
           (λ g k j e is key y. cc)
 
       -- what is shown as a file is one
-      pub file-there : (d : Place) → ShowsInode m.layers p d → IsShownFile (shows 0 Ls p) d.layer d.key
-      file-there d i = shown-file (shows 0 Ls p) d.layer d.key i.inode i.shown (present 0 Ls st.layers.layers p) (no-link f (shows 0 Ls p) shown-fine)
+      pub file-there : (d : Place) → ShowsInode m.layers p d → IsShownFile (shows 0 (the_layers m) p) d.layer d.key
+      file-there d i = shown-file (shows 0 (the_layers m) p) d.layer d.key i.inode i.shown (present 0 (the_layers m) st.layers.layers p) (no-link f (shows 0 (the_layers m) p) shown-fine)
 
       -- the machine's handle on a file of a lower layer sees it as it is now
-      frozen : (j k : ℕ) → IsShownFile (shows 0 Ls p) (suc j) k → f.writes ≡ false → (o : OpensReading Ls s c p f mode) → IsFrozen lowers s.tree (suc j) k (new_handle f o.node (way_of s.tree p) (s.tree o.node))
+      frozen : (j k : ℕ) → IsShownFile (shows 0 (the_layers m) p) (suc j) k → f.writes ≡ false → (o : OpensReading (the_layers m) s c p f mode) → IsFrozen (the_lowers m) s.tree (suc j) k (new_handle f o.node (way_of s.tree p) (s.tree o.node))
       frozen j k file w o =
           let i : Inode = file.inode in
           let below : inode_in (trees m.layers) (suc j) k ≡ Some i = inode-shown 0 (trees m.layers) (trees m.layers) refl p (suc j) k (Some i) file.shown in
-          let seen : face (s.tree o.node) ≡ see (base U lowers p) (shows 0 Ls p) = sym (ap (λ z. face (node_of s.tree z)) o.at) ∙ st.layers.shows.sights p in
+          let seen : face (s.tree o.node) ≡ see (base (the_upper m) (the_lowers m) p) (shows 0 (the_layers m) p) = sym (ap (λ z. face (node_of s.tree z)) o.at) ∙ st.layers.shows.sights p in
           record {
             bytes = file.bytes;
             attributes = i.attributes;
             links = i.links;
             inode = lower-in m.layers.upper m.layers.lowers.items j k ∙ below ∙ ap (λ z. Some (record i { content = z })) file.content;
             view = o.view ∙ ap shown_view file.shown ∙ ap (λ z. inode_view (suc j) (Some (record i { content = z }))) file.content;
-            file = ap is_leaf (leaf-seen (s.tree o.node) i.content i.attributes _ i.links (seen ∙ ap (see (base U lowers p)) file.shown)).1;
+            file = ap is_leaf (leaf-seen (s.tree o.node) i.content i.attributes _ i.links (seen ∙ ap (see (base (the_upper m) (the_lowers m) p)) file.shown)).1;
             reads_alone = w;
           }
 
       -- the handle that the machine makes for a file is of its inode
-      of-shown : (j k : ℕ) → IsShownFile (shows 0 Ls p) j k → f.writes ≡ false → (o : OpensReading Ls s c p f mode) → IsOf U lowers s.tree (source_at (record { layer = j; key = k })) (new_handle f o.node (way_of s.tree p) (s.tree o.node))
-      of-shown zero k file w o = (law_of_live_shown U lowers s st.layers p k file.inode file.bytes o.node file.shown file.content o.at, o.view ∙ ap shown_view file.shown)
-      of-shown (suc j) k file w o = subst (λ z. IsOf U lowers s.tree z (new_handle f o.node (way_of s.tree p) (s.tree o.node))) (sym (source-below j k)) (frozen j k file w o)
+      of-shown : (j k : ℕ) → IsShownFile (shows 0 (the_layers m) p) j k → f.writes ≡ false → (o : OpensReading (the_layers m) s c p f mode) → IsOf (the_upper m) (the_lowers m) s.tree (source_at (record { layer = j; key = k })) (new_handle f o.node (way_of s.tree p) (s.tree o.node))
+      of-shown zero k file w o = (law_of_live_shown (the_upper m) (the_lowers m) s st.layers p k file.inode file.bytes o.node file.shown file.content o.at, o.view ∙ ap shown_view file.shown)
+      of-shown (suc j) k file w o = subst (λ z. IsOf (the_upper m) (the_lowers m) s.tree z (new_handle f o.node (way_of s.tree p) (s.tree o.node))) (sym (source-below j k)) (frozen j k file w o)
 
       -- an open of a file
       pub open-file : (place : Place) → ShowsInode m.layers p place → f.writes ≡ false → (d : ℕ) (new : Clients) → OpensFile m.clients new c (file_at place f) (Ok (Ok d)) → Serves (refusal s c asked) s c asked (reply.Descriptor d) (record m { clients = new })
       open-file place i w d new ch =
-          let file : IsShownFile (shows 0 Ls p) place.layer place.key = file-there place i in
-          let there : is_some (shows 0 Ls p) ≡ true = ap is_some file.shown in
-          let o : OpensReading Ls s c p f mode = law w there (File (file_at place f)) d new ch in
-          let of : IsOf U lowers s.tree (source_at place) (new_handle f o.node (way_of s.tree p) (s.tree o.node)) = of-shown place.layer place.key file w o in
+          let file : IsShownFile (shows 0 (the_layers m) p) place.layer place.key = file-there place i in
+          let there : is_some (shows 0 (the_layers m) p) ≡ true = ap is_some file.shown in
+          let o : OpensReading (the_layers m) s c p f mode = law w there (File (file_at place f)) d new ch in
+          let of : IsOf (the_upper m) (the_lowers m) s.tree (source_at place) (new_handle f o.node (way_of s.tree p) (s.tree o.node)) = of-shown place.layer place.key file w o in
           open-done w there (File (file_at place f)) d new ch
           (record { source = of; reads = refl; writes = refl; append = refl; place = refl; unlisted = refl })
           (fresh-one p (file_at place f) (new_handle f o.node (way_of s.tree p) (s.tree o.node)) o.at of)

@@ -5,7 +5,7 @@ use Rattle.ov_base.specs.declared.errno.Errno.{Errno}
 use Rattle.ov_base.specs.declared.errno.Errno.TheVariants as errno
 use Rattle.ov_base.specs.declared.reply.Reply.{Reply}
 use Rattle.ov_base.specs.declared.reply.Reply.TheVariants as reply
-use Rattle.plain_model.specs.Layers.{Layer, Inode}
+use Rattle.plain_model.specs.Layers.{Inode}
 use Rattle.plain_model.specs.Machine.{Handle, State, handle_of}
 use Rattle.plain_model.specs.Refusals.{PLACE_MAX, when, refusal}
 use Rattle.plain_model.specs.Changes.{with_handle}
@@ -35,6 +35,7 @@ use Rattle.overlay_core.specs.States.{IsStateOf, Serves}
 use Rattle.overlay_core.proofs.Answering.{serve-refused, serve-done}
 use Rattle.overlay_core.proofs.FileSight.{Sees, file-sees, file-not-folder}
 use Rattle.overlay_core.proofs.Slots.{opened-after, slot-becomes, file-open, file-at, directory-at, by-opened, state-set, place-moved}
+use Rattle.overlay_core.proofs.Stating.{the_lowers, the_upper}
 
 -- these are the bytes of an open file
 abbrev pub AreBytes : Layers → FileSource → List ℕ → Type 0
@@ -87,12 +88,6 @@ unrefused-seek (Some (Directory x)) offset whence h bare = by (nat_eq (nat_abs o
     by false e g = cc
 
 module _ (m : Mount) (s : State) (st : IsStateOf m s) (c d : ℕ) where
-  abbrev U : Layer
-  U = layer_of m.layers.upper
-
-  abbrev lowers : List Layer
-  lowers = lowers_of m.layers
-
   module _ (offset : ℤ) (whence : ℕ) where
     -- the seek is answered so, by a mount that becomes this
     abbrev Sought : Reply → Mount → Type 0
@@ -119,7 +114,7 @@ module _ (m : Mount) (s : State) (st : IsStateOf m s) (c d : ℕ) where
       opens = file-open (opened_by m.clients c d) f is
 
       -- the handle of the file
-      found : (h : Handle) × (handle_of s.tables c d ≡ Some h) × IsFile U lowers s.tree f h
+      found : (h : Handle) × (handle_of s.tables c d ≡ Some h) × IsFile (the_upper m) (the_lowers m) s.tree f h
       found = file-at m s st c d f opens
 
       abbrev h : Handle
@@ -131,7 +126,7 @@ module _ (m : Mount) (s : State) (st : IsStateOf m s) (c d : ℕ) where
 
       -- the machine's seek of it
       law : SeeksFile s c d h
-      law = law_of_file_seek s c d h found.1 (file-not-folder U lowers s.tree f h found.2)
+      law = law_of_file_seek s c d h found.1 (file-not-folder (the_upper m) (the_lowers m) s.tree f h found.2)
 
       -- it leads to the same place
       leads : laws.seek_place s h offset whence ≡ pos base +ℤ offset

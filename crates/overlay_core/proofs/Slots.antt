@@ -5,8 +5,6 @@ use Rattle.plain_model.specs.Layers.{Layer}
 use Rattle.plain_model.specs.Tree.{Tree}
 use Rattle.plain_model.specs.Machine.{Handle, State, DESCRIPTORS_MAX, handles_of, handle_of}
 use Rattle.plain_model.specs.Changes.{with_handle}
-use Rattle.layer_tree.specs.Tree.{layer_of}
-use Rattle.merged_lookup.specs.Merged.{lowers_of}
 use Rattle.mount_laws.specs.OpenFiles.{IsLive}
 use Rattle.open_handles.specs.declared.handle.Handle as handles
 use Rattle.open_handles.specs.declared.handle.Handle.TheVariants.{Directory, File}
@@ -22,7 +20,7 @@ use Rattle.overlay_core.specs.Attaching.{opened_by, ChangesClient}
 use Rattle.overlay_core.specs.Files.{is_leaf, IsOf, IsFile, IsOpenOn}
 use Rattle.overlay_core.specs.States.{IsHandle, IsSlot, IsStateOf}
 use Rattle.overlay_core.proofs.Serving.{opened-is, slot-closed, open-at, room-of, in-room, tables-set, placed, one-fewer, set-fewer}
-use Rattle.overlay_core.proofs.Stating.{Alike, with-tables}
+use Rattle.overlay_core.proofs.Stating.{the_lowers, the_upper, Alike, with-tables}
 
 abbrev Slots : Type 0
 Slots = List (Option handles.Handle)
@@ -62,26 +60,20 @@ of-on U V lowers t u (Lower layer k) h g view writes live leaf s = record {
 }
 
 module _ (m : Mount) (s : State) (st : IsStateOf m s) where
-  abbrev U : Layer
-  U = layer_of m.layers.upper
-
-  abbrev lowers : List Layer
-  lowers = lowers_of m.layers
-
   abbrev alike : handles.Handle → Handle → Type 0
   alike = Alike m.layers s m.clients
 
   -- a file of the upper that is open is live
-  pub open-live : (k : ℕ) (d : NodeId) → IsOpenOn m.clients s.tables k d → IsLive U s.tree d k
+  pub open-live : (k : ℕ) (d : NodeId) → IsOpenOn m.clients s.tables k d → IsLive (the_upper m) s.tree d k
   open-live k d y =
       let z = open-at alike m.clients s.tables st.tables y.client y.descriptor (File y.file) y.opened in
       let same : z.0 ≡ y.handle = cc (z.1, y.on) in
-      let of : IsOf U lowers s.tree (Upper k) z.0 = subst (λ w. IsOf U lowers s.tree w z.0) y.key z.2.source in
-      subst (λ e. IsLive U s.tree e k) (ap (λ (g : Handle). g.node) same ∙ y.at) of.0
+      let of : IsOf (the_upper m) (the_lowers m) s.tree (Upper k) z.0 = subst (λ w. IsOf (the_upper m) (the_lowers m) s.tree w z.0) y.key z.2.source in
+      subst (λ e. IsLive (the_upper m) s.tree e k) (ap (λ (g : Handle). g.node) same ∙ y.at) of.0
 
   module _ (c d : ℕ) where
     -- the handle of an open file
-    pub file-at : (f : OpenFile) → opened_by m.clients c d ≡ Some (File f) → (h : Handle) × (handle_of s.tables c d ≡ Some h) × IsFile U lowers s.tree f h
+    pub file-at : (f : OpenFile) → opened_by m.clients c d ≡ Some (File f) → (h : Handle) × (handle_of s.tables c d ≡ Some h) × IsFile (the_upper m) (the_lowers m) s.tree f h
     file-at f e = open-at alike m.clients s.tables st.tables c d (File f) e
 
     -- the handle of an open directory
@@ -93,7 +85,7 @@ module _ (m : Mount) (s : State) (st : IsStateOf m s) where
     handle-none e = slot-closed alike _ _ (st.tables.slots c d) e
 
     -- what holds where nothing is open, where a file is, and where a directory is
-    pub by-opened : (P : Option handles.Handle → Type 0) → (handle_of s.tables c d ≡ None → P None) → ((f : OpenFile) (h : Handle) → handle_of s.tables c d ≡ Some h → IsFile U lowers s.tree f h → P (Some (File f))) → ((o : OpenDirectory) (h : Handle) → handle_of s.tables c d ≡ Some h → IsHandle s.tree m.clients.directories o h → P (Some (Directory o))) → P (opened_by m.clients c d)
+    pub by-opened : (P : Option handles.Handle → Type 0) → (handle_of s.tables c d ≡ None → P None) → ((f : OpenFile) (h : Handle) → handle_of s.tables c d ≡ Some h → IsFile (the_upper m) (the_lowers m) s.tree f h → P (Some (File f))) → ((o : OpenDirectory) (h : Handle) → handle_of s.tables c d ≡ Some h → IsHandle s.tree m.clients.directories o h → P (Some (Directory o))) → P (opened_by m.clients c d)
     by-opened P none file directory = by (opened_by m.clients c d) refl
       where
         by : (o : Option handles.Handle) → opened_by m.clients c d ≡ o → P o
@@ -107,7 +99,7 @@ module _ (m : Mount) (s : State) (st : IsStateOf m s) where
       state-set new same o x ch again like =
           with-tables m s st new (with_handle s.tables c d x) same ch.next
           (tables-set alike m.clients s.tables st.tables new.clients (Alike m.layers s new.clients) c d o x ch inside
-          (λ b i p z opens was is l. placed U lowers s.tree m.clients.directories new.clients.directories p z (λ e q is_e at. ch.places b i e q (opens ∙ ap Some is_e) at) l)
+          (λ b i p z opens was is l. placed (the_upper m) (the_lowers m) s.tree m.clients.directories new.clients.directories p z (λ e q is_e at. ch.places b i e q (opens ∙ ap Some is_e) at) l)
           like)
           (one-fewer m.clients new.clients s.tables (with_handle s.tables c d x) (set-fewer m.clients new.clients s.tables c d o x ch within again) st.one)
         where
@@ -123,16 +115,16 @@ module _ (m : Mount) (s : State) (st : IsStateOf m s) where
           state-set (record m { clients = new }) refl (Some (File (record f { place = place }))) (Some moved)
           (slot-becomes m.clients new c d (File f) (with_place place) opens ch)
           again
-          (record { source = of-on U U lowers s.tree s.tree f.source h moved refl refl (λ k e live. live) (λ leaf. leaf) file.source; reads = file.reads; writes = file.writes; append = file.append; place = refl; unlisted = file.unlisted })
+          (record { source = of-on (the_upper m) (the_upper m) (the_lowers m) s.tree s.tree f.source h moved refl refl (λ k e live. live) (λ leaf. leaf) file.source; reads = file.reads; writes = file.writes; append = file.append; place = refl; unlisted = file.unlisted })
         where
           moved : Handle
           moved = record h { place = place }
 
-          file : IsFile U lowers s.tree f h
+          file : IsFile (the_upper m) (the_lowers m) s.tree f h
           file =
               let x = file-at f opens in
               let same : x.0 ≡ h = cc (x.1, on) in
-              subst (λ (z : Handle). IsFile U lowers s.tree f z) same x.2
+              subst (λ (z : Handle). IsFile (the_upper m) (the_lowers m) s.tree f z) same x.2
 
           -- it is the same file, on the same node
           again : (g : OpenFile) (z : Handle) (k : ℕ) → Some (File (record f { place = place })) ≡ Some (File g) → Some moved ≡ Some z → g.source ≡ Upper k → IsOpenOn m.clients s.tables k z.node

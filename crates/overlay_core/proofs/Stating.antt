@@ -1,9 +1,10 @@
 -- A mount stands for a state still when its clients, or its layers, change so.
 use Rattle.std.proofs.Common.{◌≡◌, ℕ, List, Some, refl, sym, ap, ◌∙◌, subst}
+use Rattle.plain_model.specs.Layers.{Layer}
 use Rattle.plain_model.specs.Machine.{State, Table, Handle}
 use Rattle.layer_tree.specs.Tree.{layer_of}
 use Rattle.merged_lookup.specs.declared.layers.Layers.{Layers}
-use Rattle.merged_lookup.specs.Merged.{lowers_of}
+use Rattle.merged_lookup.specs.Merged.{layers_of, lowers_of}
 use Rattle.mount_laws.specs.Looks.{IsMountOf}
 use Rattle.open_handles.specs.declared.handle.Handle as handles
 use Rattle.overlay_core.specs.declared.clients.Clients.{Clients}
@@ -12,6 +13,16 @@ use Rattle.overlay_core.specs.Attaching.{ChangesClient}
 use Rattle.overlay_core.specs.Files.{AreOne}
 use Rattle.overlay_core.specs.States.{AreTables, AreUnwatched, IsOpenAs, IsStateOf}
 use Rattle.overlay_core.proofs.Serving.{SameClients, same-clients, tables-same, placed, one-fewer}
+
+-- the layers of a mount: the upper, the lower ones, and all of them
+abbrev pub the_upper : Mount → Layer
+the_upper m = layer_of m.layers.upper
+
+abbrev pub the_lowers : Mount → List Layer
+the_lowers m = lowers_of m.layers
+
+abbrev pub the_layers : Mount → List Layer
+the_layers m = layers_of m.layers
 
 -- what descriptors lead to in a mount
 abbrev pub Alike : Layers → State → Clients → handles.Handle → Handle → Type 0

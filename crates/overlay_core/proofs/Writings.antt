@@ -44,6 +44,7 @@ use Rattle.overlay_core.specs.States.{IsStateOf, Serves}
 use Rattle.overlay_core.proofs.Answering.{serve-done, serve-refused}
 use Rattle.overlay_core.proofs.Rewritten.{state-rewritten}
 use Rattle.overlay_core.proofs.Slots.{file-open, file-at, by-opened, place-moved}
+use Rattle.overlay_core.proofs.Stating.{the_lowers, the_upper}
 
 -- where every path holds what it held, no whiteout is needless that was needed
 thin-held : (old new : Layers) → new.lowers ≡ old.lowers → SameObjects (layer_of old.upper) (layer_of new.upper) → StaysThin old new
@@ -163,18 +164,12 @@ record IsWriting (m : Mount) (s : State) (c d : ℕ) (f : OpenFile) (h : Handle)
   live : IsLive (layer_of m.layers.upper) s.tree h.node key
 
 module _ (m : Mount) (s : State) (st : IsStateOf m s) (c d : ℕ) where
-  abbrev U : Layer
-  U = layer_of m.layers.upper
-
-  abbrev lowers : List Layer
-  lowers = lowers_of m.layers
-
   -- a file that has a key to write to is of the upper, and live
   writing : (f : OpenFile) → opened_by m.clients c d ≡ Some (File f) → is_none (written_key f) ≡ false → (h : Handle) × IsWriting m s c d f h
   writing f e some =
       let x = file-at m s st c d f e in
       let key = upper-key f some in
-      let of : IsOf U lowers s.tree (Upper key.0) x.0 = subst (λ z. IsOf U lowers s.tree z x.0) key.1 x.2.source in
+      let of : IsOf (the_upper m) (the_lowers m) s.tree (Upper key.0) x.0 = subst (λ z. IsOf (the_upper m) (the_lowers m) s.tree z x.0) key.1 x.2.source in
       (x.0, record { opened = e; on = x.1; file = x.2; key = key.0; source = key.1; live = of.0 })
 
   -- by it the file is open on its node
@@ -195,7 +190,7 @@ module _ (m : Mount) (s : State) (st : IsStateOf m s) (c d : ℕ) where
     truncate-refusal =
         by-opened m s st c d (λ o. refusal s c (call.Truncate d size) ≡ truncate_fault o size)
         (λ none. (law_of_unopened s c d none).sizing size)
-        (λ f h on is. (law_of_truncate s c d h on).refused size ∙ ap (λ b. or_else (when b errno.EINVAL) (when (nat_lt FILE_MAX size) errno.EFBIG)) (not-writing U lowers s.tree f h is))
+        (λ f h on is. (law_of_truncate s c d h on).refused size ∙ ap (λ b. or_else (when b errno.EINVAL) (when (nat_lt FILE_MAX size) errno.EFBIG)) (not-writing (the_upper m) (the_lowers m) s.tree f h is))
         (λ o h on is. (law_of_directory_handle s c d h on is.directory).sizing (ap (λ (z : Handle). z.writes) is.access) size)
 
     -- it is refused so
@@ -237,10 +232,10 @@ module _ (m : Mount) (s : State) (st : IsStateOf m s) (c d : ℕ) where
     Writes r new = Serves (refusal s c (call.Write d bytes)) s c (call.Write d bytes) r new
 
     -- why a write by a handle on an open file is refused: for its count, for want of access, or for its place
-    faults : (f : OpenFile) (h : Handle) → handle_of s.tables c d ≡ Some h → IsFile U lowers s.tree f h → refusal s c (call.Write d bytes) ≡ or_else (when (nat_lt TRANSFER_MAX (length bytes)) errno.EINVAL) (or_else (when (is_none (written_key f)) errno.EBADF) (room_fault (length bytes) (write_start s h)))
+    faults : (f : OpenFile) (h : Handle) → handle_of s.tables c d ≡ Some h → IsFile (the_upper m) (the_lowers m) s.tree f h → refusal s c (call.Write d bytes) ≡ or_else (when (nat_lt TRANSFER_MAX (length bytes)) errno.EINVAL) (or_else (when (is_none (written_key f)) errno.EBADF) (room_fault (length bytes) (write_start s h)))
     faults f h on file =
         let law : WritesFile s c d h = law_of_write s c d h on in
-        law.refused bytes ∙ ap (λ b. or_else (when (nat_lt TRANSFER_MAX (length bytes)) errno.EINVAL) (or_else (when b errno.EBADF) (room_fault (length bytes) (write_start s h)))) (not-writing U lowers s.tree f h file)
+        law.refused bytes ∙ ap (λ b. or_else (when (nat_lt TRANSFER_MAX (length bytes)) errno.EINVAL) (or_else (when b errno.EBADF) (room_fault (length bytes) (write_start s h)))) (not-writing (the_upper m) (the_lowers m) s.tree f h file)
 
     -- a write is refused so before its place is asked for
     pub write-refused : (e : Errno) → write_fault (opened_by m.clients c d) (length bytes) ≡ Some e → Writes (reply.Refused e) m
@@ -291,11 +286,11 @@ module _ (m : Mount) (s : State) (st : IsStateOf m s) (c d : ℕ) where
           (subst (IsStateOf m) (sym (ap (λ z. after s c (call.Write d z)) none ∙ law.nothing)) st)
 
       -- where a write begins in a file of these bytes
-      module _ (held : List ℕ) (reads : (i : Inode) → source_inode U lowers f.source ≡ Some i → held ≡ bytes_of_inode i) (start : ℕ) (begins : IsWritePlace f (length held) start) where
+      module _ (held : List ℕ) (reads : (i : Inode) → source_inode (the_upper m) (the_lowers m) f.source ≡ Some i → held ≡ bytes_of_inode i) (start : ℕ) (begins : IsWritePlace f (length held) start) where
         -- the machine's begins there too
         begin : start ≡ write_start s h
         begin =
-            let inode : source_inode U lowers f.source ≡ Some (record { content = content.File w.live.bytes; attributes = w.live.attributes; links = w.live.links }) = ap (source_inode U lowers) w.source ∙ w.live.inode in
+            let inode : source_inode (the_upper m) (the_lowers m) f.source ≡ Some (record { content = content.File w.live.bytes; attributes = w.live.attributes; links = w.live.links }) = ap (source_inode (the_upper m) (the_lowers m)) w.source ∙ w.live.inode in
             begins s.tree h w.file.append w.file.place (ap (λ o. length (bytes_of_node o)) w.live.node ∙ sym (ap length (reads _ inode)))
 
         -- so the place is refused alike
