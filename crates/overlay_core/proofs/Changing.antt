@@ -49,7 +49,7 @@ use Rattle.overlay_core.specs.Living.{StaysLive, KeepsLive, KeepsHeld, KeepsLeav
 use Rattle.overlay_core.specs.States.{Stands, IsHandle, AreTables, AreUnwatched, IsStateOf, StaysState, Serves}
 use Rattle.overlay_core.proofs.Answering.{on-err, serve-refused, serve-done}
 use Rattle.overlay_core.proofs.Counting.{below-find}
-use Rattle.overlay_core.proofs.Serving.{slot-as, slot-open, handle-now, removed-same, one-fewer}
+use Rattle.overlay_core.proofs.Serving.{slot-as, slot-open, handle-now, removed-same, open-before, one-fewer}
 use Rattle.overlay_core.proofs.Stating.{the_layers, the_lowers, the_upper, Alike}
 use Rattle.overlay_core.proofs.Carrying.{AreCounted, CarriesFiles, tables-on, state-stays, files-kept, files-held}
 use Rattle.overlay_core.proofs.Directories.{seen, shown-attributes, shown-directory}
@@ -148,17 +148,9 @@ tables-attached P clients new ks same tables = record {
 
 -- and have the same files open
 one-attached : (clients new : Clients) (ks : List Table) → new.attached ≡ clients.attached → AreOne clients ks → AreOne new ks
-one-attached clients new ks same = one-fewer clients new ks ks
-    (λ k d x. record {
-      client = x.client;
-      descriptor = x.descriptor;
-      file = x.file;
-      handle = x.handle;
-      opened = sym (ap (λ z. option_and_then (λ (e : Descriptors). opened e.slots.items x.descriptor) (get nat_cmp z x.client)) same) ∙ x.opened;
-      key = x.key;
-      on = x.on;
-      at = x.at;
-    })
+one-attached clients new ks same =
+    one-fewer clients new ks ks
+    (λ k d x. open-before clients new ks ks k d x (ap (λ z. option_and_then (λ (e : Descriptors). opened e.slots.items x.descriptor) (get nat_cmp z x.client)) same) refl)
 
 -- a directory below one is below a directory that has a name in it
 record Beneath (t : Tree) (p : Path) : Type 0 where

@@ -318,6 +318,10 @@ module _ (P : handles.Handle → Handle → Type 0) (clients : Clients) (ks : Li
 abbrev pub OpensFewer : Clients → List Table → Clients → List Table → Type 0
 OpensFewer old ks new ls = (k : ℕ) (d : NodeId) → IsOpenOn new ls k d → IsOpenOn old ks k d
 
+-- what is open on a file of the upper was so before where the descriptor led where it leads
+pub open-before : (old new : Clients) (ks ls : List Table) (k : ℕ) (d : NodeId) (x : IsOpenOn new ls k d) → opened_by new x.client x.descriptor ≡ opened_by old x.client x.descriptor → handle_of ls x.client x.descriptor ≡ handle_of ks x.client x.descriptor → IsOpenOn old ks k d
+open-before old new ks ls k d x same still = record { client = x.client; descriptor = x.descriptor; file = x.file; handle = x.handle; opened = sym same ∙ x.opened; key = x.key; on = sym still ∙ x.on; at = x.at }
+
 -- so files and nodes are one still
 pub one-fewer : (old new : Clients) (ks ls : List Table) → OpensFewer old ks new ls → AreOne old ks → AreOne new ls
 one-fewer old new ks ls fewer one k j d e x y = one k j d e (fewer k d x) (fewer j e y)
@@ -328,16 +332,7 @@ set-fewer old new ks c fd o x h within again k d on = by (cases_eq on.client c) 
   where
     -- another descriptor led there before
     before : opened_by new on.client on.descriptor ≡ opened_by old on.client on.descriptor → handle_of (with_handle ks c fd x) on.client on.descriptor ≡ handle_of ks on.client on.descriptor → IsOpenOn old ks k d
-    before same still = record {
-      client = on.client;
-      descriptor = on.descriptor;
-      file = on.file;
-      handle = on.handle;
-      opened = sym same ∙ on.opened;
-      key = on.key;
-      on = sym still ∙ on.on;
-      at = on.at;
-    }
+    before = open-before old new ks (with_handle ks c fd x) k d on
 
     by : (on.client ≡ c) ⊎ (on.client ≡ c → ⊥) → (on.descriptor ≡ fd) ⊎ (on.descriptor ≡ fd → ⊥) → IsOpenOn old ks k d
     by (inl b) (inl i) =

@@ -12,7 +12,7 @@ use Rattle.overlay_core.specs.declared.mount.Mount.{Mount}
 use Rattle.overlay_core.specs.Attaching.{ChangesClient}
 use Rattle.overlay_core.specs.Files.{AreOne}
 use Rattle.overlay_core.specs.States.{AreTables, AreUnwatched, IsOpenAs, IsStateOf}
-use Rattle.overlay_core.proofs.Serving.{SameClients, same-clients, tables-same, placed, one-fewer}
+use Rattle.overlay_core.proofs.Serving.{SameClients, same-clients, tables-same, placed, open-before, one-fewer}
 
 -- the layers of a mount: the upper, the lower ones, and all of them
 abbrev pub the_upper : Mount → Layer
@@ -53,7 +53,7 @@ module _ (m : Mount) (s : State) (st : IsStateOf m s) where
       (tables-same (Alike m.layers s m.clients) m.clients s.tables st.tables new (Alike m.layers s new) same
       (λ c d o h on at is. placed (layer_of m.layers.upper) (lowers_of m.layers) s.tree m.clients.directories new.directories o h (λ e l f. same.places c d e l (on ∙ ap Some f)) is))
       (one-fewer m.clients new s.tables s.tables
-      (λ k d x. record { client = x.client; descriptor = x.descriptor; file = x.file; handle = x.handle; opened = sym (same.opened x.client x.descriptor) ∙ x.opened; key = x.key; on = x.on; at = x.at })
+      (λ k d x. open-before m.clients new s.tables s.tables k d x (same.opened x.client x.descriptor) refl)
       st.one)
 
   -- nothing is changed
