@@ -1,5 +1,5 @@
 -- The calls that change the layers: what becomes of open directories, and the machine's steps.
-use Rattle.std.proofs.Common.{arith, ◌≡◌, ◌≢◌, ℕ, ◌<◌, Bool, true, false, not, cond, List, [], ◌∷◌, ◌++◌, Option, None, Some, Result, Ok, Err, IsSome, refl, sym, ap, ◌∙◌, subst, is_some}
+use Rattle.std.proofs.Common.{arith, ◌≡◌, ◌≢◌, ℕ, ◌<◌, Bool, true, false, cond, List, [], ◌∷◌, ◌++◌, Option, None, Some, Result, Ok, Err, IsSome, refl, sym, ap, ◌∙◌, subst, is_some}
 use Rattle.std.specs.Option.{option_and_then, option_map}
 use Rattle.std.specs.BTreeMap.{get}
 use Rattle.std.specs.Ordering.{nat_cmp}
@@ -9,7 +9,7 @@ use Rattle.std.proofs.lemmas.Bool.{false≢true}
 use Rattle.ov_base.specs.declared.call.Call.{Call}
 use Rattle.ov_base.specs.declared.call.Call.TheVariants as call
 use Rattle.ov_base.specs.declared.errno.Errno.{Errno}
-use Rattle.ov_base.specs.declared.errno.Errno.TheVariants.{EBUSY, EISDIR, ENOTDIR}
+use Rattle.ov_base.specs.declared.errno.Errno.TheVariants.{EBUSY, EISDIR}
 use Rattle.ov_base.specs.declared.attributes.Attributes.{Attributes}
 use Rattle.ov_base.specs.declared.node_id.NodeId.{NodeId}
 use Rattle.ov_base.specs.declared.node_id.NodeId.TheVariants.{New}
@@ -179,19 +179,6 @@ stands-at t ds o h k q is on at =
     let located : Some is.location ≡ Some (At q) = sym is.located ∙ ap (places.opened ds) on ∙ at in
     let same : is.location ≡ At q = cc in
     subst (λ z. Stands t z h.node) same is.stands
-
--- an rmdir that isn't refused is not of the root, and of a directory that is shown where the walk isn't refused
-pub not-root : (Ls : List Layer) (p : Path) → rmdir_fault Ls p false ≡ None → p ≢ []
-not-root Ls p ok e = let no : rmdir_fault Ls [] false ≡ None = subst (λ z. rmdir_fault Ls z false ≡ None) e ok in absurd (cc)
-
-unrefused-rmdir : (root : Bool) (w : Option Errno) (d : Bool) → or_else (when root EBUSY) (or_else w (or_else (when (not d) ENOTDIR) None)) ≡ None → (w ≡ None) × (d ≡ true)
-unrefused-rmdir true w d e = cc
-unrefused-rmdir false (Some x) d e = cc
-unrefused-rmdir false None true e = (refl, refl)
-unrefused-rmdir false None false e = cc
-
-pub rmdir-walks : (Ls : List Layer) (p : Path) → rmdir_fault Ls p false ≡ None → (walk_fault Ls p ≡ None) × (is_directory (shows 0 Ls p) ≡ true)
-rmdir-walks Ls p ok = unrefused-rmdir (is_root p) (walk_fault Ls p) (is_directory (shows 0 Ls p)) ok
 
 module _ (m : Mount) (s : State) (st : IsStateOf m s) (new : Layers) where
   abbrev V : Layer

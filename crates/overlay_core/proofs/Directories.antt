@@ -22,7 +22,7 @@ use Rattle.open_handles.specs.Opened.{Location, At, Removed}
 use Rattle.open_handles.specs.declared.handle.OpenDirectory.{OpenDirectory}
 use Rattle.overlay_core.specs.States.{Stands, IsHandle}
 
--- a node is a directory where the layers show one, and the other way round
+-- the layers show a directory where a node is one
 shown-if-folder : (o : Option Node) (b : Bool) (x : Option Shown) → face o ≡ see b x → is_folder o ≡ true → is_directory x ≡ true
 shown-if-folder None b x e f = absurd (false≢true f)
 shown-if-folder (Some (Leaf content a u l)) b x e f = absurd (false≢true f)
@@ -30,13 +30,6 @@ shown-if-folder (Some (Branch a k names l)) b None e f = cc
 shown-if-folder (Some (Branch a k names l)) b (Some (Folder i j z)) e f = refl
 shown-if-folder (Some (Branch a k names l)) b (Some (Contents i j None)) e f = cc
 shown-if-folder (Some (Branch a k names l)) b (Some (Contents i j (Some inode))) e f = cc
-
-folder-if-shown : (o : Option Node) (b : Bool) (x : Option Shown) → face o ≡ see b x → is_directory x ≡ true → is_folder o ≡ true
-folder-if-shown o b None e f = absurd (false≢true f)
-folder-if-shown o b (Some (Contents i j inode)) e f = absurd (false≢true f)
-folder-if-shown None b (Some (Folder i j z)) e f = cc
-folder-if-shown (Some (Leaf content a u l)) b (Some (Folder i j z)) e f = cc
-folder-if-shown (Some (Branch a k names l)) b (Some (Folder i j z)) e f = refl
 
 -- a node has the attributes of the directory that the layers show
 pub shown-attributes : (o : Option Node) (b : Bool) (x : Option Shown) (a : Attributes) → (i k : ℕ) × (x ≡ Some (Folder i k a)) → face o ≡ see b x → folder_attributes o ≡ Some a
@@ -59,9 +52,6 @@ module _ (U : Layer) (lowers : List Layer) (s : State) (m : IsMountOf U lowers s
 
   pub shown-directory : (p : Path) (d : NodeId) → node_at s.tree p ≡ Some d → is_folder (s.tree d) ≡ true → is_directory (shows 0 (U ∷ lowers) p) ≡ true
   shown-directory p d e f = shown-if-folder (s.tree d) (base U lowers p) (shows 0 (U ∷ lowers) p) (seen p d e) f
-
-  pub directory-folder : (p : Path) (d : NodeId) → node_at s.tree p ≡ Some d → is_directory (shows 0 (U ∷ lowers) p) ≡ true → is_folder (s.tree d) ≡ true
-  directory-folder p d e f = folder-if-shown (s.tree d) (base U lowers p) (shows 0 (U ∷ lowers) p) (seen p d e) f
 
   module _ (c fd : ℕ) (ds : Dentries) (o : OpenDirectory) (h : Handle) (on : handle_of s.tables c fd ≡ Some h) (is : IsHandle s.tree ds o h) where
     -- an open directory lists

@@ -3,7 +3,7 @@ use Rattle.std.proofs.Common.{arith, ◌≡◌, ◌≢◌, ℕ, suc, zero, ◌+�
 use Rattle.std.proofs.Math.ListN.{set}
 use Rattle.std.proofs.Math.Bool.{or-false}
 use Rattle.std.proofs.lemmas.List.Folds.{list_any-append}
-use Rattle.std.proofs.lemmas.Option.{same_Some, slice_get_read, slice_get-map, slice_get_within}
+use Rattle.std.proofs.lemmas.Option.{same_Some, slice_get-map, slice_get_within}
 use Rattle.std.proofs.lemmas.List.{take_more}
 use Rattle.std.proofs.lemmas.Bool.{false≢true, cases_eq, eq-eqb, ne_eqb}
 use Rattle.std.specs.List.{list_any}
@@ -79,9 +79,6 @@ open-set : (jobs : List Job) (i : ℕ) (j k : Job) → slice_get jobs i ≡ Some
 open-set [] i j k h = cc
 open-set (x ∷ jobs) zero j k h = let e : one_if_open x.standing ≡ one_if_open j.standing = ap (λ (y : Job). one_if_open y.standing) (same_Some x j h) in omega arith
 open-set (x ∷ jobs) (suc i) j k h = omega (arith, open-set jobs i j k h)
-
-pub job-here : (jobs : List Job) (i : ℕ) (j : Job) → i < length jobs → j ≡ get_or jobs i j → slice_get jobs i ≡ Some j
-job-here jobs i j h e = slice_get_read jobs (length jobs) i j refl h e
 
 pub calls-set : (jobs : List Job) (i : ℕ) (j k : Job) → slice_get jobs i ≡ Some j → k.client ≡ j.client → k.call ≡ j.call → calls_of (set jobs i k) ≡ calls_of jobs
 calls-set [] i j k h p q = cc

@@ -6,8 +6,6 @@ use Rattle.std.proofs.lemmas.Option.{slice_get-get_or, slice_get_past}
 use Rattle.std.specs.List.{list_any, flat_map}
 use mathlib.Core.Logic.{∥∥₁_elim}
 use mathlib.Core.HLevel.{⊥_prop}
-use Rattle.std.specs.BTreeMap.{get}
-use Rattle.std.specs.Ordering.{nat_cmp}
 use Rattle.std.specs.Prelude.{map, slice_index_or}
 use Rattle.ov_base.specs.declared.call.Call.{Call}
 use Rattle.ov_base.specs.declared.call.Call.TheVariants.{Close}
@@ -32,13 +30,12 @@ use Rattle.open_handles.specs.declared.handle.Handle as handles
 use Rattle.overlay_core.specs.declared.clients.Clients.{Clients}
 use Rattle.overlay_core.specs.declared.mount.Mount.{Mount}
 use Rattle.overlay_core.specs.Attaching.{Detaches, KeepsOthers, KeepsPlaces, opened_by}
-use Rattle.overlay_core.specs.Files.{IsOpenOn}
 use Rattle.overlay_core.specs.Leaving.{ClosesEach}
 use Rattle.overlay_core.specs.Living.{KeepsPaths}
 use Rattle.overlay_core.specs.Rules.{Nothing}
 use Rattle.overlay_core.specs.States.{IsSlot, IsOpenAs, AreTables, AreUnwatched, HasStateOf, IsStateOf, Serves}
 use Rattle.overlay_core.proofs.Coming.{of, open_in, fewer-but, tables-but}
-use Rattle.overlay_core.proofs.Serving.{slot-as, carried, handles-set, get-others, OpensFewer, one-fewer}
+use Rattle.overlay_core.proofs.Serving.{handles-set, get-others, one-fewer}
 use Rattle.overlay_core.proofs.Stating.{with-tables}
 
 -- fewer instances without watches

@@ -130,14 +130,6 @@ slot-open P (Some a) (Some h) o s e =
     let same : a ≡ o = cc in
     (h, refl, subst (λ z. P z h) same s)
 
--- and the handle of a descriptor is of what is open there
-pub slot-handle : (P : handles.Handle → Handle → Type 0) (a : Option handles.Handle) (x : Option Handle) (h : Handle) → IsSlot P a x → x ≡ Some h → (o : handles.Handle) × (a ≡ Some o) × P o h
-slot-handle P a None h s e = cc
-slot-handle P None (Some x) h s e = absurd s
-slot-handle P (Some o) (Some x) h s e =
-    let same : x ≡ h = cc in
-    (o, refl, subst (λ z. P o z) same s)
-
 -- a closed one has none
 pub slot-closed : (P : handles.Handle → Handle → Type 0) (a : Option handles.Handle) (x : Option Handle) → IsSlot P a x → a ≡ None → x ≡ None
 slot-closed P None None s e = refl
