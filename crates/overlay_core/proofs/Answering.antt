@@ -1,34 +1,22 @@
 -- The mount answers each call as the machine does.
 use Rattle.std.proofs.Common.{arith, ◌≡◌, ℕ, ◌+◌, true, min, List, Option, None, Some, Result, Ok, Err, refl, sym, ap, ◌∙◌, subst, is_some, length, take, drop}
-use Rattle.std.specs.Option.{unwrap_or, option_and_then}
-use Rattle.std.proofs.lemmas.Bool.{false≢true}
+use Rattle.overlay_core.proofs.Words.{after, AllocError, At, Call, Content, Contents, Directory, directory_in, Errno, false≢true, File, Folder, GivesNames, Handle, handle_of, Inode, is_directory, Layer, Location, Name, OnErr, OpenDirectory, option_and_then, or_else, parents_fault, Path, refusal, Removed, Reply, reply_of, Shown, shows, Stat, State}
+use Rattle.std.specs.Option.{unwrap_or}
 use Rattle.std.proofs.lemmas.List.{drop_min, drop-drop}
-use Rattle.std.specs.Result.{OnErr}
-use Rattle.std.specs.declared.alloc.AllocError.{AllocError}
-use Rattle.ov_base.specs.declared.bytes.Content.{Content}
 use Rattle.ov_base.specs.declared.bytes.Content.TheVariants as content
-use Rattle.ov_base.specs.declared.call.Call.{Call}
 use Rattle.ov_base.specs.declared.call.Call.TheVariants as call
-use Rattle.ov_base.specs.declared.errno.Errno.{Errno}
-use Rattle.ov_base.specs.declared.reply.Reply.{Reply}
 use Rattle.ov_base.specs.declared.reply.Reply.TheVariants as reply
-use Rattle.ov_base.specs.declared.reply.Stat.{Stat}
-use Rattle.plain_model.specs.Layers.{Name, Path, Inode, Layer, Shown, Folder, Contents, shows, is_directory}
-use Rattle.plain_model.specs.Machine.{Handle, State, Look, Found, Absent, Fails, handle_of, look, is_found}
-use Rattle.plain_model.specs.Refusals.{there, refusal}
-use Rattle.plain_model.specs.Changes.{after, names_in, listing, listed_on}
-use Rattle.plain_model.specs.Replies.{reply_of}
-use Rattle.mount_laws.specs.Looks.{or_else, absent, parents_fault, walk_fault, shown_status, Stats, Lists}
+use Rattle.plain_model.specs.Machine.{Look, Found, Absent, Fails, look, is_found}
+use Rattle.plain_model.specs.Refusals.{there}
+use Rattle.plain_model.specs.Changes.{names_in, listing, listed_on}
+use Rattle.mount_laws.specs.Looks.{absent, walk_fault, shown_status, Stats, Lists}
 use Rattle.mount_laws.specs.Removed.{ListsRemoved}
 use Rattle.mount_laws.proofs.Looks.{is_present, present, law_of_walks, law_of_stat}
 use Rattle.mount_laws.proofs.Lists.{law_of_list, law_of_bad_descriptors}
 use Rattle.mount_laws.proofs.Removed.{law_of_list_removed}
 use Rattle.mount_laws.proofs.Descriptors.{law_of_file_list}
-use Rattle.open_handles.specs.Opened.{Location, At, Removed, path_in}
+use Rattle.open_handles.specs.Opened.{path_in}
 use Rattle.open_handles.specs.declared.handle.Handle as handles
-use Rattle.open_handles.specs.declared.handle.Handle.TheVariants.{Directory, File}
-use Rattle.open_handles.specs.declared.handle.OpenDirectory.{OpenDirectory}
-use Rattle.open_handles.specs.Listings.{GivesNames, directory_in}
 use Rattle.overlay_core.specs.declared.clients.Clients.{Clients}
 use Rattle.overlay_core.specs.declared.mount.Mount.{Mount}
 use Rattle.overlay_core.specs.Attaching.{opened_by, path_of, ChangesClient}

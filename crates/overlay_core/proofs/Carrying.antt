@@ -1,23 +1,8 @@
 -- Open files through changes of the layers and of the tree.
 use Rattle.std.proofs.Common.{◌≡◌, ◌↔◌, ℕ, ◌<◌, true, List, Some, refl, sym, ap, ◌∙◌, subst, map}
-use Rattle.ov_base.specs.declared.call.Call.{Call}
-use Rattle.plain_model.specs.Layers.{Layer}
-use Rattle.plain_model.specs.Tree.{Tree}
-use Rattle.plain_model.specs.Machine.{Handle, Table, State, handle_of}
-use Rattle.plain_model.specs.Changes.{after}
-use Rattle.layer_tree.specs.Tree.{layer_of}
-use Rattle.merged_lookup.specs.declared.layers.Layers.{Layers}
-use Rattle.merged_lookup.specs.Merged.{lowers_of}
-use Rattle.mount_laws.specs.Looks.{IsMountOf}
-use Rattle.mount_laws.specs.OpenFiles.{IsLive}
+use Rattle.overlay_core.proofs.Words.{after, Call, Dentries, Directory, File, file_holders, Handle, handle_of, IsLive, IsMountOf, Layer, layer_of, Layers, lowers_of, OpenDirectory, OpenFile, State, Table, Tree, Upper}
 use Rattle.mount_laws.proofs.Handles.{held-by}
-use Rattle.open_handles.specs.Dentries.{Dentries}
-use Rattle.open_handles.specs.FileHolders.{file_holders}
 use Rattle.open_handles.specs.declared.handle.Handle as handles
-use Rattle.open_handles.specs.declared.handle.Handle.TheVariants.{Directory, File}
-use Rattle.open_handles.specs.declared.handle.OpenDirectory.{OpenDirectory}
-use Rattle.open_handles.specs.declared.open_file.FileSource.TheVariants.{Upper}
-use Rattle.open_handles.specs.declared.open_file.OpenFile.{OpenFile}
 use Rattle.overlay_core.specs.declared.clients.Clients.{Clients}
 use Rattle.overlay_core.specs.declared.mount.Mount.{Mount}
 use Rattle.overlay_core.specs.Attaching.{opened_by}

@@ -1,45 +1,25 @@
 -- The calls that change the layers: what becomes of open directories, and the machine's steps.
 use Rattle.std.proofs.Common.{arith, ◌≡◌, ◌≢◌, ℕ, ◌<◌, Bool, true, false, cond, List, [], ◌∷◌, ◌++◌, Option, None, Some, Result, Ok, Err, IsSome, refl, sym, ap, ◌∙◌, subst, is_some}
-use Rattle.std.specs.Option.{option_and_then, option_map}
+use Rattle.overlay_core.proofs.Words.{after, AllocError, At, Attributes, base, Branch, Call, Dentries, Descriptors, Directory, Errno, false≢true, folder_attributes, Handle, handle_of, is_directory, is_folder, IsMountOf, Layer, layer_of, Layers, Leaf, Location, lowers_of, made_way, Name, nat_cmp, New, Node, node_at, NodeId, OnErr, OpenDirectory, option_and_then, option_map, or_else, Path, put, refusal, Removed, Removes, reply_of, same_id, shows, State, StaysMount, Table, Tree, way_of, when}
 use Rattle.std.specs.BTreeMap.{get}
-use Rattle.std.specs.Ordering.{nat_cmp}
-use Rattle.std.specs.Result.{OnErr}
-use Rattle.std.specs.declared.alloc.AllocError.{AllocError}
-use Rattle.std.proofs.lemmas.Bool.{false≢true}
-use Rattle.ov_base.specs.declared.call.Call.{Call}
 use Rattle.ov_base.specs.declared.call.Call.TheVariants as call
-use Rattle.ov_base.specs.declared.errno.Errno.{Errno}
 use Rattle.ov_base.specs.declared.errno.Errno.TheVariants.{EBUSY, EISDIR}
-use Rattle.ov_base.specs.declared.attributes.Attributes.{Attributes}
-use Rattle.ov_base.specs.declared.node_id.NodeId.{NodeId}
-use Rattle.ov_base.specs.declared.node_id.NodeId.TheVariants.{New}
 use Rattle.ov_base.specs.declared.reply.Reply.TheVariants as reply
-use Rattle.plain_model.specs.Layers.{Name, Path, Layer, shows, base, is_directory, same_path}
-use Rattle.plain_model.specs.Tree.{same_id, Node, Branch, Leaf, Tree, names_of, entry, node_at, put, with_name, is_folder}
-use Rattle.plain_model.specs.Machine.{Handle, Table, State, is_root, handle_of}
-use Rattle.plain_model.specs.Refusals.{when, refusal}
-use Rattle.plain_model.specs.Changes.{after, made_way, way_of}
-use Rattle.plain_model.specs.Replies.{reply_of}
+use Rattle.plain_model.specs.Layers.{same_path}
+use Rattle.plain_model.specs.Tree.{names_of, entry, with_name}
+use Rattle.plain_model.specs.Machine.{is_root}
 use Rattle.plain_model.proofs.Paths.{ids_tell, paths_tell}
-use Rattle.layer_tree.specs.Tree.{layer_of}
-use Rattle.copy_up.specs.Showing.{StaysMount}
-use Rattle.merged_lookup.specs.declared.layers.Layers.{Layers}
-use Rattle.merged_lookup.specs.Merged.{lowers_of}
-use Rattle.mount_laws.specs.Looks.{or_else, walk_fault, IsMountOf, KeepsHidden, Makes, mkdir_fault}
+use Rattle.mount_laws.specs.Looks.{walk_fault, KeepsHidden, Makes, mkdir_fault}
 use Rattle.mount_laws.specs.Leaves.{MakesLink, symlink_fault}
-use Rattle.mount_laws.specs.Removals.{folder_attributes, Removes, unlink_fault, rmdir_fault, ShowsNoName}
+use Rattle.mount_laws.specs.Removals.{unlink_fault, rmdir_fault, ShowsNoName}
 use Rattle.mount_laws.specs.Altered.{AltersState}
 use Rattle.mount_laws.proofs.Looks.{law_of_mkdir}
 use Rattle.mount_laws.proofs.Refusing.{law_of_symlink, law_of_unlink, law_of_rmdir}
 use Rattle.overlay_core.specs.declared.clients.Clients.{Clients}
-use Rattle.open_handles.specs.declared.descriptors.Descriptors.{Descriptors}
-use Rattle.open_handles.specs.Dentries.{Dentries}
 use Rattle.open_handles.specs.Descriptors.{opened}
 use Rattle.open_handles.specs.Opened as places
-use Rattle.open_handles.specs.Opened.{Location, At, Removed, NoneBelow, after_removal}
+use Rattle.open_handles.specs.Opened.{NoneBelow, after_removal}
 use Rattle.open_handles.specs.declared.handle.Handle as handles
-use Rattle.open_handles.specs.declared.handle.Handle.TheVariants.{Directory}
-use Rattle.open_handles.specs.declared.handle.OpenDirectory.{OpenDirectory}
 use Rattle.overlay_core.specs.declared.mount.Mount.{Mount}
 use Rattle.overlay_core.specs.Altering.{AltersUnless}
 use Rattle.overlay_core.specs.Held.{handles_below}

@@ -1,39 +1,23 @@
 -- What closing a descriptor does to a mount, where a file that nothing names or holds any more is freed.
 use Rattle.std.proofs.Common.{arith, ◌≡◌, ◌≢◌, ◌↔◌, ℕ, zero, suc, ◌<◌, true, false, cond, ◌||◌, List, Option, None, Some, Ok, Err, refl, sym, ap, ◌∙◌, subst, ◌⊎◌, inl, inr, is_some}
-use Rattle.std.proofs.lemmas.Bool.{false≢true, cases_Bool, cases_eq}
+use Rattle.overlay_core.proofs.Words.{after, cases_Bool, cases_eq, Directory, Errno, false≢true, File, file_holders, file_in, FileSource, Handle, handle_of, Inode, IsLive, IsMountOf, Layer, layer_of, Layers, Lower, lowers_of, node_at, NodeId, OpenFile, Path, refusal, SetsSlot, State, StaysMount, Table, Tree, Upper, with_handle}
 use Rattle.ov_base.specs.declared.call.Call.TheVariants as call
-use Rattle.ov_base.specs.declared.errno.Errno.{Errno}
 use Rattle.ov_base.specs.declared.errno.Errno.TheVariants as errno
-use Rattle.ov_base.specs.declared.node_id.NodeId.{NodeId}
 use Rattle.ov_base.specs.declared.reply.Reply.TheVariants as reply
-use Rattle.plain_model.specs.Layers.{Path, Inode, Layer}
-use Rattle.plain_model.specs.Tree.{Tree, node_at}
-use Rattle.plain_model.specs.Machine.{Handle, Table, State, handle_of}
-use Rattle.plain_model.specs.Refusals.{refusal}
-use Rattle.plain_model.specs.Changes.{is_named, is_held, settled, with_handle, after}
+use Rattle.plain_model.specs.Changes.{is_named, is_held, settled}
 use Rattle.plain_model.proofs.Kept.{at-path}
 use Rattle.plain_model.proofs.Lasting.{some-named}
-use Rattle.layer_tree.specs.Tree.{layer_of}
-use Rattle.merged_lookup.specs.declared.layers.Layers.{Layers}
-use Rattle.merged_lookup.specs.Merged.{lowers_of}
-use Rattle.copy_up.specs.Showing.{StaysMount, StaysThin}
-use Rattle.mount_laws.specs.Looks.{IsMountOf}
+use Rattle.copy_up.specs.Showing.{StaysThin}
 use Rattle.mount_laws.specs.Descriptors.{ClosesHandle}
 use Rattle.mount_laws.specs.Removed.{ClosesHidden}
-use Rattle.mount_laws.specs.OpenFiles.{IsLive, DropsInode}
+use Rattle.mount_laws.specs.OpenFiles.{DropsInode}
 use Rattle.mount_laws.proofs.Opens.{put-same}
 use Rattle.mount_laws.proofs.Lists.{law_of_bad_descriptors}
 use Rattle.mount_laws.proofs.Descriptors.{law_of_handle_close}
 use Rattle.mount_laws.proofs.Removed.{law_of_close_removed}
 use Rattle.mount_laws.proofs.StayOpen.{law_of_live_kept}
 use Rattle.open_handles.specs.declared.handle.Handle as handles
-use Rattle.open_handles.specs.declared.handle.Handle.TheVariants.{Directory, File}
-use Rattle.open_handles.specs.declared.open_file.FileSource.{FileSource}
-use Rattle.open_handles.specs.declared.open_file.FileSource.TheVariants.{Upper, Lower}
-use Rattle.open_handles.specs.declared.open_file.OpenFile.{OpenFile}
-use Rattle.open_handles.specs.Descriptors.{SetsSlot}
-use Rattle.open_handles.specs.FileHolders.{file_holders}
-use Rattle.open_handles.specs.Listings.{Closes, file_in}
+use Rattle.open_handles.specs.Listings.{Closes}
 use Rattle.overlay_core.specs.declared.clients.Clients.{Clients}
 use Rattle.overlay_core.specs.declared.mount.Mount.{Mount}
 use Rattle.overlay_core.specs.Attaching.{opened_by, file_by, ChangesClient}

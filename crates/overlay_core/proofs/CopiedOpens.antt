@@ -1,50 +1,35 @@
 -- Opens that copy a file up: the states that the mount stands for on the way.
 use Rattle.std.proofs.Common.{◌≡◌, ◌≢◌, ◌↔◌, ℕ, ◌<◌, Bool, true, false, cond, List, [], Option, None, Some, Result, Ok, Err, MatchResult, IfOk, OnErr, refl, sym, ap, ◌∙◌, subst, inl, inr, is_some}
-use Rattle.std.proofs.lemmas.Bool.{false≢true}
-use Rattle.std.specs.Option.{option_and_then}
-use Rattle.std.specs.declared.alloc.AllocError.{AllocError}
+use Rattle.overlay_core.proofs.Words.{after, AllocError, Attributes, bad_flags, base, bytes_at, Call, change, Contents, EINVAL, false≢true, File, file_bytes, Handle, Inode, inode_of, IsLive, IsMountOf, Layer, layer_of, Layers, layers_of, Leaf, live_handle, lowers_of, lowest_free, MountOptions, Node, node_at, node_in, NodeId, OpenFile, OpenFlags, opening_fault, option_and_then, or_else, over_node, Own, parents_fault, Path, Place, put, refusal, rewritten, same_id, see, shows, shows_link, ShowsInode, sized, State, StaysLayers, Tree, trees, Upper, way_of, when, with_bytes, with_handle}
 use Rattle.slab.specs.Slab.{get}
-use Rattle.ov_base.specs.declared.attributes.Attributes.{Attributes}
 use Rattle.ov_base.specs.declared.bytes.Content.TheVariants as content
-use Rattle.ov_base.specs.declared.call.Call.{Call}
 use Rattle.ov_base.specs.declared.call.Call.TheVariants as call
-use Rattle.ov_base.specs.declared.call.OpenFlags.{OpenFlags}
-use Rattle.ov_base.specs.declared.errno.Errno.TheVariants.{EINVAL, ELOOP}
-use Rattle.ov_base.specs.declared.node_id.NodeId.{NodeId}
+use Rattle.ov_base.specs.declared.errno.Errno.TheVariants.{ELOOP}
 use Rattle.ov_base.specs.declared.reply.Reply.TheVariants as reply
-use Rattle.plain_model.specs.Layers.{Path, Named, Inode, Layer, held, below, cuts, Contents, over, unless, shows, base}
-use Rattle.plain_model.specs.Tree.{Node, Leaf, Origin, Own, Tree, origin_in, same_id, node_at, put, SeenLeaf, see}
-use Rattle.plain_model.specs.Machine.{Handle, State, MountOptions, lowest_free}
-use Rattle.plain_model.specs.Refusals.{when, bad_flags, bad_mode, refusal}
-use Rattle.plain_model.specs.Changes.{sized, over_node, change, opened, touched, way_of, with_attributes, with_bytes, with_handle, with_owner, after}
+use Rattle.plain_model.specs.Layers.{Named, held, below, cuts, over, unless}
+use Rattle.plain_model.specs.Tree.{Origin, origin_in, SeenLeaf}
+use Rattle.plain_model.specs.Refusals.{bad_mode}
+use Rattle.plain_model.specs.Changes.{opened, touched, with_attributes, with_owner}
 use Rattle.plain_model.proofs.Keeping.{put-here}
 use Rattle.plain_model.proofs.Paths.{ids_tell}
-use Rattle.layer_tree.specs.Tree.{layer_of, inode_of, file_bytes, bytes_at}
 use Rattle.layer_tree.specs.declared.node.Inode.{Inode as StoredInode}
 use Rattle.layer_tree.specs.declared.node.Node.TheVariants as node
 use Rattle.layer_tree.proofs.Walks.{same_path}
-use Rattle.merged_lookup.specs.declared.layers.Layers.{Layers}
-use Rattle.merged_lookup.specs.declared.stack.Place.{Place}
-use Rattle.merged_lookup.specs.Merged.{trees, node_in, layers_of, lowers_of, ShowsInode}
 use Rattle.merged_lookup.proofs.Looking.{inode-shown}
-use Rattle.mount_laws.specs.Looks.{or_else, parents_fault, absent, is_link_inode, shows_link, IsMountOf}
+use Rattle.mount_laws.specs.Looks.{absent, is_link_inode}
 use Rattle.mount_laws.specs.Attributes.{shown_attributes, chown_fault}
 use Rattle.mount_laws.specs.Altered.{AltersState}
 use Rattle.mount_laws.specs.StayOpen.{AltersNamed}
-use Rattle.mount_laws.specs.OpenFiles.{IsLive, rewritten}
-use Rattle.mount_laws.specs.Opening.{opening_fault, live_handle, OpensWriting}
+use Rattle.mount_laws.specs.Opening.{OpensWriting}
 use Rattle.mount_laws.proofs.Altered.{law_of_owner_changed}
 use Rattle.mount_laws.proofs.Links.{first-none, second-none}
 use Rattle.mount_laws.proofs.OpenFiles.{law_of_live_shown}
 use Rattle.mount_laws.proofs.Opening.{law_of_opened_for_writing}
 use Rattle.mount_laws.proofs.Outlive.{law_of_live_through_owner}
 use Rattle.copy_up.specs.Leaves.{CopiesLeaf}
-use Rattle.copy_up.specs.Showing.{ShowsSame, StaysLayers}
+use Rattle.copy_up.specs.Showing.{ShowsSame}
 use Rattle.copy_up.proofs.Copying.{free-inode}
 use Rattle.copy_up.proofs.Keeping.{lowers-same}
-use Rattle.open_handles.specs.declared.handle.Handle.TheVariants.{File}
-use Rattle.open_handles.specs.declared.open_file.FileSource.TheVariants.{Upper}
-use Rattle.open_handles.specs.declared.open_file.OpenFile.{OpenFile}
 use Rattle.overlay_core.specs.declared.clients.Clients.{Clients}
 use Rattle.overlay_core.specs.declared.mount.Mount.{Mount}
 use Rattle.overlay_core.specs.Attaching.{ChangesClient}

@@ -1,14 +1,8 @@
 -- The handles of all clients on a directory or a file, after one client's descriptors changed.
 use Rattle.std.proofs.Common.{arith, ◌≡◌, ◌≢◌, ℕ, zero, suc, ◌+◌, ◌<◌, ◌≤◌, Bool, true, false, cond, List, [], ◌∷◌, Option, None, Some, refl, ap, ◌∙◌, inl, inr, is_some, nat_eq, eqb-true}
-use Rattle.std.proofs.lemmas.Bool.{cases_eq}
-use Rattle.std.specs.Option.{option_and_then, option_map_or}
-use Rattle.open_handles.specs.declared.descriptors.Descriptors.{Descriptors}
+use Rattle.overlay_core.proofs.Words.{cases_eq, Descriptors, Directory, File, FileSource, Lower, OpenDirectory, OpenFile, option_and_then, Upper}
+use Rattle.std.specs.Option.{option_map_or}
 use Rattle.open_handles.specs.declared.handle.Handle as handles
-use Rattle.open_handles.specs.declared.handle.Handle.TheVariants.{Directory, File}
-use Rattle.open_handles.specs.declared.handle.OpenDirectory.{OpenDirectory}
-use Rattle.open_handles.specs.declared.open_file.FileSource.{FileSource}
-use Rattle.open_handles.specs.declared.open_file.FileSource.TheVariants.{Upper, Lower}
-use Rattle.open_handles.specs.declared.open_file.OpenFile.{OpenFile}
 use Rattle.open_handles.specs.Descriptors.{opened}
 use Rattle.open_handles.specs.Holding.{holds, handles_on, is_upper, holds_file, files_on}
 use Rattle.open_handles.proofs.Holding.{handles_on-some, files_on-some}

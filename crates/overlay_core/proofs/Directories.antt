@@ -1,25 +1,14 @@
 -- Open directories where the layers show them, and what closing and listing them does.
 use Rattle.std.proofs.Common.{◌≡◌, ℕ, Bool, true, ◌||◌, List, ◌∷◌, Option, None, Some, refl, sym, ap, ◌∙◌, take, drop, nat_eq, nat_lt}
-use Rattle.std.proofs.lemmas.Bool.{false≢true}
-use Rattle.ov_base.specs.declared.attributes.Attributes.{Attributes}
+use Rattle.overlay_core.proofs.Words.{after, At, Attributes, base, Branch, Contents, Dentries, face, false≢true, Folder, folder_attributes, Handle, handle_of, is_directory, is_folder, IsMountOf, Layer, Leaf, Location, Node, node_at, node_of, NodeId, OpenDirectory, Path, refusal, Removed, reply_of, see, Shown, shows, State, when, with_handle}
 use Rattle.ov_base.specs.declared.call.Call.TheVariants as call
 use Rattle.ov_base.specs.declared.errno.Errno.TheVariants as errno
-use Rattle.ov_base.specs.declared.node_id.NodeId.{NodeId}
 use Rattle.ov_base.specs.declared.reply.Reply.TheVariants as reply
-use Rattle.plain_model.specs.Layers.{Path, Layer, Shown, Folder, Contents, shows, base, is_directory}
-use Rattle.plain_model.specs.Tree.{Node, Branch, Leaf, node_at, node_of, face, see, is_folder}
-use Rattle.plain_model.specs.Machine.{Handle, State, handle_of}
-use Rattle.plain_model.specs.Refusals.{when, refusal}
-use Rattle.plain_model.specs.Changes.{after, with_handle, listing, listed_on}
-use Rattle.plain_model.specs.Replies.{reply_of}
-use Rattle.mount_laws.specs.Looks.{IsMountOf, Lists}
-use Rattle.mount_laws.specs.Removals.{folder_attributes}
+use Rattle.plain_model.specs.Changes.{listing, listed_on}
+use Rattle.mount_laws.specs.Looks.{Lists}
 use Rattle.mount_laws.specs.Removed.{ListsRemoved}
 use Rattle.mount_laws.proofs.Lists.{law_of_list}
 use Rattle.mount_laws.proofs.Removed.{law_of_list_removed}
-use Rattle.open_handles.specs.Dentries.{Dentries}
-use Rattle.open_handles.specs.Opened.{Location, At, Removed}
-use Rattle.open_handles.specs.declared.handle.OpenDirectory.{OpenDirectory}
 use Rattle.overlay_core.specs.States.{Stands, IsHandle}
 
 -- the layers show a directory where a node is one

@@ -1,33 +1,18 @@
 -- Reads of open files, and what fstat shows of what is open.
 use Rattle.std.proofs.Common.{◌≡◌, ℕ, ◌+◌, true, not, List, Option, None, Some, Result, Ok, Err, refl, sym, ap, ◌∙◌, subst, is_some, length, take, drop, nat_lt}
-use Rattle.std.proofs.lemmas.Bool.{false≢true}
-use Rattle.std.specs.Option.{option_and_then}
-use Rattle.ov_base.specs.declared.attributes.Attributes.{Attributes}
+use Rattle.overlay_core.proofs.Words.{At, Attributes, base, Branch, ChangesSlot, Contents, Directory, directory_in, Errno, false≢true, File, FileSource, Folder, folder_attributes, Handle, handle_of, Inode, is_directory, Layer, Leaf, Location, Node, OpenDirectory, OpenFile, option_and_then, or_else, Path, refusal, Removed, Reply, Shown, shows, Stat, State, when, with_handle, with_place}
 use Rattle.ov_base.specs.declared.call.Call.TheVariants as call
-use Rattle.ov_base.specs.declared.errno.Errno.{Errno}
 use Rattle.ov_base.specs.declared.errno.Errno.TheVariants as errno
 use Rattle.ov_base.specs.declared.reply.ObjectKind.TheVariants as kind
-use Rattle.ov_base.specs.declared.reply.Reply.{Reply}
 use Rattle.ov_base.specs.declared.reply.Reply.TheVariants as reply
-use Rattle.ov_base.specs.declared.reply.Stat.{Stat}
-use Rattle.plain_model.specs.Layers.{Path, Inode, Layer, Shown, Folder, Contents, shows, base, is_directory}
-use Rattle.plain_model.specs.Tree.{Node, Branch, Leaf}
-use Rattle.plain_model.specs.Machine.{Handle, State, handle_of}
-use Rattle.plain_model.specs.Refusals.{TRANSFER_MAX, when, refusal}
-use Rattle.plain_model.specs.Changes.{with_handle}
+use Rattle.plain_model.specs.Refusals.{TRANSFER_MAX}
 use Rattle.plain_model.specs.Replies.{stat_of, stat_seen}
-use Rattle.mount_laws.specs.Looks.{or_else, walk_fault}
-use Rattle.mount_laws.specs.Removals.{folder_attributes}
+use Rattle.mount_laws.specs.Looks.{walk_fault}
 use Rattle.mount_laws.specs.Descriptors.{ReadsFile, Fstats, next_bytes}
 use Rattle.mount_laws.specs.Descriptors as laws
 use Rattle.mount_laws.proofs.Descriptors.{law_of_read, law_of_fstat, law_of_directory_handle, law_of_unopened}
 use Rattle.open_handles.specs.declared.handle.Handle as handles
-use Rattle.open_handles.specs.declared.handle.Handle.TheVariants.{Directory, File}
-use Rattle.open_handles.specs.declared.handle.OpenDirectory.{OpenDirectory}
-use Rattle.open_handles.specs.declared.open_file.FileSource.{FileSource}
-use Rattle.open_handles.specs.declared.open_file.OpenFile.{OpenFile}
-use Rattle.open_handles.specs.Listings.{ChangesSlot, directory_in, with_place}
-use Rattle.open_handles.specs.Opened.{Location, At, Removed, path_in, attributes_in}
+use Rattle.open_handles.specs.Opened.{path_in, attributes_in}
 use Rattle.overlay_core.specs.declared.clients.Clients.{Clients}
 use Rattle.overlay_core.specs.declared.mount.Mount.{Mount}
 use Rattle.overlay_core.specs.Attaching.{opened_by, directory_by, file_by, located, path_of, ChangesClient}

@@ -1,28 +1,17 @@
 -- As many handles hold a directory or a file as its count says, after one client's descriptors changed.
 use Rattle.std.proofs.Common.{arith, ◌≡◌, ◌≢◌, ℕ, zero, suc, ◌+◌, ◌<◌, ◌≤◌, Bool, true, false, cond, List, [], ◌∷◌, Option, None, Some, IsSome, Result, Ok, Err, IsOk, OnOk, refl, sym, ap, ◌∙◌, subst, inl, inr, ◌⊎◌, is_some, nat_eq, eq-eqb, option_map}
-use Rattle.std.proofs.lemmas.Bool.{cases_eq, ne_eqb}
-use Rattle.std.specs.Option.{option_and_then}
+use Rattle.overlay_core.proofs.Words.{AllocError, cases_eq, ChangesSlot, Dentries, Descriptors, Directory, Errno, File, file_holders, FileSource, GivesNames, Location, Name, nat_cmp, ne_eqb, OpenDirectory, OpenFile, option_and_then, Path, SetsSlot, with_listing, with_place}
 use Rattle.std.specs.BTreeMap.{get}
-use Rattle.std.specs.Ordering.{nat_cmp}
 use Rattle.std.specs.Result.{IsErr}
-use Rattle.std.specs.declared.alloc.AllocError.{AllocError}
-use Rattle.plain_model.specs.Layers.{Name, Path}
-use Rattle.open_handles.specs.declared.descriptors.Descriptors.{Descriptors}
 use Rattle.open_handles.specs.declared.handle.Handle as handles
-use Rattle.open_handles.specs.declared.handle.Handle.TheVariants.{Directory, File}
-use Rattle.open_handles.specs.declared.handle.OpenDirectory.{OpenDirectory}
-use Rattle.open_handles.specs.declared.open_file.FileSource.{FileSource}
-use Rattle.open_handles.specs.declared.open_file.OpenFile.{OpenFile}
-use Rattle.open_handles.specs.Dentries.{Dentries}
-use Rattle.open_handles.specs.Descriptors.{opened, SetsSlot}
-use Rattle.open_handles.specs.Listings.{ChangesSlot, Closes, GivesNames, with_listing, with_place, after_names}
-use Rattle.ov_base.specs.declared.errno.Errno.{Errno}
+use Rattle.open_handles.specs.Descriptors.{opened}
+use Rattle.open_handles.specs.Listings.{Closes, after_names}
 use Rattle.ov_base.specs.declared.errno.Errno.TheVariants.{EBADF}
 use Rattle.overlay_core.specs.Attaching.{opened_by, KeepsPlaces, ChangesClient}
 use Rattle.open_handles.specs.Holding.{holds, handles_on, is_upper, holds_file, files_on}
-use Rattle.open_handles.specs.FileHolders.{HeldFiles, file_holders, SameCounts}
+use Rattle.open_handles.specs.FileHolders.{HeldFiles, SameCounts}
 use Rattle.open_handles.specs.Opened as places
-use Rattle.open_handles.specs.Opened.{Location, holders, SameHandles}
+use Rattle.open_handles.specs.Opened.{holders, SameHandles}
 use Rattle.open_handles.proofs.Holding.{handles_on-alike, handles_on-sets, handles_on-closes, files_on-alike, files_on-sets, files_on-closes}
 use Rattle.overlay_core.specs.declared.clients.Clients.{Clients}
 use Rattle.overlay_core.specs.Held.{handles_by, handles_below, files_by, files_below, ClosesAll, ReleasesAll}

@@ -1,31 +1,20 @@
 -- Clients go on both sides: each descriptor is closed, the lowest first, and then the client's table goes.
 use Rattle.std.proofs.Common.{arith, ◌≡◌, ◌≢◌, ℕ, zero, suc, ◌+◌, ◌<◌, ◌≤◌, Bool, true, false, not, cond, ◌||◌, List, [], ◌∷◌, ◌++◌, Option, None, Some, refl, sym, ap, ◌∙◌, subst, ◌⊎◌, inl, inr, is_some, is_none, length, filter, slice_get, slice_set, nat_eq, get_or, take}
-use Rattle.std.proofs.lemmas.Bool.{cases_eq, cases_lt, eqb-true, ne_eqb}
+use Rattle.overlay_core.proofs.Words.{after, Call, cases_eq, Descriptors, DESCRIPTORS_MAX, eqb-true, Errno, Handle, handle_of, handles_of, held_in, Layer, layer_of, Layers, list_any, lowers_of, ne_eqb, refusal, Reply, State, Table, Tree, when, with_handle}
+use Rattle.std.proofs.lemmas.Bool.{cases_lt}
 use Rattle.std.proofs.lemmas.List.{take_more, take_all, length-take-le}
 use Rattle.std.proofs.lemmas.Option.{slice_get-get_or, slice_get_past}
-use Rattle.std.specs.List.{list_any, flat_map}
+use Rattle.std.specs.List.{flat_map}
 use mathlib.Core.Logic.{∥∥₁_elim}
 use mathlib.Core.HLevel.{⊥_prop}
 use Rattle.std.specs.Prelude.{map, slice_index_or}
-use Rattle.ov_base.specs.declared.call.Call.{Call}
 use Rattle.ov_base.specs.declared.call.Call.TheVariants.{Close}
-use Rattle.ov_base.specs.declared.errno.Errno.{Errno}
 use Rattle.ov_base.specs.declared.errno.Errno.TheVariants.{EBADF}
-use Rattle.ov_base.specs.declared.reply.Reply.{Reply}
-use Rattle.plain_model.specs.Layers.{Layer}
-use Rattle.plain_model.specs.Tree.{Tree}
 use Rattle.plain_model.specs.Watching.{Rule, Subject, Instance, AllHear, Puts, events, ends, all_asked, passed, all_passed}
-use Rattle.plain_model.specs.Machine.{Handle, Table, State, DESCRIPTORS_MAX, handles_of, held_in, handle_of}
-use Rattle.plain_model.specs.Refusals.{refusal, when}
-use Rattle.plain_model.specs.Changes.{with_handle, after}
 use Rattle.plain_model.specs.Subjects.{subjects}
 use Rattle.plain_model.specs.Runs.{Answered, Step, Closes, Leaves, without_instance, without_table}
 use Rattle.plain_model.proofs.Looking.{refusal-reading}
-use Rattle.layer_tree.specs.Tree.{layer_of}
-use Rattle.merged_lookup.specs.declared.layers.Layers.{Layers}
-use Rattle.merged_lookup.specs.Merged.{lowers_of}
 use Rattle.mount_laws.proofs.Lists.{law_of_bad_descriptors}
-use Rattle.open_handles.specs.declared.descriptors.Descriptors.{Descriptors}
 use Rattle.open_handles.specs.declared.handle.Handle as handles
 use Rattle.overlay_core.specs.declared.clients.Clients.{Clients}
 use Rattle.overlay_core.specs.declared.mount.Mount.{Mount}

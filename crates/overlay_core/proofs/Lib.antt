@@ -1,3 +1,4 @@
+pub mod Words
 pub mod Shown
 pub mod Counting
 pub mod Holding

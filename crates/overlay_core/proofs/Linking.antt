@@ -1,24 +1,11 @@
 -- What readlink answers.
 use Rattle.std.proofs.Common.{◌≡◌, ℕ, Bool, true, false, not, List, Option, None, Some, Result, Ok, Err, refl, sym, ap, ◌∙◌, ◌⊎◌, inl, inr}
-use Rattle.std.specs.Option.{option_and_then}
-use Rattle.std.specs.Result.{IfOk}
-use Rattle.std.specs.declared.alloc.AllocError.{AllocError}
-use Rattle.ov_base.specs.declared.bytes.Content.{Content}
+use Rattle.overlay_core.proofs.Words.{AllocError, Content, Contents, EINVAL, Errno, Folder, IfOk, inode_of, layer_of, Layers, layers_of, lowers_of, node_in, option_and_then, or_else, Path, Place, refusal, Reply, Shown, shows, shows_link, ShowsInode, State, trees, when}
 use Rattle.ov_base.specs.declared.bytes.Content.TheVariants as content
 use Rattle.ov_base.specs.declared.call.Call.TheVariants as call
-use Rattle.ov_base.specs.declared.errno.Errno.{Errno}
-use Rattle.ov_base.specs.declared.errno.Errno.TheVariants.{EINVAL}
-use Rattle.ov_base.specs.declared.reply.Reply.{Reply}
 use Rattle.ov_base.specs.declared.reply.Reply.TheVariants as reply
-use Rattle.plain_model.specs.Layers.{Path, Shown, Folder, Contents, shows}
-use Rattle.plain_model.specs.Machine.{State}
-use Rattle.plain_model.specs.Refusals.{when, refusal}
-use Rattle.layer_tree.specs.Tree.{layer_of, inode_of}
-use Rattle.merged_lookup.specs.declared.layers.Layers.{Layers}
-use Rattle.merged_lookup.specs.declared.stack.Place.{Place}
-use Rattle.merged_lookup.specs.Merged.{layers_of, lowers_of, trees, node_in, ShowsInode, walk_fault}
+use Rattle.merged_lookup.specs.Merged.{walk_fault}
 use Rattle.merged_lookup.proofs.Looking.{inode-shown}
-use Rattle.mount_laws.specs.Looks.{or_else, shows_link}
 use Rattle.mount_laws.specs.Leaves.{Reads, inode_target, shown_target}
 use Rattle.mount_laws.proofs.Refusing.{law_of_readlink}
 use Rattle.overlay_core.specs.declared.mount.Mount.{Mount}

@@ -1,43 +1,23 @@
 -- Opens that make a file: the states that the mount stands for on the way.
 use Rattle.std.proofs.Common.{arith, ◌≡◌, ◌↔◌, ℕ, zero, suc, cond, List, [], None, Some, Ok, Err, refl, sym, ap, ◌∙◌, subst, is_none, is_some}
-use Rattle.std.proofs.lemmas.Bool.{false≢true}
-use Rattle.std.specs.Option.{option_and_then}
+use Rattle.overlay_core.proofs.Words.{after, Call, change, Descriptors, Directory, Errno, false≢true, File, file_holders, fresh, Handle, inode_of, IsLive, IsMountOf, Layer, layer_of, Layers, layers_of, Leaf, live_handle, lowers_of, lowest_free, made_way, New, NodeId, OpenFile, OpenFlags, opening_fault, option_and_then, Own, Path, refusal, shows, State, StaysMount, Tree, Upper, way_of, with_handle}
 use mathlib.Core.Logic.{∥∥₁_elim}
 use mathlib.Core.HLevel.{⊥_prop}
 use Rattle.slab.specs.Slab.{get}
 use Rattle.ov_base.specs.declared.bytes.Content.TheVariants as content
-use Rattle.ov_base.specs.declared.call.Call.{Call}
 use Rattle.ov_base.specs.declared.call.Call.TheVariants as call
-use Rattle.ov_base.specs.declared.call.OpenFlags.{OpenFlags}
-use Rattle.ov_base.specs.declared.errno.Errno.{Errno}
 use Rattle.ov_base.specs.declared.errno.Errno.TheVariants.{EMFILE}
-use Rattle.ov_base.specs.declared.node_id.NodeId.{NodeId}
-use Rattle.ov_base.specs.declared.node_id.NodeId.TheVariants.{New}
 use Rattle.ov_base.specs.declared.reply.Reply.TheVariants as reply
-use Rattle.plain_model.specs.Layers.{Path, Layer, shows}
-use Rattle.plain_model.specs.Tree.{Leaf, Own, Tree}
-use Rattle.plain_model.specs.Machine.{Handle, State, lowest_free}
-use Rattle.plain_model.specs.Refusals.{refusal}
-use Rattle.plain_model.specs.Changes.{fresh, way_of, change, opened, made_way, with_handle, after}
-use Rattle.layer_tree.specs.Tree.{layer_of, inode_of}
-use Rattle.merged_lookup.specs.declared.layers.Layers.{Layers}
-use Rattle.merged_lookup.specs.Merged.{layers_of, lowers_of}
-use Rattle.mount_laws.specs.Looks.{IsMountOf}
+use Rattle.plain_model.specs.Changes.{opened}
 use Rattle.mount_laws.specs.Leaves.{GainsLeaf, MakesFile}
-use Rattle.mount_laws.specs.OpenFiles.{IsLive}
-use Rattle.mount_laws.specs.Opening.{opening_fault, live_handle, OpensMaking}
+use Rattle.mount_laws.specs.Opening.{OpensMaking}
 use Rattle.mount_laws.proofs.OpenFiles.{one-number, law_of_live_made}
 use Rattle.mount_laws.proofs.Opening.{law_of_opened_making}
-use Rattle.copy_up.specs.Showing.{GainsParents, StaysMount}
+use Rattle.copy_up.specs.Showing.{GainsParents}
 use Rattle.copy_up.proofs.Keeping.{lowers-same}
 use Rattle.make_remove.specs.Making.{new_attributes}
 use Rattle.make_remove.specs.Leaves.{MakesLeaf, CreateSteps}
-use Rattle.open_handles.specs.declared.descriptors.Descriptors.{Descriptors}
 use Rattle.open_handles.specs.declared.handle.Handle as handles
-use Rattle.open_handles.specs.declared.handle.Handle.TheVariants.{Directory, File}
-use Rattle.open_handles.specs.declared.open_file.FileSource.TheVariants.{Upper}
-use Rattle.open_handles.specs.declared.open_file.OpenFile.{OpenFile}
-use Rattle.open_handles.specs.FileHolders.{file_holders}
 use Rattle.open_handles.specs.Listings.{Opens}
 use Rattle.overlay_core.specs.declared.clients.Clients.{Clients}
 use Rattle.overlay_core.specs.declared.mount.Mount.{Mount}

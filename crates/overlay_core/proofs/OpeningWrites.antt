@@ -1,35 +1,16 @@
 -- Opens for writing of files of the upper: what is opened is as the machine opens it, emptied where that is asked for.
 use Rattle.std.proofs.Common.{arith, ◌≡◌, ◌-◌, ℕ, Bool, true, false, not, cond, ◌&&◌, ◌||◌, List, [], ◌++◌, length, take, replicate, None, Some, Ok, refl, sym, ap, ◌∙◌, subst, ◌⊎◌, inl, inr, nat_eq, is_some}
-use Rattle.std.proofs.lemmas.Bool.{cases_Bool}
-use Rattle.std.specs.Option.{option_and_then}
-use Rattle.ov_base.specs.declared.attributes.Attributes.{Attributes}
+use Rattle.overlay_core.proofs.Words.{Attributes, bad_flags, bytes_at, Call, cases_Bool, change, Contents, EINVAL, File, file_bytes, Handle, Inode, IsLive, Layer, Layers, layers_of, Leaf, live_handle, Lower, lowest_free, Node, NodeId, OpenFile, OpenFlags, opening_fault, option_and_then, over_node, Own, Path, Place, put, refusal, rewritten, shows, ShowsInode, sized, State, StaysLayers, Tree, Upper, way_of, when, with_bytes, with_handle}
 use Rattle.ov_base.specs.declared.bytes.Content.TheVariants as content
-use Rattle.ov_base.specs.declared.call.Call.{Call}
 use Rattle.ov_base.specs.declared.call.Call.TheVariants as call
-use Rattle.ov_base.specs.declared.call.OpenFlags.{OpenFlags}
-use Rattle.ov_base.specs.declared.errno.Errno.TheVariants.{EINVAL}
-use Rattle.ov_base.specs.declared.node_id.NodeId.{NodeId}
 use Rattle.ov_base.specs.declared.reply.Reply.TheVariants as reply
-use Rattle.plain_model.specs.Layers.{Path, Inode, Layer, Contents, shows}
-use Rattle.plain_model.specs.Tree.{Node, Leaf, Own, Tree, put}
-use Rattle.plain_model.specs.Machine.{Handle, State, lowest_free}
-use Rattle.plain_model.specs.Refusals.{when, bad_flags, refusal}
-use Rattle.plain_model.specs.Changes.{sized, over_node, change, opened, way_of, with_bytes, with_handle}
+use Rattle.plain_model.specs.Changes.{opened}
 use Rattle.plain_model.proofs.Looking.{when-not}
-use Rattle.layer_tree.specs.Tree.{file_bytes, bytes_at}
-use Rattle.merged_lookup.specs.declared.layers.Layers.{Layers}
-use Rattle.merged_lookup.specs.declared.stack.Place.{Place}
-use Rattle.merged_lookup.specs.Merged.{layers_of, ShowsInode}
-use Rattle.mount_laws.specs.Opening.{opening_fault, live_handle, OpensWriting}
-use Rattle.mount_laws.specs.OpenFiles.{IsLive, rewritten}
+use Rattle.mount_laws.specs.Opening.{OpensWriting}
 use Rattle.mount_laws.proofs.Links.{first-none}
 use Rattle.mount_laws.proofs.Opening.{law_of_opened_for_writing}
 use Rattle.mount_laws.proofs.OpenFiles.{law_of_live_shown}
 use Rattle.mount_laws.proofs.Opens.{put-same}
-use Rattle.copy_up.specs.Showing.{StaysLayers}
-use Rattle.open_handles.specs.declared.handle.Handle.TheVariants.{File}
-use Rattle.open_handles.specs.declared.open_file.FileSource.TheVariants.{Upper, Lower}
-use Rattle.open_handles.specs.declared.open_file.OpenFile.{OpenFile}
 use Rattle.overlay_core.specs.declared.clients.Clients.{Clients}
 use Rattle.overlay_core.specs.declared.mount.Mount.{Mount}
 use Rattle.overlay_core.specs.Files.{IsOf, source_at, file_at}

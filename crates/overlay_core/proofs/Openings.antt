@@ -1,43 +1,25 @@
 -- Opens: what they are refused for, and that what is opened for reading is as the machine opens it.
 use Rattle.std.proofs.Common.{arith, ◌≡◌, ◌↔◌, ℕ, zero, suc, ◌<◌, Bool, true, false, not, cond, ◌&&◌, ◌||◌, List, [], ◌∷◌, Option, None, Some, Ok, Err, map, refl, sym, ap, ◌∙◌, subst, ◌⊎◌, inl, inr, is_none, is_some}
-use Rattle.std.proofs.lemmas.Bool.{false≢true, ne_eqb}
-use Rattle.std.specs.Option.{option_and_then}
-use Rattle.std.specs.declared.alloc.AllocError.{AllocError}
-use Rattle.ov_base.specs.declared.attributes.Attributes.{Attributes}
-use Rattle.ov_base.specs.declared.bytes.Content.{Content}
+use Rattle.overlay_core.proofs.Words.{after, AllocError, At, Attributes, bad_flags, base, Branch, Call, Content, Contents, DESCRIPTORS_MAX, Directory, EINVAL, Errno, face, false≢true, File, Folder, Handle, Inode, inode_of, is_directory, Layer, layer_of, Layers, layers_of, Leaf, Lower, lowest_free, ne_eqb, Node, node_at, node_in, node_of, NodeId, OpenFile, OpenFlags, opening_fault, option_and_then, or_else, parents_fault, Path, Place, refusal, reply_of, see, SetsSlot, Shown, shows, shows_link, ShowsInode, State, Table, trees, Upper, way_of, when, with_handle}
 use Rattle.ov_base.specs.declared.bytes.Content.TheVariants as content
-use Rattle.ov_base.specs.declared.call.Call.{Call}
 use Rattle.ov_base.specs.declared.call.Call.TheVariants as call
-use Rattle.ov_base.specs.declared.call.OpenFlags.{OpenFlags}
-use Rattle.ov_base.specs.declared.errno.Errno.{Errno}
-use Rattle.ov_base.specs.declared.errno.Errno.TheVariants.{EEXIST, EINVAL, EISDIR, ELOOP, ENOTDIR, EMFILE}
-use Rattle.ov_base.specs.declared.node_id.NodeId.{NodeId}
+use Rattle.ov_base.specs.declared.errno.Errno.TheVariants.{EEXIST, EISDIR, ELOOP, ENOTDIR, EMFILE}
 use Rattle.ov_base.specs.declared.reply.Reply.TheVariants as reply
-use Rattle.plain_model.specs.Layers.{Path, Inode, Layer, Shown, Folder, Contents, shows, is_directory, base}
-use Rattle.plain_model.specs.Tree.{Node, Branch, Leaf, Origin, node_at, node_of, face, SeenLeaf, see}
-use Rattle.plain_model.specs.Machine.{Live, Handle, Table, State, DESCRIPTORS_MAX, lowest_free}
-use Rattle.plain_model.specs.Refusals.{when, bad_flags, bad_mode, refusal}
-use Rattle.plain_model.specs.Changes.{after, way_of, new_handle, with_handle, view_of}
-use Rattle.plain_model.specs.Replies.{reply_of}
+use Rattle.plain_model.specs.Tree.{Origin, SeenLeaf}
+use Rattle.plain_model.specs.Machine.{Live}
+use Rattle.plain_model.specs.Refusals.{bad_mode}
+use Rattle.plain_model.specs.Changes.{new_handle, view_of}
 use Rattle.plain_model.proofs.Looking.{when-not}
-use Rattle.layer_tree.specs.Tree.{Tree, layer_of, inode_of}
-use Rattle.merged_lookup.specs.declared.layers.Layers.{Layers}
-use Rattle.merged_lookup.specs.declared.stack.Place.{Place}
-use Rattle.merged_lookup.specs.Merged.{layers_of, trees, node_in, ShowsInode}
+use Rattle.layer_tree.specs.Tree.{Tree}
 use Rattle.merged_lookup.proofs.Looking.{inode_in, inode-shown}
-use Rattle.mount_laws.specs.Looks.{or_else, parents_fault, is_link_inode, shows_link}
-use Rattle.mount_laws.specs.Opening.{shown_fault, opening_fault, inode_view, shown_view, OpensReading}
+use Rattle.mount_laws.specs.Looks.{is_link_inode}
+use Rattle.mount_laws.specs.Opening.{shown_fault, inode_view, shown_view, OpensReading}
 use Rattle.mount_laws.proofs.Looks.{is_present, present}
 use Rattle.mount_laws.proofs.Links.{first-none, second-none}
 use Rattle.mount_laws.proofs.Opening.{law_of_open_refusal, law_of_opened_for_reading}
 use Rattle.mount_laws.proofs.OpenFiles.{law_of_live_one, law_of_live_shown}
 use Rattle.open_handles.specs.declared.handle.Handle as handles
-use Rattle.open_handles.specs.declared.handle.Handle.TheVariants.{Directory, File}
-use Rattle.open_handles.specs.declared.open_file.FileSource.TheVariants.{Upper, Lower}
-use Rattle.open_handles.specs.declared.open_file.OpenFile.{OpenFile}
-use Rattle.open_handles.specs.Descriptors.{SetsSlot}
 use Rattle.open_handles.specs.Listings.{Opens}
-use Rattle.open_handles.specs.Opened.{At}
 use Rattle.overlay_core.specs.declared.clients.Clients.{Clients}
 use Rattle.overlay_core.specs.declared.mount.Mount.{Mount}
 use Rattle.overlay_core.specs.Attaching.{ChangesClient}

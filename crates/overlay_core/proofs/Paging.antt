@@ -1,19 +1,13 @@
 -- The names that a listing gives.
 use Rattle.std.proofs.Common.{◌≡◌, ℕ, true, false, List, [], Option, None, Some, Result, Ok, Err, refl, sym, ap, ◌∙◌, subst, is_some, take, drop, option_map, unwrap_or}
+use Rattle.overlay_core.proofs.Words.{AllocError, ChangesSlot, Directory, directory_in, false≢true, GivesNames, IfOk, layers_of, Name, OpenDirectory, SetsSlot, with_listing}
 use Rattle.std.specs.Option.{IsSomeAnd}
-use Rattle.std.specs.Result.{IfOk}
-use Rattle.std.proofs.lemmas.Bool.{false≢true}
-use Rattle.std.specs.declared.alloc.AllocError.{AllocError}
-use Rattle.plain_model.specs.Layers.{Name}
-use Rattle.merged_lookup.specs.Merged.{layers_of}
 use Rattle.overlay_core.specs.declared.clients.Clients.{Clients}
 use Rattle.open_handles.specs.declared.handle.Handle as handles
-use Rattle.open_handles.specs.declared.handle.Handle.TheVariants.{Directory}
-use Rattle.open_handles.specs.declared.handle.OpenDirectory.{OpenDirectory}
 use Rattle.overlay_core.specs.declared.mount.Mount.{Mount}
 use Rattle.overlay_core.specs.Attaching.{opened_by, path_of, ChangesClient}
-use Rattle.open_handles.specs.Descriptors.{opened, SetsSlot}
-use Rattle.open_handles.specs.Listings.{ChangesSlot, GivesNames, directory_in, after_names, names_left, with_listing}
+use Rattle.open_handles.specs.Descriptors.{opened}
+use Rattle.open_handles.specs.Listings.{after_names, names_left}
 use Rattle.overlay_core.specs.States.{AreNamesIn, AreLeft, Pages}
 use Rattle.overlay_core.proofs.Slots.{changes-to, slot-becomes}
 

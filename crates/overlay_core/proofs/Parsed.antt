@@ -1,12 +1,11 @@
 -- What is no mode or no target is refused as the calls are that give it.
 use Rattle.std.proofs.Common.{◌≡◌, ◌<◌, ℕ, Bool, true, false, cond, List, Option, Some, Ok, Err, refl, sym, ◌∙◌, length, nat_lt, nat_le, nat_eq, arith}
-use Rattle.std.proofs.lemmas.Bool.{false≢true, ltb-false, lt-ltb, le-leb}
-use Rattle.ov_base.specs.declared.errno.Errno.{Errno}
-use Rattle.ov_base.specs.declared.errno.Errno.TheVariants.{ENAMETOOLONG, ENOENT, EINVAL}
+use Rattle.overlay_core.proofs.Words.{EINVAL, Errno, false≢true, or_else, when}
+use Rattle.std.proofs.lemmas.Bool.{ltb-false, lt-ltb, le-leb}
+use Rattle.ov_base.specs.declared.errno.Errno.TheVariants.{ENAMETOOLONG, ENOENT}
 use Rattle.ov_base.specs.Modes.{mode_of}
 use Rattle.ov_base.specs.Targets.{is_target, target_of}
-use Rattle.plain_model.specs.Refusals.{when, has_nul}
-use Rattle.mount_laws.specs.Looks.{or_else}
+use Rattle.plain_model.specs.Refusals.{has_nul}
 
 -- a mode of more than twelve bits
 pub mode-fault : (mode : ℕ) (e : Errno) (f : Option Errno) → Err e ≡ mode_of mode → or_else (when (nat_lt 0o7777 mode) EINVAL) f ≡ Some e

@@ -1,16 +1,9 @@
 -- What the calls that read user attributes answer.
 use Rattle.std.proofs.Common.{◌≡◌, ℕ, true, List, None, Some, Result, Ok, Err, IfOk, sym, ap, ◌∙◌, subst, map}
-use Rattle.std.specs.declared.alloc.AllocError.{AllocError}
-use Rattle.ov_base.specs.declared.call.Call.{Call}
+use Rattle.overlay_core.proofs.Words.{AllocError, Call, Errno, layer_of, lowers_of, Path, refusal, Reply, shows, State}
 use Rattle.ov_base.specs.declared.call.Call.TheVariants as call
-use Rattle.ov_base.specs.declared.errno.Errno.{Errno}
-use Rattle.ov_base.specs.declared.reply.Reply.{Reply}
 use Rattle.ov_base.specs.declared.reply.Reply.TheVariants as reply
-use Rattle.plain_model.specs.Layers.{Path, shows}
-use Rattle.plain_model.specs.Machine.{State, value_of}
-use Rattle.plain_model.specs.Refusals.{refusal}
-use Rattle.layer_tree.specs.Tree.{layer_of}
-use Rattle.merged_lookup.specs.Merged.{lowers_of}
+use Rattle.plain_model.specs.Machine.{value_of}
 use Rattle.mount_laws.specs.Attributes.{shown_user, chown_fault, get_fault, GetsAttribute, ListsAttributes}
 use Rattle.mount_laws.proofs.Attributes.{law_of_get_attribute, law_of_list_attributes}
 use Rattle.overlay_core.specs.declared.mount.Mount.{Mount}

@@ -1,21 +1,10 @@
 -- A mount stands for the state still where an open file gets other bytes.
 use Rattle.std.proofs.Common.{◌≡◌, ◌↔◌, ℕ, Bool, true, false, List, ◌∷◌, refl, sym, ap, ◌∙◌, subst, ◌⊎◌, inl, inr}
-use Rattle.std.proofs.lemmas.Bool.{false≢true, cases_eq}
-use Rattle.ov_base.specs.declared.node_id.NodeId.{NodeId}
-use Rattle.plain_model.specs.Layers.{Layer, AreLayers}
-use Rattle.plain_model.specs.Tree.{Tree, same_id, is_folder}
-use Rattle.plain_model.specs.Machine.{Handle, State}
+use Rattle.overlay_core.proofs.Words.{AreLayers, cases_eq, Dentries, false≢true, Handle, is_folder, IsLive, IsMountOf, Layer, layer_of, Layers, lowers_of, NodeId, OpenDirectory, rewritten, same_id, State, StaysLayers, Tree}
 use Rattle.plain_model.proofs.Paths.{ids_tell}
-use Rattle.layer_tree.specs.Tree.{layer_of}
-use Rattle.merged_lookup.specs.declared.layers.Layers.{Layers}
-use Rattle.merged_lookup.specs.Merged.{lowers_of}
-use Rattle.mount_laws.specs.Looks.{IsMountOf}
-use Rattle.mount_laws.specs.OpenFiles.{IsLive, rewritten, Rewrites}
+use Rattle.mount_laws.specs.OpenFiles.{Rewrites}
 use Rattle.mount_laws.proofs.Written.{law_of_written}
-use Rattle.copy_up.specs.Showing.{StaysLayers}
 use Rattle.copy_up.proofs.Keeping.{lowers-same}
-use Rattle.open_handles.specs.Dentries.{Dentries}
-use Rattle.open_handles.specs.declared.handle.OpenDirectory.{OpenDirectory}
 use Rattle.overlay_core.specs.declared.mount.Mount.{Mount}
 use Rattle.overlay_core.specs.Files.{is_leaf, IsOpenOn}
 use Rattle.overlay_core.specs.Living.{SetsFile}

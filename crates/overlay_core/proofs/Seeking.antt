@@ -1,18 +1,10 @@
 -- Seeks: of an open file to a place, and of an open directory to its start.
 use Rattle.std.proofs.Common.{◌≡◌, ℕ, ℤ, pos, nat_abs, ◌+ℤ◌, int_lt, Bool, true, false, cond, not, ◌&&◌, List, Option, None, Some, Result, Ok, Err, refl, sym, ap, ◌∙◌, subst, length, nat_eq, nat_lt}
+use Rattle.overlay_core.proofs.Words.{ChangesSlot, Directory, Errno, File, file_in, FileSource, Handle, handle_of, Inode, layer_of, Layers, lowers_of, OpenDirectory, OpenFile, or_else, refusal, Reply, State, when, with_handle, with_listing, with_place}
 use Rattle.ov_base.specs.declared.call.Call.TheVariants as call
-use Rattle.ov_base.specs.declared.errno.Errno.{Errno}
 use Rattle.ov_base.specs.declared.errno.Errno.TheVariants as errno
-use Rattle.ov_base.specs.declared.reply.Reply.{Reply}
 use Rattle.ov_base.specs.declared.reply.Reply.TheVariants as reply
-use Rattle.plain_model.specs.Layers.{Inode}
-use Rattle.plain_model.specs.Machine.{Handle, State, handle_of}
-use Rattle.plain_model.specs.Refusals.{PLACE_MAX, when, refusal}
-use Rattle.plain_model.specs.Changes.{with_handle}
-use Rattle.layer_tree.specs.Tree.{layer_of}
-use Rattle.merged_lookup.specs.declared.layers.Layers.{Layers}
-use Rattle.merged_lookup.specs.Merged.{lowers_of}
-use Rattle.mount_laws.specs.Looks.{or_else}
+use Rattle.plain_model.specs.Refusals.{PLACE_MAX}
 use Rattle.mount_laws.specs.Descriptors as laws
 use Rattle.mount_laws.specs.Descriptors.{SeeksFile}
 use Rattle.mount_laws.specs.Seeks.{Seeks}
@@ -20,11 +12,6 @@ use Rattle.mount_laws.proofs.Lists.{law_of_bad_descriptors}
 use Rattle.mount_laws.proofs.Descriptors.{law_of_file_seek}
 use Rattle.mount_laws.proofs.Seeks.{at-start, law_of_seek}
 use Rattle.open_handles.specs.declared.handle.Handle as handles
-use Rattle.open_handles.specs.declared.handle.Handle.TheVariants.{Directory, File}
-use Rattle.open_handles.specs.declared.handle.OpenDirectory.{OpenDirectory}
-use Rattle.open_handles.specs.declared.open_file.FileSource.{FileSource}
-use Rattle.open_handles.specs.declared.open_file.OpenFile.{OpenFile}
-use Rattle.open_handles.specs.Listings.{ChangesSlot, file_in, with_listing, with_place}
 use Rattle.open_handles.specs.Places.{sought_from}
 use Rattle.overlay_core.specs.declared.clients.Clients.{Clients}
 use Rattle.overlay_core.specs.declared.mount.Mount.{Mount}

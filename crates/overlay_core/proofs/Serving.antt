@@ -1,31 +1,17 @@
 -- The descriptors of a mount are those of the machine's tables.
 use Rattle.std.proofs.Common.{arith, ◌≡◌, ◌≢◌, ℕ, zero, suc, ◌<◌, Bool, true, false, cond, ◌||◌, List, [], ◌∷◌, Option, None, Some, refl, sym, ap, ◌∙◌, subst, ◌⊎◌, inl, inr, is_some, is_none, length, slice_get, slice_set, length-set, nat_eq}
-use Rattle.std.proofs.lemmas.Bool.{false≢true, cases_Bool, cases_eq, eqb-true, ne_eqb, lt-ltb, le-ltb}
+use Rattle.overlay_core.proofs.Words.{At, Attributes, cases_Bool, cases_eq, Dentries, Descriptors, DESCRIPTORS_MAX, Directory, eqb-true, false≢true, File, folder_attributes, Handle, handle_of, handles_of, held_in, is_folder, Layer, list_any, Location, lowest_free, nat_cmp, ne_eqb, node_at, NodeId, OpenDirectory, OpenFile, option_and_then, Path, Removed, SetsSlot, Table, Tree, Upper, with_handle}
+use Rattle.std.proofs.lemmas.Bool.{lt-ltb, le-ltb}
 use Rattle.std.proofs.lemmas.Option.{slice_get_within}
-use Rattle.std.specs.List.{list_any, position, position_or_len}
-use Rattle.std.specs.Option.{option_and_then}
+use Rattle.std.specs.List.{position, position_or_len}
 use Rattle.std.specs.BTreeMap.{get}
-use Rattle.std.specs.Ordering.{nat_cmp}
-use Rattle.ov_base.specs.declared.attributes.Attributes.{Attributes}
-use Rattle.ov_base.specs.declared.node_id.NodeId.{NodeId}
-use Rattle.plain_model.specs.Layers.{Path, Layer}
-use Rattle.plain_model.specs.Tree.{Tree, node_at, is_folder}
-use Rattle.plain_model.specs.Machine.{Handle, Table, DESCRIPTORS_MAX, handles_of, held_in, handle_of, lowest_free}
-use Rattle.plain_model.specs.Changes.{names_in, with_handle}
+use Rattle.plain_model.specs.Changes.{names_in}
 use Rattle.overlay_core.specs.declared.clients.Clients.{Clients}
-use Rattle.open_handles.specs.declared.descriptors.Descriptors.{Descriptors}
-use Rattle.open_handles.specs.Dentries.{Dentries}
 use Rattle.open_handles.specs.Opened as places
 use Rattle.mount_laws.specs.Looks.{IsHidden}
-use Rattle.mount_laws.specs.Removals.{folder_attributes}
-use Rattle.open_handles.specs.Opened.{Location, At, Removed}
 use Rattle.open_handles.specs.declared.handle.Handle as handles
-use Rattle.open_handles.specs.declared.handle.Handle.TheVariants.{Directory, File}
-use Rattle.open_handles.specs.declared.handle.OpenDirectory.{OpenDirectory}
-use Rattle.open_handles.specs.declared.open_file.OpenFile.{OpenFile}
 use Rattle.overlay_core.specs.Attaching.{KeepsAttached, KeepsPlaces, is_attached, opened_by, ChangesClient}
-use Rattle.open_handles.specs.Descriptors.{opened, IsFull, IsLowestFree, SetsSlot}
-use Rattle.open_handles.specs.declared.open_file.FileSource.TheVariants.{Upper}
+use Rattle.open_handles.specs.Descriptors.{opened, IsFull, IsLowestFree}
 use Rattle.overlay_core.specs.Files.{IsOpenOn, AreOne}
 use Rattle.overlay_core.specs.States.{Stands, IsRemoved, IsHandle, IsOpenAs, IsSlot, AreTables}
 

@@ -1,11 +1,6 @@
 -- A mount stands for a state still when its clients, or its layers, change so.
 use Rattle.std.proofs.Common.{◌≡◌, ℕ, List, Some, refl, sym, ap, ◌∙◌, subst}
-use Rattle.plain_model.specs.Layers.{Layer}
-use Rattle.plain_model.specs.Machine.{State, Table, Handle}
-use Rattle.layer_tree.specs.Tree.{layer_of}
-use Rattle.merged_lookup.specs.declared.layers.Layers.{Layers}
-use Rattle.merged_lookup.specs.Merged.{layers_of, lowers_of}
-use Rattle.mount_laws.specs.Looks.{IsMountOf}
+use Rattle.overlay_core.proofs.Words.{Handle, IsMountOf, Layer, layer_of, Layers, layers_of, lowers_of, State, Table}
 use Rattle.open_handles.specs.declared.handle.Handle as handles
 use Rattle.overlay_core.specs.declared.clients.Clients.{Clients}
 use Rattle.overlay_core.specs.declared.mount.Mount.{Mount}

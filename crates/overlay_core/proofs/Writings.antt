@@ -1,38 +1,23 @@
 -- Writes and truncations of open files.
 use Rattle.std.proofs.Common.{arith, ◌≡◌, ◌≢◌, ℕ, ◌+◌, ◌-◌, Bool, true, false, cond, min, not, ◌&&◌, List, [], ◌∷◌, Option, None, Some, Result, Ok, Err, refl, sym, ap, ◌∙◌, subst, is_none, is_some, length, nat_eq, nat_lt}
-use Rattle.std.specs.Option.{option_and_then}
-use Rattle.std.specs.Result.{OnErr}
-use Rattle.std.specs.declared.alloc.AllocError.{AllocError}
-use Rattle.std.proofs.lemmas.Bool.{false≢true, eqb-true}
+use Rattle.overlay_core.proofs.Words.{after, AllocError, bytes_at, change, ChangesSlot, eqb-true, Errno, false≢true, File, file_bytes, FileSource, Handle, handle_of, Inode, IsLive, Layer, layer_of, Layers, Leaf, Lower, lowers_of, Node, NodeId, OnErr, OpenFile, option_and_then, or_else, over_node, Own, put, refusal, Reply, rewritten, sized, State, StaysLayers, StaysMount, Tree, Upper, when, with_bytes, with_handle, with_place}
 use Rattle.std.proofs.lemmas.List.{length-take, nil_from_length}
 use Rattle.ov_base.specs.declared.bytes.Content.TheVariants as content
 use Rattle.ov_base.specs.declared.call.Call.TheVariants as call
-use Rattle.ov_base.specs.declared.errno.Errno.{Errno}
 use Rattle.ov_base.specs.declared.errno.Errno.TheVariants as errno
-use Rattle.ov_base.specs.declared.node_id.NodeId.{NodeId}
-use Rattle.ov_base.specs.declared.reply.Reply.{Reply}
 use Rattle.ov_base.specs.declared.reply.Reply.TheVariants as reply
-use Rattle.plain_model.specs.Layers.{Inode, Layer, IsLayer}
-use Rattle.plain_model.specs.Tree.{Leaf, Node, Own, Tree, IsThin, put}
-use Rattle.plain_model.specs.Machine.{Handle, State, bytes_of_node, handle_of}
-use Rattle.plain_model.specs.Refusals.{FILE_MAX, TRANSFER_MAX, when, refusal}
-use Rattle.plain_model.specs.Changes.{after, change, fitting, over_node, sized, with_bytes, with_handle, wrote}
+use Rattle.plain_model.specs.Layers.{IsLayer}
+use Rattle.plain_model.specs.Tree.{IsThin}
+use Rattle.plain_model.specs.Machine.{bytes_of_node}
+use Rattle.plain_model.specs.Refusals.{FILE_MAX, TRANSFER_MAX}
+use Rattle.plain_model.specs.Changes.{fitting, wrote}
 use Rattle.plain_model.proofs.Uppers.{agree-where, under-agree}
-use Rattle.layer_tree.specs.Tree.{SameObjects, SameTree, bytes_at, file_bytes, layer_of, written}
+use Rattle.layer_tree.specs.Tree.{SameObjects, SameTree, written}
 use Rattle.layer_tree.specs.Tree.{Tree as LayerTree}
-use Rattle.merged_lookup.specs.declared.layers.Layers.{Layers}
-use Rattle.merged_lookup.specs.Merged.{lowers_of}
 use Rattle.mount_laws.specs.Descriptors.{TruncatesFile, WritesFile, resized, write_start}
-use Rattle.mount_laws.specs.Looks.{or_else}
-use Rattle.mount_laws.specs.OpenFiles.{IsLive, rewritten}
 use Rattle.mount_laws.proofs.Descriptors.{law_of_directory_handle, law_of_truncate, law_of_unopened, law_of_write}
-use Rattle.copy_up.specs.Showing.{StaysLayers, StaysMount, StaysThin}
+use Rattle.copy_up.specs.Showing.{StaysThin}
 use Rattle.copy_up.proofs.Keeping.{lowers-same, mounts-alike}
-use Rattle.open_handles.specs.declared.handle.Handle.TheVariants.{File}
-use Rattle.open_handles.specs.declared.open_file.FileSource.{FileSource}
-use Rattle.open_handles.specs.declared.open_file.FileSource.TheVariants.{Upper, Lower}
-use Rattle.open_handles.specs.declared.open_file.OpenFile.{OpenFile}
-use Rattle.open_handles.specs.Listings.{ChangesSlot, with_place}
 use Rattle.open_handles.specs.Places.{IsWritePlace, count_fitting}
 use Rattle.overlay_core.specs.declared.clients.Clients.{Clients}
 use Rattle.overlay_core.specs.declared.mount.Mount.{Mount}
