@@ -1,30 +1,24 @@
 -- What clients do to a mount is what they do to each state that agrees with it.
 use Rattle.std.proofs.Common.{arith, ◌≡◌, ℕ, ◌<◌, ◌≤◌, Bool, true, false, ◌||◌, List, [], ◌∷◌, refl, sym, ap, ◌∙◌, subst, length, nat_eq, nat_lt}
-use Rattle.std.proofs.lemmas.Bool.{false≢true, eq-eqb, eqb-true, le-ltb}
+use Rattle.overlay_core.proofs.Words.{AreLayers, Call, eq-eqb, eqb-true, false≢true, Layer, layer_of, Layers, layers_of, list_any, lowers_of, MountOptions, nat_cmp, refusal, Reply, State, Table, Tree}
+use Rattle.std.proofs.Math.Bool.{or-true}
+use Rattle.std.proofs.lemmas.Bool.{le-ltb}
 use Rattle.std.proofs.lemmas.Cmp.{eq_by_cmp_equiv, nat_cmp_total}
 use Rattle.std.proofs.lemmas.List.{length-map}
 use Rattle.std.proofs.lemmas.Map.Steps.{length-le_from_keys}
 use Rattle.std.specs.BTreeMap.{btree_map_len}
-use Rattle.std.specs.List.{list_any, IsDistinct}
-use Rattle.std.specs.Ordering.{nat_cmp, eq_by_cmp}
-use Rattle.ov_base.specs.declared.call.Call.{Call}
+use Rattle.std.specs.List.{IsDistinct}
+use Rattle.std.specs.Ordering.{eq_by_cmp}
 use Rattle.ov_base.specs.declared.errno.Errno.TheVariants.{EOPNOTSUPP}
-use Rattle.ov_base.specs.declared.reply.Reply.{Reply}
 use Rattle.ov_base.specs.declared.reply.Reply.TheVariants.{Refused}
-use Rattle.plain_model.specs.Layers.{Layer, AreLayers}
-use Rattle.plain_model.specs.Tree.{Tree}
 use Rattle.plain_model.specs.Merging.{IsMerge, merge_tree}
-use Rattle.plain_model.specs.Machine.{MountOptions, Table, State, opening}
-use Rattle.plain_model.specs.Refusals.{refusal}
+use Rattle.plain_model.specs.Machine.{opening}
 use Rattle.plain_model.specs.Settling.{clients_of}
 use Rattle.plain_model.specs.Runs.{Deed, Attached, Called, Detached, Does, Leaves, joined}
 use Rattle.plain_model.proofs.Clients.{attached-is}
 use Rattle.plain_model.proofs.Merged.{law_of_paths}
 use Rattle.plain_model.proofs.Opened.{law_of_merge}
 use Rattle.plain_model.proofs.Settled.{does-settles, law_of_settled_opening}
-use Rattle.layer_tree.specs.Tree.{layer_of}
-use Rattle.merged_lookup.specs.declared.layers.Layers.{Layers}
-use Rattle.merged_lookup.specs.Merged.{layers_of, lowers_of}
 use Rattle.ov_base.specs.declared.options.Options.{Options}
 use mathlib.Core.Logic.{∥∥₁_map}
 use Rattle.std.proofs.lemmas.Grind.{merely}
@@ -83,10 +77,6 @@ any-back : (c : ℕ) (xs : List ℕ) → list_any (λ x. nat_eq c x) xs ≡ true
 any-back c [] h = h
 any-back c (x ∷ xs) h = by (any-back c xs) (nat_eq c x) refl h
   where
-    or-true : (b : Bool) → (b || true) ≡ true
-    or-true true = refl
-    or-true false = refl
-
     by : (list_any (λ y. nat_eq c y) xs ≡ true → list_any (λ y. nat_eq y c) xs ≡ true) → (b : Bool) → nat_eq c x ≡ b → (b || list_any (λ y. nat_eq c y) xs) ≡ true → (nat_eq x c || list_any (λ y. nat_eq y c) xs) ≡ true
     by rest true e g = ap (λ z. z || list_any (λ y. nat_eq y c) xs) (eq-back c x e)
     by rest false e g = ap (λ z. nat_eq x c || z) (rest g) ∙ or-true (nat_eq x c)

@@ -1,38 +1,22 @@
 -- The mount answers each call as the machine does.
-use Rattle.std.proofs.Common.{arith, ◌≡◌, ℕ, ◌+◌, ◌<◌, true, min, List, Option, None, Some, Result, Ok, Err, refl, sym, ap, ◌∙◌, subst, is_some, length, take, drop}
-use Rattle.std.specs.Option.{unwrap_or, option_and_then}
-use Rattle.std.proofs.lemmas.Bool.{false≢true}
+use Rattle.std.proofs.Common.{arith, ◌≡◌, ℕ, ◌+◌, true, min, List, Option, None, Some, Result, Ok, Err, refl, sym, ap, ◌∙◌, subst, is_some, length, take, drop}
+use Rattle.overlay_core.proofs.Words.{after, AllocError, At, Call, Content, Contents, Directory, directory_in, Errno, false≢true, File, Folder, GivesNames, Handle, handle_of, Inode, is_directory, Layer, Location, Name, OnErr, OpenDirectory, option_and_then, or_else, parents_fault, Path, refusal, Removed, Reply, reply_of, Shown, shows, Stat, State}
+use Rattle.std.specs.Option.{unwrap_or}
 use Rattle.std.proofs.lemmas.List.{drop_min, drop-drop}
-use Rattle.std.specs.Result.{OnErr}
-use Rattle.std.specs.declared.alloc.AllocError.{AllocError}
-use Rattle.ov_base.specs.declared.bytes.Content.{Content}
 use Rattle.ov_base.specs.declared.bytes.Content.TheVariants as content
-use Rattle.ov_base.specs.declared.call.Call.{Call}
 use Rattle.ov_base.specs.declared.call.Call.TheVariants as call
-use Rattle.ov_base.specs.declared.errno.Errno.{Errno}
-use Rattle.ov_base.specs.declared.reply.Reply.{Reply}
 use Rattle.ov_base.specs.declared.reply.Reply.TheVariants as reply
-use Rattle.ov_base.specs.declared.reply.Stat.{Stat}
-use Rattle.plain_model.specs.Layers.{Name, Path, Inode, Layer, Shown, Folder, Contents, shows, is_directory}
-use Rattle.plain_model.specs.Machine.{Handle, State, Look, Found, Absent, Fails, DESCRIPTORS_MAX, handle_of, look, is_found}
-use Rattle.plain_model.specs.Refusals.{there, refusal}
-use Rattle.plain_model.specs.Changes.{after, names_in, listing, listed_on}
-use Rattle.plain_model.specs.Replies.{reply_of}
-use Rattle.layer_tree.specs.Tree.{layer_of}
-use Rattle.merged_lookup.specs.Merged.{layers_of, lowers_of}
-use Rattle.mount_laws.specs.Looks.{or_else, absent, parents_fault, walk_fault, shown_status, Stats, Lists}
+use Rattle.plain_model.specs.Machine.{Look, Found, Absent, Fails, look, is_found}
+use Rattle.plain_model.specs.Refusals.{there}
+use Rattle.plain_model.specs.Changes.{names_in, listing, listed_on}
+use Rattle.mount_laws.specs.Looks.{absent, walk_fault, shown_status, Stats, Lists}
 use Rattle.mount_laws.specs.Removed.{ListsRemoved}
 use Rattle.mount_laws.proofs.Looks.{is_present, present, law_of_walks, law_of_stat}
 use Rattle.mount_laws.proofs.Lists.{law_of_list, law_of_bad_descriptors}
 use Rattle.mount_laws.proofs.Removed.{law_of_list_removed}
 use Rattle.mount_laws.proofs.Descriptors.{law_of_file_list}
-use Rattle.open_handles.specs.Opened.{Location, At, Removed, path_in}
-use Rattle.open_handles.specs.declared.descriptors.Descriptors.{Descriptors}
+use Rattle.open_handles.specs.Opened.{path_in}
 use Rattle.open_handles.specs.declared.handle.Handle as handles
-use Rattle.open_handles.specs.declared.handle.Handle.TheVariants.{Directory, File}
-use Rattle.open_handles.specs.declared.handle.OpenDirectory.{OpenDirectory}
-use Rattle.open_handles.specs.Descriptors.{opened, SetsSlot}
-use Rattle.open_handles.specs.Listings.{GivesNames, directory_in}
 use Rattle.overlay_core.specs.declared.clients.Clients.{Clients}
 use Rattle.overlay_core.specs.declared.mount.Mount.{Mount}
 use Rattle.overlay_core.specs.Attaching.{opened_by, path_of, ChangesClient}
@@ -41,8 +25,8 @@ use Rattle.overlay_core.specs.Status.{stat_at, stat_shown, unless_refused}
 use Rattle.overlay_core.specs.States.{IsLeft, Stands, IsHandle, IsStateOf, StaysState, Serves, AreNamesIn, AreLeft, Pages}
 use Rattle.overlay_core.proofs.Directories.{Turns, shown-directory, turns}
 use Rattle.overlay_core.proofs.FileSight.{file-not-folder}
-use Rattle.overlay_core.proofs.Serving.{placed, slot-closed, open-at, room-of, in-room, tables-set, one-fewer, set-fewer}
-use Rattle.overlay_core.proofs.Stating.{Alike, state-as, keep-state}
+use Rattle.overlay_core.proofs.Slots.{changes-as, opened-after, directory-at, by-opened, state-set}
+use Rattle.overlay_core.proofs.Stating.{the_layers, the_lowers, the_upper, keep-state}
 
 -- a refusal answers as the machine does, where it refuses so
 pub serve-refused : (o : Option Errno) (s : State) (c : ℕ) (k : Call) (e : Errno) (new : Mount) → o ≡ Some e → IsStateOf new s → Serves o s c k (reply.Refused e) new
@@ -56,19 +40,6 @@ serve-done o s c k r new h e st = subst (λ z. Serves z s c k r new) (sym h) (e,
 pub on-err : {T : Type 0} (r : Result T AllocError) (P : Type 0) → P → OnErr r P
 on-err (Ok x) P p = tt
 on-err (Err e) P p = p
-
--- a client's change, told otherwise
-pub changes-as : (old new : Clients) (c : ℕ) (P Q : List (Option handles.Handle) → List (Option handles.Handle) → Type 0) → ((x y : List (Option handles.Handle)) → P x y → Q x y) → ChangesClient old new c P → ChangesClient old new c Q
-changes-as old new c P Q f h = record {
-  before = h.before;
-  was = h.was;
-  after = h.after;
-  is = h.is;
-  changes = f h.before.slots.items h.after.slots.items h.changes;
-  others = h.others;
-  places = h.places;
-  next = h.next;
-}
 
 -- an inode that is shown, with this content
 abbrev holding : ℕ → ℕ → Inode → Content → Option Shown
@@ -121,73 +92,48 @@ unrefused-list None n h = cc
 unrefused-list (Some (File f)) n h = cc
 unrefused-list (Some (Directory x)) n h = refl
 
--- what is open under a descriptor once it was set
-pub opened-after : (old new : Clients) (c d : ℕ) (o : handles.Handle) → ChangesClient old new c (λ x y. SetsSlot x y d (Some o)) → opened_by new c d ≡ Some o
-opened-after old new c d o h = ap (option_and_then (λ (x : Descriptors). opened x.slots.items d)) h.is ∙ h.changes.here
-
 module _ (m : Mount) (s : State) (st : IsStateOf m s) (c : ℕ) where
-  abbrev Ls : List Layer
-  Ls = layers_of m.layers
-
-  abbrev U : Layer
-  U = layer_of m.layers.upper
-
-  abbrev lowers : List Layer
-  lowers = lowers_of m.layers
-
-  abbrev alike : handles.Handle → Handle → Type 0
-  alike = Alike m.layers s m.clients
-
   -- what is shown at a path is there
-  pub here : (p : Path) → is_present (shows 0 Ls p) ≡ true
-  here p = present 0 Ls st.layers.layers p
+  pub here : (p : Path) → is_present (shows 0 (the_layers m) p) ≡ true
+  here p = present 0 (the_layers m) st.layers.layers p
 
   -- a walk to a directory that is shown is not refused
-  pub walk-none : (p : Path) → is_directory (shows 0 Ls p) ≡ true → walk_fault Ls p ≡ None
+  pub walk-none : (p : Path) → is_directory (shows 0 (the_layers m) p) ≡ true → walk_fault (the_layers m) p ≡ None
   walk-none p h =
-      let w = law_of_walks U lowers s st.layers p in
-      sym w.to_last ∙ there-found (look s.tree p) (w.finds ∙ directory-some (shows 0 Ls p) h)
+      let w = law_of_walks (the_upper m) (the_lowers m) s st.layers p in
+      sym w.to_last ∙ there-found (look s.tree p) (w.finds ∙ directory-some (shows 0 (the_layers m) p) h)
 
   -- stat answers the status that is shown
-  pub stat-ok : (p : Path) (a : Stat) → Ok a ≡ stat_at Ls p → Serves (refusal s c (call.Stat p)) s c (call.Stat p) (reply.Status a) m
-  stat-ok p a h = by (walk_fault Ls p) refl h
+  pub stat-ok : (p : Path) (a : Stat) → Ok a ≡ stat_at (the_layers m) p → Serves (refusal s c (call.Stat p)) s c (call.Stat p) (reply.Status a) m
+  stat-ok p a h = by (walk_fault (the_layers m) p) refl h
     where
-      law : Stats Ls s c p
-      law = law_of_stat U lowers s st.layers c p
+      law : Stats (the_layers m) s c p
+      law = law_of_stat (the_upper m) (the_lowers m) s st.layers c p
 
-      by : (w : Option Errno) → walk_fault Ls p ≡ w → Ok a ≡ unless_refused w (stat_shown (shows 0 Ls p)) → Serves (refusal s c (call.Stat p)) s c (call.Stat p) (reply.Status a) m
-      by None e g = serve-done _ s c (call.Stat p) _ m (law.refused ∙ e) (ap reply.Status (sym (status-shown (shows 0 Ls p) a (here p) (sym g))) ∙ sym (law.answer e)) st
+      by : (w : Option Errno) → walk_fault (the_layers m) p ≡ w → Ok a ≡ unless_refused w (stat_shown (shows 0 (the_layers m) p)) → Serves (refusal s c (call.Stat p)) s c (call.Stat p) (reply.Status a) m
+      by None e g = serve-done _ s c (call.Stat p) _ m (law.refused ∙ e) (ap reply.Status (sym (status-shown (shows 0 (the_layers m) p) a (here p) (sym g))) ∙ sym (law.answer e)) st
       by (Some d) e g = cc
 
   -- and its refusal
-  pub stat-err : (p : Path) (d : Errno) → Err d ≡ stat_at Ls p → Serves (refusal s c (call.Stat p)) s c (call.Stat p) (reply.Refused d) m
-  stat-err p d h = by (walk_fault Ls p) refl h
+  pub stat-err : (p : Path) (d : Errno) → Err d ≡ stat_at (the_layers m) p → Serves (refusal s c (call.Stat p)) s c (call.Stat p) (reply.Refused d) m
+  stat-err p d h = by (walk_fault (the_layers m) p) refl h
     where
-      law : Stats Ls s c p
-      law = law_of_stat U lowers s st.layers c p
+      law : Stats (the_layers m) s c p
+      law = law_of_stat (the_upper m) (the_lowers m) s st.layers c p
 
-      by : (w : Option Errno) → walk_fault Ls p ≡ w → Err d ≡ unless_refused w (stat_shown (shows 0 Ls p)) → Serves (refusal s c (call.Stat p)) s c (call.Stat p) (reply.Refused d) m
-      by None e g = absurd (no-status (parents_fault Ls p) (shows 0 Ls p) d (here p) e (sym g))
+      by : (w : Option Errno) → walk_fault (the_layers m) p ≡ w → Err d ≡ unless_refused w (stat_shown (shows 0 (the_layers m) p)) → Serves (refusal s c (call.Stat p)) s c (call.Stat p) (reply.Refused d) m
+      by None e g = absurd (no-status (parents_fault (the_layers m) p) (shows 0 (the_layers m) p) d (here p) e (sym g))
       by (Some x) e g =
           let same : x ≡ d = cc in
           serve-refused _ s c (call.Stat p) d m (law.refused ∙ e ∙ ap Some same) st
 
-  -- what was open under a descriptor
-  pub opened-before : (new : Clients) (P : List (Option handles.Handle) → List (Option handles.Handle) → Type 0) (ch : ChangesClient m.clients new c P) (d : ℕ) → opened_by m.clients c d ≡ opened ch.before.slots.items d
-  opened-before new P ch d = rw ch.was refl
-
   -- why a list is refused, told by what is open
   refused-list : (d n : ℕ) → refusal s c (call.ListNames d n) ≡ list_fault (opened_by m.clients c d) n
-  refused-list d n = by (opened_by m.clients c d) refl
-    where
-      by : (o : Option handles.Handle) → opened_by m.clients c d ≡ o → refusal s c (call.ListNames d n) ≡ list_fault o n
-      by None e = (law_of_bad_descriptors s c d (slot-closed alike _ _ (st.tables.slots c d) e)).listing n
-      by (Some (File f)) e =
-          let x = open-at alike m.clients s.tables st.tables c d (File f) e in
-          (law_of_file_list s c d x.0 x.1 (file-not-folder U lowers s.tree f x.0 x.2)).refused n
-      by (Some (Directory o)) e =
-          let x = open-at alike m.clients s.tables st.tables c d (Directory o) e in
-          (turns U lowers s st.layers c d m.clients.directories o x.0 x.1 x.2).refused n
+  refused-list d n =
+      by-opened m s st c d (λ o. refusal s c (call.ListNames d n) ≡ list_fault o n)
+      (λ none. (law_of_bad_descriptors s c d none).listing n)
+      (λ f h on is. (law_of_file_list s c d h on (file-not-folder (the_upper m) (the_lowers m) s.tree f h is)).refused n)
+      (λ o h on is. (turns (the_upper m) (the_lowers m) s st.layers c d m.clients.directories o h on is).refused n)
 
   -- a list that is refused
   pub list-refused : (d n : ℕ) (e : Errno) → list_fault (opened_by m.clients c d) n ≡ Some e → Serves (refusal s c (call.ListNames d n)) s c (call.ListNames d n) (reply.Refused e) m
@@ -200,10 +146,7 @@ module _ (m : Mount) (s : State) (st : IsStateOf m s) (c : ℕ) where
       (refused-list d n ∙ good)
       (ap reply.Names (pages.next ∙ ap (take n) left) ∙ sym (law.answer n))
       (subst (IsStateOf new) (sym (law.state n))
-      (state-as new m.layers _ pages.layers
-      (record { layers = st.layers.layers; shows = st.layers.shows; kept = st.layers.kept; writable = st.layers.writable })
-      (tables-set alike m.clients s.tables st.tables new.clients (Alike m.layers s new.clients) c d _ (listed_on s.tree n (Some h)) pages.changes inside
-      (λ b i p g now_open was on is. placed U lowers s.tree m.clients.directories new.clients.directories p g (λ e l f. pages.changes.places b i e l (now_open ∙ ap Some f)) is)
+      (state-set m s st c d h x.1 new pages.layers _ (listed_on s.tree n (Some h)) pages.changes (λ f g k is on. cc is)
       (record {
         location = x.2.location;
         located = pages.changes.places c d _ x.2.location (opened-after m.clients new.clients c d _ pages.changes) x.2.located;
@@ -211,18 +154,13 @@ module _ (m : Mount) (s : State) (st : IsStateOf m s) (c : ℕ) where
         directory = x.2.directory;
         access = ap (λ (z : Handle). record z { listed = Some now; place = min (length now) (h.place + n) }) x.2.access;
         left = ap (drop n) left ∙ drop-drop n h.place now ∙ sym (ap (λ z. drop z now) (min-comm (length now) (h.place + n)) ∙ drop_min (h.place + n) now);
-      }))
-      (one-fewer m.clients new.clients s.tables _
-      (set-fewer m.clients new.clients s.tables c d _ (listed_on s.tree n (Some h)) pages.changes (in-room alike m.clients s.tables st.tables c d h x.1) (λ f g k is. cc is))
-      st.one)
-      (pages.changes.next ∙ st.arrived)
-      st.unwatched))
+      })))
     where
       o : OpenDirectory
       o = pages.directory
 
       x : (h : Handle) × (handle_of s.tables c d ≡ Some h) × IsHandle s.tree m.clients.directories o h
-      x = open-at alike m.clients s.tables st.tables c d (Directory o) pages.was
+      x = directory-at m s st c d o pages.was
 
       h : Handle
       h = x.0
@@ -231,23 +169,20 @@ module _ (m : Mount) (s : State) (st : IsStateOf m s) (c : ℕ) where
       now = listing s.tree h
 
       law : Turns s c d h
-      law = turns U lowers s st.layers c d m.clients.directories o h x.1 x.2
+      law = turns (the_upper m) (the_lowers m) s st.layers c d m.clients.directories o h x.1 x.2
 
       -- the names of the directory are those of a new listing
-      alone : (l : Location) → Stands s.tree l h.node → h.listed ≡ None → (names : List Name) → AreNamesIn Ls (path_in l) names → names ≡ now
+      alone : (l : Location) → Stands s.tree l h.node → h.listed ≡ None → (names : List Name) → AreNamesIn (the_layers m) (path_in l) names → names ≡ now
       alone (At p) at none names are =
-          let dir = shown-directory U lowers s st.layers p h.node at x.2.directory in
-          let lists : Lists Ls s c d p h = law_of_list U lowers s st.layers c d p dir h (record { handle = x.1; at = at }) in
+          let dir = shown-directory (the_upper m) (the_lowers m) s st.layers p h.node at x.2.directory in
+          let lists : Lists (the_layers m) s c d p h = law_of_list (the_upper m) (the_lowers m) s st.layers c d p dir h (record { handle = x.1; at = at }) in
           lists.alone none names (are dir (walk-none p dir))
       alone (Removed a) gone none names are =
           let lists : ListsRemoved s c d h = law_of_list_removed s c d h x.1 x.2.directory gone.empty in
           are ∙ sym (lists.empty none)
 
       left : pages.left ≡ drop h.place now
-      left = left-is Ls (path_of m.clients o) o.listing h.listed h.place (names_in (s.tree h.node)) pages.left pages.from x.2.left (λ none names are. alone x.2.location x.2.stands none names (subst (λ z. AreNamesIn Ls z names) (ap (option_and_then path_in) x.2.located) are))
-
-      inside : d < DESCRIPTORS_MAX
-      inside = rw (room-of alike m.clients s.tables st.tables c (ap is_some pages.changes.was)) at (in-room alike m.clients s.tables st.tables c d h x.1)
+      left = left-is (the_layers m) (path_of m.clients o) o.listing h.listed h.place (names_in (s.tree h.node)) pages.left pages.from x.2.left (λ none names are. alone x.2.location x.2.stands none names (subst (λ z. AreNamesIn (the_layers m) z names) (ap (option_and_then path_in) x.2.located) are))
 
 -- a page that wanted memory
 pub page-failed : (m : Mount) (new : Clients) (c d n : ℕ) (r : Result (List Name) AllocError) → ChangesClient m.clients new c (λ x y. GivesNames x y d n r) → OnErr r (StaysState m (record m { clients = new }))

@@ -1,49 +1,22 @@
 -- Open files through changes of the layers and of the tree.
 use Rattle.std.proofs.Common.{◌≡◌, ◌↔◌, ℕ, ◌<◌, true, List, Some, refl, sym, ap, ◌∙◌, subst, map}
-use Rattle.ov_base.specs.declared.call.Call.{Call}
-use Rattle.plain_model.specs.Layers.{Layer}
-use Rattle.plain_model.specs.Tree.{Tree}
-use Rattle.plain_model.specs.Machine.{Handle, Table, State, handle_of}
-use Rattle.plain_model.specs.Changes.{after}
-use Rattle.layer_tree.specs.Tree.{layer_of}
-use Rattle.merged_lookup.specs.declared.layers.Layers.{Layers}
-use Rattle.merged_lookup.specs.Merged.{lowers_of}
-use Rattle.mount_laws.specs.Looks.{IsMountOf}
-use Rattle.mount_laws.specs.OpenFiles.{IsLive}
+use Rattle.overlay_core.proofs.Words.{after, Call, Dentries, Directory, File, file_holders, Handle, handle_of, IsLive, IsMountOf, Layer, layer_of, Layers, lowers_of, OpenDirectory, OpenFile, State, Table, Tree, Upper}
 use Rattle.mount_laws.proofs.Handles.{held-by}
-use Rattle.open_handles.specs.Dentries.{Dentries}
-use Rattle.open_handles.specs.FileHolders.{file_holders}
 use Rattle.open_handles.specs.declared.handle.Handle as handles
-use Rattle.open_handles.specs.declared.handle.Handle.TheVariants.{Directory, File}
-use Rattle.open_handles.specs.declared.handle.OpenDirectory.{OpenDirectory}
-use Rattle.open_handles.specs.declared.open_file.FileSource.{FileSource}
-use Rattle.open_handles.specs.declared.open_file.FileSource.TheVariants.{Upper, Lower}
-use Rattle.open_handles.specs.declared.open_file.OpenFile.{OpenFile}
 use Rattle.overlay_core.specs.declared.clients.Clients.{Clients}
+use Rattle.overlay_core.specs.declared.mount.Mount.{Mount}
 use Rattle.overlay_core.specs.Attaching.{opened_by}
-use Rattle.overlay_core.specs.Files.{is_leaf, IsOf, IsFile, HasFile}
+use Rattle.overlay_core.specs.Files.{is_leaf, IsFile, HasFile}
 use Rattle.overlay_core.specs.Living.{StaysLive, KeepsLive, KeepsHeld, KeepsLeaves, KeepsHeldLeaves}
-use Rattle.overlay_core.specs.States.{IsHandle, IsOpenAs, AreTables}
+use Rattle.overlay_core.specs.States.{IsHandle, IsOpenAs, AreTables, IsStateOf}
 use Rattle.overlay_core.proofs.Serving.{tables-moved}
+use Rattle.overlay_core.proofs.Slots.{of-on}
 
 module _ (U V : Layer) (lowers : List Layer) (t u : Tree) where
-  -- a file that stays live, and a node that stays a file, are of the handle still
-  of-on : (x : FileSource) (h : Handle) → ((k : ℕ) → x ≡ Upper k → IsLive U t h.node k → IsLive V u h.node k) → (is_leaf (t h.node) ≡ true → is_leaf (u h.node) ≡ true) → IsOf U lowers t x h → IsOf V lowers u x h
-  of-on (Upper k) h live leaf s = (live k refl s.0, s.1)
-  of-on (Lower layer k) h live leaf s = record {
-    bytes = s.bytes;
-    attributes = s.attributes;
-    links = s.links;
-    inode = s.inode;
-    view = s.view;
-    file = leaf s.file;
-    reads_alone = s.reads_alone;
-  }
-
-  -- so the handle is on the open file still
+  -- a handle is on the open file still where that stays live, and the node a file
   pub file-on : (f : OpenFile) (h : Handle) → IsFile U lowers t f h → ((k : ℕ) → f.source ≡ Upper k → IsLive U t h.node k → IsLive V u h.node k) → (is_leaf (t h.node) ≡ true → is_leaf (u h.node) ≡ true) → IsFile V lowers u f h
   file-on f h is live leaf = record {
-    source = of-on f.source h live leaf is.source;
+    source = of-on U V lowers t u f.source h h refl refl live leaf is.source;
     reads = is.reads;
     writes = is.writes;
     append = is.append;
@@ -99,3 +72,18 @@ module _ (old new : Layers) where
       live = λ b fd f h j at on key. live s mounts c h.node j ((counted j).0 (record { client = b; descriptor = fd; file = f; opened = at; key = key })) (held-by s.tables b fd h on);
       leaves = λ b fd h on. leaves s mounts.kept c h.node (held-by s.tables b fd h on);
     }
+
+module _ (m : Mount) (s : State) (st : IsStateOf m s) (new : Layers) (low : new.lowers ≡ m.layers.lowers) where
+  -- other layers and another tree, in which what is open is what it was
+  pub state-on : (t : Tree) (serial : ℕ) → IsMountOf (layer_of new.upper) (lowers_of new) (record s { tree = t; serial = serial }) → ((o : OpenDirectory) (h : Handle) → IsHandle s.tree m.clients.directories o h → IsHandle t m.clients.directories o h) → CarriesFiles (layer_of m.layers.upper) (layer_of new.upper) s.tree t m.clients s.tables → IsStateOf (record m { layers = new }) (record s { tree = t; serial = serial })
+  state-on t serial mounts directories files = record {
+    layers = mounts;
+    tables = tables-on m.layers new s.tree t m.clients s.tables low st.tables m.clients.directories (λ b fd o h on. directories o h) files;
+    one = st.one;
+    arrived = st.arrived;
+    unwatched = st.unwatched;
+  }
+
+  -- other layers of the same mount, in which live files stay live
+  pub state-stays : IsMountOf (layer_of new.upper) (lowers_of new) s → StaysLive m.layers new → IsStateOf (record m { layers = new }) s
+  state-stays mounts live = state-on s.tree s.serial mounts (λ o h is. is) (files-stay m.layers new s.tree m.clients s.tables live)

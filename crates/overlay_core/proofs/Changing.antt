@@ -1,44 +1,25 @@
 -- The calls that change the layers: what becomes of open directories, and the machine's steps.
-use Rattle.std.proofs.Common.{arith, ◌≡◌, ◌≢◌, ℕ, ◌<◌, Bool, true, false, not, cond, List, [], ◌∷◌, ◌++◌, Option, None, Some, Result, Ok, Err, IsSome, refl, sym, ap, ◌∙◌, subst, is_some}
-use Rattle.std.specs.Option.{option_and_then, option_map}
+use Rattle.std.proofs.Common.{arith, ◌≡◌, ◌≢◌, ℕ, ◌<◌, Bool, true, false, cond, List, [], ◌∷◌, ◌++◌, Option, None, Some, Result, Ok, Err, IsSome, refl, sym, ap, ◌∙◌, subst, is_some}
+use Rattle.overlay_core.proofs.Words.{after, AllocError, At, Attributes, base, Branch, Call, Dentries, Descriptors, Directory, Errno, false≢true, folder_attributes, Handle, handle_of, is_directory, is_folder, IsMountOf, Layer, layer_of, Layers, Leaf, Location, lowers_of, made_way, Name, nat_cmp, New, Node, node_at, NodeId, OnErr, OpenDirectory, option_and_then, option_map, or_else, Path, put, refusal, Removed, Removes, reply_of, same_id, shows, State, StaysMount, Table, Tree, way_of, when}
 use Rattle.std.specs.BTreeMap.{get}
-use Rattle.std.specs.Ordering.{nat_cmp}
-use Rattle.std.specs.Result.{OnErr}
-use Rattle.std.specs.declared.alloc.AllocError.{AllocError}
-use Rattle.std.proofs.lemmas.Bool.{false≢true}
-use Rattle.ov_base.specs.declared.call.Call.{Call}
 use Rattle.ov_base.specs.declared.call.Call.TheVariants as call
-use Rattle.ov_base.specs.declared.errno.Errno.{Errno}
-use Rattle.ov_base.specs.declared.errno.Errno.TheVariants.{EBUSY, EISDIR, ENOTDIR}
-use Rattle.ov_base.specs.declared.attributes.Attributes.{Attributes}
-use Rattle.ov_base.specs.declared.node_id.NodeId.{NodeId}
-use Rattle.ov_base.specs.declared.node_id.NodeId.TheVariants.{New}
+use Rattle.ov_base.specs.declared.errno.Errno.TheVariants.{EBUSY, EISDIR}
 use Rattle.ov_base.specs.declared.reply.Reply.TheVariants as reply
-use Rattle.plain_model.specs.Layers.{Name, Path, Layer, shows, base, is_directory, same_path}
-use Rattle.plain_model.specs.Tree.{same_id, Node, Branch, Leaf, Tree, names_of, entry, node_at, put, with_name, is_folder}
-use Rattle.plain_model.specs.Machine.{Handle, Table, State, is_root, handle_of}
-use Rattle.plain_model.specs.Refusals.{when, refusal}
-use Rattle.plain_model.specs.Changes.{after, made_way, way_of, names_in}
+use Rattle.plain_model.specs.Layers.{same_path}
+use Rattle.plain_model.specs.Tree.{names_of, entry, with_name}
+use Rattle.plain_model.specs.Machine.{is_root}
 use Rattle.plain_model.proofs.Paths.{ids_tell, paths_tell}
-use Rattle.layer_tree.specs.Tree.{layer_of}
-use Rattle.copy_up.specs.Showing.{StaysMount}
-use Rattle.merged_lookup.specs.declared.layers.Layers.{Layers}
-use Rattle.merged_lookup.specs.Merged.{layers_of, lowers_of}
-use Rattle.mount_laws.specs.Looks.{or_else, walk_fault, IsMountOf, KeepsHidden, Makes, mkdir_fault}
+use Rattle.mount_laws.specs.Looks.{walk_fault, KeepsHidden, Makes, mkdir_fault}
 use Rattle.mount_laws.specs.Leaves.{MakesLink, symlink_fault}
-use Rattle.mount_laws.specs.Removals.{folder_attributes, Removes, unlink_fault, rmdir_fault, ShowsNoName}
+use Rattle.mount_laws.specs.Removals.{unlink_fault, rmdir_fault, ShowsNoName}
 use Rattle.mount_laws.specs.Altered.{AltersState}
 use Rattle.mount_laws.proofs.Looks.{law_of_mkdir}
 use Rattle.mount_laws.proofs.Refusing.{law_of_symlink, law_of_unlink, law_of_rmdir}
 use Rattle.overlay_core.specs.declared.clients.Clients.{Clients}
-use Rattle.open_handles.specs.declared.descriptors.Descriptors.{Descriptors}
-use Rattle.open_handles.specs.Dentries.{Dentries}
 use Rattle.open_handles.specs.Descriptors.{opened}
 use Rattle.open_handles.specs.Opened as places
-use Rattle.open_handles.specs.Opened.{Location, At, Removed, NoneBelow, after_removal}
+use Rattle.open_handles.specs.Opened.{NoneBelow, after_removal}
 use Rattle.open_handles.specs.declared.handle.Handle as handles
-use Rattle.open_handles.specs.declared.handle.Handle.TheVariants.{Directory}
-use Rattle.open_handles.specs.declared.handle.OpenDirectory.{OpenDirectory}
 use Rattle.overlay_core.specs.declared.mount.Mount.{Mount}
 use Rattle.overlay_core.specs.Altering.{AltersUnless}
 use Rattle.overlay_core.specs.Held.{handles_below}
@@ -48,9 +29,9 @@ use Rattle.overlay_core.specs.Living.{StaysLive, KeepsLive, KeepsHeld, KeepsLeav
 use Rattle.overlay_core.specs.States.{Stands, IsHandle, AreTables, AreUnwatched, IsStateOf, StaysState, Serves}
 use Rattle.overlay_core.proofs.Answering.{on-err, serve-refused, serve-done}
 use Rattle.overlay_core.proofs.Counting.{below-find}
-use Rattle.overlay_core.proofs.Serving.{slot-as, slot-open, one-fewer}
-use Rattle.overlay_core.proofs.Stating.{Alike}
-use Rattle.overlay_core.proofs.Carrying.{AreCounted, CarriesFiles, tables-on, files-stay, files-kept, files-held}
+use Rattle.overlay_core.proofs.Serving.{slot-as, slot-open, handle-now, removed-same, open-before, one-fewer}
+use Rattle.overlay_core.proofs.Stating.{the_layers, the_lowers, the_upper, Alike}
+use Rattle.overlay_core.proofs.Carrying.{AreCounted, CarriesFiles, tables-on, state-stays, files-kept, files-held}
 use Rattle.overlay_core.proofs.Directories.{seen, shown-attributes, shown-directory}
 
 -- a directory is there
@@ -81,23 +62,15 @@ made-folder t i (Some w) x d free f =
     (λ e. named-folder w.1 (Some (New i)) (put t (New i) (Some x) w.0) (ap (λ z. is_folder (put t (New i) (Some x) z)) e ∙ there))
     there
 
+-- a directory stands where it stood if its path leads there still, or it was removed
+stands-on : (t u : Tree) → KeepsHidden t u → (l : Location) (d : NodeId) → is_folder (t d) ≡ true → ((q : Path) → l ≡ At q → node_at t q ≡ Some d → node_at u q ≡ Some d) → Stands t l d → Stands u l d
+stands-on t u hidden (At p) d f stays at = stays p refl at
+stands-on t u hidden (Removed a) d f stays gone = let kept = hidden d (folder-some (t d) f) gone.hidden in removed-same t u a d kept.0 kept.1 gone
+
 -- open directories where nothing is removed
 module _ (t u : Tree) (stays : (q : Path) (d : NodeId) → node_at t q ≡ Some d → node_at u q ≡ Some d) (hidden : KeepsHidden t u) (folders : (d : NodeId) → is_folder (t d) ≡ true → is_folder (u d) ≡ true) where
-  stands-on : (l : Location) (d : NodeId) → is_folder (t d) ≡ true → Stands t l d → Stands u l d
-  stands-on (At p) d f at = stays p d at
-  stands-on (Removed a) d f gone =
-      let kept = hidden d (folder-some (t d) f) gone.hidden in
-      record { hidden = kept.1; empty = ap names_in kept.0 ∙ gone.empty; attributes = ap folder_attributes kept.0 ∙ gone.attributes }
-
   pub handle-on : (ds : Dentries) (o : OpenDirectory) (h : Handle) → IsHandle t ds o h → IsHandle u ds o h
-  handle-on ds o h is = record {
-    location = is.location;
-    located = is.located;
-    stands = stands-on is.location h.node is.directory is.stands;
-    directory = folders h.node is.directory;
-    access = is.access;
-    left = is.left;
-  }
+  handle-on ds o h is = handle-now t u ds ds o h is is.location is.located (stands-on t u hidden is.location h.node is.directory (λ q e. stays q h.node) is.stands) (folders h.node is.directory)
 
 -- an unlink that isn't refused is not of a directory
 unlinked-none : (root : Bool) (w : Option Errno) (d : Bool) → or_else (when root EBUSY) (or_else w (when d EISDIR)) ≡ None → d ≡ false
@@ -120,21 +93,11 @@ module _ (s : State) (c : ℕ) (p : Path) (k : Call) (V : Layer) (lowers : List 
   t = (after s c k).tree
 
   -- another one
-  apart-on : (l : Location) (d : NodeId) → l ≢ At p → is_folder (s.tree d) ≡ true → Stands s.tree l d → Stands t l d
-  apart-on (At q) d away f at = x.stays q (λ e. away (ap At e)) ∙ at
-  apart-on (Removed a) d away f gone =
-      let kept = x.hidden d (folder-some (s.tree d) f) gone.hidden in
-      record { hidden = kept.1; empty = ap names_in kept.0 ∙ gone.empty; attributes = ap folder_attributes kept.0 ∙ gone.attributes }
-
   pub handle-apart : (ds : Dentries) (b fd : ℕ) (o : OpenDirectory) (h : Handle) → handle_of s.tables b fd ≡ Some h → (is : IsHandle s.tree ds o h) → is.location ≢ At p → IsHandle t ds o h
-  handle-apart ds b fd o h on is away = record {
-    location = is.location;
-    located = is.located;
-    stands = apart-on is.location h.node away is.directory is.stands;
-    directory = still-folder (s.tree h.node) (t h.node) (x.held b fd h on) is.directory;
-    access = is.access;
-    left = is.left;
-  }
+  handle-apart ds b fd o h on is away =
+      handle-now s.tree t ds ds o h is is.location is.located
+      (stands-on s.tree t x.hidden is.location h.node is.directory (λ q e at. x.stays q (λ same. away (e ∙ ap At same)) ∙ at) is.stands)
+      (still-folder (s.tree h.node) (t h.node) (x.held b fd h on) is.directory)
 
   -- the one itself, which has these attributes, and others
   stands-marked : (a : Attributes) (l : Location) (d : NodeId) → ((e : NodeId) → node_at s.tree p ≡ Some e → folder_attributes (s.tree e) ≡ Some a) → folder_attributes (t d) ≡ folder_attributes (s.tree d) → is_folder (s.tree d) ≡ true → Stands s.tree l d → Stands t (after_removal p a l) d
@@ -146,19 +109,14 @@ module _ (s : State) (c : ℕ) (p : Path) (k : Call) (V : Layer) (lowers : List 
           let none = x.empty d there f in
           record { hidden = none.1; empty = none.0; attributes = same ∙ has d there }
       by false away = x.stays q (λ e. false≢true (sym away ∙ (paths_tell p q).1 (sym e))) ∙ at
-  stands-marked a (Removed b) d has same f gone =
-      let kept = x.hidden d (folder-some (s.tree d) f) gone.hidden in
-      record { hidden = kept.1; empty = ap names_in kept.0 ∙ gone.empty; attributes = ap folder_attributes kept.0 ∙ gone.attributes }
+  stands-marked a (Removed b) d has same f gone = stands-on s.tree t x.hidden (Removed b) d f (λ q e at. cc) gone
 
   pub handle-marked : (a : Attributes) (ds es : Dentries) → ((e : NodeId) → node_at s.tree p ≡ Some e → folder_attributes (s.tree e) ≡ Some a) → places.Removes ds es p a → (b fd : ℕ) (o : OpenDirectory) (h : Handle) → handle_of s.tables b fd ≡ Some h → IsHandle s.tree ds o h → IsHandle t es o h
-  handle-marked a ds es has removes b fd o h on is = record {
-    location = after_removal p a is.location;
-    located = removes.located o.directory ∙ ap (option_map (after_removal p a)) is.located;
-    stands = stands-marked a is.location h.node has (x.held b fd h on) is.directory is.stands;
-    directory = still-folder (s.tree h.node) (t h.node) (x.held b fd h on) is.directory;
-    access = is.access;
-    left = is.left;
-  }
+  handle-marked a ds es has removes b fd o h on is =
+      handle-now s.tree t ds es o h is (after_removal p a is.location)
+      (removes.located o.directory ∙ ap (option_map (after_removal p a)) is.located)
+      (stands-marked a is.location h.node has (x.held b fd h on) is.directory is.stands)
+      (still-folder (s.tree h.node) (t h.node) (x.held b fd h on) is.directory)
 
 -- clients that have the same descriptors have the same tables
 tables-attached : (P : handles.Handle → Handle → Type 0) (clients new : Clients) (ks : List Table) → new.attached ≡ clients.attached → AreTables P clients ks → AreTables P new ks
@@ -170,17 +128,9 @@ tables-attached P clients new ks same tables = record {
 
 -- and have the same files open
 one-attached : (clients new : Clients) (ks : List Table) → new.attached ≡ clients.attached → AreOne clients ks → AreOne new ks
-one-attached clients new ks same = one-fewer clients new ks ks
-    (λ k d x. record {
-      client = x.client;
-      descriptor = x.descriptor;
-      file = x.file;
-      handle = x.handle;
-      opened = sym (ap (λ z. option_and_then (λ (e : Descriptors). opened e.slots.items x.descriptor) (get nat_cmp z x.client)) same) ∙ x.opened;
-      key = x.key;
-      on = x.on;
-      at = x.at;
-    })
+one-attached clients new ks same =
+    one-fewer clients new ks ks
+    (λ k d x. open-before clients new ks ks k d x (ap (λ z. option_and_then (λ (e : Descriptors). opened e.slots.items x.descriptor) (get nat_cmp z x.client)) same) refl)
 
 -- a directory below one is below a directory that has a name in it
 record Beneath (t : Tree) (p : Path) : Type 0 where
@@ -210,41 +160,9 @@ stands-at t ds o h k q is on at =
     let same : is.location ≡ At q = cc in
     subst (λ z. Stands t z h.node) same is.stands
 
--- an rmdir that isn't refused is not of the root, and of a directory that is shown where the walk isn't refused
-pub not-root : (Ls : List Layer) (p : Path) → rmdir_fault Ls p false ≡ None → p ≢ []
-not-root Ls p ok e = let no : rmdir_fault Ls [] false ≡ None = subst (λ z. rmdir_fault Ls z false ≡ None) e ok in absurd (cc)
-
-unrefused-rmdir : (root : Bool) (w : Option Errno) (d : Bool) → or_else (when root EBUSY) (or_else w (or_else (when (not d) ENOTDIR) None)) ≡ None → (w ≡ None) × (d ≡ true)
-unrefused-rmdir true w d e = cc
-unrefused-rmdir false (Some x) d e = cc
-unrefused-rmdir false None true e = (refl, refl)
-unrefused-rmdir false None false e = cc
-
-pub rmdir-walks : (Ls : List Layer) (p : Path) → rmdir_fault Ls p false ≡ None → (walk_fault Ls p ≡ None) × (is_directory (shows 0 Ls p) ≡ true)
-rmdir-walks Ls p ok = unrefused-rmdir (is_root p) (walk_fault Ls p) (is_directory (shows 0 Ls p)) ok
-
 module _ (m : Mount) (s : State) (st : IsStateOf m s) (new : Layers) where
-  abbrev U : Layer
-  U = layer_of m.layers.upper
-
-  abbrev lowers : List Layer
-  lowers = lowers_of m.layers
-
-  abbrev Ls : List Layer
-  Ls = layers_of m.layers
-
   abbrev V : Layer
   V = layer_of new.upper
-
-  -- other layers of the same mount, in which live files stay live
-  stays-state : IsMountOf V (lowers_of new) s → new.lowers ≡ m.layers.lowers → StaysLive m.layers new → IsStateOf (record m { layers = new }) s
-  stays-state x same live = record {
-    layers = x;
-    tables = tables-on m.layers new s.tree s.tree m.clients s.tables same st.tables m.clients.directories (λ b fd o h on is. is) (files-stay m.layers new s.tree m.clients s.tables live);
-    one = st.one;
-    arrived = st.arrived;
-    unwatched = st.unwatched;
-  }
 
   -- a refusal leaves the layers
   pub refused : (c : ℕ) (k : Call) (e : Errno) → refusal s c k ≡ Some e → new ≡ m.layers → Serves (refusal s c k) s c k (reply.Refused e) (record m { layers = new })
@@ -255,7 +173,7 @@ module _ (m : Mount) (s : State) (st : IsStateOf m s) (new : Layers) where
   free = st.layers.kept.unused s.serial (omega arith)
 
   -- the tables after a call, where open directories and open files stay
-  tables-after : (c : ℕ) (k : Call) → new.lowers ≡ m.layers.lowers → ((b fd : ℕ) (o : OpenDirectory) (h : Handle) → handle_of s.tables b fd ≡ Some h → IsHandle s.tree m.clients.directories o h → IsHandle (after s c k).tree m.clients.directories o h) → CarriesFiles U V s.tree (after s c k).tree m.clients s.tables → AreTables (Alike new (after s c k) m.clients) m.clients s.tables
+  tables-after : (c : ℕ) (k : Call) → new.lowers ≡ m.layers.lowers → ((b fd : ℕ) (o : OpenDirectory) (h : Handle) → handle_of s.tables b fd ≡ Some h → IsHandle s.tree m.clients.directories o h → IsHandle (after s c k).tree m.clients.directories o h) → CarriesFiles (the_upper m) V s.tree (after s c k).tree m.clients s.tables → AreTables (Alike new (after s c k) m.clients) m.clients s.tables
   tables-after c k same directories files = tables-on m.layers new s.tree (after s c k).tree m.clients s.tables same st.tables m.clients.directories directories files
 
   -- the state after a call that sets no descriptor and no watch
@@ -268,14 +186,18 @@ module _ (m : Mount) (s : State) (st : IsStateOf m s) (new : Layers) where
     unwatched = subst AreUnwatched (sym still) st.unwatched;
   }
 
+  -- a call that isn't refused is served, where open directories and open files stay
+  done : (c : ℕ) (k : Call) → refusal s c k ≡ None → reply_of s c k ≡ reply.Done → IsMountOf V (lowers_of new) (after s c k) → (after s c k).tables ≡ s.tables → (after s c k).instances ≡ s.instances → new.lowers ≡ m.layers.lowers → ((b fd : ℕ) (o : OpenDirectory) (h : Handle) → handle_of s.tables b fd ≡ Some h → IsHandle s.tree m.clients.directories o h → IsHandle (after s c k).tree m.clients.directories o h) → CarriesFiles (the_upper m) V s.tree (after s c k).tree m.clients s.tables → Serves (refusal s c k) s c k reply.Done (record m { layers = new })
+  done c k ok answer mounts tables still same directories files =
+      serve-done _ s c k reply.Done _ ok (sym answer) (state-after c k m.clients mounts tables still (tables-after c k same directories files) st.one refl)
+
   -- a call that alters what a path shows, and no watch, and leaves each file of the tree a file
   pub altered-done : (c : ℕ) (p : Path) (k : Call) (fault : Option Errno) → refusal s c k ≡ fault → (after s c k).instances ≡ s.instances → KeepsLeaves k → AltersUnless fault m.layers new p k (Ok (Ok tt)) → Serves (refusal s c k) s c k reply.Done (record m { layers = new })
   altered-done c p k fault law still leaves y =
       let x : AltersState V (lowers_of new) s c p k = y.alters s st.layers c in
-      let directories = handle-on s.tree (after s c k).tree (λ q d at. x.paths q ∙ at) x.hidden (λ d f. x.folders d ∙ f) m.clients.directories in
-      let files = files-kept m.layers new s st.layers c k m.clients y.live leaves in
-      let tables = tables-after c k y.lowers (λ b fd o h on. directories o h) files in
-      serve-done _ s c k reply.Done _ (law ∙ y.allowed) (sym x.answer) (state-after c k m.clients x.mounts x.tables still tables st.one refl)
+      done c k (law ∙ y.allowed) x.answer x.mounts x.tables still y.lowers
+      (λ b fd o h on. handle-on s.tree (after s c k).tree (λ q d at. x.paths q ∙ at) x.hidden (λ d f. x.folders d ∙ f) m.clients.directories o h)
+      (files-kept m.layers new s st.layers c k m.clients y.live leaves)
 
   -- and its refusal
   pub altered-refused : (c : ℕ) (p : Path) (k : Call) (fault : Option Errno) (e : Errno) → refusal s c k ≡ fault → AltersUnless fault m.layers new p k (Ok (Err e)) → Serves (refusal s c k) s c k (reply.Refused e) (record m { layers = new })
@@ -289,67 +211,64 @@ module _ (m : Mount) (s : State) (st : IsStateOf m s) (new : Layers) where
       m.clients.directories o h
 
   -- a mkdir that isn't refused is served
-  pub mkdir-done : (c : ℕ) (p : Path) (mode : ℕ) → mkdir_fault Ls p mode ≡ None → new.lowers ≡ m.layers.lowers → Makes V (lowers_of new) s c p mode → KeepsLive m.layers new (call.Mkdir p mode) → KeepsLeaves (call.Mkdir p mode) → Serves (refusal s c (call.Mkdir p mode)) s c (call.Mkdir p mode) reply.Done (record m { layers = new })
+  pub mkdir-done : (c : ℕ) (p : Path) (mode : ℕ) → mkdir_fault (the_layers m) p mode ≡ None → new.lowers ≡ m.layers.lowers → Makes V (lowers_of new) s c p mode → KeepsLive m.layers new (call.Mkdir p mode) → KeepsLeaves (call.Mkdir p mode) → Serves (refusal s c (call.Mkdir p mode)) s c (call.Mkdir p mode) reply.Done (record m { layers = new })
   mkdir-done c p mode ok same x live leaves =
       let k = call.Mkdir p mode in
-      let files = files-kept m.layers new s st.layers c k m.clients live leaves in
-      let tables = tables-after c k same (λ b fd o h on. handle-beside c k p _ refl x.stays x.hidden o h) files in
-      serve-done _ s c k reply.Done _ (law_of_mkdir U lowers s st.layers c p mode ∙ ok) (sym x.answer) (state-after c k m.clients x.mounts x.tables refl tables st.one refl)
+      done c k (law_of_mkdir (the_upper m) (the_lowers m) s st.layers c p mode ∙ ok) x.answer x.mounts x.tables refl same
+      (λ b fd o h on. handle-beside c k p _ refl x.stays x.hidden o h) (files-kept m.layers new s st.layers c k m.clients live leaves)
 
   -- so is a symlink
-  pub symlink-done : (c : ℕ) (target : List ℕ) (p : Path) → symlink_fault Ls target p ≡ None → new.lowers ≡ m.layers.lowers → MakesLink V (lowers_of new) s c target p → KeepsLive m.layers new (call.Symlink target p) → KeepsLeaves (call.Symlink target p) → Serves (refusal s c (call.Symlink target p)) s c (call.Symlink target p) reply.Done (record m { layers = new })
+  pub symlink-done : (c : ℕ) (target : List ℕ) (p : Path) → symlink_fault (the_layers m) target p ≡ None → new.lowers ≡ m.layers.lowers → MakesLink V (lowers_of new) s c target p → KeepsLive m.layers new (call.Symlink target p) → KeepsLeaves (call.Symlink target p) → Serves (refusal s c (call.Symlink target p)) s c (call.Symlink target p) reply.Done (record m { layers = new })
   symlink-done c target p ok same x live leaves =
       let k = call.Symlink target p in
-      let files = files-kept m.layers new s st.layers c k m.clients live leaves in
-      let tables = tables-after c k same (λ b fd o h on. handle-beside c k p _ refl x.stays x.hidden o h) files in
-      serve-done _ s c k reply.Done _ (law_of_symlink U lowers s st.layers c target p ∙ ok) (sym x.answer) (state-after c k m.clients x.mounts x.tables refl tables st.one refl)
+      done c k (law_of_symlink (the_upper m) (the_lowers m) s st.layers c target p ∙ ok) x.answer x.mounts x.tables refl same
+      (λ b fd o h on. handle-beside c k p _ refl x.stays x.hidden o h) (files-kept m.layers new s st.layers c k m.clients live leaves)
 
   -- no directory is open at the path of a file or link
-  not-there : (p : Path) → unlink_fault Ls p ≡ None → (l : Location) (d : NodeId) → Stands s.tree l d → is_folder (s.tree d) ≡ true → l ≢ At p
+  not-there : (p : Path) → unlink_fault (the_layers m) p ≡ None → (l : Location) (d : NodeId) → Stands s.tree l d → is_folder (s.tree d) ≡ true → l ≢ At p
   not-there p ok l d stands f e =
-      let none : is_directory (shows 0 Ls p) ≡ false = unlinked-none (is_root p) (walk_fault Ls p) (is_directory (shows 0 Ls p)) ok in
-      false≢true (sym none ∙ shown-directory U lowers s st.layers p d (subst (λ z. Stands s.tree z d) e stands) f)
+      let none : is_directory (shows 0 (the_layers m) p) ≡ false = unlinked-none (is_root p) (walk_fault (the_layers m) p) (is_directory (shows 0 (the_layers m) p)) ok in
+      false≢true (sym none ∙ shown-directory (the_upper m) (the_lowers m) s st.layers p d (subst (λ z. Stands s.tree z d) e stands) f)
 
   -- no directory is open below one in which no name is shown
-  pub none-below : (p : Path) → ShowsNoName Ls p → ((k : ℕ) → IsSome (places.opened m.clients.directories k) → 0 < handles_below (get nat_cmp m.clients.attached) m.clients.next k) → NoneBelow m.clients.directories p
+  pub none-below : (p : Path) → ShowsNoName (the_layers m) p → ((k : ℕ) → IsSome (places.opened m.clients.directories k) → 0 < handles_below (get nat_cmp m.clients.attached) m.clients.next k) → NoneBelow m.clients.directories p
   none-below p bare counted k n r is =
       let found = below-find (get nat_cmp m.clients.attached) m.clients.next k (counted k (subst IsSome (sym is) refl)) in
       let slot = slot-open (Alike m.layers s m.clients) _ _ (Directory found.handle) (st.tables.slots found.client found.descriptor) found.there in
       let at = stands-at s.tree m.clients.directories found.handle slot.0 k (n ∷ (r ++ p)) slot.2 found.on is in
       let under = beneath s.tree p r n slot.0.node at slot.2.directory in
-      let shown : is_directory (shows 0 Ls (under.name ∷ p)) ≡ true = shown-directory U lowers s st.layers (under.name ∷ p) under.node under.at under.directory in
+      let shown : is_directory (shows 0 (the_layers m) (under.name ∷ p)) ≡ true = shown-directory (the_upper m) (the_lowers m) s st.layers (under.name ∷ p) under.node under.at under.directory in
       false≢true (sym (ap is_directory (bare under.name)) ∙ shown)
 
   -- an unlink that isn't refused is served
-  pub unlink-done : (c : ℕ) (p : Path) → unlink_fault Ls p ≡ None → new.lowers ≡ m.layers.lowers → Removes V (lowers_of new) s c p (call.Unlink p) → AreCounted m.clients → KeepsHeld m.clients m.layers new (call.Unlink p) → KeepsHeldLeaves (call.Unlink p) → Serves (refusal s c (call.Unlink p)) s c (call.Unlink p) reply.Done (record m { layers = new })
+  pub unlink-done : (c : ℕ) (p : Path) → unlink_fault (the_layers m) p ≡ None → new.lowers ≡ m.layers.lowers → Removes V (lowers_of new) s c p (call.Unlink p) → AreCounted m.clients → KeepsHeld m.clients m.layers new (call.Unlink p) → KeepsHeldLeaves (call.Unlink p) → Serves (refusal s c (call.Unlink p)) s c (call.Unlink p) reply.Done (record m { layers = new })
   unlink-done c p ok same x counted live leaves =
       let k = call.Unlink p in
-      let apart = handle-apart s c p k V (lowers_of new) x m.clients.directories in
-      let files = files-held m.layers new s st.layers c k m.clients live leaves counted in
-      let tables = tables-after c k same (λ b fd o h on is. apart b fd o h on is (not-there p ok is.location h.node is.stands is.directory)) files in
-      serve-done _ s c k reply.Done _ (law_of_unlink U lowers s st.layers c p ∙ ok) (sym x.answer) (state-after c k m.clients x.mounts x.tables refl tables st.one refl)
+      done c k (law_of_unlink (the_upper m) (the_lowers m) s st.layers c p ∙ ok) x.answer x.mounts x.tables refl same
+      (λ b fd o h on is. handle-apart s c p k V (lowers_of new) x m.clients.directories b fd o h on is (not-there p ok is.location h.node is.stands is.directory))
+      (files-held m.layers new s st.layers c k m.clients live leaves counted)
 
   -- the node at the path of a directory that is shown has its attributes
-  folder-has : (p : Path) (a : Attributes) → HasAttributes Ls p a → (e : NodeId) → node_at s.tree p ≡ Some e → folder_attributes (s.tree e) ≡ Some a
-  folder-has p a has e at = shown-attributes (s.tree e) (base U lowers p) (shows 0 Ls p) a has (seen U lowers s st.layers p e at)
+  folder-has : (p : Path) (a : Attributes) → HasAttributes (the_layers m) p a → (e : NodeId) → node_at s.tree p ≡ Some e → folder_attributes (s.tree e) ≡ Some a
+  folder-has p a has e at = shown-attributes (s.tree e) (base (the_upper m) (the_lowers m) p) (shows 0 (the_layers m) p) a has (seen (the_upper m) (the_lowers m) s st.layers p e at)
 
   -- rmdir of a directory
-  module _ (c : ℕ) (p : Path) (ok : rmdir_fault Ls p false ≡ None) (bare : ShowsNoName Ls p) (same : new.lowers ≡ m.layers.lowers) (x : Removes V (lowers_of new) s c p (call.Rmdir p)) (counted : AreCounted m.clients) (live : KeepsHeld m.clients m.layers new (call.Rmdir p)) (leaves : KeepsHeldLeaves (call.Rmdir p)) where
+  module _ (c : ℕ) (p : Path) (ok : rmdir_fault (the_layers m) p false ≡ None) (bare : ShowsNoName (the_layers m) p) (same : new.lowers ≡ m.layers.lowers) (x : Removes V (lowers_of new) s c p (call.Rmdir p)) (counted : AreCounted m.clients) (live : KeepsHeld m.clients m.layers new (call.Rmdir p)) (leaves : KeepsHeldLeaves (call.Rmdir p)) where
     abbrev u : Tree
     u = (after s c (call.Rmdir p)).tree
 
     -- open files stay
-    files : CarriesFiles U V s.tree u m.clients s.tables
+    files : CarriesFiles (the_upper m) V s.tree u m.clients s.tables
     files = files-held m.layers new s st.layers c (call.Rmdir p) m.clients live leaves counted
 
     -- it is served where its tables are right
     rmdir-done : (clients : Clients) → AreTables (Alike new (after s c (call.Rmdir p)) clients) clients s.tables → AreOne clients s.tables → clients.next ≡ m.clients.next → Serves (refusal s c (call.Rmdir p)) s c (call.Rmdir p) reply.Done (record m { layers = new; clients = clients })
     rmdir-done clients tables one next =
-        serve-done _ s c (call.Rmdir p) reply.Done _ ((law_of_rmdir U lowers s st.layers c p).empty bare ∙ ok) (sym x.answer)
+        serve-done _ s c (call.Rmdir p) reply.Done _ ((law_of_rmdir (the_upper m) (the_lowers m) s st.layers c p).empty bare ∙ ok) (sym x.answer)
         (state-after c (call.Rmdir p) clients x.mounts x.tables refl tables one next)
 
     -- where it is open, its handles are on a removed directory then
-    pub rmdir-open : (a : Attributes) (clients : Clients) → HasAttributes Ls p a → RemovesOpen m.clients clients p a → Serves (refusal s c (call.Rmdir p)) s c (call.Rmdir p) reply.Done (record m { layers = new; clients = clients })
+    pub rmdir-open : (a : Attributes) (clients : Clients) → HasAttributes (the_layers m) p a → RemovesOpen m.clients clients p a → Serves (refusal s c (call.Rmdir p)) s c (call.Rmdir p) reply.Done (record m { layers = new; clients = clients })
     rmdir-open a clients has marks =
         let directories = handle-marked s c p (call.Rmdir p) V (lowers_of new) x a m.clients.directories clients.directories (folder-has p a has) marks.places in
         let moved = tables-on m.layers new s.tree u m.clients s.tables same st.tables clients.directories directories files in
@@ -368,4 +287,4 @@ module _ (m : Mount) (s : State) (st : IsStateOf m s) (new : Layers) where
 
 -- want of memory leaves each state that the mount stood for
 pub no-memory : {T : Type 0} (r : Result T AllocError) (m : Mount) (new : Layers) → StaysMount m.layers new → new.lowers ≡ m.layers.lowers → StaysLive m.layers new → OnErr r (StaysState m (record m { layers = new }))
-no-memory r m new mounts same live = on-err r _ (λ s st. stays-state m s st new (mounts s st.layers) same live)
+no-memory r m new mounts same live = on-err r _ (λ s st. state-stays m s st new same (mounts s st.layers) live)

@@ -1,50 +1,34 @@
 -- What closing a descriptor does to a mount, where a file that nothing names or holds any more is freed.
-use Rattle.std.proofs.Common.{arith, ◌≡◌, ◌≢◌, ◌↔◌, ℕ, zero, suc, ◌<◌, true, false, cond, ◌||◌, List, Option, None, Some, Ok, Err, refl, sym, ap, ◌∙◌, subst, ◌⊎◌, inl, inr, is_some, length}
-use Rattle.std.proofs.lemmas.Bool.{false≢true, cases_Bool, cases_eq}
+use Rattle.std.proofs.Common.{arith, ◌≡◌, ◌≢◌, ◌↔◌, ℕ, zero, suc, ◌<◌, true, false, cond, ◌||◌, List, Option, None, Some, Ok, Err, refl, sym, ap, ◌∙◌, subst, ◌⊎◌, inl, inr, is_some}
+use Rattle.overlay_core.proofs.Words.{after, cases_Bool, cases_eq, Directory, Errno, false≢true, File, file_holders, file_in, FileSource, Handle, handle_of, Inode, IsLive, IsMountOf, Layer, layer_of, Layers, Lower, lowers_of, node_at, NodeId, OpenFile, Path, refusal, SetsSlot, State, StaysMount, Table, Tree, Upper, with_handle}
 use Rattle.ov_base.specs.declared.call.Call.TheVariants as call
-use Rattle.ov_base.specs.declared.errno.Errno.{Errno}
 use Rattle.ov_base.specs.declared.errno.Errno.TheVariants as errno
-use Rattle.ov_base.specs.declared.node_id.NodeId.{NodeId}
 use Rattle.ov_base.specs.declared.reply.Reply.TheVariants as reply
-use Rattle.plain_model.specs.Layers.{Path, Inode, Layer}
-use Rattle.plain_model.specs.Tree.{Tree, node_at}
-use Rattle.plain_model.specs.Machine.{Handle, Table, State, DESCRIPTORS_MAX, handles_of, handle_of}
-use Rattle.plain_model.specs.Refusals.{refusal}
-use Rattle.plain_model.specs.Changes.{is_named, is_held, settled, with_handle, after}
+use Rattle.plain_model.specs.Changes.{is_named, is_held, settled}
 use Rattle.plain_model.proofs.Kept.{at-path}
 use Rattle.plain_model.proofs.Lasting.{some-named}
-use Rattle.layer_tree.specs.Tree.{layer_of}
-use Rattle.merged_lookup.specs.declared.layers.Layers.{Layers}
-use Rattle.merged_lookup.specs.Merged.{lowers_of}
-use Rattle.copy_up.specs.Showing.{StaysMount, StaysThin}
-use Rattle.copy_up.proofs.Keeping.{lowers-same}
-use Rattle.mount_laws.specs.Looks.{IsMountOf}
+use Rattle.copy_up.specs.Showing.{StaysThin}
 use Rattle.mount_laws.specs.Descriptors.{ClosesHandle}
 use Rattle.mount_laws.specs.Removed.{ClosesHidden}
-use Rattle.mount_laws.specs.OpenFiles.{IsLive, DropsInode}
+use Rattle.mount_laws.specs.OpenFiles.{DropsInode}
 use Rattle.mount_laws.proofs.Opens.{put-same}
 use Rattle.mount_laws.proofs.Lists.{law_of_bad_descriptors}
 use Rattle.mount_laws.proofs.Descriptors.{law_of_handle_close}
 use Rattle.mount_laws.proofs.Removed.{law_of_close_removed}
 use Rattle.mount_laws.proofs.StayOpen.{law_of_live_kept}
 use Rattle.open_handles.specs.declared.handle.Handle as handles
-use Rattle.open_handles.specs.declared.handle.Handle.TheVariants.{Directory, File}
-use Rattle.open_handles.specs.declared.open_file.FileSource.{FileSource}
-use Rattle.open_handles.specs.declared.open_file.FileSource.TheVariants.{Upper, Lower}
-use Rattle.open_handles.specs.declared.open_file.OpenFile.{OpenFile}
-use Rattle.open_handles.specs.Dentries.{Dentries}
-use Rattle.open_handles.specs.Descriptors.{SetsSlot}
-use Rattle.open_handles.specs.FileHolders.{file_holders}
-use Rattle.open_handles.specs.Listings.{Closes, file_in}
+use Rattle.open_handles.specs.Listings.{Closes}
 use Rattle.overlay_core.specs.declared.clients.Clients.{Clients}
 use Rattle.overlay_core.specs.declared.mount.Mount.{Mount}
 use Rattle.overlay_core.specs.Attaching.{opened_by, file_by, ChangesClient}
-use Rattle.overlay_core.specs.Files.{lower_inode, is_leaf, IsOf, AreOne, HasFile, upper_of}
+use Rattle.overlay_core.specs.Files.{is_leaf, IsOf, AreOne, HasFile, upper_of}
 use Rattle.overlay_core.specs.Living.{StaysHeld, KeepsPaths, FreesClosed}
 use Rattle.overlay_core.specs.States.{IsOpenAs, AreTables, IsStateOf, Serves}
-use Rattle.overlay_core.proofs.Serving.{slot-closed, placed, handle-same, tables-moved, open-at, room-of, in-room, tables-set, one-fewer, set-fewer}
-use Rattle.overlay_core.proofs.Stating.{Alike, keep-state}
-use Rattle.overlay_core.proofs.Answering.{serve-refused, serve-done, changes-as}
+use Rattle.overlay_core.proofs.Carrying.{tables-on}
+use Rattle.overlay_core.proofs.Serving.{handle-same, open-at}
+use Rattle.overlay_core.proofs.Slots.{changes-as, handle-none, state-set}
+use Rattle.overlay_core.proofs.Stating.{the_upper, Alike, keep-state}
+use Rattle.overlay_core.proofs.Answering.{serve-refused, serve-done}
 
 -- the tables where a descriptor is free
 abbrev freed_tables : State → ℕ → ℕ → List Table
@@ -154,33 +138,6 @@ live-still U t u d k paths same l = record {
   paths = λ q. (λ h. (l.paths q).0 (sym (paths q) ∙ h), λ h. paths q ∙ (l.paths q).1 h);
 }
 
--- in another upper over the same lower layers, and a tree with the same paths and the same node
-module _ (U V : Layer) (lowers low : List Layer) (same_low : low ≡ lowers) (t u : Tree) (paths : (q : Path) → node_at u q ≡ node_at t q) (h : Handle) (same : u h.node ≡ t h.node) where
-  -- a handle is of the file that it was of, if that stays live
-  of-still : (x : FileSource) → ((k : ℕ) → x ≡ Upper k → IsLive U t h.node k → IsLive V t h.node k) → IsOf U lowers t x h → IsOf V low u x h
-  of-still (Upper k) live is = (live-still V t u h.node k paths same (live k refl is.0), is.1)
-  of-still (Lower layer k) live is = record {
-    bytes = is.bytes;
-    attributes = is.attributes;
-    links = is.links;
-    inode = ap (λ Ls. lower_inode Ls layer k) same_low ∙ is.inode;
-    view = is.view;
-    file = ap is_leaf same ∙ is.file;
-    reads_alone = is.reads_alone;
-  }
-
-  -- and so is what is open
-  open-still : (ds : Dentries) (o : handles.Handle) → ((f : OpenFile) (k : ℕ) → o ≡ File f → f.source ≡ Upper k → IsLive U t h.node k → IsLive V t h.node k) → IsOpenAs U lowers t ds o h → IsOpenAs V low u ds o h
-  open-still ds (Directory o) live is = handle-same t u ds paths o h same is
-  open-still ds (File f) live is = record {
-    source = of-still f.source (λ k. live f k refl) is.source;
-    reads = is.reads;
-    writes = is.writes;
-    append = is.append;
-    place = is.place;
-    unlisted = is.unlisted;
-  }
-
 -- what is open on a file of the upper
 upper-open : (o : Option handles.Handle) (k : ℕ) → upper_of (file_in o) ≡ Some k → (f : OpenFile) × (o ≡ Some (File f)) × (f.source ≡ Upper k)
 upper-open None k e = cc
@@ -193,9 +150,6 @@ upper-open (Some (File f)) k e = (f, refl, by f.source e)
 
 -- a client closes a descriptor
 module _ (m : Mount) (s : State) (st : IsStateOf m s) (c d : ℕ) where
-  abbrev old_upper : Layer
-  old_upper = layer_of m.layers.upper
-
   -- one that isn't open is refused
   pub close-refused : (new : Clients) (e : Errno) → ChangesClient m.clients new c (λ x y. Closes x y d (Err e)) → Serves (refusal s c (call.Close d)) s c (call.Close d) (reply.Refused e) (record m { clients = new })
   close-refused new e ch =
@@ -207,14 +161,14 @@ module _ (m : Mount) (s : State) (st : IsStateOf m s) (c d : ℕ) where
       shut = rw ch.was ch.changes.not_open.1
 
       none : handle_of s.tables c d ≡ None
-      none = slot-closed (Alike m.layers s m.clients) _ _ (st.tables.slots c d) shut
+      none = handle-none m s st c d shut
 
   -- a file of the upper that is open has an inode
-  inode-there : (k : ℕ) → upper_of (file_by m.clients c d) ≡ Some k → is_some (old_upper.inodes k) ≡ true
+  inode-there : (k : ℕ) → upper_of (file_by m.clients c d) ≡ Some k → is_some ((the_upper m).inodes k) ≡ true
   inode-there k e =
       let file = upper-open (opened_by m.clients c d) k e in
       let at = open-at (Alike m.layers s m.clients) m.clients s.tables st.tables c d (File file.0) file.1 in
-      let source = subst (λ (x : FileSource). IsOf old_upper (lowers_of m.layers) s.tree x at.0) file.2 at.2.source in
+      let source = subst (λ (x : FileSource). IsOf (the_upper m) (lowers_of m.layers) s.tree x at.0) file.2 at.2.source in
       ap is_some source.0.inode
 
   -- an open one is closed
@@ -227,10 +181,7 @@ module _ (m : Mount) (s : State) (st : IsStateOf m s) (c d : ℕ) where
     abbrev left : List Table
     left = freed_tables s c d
 
-    -- the lower layers and the other open files stay
-    low : lowers_of l ≡ lowers_of m.layers
-    low = lowers-same m.layers l leaves.paths.lowers
-
+    -- the other open files stay
     live : StaysHeld new m.layers l
     live = leaves.live (λ k e. inode-there k (sym is ∙ e))
 
@@ -246,11 +197,14 @@ module _ (m : Mount) (s : State) (st : IsStateOf m s) (c d : ℕ) where
         (record {
           layers = leaves.mounts step law.mounts;
           tables = subst (AreTables (IsOpenAs (layer_of l.upper) (lowers_of l) step.tree new.directories) new) (sym law.tables)
-              (tables-moved (Alike m.layers s new) new left set (IsOpenAs (layer_of l.upper) (lowers_of l) step.tree new.directories)
-              (λ b i o g opens on alike. open-still old_upper (layer_of l.upper) (lowers_of m.layers) (lowers_of l) low s.tree step.tree law.paths g (law.held b i g on) new.directories o
-              (λ f k file key. live s.tree g.node k ((files k).0 (record { client = b; descriptor = i; file = f; opened = opens ∙ ap Some file; key = key })))
-              alike));
-          one = subst (AreOne new) (sym law.tables) one;
+              (tables-on m.layers l s.tree step.tree new left leaves.paths.lowers state.tables new.directories
+              (λ b i o g on is. handle-same s.tree step.tree new.directories law.paths o g (law.held b i g on) is)
+              (record {
+                live = λ b i f g k opens on key is. live-still (layer_of l.upper) s.tree step.tree g.node k law.paths (law.held b i g on)
+                    (live s.tree g.node k ((files k).0 (record { client = b; descriptor = i; file = f; opened = opens; key = key })) is);
+                leaves = λ b i g on leaf. ap is_leaf (law.held b i g on) ∙ leaf;
+              }));
+          one = subst (AreOne new) (sym law.tables) state.one;
           arrived = ch.next ∙ st.arrived;
           unwatched = st.unwatched;
         })
@@ -261,23 +215,11 @@ module _ (m : Mount) (s : State) (st : IsStateOf m s) (c d : ℕ) where
         handle : (x : handles.Handle) × (h : Handle) × (handle_of s.tables c d ≡ Some h)
         handle = was-open (opened_by m.clients c d) refl there
 
-        law : ClosesHidden old_upper (lowers_of m.layers) s c d handle.1
-        law = closes-handle old_upper (lowers_of m.layers) s st.layers c d handle.1 handle.2
+        law : ClosesHidden (the_upper m) (lowers_of m.layers) s c d handle.1
+        law = closes-handle (the_upper m) (lowers_of m.layers) s st.layers c d handle.1 handle.2
 
         closes : ChangesClient m.clients new c (λ x y. SetsSlot x y d None)
         closes = changes-as m.clients new c _ _ (λ x y g. g.closes) ch
 
-        within : d < length (handles_of s.tables c)
-        within = in-room (Alike m.layers s m.clients) m.clients s.tables st.tables c d handle.1 handle.2
-
-        inside : d < DESCRIPTORS_MAX
-        inside = rw (room-of (Alike m.layers s m.clients) m.clients s.tables st.tables c (ap is_some ch.was)) at within
-
-        set : AreTables (Alike m.layers s new) new left
-        set =
-            tables-set (Alike m.layers s m.clients) m.clients s.tables st.tables new (Alike m.layers s new) c d None None closes inside
-            (λ b i o g opens was on alike. placed old_upper (lowers_of m.layers) s.tree m.clients.directories new.directories o g (λ x p e. ch.places b i x p (opens ∙ ap Some e)) alike)
-            tt
-
-        one : AreOne new left
-        one = one-fewer m.clients new s.tables left (set-fewer m.clients new s.tables c d None None closes within (λ f g k e. cc)) st.one
+        state : IsStateOf (record m { clients = new }) (record s { tables = left })
+        state = state-set m s st c d handle.1 handle.2 (record m { clients = new }) refl None None closes (λ f g k e. cc) tt

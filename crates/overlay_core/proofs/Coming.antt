@@ -1,35 +1,25 @@
 -- Clients come on both sides.
-use Rattle.std.proofs.Common.{◌≡◌, ◌≢◌, ℕ, zero, suc, Bool, true, false, cond, ◌||◌, List, [], ◌∷◌, ◌++◌, Option, None, Some, Result, Ok, Err, refl, sym, ap, ◌∙◌, subst, ◌⊎◌, inl, inr, is_some, length, replicate, slice_get, nat_eq, add-one}
-use Rattle.std.proofs.lemmas.Bool.{false≢true, cases_eq, eq-eqb, ne_eqb}
+use Rattle.std.proofs.Common.{◌≡◌, ◌≢◌, ℕ, zero, suc, Bool, false, cond, ◌||◌, List, [], ◌∷◌, ◌++◌, Option, None, Some, Result, Ok, Err, refl, sym, ap, ◌∙◌, subst, ◌⊎◌, inl, inr, is_some, length, replicate, slice_get, nat_eq, add-one}
+use Rattle.overlay_core.proofs.Words.{AllocError, AreLayers, cases_eq, Descriptors, DESCRIPTORS_MAX, eq-eqb, Errno, File, Handle, handle_of, handles_of, held_in, IfOk, Layer, layer_of, layers_of, list_any, lowers_of, nat_cmp, ne_eqb, OnErr, OpenFile, option_and_then, State, Table, Tree}
+use Rattle.std.proofs.Math.Bool.{or-false, or-true}
+use Rattle.std.proofs.lemmas.Bool.{or_parts}
+use Rattle.std.proofs.lemmas.List.Folds.{list_any-append}
 use Rattle.std.proofs.lemmas.List.{length-replicate}
-use Rattle.std.specs.List.{list_any}
-use Rattle.std.specs.Option.{option_and_then}
-use Rattle.std.specs.Result.{IfOk, OnErr}
-use Rattle.std.specs.declared.alloc.AllocError.{AllocError}
-use Rattle.ov_base.specs.declared.errno.Errno.{Errno}
 use Rattle.std.specs.BTreeMap.{get}
-use Rattle.std.specs.Ordering.{nat_cmp}
-use Rattle.plain_model.specs.Layers.{Layer, AreLayers}
-use Rattle.plain_model.specs.Tree.{Tree}
-use Rattle.plain_model.specs.Machine.{Handle, Table, State, DESCRIPTORS_MAX, free_table, opening, handles_of, held_in, handle_of}
+use Rattle.plain_model.specs.Machine.{free_table, opening}
 use Rattle.plain_model.specs.Merging.{IsMerge}
 use Rattle.plain_model.specs.Watching.{Instance, silent}
 use Rattle.plain_model.specs.Runs.{joined, is_attached}
-use Rattle.layer_tree.specs.Tree.{layer_of}
-use Rattle.merged_lookup.specs.Merged.{layers_of, lowers_of}
 use Rattle.mount_laws.proofs.Looks.{law_of_beginning}
 use Rattle.overlay_core.specs.declared.clients.Clients.{Clients}
-use Rattle.open_handles.specs.declared.descriptors.Descriptors.{Descriptors}
 use Rattle.open_handles.specs.declared.handle.Handle as handles
-use Rattle.open_handles.specs.declared.handle.Handle.TheVariants.{File}
-use Rattle.open_handles.specs.declared.open_file.OpenFile.{OpenFile}
 use Rattle.overlay_core.specs.declared.mount.Mount.{Mount}
-use Rattle.overlay_core.specs.Attaching.{Attaches, IsSame, opened_by}
+use Rattle.overlay_core.specs.Attaching.{Attaches, IsSame, KeepsPlaces, opened_by}
 use Rattle.open_handles.specs.Descriptors.{opened}
 use Rattle.overlay_core.specs.Files.{IsOpenOn, AreOne}
 use Rattle.overlay_core.specs.States.{IsOpenAs, IsSlot, AreTables, AreUnwatched, IsStateOf}
-use Rattle.overlay_core.proofs.Serving.{slot-as, carried, places-same, OpensFewer, one-fewer}
-use Rattle.overlay_core.proofs.Stating.{Alike, keep-same}
+use Rattle.overlay_core.proofs.Serving.{slot-as, carried, places-same, OpensFewer, open-before, one-fewer}
+use Rattle.overlay_core.proofs.Stating.{the_lowers, the_upper, Alike, keep-same}
 
 -- whether a table is of a client
 abbrev pub of : ℕ → Table → Bool
@@ -37,34 +27,7 @@ of b k = nat_eq k.client b
 
 -- a client's table last
 any-last : (ks : List Table) (n b : ℕ) → list_any (of b) (ks ++ free_table n ∷ []) ≡ (list_any (of b) ks || nat_eq n b)
-any-last [] n b = by (nat_eq n b)
-  where
-    by : (x : Bool) → (x || false) ≡ (false || x)
-    by true = refl
-    by false = refl
-any-last (k ∷ ks) n b = ap (λ x. nat_eq k.client b || x) (any-last ks n b) ∙ by (nat_eq k.client b) (list_any (of b) ks) (nat_eq n b)
-  where
-    by : (x y z : Bool) → (x || (y || z)) ≡ ((x || y) || z)
-    by true y z = refl
-    by false y z = refl
-
--- with false, and with true, on the right
-or-false : (x : Bool) → (x || false) ≡ x
-or-false true = refl
-or-false false = refl
-
-or-true : (x : Bool) → (x || true) ≡ true
-or-true true = refl
-or-true false = refl
-
--- where it is false that one of two holds, neither does
-first-false : (x y : Bool) → (x || y) ≡ false → x ≡ false
-first-false true y h = h
-first-false false y h = refl
-
-second-false : (x y : Bool) → (x || y) ≡ false → y ≡ false
-second-false true y h = absurd (false≢true (sym h))
-second-false false y h = h
+any-last ks n b = list_any-append (of b) ks (free_table n ∷ []) ∙ ap (λ x. list_any (of b) ks || x) (or-false (nat_eq n b))
 
 -- the handles of another client, and of this one
 handles-last-other : (ks : List Table) (n b : ℕ) → b ≢ n → handles_of (ks ++ free_table n ∷ []) b ≡ handles_of ks b
@@ -74,8 +37,8 @@ handles-last-other (k ∷ ks) n b h = ap (cond (nat_eq k.client b) k.handles) (h
 handles-last : (ks : List Table) (n : ℕ) → list_any (of n) ks ≡ false → handles_of (ks ++ free_table n ∷ []) n ≡ replicate DESCRIPTORS_MAX None
 handles-last [] n h = ap (λ x. cond x (replicate DESCRIPTORS_MAX None) []) (eq-eqb n n refl)
 handles-last (k ∷ ks) n h =
-    ap (λ x. cond x k.handles (handles_of (ks ++ free_table n ∷ []) n)) (first-false (nat_eq k.client n) (list_any (of n) ks) h)
-    ∙ handles-last ks n (second-false (nat_eq k.client n) (list_any (of n) ks) h)
+    ap (λ x. cond x k.handles (handles_of (ks ++ free_table n ∷ []) n)) (or_parts (nat_eq k.client n) (list_any (of n) ks) h).0
+    ∙ handles-last ks n (or_parts (nat_eq k.client n) (list_any (of n) ks) h).1
 
 -- a free table holds nothing
 held-free : (k d : ℕ) → held_in (slice_get (replicate k None) d) ≡ None
@@ -92,6 +55,38 @@ unwatched-last (x ∷ es) e a h = (a.0, unwatched-last es e a.1 h)
 abbrev pub open_in : ℕ → Option Descriptors → Option handles.Handle
 open_in d o = option_and_then (λ (x : Descriptors). opened x.slots.items d) o
 
+-- a client that has nothing open, while the others stay as they are on both sides
+module _ (clients new : Clients) (ks ls : List Table) (n : ℕ) (others : (b : ℕ) → b ≢ n → get nat_cmp new.attached b ≡ get nat_cmp clients.attached b) (kept : (b : ℕ) → b ≢ n → handles_of ls b ≡ handles_of ks b) (none : (d : ℕ) → opened_by new n d ≡ None) where
+  -- a file that is open was so before
+  pub fewer-but : OpensFewer clients ks new ls
+  fewer-but k d x = by (cases_eq x.client n)
+    where
+      by : (x.client ≡ n) ⊎ (x.client ≡ n → ⊥) → IsOpenOn clients ks k d
+      by (inl e) =
+          let nothing : opened_by new x.client x.descriptor ≡ None = ap (λ z. opened_by new z x.descriptor) e ∙ none x.descriptor in
+          cc (nothing, x.opened)
+      by (inr m) = open-before clients new ks ls k d x (ap (open_in x.descriptor) (others x.client m)) (ap (λ z. held_in (slice_get z x.descriptor)) (kept x.client m))
+
+  -- the tables are right if its own is
+  pub tables-but : (U : Layer) (lowers : List Layer) (t : Tree) → AreTables (IsOpenAs U lowers t clients.directories) clients ks → KeepsPlaces clients new → ((b : ℕ) → b ≢ n → list_any (of b) ls ≡ list_any (of b) ks) → list_any (of n) ls ≡ is_some (get nat_cmp new.attached n) → length (handles_of ls n) ≡ cond (is_some (get nat_cmp new.attached n)) DESCRIPTORS_MAX 0 → ((d : ℕ) → handle_of ls n d ≡ None) → AreTables (IsOpenAs U lowers t new.directories) new ls
+  tables-but U lowers t a places any here long bare = record { attached = λ b. attached b (cases_eq b n); room = λ b. room b (cases_eq b n); slots = λ b d. slots b d (cases_eq b n) }
+    where
+      attached : (b : ℕ) → (b ≡ n) ⊎ (b ≡ n → ⊥) → list_any (of b) ls ≡ is_some (get nat_cmp new.attached b)
+      attached b (inl e) = subst (λ z. list_any (of z) ls ≡ is_some (get nat_cmp new.attached z)) (sym e) here
+      attached b (inr m) = any b m ∙ a.attached b ∙ sym (ap (λ (o : Option Descriptors). is_some o) (others b m))
+
+      room : (b : ℕ) → (b ≡ n) ⊎ (b ≡ n → ⊥) → length (handles_of ls b) ≡ cond (is_some (get nat_cmp new.attached b)) DESCRIPTORS_MAX 0
+      room b (inl e) = subst (λ z. length (handles_of ls z) ≡ cond (is_some (get nat_cmp new.attached z)) DESCRIPTORS_MAX 0) (sym e) long
+      room b (inr m) = ap length (kept b m) ∙ a.room b ∙ sym (ap (λ (o : Option Descriptors). cond (is_some o) DESCRIPTORS_MAX 0) (others b m))
+
+      slots : (b d : ℕ) → (b ≡ n) ⊎ (b ≡ n → ⊥) → IsSlot (IsOpenAs U lowers t new.directories) (opened_by new b d) (handle_of ls b d)
+      slots b d (inl e) =
+          subst (λ z. IsSlot (IsOpenAs U lowers t new.directories) (opened_by new z d) (handle_of ls z d)) (sym e)
+          (slot-as (IsOpenAs U lowers t new.directories) None _ None _ (sym (none d)) (sym (bare d)) tt)
+      slots b d (inr m) =
+          slot-as (IsOpenAs U lowers t new.directories) _ _ _ _ refl (sym (ap (λ z. held_in (slice_get z d)) (kept b m)))
+          (carried U lowers t clients new places b d (handle_of ks b d) (ap (open_in d) (others b m)) (a.slots b d))
+
 module _ (U : Layer) (lowers : List Layer) (t : Tree) (clients : Clients) (ks : List Table) (a : AreTables (IsOpenAs U lowers t clients.directories) clients ks) (new : Clients) (n : ℕ) (h : Attaches clients new n) where
   -- the client had no table
   fresh : list_any (of n) ks ≡ false
@@ -101,58 +96,20 @@ module _ (U : Layer) (lowers : List Layer) (t : Tree) (clients : Clients) (ks : 
   opens-none : (d : ℕ) → opened_by new n d ≡ None
   opens-none d = ap (open_in d) h.there ∙ ap (λ z. opened z d) h.none
 
-  -- and no handle
-  holds-none : (d : ℕ) → handle_of (ks ++ free_table n ∷ []) n d ≡ None
-  holds-none d = ap (λ z. held_in (slice_get z d)) (handles-last ks n fresh) ∙ held-free DESCRIPTORS_MAX d
-
-  -- another client has open what it had
-  opens-other : (b d : ℕ) → b ≢ n → opened_by new b d ≡ opened_by clients b d
-  opens-other b d m = ap (open_in d) (h.others b m)
-
-  -- by the handles that it had
-  holds-other : (b d : ℕ) → b ≢ n → handle_of (ks ++ free_table n ∷ []) b d ≡ handle_of ks b d
-  holds-other b d m = ap (λ z. held_in (slice_get z d)) (handles-last-other ks n b m)
-
   -- the tables with the client's
   come : AreTables (IsOpenAs U lowers t new.directories) new (ks ++ free_table n ∷ [])
-  come = record { attached = λ b. attached b (cases_eq b n); room = λ b. room b (cases_eq b n); slots = λ b d. slots b d (cases_eq b n) }
+  come =
+      tables-but clients new ks (ks ++ free_table n ∷ []) n h.others (handles-last-other ks n) opens-none U lowers t a (places-same clients new h.places) any-other
+      (any-last ks n n ∙ ap (λ x. list_any (of n) ks || x) (eq-eqb n n refl) ∙ or-true (list_any (of n) ks) ∙ sym (ap (λ (o : Option Descriptors). is_some o) h.there))
+      (ap length (handles-last ks n fresh) ∙ length-replicate {A = Option Handle} DESCRIPTORS_MAX None ∙ sym (ap (λ (o : Option Descriptors). cond (is_some o) DESCRIPTORS_MAX 0) h.there))
+      (λ d. ap (λ z. held_in (slice_get z d)) (handles-last ks n fresh) ∙ held-free DESCRIPTORS_MAX d)
     where
-      attached : (b : ℕ) → (b ≡ n) ⊎ (b ≡ n → ⊥) → list_any (of b) (ks ++ free_table n ∷ []) ≡ is_some (get nat_cmp new.attached b)
-      attached b (inl e) = any-last ks n b ∙ ap (λ x. list_any (of b) ks || x) (eq-eqb n b (sym e)) ∙ or-true (list_any (of b) ks) ∙ sym (ap (λ z. is_some (get nat_cmp new.attached z)) e ∙ ap (λ (o : Option Descriptors). is_some o) h.there)
-      attached b (inr m) = any-last ks n b ∙ ap (λ x. list_any (of b) ks || x) (ne_eqb n b (λ e. m (sym e))) ∙ or-false (list_any (of b) ks) ∙ a.attached b ∙ sym (ap (λ (o : Option Descriptors). is_some o) (h.others b m))
-
-      room : (b : ℕ) → (b ≡ n) ⊎ (b ≡ n → ⊥) → length (handles_of (ks ++ free_table n ∷ []) b) ≡ cond (is_some (get nat_cmp new.attached b)) DESCRIPTORS_MAX 0
-      room b (inl e) =
-          subst (λ z. length (handles_of (ks ++ free_table n ∷ []) z) ≡ cond (is_some (get nat_cmp new.attached z)) DESCRIPTORS_MAX 0) (sym e)
-          (ap length (handles-last ks n fresh) ∙ length-replicate {A = Option Handle} DESCRIPTORS_MAX None ∙ sym (ap (λ (o : Option Descriptors). cond (is_some o) DESCRIPTORS_MAX 0) h.there))
-      room b (inr m) = ap length (handles-last-other ks n b m) ∙ a.room b ∙ sym (ap (λ (o : Option Descriptors). cond (is_some o) DESCRIPTORS_MAX 0) (h.others b m))
-
-      slots : (b d : ℕ) → (b ≡ n) ⊎ (b ≡ n → ⊥) → IsSlot (IsOpenAs U lowers t new.directories) (opened_by new b d) (handle_of (ks ++ free_table n ∷ []) b d)
-      slots b d (inl e) =
-          subst (λ z. IsSlot (IsOpenAs U lowers t new.directories) (opened_by new z d) (handle_of (ks ++ free_table n ∷ []) z d)) (sym e)
-          (slot-as (IsOpenAs U lowers t new.directories) None _ None _ (sym (opens-none d)) (sym (holds-none d)) tt)
-      slots b d (inr m) =
-          slot-as (IsOpenAs U lowers t new.directories) _ _ _ _ refl (sym (holds-other b d m))
-          (carried U lowers t clients new (places-same clients new h.places) b d (handle_of ks b d) (opens-other b d m) (a.slots b d))
+      any-other : (b : ℕ) → b ≢ n → list_any (of b) (ks ++ free_table n ∷ []) ≡ list_any (of b) ks
+      any-other b m = any-last ks n b ∙ ap (λ x. list_any (of b) ks || x) (ne_eqb n b (λ e. m (sym e))) ∙ or-false (list_any (of b) ks)
 
   -- a file that is open was so before the client came
   come-fewer : OpensFewer clients ks new (ks ++ free_table n ∷ [])
-  come-fewer k d x = by (cases_eq x.client n)
-    where
-      by : (x.client ≡ n) ⊎ (x.client ≡ n → ⊥) → IsOpenOn clients ks k d
-      by (inl e) =
-          let none : opened_by new x.client x.descriptor ≡ None = ap (λ z. opened_by new z x.descriptor) e ∙ opens-none x.descriptor in
-          cc (none, x.opened)
-      by (inr m) = record {
-        client = x.client;
-        descriptor = x.descriptor;
-        file = x.file;
-        handle = x.handle;
-        opened = sym (opens-other x.client x.descriptor m) ∙ x.opened;
-        key = x.key;
-        on = sym (holds-other x.client x.descriptor m) ∙ x.on;
-        at = x.at;
-      }
+  come-fewer = fewer-but clients new ks (ks ++ free_table n ∷ []) n h.others (handles-last-other ks n) opens-none
 
 -- a mount without clients stands for the opening state of the merge
 pub begins : (m : Mount) → ((n : ℕ) → get nat_cmp m.clients.attached n ≡ None) → m.clients.next ≡ 0 → (t : Tree) (redirects : Bool) → AreLayers (layers_of m.layers) → IsMerge (layer_of m.layers.upper) (lowers_of m.layers) t → IsStateOf m (opening t (record { redirects = redirects; read_only = false }))
@@ -174,12 +131,6 @@ begins m none next t redirects a merge = record {
         cc (free, e)
 
 module _ (m : Mount) (s : State) (st : IsStateOf m s) (new : Clients) where
-  abbrev U : Layer
-  U = layer_of m.layers.upper
-
-  abbrev lowers : List Layer
-  lowers = lowers_of m.layers
-
   -- nothing changed
   pub stays : IsSame m.clients new → IsStateOf (record m { clients = new }) s
   stays h =
@@ -203,8 +154,8 @@ module _ (m : Mount) (s : State) (st : IsStateOf m s) (new : Clients) where
           layers = record { layers = st.layers.layers; shows = st.layers.shows; kept = st.layers.kept; writable = st.layers.writable };
           unwatched = unwatched-last s.instances (silent s.arrived tags) st.unwatched refl;
           arrived = h.rises ∙ add-one n ∙ ap suc same;
-          tables = subst (λ z. AreTables (Alike m.layers s new) new (s.tables ++ free_table z ∷ [])) same (come U lowers s.tree m.clients s.tables st.tables new n h);
-          one = subst (λ z. AreOne new (s.tables ++ free_table z ∷ [])) same (one-fewer m.clients new s.tables _ (come-fewer U lowers s.tree m.clients s.tables st.tables new n h) st.one);
+          tables = subst (λ z. AreTables (Alike m.layers s new) new (s.tables ++ free_table z ∷ [])) same (come (the_upper m) (the_lowers m) s.tree m.clients s.tables st.tables new n h);
+          one = subst (λ z. AreOne new (s.tables ++ free_table z ∷ [])) same (one-fewer m.clients new s.tables _ (come-fewer (the_upper m) (the_lowers m) s.tree m.clients s.tables st.tables new n h) st.one);
         },
       )
 

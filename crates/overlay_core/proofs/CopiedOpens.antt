@@ -1,68 +1,51 @@
 -- Opens that copy a file up: the states that the mount stands for on the way.
 use Rattle.std.proofs.Common.{◌≡◌, ◌≢◌, ◌↔◌, ℕ, ◌<◌, Bool, true, false, cond, List, [], Option, None, Some, Result, Ok, Err, MatchResult, IfOk, OnErr, refl, sym, ap, ◌∙◌, subst, inl, inr, is_some}
-use Rattle.std.proofs.lemmas.Bool.{false≢true}
-use Rattle.std.specs.Option.{option_and_then}
-use Rattle.std.specs.declared.alloc.AllocError.{AllocError}
+use Rattle.overlay_core.proofs.Words.{after, AllocError, Attributes, bad_flags, base, bytes_at, Call, change, Contents, EINVAL, false≢true, File, file_bytes, Handle, Inode, inode_of, IsLive, IsMountOf, Layer, layer_of, Layers, layers_of, Leaf, live_handle, lowers_of, lowest_free, MountOptions, Node, node_at, node_in, NodeId, OpenFile, OpenFlags, opening_fault, option_and_then, or_else, over_node, Own, parents_fault, Path, Place, put, refusal, rewritten, same_id, see, shows, shows_link, ShowsInode, sized, State, StaysLayers, Tree, trees, Upper, way_of, when, with_bytes, with_handle}
 use Rattle.slab.specs.Slab.{get}
-use Rattle.ov_base.specs.declared.attributes.Attributes.{Attributes}
-use Rattle.ov_base.specs.declared.bytes.Content.{Content}
 use Rattle.ov_base.specs.declared.bytes.Content.TheVariants as content
-use Rattle.ov_base.specs.declared.call.Call.{Call}
 use Rattle.ov_base.specs.declared.call.Call.TheVariants as call
-use Rattle.ov_base.specs.declared.call.OpenFlags.{OpenFlags}
-use Rattle.ov_base.specs.declared.errno.Errno.TheVariants.{EINVAL, ELOOP}
-use Rattle.ov_base.specs.declared.node_id.NodeId.{NodeId}
+use Rattle.ov_base.specs.declared.errno.Errno.TheVariants.{ELOOP}
 use Rattle.ov_base.specs.declared.reply.Reply.TheVariants as reply
-use Rattle.plain_model.specs.Layers.{Path, Named, Inode, Layer, held, below, cuts, Contents, over, unless, shows, base}
-use Rattle.plain_model.specs.Tree.{Node, Branch, Leaf, Origin, Own, Tree, origin_in, same_id, node_at, put, face, SeenLeaf, see}
-use Rattle.plain_model.specs.Machine.{Handle, State, MountOptions, lowest_free}
-use Rattle.plain_model.specs.Refusals.{when, bad_flags, bad_mode, refusal}
-use Rattle.plain_model.specs.Changes.{sized, over_node, change, opened, touched, way_of, with_attributes, with_bytes, with_handle, with_owner, after}
+use Rattle.plain_model.specs.Layers.{Named, held, below, cuts, over, unless}
+use Rattle.plain_model.specs.Tree.{Origin, origin_in, SeenLeaf}
+use Rattle.plain_model.specs.Refusals.{bad_mode}
+use Rattle.plain_model.specs.Changes.{opened, touched, with_attributes, with_owner}
 use Rattle.plain_model.proofs.Keeping.{put-here}
 use Rattle.plain_model.proofs.Paths.{ids_tell}
-use Rattle.layer_tree.specs.Tree.{layer_of, inode_of, file_bytes, bytes_at}
 use Rattle.layer_tree.specs.declared.node.Inode.{Inode as StoredInode}
 use Rattle.layer_tree.specs.declared.node.Node.TheVariants as node
 use Rattle.layer_tree.proofs.Walks.{same_path}
-use Rattle.merged_lookup.specs.declared.layers.Layers.{Layers}
-use Rattle.merged_lookup.specs.declared.stack.Place.{Place}
-use Rattle.merged_lookup.specs.Merged.{trees, node_in, layers_of, lowers_of, ShowsInode}
 use Rattle.merged_lookup.proofs.Looking.{inode-shown}
-use Rattle.mount_laws.specs.Looks.{or_else, parents_fault, absent, is_link_inode, shows_link, IsMountOf}
+use Rattle.mount_laws.specs.Looks.{absent, is_link_inode}
 use Rattle.mount_laws.specs.Attributes.{shown_attributes, chown_fault}
 use Rattle.mount_laws.specs.Altered.{AltersState}
 use Rattle.mount_laws.specs.StayOpen.{AltersNamed}
-use Rattle.mount_laws.specs.OpenFiles.{IsLive, rewritten}
-use Rattle.mount_laws.specs.Opening.{opening_fault, live_handle, OpensWriting}
+use Rattle.mount_laws.specs.Opening.{OpensWriting}
 use Rattle.mount_laws.proofs.Altered.{law_of_owner_changed}
 use Rattle.mount_laws.proofs.Links.{first-none, second-none}
 use Rattle.mount_laws.proofs.OpenFiles.{law_of_live_shown}
 use Rattle.mount_laws.proofs.Opening.{law_of_opened_for_writing}
 use Rattle.mount_laws.proofs.Outlive.{law_of_live_through_owner}
 use Rattle.copy_up.specs.Leaves.{CopiesLeaf}
-use Rattle.copy_up.specs.Showing.{ShowsSame, StaysLayers}
+use Rattle.copy_up.specs.Showing.{ShowsSame}
 use Rattle.copy_up.proofs.Copying.{free-inode}
 use Rattle.copy_up.proofs.Keeping.{lowers-same}
-use Rattle.open_handles.specs.declared.handle.Handle.TheVariants.{File}
-use Rattle.open_handles.specs.declared.open_file.FileSource.TheVariants.{Upper}
-use Rattle.open_handles.specs.declared.open_file.OpenFile.{OpenFile}
 use Rattle.overlay_core.specs.declared.clients.Clients.{Clients}
 use Rattle.overlay_core.specs.declared.mount.Mount.{Mount}
 use Rattle.overlay_core.specs.Attaching.{ChangesClient}
-use Rattle.overlay_core.specs.Files.{IsOpenOn, file_at}
+use Rattle.overlay_core.specs.Files.{file_at}
 use Rattle.overlay_core.specs.Living.{SetsFile}
 use Rattle.overlay_core.specs.Opening.{OpensFile}
 use Rattle.overlay_core.specs.States.{IsStateOf, Serves}
-use Rattle.overlay_core.proofs.Answering.{changes-as, opened-after, serve-done}
+use Rattle.overlay_core.proofs.Carrying.{state-on}
 use Rattle.overlay_core.proofs.Changing.{handle-on}
 use Rattle.overlay_core.proofs.Directories.{seen}
 use Rattle.overlay_core.proofs.Lasting.{chown-leaves, other-names}
-use Rattle.overlay_core.proofs.Makings.{reserved-state, state-between}
-use Rattle.overlay_core.proofs.Openings.{IsShownFile, file-there, free-there, fresh-one, state-open, unrefused, unfaulted}
-use Rattle.overlay_core.proofs.OpeningWrites.{sized-none}
+use Rattle.overlay_core.proofs.Makings.{reserved-state}
+use Rattle.overlay_core.proofs.Openings.{IsShownFile, leaf-seen, file-there, free-there, fresh-one, open-leads, state-open, unfaulted}
+use Rattle.overlay_core.proofs.OpeningWrites.{sized-none, writing-served}
 use Rattle.overlay_core.proofs.Rewritten.{state-rewritten}
-use Rattle.overlay_core.proofs.Serving.{handle-set, room-of}
-use Rattle.overlay_core.proofs.Stating.{Alike}
+use Rattle.overlay_core.proofs.Stating.{the_layers, the_lowers, the_upper}
 
 -- a copy of what stands at a place has the attributes that are shown
 pub attributes-stored : (l : Layers) (d : Place) (x : StoredInode) → Some (node.Inode x) ≡ node_in (trees l) d → (E : AllocError → Type 0) (r : Result Attributes AllocError) → MatchResult r (λ b. b ≡ x.attributes) E → IfOk r (λ a. (p : Path) (i : Inode) → shows 0 (layers_of l) p ≡ Some (Contents d.layer d.key (Some i)) → a ≡ i.attributes)
@@ -87,16 +70,6 @@ copied-as old new p q d a same own (Ok key) h = λ i shown.
 pub copied-lowers : (old new : Layers) (q : Path) (d : Place) (a : Attributes) (i : Inode) → shows 0 (layers_of old) q ≡ Some (Contents d.layer d.key (Some i)) → (r : Result ℕ AllocError) → IfOk r (Copied old new q d (λ i. a)) → OnErr r (ShowsSame old new) → new.lowers ≡ old.lowers
 copied-lowers old new q d a i shown (Ok key) h same = (h i shown).0.lowers
 copied-lowers old new q d a i shown (Err e) h same = same.lowers
-
--- a node that is seen as a file or link is one
-leaf-seen : (o : Option Node) (content : Content) (a : Attributes) (u : Origin) (l : ℕ) → face o ≡ Some (SeenLeaf content a u l) → (n : ℕ) × (o ≡ Some (Leaf content a u n))
-leaf-seen None content a u l h = cc
-leaf-seen (Some (Branch x b names c)) content a u l h = cc
-leaf-seen (Some (Leaf y x v n)) content a u l h =
-    let contents : y ≡ content = cc in
-    let attributes : x ≡ a = cc in
-    let origins : v ≡ u = cc in
-    (n, λ i. Some (Leaf (contents i) (attributes i) (origins i) n))
 
 -- a node that is put at an identity twice is put there once
 put-again : (t : Tree) (d : NodeId) (o q : Option Node) → put (put t d o) d q ≡ put t d q
@@ -137,20 +110,11 @@ module _ (m : Mount) (s : State) (st : IsStateOf m s) (c : ℕ) (clients : Clien
     (p : Path) (f : OpenFlags) (mode : ℕ) (fine : opening_fault (layers_of m.layers) p f mode (Some 0) ≡ None) (w : f.writes ≡ true)
     (place : Place) (shown : ShowsInode m.layers p place) (lower : 0 < place.layer)
     (new : Layers) (key : ℕ) (copied : Copied m.layers new p place (λ i. i.attributes) key) where
-  abbrev U : Layer
-  U = layer_of m.layers.upper
-
   abbrev V : Layer
   V = layer_of new.upper
 
-  abbrev lowers : List Layer
-  lowers = lowers_of m.layers
-
-  abbrev Ls : List Layer
-  Ls = layers_of m.layers
-
   -- the file is shown
-  there : IsShownFile (shows 0 Ls p) place.layer place.key
+  there : IsShownFile (shows 0 (the_layers m) p) place.layer place.key
   there = file-there m s st c p f mode fine place shown
 
   abbrev a : Attributes
@@ -175,29 +139,29 @@ module _ (m : Mount) (s : State) (st : IsStateOf m s) (c : ℕ) (clients : Clien
   t = (after s c owned).tree
 
   -- is not refused
-  unrefused-owner : chown_fault Ls p ≡ None
+  unrefused-owner : chown_fault (the_layers m) p ≡ None
   unrefused-owner =
-      let way : parents_fault Ls p ≡ None = first-none (parents_fault Ls p) _ (second-none (bad_mode mode) _ (second-none (when (bad_flags f) EINVAL) _ fine)) in
-      let link : shows_link (shows 0 Ls p) ≡ false = ap shows_link there.shown ∙ ap (λ z. is_link_inode (Some (record there.inode { content = z }))) there.content in
+      let way : parents_fault (the_layers m) p ≡ None = first-none (parents_fault (the_layers m) p) _ (second-none (bad_mode mode) _ (second-none (when (bad_flags f) EINVAL) _ fine)) in
+      let link : shows_link (shows 0 (the_layers m) p) ≡ false = ap shows_link there.shown ∙ ap (λ z. is_link_inode (Some (record there.inode { content = z }))) there.content in
       λ i. or_else (or_else (way i) (absent (there.shown i))) (when (link i) ELOOP)
 
   -- its attributes are those that are shown
-  attributes-shown : shown_attributes (shows 0 Ls p) ≡ Some a
+  attributes-shown : shown_attributes (shows 0 (the_layers m) p) ≡ Some a
   attributes-shown = ap shown_attributes there.shown
 
   -- it copies the file up too
-  owns : AltersState V lowers s c p owned
-  owns = law_of_owner_changed p a.uid a.gid U V lowers s st.layers c unrefused-owner a attributes-shown (leaf.alters st.layers.layers)
+  owns : AltersState V (the_lowers m) s c p owned
+  owns = law_of_owner_changed p a.uid a.gid (the_upper m) V (the_lowers m) s st.layers c unrefused-owner a attributes-shown (leaf.alters st.layers.layers)
 
   -- the upper held nothing at the path
-  unheld : held U p ≡ None
-  unheld = free-inode U.inodes (held U p) (unless (cuts U p) (shows 1 lowers (below U p))) place.layer place.key (Some there.inode) there.shown lower
+  unheld : held (the_upper m) p ≡ None
+  unheld = free-inode (the_upper m).inodes (held (the_upper m) p) (unless (cuts (the_upper m) p) (shows 1 (the_lowers m) (below (the_upper m) p))) place.layer place.key (Some there.inode) there.shown lower
 
   -- a live file is another inode, which keeps its names and its attributes
-  other-file : (e : NodeId) (j : ℕ) → IsLive U s.tree e j → AltersNamed U V p a j
+  other-file : (e : NodeId) (j : ℕ) → IsLive (the_upper m) s.tree e j → AltersNamed (the_upper m) V p a j
   other-file e j live = record {
     names = λ q. elim (same_path q p) [
-      | inl here ↦ subst (λ z. (held V z ≡ Some (Named j)) ↔ (held U z ≡ Some (Named j))) (sym here) (λ h. absurd (not-now h), λ h. absurd (not-before h))
+      | inl here ↦ subst (λ z. (held V z ≡ Some (Named j)) ↔ (held (the_upper m) z ≡ Some (Named j))) (sym here) (λ h. absurd (not-now h), λ h. absurd (not-before h))
       | inr away ↦ other-names m.layers new p leaf.others q away j
     ];
     altered = λ i h is. absurd (not-before h);
@@ -210,16 +174,16 @@ module _ (m : Mount) (s : State) (st : IsStateOf m s) (c : ℕ) (clients : Clien
       not-now : held V p ≡ Some (Named j) → ⊥
       not-now h = apart (let z : Some (Named leaf.number) ≡ Some (Named j) = sym leaf.held_there ∙ h in cc)
 
-      not-before : held U p ≡ Some (Named j) → ⊥
+      not-before : held (the_upper m) p ≡ Some (Named j) → ⊥
       not-before h = let z : None ≡ Some (Named j) = sym unheld ∙ h in cc
 
   -- the mount stands for the state in which the file is the upper's own
   copied-state : IsStateOf (record m { layers = new; clients = clients }) (record s { tree = t })
   copied-state =
-      state-between m s st c clients same new leaf.lowers t s.serial mounts
+      state-on (record m { clients = clients }) s (reserved-state m s st c clients same) new leaf.lowers t s.serial mounts
       (handle-on s.tree t (λ q d at. owns.paths q ∙ at) owns.hidden (λ d folder. owns.folders d ∙ folder) clients.directories)
       (record {
-        live = λ b fd g h k at on is live. law_of_live_through_owner p a.uid a.gid U V lowers s c a attributes-shown owns h.node k (other-file h.node k live) live;
+        live = λ b fd g h k at on is live. law_of_live_through_owner p a.uid a.gid (the_upper m) V (the_lowers m) s c a attributes-shown owns h.node k (other-file h.node k live) live;
         leaves = λ b fd h on. chown-leaves p a.uid a.gid s st.layers.kept c h.node;
       })
     where
@@ -248,7 +212,7 @@ module _ (m : Mount) (s : State) (st : IsStateOf m s) (c : ℕ) (clients : Clien
 
     -- the machine opens the file
     law : OpensWriting s c p f mode
-    law = law_of_opened_for_writing U lowers s st.layers c p f mode (unfaulted m s st c p f mode fine d free) (ap is_some there.shown) w
+    law = law_of_opened_for_writing (the_upper m) (the_lowers m) s st.layers c p f mode (unfaulted m s st c p f mode fine d free) (ap is_some there.shown) w
 
     -- its handle
     abbrev made : Handle
@@ -273,19 +237,6 @@ module _ (m : Mount) (s : State) (st : IsStateOf m s) (c : ℕ) (clients : Clien
         (record { source = (live, refl); reads = refl; writes = refl; append = refl; place = refl; unlisted = refl })
         (fresh-one (record m { layers = new; clients = clients }) (record s { tree = t }) copied-state c p file made at-node (live, refl))
 
-    -- the descriptor leads to the file, on both sides
-    on : IsOpenOn last held-open.tables key law.node
-    on = record {
-      client = c;
-      descriptor = d;
-      file = file;
-      handle = made;
-      opened = opened-after clients last c d (File file) (changes-as clients last c _ _ (λ x y g. g.opens) ch);
-      key = refl;
-      on = handle-set s.tables c d (Some made) (rw (room-of (Alike m.layers s m.clients) m.clients s.tables st.tables c (ap is_some same.was)) ch.changes.lowest.in_range);
-      at = refl;
-    }
-
     -- the node was a file of a lower layer
     abbrev origin : Origin
     origin = origin_in place.layer there.inode
@@ -293,7 +244,7 @@ module _ (m : Mount) (s : State) (st : IsStateOf m s) (c : ℕ) (clients : Clien
     was : (n : ℕ) × (s.tree law.node ≡ Some (Leaf (content.File there.bytes) a origin n))
     was =
         leaf-seen (s.tree law.node) (content.File there.bytes) a origin there.inode.links
-        (seen U lowers s st.layers p law.node law.at ∙ ap (see (base U lowers p)) there.shown ∙ ap (λ z. Some (SeenLeaf z a origin there.inode.links)) there.content)
+        (seen (the_upper m) (the_lowers m) s st.layers p law.node law.at ∙ ap (see (base (the_upper m) (the_lowers m) p)) there.shown ∙ ap (λ z. Some (SeenLeaf z a origin there.inode.links)) there.content)
 
     -- it is the upper's own now
     tree-owned : t ≡ own f w s.options s.tree law.node there.bytes a origin was.0 was.1 there.bytes
@@ -301,12 +252,7 @@ module _ (m : Mount) (s : State) (st : IsStateOf m s) (c : ℕ) (clients : Clien
 
     -- the machine's answer and its state, where this becomes of the tree
     done : (layers : Layers) (u : Tree) → change (opened f) s.tree (Some law.node) ≡ u → IsStateOf (record m { layers = layers; clients = last }) (record held-open { tree = u }) → Serves (refusal s c asked) s c asked (reply.Descriptor d) (record m { layers = layers; clients = last })
-    done layers u becomes after =
-        let slot : law.descriptor ≡ d = cc (law.free, free) in
-        serve-done _ s c asked _ (record m { layers = layers; clients = last })
-        (unrefused m s st c p f mode fine d free)
-        (sym (law.answer ∙ ap reply.Descriptor slot))
-        (subst (IsStateOf (record m { layers = layers; clients = last })) (sym (law.state ∙ (λ i. record s { tree = becomes i; tables = with_handle s.tables c (slot i) (Some made) }))) after)
+    done layers u becomes = writing-served m s st c p f mode fine law d free u becomes (record m { layers = layers; clients = last })
 
     -- an open that keeps the bytes
     pub copied-kept : f.truncate ≡ false → Serves (refusal s c asked) s c asked (reply.Descriptor d) (record m { layers = new; clients = last })
@@ -319,4 +265,4 @@ module _ (m : Mount) (s : State) (st : IsStateOf m s) (c : ℕ) (clients : Clien
         let empties : SetsFile new layers key [] = subst (SetsFile new layers key) (sized-none live.bytes) (sets key live.bytes refl bytes) in
         done layers (rewritten t law.node [])
         (own-emptied f w s.options s.tree law.node there.bytes a origin was.0 was.1 e ∙ sym (own-rewritten f w s.options s.tree law.node there.bytes a origin was.0 was.1) ∙ ap (λ z. rewritten z law.node []) (sym tree-owned))
-        (state-rewritten (record m { layers = new; clients = last }) held-open opened-state layers key law.node [] on keeps empties)
+        (state-rewritten (record m { layers = new; clients = last }) held-open opened-state layers key law.node [] (open-leads (record m { layers = new; clients = clients }) (record s { tree = t }) copied-state c (File file) d last ch file made key refl refl) keeps empties)

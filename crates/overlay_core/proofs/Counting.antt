@@ -1,21 +1,18 @@
 -- The handles of all clients on a directory or a file, after one client's descriptors changed.
 use Rattle.std.proofs.Common.{arith, ◌≡◌, ◌≢◌, ℕ, zero, suc, ◌+◌, ◌<◌, ◌≤◌, Bool, true, false, cond, List, [], ◌∷◌, Option, None, Some, refl, ap, ◌∙◌, inl, inr, is_some, nat_eq, eqb-true}
-use Rattle.std.proofs.lemmas.Bool.{cases_eq}
-use Rattle.std.specs.Option.{option_and_then}
-use Rattle.open_handles.specs.declared.descriptors.Descriptors.{Descriptors}
+use Rattle.overlay_core.proofs.Words.{cases_eq, Descriptors, Directory, File, FileSource, Lower, OpenDirectory, OpenFile, option_and_then, Upper}
+use Rattle.std.specs.Option.{option_map_or}
 use Rattle.open_handles.specs.declared.handle.Handle as handles
-use Rattle.open_handles.specs.declared.handle.Handle.TheVariants.{Directory, File}
-use Rattle.open_handles.specs.declared.handle.OpenDirectory.{OpenDirectory}
-use Rattle.open_handles.specs.declared.open_file.FileSource.{FileSource}
-use Rattle.open_handles.specs.declared.open_file.FileSource.TheVariants.{Upper, Lower}
-use Rattle.open_handles.specs.declared.open_file.OpenFile.{OpenFile}
 use Rattle.open_handles.specs.Descriptors.{opened}
-use Rattle.open_handles.specs.Holding.{holds, handles_on, is_upper, files_on}
+use Rattle.open_handles.specs.Holding.{holds, handles_on, is_upper, holds_file, files_on}
 use Rattle.open_handles.proofs.Holding.{handles_on-some, files_on-some}
 use Rattle.overlay_core.specs.Held.{sum_below, handles_by, handles_below, files_by, files_below}
 
 abbrev Found : Type 0
 Found = ℕ → Option Descriptors
+
+abbrev Slots : Type 0
+Slots = List (Option handles.Handle)
 
 module _ (count : Option Descriptors → ℕ) where
   -- where a count is the same of each client, the sum is
@@ -49,50 +46,86 @@ module _ (count : Option Descriptors → ℕ) where
     | inr off ↦ let rest = below-one f n c (omega arith) in omega arith
   ]
 
--- what a client has open counts
-pub below-some : (f : Found) (n c d : ℕ) (o : OpenDirectory) → c < n → option_and_then (λ (e : Descriptors). opened e.slots.items d) (f c) ≡ Some (Directory o) → 0 < handles_below f n o.directory
-below-some f n c d o h is = by (f c) refl is
+-- whose descriptor is open is attached, with these descriptors
+client-with : (f : Found) (c d : ℕ) (o : handles.Handle) → option_and_then (λ (e : Descriptors). opened e.slots.items d) (f c) ≡ Some o → (e : Descriptors) × (f c ≡ Some e) × (opened e.slots.items d ≡ Some o)
+client-with f c d o is = by (f c) refl is
   where
-    by : (x : Option Descriptors) → f c ≡ x → option_and_then (λ (e : Descriptors). opened e.slots.items d) x ≡ Some (Directory o) → 0 < handles_below f n o.directory
-    by None e at = let no : None ≡ Some (Directory o) = at in absurd (cc)
-    by (Some x) e at =
-        let some : 0 < handles_on x.slots.items o.directory = handles_on-some x.slots.items d o at in
-        let same : handles_by (f c) o.directory ≡ handles_on x.slots.items o.directory = ap (λ z. handles_by z o.directory) e in
-        let all : handles_by (f c) o.directory ≤ handles_below f n o.directory = below-one (λ x. handles_by x o.directory) f n c h in
-        omega arith
+    by : (x : Option Descriptors) → f c ≡ x → option_and_then (λ (e : Descriptors). opened e.slots.items d) x ≡ Some o → (e : Descriptors) × (f c ≡ Some e) × (opened e.slots.items d ≡ Some o)
+    by None e at = let no : None ≡ Some o = at in absurd (cc)
+    by (Some x) e at = (x, e, at)
 
--- whose descriptor is open is attached
 pub has-client : (f : Found) (c d : ℕ) (o : handles.Handle) → option_and_then (λ (e : Descriptors). opened e.slots.items d) (f c) ≡ Some o → is_some (f c) ≡ true
-has-client f c d o is = by (f c) is
-  where
-    by : (x : Option Descriptors) → option_and_then (λ (e : Descriptors). opened e.slots.items d) x ≡ Some o → is_some x ≡ true
-    by None e = let no : None ≡ Some o = e in absurd (cc)
-    by (Some x) e = refl
+has-client f c d o is = ap (λ (x : Option Descriptors). is_some x) (client-with f c d o is).1
 
--- a handle on the directory of this number
-record Held (slots : List (Option handles.Handle)) (k : ℕ) : Type 0 where
-  pub descriptor : ℕ
-  pub handle : OpenDirectory
-  pub there : opened slots descriptor ≡ Some (Directory handle)
-  pub on : handle.directory ≡ k
+-- what a client has open counts: a directory, and a file of the upper
+pub below-some : (f : Found) (n c d : ℕ) (o : OpenDirectory) → c < n → option_and_then (λ (e : Descriptors). opened e.slots.items d) (f c) ≡ Some (Directory o) → 0 < handles_below f n o.directory
+below-some f n c d o h is =
+    let x = client-with f c d (Directory o) is in
+    omega (arith, handles_on-some x.0.slots.items d o x.2, ap (λ z. handles_by z o.directory) x.1, below-one (λ z. handles_by z o.directory) f n c h)
 
--- where slots hold a directory, one of them does
-slots-find : (slots : List (Option handles.Handle)) (k : ℕ) → 0 < handles_on slots k → Held slots k
-slots-find [] k h = absurd (omega arith)
-slots-find (None ∷ slots) k h =
-    let rest = slots-find slots k (omega arith) in
-    record { descriptor = suc rest.descriptor; handle = rest.handle; there = rest.there; on = rest.on }
-slots-find (Some (File x) ∷ slots) k h =
-    let rest = slots-find slots k (omega arith) in
-    record { descriptor = suc rest.descriptor; handle = rest.handle; there = rest.there; on = rest.on }
-slots-find (Some (Directory o) ∷ slots) k h = by (λ more. slots-find slots k more) (nat_eq o.directory k) refl
+pub file-some : (f : Found) (n c d k : ℕ) (x : OpenFile) → c < n → x.source ≡ Upper k → option_and_then (λ (e : Descriptors). opened e.slots.items d) (f c) ≡ Some (File x) → 0 < files_below f n k
+file-some f n c d k x h key is =
+    let y = client-with f c d (File x) is in
+    omega (arith, files_on-some y.0.slots.items d k x key y.2, ap (λ z. files_by z k) y.1, below-one (λ z. files_by z k) f n c h)
+
+-- a count of what is open
+module _ (one : Option handles.Handle → ℕ) (on : Slots → ℕ) (bare : one None ≡ 0) (none : on [] ≡ 0) (step : (x : Option handles.Handle) (slots : Slots) → on (x ∷ slots) ≡ one x + on slots) where
+  -- what counts in slots, and by a client
+  abbrev InSlots : Slots → Type 0
+  InSlots slots = (d : ℕ) × (h : handles.Handle) × (opened slots d ≡ Some h) × (0 < one (Some h))
+
+  abbrev by_client : Option Descriptors → ℕ
+  by_client x = option_map_or (λ (e : Descriptors). on e.slots.items) x 0
+
+  abbrev ByClient : Found → Type 0
+  ByClient f = (c d : ℕ) × (h : handles.Handle) × (option_and_then (λ (e : Descriptors). opened e.slots.items d) (f c) ≡ Some h) × (0 < one (Some h))
+
+  -- some slot counts where they all do
+  slots-find : (slots : Slots) → 0 < on slots → InSlots slots
+  slots-find [] some = absurd (omega (arith, none))
+  slots-find (x ∷ slots) some = by (λ more. slots-find slots more) x (one x) refl (omega (arith, step x slots))
+    where
+      by : (0 < on slots → InSlots slots) → (y : Option handles.Handle) (n : ℕ) → one y ≡ n → 0 < n + on slots → InSlots (y ∷ slots)
+      by rest None n e more = let found = rest (omega (arith, bare)) in (suc found.0, found.1, found.2, found.3)
+      by rest (Some h) zero e more = let found = rest (omega arith) in (suc found.0, found.1, found.2, found.3)
+      by rest (Some h) (suc n) e more = (0, h, refl, omega arith)
+
+  -- and some client's where all clients' do
+  clients-find : (f : Found) (n : ℕ) → 0 < sum_below by_client f n → ByClient f
+  clients-find f zero some = absurd (omega arith)
+  clients-find f (suc n) some = by (λ more. clients-find f n more) (f n) refl some
+    where
+      of : (0 < sum_below by_client f n → ByClient f) → (x : Descriptors) → f n ≡ Some x → (m : ℕ) → on x.slots.items ≡ m → 0 < m + sum_below by_client f n → ByClient f
+      of rest x e zero none more = rest (omega arith)
+      of rest x e (suc m) some more =
+          let found = slots-find x.slots.items (omega arith) in
+          (n, found.0, found.1, ap (option_and_then (λ (y : Descriptors). opened y.slots.items found.0)) e ∙ found.2, found.3)
+
+      by : (0 < sum_below by_client f n → ByClient f) → (x : Option Descriptors) → f n ≡ x → 0 < by_client x + sum_below by_client f n → ByClient f
+      by rest None e more = rest (omega arith)
+      by rest (Some x) e more = of rest x e (on x.slots.items) refl more
+
+-- what counts on a directory is a handle on it
+held-on : (h : handles.Handle) (k : ℕ) → 0 < holds (Some h) k → (o : OpenDirectory) × (h ≡ Directory o) × (o.directory ≡ k)
+held-on (File x) k some = absurd (omega arith)
+held-on (Directory o) k some = (o, refl, by (nat_eq o.directory k) refl some)
   where
-    by : (0 < handles_on slots k → Held slots k) → (b : Bool) → nat_eq o.directory k ≡ b → Held (Some (Directory o) ∷ slots) k
-    by later true e = record { descriptor = 0; handle = o; there = refl; on = eqb-true o.directory k e }
-    by later false e =
-        let none : holds (Some (Directory o)) k ≡ 0 = ap (λ b. cond {A = ℕ} b 1 0) e in
-        let rest = later (omega arith) in
-        record { descriptor = suc rest.descriptor; handle = rest.handle; there = rest.there; on = rest.on }
+    by : (b : Bool) → nat_eq o.directory k ≡ b → 0 < cond {A = ℕ} b 1 0 → o.directory ≡ k
+    by true e more = eqb-true o.directory k e
+    by false e more = absurd (omega arith)
+
+-- and on a file of the upper
+held-file : (h : handles.Handle) (k : ℕ) → 0 < holds_file (Some h) k → (x : OpenFile) × (h ≡ File x) × (x.source ≡ Upper k)
+held-file (Directory o) k some = absurd (omega arith)
+held-file (File x) k some = (x, refl, by x.source some)
+  where
+    by : (source : FileSource) → 0 < is_upper source k → source ≡ Upper k
+    by (Lower layer key) more = absurd (omega arith)
+    by (Upper key) more = of (nat_eq key k) refl more
+      where
+        of : (b : Bool) → nat_eq key k ≡ b → 0 < cond {A = ℕ} b 1 0 → Upper key ≡ Upper k
+        of true e more = ap Upper (eqb-true key k e)
+        of false e more = absurd (omega arith)
 
 -- a client's handle on the directory of this number
 pub record HeldBy (f : Found) (k : ℕ) : Type 0 where
@@ -104,59 +137,10 @@ pub record HeldBy (f : Found) (k : ℕ) : Type 0 where
 
 -- where clients hold a directory, one of them does
 pub below-find : (f : Found) (n k : ℕ) → 0 < handles_below f n k → HeldBy f k
-below-find f zero k h = absurd (omega arith)
-below-find f (suc n) k h = by (λ more. below-find f n k more) (f n) refl
-  where
-    by : (0 < handles_below f n k → HeldBy f k) → (x : Option Descriptors) → f n ≡ x → HeldBy f k
-    by later None e = let none : handles_by (f n) k ≡ 0 = ap (λ z. handles_by z k) e in later (omega arith)
-    by later (Some x) e = of (handles_on x.slots.items k) refl
-      where
-        of : (m : ℕ) → handles_on x.slots.items k ≡ m → HeldBy f k
-        of zero none = let same : handles_by (f n) k ≡ 0 = ap (λ z. handles_by z k) e ∙ none in later (omega arith)
-        of (suc m) some =
-            let found = slots-find x.slots.items k (omega arith) in
-            record { client = n; descriptor = found.descriptor; handle = found.handle; there = ap (λ z. option_and_then (λ (y : Descriptors). opened y.slots.items found.descriptor) z) e ∙ found.there; on = found.on }
-
--- a file of the upper that a client has open counts
-pub file-some : (f : Found) (n c d k : ℕ) (x : OpenFile) → c < n → x.source ≡ Upper k → option_and_then (λ (e : Descriptors). opened e.slots.items d) (f c) ≡ Some (File x) → 0 < files_below f n k
-file-some f n c d k x h key is = by (f c) refl is
-  where
-    by : (o : Option Descriptors) → f c ≡ o → option_and_then (λ (e : Descriptors). opened e.slots.items d) o ≡ Some (File x) → 0 < files_below f n k
-    by None e at = let no : None ≡ Some (File x) = at in absurd (cc)
-    by (Some y) e at =
-        let some : 0 < files_on y.slots.items k = files_on-some y.slots.items d k x key at in
-        let same : files_by (f c) k ≡ files_on y.slots.items k = ap (λ z. files_by z k) e in
-        let all : files_by (f c) k ≤ files_below f n k = below-one (λ z. files_by z k) f n c h in
-        omega arith
-
--- a handle on the upper's file of this key
-record FileIn (slots : List (Option handles.Handle)) (k : ℕ) : Type 0 where
-  pub descriptor : ℕ
-  pub file : OpenFile
-  pub there : opened slots descriptor ≡ Some (File file)
-  pub key : file.source ≡ Upper k
-
--- one slot further
-next-file : (slot : Option handles.Handle) (slots : List (Option handles.Handle)) (k : ℕ) → FileIn slots k → FileIn (slot ∷ slots) k
-next-file slot slots k x = record { descriptor = suc x.descriptor; file = x.file; there = x.there; key = x.key }
-
--- where slots hold a file of the upper, one of them does
-files-find : (slots : List (Option handles.Handle)) (k : ℕ) → 0 < files_on slots k → FileIn slots k
-files-find [] k h = absurd (omega arith)
-files-find (None ∷ slots) k h = next-file None slots k (files-find slots k (omega arith))
-files-find (Some (Directory o) ∷ slots) k h = next-file (Some (Directory o)) slots k (files-find slots k (omega arith))
-files-find (Some (File x) ∷ slots) k h = by (λ more. files-find slots k more) x.source refl
-  where
-    later : (0 < files_on slots k → FileIn slots k) → is_upper x.source k ≡ 0 → FileIn (Some (File x) ∷ slots) k
-    later rest none = next-file (Some (File x)) slots k (rest (omega arith))
-
-    by : (0 < files_on slots k → FileIn slots k) → (source : FileSource) → x.source ≡ source → FileIn (Some (File x) ∷ slots) k
-    by rest (Lower layer key) e = later rest (ap (λ z. is_upper z k) e)
-    by rest (Upper key) e = of (nat_eq key k) refl
-      where
-        of : (b : Bool) → nat_eq key k ≡ b → FileIn (Some (File x) ∷ slots) k
-        of true is = record { descriptor = 0; file = x; there = refl; key = e ∙ ap Upper (eqb-true key k is) }
-        of false is = later rest (ap (λ z. is_upper z k) e ∙ ap (λ b. cond {A = ℕ} b 1 0) is)
+below-find f n k some =
+    let x = clients-find (λ o. holds o k) (λ slots. handles_on slots k) refl refl (λ o slots. refl) f n some in
+    let y = held-on x.2 k x.4 in
+    record { client = x.0; descriptor = x.1; handle = y.0; there = x.3 ∙ ap Some y.1; on = y.2 }
 
 -- a client's handle on the upper's file of this key
 pub record FileBy (f : Found) (k : ℕ) : Type 0 where
@@ -168,15 +152,7 @@ pub record FileBy (f : Found) (k : ℕ) : Type 0 where
 
 -- where clients hold a file of the upper, one of them does
 pub file-find : (f : Found) (n k : ℕ) → 0 < files_below f n k → FileBy f k
-file-find f zero k h = absurd (omega arith)
-file-find f (suc n) k h = by (λ more. file-find f n k more) (f n) refl
-  where
-    by : (0 < files_below f n k → FileBy f k) → (x : Option Descriptors) → f n ≡ x → FileBy f k
-    by later None e = let none : files_by (f n) k ≡ 0 = ap (λ z. files_by z k) e in later (omega arith)
-    by later (Some x) e = of (files_on x.slots.items k) refl
-      where
-        of : (m : ℕ) → files_on x.slots.items k ≡ m → FileBy f k
-        of zero none = let same : files_by (f n) k ≡ 0 = ap (λ z. files_by z k) e ∙ none in later (omega arith)
-        of (suc m) some =
-            let found = files-find x.slots.items k (omega arith) in
-            record { client = n; descriptor = found.descriptor; file = found.file; there = ap (λ z. option_and_then (λ (y : Descriptors). opened y.slots.items found.descriptor) z) e ∙ found.there; key = found.key }
+file-find f n k some =
+    let x = clients-find (λ o. holds_file o k) (λ slots. files_on slots k) refl refl (λ o slots. refl) f n some in
+    let y = held-file x.2 k x.4 in
+    record { client = x.0; descriptor = x.1; file = y.0; there = x.3 ∙ ap Some y.1; key = y.2 }

@@ -1,28 +1,17 @@
 -- Open directories where the layers show them, and what closing and listing them does.
-use Rattle.std.proofs.Common.{◌≡◌, ℕ, Bool, true, ◌||◌, List, ◌∷◌, Option, None, Some, refl, sym, ap, ◌∙◌, subst, take, drop, nat_eq, nat_lt}
-use Rattle.std.proofs.lemmas.Bool.{false≢true}
-use Rattle.ov_base.specs.declared.attributes.Attributes.{Attributes}
+use Rattle.std.proofs.Common.{◌≡◌, ℕ, Bool, true, ◌||◌, List, ◌∷◌, Option, None, Some, refl, sym, ap, ◌∙◌, take, drop, nat_eq, nat_lt}
+use Rattle.overlay_core.proofs.Words.{after, At, Attributes, base, Branch, Contents, Dentries, face, false≢true, Folder, folder_attributes, Handle, handle_of, is_directory, is_folder, IsMountOf, Layer, Leaf, Location, Node, node_at, node_of, NodeId, OpenDirectory, Path, refusal, Removed, reply_of, see, Shown, shows, State, when, with_handle}
 use Rattle.ov_base.specs.declared.call.Call.TheVariants as call
 use Rattle.ov_base.specs.declared.errno.Errno.TheVariants as errno
-use Rattle.ov_base.specs.declared.node_id.NodeId.{NodeId}
 use Rattle.ov_base.specs.declared.reply.Reply.TheVariants as reply
-use Rattle.plain_model.specs.Layers.{Path, Layer, Shown, Folder, Contents, shows, base, is_directory}
-use Rattle.plain_model.specs.Tree.{Node, Branch, Leaf, node_at, node_of, face, see, is_folder}
-use Rattle.plain_model.specs.Machine.{Handle, State, handle_of}
-use Rattle.plain_model.specs.Refusals.{when, refusal}
-use Rattle.plain_model.specs.Changes.{after, with_handle, listing, listed_on}
-use Rattle.plain_model.specs.Replies.{reply_of}
-use Rattle.mount_laws.specs.Looks.{IsMountOf, Closes, Lists}
-use Rattle.mount_laws.specs.Removals.{folder_attributes}
-use Rattle.mount_laws.specs.Removed.{ClosesHidden, ListsRemoved}
-use Rattle.mount_laws.proofs.Lists.{law_of_list, law_of_close}
-use Rattle.mount_laws.proofs.Removed.{law_of_close_removed, law_of_list_removed}
-use Rattle.open_handles.specs.Dentries.{Dentries}
-use Rattle.open_handles.specs.Opened.{Location, At, Removed}
-use Rattle.open_handles.specs.declared.handle.OpenDirectory.{OpenDirectory}
+use Rattle.plain_model.specs.Changes.{listing, listed_on}
+use Rattle.mount_laws.specs.Looks.{Lists}
+use Rattle.mount_laws.specs.Removed.{ListsRemoved}
+use Rattle.mount_laws.proofs.Lists.{law_of_list}
+use Rattle.mount_laws.proofs.Removed.{law_of_list_removed}
 use Rattle.overlay_core.specs.States.{Stands, IsHandle}
 
--- a node is a directory where the layers show one, and the other way round
+-- the layers show a directory where a node is one
 shown-if-folder : (o : Option Node) (b : Bool) (x : Option Shown) → face o ≡ see b x → is_folder o ≡ true → is_directory x ≡ true
 shown-if-folder None b x e f = absurd (false≢true f)
 shown-if-folder (Some (Leaf content a u l)) b x e f = absurd (false≢true f)
@@ -30,13 +19,6 @@ shown-if-folder (Some (Branch a k names l)) b None e f = cc
 shown-if-folder (Some (Branch a k names l)) b (Some (Folder i j z)) e f = refl
 shown-if-folder (Some (Branch a k names l)) b (Some (Contents i j None)) e f = cc
 shown-if-folder (Some (Branch a k names l)) b (Some (Contents i j (Some inode))) e f = cc
-
-folder-if-shown : (o : Option Node) (b : Bool) (x : Option Shown) → face o ≡ see b x → is_directory x ≡ true → is_folder o ≡ true
-folder-if-shown o b None e f = absurd (false≢true f)
-folder-if-shown o b (Some (Contents i j inode)) e f = absurd (false≢true f)
-folder-if-shown None b (Some (Folder i j z)) e f = cc
-folder-if-shown (Some (Leaf content a u l)) b (Some (Folder i j z)) e f = cc
-folder-if-shown (Some (Branch a k names l)) b (Some (Folder i j z)) e f = refl
 
 -- a node has the attributes of the directory that the layers show
 pub shown-attributes : (o : Option Node) (b : Bool) (x : Option Shown) (a : Attributes) → (i k : ℕ) × (x ≡ Some (Folder i k a)) → face o ≡ see b x → folder_attributes o ≡ Some a
@@ -60,30 +42,7 @@ module _ (U : Layer) (lowers : List Layer) (s : State) (m : IsMountOf U lowers s
   pub shown-directory : (p : Path) (d : NodeId) → node_at s.tree p ≡ Some d → is_folder (s.tree d) ≡ true → is_directory (shows 0 (U ∷ lowers) p) ≡ true
   shown-directory p d e f = shown-if-folder (s.tree d) (base U lowers p) (shows 0 (U ∷ lowers) p) (seen p d e) f
 
-  pub directory-folder : (p : Path) (d : NodeId) → node_at s.tree p ≡ Some d → is_directory (shows 0 (U ∷ lowers) p) ≡ true → is_folder (s.tree d) ≡ true
-  directory-folder p d e f = folder-if-shown (s.tree d) (base U lowers p) (shows 0 (U ∷ lowers) p) (seen p d e) f
-
   module _ (c fd : ℕ) (ds : Dentries) (o : OpenDirectory) (h : Handle) (on : handle_of s.tables c fd ≡ Some h) (is : IsHandle s.tree ds o h) where
-    -- a handle on a directory that has a path closes, and all else stays
-    closes-named : Closes s c fd → ClosesHidden U lowers s c fd h
-    closes-named law = record {
-      refused = law.refused;
-      answer = law.answer;
-      tables = ap (λ z. z.tables) law.state;
-      mounts = subst (IsMountOf U lowers) (sym law.state) (record { layers = m.layers; shows = m.shows; kept = m.kept; writable = m.writable });
-      paths = λ q. ap (λ z. node_at z.tree q) law.state;
-      others = λ d apart. ap (λ z. z.tree d) law.state;
-      held = λ k i g at. ap (λ z. z.tree g.node) law.state;
-    }
-
-    -- an open directory closes
-    pub closes : ClosesHidden U lowers s c fd h
-    closes = by is.location is.stands
-      where
-        by : (l : Location) → Stands s.tree l h.node → ClosesHidden U lowers s c fd h
-        by (At p) at = closes-named (law_of_close U lowers s m c fd p h (record { handle = on; at = at }))
-        by (Removed a) gone = law_of_close_removed U lowers s m c fd h on gone.hidden
-
     -- an open directory lists
     pub turns : Turns s c fd h
     turns = by is.location is.stands

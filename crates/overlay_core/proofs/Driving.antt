@@ -1,13 +1,11 @@
 -- Runs grow at their end, and what a change of one job makes of counts.
 use Rattle.std.proofs.Common.{arith, ◌≡◌, ◌≢◌, ℕ, suc, zero, ◌+◌, ◌<◌, ◌≤◌, Bool, true, false, ◌||◌, List, [], ◌∷◌, ◌++◌, length, get_or, cond, Option, Some, None, refl, sym, ap, subst, ◌∙◌, slice_get, nat_eq, take, option_map, ◌⊎◌, inl, inr}
+use Rattle.overlay_core.proofs.Words.{Call, cases_eq, eq-eqb, false≢true, list_any, ne_eqb, Reply, State}
 use Rattle.std.proofs.Math.ListN.{set}
-use Rattle.std.proofs.lemmas.Option.{same_Some, slice_get_read, slice_get-map, slice_get_within}
+use Rattle.std.proofs.Math.Bool.{or-false}
+use Rattle.std.proofs.lemmas.List.Folds.{list_any-append}
+use Rattle.std.proofs.lemmas.Option.{same_Some, slice_get-map, slice_get_within}
 use Rattle.std.proofs.lemmas.List.{take_more}
-use Rattle.std.proofs.lemmas.Bool.{false≢true, cases_eq, eq-eqb, ne_eqb}
-use Rattle.std.specs.List.{list_any}
-use Rattle.ov_base.specs.declared.call.Call.{Call}
-use Rattle.ov_base.specs.declared.reply.Reply.{Reply}
-use Rattle.plain_model.specs.Machine.{State}
 use Rattle.plain_model.specs.Runs.{Called, Entry, Does, Run}
 use Rattle.overlay_core.specs.declared.clients.Clients.{Clients}
 use Rattle.overlay_core.specs.declared.job.Job.{Job}
@@ -78,9 +76,6 @@ open-set [] i j k h = cc
 open-set (x ∷ jobs) zero j k h = let e : one_if_open x.standing ≡ one_if_open j.standing = ap (λ (y : Job). one_if_open y.standing) (same_Some x j h) in omega arith
 open-set (x ∷ jobs) (suc i) j k h = omega (arith, open-set jobs i j k h)
 
-pub job-here : (jobs : List Job) (i : ℕ) (j : Job) → i < length jobs → j ≡ get_or jobs i j → slice_get jobs i ≡ Some j
-job-here jobs i j h e = slice_get_read jobs (length jobs) i j refl h e
-
 pub calls-set : (jobs : List Job) (i : ℕ) (j k : Job) → slice_get jobs i ≡ Some j → k.client ≡ j.client → k.call ≡ j.call → calls_of (set jobs i k) ≡ calls_of jobs
 calls-set [] i j k h p q = cc
 calls-set (x ∷ jobs) zero j k h p q =
@@ -97,32 +92,31 @@ call-here jobs i j h = slice_get-map call_of jobs i ∙ ap (λ (o : Option Job).
 set-here : (jobs : List Job) (n : ℕ) (j k : Job) → slice_get jobs n ≡ Some j → slice_get (set jobs n k) n ≡ Some k
 set-here jobs n j k h = slice_get-set_same jobs n k (slice_get_within jobs n j h)
 
--- the job of one index is answered now, or is not
-pub once-done : (jobs : List Job) (n : ℕ) (j k : Job) → slice_get jobs n ≡ Some j → j.standing ≡ Open → k.standing ≡ Answered → (i : ℕ) → answered (set jobs n k) i ≡ answered jobs i + cond (nat_eq n i) 1 0
-once-done jobs n j k h stood done i = by (cases_eq n i)
+-- the job of one index counts as it stands now, and the others as they did
+once-set : (jobs : List Job) (n : ℕ) (j k : Job) → slice_get jobs n ≡ Some j → j.standing ≡ Open → (i : ℕ) → answered (set jobs n k) i ≡ answered jobs i + cond (nat_eq n i) (one_if_answered k.standing) 0
+once-set jobs n j k h stood i = by (cases_eq n i)
   where
-    by : (n ≡ i) ⊎ (n ≡ i → ⊥) → answered (set jobs n k) i ≡ answered jobs i + cond (nat_eq n i) 1 0
+    by : (n ≡ i) ⊎ (n ≡ i → ⊥) → answered (set jobs n k) i ≡ answered jobs i + cond (nat_eq n i) (one_if_answered k.standing) 0
     by (inl q) =
-        let new : answered (set jobs n k) i ≡ 1 = ap (answered (set jobs n k)) (sym q) ∙ ap answered_of (set-here jobs n j k h) ∙ ap one_if_answered done in
+        let new : answered (set jobs n k) i ≡ one_if_answered k.standing = ap (answered (set jobs n k)) (sym q) ∙ ap answered_of (set-here jobs n j k h) in
         let old : answered jobs i ≡ 0 = ap (answered jobs) (sym q) ∙ ap answered_of h ∙ ap one_if_answered stood in
-        let one : cond {A = ℕ} (nat_eq n i) 1 0 ≡ 1 = ap (λ b. cond {A = ℕ} b 1 0) (eq-eqb n i q) in
+        let one : cond (nat_eq n i) (one_if_answered k.standing) 0 ≡ one_if_answered k.standing = ap (λ b. cond b (one_if_answered k.standing) 0) (eq-eqb n i q) in
         omega arith
     by (inr ne) =
         let same : answered (set jobs n k) i ≡ answered jobs i = ap answered_of (slice_get-set_other jobs n i k (λ q. ne (sym q))) in
-        let none : cond {A = ℕ} (nat_eq n i) 1 0 ≡ 0 = ap (λ b. cond {A = ℕ} b 1 0) (ne_eqb n i ne) in
+        let none : cond (nat_eq n i) (one_if_answered k.standing) 0 ≡ 0 = ap (λ b. cond b (one_if_answered k.standing) 0) (ne_eqb n i ne) in
         omega arith
 
+-- it is answered now, or is not
+pub once-done : (jobs : List Job) (n : ℕ) (j k : Job) → slice_get jobs n ≡ Some j → j.standing ≡ Open → k.standing ≡ Answered → (i : ℕ) → answered (set jobs n k) i ≡ answered jobs i + cond (nat_eq n i) 1 0
+once-done jobs n j k h stood done i = once-set jobs n j k h stood i ∙ ap (λ x. answered jobs i + cond (nat_eq n i) (one_if_answered x) 0) done
+
 pub once-none : (jobs : List Job) (n : ℕ) (j k : Job) → slice_get jobs n ≡ Some j → j.standing ≡ Open → k.standing ≡ GivenUp → (i : ℕ) → answered (set jobs n k) i ≡ answered jobs i + 0
-once-none jobs n j k h stood given i = by (cases_eq n i)
+once-none jobs n j k h stood given i = once-set jobs n j k h stood i ∙ ap (λ x. answered jobs i + cond (nat_eq n i) (one_if_answered x) 0) given ∙ ap (λ x. answered jobs i + x) (cond-same (nat_eq n i))
   where
-    by : (n ≡ i) ⊎ (n ≡ i → ⊥) → answered (set jobs n k) i ≡ answered jobs i + 0
-    by (inl q) =
-        let new : answered (set jobs n k) i ≡ 0 = ap (answered (set jobs n k)) (sym q) ∙ ap answered_of (set-here jobs n j k h) ∙ ap one_if_answered given in
-        let old : answered jobs i ≡ 0 = ap (answered jobs) (sym q) ∙ ap answered_of h ∙ ap one_if_answered stood in
-        omega arith
-    by (inr ne) =
-        let same : answered (set jobs n k) i ≡ answered jobs i = ap answered_of (slice_get-set_other jobs n i k (λ q. ne (sym q))) in
-        omega arith
+    cond-same : (b : Bool) → cond {A = ℕ} b 0 0 ≡ 0
+    cond-same true = refl
+    cond-same false = refl
 
 pub room-less : (jobs : List Job) (n : ℕ) (j k : Job) → slice_get jobs n ≡ Some j → j.standing ≡ Open → one_if_open k.standing ≡ 0 → open_count (set jobs n k) + 1 ≤ open_count jobs
 room-less jobs n j k h stood over = let one : one_if_open j.standing ≡ 1 = ap one_if_open stood in omega (arith, open-set jobs n j k h)
@@ -167,22 +161,10 @@ passes-on clients between None (Some y) c p q same h g = absurd h
 passes-on clients between None None (Some z) p q same h g = absurd g
 passes-on clients between None None None p q same h g = tt
 
-any-more : (i : ℕ) (xs : List ℕ) (x : ℕ) → list_any (λ y. nat_eq y i) (xs ++ x ∷ []) ≡ (list_any (λ y. nat_eq y i) xs || nat_eq x i)
-any-more i [] x = or-false (nat_eq x i)
-  where
-    or-false : (b : Bool) → (b || false) ≡ b
-    or-false true = refl
-    or-false false = refl
-any-more i (y ∷ xs) x = ap (λ b. nat_eq y i || b) (any-more i xs x) ∙ apart (nat_eq y i) (list_any (λ z. nat_eq z i) xs) (nat_eq x i)
-  where
-    apart : (a b c : Bool) → (a || (b || c)) ≡ ((a || b) || c)
-    apart true b c = refl
-    apart false b c = refl
-
 pub passes-more : (clients between : Clients) (a b c : List Job) (schedule : List ℕ) (at i : ℕ) → KeepsAttached clients between → at < length schedule → PassesOver clients (slice_get a i) (slice_get b i) (list_any (λ x. nat_eq x i) (take at schedule)) → PassesOver between (slice_get b i) (slice_get c i) (nat_eq (get_or schedule at 0) i) → PassesOver clients (slice_get a i) (slice_get c i) (list_any (λ x. nat_eq x i) (take (at + 1) schedule))
 passes-more clients between a b c schedule at i same within h g =
     subst (λ asked. PassesOver clients (slice_get a i) (slice_get c i) asked)
-    (sym (ap (list_any (λ x. nat_eq x i)) (take_more schedule at 0 within) ∙ any-more i (take at schedule) (get_or schedule at 0)))
+    (sym (ap (list_any (λ x. nat_eq x i)) (take_more schedule at 0 within) ∙ list_any-append (λ x. nat_eq x i) (take at schedule) (get_or schedule at 0 ∷ []) ∙ ap (λ b. list_any (λ x. nat_eq x i) (take at schedule) || b) (or-false (nat_eq (get_or schedule at 0) i))))
     (passes-on clients between (slice_get a i) (slice_get b i) (slice_get c i) (list_any (λ x. nat_eq x i) (take at schedule)) (nat_eq (get_or schedule at 0) i) same.attached h g)
 
 -- the same clients are attached after two changes

@@ -1,35 +1,18 @@
 -- Reads of open files, and what fstat shows of what is open.
 use Rattle.std.proofs.Common.{◌≡◌, ℕ, ◌+◌, true, not, List, Option, None, Some, Result, Ok, Err, refl, sym, ap, ◌∙◌, subst, is_some, length, take, drop, nat_lt}
-use Rattle.std.proofs.lemmas.Bool.{false≢true}
-use Rattle.std.specs.Option.{option_and_then}
-use Rattle.ov_base.specs.declared.attributes.Attributes.{Attributes}
+use Rattle.overlay_core.proofs.Words.{At, Attributes, base, Branch, ChangesSlot, Contents, Directory, directory_in, Errno, false≢true, File, FileSource, Folder, folder_attributes, Handle, handle_of, Inode, is_directory, Layer, Leaf, Location, Node, OpenDirectory, OpenFile, option_and_then, or_else, Path, refusal, Removed, Reply, Shown, shows, Stat, State, when, with_handle, with_place}
 use Rattle.ov_base.specs.declared.call.Call.TheVariants as call
-use Rattle.ov_base.specs.declared.errno.Errno.{Errno}
 use Rattle.ov_base.specs.declared.errno.Errno.TheVariants as errno
 use Rattle.ov_base.specs.declared.reply.ObjectKind.TheVariants as kind
-use Rattle.ov_base.specs.declared.reply.Reply.{Reply}
 use Rattle.ov_base.specs.declared.reply.Reply.TheVariants as reply
-use Rattle.ov_base.specs.declared.reply.Stat.{Stat}
-use Rattle.plain_model.specs.Layers.{Path, Inode, Layer, Shown, Folder, Contents, shows, base, is_directory}
-use Rattle.plain_model.specs.Tree.{Node, Branch, Leaf}
-use Rattle.plain_model.specs.Machine.{Handle, State, handle_of}
-use Rattle.plain_model.specs.Refusals.{TRANSFER_MAX, when, refusal}
-use Rattle.plain_model.specs.Changes.{with_handle}
+use Rattle.plain_model.specs.Refusals.{TRANSFER_MAX}
 use Rattle.plain_model.specs.Replies.{stat_of, stat_seen}
-use Rattle.layer_tree.specs.Tree.{layer_of}
-use Rattle.merged_lookup.specs.Merged.{layers_of, lowers_of}
-use Rattle.mount_laws.specs.Looks.{or_else, walk_fault}
-use Rattle.mount_laws.specs.Removals.{folder_attributes}
+use Rattle.mount_laws.specs.Looks.{walk_fault}
 use Rattle.mount_laws.specs.Descriptors.{ReadsFile, Fstats, next_bytes}
 use Rattle.mount_laws.specs.Descriptors as laws
 use Rattle.mount_laws.proofs.Descriptors.{law_of_read, law_of_fstat, law_of_directory_handle, law_of_unopened}
 use Rattle.open_handles.specs.declared.handle.Handle as handles
-use Rattle.open_handles.specs.declared.handle.Handle.TheVariants.{Directory, File}
-use Rattle.open_handles.specs.declared.handle.OpenDirectory.{OpenDirectory}
-use Rattle.open_handles.specs.declared.open_file.FileSource.{FileSource}
-use Rattle.open_handles.specs.declared.open_file.OpenFile.{OpenFile}
-use Rattle.open_handles.specs.Listings.{ChangesSlot, directory_in, file_in, with_place}
-use Rattle.open_handles.specs.Opened.{Location, At, Removed, path_in, attributes_in}
+use Rattle.open_handles.specs.Opened.{path_in, attributes_in}
 use Rattle.overlay_core.specs.declared.clients.Clients.{Clients}
 use Rattle.overlay_core.specs.declared.mount.Mount.{Mount}
 use Rattle.overlay_core.specs.Attaching.{opened_by, directory_by, file_by, located, path_of, ChangesClient}
@@ -40,7 +23,9 @@ use Rattle.overlay_core.specs.States.{Stands, IsHandle, IsStateOf, Serves}
 use Rattle.overlay_core.proofs.Answering.{serve-refused, serve-done, walk-none}
 use Rattle.overlay_core.proofs.Directories.{seen, shown-directory, shown-attributes}
 use Rattle.overlay_core.proofs.FileSight.{Sees, file-sees, file-not-folder}
-use Rattle.overlay_core.proofs.Seeking.{AreBytes, bytes-read, file-at, directory-at, handle-none, place-moved}
+use Rattle.overlay_core.proofs.Seeking.{AreBytes, bytes-read}
+use Rattle.overlay_core.proofs.Slots.{file-open, file-at, directory-at, by-opened, place-moved}
+use Rattle.overlay_core.proofs.Stating.{the_layers, the_lowers, the_upper}
 
 -- the reply that a status is told by, or its refusal
 abbrev pub status_reply : Result Stat Errno → Reply
@@ -85,15 +70,6 @@ directory-open (Some (File f)) h = absurd (false≢true h)
 directory-open (Some (Directory o)) h = (o, refl)
 
 module _ (m : Mount) (s : State) (st : IsStateOf m s) (c d : ℕ) where
-  abbrev U : Layer
-  U = layer_of m.layers.upper
-
-  abbrev lowers : List Layer
-  lowers = lowers_of m.layers
-
-  abbrev Ls : List Layer
-  Ls = layers_of m.layers
-
   module _ (n : ℕ) where
     -- the read is answered so, by a mount that becomes this
     abbrev Reads : Reply → Mount → Type 0
@@ -101,17 +77,11 @@ module _ (m : Mount) (s : State) (st : IsStateOf m s) (c d : ℕ) where
 
     -- why a read is refused
     read-refusal : refusal s c (call.Read d n) ≡ read_fault (opened_by m.clients c d) n
-    read-refusal = by (opened_by m.clients c d) refl
-      where
-        by : (o : Option handles.Handle) → opened_by m.clients c d ≡ o → refusal s c (call.Read d n) ≡ read_fault o n
-        by None is = (law_of_unopened s c d (handle-none m s st c d is)).reading n
-        by (Some (File f)) is =
-            let x = file-at m s st c d f (ap file_in is) in
-            let law : ReadsFile s c d x.0 = law_of_read s c d x.0 x.1 (file-not-folder U lowers s.tree f x.0 x.2) in
-            law.refused n ∙ ap (λ b. or_else (when (nat_lt TRANSFER_MAX n) errno.EINVAL) (when (not b) errno.EBADF)) x.2.reads
-        by (Some (Directory o)) is =
-            let x = directory-at m s st c d o is in
-            (law_of_directory_handle s c d x.0 x.1 x.2.directory).reading n
+    read-refusal =
+        by-opened m s st c d (λ o. refusal s c (call.Read d n) ≡ read_fault o n)
+        (λ none. (law_of_unopened s c d none).reading n)
+        (λ f h on is. (law_of_read s c d h on (file-not-folder (the_upper m) (the_lowers m) s.tree f h is)).refused n ∙ ap (λ b. or_else (when (nat_lt TRANSFER_MAX n) errno.EINVAL) (when (not b) errno.EBADF)) is.reads)
+        (λ o h on is. (law_of_directory_handle s c d h on is.directory).reading n)
 
     -- it is refused so
     pub read-refused : (e : Errno) → read_fault (opened_by m.clients c d) n ≡ Some e → Reads (reply.Refused e) m
@@ -120,8 +90,9 @@ module _ (m : Mount) (s : State) (st : IsStateOf m s) (c d : ℕ) where
     -- a read gives the next bytes, and the file's place is after them
     pub read-done : (f : OpenFile) → file_by m.clients c d ≡ Some f → read_fault (opened_by m.clients c d) n ≡ None → (bytes given : List ℕ) → AreBytes m.layers f.source bytes → given ≡ take n (drop f.place bytes) → (new : Clients) → ChangesClient m.clients new c (λ x y. ChangesSlot x y d (with_place (f.place + length given))) → Reads (reply.Read given) (record m { clients = new })
     read-done f is good bytes given are next new ch =
-        let x = file-at m s st c d f is in
-        let law : ReadsFile s c d x.0 = law_of_read s c d x.0 x.1 (file-not-folder U lowers s.tree f x.0 x.2) in
+        let opens = file-open (opened_by m.clients c d) f is in
+        let x = file-at m s st c d f opens in
+        let law : ReadsFile s c d x.0 = law_of_read s c d x.0 x.1 (file-not-folder (the_upper m) (the_lowers m) s.tree f x.0 x.2) in
         let read : laws.seen s x.0 ≡ bytes = bytes-read m.layers s f x.0 bytes x.2 are in
         let same : next_bytes s x.0 n ≡ given = (λ i. take n (drop (x.2.place i) (read i))) ∙ sym next in
         let end : f.place + length given ≡ x.0.place + length (next_bytes s x.0 n) = sym (λ i. x.2.place i + length (same i)) in
@@ -129,7 +100,7 @@ module _ (m : Mount) (s : State) (st : IsStateOf m s) (c d : ℕ) where
         (ap reply.Read (sym same) ∙ sym (law.answer n))
         (subst (IsStateOf (record m { clients = new }))
         (ap (λ z. record s { tables = with_handle s.tables c d (Some (record x.0 { place = z })) }) end ∙ sym (law.state n))
-        (place-moved m s st c d f is x.0 x.1 x.2 (f.place + length given) new ch))
+        (place-moved m s st c d x.0 x.1 f opens (f.place + length given) new ch))
 
   -- the fstat is answered so
   abbrev Shows : Reply → Type 0
@@ -142,14 +113,14 @@ module _ (m : Mount) (s : State) (st : IsStateOf m s) (c d : ℕ) where
       serve-done _ s c _ r m law.refused (is ∙ sym law.answer) (subst (IsStateOf m) (sym law.state) st)
 
   -- of a file, its inode
-  pub file-status : (f : OpenFile) → file_by m.clients c d ≡ Some f → (source : FileSource) → f.source ≡ source → (r : Result Stat Errno) → ((i : Inode) → source_inode U lowers source ≡ Some i → r ≡ stat_of_inode (Some i)) → Shows (status_reply r)
+  pub file-status : (f : OpenFile) → file_by m.clients c d ≡ Some f → (source : FileSource) → f.source ≡ source → (r : Result Stat Errno) → ((i : Inode) → source_inode (the_upper m) (the_lowers m) source ≡ Some i → r ≡ stat_of_inode (Some i)) → Shows (status_reply r)
   file-status f is source at r tells =
-      let x = file-at m s st c d f is in
-      let sees : Sees U lowers s.tree f x.0 = file-sees U lowers s.tree f x.0 x.2 in
-      status-shown x.0 x.1 (status_reply r) (ap status_reply (tells _ (ap (source_inode U lowers) (sym at) ∙ sees.inode)) ∙ sym sees.status)
+      let x = file-at m s st c d f (file-open (opened_by m.clients c d) f is) in
+      let sees : Sees (the_upper m) (the_lowers m) s.tree f x.0 = file-sees (the_upper m) (the_lowers m) s.tree f x.0 x.2 in
+      status-shown x.0 x.1 (status_reply r) (ap status_reply (tells _ (ap (source_inode (the_upper m) (the_lowers m)) (sym at) ∙ sees.inode)) ∙ sym sees.status)
 
   -- of a directory, what stands where it does
-  directory-status : (o : OpenDirectory) → opened_by m.clients c d ≡ Some (Directory o) → (r : Result Stat Errno) → ((l : Location) → located m.clients o ≡ Some l → r ≡ status_standing Ls l) → Shows (status_reply r)
+  directory-status : (o : OpenDirectory) → opened_by m.clients c d ≡ Some (Directory o) → (r : Result Stat Errno) → ((l : Location) → located m.clients o ≡ Some l → r ≡ status_standing (the_layers m) l) → Shows (status_reply r)
   directory-status o is r tells =
       let a = attributes x.2.location x.2.stands in
       status-shown h x.1 (status_reply r)
@@ -163,14 +134,14 @@ module _ (m : Mount) (s : State) (st : IsStateOf m s) (c d : ℕ) where
       h = x.0
 
       -- its attributes are those that are shown
-      attributes : (l : Location) → Stands s.tree l h.node → (a : Attributes) × (status_standing Ls l ≡ Ok (stat_with kind.Directory a 0 1)) × (folder_attributes (s.tree h.node) ≡ Some a)
+      attributes : (l : Location) → Stands s.tree l h.node → (a : Attributes) × (status_standing (the_layers m) l ≡ Ok (stat_with kind.Directory a 0 1)) × (folder_attributes (s.tree h.node) ≡ Some a)
       attributes (At p) at =
-          let dir = shown-directory U lowers s st.layers p h.node at x.2.directory in
-          let shown = shown-folder (shows 0 Ls p) dir in
-          let none : walk_fault Ls p ≡ None = walk-none m s st c p dir in (
+          let dir = shown-directory (the_upper m) (the_lowers m) s st.layers p h.node at x.2.directory in
+          let shown = shown-folder (shows 0 (the_layers m) p) dir in
+          let none : walk_fault (the_layers m) p ≡ None = walk-none m s st c p dir in (
             shown.0,
             (λ i. unless_refused (none i) (stat_shown (shown.3 i))),
-            shown-attributes (s.tree h.node) (base U lowers p) (shows 0 Ls p) shown.0 (shown.1, shown.2, shown.3) (seen U lowers s st.layers p h.node at),
+            shown-attributes (s.tree h.node) (base (the_upper m) (the_lowers m) p) (shows 0 (the_layers m) p) shown.0 (shown.1, shown.2, shown.3) (seen (the_upper m) (the_lowers m) s st.layers p h.node at),
           )
       attributes (Removed a) gone = (a, refl, gone.attributes)
 
@@ -180,13 +151,13 @@ module _ (m : Mount) (s : State) (st : IsStateOf m s) (c d : ℕ) where
     standing = directory-open (opened_by m.clients c d) there
 
     -- of one that has a path, what is there
-    pub named-status : (p : Path) → Some p ≡ option_and_then (path_of m.clients) (directory_by m.clients c d) → r ≡ stat_at Ls p → Shows (status_reply r)
-    named-status p path is = directory-status standing.0 standing.1 r (λ l at. status-named Ls p r is l (path ∙ ap (λ z. option_and_then (path_of m.clients) (directory_in z)) standing.1 ∙ ap (option_and_then path_in) at))
+    pub named-status : (p : Path) → Some p ≡ option_and_then (path_of m.clients) (directory_by m.clients c d) → r ≡ stat_at (the_layers m) p → Shows (status_reply r)
+    named-status p path is = directory-status standing.0 standing.1 r (λ l at. status-named (the_layers m) p r is l (path ∙ ap (λ z. option_and_then (path_of m.clients) (directory_in z)) standing.1 ∙ ap (option_and_then path_in) at))
 
     -- of one that was removed, the attributes that it had
     pub removed-status : None ≡ option_and_then (path_of m.clients) (directory_by m.clients c d) → ((a : Attributes) → option_and_then attributes_in (option_and_then (located m.clients) (directory_by m.clients c d)) ≡ Some a → r ≡ Ok (stat_with kind.Directory a 0 1)) → Shows (status_reply r)
     removed-status path tells =
         directory-status standing.0 standing.1 r
-        (λ l at. status-kept Ls r l
+        (λ l at. status-kept (the_layers m) r l
         (λ a kept. tells a (ap (λ z. option_and_then attributes_in (option_and_then (located m.clients) (directory_in z))) standing.1 ∙ ap (option_and_then attributes_in) at ∙ kept))
         (path ∙ ap (λ z. option_and_then (path_of m.clients) (directory_in z)) standing.1 ∙ ap (option_and_then path_in) at))

@@ -1,16 +1,10 @@
 -- What the machine's handle on an open file sees: the bytes, the attributes and the links of the inode that the file is.
 use Rattle.std.proofs.Common.{◌≡◌, ℕ, true, false, List, length, Option, None, Some, refl, ap}
-use Rattle.std.proofs.lemmas.Bool.{false≢true}
-use Rattle.ov_base.specs.declared.attributes.Attributes.{Attributes}
+use Rattle.overlay_core.proofs.Words.{Attributes, Branch, false≢true, FileSource, Handle, is_folder, Layer, Leaf, Lower, Node, OpenFile, Tree, Upper}
 use Rattle.ov_base.specs.declared.bytes.Content.TheVariants as content
 use Rattle.ov_base.specs.declared.reply.ObjectKind.TheVariants as kind
-use Rattle.plain_model.specs.Layers.{Layer}
-use Rattle.plain_model.specs.Tree.{Node, Branch, Leaf, Tree, is_folder}
-use Rattle.plain_model.specs.Machine.{Handle, bytes_seen}
+use Rattle.plain_model.specs.Machine.{bytes_seen}
 use Rattle.plain_model.specs.Replies.{capped, stat_by, stat_seen}
-use Rattle.open_handles.specs.declared.open_file.FileSource.{FileSource}
-use Rattle.open_handles.specs.declared.open_file.FileSource.TheVariants.{Upper, Lower}
-use Rattle.open_handles.specs.declared.open_file.OpenFile.{OpenFile}
 use Rattle.overlay_core.specs.Files.{source_inode, is_leaf, IsOf, IsFile}
 
 -- a file is no directory

@@ -1,21 +1,16 @@
 -- What a removal leaves once what lost its last name is freed.
 use Rattle.std.proofs.Common.{◌≡◌, ◌≢◌, ℕ, List, ◌∷◌, ◌++◌, Some, sym, ap, ◌∙◌, subst, inl, inr, is_some}
-use Rattle.std.specs.Option.{option_and_then, option_map}
-use Rattle.ov_base.specs.declared.call.Call.{Call}
-use Rattle.plain_model.specs.Layers.{Path, Inode, AreLayers}
-use Rattle.plain_model.specs.Machine.{State}
+use Rattle.overlay_core.proofs.Words.{AreLayers, Call, Inode, inode_of, layer_of, Layers, layers_of, lowers_of, option_and_then, option_map, Path, Removes, State, StaysLayers, StaysMount}
 use Rattle.plain_model.specs.Tree.{merged}
-use Rattle.mount_laws.specs.Removals.{Loses, Removes}
+use Rattle.mount_laws.specs.Removals.{Loses}
 use Rattle.slab.specs.Slab.{get}
 use Rattle.layer_tree.specs.Table.{entry_in, object_key}
-use Rattle.layer_tree.specs.Tree.{layer_of, table_of, inode_of, seen, inode_at, child, IsUnmarked, IsTree, SameObjects}
+use Rattle.layer_tree.specs.Tree.{table_of, seen, inode_at, child, IsUnmarked, IsTree, SameObjects}
 use Rattle.layer_tree.specs.Tree.{Tree as LayerTree}
 use Rattle.layer_tree.specs.Nameless.{IsNameless}
 use Rattle.layer_tree.specs.declared.node.Inode.{Inode as StoredInode}
 use Rattle.layer_tree.specs.declared.node.Node.TheVariants as node
-use Rattle.merged_lookup.specs.declared.layers.Layers.{Layers}
-use Rattle.merged_lookup.specs.Merged.{layers_of, lowers_of}
-use Rattle.copy_up.specs.Showing.{ShowsSame, StaysLayers, StaysMount, KeepsPath, KeepsOthers}
+use Rattle.copy_up.specs.Showing.{ShowsSame, KeepsPath, KeepsOthers}
 use Rattle.copy_up.proofs.Keeping.{lowers-same}
 use Rattle.make_remove.specs.Removing.{TakesName}
 

@@ -1,39 +1,27 @@
 -- Open files of the upper stay live, and files of the tree stay files, through what changes the layers.
 use Rattle.std.proofs.Common.{◌≡◌, ◌≢◌, ◌↔◌, ℕ, Bool, true, false, cond, List, [], ◌∷◌, ◌++◌, Option, None, Some, refl, sym, ap, ◌∙◌, subst, inl, inr, is_some}
-use Rattle.std.specs.Option.{option_and_then, option_map}
-use Rattle.std.proofs.lemmas.Bool.{false≢true, cases_Bool}
+use Rattle.overlay_core.proofs.Words.{after, Attributes, Branch, Call, cases_Bool, Content, face, false≢true, fresh, Inode, inode_of, IsLive, IsMountOf, Layer, layer_of, Layers, Leaf, lowers_of, Name, Node, node_at, node_of, NodeId, OpenFlags, option_and_then, option_map, Path, Removes, State, StaysLayers, Tree}
 use Rattle.slab.specs.Slab.{get}
-use Rattle.ov_base.specs.declared.attributes.Attributes.{Attributes}
-use Rattle.ov_base.specs.declared.bytes.Content.{Content}
 use Rattle.ov_base.specs.declared.bytes.Content.TheVariants as content
-use Rattle.ov_base.specs.declared.call.Call.{Call}
 use Rattle.ov_base.specs.declared.call.Call.TheVariants as call
-use Rattle.ov_base.specs.declared.call.OpenFlags.{OpenFlags}
-use Rattle.ov_base.specs.declared.node_id.NodeId.{NodeId}
 use Rattle.ov_base.specs.declared.redirect.Redirect.{Redirect}
-use Rattle.plain_model.specs.Layers.{Name, Path, Object, Directory, Named, Whiteout, Inode, Layer, held, same_path}
-use Rattle.plain_model.specs.Tree.{Node, Branch, Leaf, Tree, node_at, node_of, face, Sight, SeenBranch, see_inode, merged}
-use Rattle.plain_model.specs.Machine.{State}
-use Rattle.plain_model.specs.Changes.{fresh, after}
+use Rattle.plain_model.specs.Layers.{Object, Directory, Named, Whiteout, held, same_path}
+use Rattle.plain_model.specs.Tree.{Sight, SeenBranch, see_inode, merged}
 use Rattle.plain_model.proofs.Merged.{named-seen}
 use Rattle.plain_model.proofs.Paths.{paths_tell, place}
-use Rattle.layer_tree.specs.Tree.{layer_of, inode_of, inode_at, seen, seen_entry, entry_at, with_less}
+use Rattle.layer_tree.specs.Tree.{inode_at, seen, seen_entry, entry_at, with_less}
 use Rattle.layer_tree.specs.Tree.{Tree as LayerTree}
 use Rattle.layer_tree.specs.declared.name_table.Entry.{Entry}
 use Rattle.layer_tree.specs.declared.name_table.Entry.TheVariants as bound
 use Rattle.layer_tree.specs.declared.node.Node.{Node as Stored}
 use Rattle.layer_tree.specs.declared.node.Node.TheVariants as node
-use Rattle.merged_lookup.specs.declared.layers.Layers.{Layers}
-use Rattle.merged_lookup.specs.Merged.{lowers_of}
-use Rattle.mount_laws.specs.Looks.{IsMountOf, Gains, Makes}
+use Rattle.mount_laws.specs.Looks.{Gains, Makes}
 use Rattle.mount_laws.specs.Leaves.{GainsLeaf, MakesLink, MakesFile}
-use Rattle.mount_laws.specs.Removals.{Removes}
-use Rattle.mount_laws.specs.OpenFiles.{IsLive}
 use Rattle.mount_laws.specs.StayOpen.{LosesLink, LivesThroughRemoval}
 use Rattle.mount_laws.proofs.OpenFiles.{one-number}
 use Rattle.mount_laws.proofs.StayOpen.{law_of_live_kept, law_of_live_through_made, law_of_live_through_link, law_of_live_through_file}
 use Rattle.mount_laws.proofs.Outlive.{law_of_live_through_unlink, law_of_live_through_rmdir}
-use Rattle.copy_up.specs.Showing.{is_object, number_of, sight, StaysLayers, KeepsPath, KeepsOthers, GainsParents}
+use Rattle.copy_up.specs.Showing.{is_object, number_of, sight, KeepsPath, KeepsOthers, GainsParents}
 use Rattle.copy_up.proofs.Keeping.{lowers-same}
 use Rattle.make_remove.specs.Making.{MakesDirectory, MkdirSteps, new_attributes, shown_under}
 use Rattle.make_remove.specs.Leaves.{MakesLeaf, SymlinkSteps, CreateSteps}

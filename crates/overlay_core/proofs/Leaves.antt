@@ -1,18 +1,11 @@
 -- Files of the tree stay files through what changes the layers: those that a handle is open on through every call.
 use Rattle.std.proofs.Common.{◌≡◌, ℕ, Bool, true, false, cond, ◌||◌, List, [], Option, None, Some, refl, sym, ap, ◌∙◌, inl, inr, is_none, arith}
+use Rattle.overlay_core.proofs.Words.{Attributes, Branch, cases_Bool, change, Content, false≢true, fresh, Leaf, made_way, MountOptions, Name, New, Node, node_at, NodeId, OpenFlags, over_node, Own, Path, put, same_id, Table, Tree, way_of, with_bytes}
 use Rattle.std.specs.FinMap as fin
-use Rattle.std.proofs.lemmas.Bool.{false≢true, cases_Bool}
-use Rattle.ov_base.specs.declared.attributes.Attributes.{Attributes}
-use Rattle.ov_base.specs.declared.bytes.Content.{Content}
 use Rattle.ov_base.specs.declared.bytes.Content.TheVariants.{File, SymbolicLink}
 use Rattle.ov_base.specs.declared.call.Call.TheVariants as call
-use Rattle.ov_base.specs.declared.call.OpenFlags.{OpenFlags}
-use Rattle.ov_base.specs.declared.node_id.NodeId.{NodeId}
-use Rattle.ov_base.specs.declared.node_id.NodeId.TheVariants.{New}
-use Rattle.plain_model.specs.Layers.{Name, Path}
-use Rattle.plain_model.specs.Tree.{same_id, Node, Branch, Leaf, Own, Tree, IsKept, node_at, put, with_name}
-use Rattle.plain_model.specs.Machine.{Table, MountOptions}
-use Rattle.plain_model.specs.Changes.{fresh, way_of, lead_way, made_way, over_node, change, touched, one_fewer, with_bytes, with_attributes, with_mode, with_owner, set_value, drop_value, opened, is_named, is_held, settled, dropped}
+use Rattle.plain_model.specs.Tree.{IsKept, with_name}
+use Rattle.plain_model.specs.Changes.{lead_way, touched, one_fewer, with_attributes, with_mode, with_owner, set_value, drop_value, opened, is_named, is_held, settled, dropped}
 use Rattle.plain_model.proofs.Keeping.{put-here, put-there}
 use Rattle.plain_model.proofs.Paths.{ids_tell}
 use Rattle.overlay_core.specs.Files.{is_leaf}

@@ -1,42 +1,30 @@
 -- Clients go on both sides: each descriptor is closed, the lowest first, and then the client's table goes.
 use Rattle.std.proofs.Common.{arith, ◌≡◌, ◌≢◌, ℕ, zero, suc, ◌+◌, ◌<◌, ◌≤◌, Bool, true, false, not, cond, ◌||◌, List, [], ◌∷◌, ◌++◌, Option, None, Some, refl, sym, ap, ◌∙◌, subst, ◌⊎◌, inl, inr, is_some, is_none, length, filter, slice_get, slice_set, nat_eq, get_or, take}
-use Rattle.std.proofs.lemmas.Bool.{cases_eq, cases_lt, eqb-true, ne_eqb}
+use Rattle.overlay_core.proofs.Words.{after, Call, cases_eq, Descriptors, DESCRIPTORS_MAX, eqb-true, Errno, Handle, handle_of, handles_of, held_in, Layer, layer_of, Layers, list_any, lowers_of, ne_eqb, refusal, Reply, State, Table, Tree, when, with_handle}
+use Rattle.std.proofs.lemmas.Bool.{cases_lt}
 use Rattle.std.proofs.lemmas.List.{take_more, take_all, length-take-le}
 use Rattle.std.proofs.lemmas.Option.{slice_get-get_or, slice_get_past}
-use Rattle.std.specs.List.{list_any, flat_map}
-use Rattle.std.specs.BTreeMap.{get}
-use Rattle.std.specs.Ordering.{nat_cmp}
+use Rattle.std.specs.List.{flat_map}
+use mathlib.Core.Logic.{∥∥₁_elim}
+use mathlib.Core.HLevel.{⊥_prop}
 use Rattle.std.specs.Prelude.{map, slice_index_or}
-use Rattle.ov_base.specs.declared.call.Call.{Call}
 use Rattle.ov_base.specs.declared.call.Call.TheVariants.{Close}
-use Rattle.ov_base.specs.declared.errno.Errno.{Errno}
 use Rattle.ov_base.specs.declared.errno.Errno.TheVariants.{EBADF}
-use Rattle.ov_base.specs.declared.reply.Reply.{Reply}
-use Rattle.plain_model.specs.Layers.{Layer}
-use Rattle.plain_model.specs.Tree.{Tree}
 use Rattle.plain_model.specs.Watching.{Rule, Subject, Instance, AllHear, Puts, events, ends, all_asked, passed, all_passed}
-use Rattle.plain_model.specs.Machine.{Handle, Table, State, DESCRIPTORS_MAX, handles_of, held_in, handle_of}
-use Rattle.plain_model.specs.Refusals.{refusal, when}
-use Rattle.plain_model.specs.Changes.{with_handle, after}
 use Rattle.plain_model.specs.Subjects.{subjects}
 use Rattle.plain_model.specs.Runs.{Answered, Step, Closes, Leaves, without_instance, without_table}
 use Rattle.plain_model.proofs.Looking.{refusal-reading}
-use Rattle.layer_tree.specs.Tree.{layer_of}
-use Rattle.merged_lookup.specs.declared.layers.Layers.{Layers}
-use Rattle.merged_lookup.specs.Merged.{lowers_of}
 use Rattle.mount_laws.proofs.Lists.{law_of_bad_descriptors}
-use Rattle.open_handles.specs.declared.descriptors.Descriptors.{Descriptors}
 use Rattle.open_handles.specs.declared.handle.Handle as handles
 use Rattle.overlay_core.specs.declared.clients.Clients.{Clients}
 use Rattle.overlay_core.specs.declared.mount.Mount.{Mount}
 use Rattle.overlay_core.specs.Attaching.{Detaches, KeepsOthers, KeepsPlaces, opened_by}
-use Rattle.overlay_core.specs.Files.{IsOpenOn}
 use Rattle.overlay_core.specs.Leaving.{ClosesEach}
 use Rattle.overlay_core.specs.Living.{KeepsPaths}
 use Rattle.overlay_core.specs.Rules.{Nothing}
-use Rattle.overlay_core.specs.States.{IsSlot, IsOpenAs, AreTables, AreUnwatched, IsStateOf, Serves}
-use Rattle.overlay_core.proofs.Coming.{of, open_in}
-use Rattle.overlay_core.proofs.Serving.{slot-as, carried, handles-set, get-others, OpensFewer, one-fewer}
+use Rattle.overlay_core.specs.States.{IsSlot, IsOpenAs, AreTables, AreUnwatched, HasStateOf, IsStateOf, Serves}
+use Rattle.overlay_core.proofs.Coming.{of, open_in, fewer-but, tables-but}
+use Rattle.overlay_core.proofs.Serving.{handles-set, get-others, one-fewer}
 use Rattle.overlay_core.proofs.Stating.{with-tables}
 
 -- fewer instances without watches
@@ -251,54 +239,30 @@ any-kept (k ∷ ks) n b h = by (nat_eq k.client n) refl (any-kept ks n b h)
 
 -- without a client that goes the tables are those of the others
 go : (U : Layer) (lowers : List Layer) (t : Tree) (clients new : Clients) (ks : List Table) (n : ℕ) → AreTables (IsOpenAs U lowers t clients.directories) clients ks → Detaches clients new n → KeepsPlaces clients new → AreTables (IsOpenAs U lowers t new.directories) new (without n ks)
-go U lowers t clients new ks n a h places = record { attached = λ b. attached b (cases_eq b n); room = λ b. room b (cases_eq b n); slots = λ b d. slots b d (cases_eq b n) }
-  where
-    attached : (b : ℕ) → (b ≡ n) ⊎ (b ≡ n → ⊥) → list_any (of b) (without n ks) ≡ is_some (get nat_cmp new.attached b)
-    attached b (inl e) = subst (λ z. list_any (of z) (without n ks) ≡ is_some (get nat_cmp new.attached z)) (sym e) (any-gone ks n ∙ sym (ap (λ (o : Option Descriptors). is_some o) h.gone))
-    attached b (inr m) = any-kept ks n b m ∙ a.attached b ∙ sym (ap (λ (o : Option Descriptors). is_some o) (h.others b m))
-
-    room : (b : ℕ) → (b ≡ n) ⊎ (b ≡ n → ⊥) → length (handles_of (without n ks) b) ≡ cond (is_some (get nat_cmp new.attached b)) DESCRIPTORS_MAX 0
-    room b (inl e) = subst (λ z. length (handles_of (without n ks) z) ≡ cond (is_some (get nat_cmp new.attached z)) DESCRIPTORS_MAX 0) (sym e) (ap length (handles-gone ks n) ∙ sym (ap (λ (o : Option Descriptors). cond (is_some o) DESCRIPTORS_MAX 0) h.gone))
-    room b (inr m) = ap length (handles-kept ks n b m) ∙ a.room b ∙ sym (ap (λ (o : Option Descriptors). cond (is_some o) DESCRIPTORS_MAX 0) (h.others b m))
-
-    slots : (b d : ℕ) → (b ≡ n) ⊎ (b ≡ n → ⊥) → IsSlot (IsOpenAs U lowers t new.directories) (opened_by new b d) (handle_of (without n ks) b d)
-    slots b d (inl e) =
-        subst (λ z. IsSlot (IsOpenAs U lowers t new.directories) (opened_by new z d) (handle_of (without n ks) z d)) (sym e)
-        (slot-as (IsOpenAs U lowers t new.directories) None _ None _ (sym (ap (open_in d) h.gone)) (sym (ap (λ z. held_in (slice_get z d)) (handles-gone ks n))) tt)
-    slots b d (inr m) =
-        slot-as (IsOpenAs U lowers t new.directories) _ _ _ _ refl (sym (ap (λ z. held_in (slice_get z d)) (handles-kept ks n b m)))
-        (carried U lowers t clients new places b d (handle_of ks b d) (ap (open_in d) (h.others b m)) (a.slots b d))
-
--- what is open without it was open with it
-go-fewer : (clients new : Clients) (ks : List Table) (n : ℕ) → Detaches clients new n → OpensFewer clients ks new (without n ks)
-go-fewer clients new ks n h k d on = by (cases_eq on.client n)
-  where
-    by : (on.client ≡ n) ⊎ (on.client ≡ n → ⊥) → IsOpenOn clients ks k d
-    by (inl e) =
-        let none : opened_by new on.client on.descriptor ≡ None = ap (λ z. opened_by new z on.descriptor) e ∙ ap (open_in on.descriptor) h.gone in
-        let some = on.opened in
-        cc
-    by (inr m) = record {
-      client = on.client;
-      descriptor = on.descriptor;
-      file = on.file;
-      handle = on.handle;
-      opened = sym (ap (open_in on.descriptor) (h.others on.client m)) ∙ on.opened;
-      key = on.key;
-      on = sym (ap (λ z. held_in (slice_get z on.descriptor)) (handles-kept ks n on.client m)) ∙ on.on;
-      at = on.at;
-    }
+go U lowers t clients new ks n a h places =
+    tables-but clients new ks (without n ks) n h.others (handles-kept ks n) (λ d. ap (open_in d) h.gone) U lowers t a places (any-kept ks n)
+    (any-gone ks n ∙ sym (ap (λ (o : Option Descriptors). is_some o) h.gone))
+    (ap length (handles-gone ks n) ∙ sym (ap (λ (o : Option Descriptors). cond (is_some o) DESCRIPTORS_MAX 0) h.gone))
+    (λ d. ap (λ z. held_in (slice_get z d)) (handles-gone ks n))
 
 -- the mount stands for the state without a client that is gone
 gone : (m : Mount) (s : State) (new : Clients) (n : ℕ) → IsStateOf m s → Detaches m.clients new n → KeepsPlaces m.clients new → IsStateOf (record m { clients = new }) (without_table s n)
 gone m s new n st h places =
-    with-tables m s st new (without n s.tables) h.next
+    with-tables m s st (record m { clients = new }) (without n s.tables) refl h.next
     (go (layer_of m.layers.upper) (lowers_of m.layers) s.tree m.clients new s.tables n st.tables h places)
-    (one-fewer m.clients new s.tables (without n s.tables) (go-fewer m.clients new s.tables n h) st.one)
+    (one-fewer m.clients new s.tables (without n s.tables) (fewer-but m.clients new s.tables (without n s.tables) n h.others (handles-kept s.tables n) (λ d. ap (open_in d) h.gone)) st.one)
 
 -- a client whose descriptors are closed leaves
 pub leaves : (s : State) (m : Mount) (new : Clients) (n : ℕ) → ClosesEach s n m → Detaches m.clients new n → KeepsPlaces m.clients new → (t : State) × Leaves Nothing s n t × IsStateOf (record m { clients = new }) t
 leaves s m new n c h places = (without_table c.last n, (c.last, c.closes, refl), gone m c.last new n c.stands h places)
+
+-- and it has nothing open
+pub none-open : (m new : Mount) (c : ℕ) → ∥ HasStateOf m ∥₁ → ((s : State) → IsStateOf m s → ClosesEach s c new) → (d : ℕ) → opened_by new.clients c d ≡ None
+none-open m new c state closes d = by (opened_by new.clients c d) refl
+  where
+    by : (o : Option handles.Handle) → opened_by new.clients c d ≡ o → opened_by new.clients c d ≡ None
+    by None is = is
+    by (Some h) is = absurd (∥∥₁_elim state ⊥_prop (λ x. let no : Some h ≡ None = sym is ∙ (closes x.0 x.1).none d in cc))
 
 -- the other clients stay as they are where nothing changes
 pub others-same : (clients : Clients) (n : ℕ) → KeepsOthers clients clients n

@@ -1,12 +1,13 @@
+pub mod Words
 pub mod Shown
 pub mod Counting
 pub mod Holding
-pub mod Ending
 pub mod Openings
 pub mod OpeningWrites
 pub mod Serving
 pub mod Closings
 pub mod Stating
+pub mod Slots
 pub mod Rewritten
 pub mod Writings
 pub mod FileSight

@@ -1,30 +1,18 @@
 -- What readlink answers.
 use Rattle.std.proofs.Common.{◌≡◌, ℕ, Bool, true, false, not, List, Option, None, Some, Result, Ok, Err, refl, sym, ap, ◌∙◌, ◌⊎◌, inl, inr}
-use Rattle.std.specs.Option.{option_and_then}
-use Rattle.std.specs.Result.{IfOk}
-use Rattle.std.specs.declared.alloc.AllocError.{AllocError}
-use Rattle.ov_base.specs.declared.bytes.Content.{Content}
+use Rattle.overlay_core.proofs.Words.{AllocError, Content, Contents, EINVAL, Errno, Folder, IfOk, inode_of, layer_of, Layers, layers_of, lowers_of, node_in, option_and_then, or_else, Path, Place, refusal, Reply, Shown, shows, shows_link, ShowsInode, State, trees, when}
 use Rattle.ov_base.specs.declared.bytes.Content.TheVariants as content
 use Rattle.ov_base.specs.declared.call.Call.TheVariants as call
-use Rattle.ov_base.specs.declared.errno.Errno.{Errno}
-use Rattle.ov_base.specs.declared.errno.Errno.TheVariants.{EINVAL}
-use Rattle.ov_base.specs.declared.reply.Reply.{Reply}
 use Rattle.ov_base.specs.declared.reply.Reply.TheVariants as reply
-use Rattle.plain_model.specs.Layers.{Path, Layer, Shown, Folder, Contents, shows}
-use Rattle.plain_model.specs.Machine.{State}
-use Rattle.plain_model.specs.Refusals.{when, refusal}
-use Rattle.layer_tree.specs.Tree.{layer_of, inode_of}
-use Rattle.merged_lookup.specs.declared.layers.Layers.{Layers}
-use Rattle.merged_lookup.specs.declared.stack.Place.{Place}
-use Rattle.merged_lookup.specs.Merged.{layers_of, lowers_of, trees, node_in, ShowsInode, walk_fault}
+use Rattle.merged_lookup.specs.Merged.{walk_fault}
 use Rattle.merged_lookup.proofs.Looking.{inode-shown}
-use Rattle.mount_laws.specs.Looks.{or_else, shows_link}
 use Rattle.mount_laws.specs.Leaves.{Reads, inode_target, shown_target}
 use Rattle.mount_laws.proofs.Refusing.{law_of_readlink}
 use Rattle.overlay_core.specs.declared.mount.Mount.{Mount}
 use Rattle.overlay_core.specs.Status.{target_reply, link_reply, readlink_reply}
 use Rattle.overlay_core.specs.States.{IsStateOf, Serves}
 use Rattle.overlay_core.proofs.Answering.{serve-refused, serve-done}
+use Rattle.overlay_core.proofs.Stating.{the_layers}
 
 -- the reply to readlink of a file or symbolic link that is shown
 pub link-inode : (l : Layers) (p : Path) (d : Place) → walk_fault (layers_of l) p ≡ None → ShowsInode l p d → target_reply (inode_target (option_and_then inode_of (node_in (trees l) d))) ≡ readlink_reply (layers_of l) p
@@ -59,34 +47,24 @@ tells (Some (Contents i k (Some inode))) = by inode.content
     by (content.SymbolicLink target) = inr (target, refl, refl)
 
 module _ (m : Mount) (s : State) (st : IsStateOf m s) (c : ℕ) (p : Path) where
-  abbrev Ls : List Layer
-  Ls = layers_of m.layers
-
-  law : Reads Ls s c p
+  law : Reads (the_layers m) s c p
   law = law_of_readlink (layer_of m.layers.upper) (lowers_of m.layers) s st.layers c p
 
   -- readlink is refused where the walk is, or what is shown is no symbolic link
-  is-refused : (w : Option Errno) (b : Bool) → walk_fault Ls p ≡ w → shows_link (shows 0 Ls p) ≡ b → refusal s c (call.Readlink p) ≡ or_else w (when (not b) EINVAL)
-  is-refused w b e f = law.refused ∙ ap (λ z. or_else z (when (not (shows_link (shows 0 Ls p))) EINVAL)) e ∙ ap (λ z. or_else w (when (not z) EINVAL)) f
+  is-refused : (w : Option Errno) (b : Bool) → walk_fault (the_layers m) p ≡ w → shows_link (shows 0 (the_layers m) p) ≡ b → refusal s c (call.Readlink p) ≡ or_else w (when (not b) EINVAL)
+  is-refused w b e f = law.refused ∙ ap (λ z. or_else z (when (not (shows_link (shows 0 (the_layers m) p))) EINVAL)) e ∙ ap (λ z. or_else w (when (not z) EINVAL)) f
 
-  serves : (r : Reply) (w : Option Errno) → walk_fault Ls p ≡ w → r ≡ link_reply w (shown_target (shows 0 Ls p)) → Serves (refusal s c (call.Readlink p)) s c (call.Readlink p) r m
+  serves : (r : Reply) (w : Option Errno) → walk_fault (the_layers m) p ≡ w → r ≡ link_reply w (shown_target (shows 0 (the_layers m) p)) → Serves (refusal s c (call.Readlink p)) s c (call.Readlink p) r m
   serves r (Some e) h is = rw is (serve-refused _ s c (call.Readlink p) e m (is-refused (Some e) _ h refl) st)
-  serves r None h is = by (tells (shows 0 Ls p))
+  serves r None h is = by (tells (shows 0 (the_layers m) p))
     where
-      by : Tells (shows 0 Ls p) → Serves (refusal s c (call.Readlink p)) s c (call.Readlink p) r m
+      by : Tells (shows 0 (the_layers m) p) → Serves (refusal s c (call.Readlink p)) s c (call.Readlink p) r m
       by (inl t) =
           let same : r ≡ reply.Refused EINVAL = is ∙ ap target_reply t.0 in
           rw same (serve-refused _ s c (call.Readlink p) EINVAL m (is-refused None false h t.1) st)
       by (inr t) =
           let same : r ≡ reply.Target t.0 = is ∙ ap target_reply t.1 in
-          serve-done _ s c (call.Readlink p) r m (is-refused None true h t.2) (same ∙ sym (law.answer t.0 t.1))
-          (record {
-            layers = record { layers = st.layers.layers; shows = st.layers.shows; kept = st.layers.kept; writable = st.layers.writable };
-            tables = st.tables;
-            one = st.one;
-            arrived = st.arrived;
-            unwatched = st.unwatched;
-          })
+          serve-done _ s c (call.Readlink p) r m (is-refused None true h t.2) (same ∙ sym (law.answer t.0 t.1)) st
 
-  pub readlink-serves : (r : Reply) → r ≡ readlink_reply Ls p → Serves (refusal s c (call.Readlink p)) s c (call.Readlink p) r m
-  readlink-serves r is = serves r (walk_fault Ls p) refl is
+  pub readlink-serves : (r : Reply) → r ≡ readlink_reply (the_layers m) p → Serves (refusal s c (call.Readlink p)) s c (call.Readlink p) r m
+  readlink-serves r is = serves r (walk_fault (the_layers m) p) refl is

@@ -1,59 +1,37 @@
 -- Opens that make a file: the states that the mount stands for on the way.
 use Rattle.std.proofs.Common.{arith, ◌≡◌, ◌↔◌, ℕ, zero, suc, cond, List, [], None, Some, Ok, Err, refl, sym, ap, ◌∙◌, subst, is_none, is_some}
-use Rattle.std.proofs.lemmas.Bool.{false≢true}
-use Rattle.std.specs.Option.{option_and_then}
+use Rattle.overlay_core.proofs.Words.{after, Call, change, Descriptors, Directory, Errno, false≢true, File, file_holders, fresh, Handle, inode_of, IsLive, IsMountOf, Layer, layer_of, Layers, layers_of, Leaf, live_handle, lowers_of, lowest_free, made_way, New, NodeId, OpenFile, OpenFlags, opening_fault, option_and_then, Own, Path, refusal, shows, State, StaysMount, Tree, Upper, way_of, with_handle}
 use mathlib.Core.Logic.{∥∥₁_elim}
 use mathlib.Core.HLevel.{⊥_prop}
 use Rattle.slab.specs.Slab.{get}
 use Rattle.ov_base.specs.declared.bytes.Content.TheVariants as content
-use Rattle.ov_base.specs.declared.call.Call.{Call}
 use Rattle.ov_base.specs.declared.call.Call.TheVariants as call
-use Rattle.ov_base.specs.declared.call.OpenFlags.{OpenFlags}
-use Rattle.ov_base.specs.declared.errno.Errno.{Errno}
 use Rattle.ov_base.specs.declared.errno.Errno.TheVariants.{EMFILE}
-use Rattle.ov_base.specs.declared.node_id.NodeId.{NodeId}
-use Rattle.ov_base.specs.declared.node_id.NodeId.TheVariants.{New}
 use Rattle.ov_base.specs.declared.reply.Reply.TheVariants as reply
-use Rattle.plain_model.specs.Layers.{Path, Layer, shows}
-use Rattle.plain_model.specs.Tree.{Leaf, Own, Tree}
-use Rattle.plain_model.specs.Machine.{Handle, State, lowest_free}
-use Rattle.plain_model.specs.Refusals.{refusal}
-use Rattle.plain_model.specs.Changes.{fresh, way_of, change, opened, made_way, with_handle, after}
-use Rattle.layer_tree.specs.Tree.{layer_of, inode_of}
-use Rattle.merged_lookup.specs.declared.layers.Layers.{Layers}
-use Rattle.merged_lookup.specs.Merged.{layers_of, lowers_of}
-use Rattle.mount_laws.specs.Looks.{IsMountOf}
+use Rattle.plain_model.specs.Changes.{opened}
 use Rattle.mount_laws.specs.Leaves.{GainsLeaf, MakesFile}
-use Rattle.mount_laws.specs.OpenFiles.{IsLive}
-use Rattle.mount_laws.specs.Opening.{opening_fault, live_handle, OpensMaking}
+use Rattle.mount_laws.specs.Opening.{OpensMaking}
 use Rattle.mount_laws.proofs.OpenFiles.{one-number, law_of_live_made}
 use Rattle.mount_laws.proofs.Opening.{law_of_opened_making}
-use Rattle.copy_up.specs.Showing.{GainsParents, StaysMount}
+use Rattle.copy_up.specs.Showing.{GainsParents}
 use Rattle.copy_up.proofs.Keeping.{lowers-same}
 use Rattle.make_remove.specs.Making.{new_attributes}
 use Rattle.make_remove.specs.Leaves.{MakesLeaf, CreateSteps}
-use Rattle.open_handles.specs.declared.descriptors.Descriptors.{Descriptors}
 use Rattle.open_handles.specs.declared.handle.Handle as handles
-use Rattle.open_handles.specs.declared.handle.Handle.TheVariants.{Directory, File}
-use Rattle.open_handles.specs.declared.handle.OpenDirectory.{OpenDirectory}
-use Rattle.open_handles.specs.declared.open_file.FileSource.TheVariants.{Upper}
-use Rattle.open_handles.specs.declared.open_file.OpenFile.{OpenFile}
-use Rattle.open_handles.specs.FileHolders.{file_holders}
 use Rattle.open_handles.specs.Listings.{Opens}
 use Rattle.overlay_core.specs.declared.clients.Clients.{Clients}
 use Rattle.overlay_core.specs.declared.mount.Mount.{Mount}
 use Rattle.overlay_core.specs.Attaching.{ChangesClient}
 use Rattle.overlay_core.specs.Files.{HasFile, HasAllOpen, IsOpenOn, file_at}
 use Rattle.overlay_core.specs.Opening.{OpensFile}
-use Rattle.overlay_core.specs.States.{IsHandle, HasStateOf, IsStateOf, Serves}
-use Rattle.overlay_core.proofs.Answering.{serve-done}
-use Rattle.overlay_core.proofs.Carrying.{AreCounted, CarriesFiles, files-kept, tables-on}
+use Rattle.overlay_core.specs.States.{HasStateOf, IsStateOf, Serves}
+use Rattle.overlay_core.proofs.Carrying.{AreCounted, files-kept, state-on, state-stays}
 use Rattle.overlay_core.proofs.Changing.{handle-beside}
 use Rattle.overlay_core.proofs.Lasting.{create-live, open-leaves, parents-live}
-use Rattle.overlay_core.proofs.Openings.{open-live, open-full, free-there, state-open, unrefused, unfaulted}
-use Rattle.overlay_core.proofs.Rewritten.{state-unwritten}
+use Rattle.overlay_core.proofs.Openings.{open-full, free-there, state-open, open-served, unfaulted}
 use Rattle.overlay_core.proofs.Serving.{open-at}
-use Rattle.overlay_core.proofs.Stating.{Alike, keep-state}
+use Rattle.overlay_core.proofs.Slots.{open-live}
+use Rattle.overlay_core.proofs.Stating.{the_lowers, the_upper, Alike, keep-state}
 
 -- room that is made where all descriptors are open is an open that is refused
 pub full-opens : (old new : Clients) (c : ℕ) (h : handles.Handle) (e : Errno) → ChangesClient old new c (λ x y. y ≡ x) → (e ≡ EMFILE) × HasAllOpen old c → ChangesClient old new c (λ x y. Opens x y h (Ok (Err e)))
@@ -75,7 +53,7 @@ full-opens old new c h e same full =
 not-open : (m : Mount) (s : State) → IsStateOf m s → (k : ℕ) → get m.layers.upper k ≡ None → HasFile m.clients k → ⊥
 not-open m s st k vacant has =
     let at = open-at (Alike m.layers s m.clients) m.clients s.tables st.tables has.client has.descriptor (File has.file) has.opened in
-    let live = open-live m s st 0 k at.0.node (record { client = has.client; descriptor = has.descriptor; file = has.file; handle = at.0; opened = has.opened; key = has.key; on = at.1; at = refl }) in
+    let live = open-live m s st k at.0.node (record { client = has.client; descriptor = has.descriptor; file = has.file; handle = at.0; opened = has.opened; key = has.key; on = at.1; at = refl }) in
     false≢true (sym (ap (λ o. is_some (option_and_then inode_of o)) vacant) ∙ ap is_some live.inode)
 
 -- so no handle holds it, where room is made
@@ -109,34 +87,14 @@ module _ (m : Mount) (s : State) (st : IsStateOf m s) (c : ℕ) (clients : Clien
 
   -- and one that then wants memory leaves the state
   pub wanted-state : (new : Layers) (p : Path) → StaysMount m.layers new → GainsParents m.layers new p → IsStateOf (record m { layers = new; clients = clients }) s
-  wanted-state new p mounts parents = state-unwritten reserved new parents.lowers mounts (parents-live m.layers new p parents) s reserved-state
-
-  module _ (new : Layers) (low : new.lowers ≡ m.layers.lowers) (t : Tree) (serial : ℕ) where
-    abbrev between : State
-    between = record s { tree = t; serial = serial }
-
-    -- other layers and another tree, in which what is open is what it was
-    pub state-between : IsMountOf (layer_of new.upper) (lowers_of new) between → ((o : OpenDirectory) (h : Handle) → IsHandle s.tree clients.directories o h → IsHandle t clients.directories o h) → CarriesFiles (layer_of m.layers.upper) (layer_of new.upper) s.tree t clients s.tables → IsStateOf (record m { layers = new; clients = clients }) between
-    state-between mounts directories files = record {
-      layers = mounts;
-      tables = tables-on m.layers new s.tree t clients s.tables low reserved-state.tables clients.directories (λ b fd o h on. directories o h) files;
-      one = reserved-state.one;
-      arrived = reserved-state.arrived;
-      unwatched = st.unwatched;
-    }
+  wanted-state new p mounts parents = state-stays reserved s reserved-state new parents.lowers (mounts s st.layers) (parents-live m.layers new p parents)
 
   -- an open that makes its file
   module _ (p : Path) (f : OpenFlags) (mode : ℕ) (fine : opening_fault (layers_of m.layers) p f mode (Some 0) ≡ None) (absent : shows 0 (layers_of m.layers) p ≡ None)
       (new : Layers) (key : ℕ) (leaf : MakesLeaf m.layers new p (content.File []) (new_attributes mode)) (number : leaf.number ≡ key) (steps : CreateSteps m.layers new p mode)
       (d : ℕ) (last : Clients) (ch : OpensFile clients last c (file_at (record { layer = 0; key = key }) f) (Ok (Ok d))) where
-    abbrev U : Layer
-    U = layer_of m.layers.upper
-
     abbrev V : Layer
     V = layer_of new.upper
-
-    abbrev lowers : List Layer
-    lowers = lowers_of m.layers
 
     abbrev asked : Call
     asked = call.Open p f mode
@@ -153,7 +111,7 @@ module _ (m : Mount) (s : State) (st : IsStateOf m s) (c : ℕ) (clients : Clien
 
     -- the machine makes a file
     law : OpensMaking s c p f mode
-    law = law_of_opened_making U lowers s st.layers c p f mode (unfaulted m s st c p f mode fine d free) absent
+    law = law_of_opened_making (the_upper m) (the_lowers m) s st.layers c p f mode (unfaulted m s st c p f mode fine d free) absent
 
     -- which is the one that the upper gains
     steps-there : MakesFile V (lowers_of new) s c p f mode
@@ -176,25 +134,25 @@ module _ (m : Mount) (s : State) (st : IsStateOf m s) (c : ℕ) (clients : Clien
     -- what was open is what it was
     made-state : IsStateOf (record m { layers = new; clients = clients }) (record s { tree = u; serial = suc s.serial })
     made-state =
-        state-between new leaf.lowers u (suc s.serial) made-mounts
+        state-on reserved s reserved-state new leaf.lowers u (suc s.serial) made-mounts
         (handle-beside reserved s reserved-state new c asked p _ tree-made steps-there.stays steps-there.hidden)
         (files-kept m.layers new s st.layers c asked clients (create-live m.layers new p mode leaf steps f) (open-leaves p f mode))
 
     -- the new file is live
     made-live : IsLive V u (New s.serial) key
     made-live =
-        let g : GainsLeaf U V lowers p (content.File []) (fresh mode) = leaf.gains st.layers.layers in
+        let g : GainsLeaf (the_upper m) V (the_lowers m) p (content.File []) (fresh mode) = leaf.gains st.layers.layers in
         let x = subst (λ (Ls : List Layer). MakesFile V Ls s c p f mode) (lowers-same m.layers new leaf.lowers) steps-there in
-        subst (IsLive V u (New s.serial)) (sym (one-number V p leaf.number g.number leaf.held_there g.here) ∙ number) (law_of_live_made U V lowers s c p f mode g x)
+        subst (IsLive V u (New s.serial)) (sym (one-number V p leaf.number g.number leaf.held_there g.here) ∙ number) (law_of_live_made (the_upper m) V (the_lowers m) s c p f mode g x)
 
     -- no open file is on its node or under its key
     made-fresh : (j : ℕ) (e : NodeId) → IsOpenOn clients s.tables j e → (New s.serial ≡ e) ↔ (key ≡ j)
     made-fresh j e y =
-        let live : IsLive U s.tree e j = open-live reserved s reserved-state c j e y in
+        let live : IsLive (the_upper m) s.tree e j = open-live reserved s reserved-state j e y in
         let unused : s.tree (New s.serial) ≡ None = st.layers.kept.unused s.serial (omega arith) in
-        let vacant : U.inodes key ≡ None = ap (λ k. option_and_then inode_of (get m.layers.upper k)) (sym number) ∙ ap (option_and_then inode_of) leaf.vacant in (
+        let vacant : (the_upper m).inodes key ≡ None = ap (λ k. option_and_then inode_of (get m.layers.upper k)) (sym number) ∙ ap (option_and_then inode_of) leaf.vacant in (
           λ same. absurd (false≢true (sym (ap is_some unused) ∙ ap (λ x. is_some (s.tree x)) same ∙ ap is_some live.node)),
-          λ same. absurd (false≢true (sym (ap is_some vacant) ∙ ap (λ k. is_some (U.inodes k)) same ∙ ap is_some live.inode)),
+          λ same. absurd (false≢true (sym (ap is_some vacant) ∙ ap (λ k. is_some ((the_upper m).inodes k)) same ∙ ap is_some live.inode)),
         )
 
     -- the mount stands for the state in which the file is open
@@ -211,8 +169,5 @@ module _ (m : Mount) (s : State) (st : IsStateOf m s) (c : ℕ) (clients : Clien
     -- and answers as the machine
     pub open-made : Serves (refusal s c asked) s c asked (reply.Descriptor d) (record m { layers = new; clients = last })
     open-made =
-        let same_slot : law.descriptor ≡ d = cc (law.free, free) in
-        serve-done _ s c asked _ (record m { layers = new; clients = last })
-        (unrefused m s st c p f mode fine d free)
-        (sym (law.answer ∙ ap reply.Descriptor same_slot))
-        (subst (IsStateOf (record m { layers = new; clients = last })) (sym (law.state ∙ ap (λ z. record s { tree = u; serial = suc s.serial; tables = with_handle s.tables c z (Some made) }) same_slot)) opened-state)
+        open-served m s st c p f mode fine d law.descriptor free law.free law.answer (λ z. record s { tree = u; serial = suc s.serial; tables = with_handle s.tables c z (Some made) }) law.state
+        (record m { layers = new; clients = last }) opened-state

@@ -1,46 +1,25 @@
 -- Opens for writing of files of the upper: what is opened is as the machine opens it, emptied where that is asked for.
 use Rattle.std.proofs.Common.{arith, ◌≡◌, ◌-◌, ℕ, Bool, true, false, not, cond, ◌&&◌, ◌||◌, List, [], ◌++◌, length, take, replicate, None, Some, Ok, refl, sym, ap, ◌∙◌, subst, ◌⊎◌, inl, inr, nat_eq, is_some}
-use Rattle.std.proofs.lemmas.Bool.{cases_Bool}
-use Rattle.std.specs.Option.{option_and_then}
-use Rattle.ov_base.specs.declared.attributes.Attributes.{Attributes}
+use Rattle.overlay_core.proofs.Words.{Attributes, bad_flags, bytes_at, Call, cases_Bool, change, Contents, EINVAL, File, file_bytes, Handle, Inode, IsLive, Layer, Layers, layers_of, Leaf, live_handle, Lower, lowest_free, Node, NodeId, OpenFile, OpenFlags, opening_fault, option_and_then, over_node, Own, Path, Place, put, refusal, rewritten, shows, ShowsInode, sized, State, StaysLayers, Tree, Upper, way_of, when, with_bytes, with_handle}
 use Rattle.ov_base.specs.declared.bytes.Content.TheVariants as content
-use Rattle.ov_base.specs.declared.call.Call.{Call}
 use Rattle.ov_base.specs.declared.call.Call.TheVariants as call
-use Rattle.ov_base.specs.declared.call.OpenFlags.{OpenFlags}
-use Rattle.ov_base.specs.declared.errno.Errno.TheVariants.{EINVAL}
-use Rattle.ov_base.specs.declared.node_id.NodeId.{NodeId}
 use Rattle.ov_base.specs.declared.reply.Reply.TheVariants as reply
-use Rattle.plain_model.specs.Layers.{Path, Inode, Layer, Contents, shows}
-use Rattle.plain_model.specs.Tree.{Node, Leaf, Own, Tree, put}
-use Rattle.plain_model.specs.Machine.{Handle, State, lowest_free}
-use Rattle.plain_model.specs.Refusals.{when, bad_flags, refusal}
-use Rattle.plain_model.specs.Changes.{sized, over_node, change, opened, way_of, with_bytes, with_handle}
+use Rattle.plain_model.specs.Changes.{opened}
 use Rattle.plain_model.proofs.Looking.{when-not}
-use Rattle.layer_tree.specs.Tree.{layer_of, file_bytes, bytes_at}
-use Rattle.merged_lookup.specs.declared.layers.Layers.{Layers}
-use Rattle.merged_lookup.specs.declared.stack.Place.{Place}
-use Rattle.merged_lookup.specs.Merged.{layers_of, lowers_of, ShowsInode}
-use Rattle.mount_laws.specs.Opening.{opening_fault, live_handle, OpensWriting}
-use Rattle.mount_laws.specs.OpenFiles.{IsLive, rewritten}
+use Rattle.mount_laws.specs.Opening.{OpensWriting}
 use Rattle.mount_laws.proofs.Links.{first-none}
 use Rattle.mount_laws.proofs.Opening.{law_of_opened_for_writing}
 use Rattle.mount_laws.proofs.OpenFiles.{law_of_live_shown}
 use Rattle.mount_laws.proofs.Opens.{put-same}
-use Rattle.copy_up.specs.Showing.{StaysLayers}
-use Rattle.open_handles.specs.declared.handle.Handle.TheVariants.{File}
-use Rattle.open_handles.specs.declared.open_file.FileSource.TheVariants.{Upper, Lower}
-use Rattle.open_handles.specs.declared.open_file.OpenFile.{OpenFile}
 use Rattle.overlay_core.specs.declared.clients.Clients.{Clients}
 use Rattle.overlay_core.specs.declared.mount.Mount.{Mount}
-use Rattle.overlay_core.specs.Files.{IsOf, IsOpenOn, source_at, file_at}
+use Rattle.overlay_core.specs.Files.{IsOf, source_at, file_at}
 use Rattle.overlay_core.specs.Living.{SetsFile}
 use Rattle.overlay_core.specs.Opening.{OpensFile}
 use Rattle.overlay_core.specs.States.{IsStateOf, Serves}
-use Rattle.overlay_core.proofs.Answering.{changes-as, opened-after, serve-done}
-use Rattle.overlay_core.proofs.Openings.{IsShownFile, fresh-one, free-there, state-open, unrefused, unfaulted, file-there, open-file}
+use Rattle.overlay_core.proofs.Openings.{IsShownFile, fresh-one, free-there, state-open, unfaulted, file-there, open-file, open-leads, open-served}
 use Rattle.overlay_core.proofs.Rewritten.{state-rewritten}
-use Rattle.overlay_core.proofs.Serving.{handle-set, room-of}
-use Rattle.overlay_core.proofs.Stating.{Alike}
+use Rattle.overlay_core.proofs.Stating.{the_layers, the_lowers, the_upper}
 
 -- flags that go together don't ask to empty a file that isn't to be written
 fourth-false : (a u x y z : Bool) → (a || u || x || y || z) ≡ false → y ≡ false
@@ -86,17 +65,15 @@ module _ (f : OpenFlags) (w : f.writes ≡ true) (t : Tree) (d : NodeId) (bytes 
       let same : over_node (opened f) (t d) ≡ over_node (with_bytes []) (t d) = ap (over_node (opened f)) is ∙ (λ i. Some (cond (w i) (cond (e i) (with_bytes [] x) x) x)) ∙ sym (ap (over_node (with_bytes [])) is) in
       ap (put t d) same
 
+-- an open for writing is served where this becomes of the tree
+pub writing-served : (m : Mount) (s : State) (st : IsStateOf m s) (c : ℕ) (p : Path) (f : OpenFlags) (mode : ℕ) → opening_fault (layers_of m.layers) p f mode (Some 0) ≡ None → (law : OpensWriting s c p f mode) (d : ℕ) → lowest_free s.tables c ≡ Some d → (t : Tree) → change (opened f) s.tree (Some law.node) ≡ t → (new : Mount) → IsStateOf new (record s { tree = t; tables = with_handle s.tables c d (Some (live_handle f law.node (way_of s.tree p))) }) → Serves (refusal s c (call.Open p f mode)) s c (call.Open p f mode) (reply.Descriptor d) new
+writing-served m s st c p f mode fine law d free t becomes =
+    open-served m s st c p f mode fine d law.descriptor free law.free law.answer
+    (λ z. record s { tree = t; tables = with_handle s.tables c z (Some (live_handle f law.node (way_of s.tree p))) })
+    (law.state ∙ ap (λ y. record s { tree = y; tables = with_handle s.tables c law.descriptor (Some (live_handle f law.node (way_of s.tree p))) }) becomes)
+
 -- a file of the upper is opened to be written
 module _ (m : Mount) (s : State) (st : IsStateOf m s) (c : ℕ) (p : Path) (f : OpenFlags) (mode : ℕ) (fine : opening_fault (layers_of m.layers) p f mode (Some 0) ≡ None) (w : f.writes ≡ true) (place : Place) (own : place.layer ≡ 0) (shown : ShowsInode m.layers p place) (d : ℕ) (new : Clients) (ch : OpensFile m.clients new c (file_at place f) (Ok (Ok d))) where
-  abbrev Ls : List Layer
-  Ls = layers_of m.layers
-
-  abbrev U : Layer
-  U = layer_of m.layers.upper
-
-  abbrev lowers : List Layer
-  lowers = lowers_of m.layers
-
   abbrev asked : Call
   asked = call.Open p f mode
 
@@ -108,28 +85,28 @@ module _ (m : Mount) (s : State) (st : IsStateOf m s) (c : ℕ) (p : Path) (f : 
   free = free-there m s st c (File file) d new ch
 
   -- the file is shown
-  there : IsShownFile (shows 0 Ls p) place.layer place.key
+  there : IsShownFile (shows 0 (the_layers m) p) place.layer place.key
   there = file-there m s st c p f mode fine place shown
 
   -- the machine opens it
   law : OpensWriting s c p f mode
-  law = law_of_opened_for_writing U lowers s st.layers c p f mode (unfaulted m s st c p f mode fine d free) (ap is_some there.shown) w
+  law = law_of_opened_for_writing (the_upper m) (the_lowers m) s st.layers c p f mode (unfaulted m s st c p f mode fine d free) (ap is_some there.shown) w
 
   -- it is the upper's
   key : source_at place ≡ Upper place.key
   key = ap (λ j. cond (nat_eq j 0) (Upper place.key) (Lower j place.key)) own
 
   -- it is live
-  live : IsLive U s.tree law.node place.key
-  live = law_of_live_shown U lowers s st.layers p place.key there.inode there.bytes law.node (there.shown ∙ ap (λ j. Some (Contents j place.key (Some there.inode))) own) there.content law.at
+  live : IsLive (the_upper m) s.tree law.node place.key
+  live = law_of_live_shown (the_upper m) (the_lowers m) s st.layers p place.key there.inode there.bytes law.node (there.shown ∙ ap (λ j. Some (Contents j place.key (Some there.inode))) own) there.content law.at
 
   -- the new handle
   abbrev made : Handle
   made = live_handle f law.node (way_of s.tree p)
 
   -- it is of the file
-  of : IsOf U lowers s.tree (source_at place) made
-  of = subst (λ z. IsOf U lowers s.tree z made) (sym key) (live, refl)
+  of : IsOf (the_upper m) (the_lowers m) s.tree (source_at place) made
+  of = subst (λ z. IsOf (the_upper m) (the_lowers m) s.tree z made) (sym key) (live, refl)
 
   -- the state with the new handle alone
   abbrev held : State
@@ -142,27 +119,9 @@ module _ (m : Mount) (s : State) (st : IsStateOf m s) (c : ℕ) (p : Path) (f : 
       (record { source = of; reads = refl; writes = refl; append = refl; place = refl; unlisted = refl })
       (fresh-one m s st c p file made law.at of)
 
-  -- the descriptor leads to the file, on both sides
-  on : IsOpenOn new held.tables place.key law.node
-  on = record {
-    client = c;
-    descriptor = d;
-    file = file;
-    handle = made;
-    opened = opened-after m.clients new c d (File file) (changes-as m.clients new c _ _ (λ x y g. g.opens) ch);
-    key = key;
-    on = handle-set s.tables c d (Some made) (rw (room-of (Alike m.layers s m.clients) m.clients s.tables st.tables c (ap is_some ch.was)) ch.changes.lowest.in_range);
-    at = refl;
-  }
-
   -- the machine's answer and its state, where this becomes of the tree
   done : (layers : Layers) (t : Tree) → change (opened f) s.tree (Some law.node) ≡ t → IsStateOf (record m { layers = layers; clients = new }) (record held { tree = t }) → Serves (refusal s c asked) s c asked (reply.Descriptor d) (record m { layers = layers; clients = new })
-  done layers t becomes after =
-      let same : law.descriptor ≡ d = cc (law.free, free) in
-      serve-done _ s c asked _ (record m { layers = layers; clients = new })
-      (unrefused m s st c p f mode fine d free)
-      (sym (law.answer ∙ ap reply.Descriptor same))
-      (subst (IsStateOf (record m { layers = layers; clients = new })) (sym (law.state ∙ (λ i. record s { tree = becomes i; tables = with_handle s.tables c (same i) (Some made) }))) after)
+  done layers t becomes = writing-served m s st c p f mode fine law d free t becomes (record m { layers = layers; clients = new })
 
   -- an open that keeps the bytes
   pub open-kept : f.truncate ≡ false → Serves (refusal s c asked) s c asked (reply.Descriptor d) (record m { clients = new })
@@ -175,7 +134,7 @@ module _ (m : Mount) (s : State) (st : IsStateOf m s) (c : ℕ) (p : Path) (f : 
       let empties : SetsFile m.layers layers place.key [] = subst (SetsFile m.layers layers place.key) (sized-none live.bytes) (sets place.key live.bytes key bytes) in
       done layers (rewritten s.tree law.node [])
       (tree-emptied f w s.tree law.node live.bytes live.attributes live.links live.node e)
-      (state-rewritten (record m { clients = new }) held held-state layers place.key law.node [] on keeps empties)
+      (state-rewritten (record m { clients = new }) held held-state layers place.key law.node [] (open-leads m s st c (File file) d new ch file made place.key refl key) keeps empties)
 
 -- an open of a file that isn't emptied, for writing where it is the upper's
 pub open-whole : (m : Mount) (s : State) (st : IsStateOf m s) (c : ℕ) (p : Path) (f : OpenFlags) (mode : ℕ) → opening_fault (layers_of m.layers) p f mode (Some 0) ≡ None → f.truncate ≡ false → (place : Place) → (f.writes ≡ true → place.layer ≡ 0) → ShowsInode m.layers p place → (d : ℕ) (new : Clients) → OpensFile m.clients new c (file_at place f) (Ok (Ok d)) → Serves (refusal s c (call.Open p f mode)) s c (call.Open p f mode) (reply.Descriptor d) (record m { clients = new })

@@ -1,52 +1,35 @@
 -- Opens: what they are refused for, and that what is opened for reading is as the machine opens it.
 use Rattle.std.proofs.Common.{arith, ◌≡◌, ◌↔◌, ℕ, zero, suc, ◌<◌, Bool, true, false, not, cond, ◌&&◌, ◌||◌, List, [], ◌∷◌, Option, None, Some, Ok, Err, map, refl, sym, ap, ◌∙◌, subst, ◌⊎◌, inl, inr, is_none, is_some}
-use Rattle.std.proofs.lemmas.Bool.{false≢true, ne_eqb}
-use Rattle.std.specs.Option.{option_and_then}
-use Rattle.std.specs.declared.alloc.AllocError.{AllocError}
-use Rattle.ov_base.specs.declared.attributes.Attributes.{Attributes}
-use Rattle.ov_base.specs.declared.bytes.Content.{Content}
+use Rattle.overlay_core.proofs.Words.{after, AllocError, At, Attributes, bad_flags, base, Branch, Call, Content, Contents, DESCRIPTORS_MAX, Directory, EINVAL, Errno, face, false≢true, File, Folder, Handle, Inode, inode_of, is_directory, Layer, layer_of, Layers, layers_of, Leaf, Lower, lowest_free, ne_eqb, Node, node_at, node_in, node_of, NodeId, OpenFile, OpenFlags, opening_fault, option_and_then, or_else, parents_fault, Path, Place, refusal, reply_of, see, SetsSlot, Shown, shows, shows_link, ShowsInode, State, Table, trees, Upper, way_of, when, with_handle}
 use Rattle.ov_base.specs.declared.bytes.Content.TheVariants as content
-use Rattle.ov_base.specs.declared.call.Call.{Call}
 use Rattle.ov_base.specs.declared.call.Call.TheVariants as call
-use Rattle.ov_base.specs.declared.call.OpenFlags.{OpenFlags}
-use Rattle.ov_base.specs.declared.errno.Errno.{Errno}
-use Rattle.ov_base.specs.declared.errno.Errno.TheVariants.{EEXIST, EINVAL, EISDIR, ELOOP, ENOTDIR, EMFILE}
-use Rattle.ov_base.specs.declared.node_id.NodeId.{NodeId}
+use Rattle.ov_base.specs.declared.errno.Errno.TheVariants.{EEXIST, EISDIR, ELOOP, ENOTDIR, EMFILE}
 use Rattle.ov_base.specs.declared.reply.Reply.TheVariants as reply
-use Rattle.plain_model.specs.Layers.{Path, Inode, Layer, Shown, Folder, Contents, shows, is_directory, base}
-use Rattle.plain_model.specs.Tree.{Node, Branch, Leaf, Origin, node_at, node_of, face, SeenLeaf, see}
-use Rattle.plain_model.specs.Machine.{Live, Handle, Table, State, DESCRIPTORS_MAX, lowest_free}
-use Rattle.plain_model.specs.Refusals.{when, bad_flags, bad_mode, refusal}
-use Rattle.plain_model.specs.Changes.{way_of, new_handle, with_handle, view_of}
+use Rattle.plain_model.specs.Tree.{Origin, SeenLeaf}
+use Rattle.plain_model.specs.Machine.{Live}
+use Rattle.plain_model.specs.Refusals.{bad_mode}
+use Rattle.plain_model.specs.Changes.{new_handle, view_of}
 use Rattle.plain_model.proofs.Looking.{when-not}
-use Rattle.layer_tree.specs.Tree.{Tree, layer_of, inode_of}
-use Rattle.merged_lookup.specs.declared.layers.Layers.{Layers}
-use Rattle.merged_lookup.specs.declared.stack.Place.{Place}
-use Rattle.merged_lookup.specs.Merged.{layers_of, lowers_of, trees, node_in, ShowsInode}
+use Rattle.layer_tree.specs.Tree.{Tree}
 use Rattle.merged_lookup.proofs.Looking.{inode_in, inode-shown}
-use Rattle.mount_laws.specs.Looks.{or_else, parents_fault, is_link_inode, shows_link}
-use Rattle.mount_laws.specs.Opening.{shown_fault, opening_fault, inode_view, shown_view, OpensReading}
-use Rattle.mount_laws.specs.OpenFiles.{IsLive}
+use Rattle.mount_laws.specs.Looks.{is_link_inode}
+use Rattle.mount_laws.specs.Opening.{shown_fault, inode_view, shown_view, OpensReading}
 use Rattle.mount_laws.proofs.Looks.{is_present, present}
 use Rattle.mount_laws.proofs.Links.{first-none, second-none}
 use Rattle.mount_laws.proofs.Opening.{law_of_open_refusal, law_of_opened_for_reading}
 use Rattle.mount_laws.proofs.OpenFiles.{law_of_live_one, law_of_live_shown}
 use Rattle.open_handles.specs.declared.handle.Handle as handles
-use Rattle.open_handles.specs.declared.handle.Handle.TheVariants.{Directory, File}
-use Rattle.open_handles.specs.declared.open_file.FileSource.TheVariants.{Upper, Lower}
-use Rattle.open_handles.specs.declared.open_file.OpenFile.{OpenFile}
-use Rattle.open_handles.specs.Descriptors.{SetsSlot}
 use Rattle.open_handles.specs.Listings.{Opens}
-use Rattle.open_handles.specs.Opened.{At}
 use Rattle.overlay_core.specs.declared.clients.Clients.{Clients}
 use Rattle.overlay_core.specs.declared.mount.Mount.{Mount}
 use Rattle.overlay_core.specs.Attaching.{ChangesClient}
 use Rattle.overlay_core.specs.Files.{lower_inode, is_leaf, IsFrozen, IsOf, IsOpenOn, AreOne, source_at, file_at}
 use Rattle.overlay_core.specs.Opening.{inode_refusal, OpensAt, OpensFile}
 use Rattle.overlay_core.specs.States.{IsLeft, AreTables, IsStateOf, Serves}
-use Rattle.overlay_core.proofs.Answering.{serve-refused, serve-done, changes-as}
-use Rattle.overlay_core.proofs.Serving.{placed, open-at, free-lowest, free-none, tables-set}
-use Rattle.overlay_core.proofs.Stating.{Alike, with-tables, keep-state}
+use Rattle.overlay_core.proofs.Answering.{serve-refused, serve-done}
+use Rattle.overlay_core.proofs.Slots.{changes-as, opened-after, open-live}
+use Rattle.overlay_core.proofs.Serving.{handle-set, room-of, placed, open-at, free-lowest, free-none, tables-set}
+use Rattle.overlay_core.proofs.Stating.{the_layers, the_lowers, the_upper, Alike, with-tables, keep-state}
 
 -- why a file or symbolic link isn't opened for reading is told by the node at its place
 pub inode-refused : (l : Layers) (p : Path) (d : Place) (f : OpenFlags) (b : Bool) → ShowsInode l p d → is_link_inode (option_and_then inode_of (node_in (trees l) d)) ≡ b → inode_refusal f (shows 0 (layers_of l) p) ≡ or_else (when b ELOOP) (when f.directory ENOTDIR)
@@ -137,11 +120,15 @@ lower-in u (t ∷ ts) (suc j) k = lower-in t ts j k
 source-below : (j k : ℕ) → source_at (record { layer = suc j; key = k }) ≡ Lower (suc j) k
 source-below j k = ap (λ b. cond b (Upper k) (Lower (suc j) k)) (ne_eqb (suc j) 0 (λ e. absurd (omega arith)))
 
--- a node that is seen as a file or symbolic link is one
-leaf-seen : (o : Option Node) (content : Content) (a : Attributes) (u : Origin) (l : ℕ) → face o ≡ Some (SeenLeaf content a u l) → is_leaf o ≡ true
+-- a node that is seen as a file or link is one
+pub leaf-seen : (o : Option Node) (content : Content) (a : Attributes) (u : Origin) (l : ℕ) → face o ≡ Some (SeenLeaf content a u l) → (n : ℕ) × (o ≡ Some (Leaf content a u n))
 leaf-seen None content a u l h = cc
 leaf-seen (Some (Branch x b names c)) content a u l h = cc
-leaf-seen (Some (Leaf y x v c)) content a u l h = refl
+leaf-seen (Some (Leaf y x v n)) content a u l h =
+    let contents : y ≡ content = cc in
+    let attributes : x ≡ a = cc in
+    let origins : v ≡ u = cc in
+    (n, λ i. Some (Leaf (contents i) (attributes i) (origins i) n))
 
 -- a handle leads to the upper's file of this key, on this node
 record LeadsTo (o : handles.Handle) (x : Handle) (k : ℕ) (d : NodeId) : Type 0 where
@@ -188,15 +175,6 @@ module _ (old new : Clients) (ks : List Table) (P : handles.Handle → Handle �
           (λ i. cc, λ i. sym u.at ∙ v.at)
 
 module _ (m : Mount) (s : State) (st : IsStateOf m s) (c : ℕ) where
-  abbrev Ls : List Layer
-  Ls = layers_of m.layers
-
-  abbrev U : Layer
-  U = layer_of m.layers.upper
-
-  abbrev lowers : List Layer
-  lowers = lowers_of m.layers
-
   abbrev alike : handles.Handle → Handle → Type 0
   alike = Alike m.layers s m.clients
 
@@ -204,20 +182,12 @@ module _ (m : Mount) (s : State) (st : IsStateOf m s) (c : ℕ) where
   pub open-wanted : (h : handles.Handle) (new : Clients) (e : AllocError) → ChangesClient m.clients new c (λ x y. Opens x y h (Err e)) → IsStateOf (record m { clients = new }) s
   open-wanted h new e ch = keep-state m s st c new (changes-as m.clients new c _ _ (λ x y g. g.err) ch)
 
-  -- a file of the upper that is open is live
-  pub open-live : (j : ℕ) (e : NodeId) → IsOpenOn m.clients s.tables j e → IsLive U s.tree e j
-  open-live j e y =
-      let z = open-at alike m.clients s.tables st.tables y.client y.descriptor (File y.file) y.opened in
-      let same : z.0 ≡ y.handle = cc (z.1, y.on) in
-      let of : IsOf U lowers s.tree (Upper j) z.0 = subst (λ w. IsOf U lowers s.tree w z.0) y.key z.2.source in
-      subst (λ d. IsLive U s.tree d j) (ap (λ (g : Handle). g.node) same ∙ y.at) of.0
-
-  -- so an open file at a path is one with it exactly where it is one inode
-  pub fresh-one : (p : Path) (file : OpenFile) (x : Handle) → node_at s.tree p ≡ Some x.node → IsOf U lowers s.tree file.source x → (g : OpenFile) (k j : ℕ) (e : NodeId) → File file ≡ File g → g.source ≡ Upper k → IsOpenOn m.clients s.tables j e → (x.node ≡ e) ↔ (k ≡ j)
+  -- an open file at a path is one with it exactly where it is one inode
+  pub fresh-one : (p : Path) (file : OpenFile) (x : Handle) → node_at s.tree p ≡ Some x.node → IsOf (the_upper m) (the_lowers m) s.tree file.source x → (g : OpenFile) (k j : ℕ) (e : NodeId) → File file ≡ File g → g.source ≡ Upper k → IsOpenOn m.clients s.tables j e → (x.node ≡ e) ↔ (k ≡ j)
   fresh-one p file x at of g k j e same key y =
       let files : file ≡ g = cc in
-      let live : IsOf U lowers s.tree (Upper k) x = subst (λ w. IsOf U lowers s.tree w x) (ap (λ (z : OpenFile). z.source) files ∙ key) of in
-      law_of_live_one U s.tree p x.node e k j at live.0 (open-live j e y)
+      let live : IsOf (the_upper m) (the_lowers m) s.tree (Upper k) x = subst (λ w. IsOf (the_upper m) (the_lowers m) s.tree w x) (ap (λ (z : OpenFile). z.source) files ∙ key) of in
+      law_of_live_one (the_upper m) s.tree p x.node e k j at live.0 (open-live m s st j e y)
 
   -- a descriptor that is opened on both sides, alike
   module _ (h : handles.Handle) (d : ℕ) (new : Clients) (ch : ChangesClient m.clients new c (λ x y. Opens x y h (Ok (Ok d)))) where
@@ -225,13 +195,26 @@ module _ (m : Mount) (s : State) (st : IsStateOf m s) (c : ℕ) where
     pub free-there : lowest_free s.tables c ≡ Some d
     free-there = free-lowest alike m.clients s.tables st.tables c d ch.before ch.was ch.changes.lowest
 
+    -- on both sides it leads to its file
+    pub open-leads : (file : OpenFile) (made : Handle) (k : ℕ) → h ≡ File file → file.source ≡ Upper k → IsOpenOn new (with_handle s.tables c d (Some made)) k made.node
+    open-leads file made k is key = record {
+      client = c;
+      descriptor = d;
+      file = file;
+      handle = made;
+      opened = opened-after m.clients new c d h (changes-as m.clients new c _ _ (λ x y g. g.opens) ch) ∙ ap Some is;
+      key = key;
+      on = handle-set s.tables c d (Some made) (rw (room-of alike m.clients s.tables st.tables c (ap is_some ch.was)) ch.changes.lowest.in_range);
+      at = refl;
+    }
+
     -- the mount stands for the state in which it is open
     pub state-open : (made : Handle) → Alike m.layers s new h made → ((g : OpenFile) (k j : ℕ) (e : NodeId) → h ≡ File g → g.source ≡ Upper k → IsOpenOn m.clients s.tables j e → (made.node ≡ e) ↔ (k ≡ j)) → IsStateOf (record m { clients = new }) (record s { tables = with_handle s.tables c d (Some made) })
     state-open made is fresh =
         let sets : ChangesClient m.clients new c (λ x y. SetsSlot x y d (Some h)) = changes-as m.clients new c _ _ (λ x y g. g.opens) ch in
-        with-tables m s st new (with_handle s.tables c d (Some made)) ch.next
+        with-tables m s st (record m { clients = new }) (with_handle s.tables c d (Some made)) refl ch.next
         (tables-set alike m.clients s.tables st.tables new (Alike m.layers s new) c d (Some h) (Some made) sets ch.changes.lowest.in_range
-        (λ b i o g now was on like. placed U lowers s.tree m.clients.directories new.directories o g (λ x l q at. ch.places b i x l (now ∙ ap Some q) at) like)
+        (λ b i o g now was on like. placed (the_upper m) (the_lowers m) s.tree m.clients.directories new.directories o g (λ x l q at. ch.places b i x l (now ∙ ap Some q) at) like)
         is)
         (one-more m.clients new s.tables alike st.tables c d h made sets ch.changes.lowest.in_range st.one fresh)
 
@@ -240,14 +223,14 @@ module _ (m : Mount) (s : State) (st : IsStateOf m s) (c : ℕ) where
     asked = call.Open p f mode
 
     -- an open is refused as the layers say, and last for want of a descriptor
-    refused : refusal s c asked ≡ or_else (opening_fault Ls p f mode (Some 0)) (when (is_none (lowest_free s.tables c)) EMFILE)
-    refused = law_of_open_refusal U lowers s st.layers c p f mode ∙ table-last Ls p f mode (lowest_free s.tables c)
+    refused : refusal s c asked ≡ or_else (opening_fault (the_layers m) p f mode (Some 0)) (when (is_none (lowest_free s.tables c)) EMFILE)
+    refused = law_of_open_refusal (the_upper m) (the_lowers m) s st.layers c p f mode ∙ table-last (the_layers m) p f mode (lowest_free s.tables c)
 
     -- an open that is refused by what the layers show
-    pub open-fault : (e : Errno) → opening_fault Ls p f mode (Some 0) ≡ Some e → Serves (refusal s c asked) s c asked (reply.Refused e) m
+    pub open-fault : (e : Errno) → opening_fault (the_layers m) p f mode (Some 0) ≡ Some e → Serves (refusal s c asked) s c asked (reply.Refused e) m
     open-fault e h = serve-refused _ s c asked e m (refused ∙ ap (λ z. or_else z (when (is_none (lowest_free s.tables c)) EMFILE)) h) st
 
-    module _ (fine : opening_fault Ls p f mode (Some 0) ≡ None) where
+    module _ (fine : opening_fault (the_layers m) p f mode (Some 0) ≡ None) where
       -- it is refused for want of a descriptor alone
       table-alone : refusal s c asked ≡ when (is_none (lowest_free s.tables c)) EMFILE
       table-alone = refused ∙ ap (λ z. or_else z (when (is_none (lowest_free s.tables c)) EMFILE)) fine
@@ -261,21 +244,27 @@ module _ (m : Mount) (s : State) (st : IsStateOf m s) (c : ℕ) where
           (keep-state m s st c new (changes-as m.clients new c _ _ (λ x y g. g.refused) ch)))
 
       -- where a descriptor is free nothing refuses it
-      pub unrefused : (d : ℕ) → lowest_free s.tables c ≡ Some d → refusal s c asked ≡ None
+      unrefused : (d : ℕ) → lowest_free s.tables c ≡ Some d → refusal s c asked ≡ None
       unrefused d free = table-alone ∙ ap (λ z. when (is_none z) EMFILE) free
 
       -- nor by what the layers show
-      pub unfaulted : (d : ℕ) → lowest_free s.tables c ≡ Some d → opening_fault Ls p f mode (lowest_free s.tables c) ≡ None
-      unfaulted d free = sym (law_of_open_refusal U lowers s st.layers c p f mode) ∙ unrefused d free
+      pub unfaulted : (d : ℕ) → lowest_free s.tables c ≡ Some d → opening_fault (the_layers m) p f mode (lowest_free s.tables c) ≡ None
+      unfaulted d free = sym (law_of_open_refusal (the_upper m) (the_lowers m) s st.layers c p f mode) ∙ unrefused d free
 
-      module _ (w : f.writes ≡ false) (there : is_some (shows 0 Ls p) ≡ true) (h : handles.Handle) (d : ℕ) (new : Clients) (ch : ChangesClient m.clients new c (λ x y. Opens x y h (Ok (Ok d)))) where
+      -- an open is served where the mount stands for the state with the descriptor that the machine finds too
+      pub open-served : (d x : ℕ) → lowest_free s.tables c ≡ Some d → lowest_free s.tables c ≡ Some x → reply_of s c asked ≡ reply.Descriptor x → (next : ℕ → State) → after s c asked ≡ next x → (new : Mount) → IsStateOf new (next d) → Serves (refusal s c asked) s c asked (reply.Descriptor d) new
+      open-served d x free found answer next state new stands =
+          let same : x ≡ d = cc (found, free) in
+          serve-done _ s c asked _ new (unrefused d free) (sym (answer ∙ ap reply.Descriptor same)) (subst (IsStateOf new) (sym (state ∙ ap next same)) stands)
+
+      module _ (w : f.writes ≡ false) (there : is_some (shows 0 (the_layers m) p) ≡ true) (h : handles.Handle) (d : ℕ) (new : Clients) (ch : ChangesClient m.clients new c (λ x y. Opens x y h (Ok (Ok d)))) where
         -- the machine finds the same descriptor
         free : lowest_free s.tables c ≡ Some d
         free = free-there h d new ch
 
         -- the machine opens it
-        law : OpensReading Ls s c p f mode
-        law = law_of_opened_for_reading U lowers s st.layers c p f mode (unfaulted d free) there w
+        law : OpensReading (the_layers m) s c p f mode
+        law = law_of_opened_for_reading (the_upper m) (the_lowers m) s st.layers c p f mode (unfaulted d free) there w
 
         -- its new handle
         abbrev made : Handle
@@ -283,29 +272,23 @@ module _ (m : Mount) (s : State) (st : IsStateOf m s) (c : ℕ) where
 
         -- what is opened is as the machine opens it
         open-done : Alike m.layers s new h made → ((g : OpenFile) (k j : ℕ) (e : NodeId) → h ≡ File g → g.source ≡ Upper k → IsOpenOn m.clients s.tables j e → (law.node ≡ e) ↔ (k ≡ j)) → Serves (refusal s c asked) s c asked (reply.Descriptor d) (record m { clients = new })
-        open-done is fresh =
-            let same : law.descriptor ≡ d = cc (law.free, free) in
-            serve-done _ s c asked _ (record m { clients = new })
-            (unrefused d free)
-            (sym (law.answer ∙ ap reply.Descriptor same))
-            (subst (IsStateOf (record m { clients = new })) (sym (law.state ∙ ap (λ z. record s { tables = with_handle s.tables c z (Some made) }) same))
-            (state-open h d new ch made is fresh))
+        open-done is fresh = open-served d law.descriptor free law.free law.answer (λ z. record s { tables = with_handle s.tables c z (Some made) }) law.state (record m { clients = new }) (state-open h d new ch made is fresh)
 
       -- the flags ask to read
       reads : f.writes ≡ false → f.reads ≡ true
       reads w = reads-flag f.reads f.writes f.unknown (f.exclusive && not f.create) (f.truncate && not f.writes) (f.directory && f.create) w (when-not (bad_flags f) EINVAL (first-none (when (bad_flags f) EINVAL) _ fine))
 
       -- what is shown is no fault
-      shown-fine : shown_fault f (shows 0 Ls p) ≡ None
-      shown-fine = first-none (shown_fault f (shows 0 Ls p)) _ (second-none (parents_fault Ls p) _ (second-none (bad_mode mode) _ (second-none (when (bad_flags f) EINVAL) _ fine)))
+      shown-fine : shown_fault f (shows 0 (the_layers m) p) ≡ None
+      shown-fine = first-none (shown_fault f (shows 0 (the_layers m) p)) _ (second-none (parents_fault (the_layers m) p) _ (second-none (bad_mode mode) _ (second-none (when (bad_flags f) EINVAL) _ fine)))
 
       -- an open of a directory
-      pub open-directory : (j k : ℕ) (a : Attributes) → shows 0 Ls p ≡ Some (Folder j k a) → (d : ℕ) (new : Clients) → OpensAt m.clients new c p (Ok (Ok d)) → Serves (refusal s c asked) s c asked (reply.Descriptor d) (record m { clients = new })
+      pub open-directory : (j k : ℕ) (a : Attributes) → shows 0 (the_layers m) p ≡ Some (Folder j k a) → (d : ℕ) (new : Clients) → OpensAt m.clients new c p (Ok (Ok d)) → Serves (refusal s c asked) s c asked (reply.Descriptor d) (record m { clients = new })
       open-directory j k a shown d new opens =
           let w : f.writes ≡ false = no-write f j k a (ap (shown_fault f) (sym shown) ∙ shown-fine) in
-          let there : is_some (shows 0 Ls p) ≡ true = ap is_some shown in
+          let there : is_some (shows 0 (the_layers m) p) ≡ true = ap is_some shown in
           let ch = opens.changes in
-          let o : OpensReading Ls s c p f mode = law w there (Directory opens.handle) d new ch in
+          let o : OpensReading (the_layers m) s c p f mode = law w there (Directory opens.handle) d new ch in
           let view : view_of f (s.tree o.node) ≡ Live = o.view ∙ ap shown_view shown in
           open-done w there (Directory opens.handle) d new ch
           (record {
@@ -319,37 +302,37 @@ module _ (m : Mount) (s : State) (st : IsStateOf m s) (c : ℕ) where
           (λ g k j e is key y. cc)
 
       -- what is shown as a file is one
-      pub file-there : (d : Place) → ShowsInode m.layers p d → IsShownFile (shows 0 Ls p) d.layer d.key
-      file-there d i = shown-file (shows 0 Ls p) d.layer d.key i.inode i.shown (present 0 Ls st.layers.layers p) (no-link f (shows 0 Ls p) shown-fine)
+      pub file-there : (d : Place) → ShowsInode m.layers p d → IsShownFile (shows 0 (the_layers m) p) d.layer d.key
+      file-there d i = shown-file (shows 0 (the_layers m) p) d.layer d.key i.inode i.shown (present 0 (the_layers m) st.layers.layers p) (no-link f (shows 0 (the_layers m) p) shown-fine)
 
       -- the machine's handle on a file of a lower layer sees it as it is now
-      frozen : (j k : ℕ) → IsShownFile (shows 0 Ls p) (suc j) k → f.writes ≡ false → (o : OpensReading Ls s c p f mode) → IsFrozen lowers s.tree (suc j) k (new_handle f o.node (way_of s.tree p) (s.tree o.node))
+      frozen : (j k : ℕ) → IsShownFile (shows 0 (the_layers m) p) (suc j) k → f.writes ≡ false → (o : OpensReading (the_layers m) s c p f mode) → IsFrozen (the_lowers m) s.tree (suc j) k (new_handle f o.node (way_of s.tree p) (s.tree o.node))
       frozen j k file w o =
           let i : Inode = file.inode in
           let below : inode_in (trees m.layers) (suc j) k ≡ Some i = inode-shown 0 (trees m.layers) (trees m.layers) refl p (suc j) k (Some i) file.shown in
-          let seen : face (s.tree o.node) ≡ see (base U lowers p) (shows 0 Ls p) = sym (ap (λ z. face (node_of s.tree z)) o.at) ∙ st.layers.shows.sights p in
+          let seen : face (s.tree o.node) ≡ see (base (the_upper m) (the_lowers m) p) (shows 0 (the_layers m) p) = sym (ap (λ z. face (node_of s.tree z)) o.at) ∙ st.layers.shows.sights p in
           record {
             bytes = file.bytes;
             attributes = i.attributes;
             links = i.links;
             inode = lower-in m.layers.upper m.layers.lowers.items j k ∙ below ∙ ap (λ z. Some (record i { content = z })) file.content;
             view = o.view ∙ ap shown_view file.shown ∙ ap (λ z. inode_view (suc j) (Some (record i { content = z }))) file.content;
-            file = leaf-seen (s.tree o.node) i.content i.attributes _ i.links (seen ∙ ap (see (base U lowers p)) file.shown);
+            file = ap is_leaf (leaf-seen (s.tree o.node) i.content i.attributes _ i.links (seen ∙ ap (see (base (the_upper m) (the_lowers m) p)) file.shown)).1;
             reads_alone = w;
           }
 
       -- the handle that the machine makes for a file is of its inode
-      of-shown : (j k : ℕ) → IsShownFile (shows 0 Ls p) j k → f.writes ≡ false → (o : OpensReading Ls s c p f mode) → IsOf U lowers s.tree (source_at (record { layer = j; key = k })) (new_handle f o.node (way_of s.tree p) (s.tree o.node))
-      of-shown zero k file w o = (law_of_live_shown U lowers s st.layers p k file.inode file.bytes o.node file.shown file.content o.at, o.view ∙ ap shown_view file.shown)
-      of-shown (suc j) k file w o = subst (λ z. IsOf U lowers s.tree z (new_handle f o.node (way_of s.tree p) (s.tree o.node))) (sym (source-below j k)) (frozen j k file w o)
+      of-shown : (j k : ℕ) → IsShownFile (shows 0 (the_layers m) p) j k → f.writes ≡ false → (o : OpensReading (the_layers m) s c p f mode) → IsOf (the_upper m) (the_lowers m) s.tree (source_at (record { layer = j; key = k })) (new_handle f o.node (way_of s.tree p) (s.tree o.node))
+      of-shown zero k file w o = (law_of_live_shown (the_upper m) (the_lowers m) s st.layers p k file.inode file.bytes o.node file.shown file.content o.at, o.view ∙ ap shown_view file.shown)
+      of-shown (suc j) k file w o = subst (λ z. IsOf (the_upper m) (the_lowers m) s.tree z (new_handle f o.node (way_of s.tree p) (s.tree o.node))) (sym (source-below j k)) (frozen j k file w o)
 
       -- an open of a file
       pub open-file : (place : Place) → ShowsInode m.layers p place → f.writes ≡ false → (d : ℕ) (new : Clients) → OpensFile m.clients new c (file_at place f) (Ok (Ok d)) → Serves (refusal s c asked) s c asked (reply.Descriptor d) (record m { clients = new })
       open-file place i w d new ch =
-          let file : IsShownFile (shows 0 Ls p) place.layer place.key = file-there place i in
-          let there : is_some (shows 0 Ls p) ≡ true = ap is_some file.shown in
-          let o : OpensReading Ls s c p f mode = law w there (File (file_at place f)) d new ch in
-          let of : IsOf U lowers s.tree (source_at place) (new_handle f o.node (way_of s.tree p) (s.tree o.node)) = of-shown place.layer place.key file w o in
+          let file : IsShownFile (shows 0 (the_layers m) p) place.layer place.key = file-there place i in
+          let there : is_some (shows 0 (the_layers m) p) ≡ true = ap is_some file.shown in
+          let o : OpensReading (the_layers m) s c p f mode = law w there (File (file_at place f)) d new ch in
+          let of : IsOf (the_upper m) (the_lowers m) s.tree (source_at place) (new_handle f o.node (way_of s.tree p) (s.tree o.node)) = of-shown place.layer place.key file w o in
           open-done w there (File (file_at place f)) d new ch
           (record { source = of; reads = refl; writes = refl; append = refl; place = refl; unlisted = refl })
           (fresh-one p (file_at place f) (new_handle f o.node (way_of s.tree p) (s.tree o.node)) o.at of)

@@ -1,27 +1,18 @@
 -- The names that a listing gives.
 use Rattle.std.proofs.Common.{◌≡◌, ℕ, true, false, List, [], Option, None, Some, Result, Ok, Err, refl, sym, ap, ◌∙◌, subst, is_some, take, drop, option_map, unwrap_or}
+use Rattle.overlay_core.proofs.Words.{AllocError, ChangesSlot, Directory, directory_in, false≢true, GivesNames, IfOk, layers_of, Name, OpenDirectory, SetsSlot, with_listing}
 use Rattle.std.specs.Option.{IsSomeAnd}
-use Rattle.std.specs.Result.{IfOk}
-use Rattle.std.proofs.lemmas.Bool.{false≢true}
-use Rattle.std.specs.declared.alloc.AllocError.{AllocError}
-use Rattle.plain_model.specs.Layers.{Name}
-use Rattle.merged_lookup.specs.Merged.{layers_of}
 use Rattle.overlay_core.specs.declared.clients.Clients.{Clients}
 use Rattle.open_handles.specs.declared.handle.Handle as handles
-use Rattle.open_handles.specs.declared.handle.Handle.TheVariants.{Directory}
-use Rattle.open_handles.specs.declared.handle.OpenDirectory.{OpenDirectory}
 use Rattle.overlay_core.specs.declared.mount.Mount.{Mount}
 use Rattle.overlay_core.specs.Attaching.{opened_by, path_of, ChangesClient}
-use Rattle.open_handles.specs.Descriptors.{opened, SetsSlot}
-use Rattle.open_handles.specs.Listings.{ChangesSlot, GivesNames, directory_in, after_names, names_left, with_listing}
+use Rattle.open_handles.specs.Descriptors.{opened}
+use Rattle.open_handles.specs.Listings.{after_names, names_left}
 use Rattle.overlay_core.specs.States.{AreNamesIn, AreLeft, Pages}
+use Rattle.overlay_core.proofs.Slots.{changes-to, slot-becomes}
 
 abbrev Slots : Type 0
 Slots = List (Option handles.Handle)
-
--- a client's change, told otherwise
-changes-to : (old new : Clients) (c : ℕ) (P Q : Slots → Slots → Type 0) (h : ChangesClient old new c P) → Q h.before.slots.items h.after.slots.items → ChangesClient old new c Q
-changes-to old new c P Q h q = record { before = h.before; was = h.was; after = h.after; is = h.is; changes = q; others = h.others; places = h.places; next = h.next }
 
 set-as : (x y : Slots) (d : ℕ) (u v : Option handles.Handle) → u ≡ v → SetsSlot x y d u → SetsSlot x y d v
 set-as x y d u v e h = subst (SetsSlot x y d) e h
@@ -31,12 +22,6 @@ module _ (m : Mount) (new : Clients) (c d : ℕ) (o : OpenDirectory) (was : open
   opened-before P h =
       let same : opened_by m.clients c d ≡ opened h.before.slots.items d = rw h.was refl in
       sym same ∙ was
-
-  -- one slot changes to what its directory becomes
-  pub sets-changed : (f : handles.Handle → handles.Handle) → ChangesClient m.clients new c (λ x y. ChangesSlot x y d f) → ChangesClient m.clients new c (λ x y. SetsSlot x y d (Some (f (Directory o))))
-  sets-changed f h =
-      changes-to m.clients new c _ (λ x y. SetsSlot x y d (Some (f (Directory o)))) h
-      (set-as _ _ d _ _ (ap (option_map f) (opened-before _ h)) h.changes)
 
   module _ (n : ℕ) where
     next-names : (left names : List Name) → o.listing ≡ Some left → ChangesClient m.clients new c (λ x y. GivesNames x y d n (Ok names)) → Pages m (record m { clients = new }) c d n names
@@ -71,7 +56,7 @@ module _ (m : Mount) (new : Clients) (c d : ℕ) (o : OpenDirectory) (was : open
       left = left;
       from = by o.listing none;
       next = e;
-      changes = sets-changed (with_listing (Some (drop n left))) h;
+      changes = slot-becomes m.clients new c d (Directory o) (with_listing (Some (drop n left))) was h;
       layers = refl;
     }
       where

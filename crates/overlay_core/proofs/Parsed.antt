@@ -1,12 +1,11 @@
 -- What is no mode or no target is refused as the calls are that give it.
-use Rattle.std.proofs.Common.{◌≡◌, ◌<◌, ◌≤◌, ℕ, Bool, true, false, cond, List, Option, Some, Ok, Err, refl, sym, ◌∙◌, length, nat_lt, nat_le, nat_eq, arith}
-use Rattle.std.proofs.lemmas.Bool.{false≢true, ltb-false, lt-ltb, le-leb}
-use Rattle.ov_base.specs.declared.errno.Errno.{Errno}
-use Rattle.ov_base.specs.declared.errno.Errno.TheVariants.{ENAMETOOLONG, ENOENT, EINVAL}
+use Rattle.std.proofs.Common.{◌≡◌, ◌<◌, ℕ, Bool, true, false, cond, List, Option, Some, Ok, Err, refl, sym, ◌∙◌, length, nat_lt, nat_le, nat_eq, arith}
+use Rattle.overlay_core.proofs.Words.{EINVAL, Errno, false≢true, or_else, when}
+use Rattle.std.proofs.lemmas.Bool.{ltb-false, lt-ltb, le-leb}
+use Rattle.ov_base.specs.declared.errno.Errno.TheVariants.{ENAMETOOLONG, ENOENT}
 use Rattle.ov_base.specs.Modes.{mode_of}
 use Rattle.ov_base.specs.Targets.{is_target, target_of}
-use Rattle.plain_model.specs.Refusals.{when, has_nul}
-use Rattle.mount_laws.specs.Looks.{or_else}
+use Rattle.plain_model.specs.Refusals.{has_nul}
 
 -- a mode of more than twelve bits
 pub mode-fault : (mode : ℕ) (e : Errno) (f : Option Errno) → Err e ≡ mode_of mode → or_else (when (nat_lt 0o7777 mode) EINVAL) f ≡ Some e
@@ -15,14 +14,6 @@ mode-fault mode e f h = of (nat_lt 0o7777 mode) h
     of : (b : Bool) → Err e ≡ cond b (Err EINVAL) (Ok mode) → or_else (when b EINVAL) f ≡ Some e
     of true h = cc
     of false h = cc
-
--- what is a mode has twelve bits
-pub mode-small : (mode m : ℕ) → Ok m ≡ mode_of mode → mode ≤ 0o7777
-mode-small mode m h = of (nat_lt 0o7777 mode) refl h
-  where
-    of : (b : Bool) → nat_lt 0o7777 mode ≡ b → Ok m ≡ cond b (Err EINVAL) (Ok mode) → mode ≤ 0o7777
-    of true is h = cc
-    of false is h = ltb-false 0o7777 mode is
 
 not-zero : (n : ℕ) → nat_eq n 0 ≡ false → 0 < n
 not-zero n h = grind arith

@@ -1,22 +1,16 @@
 -- What the calls that read user attributes answer.
 use Rattle.std.proofs.Common.{◌≡◌, ℕ, true, List, None, Some, Result, Ok, Err, IfOk, sym, ap, ◌∙◌, subst, map}
-use Rattle.std.specs.declared.alloc.AllocError.{AllocError}
-use Rattle.ov_base.specs.declared.call.Call.{Call}
+use Rattle.overlay_core.proofs.Words.{AllocError, Call, Errno, layer_of, lowers_of, Path, refusal, Reply, shows, State}
 use Rattle.ov_base.specs.declared.call.Call.TheVariants as call
-use Rattle.ov_base.specs.declared.errno.Errno.{Errno}
-use Rattle.ov_base.specs.declared.reply.Reply.{Reply}
 use Rattle.ov_base.specs.declared.reply.Reply.TheVariants as reply
-use Rattle.plain_model.specs.Layers.{Path, Layer, shows}
-use Rattle.plain_model.specs.Machine.{State, value_of}
-use Rattle.plain_model.specs.Refusals.{refusal}
-use Rattle.layer_tree.specs.Tree.{layer_of}
-use Rattle.merged_lookup.specs.Merged.{layers_of, lowers_of}
+use Rattle.plain_model.specs.Machine.{value_of}
 use Rattle.mount_laws.specs.Attributes.{shown_user, chown_fault, get_fault, GetsAttribute, ListsAttributes}
 use Rattle.mount_laws.proofs.Attributes.{law_of_get_attribute, law_of_list_attributes}
 use Rattle.overlay_core.specs.declared.mount.Mount.{Mount}
 use Rattle.overlay_core.specs.Offers.{is_offered}
 use Rattle.overlay_core.specs.States.{IsStateOf, Serves}
 use Rattle.overlay_core.proofs.Answering.{serve-refused, serve-done}
+use Rattle.overlay_core.proofs.Stating.{the_layers}
 
 -- a call that serves, told of a call that is offered
 pub serves-offered : (old new : Mount) (r : Result Reply AllocError) (client : ℕ) (given k : Call) → given ≡ k → IfOk r (λ reply. (s : State) → IsStateOf old s → (c : ℕ) → Serves (refusal s c k) s c k reply new) → IfOk r (λ reply. is_offered given ≡ true → (s : State) → IsStateOf old s → Serves (refusal s client given) s client given reply new)
@@ -24,43 +18,24 @@ serves-offered old new (Ok answer) client given k is h = λ offered s st. subst 
 serves-offered old new (Err e) client given k is h = tt
 
 module _ (m : Mount) (s : State) (st : IsStateOf m s) (c : ℕ) (p : Path) where
-  abbrev Ls : List Layer
-  Ls = layers_of m.layers
-
-  gets : (n : List ℕ) → GetsAttribute Ls s c p n
+  gets : (n : List ℕ) → GetsAttribute (the_layers m) s c p n
   gets = law_of_get_attribute (layer_of m.layers.upper) (lowers_of m.layers) s st.layers c p
 
-  lists : ListsAttributes Ls s c p
+  lists : ListsAttributes (the_layers m) s c p
   lists = law_of_list_attributes (layer_of m.layers.upper) (lowers_of m.layers) s st.layers c p
 
   -- a get of a user attribute that is set
-  pub get-done : (n value : List ℕ) → get_fault Ls p n ≡ None → value_of (shown_user (shows 0 Ls p)) n ≡ Some value → Serves (refusal s c (call.GetAttribute p n)) s c (call.GetAttribute p n) (reply.Value value) m
-  get-done n value ok is =
-      serve-done _ s c _ _ m ((gets n).refused ∙ ok) (sym ((gets n).answer value is))
-      (record {
-        layers = record { layers = st.layers.layers; shows = st.layers.shows; kept = st.layers.kept; writable = st.layers.writable };
-        tables = st.tables;
-        one = st.one;
-        arrived = st.arrived;
-        unwatched = st.unwatched;
-      })
+  pub get-done : (n value : List ℕ) → get_fault (the_layers m) p n ≡ None → value_of (shown_user (shows 0 (the_layers m) p)) n ≡ Some value → Serves (refusal s c (call.GetAttribute p n)) s c (call.GetAttribute p n) (reply.Value value) m
+  get-done n value ok is = serve-done _ s c _ _ m ((gets n).refused ∙ ok) (sym ((gets n).answer value is)) st
 
   -- and its refusal
-  pub get-refused : (n : List ℕ) (e : Errno) → get_fault Ls p n ≡ Some e → Serves (refusal s c (call.GetAttribute p n)) s c (call.GetAttribute p n) (reply.Refused e) m
+  pub get-refused : (n : List ℕ) (e : Errno) → get_fault (the_layers m) p n ≡ Some e → Serves (refusal s c (call.GetAttribute p n)) s c (call.GetAttribute p n) (reply.Refused e) m
   get-refused n e h = serve-refused _ s c _ e m ((gets n).refused ∙ h) st
 
   -- a list of the user attributes
-  pub list-attributes-done : (names : List (List ℕ)) → chown_fault Ls p ≡ None → names ≡ map (λ x. x.0) (shown_user (shows 0 Ls p)) → Serves (refusal s c (call.ListAttributes p)) s c (call.ListAttributes p) (reply.AttributeNames names) m
-  list-attributes-done names ok is =
-      serve-done _ s c _ _ m (lists.refused ∙ ok) (ap reply.AttributeNames is ∙ sym lists.answer)
-      (record {
-        layers = record { layers = st.layers.layers; shows = st.layers.shows; kept = st.layers.kept; writable = st.layers.writable };
-        tables = st.tables;
-        one = st.one;
-        arrived = st.arrived;
-        unwatched = st.unwatched;
-      })
+  pub list-attributes-done : (names : List (List ℕ)) → chown_fault (the_layers m) p ≡ None → names ≡ map (λ x. x.0) (shown_user (shows 0 (the_layers m) p)) → Serves (refusal s c (call.ListAttributes p)) s c (call.ListAttributes p) (reply.AttributeNames names) m
+  list-attributes-done names ok is = serve-done _ s c _ _ m (lists.refused ∙ ok) (ap reply.AttributeNames is ∙ sym lists.answer) st
 
   -- and its refusal
-  pub list-attributes-refused : (e : Errno) → chown_fault Ls p ≡ Some e → Serves (refusal s c (call.ListAttributes p)) s c (call.ListAttributes p) (reply.Refused e) m
+  pub list-attributes-refused : (e : Errno) → chown_fault (the_layers m) p ≡ Some e → Serves (refusal s c (call.ListAttributes p)) s c (call.ListAttributes p) (reply.Refused e) m
   list-attributes-refused e h = serve-refused _ s c _ e m (lists.refused ∙ h) st

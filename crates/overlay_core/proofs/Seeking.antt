@@ -1,52 +1,28 @@
 -- Seeks: of an open file to a place, and of an open directory to its start.
-use Rattle.std.proofs.Common.{◌≡◌, ℕ, ℤ, pos, nat_abs, ◌+ℤ◌, int_lt, ◌<◌, Bool, true, false, cond, not, ◌&&◌, List, Option, None, Some, Result, Ok, Err, refl, sym, ap, ◌∙◌, subst, is_some, length, option_map, nat_eq, nat_lt}
-use Rattle.std.specs.Option.{option_and_then}
+use Rattle.std.proofs.Common.{◌≡◌, ℕ, ℤ, pos, nat_abs, ◌+ℤ◌, int_lt, Bool, true, false, cond, not, ◌&&◌, List, Option, None, Some, Result, Ok, Err, refl, sym, ap, ◌∙◌, subst, length, nat_eq, nat_lt}
+use Rattle.overlay_core.proofs.Words.{ChangesSlot, Directory, Errno, File, file_in, FileSource, Handle, handle_of, Inode, layer_of, Layers, lowers_of, OpenDirectory, OpenFile, or_else, refusal, Reply, State, when, with_handle, with_listing, with_place}
 use Rattle.ov_base.specs.declared.call.Call.TheVariants as call
-use Rattle.ov_base.specs.declared.errno.Errno.{Errno}
 use Rattle.ov_base.specs.declared.errno.Errno.TheVariants as errno
-use Rattle.ov_base.specs.declared.reply.Reply.{Reply}
 use Rattle.ov_base.specs.declared.reply.Reply.TheVariants as reply
-use Rattle.plain_model.specs.Layers.{Layer, Inode}
-use Rattle.plain_model.specs.Tree.{Tree}
-use Rattle.plain_model.specs.Machine.{handles_of, Handle, State, DESCRIPTORS_MAX, handle_of}
-use Rattle.plain_model.specs.Refusals.{PLACE_MAX, when, refusal}
-use Rattle.plain_model.specs.Changes.{with_handle}
-use Rattle.layer_tree.specs.Tree.{layer_of}
-use Rattle.merged_lookup.specs.declared.layers.Layers.{Layers}
-use Rattle.merged_lookup.specs.Merged.{lowers_of}
-use Rattle.mount_laws.specs.Looks.{or_else}
+use Rattle.plain_model.specs.Refusals.{PLACE_MAX}
 use Rattle.mount_laws.specs.Descriptors as laws
 use Rattle.mount_laws.specs.Descriptors.{SeeksFile}
 use Rattle.mount_laws.specs.Seeks.{Seeks}
 use Rattle.mount_laws.proofs.Lists.{law_of_bad_descriptors}
 use Rattle.mount_laws.proofs.Descriptors.{law_of_file_seek}
 use Rattle.mount_laws.proofs.Seeks.{at-start, law_of_seek}
-use Rattle.open_handles.specs.declared.descriptors.Descriptors.{Descriptors}
 use Rattle.open_handles.specs.declared.handle.Handle as handles
-use Rattle.open_handles.specs.declared.handle.Handle.TheVariants.{Directory, File}
-use Rattle.open_handles.specs.declared.handle.OpenDirectory.{OpenDirectory}
-use Rattle.open_handles.specs.declared.open_file.FileSource.{FileSource}
-use Rattle.open_handles.specs.declared.open_file.FileSource.TheVariants.{Upper, Lower}
-use Rattle.open_handles.specs.declared.open_file.OpenFile.{OpenFile}
-use Rattle.open_handles.specs.Descriptors.{opened, SetsSlot}
-use Rattle.open_handles.specs.Listings.{ChangesSlot, file_in, with_listing, with_place}
 use Rattle.open_handles.specs.Places.{sought_from}
 use Rattle.overlay_core.specs.declared.clients.Clients.{Clients}
 use Rattle.overlay_core.specs.declared.mount.Mount.{Mount}
 use Rattle.overlay_core.specs.Attaching.{opened_by, file_by, ChangesClient}
-use Rattle.overlay_core.specs.Files.{IsOf, IsFile, IsOpenOn, source_inode, bytes_of_inode}
+use Rattle.overlay_core.specs.Files.{IsFile, source_inode, bytes_of_inode}
 use Rattle.overlay_core.specs.Opening.{seek_fault, seek_place}
-use Rattle.overlay_core.specs.States.{IsHandle, IsStateOf, Serves}
-use Rattle.overlay_core.proofs.Answering.{serve-refused, serve-done, opened-after}
+use Rattle.overlay_core.specs.States.{IsStateOf, Serves}
+use Rattle.overlay_core.proofs.Answering.{serve-refused, serve-done}
 use Rattle.overlay_core.proofs.FileSight.{Sees, file-sees, file-not-folder}
-use Rattle.overlay_core.proofs.Serving.{slot-closed, open-at, room-of, in-room, tables-set, placed, one-fewer, set-fewer}
-use Rattle.overlay_core.proofs.Stating.{Alike, with-tables}
-
--- a file that a client has open under a descriptor
-pub file-open : (o : Option handles.Handle) (f : OpenFile) → file_in o ≡ Some f → o ≡ Some (File f)
-file-open None f h = cc
-file-open (Some (Directory o)) f h = cc
-file-open (Some (File g)) f h = cc
+use Rattle.overlay_core.proofs.Slots.{opened-after, slot-becomes, file-open, file-at, directory-at, by-opened, state-set, place-moved}
+use Rattle.overlay_core.proofs.Stating.{the_lowers, the_upper}
 
 -- these are the bytes of an open file
 abbrev pub AreBytes : Layers → FileSource → List ℕ → Type 0
@@ -57,37 +33,6 @@ pub bytes-read : (l : Layers) (s : State) (f : OpenFile) (h : Handle) (bytes : L
 bytes-read l s f h bytes file are =
     let sees : Sees (layer_of l.upper) (lowers_of l) s.tree f h = file-sees (layer_of l.upper) (lowers_of l) s.tree f h file in
     sees.seen ∙ sym (are _ sees.inode)
-
--- a handle at another place is of the inode that it was of
-pub of-placed : (U : Layer) (lowers : List Layer) (t : Tree) (source : FileSource) (h : Handle) (place : ℕ) → IsOf U lowers t source h → IsOf U lowers t source (record h { place = place })
-of-placed U lowers t (Upper k) h place x = x
-of-placed U lowers t (Lower layer k) h place x = record { bytes = x.bytes; attributes = x.attributes; links = x.links; inode = x.inode; view = x.view; file = x.file; reads_alone = x.reads_alone }
-
--- and on the open file with that place
-pub file-placed : (U : Layer) (lowers : List Layer) (t : Tree) (f : OpenFile) (h : Handle) (place : ℕ) → IsFile U lowers t f h → IsFile U lowers t (record f { place = place }) (record h { place = place })
-file-placed U lowers t f h place x = record {
-  source = of-placed U lowers t f.source h place x.source;
-  reads = x.reads;
-  writes = x.writes;
-  append = x.append;
-  place = refl;
-  unlisted = x.unlisted;
-}
-
--- where one slot changes, it is set to what becomes of what was open there
-pub slot-becomes : (old new : Clients) (c d : ℕ) (o : handles.Handle) (f : handles.Handle → handles.Handle) → opened_by old c d ≡ Some o → ChangesClient old new c (λ x y. ChangesSlot x y d f) → ChangesClient old new c (λ x y. SetsSlot x y d (Some (f o)))
-slot-becomes old new c d o f on h =
-    let same : opened_by old c d ≡ opened h.before.slots.items d = ap (option_and_then (λ (x : Descriptors). opened x.slots.items d)) h.was in
-    record {
-      before = h.before;
-      was = h.was;
-      after = h.after;
-      is = h.is;
-      changes = subst (SetsSlot h.before.slots.items h.after.slots.items d) (ap (option_map f) (sym same ∙ on)) h.changes;
-      others = h.others;
-      places = h.places;
-      next = h.next;
-    }
 
 -- where a seek leads that counts from a base, or why it is refused
 abbrev sent : Bool → ℕ → ℤ → Result ℕ Errno
@@ -130,65 +75,6 @@ unrefused-seek (Some (Directory x)) offset whence h bare = by (nat_eq (nat_abs o
     by false e g = cc
 
 module _ (m : Mount) (s : State) (st : IsStateOf m s) (c d : ℕ) where
-  abbrev U : Layer
-  U = layer_of m.layers.upper
-
-  abbrev lowers : List Layer
-  lowers = lowers_of m.layers
-
-  abbrev alike : handles.Handle → Handle → Type 0
-  alike = Alike m.layers s m.clients
-
-  -- the handle of an open file
-  pub file-at : (f : OpenFile) → file_by m.clients c d ≡ Some f → (h : Handle) × (handle_of s.tables c d ≡ Some h) × IsFile U lowers s.tree f h
-  file-at f e = open-at alike m.clients s.tables st.tables c d (File f) (file-open (opened_by m.clients c d) f e)
-
-  -- the handle of an open directory
-  pub directory-at : (o : OpenDirectory) → opened_by m.clients c d ≡ Some (Directory o) → (h : Handle) × (handle_of s.tables c d ≡ Some h) × IsHandle s.tree m.clients.directories o h
-  directory-at o e = open-at alike m.clients s.tables st.tables c d (Directory o) e
-
-  -- what isn't open has none
-  pub handle-none : opened_by m.clients c d ≡ None → handle_of s.tables c d ≡ None
-  handle-none e = slot-closed alike _ _ (st.tables.slots c d) e
-
-  -- a descriptor is set to a handle that is alike, and on a file of the upper only where one was on the same
-  pub state-set : (h : Handle) → handle_of s.tables c d ≡ Some h → (new : Clients) (o : handles.Handle) (x : Handle) → ChangesClient m.clients new c (λ b y. SetsSlot b y d (Some o)) → ((f : OpenFile) (k : ℕ) → o ≡ File f → f.source ≡ Upper k → IsOpenOn m.clients s.tables k x.node) → Alike m.layers s new o x → IsStateOf (record m { clients = new }) (record s { tables = with_handle s.tables c d (Some x) })
-  state-set h on new o x ch again like =
-      with-tables m s st new (with_handle s.tables c d (Some x)) ch.next
-      (tables-set alike m.clients s.tables st.tables new (Alike m.layers s new) c d (Some o) (Some x) ch inside stay like)
-      (one-fewer m.clients new s.tables (with_handle s.tables c d (Some x)) (set-fewer m.clients new s.tables c d (Some o) (Some x) ch within same) st.one)
-    where
-      within : d < length (handles_of s.tables c)
-      within = in-room alike m.clients s.tables st.tables c d h on
-
-      inside : d < DESCRIPTORS_MAX
-      inside = rw (room-of alike m.clients s.tables st.tables c (ap is_some ch.was)) at within
-
-      stay : (b i : ℕ) (p : handles.Handle) (z : Handle) → opened_by new b i ≡ Some p → opened_by m.clients b i ≡ Some p → handle_of s.tables b i ≡ Some z → alike p z → Alike m.layers s new p z
-      stay b i p z opens was is l = placed U lowers s.tree m.clients.directories new.directories p z (λ e q is_e at. ch.places b i e q (opens ∙ ap Some is_e) at) l
-
-      same : (f : OpenFile) (z : Handle) (k : ℕ) → Some o ≡ Some (File f) → Some x ≡ Some z → f.source ≡ Upper k → IsOpenOn m.clients s.tables k z.node
-      same f z k opens is key =
-          let here : o ≡ File f = cc in
-          let it : x ≡ z = cc in
-          subst (λ (y : Handle). IsOpenOn m.clients s.tables k y.node) it (again f k here key)
-
-  -- the place of an open file moves
-  pub place-moved : (f : OpenFile) → file_by m.clients c d ≡ Some f → (h : Handle) → handle_of s.tables c d ≡ Some h → IsFile U lowers s.tree f h → (place : ℕ) (new : Clients) → ChangesClient m.clients new c (λ x y. ChangesSlot x y d (with_place place)) → IsStateOf (record m { clients = new }) (record s { tables = with_handle s.tables c d (Some (record h { place = place })) })
-  place-moved f is h on file place new ch =
-      state-set h on new (File (record f { place = place })) (record h { place = place })
-      (slot-becomes m.clients new c d (File f) (with_place place) opens ch)
-      again
-      (file-placed U lowers s.tree f h place file)
-    where
-      opens : opened_by m.clients c d ≡ Some (File f)
-      opens = file-open (opened_by m.clients c d) f is
-
-      again : (g : OpenFile) (k : ℕ) → File (record f { place = place }) ≡ File g → g.source ≡ Upper k → IsOpenOn m.clients s.tables k h.node
-      again g k same key =
-          let moved : record f { place = place } ≡ g = cc in
-          record { client = c; descriptor = d; file = f; handle = h; opened = opens; key = ap (λ (z : OpenFile). z.source) moved ∙ key; on = on; at = refl }
-
   module _ (offset : ℤ) (whence : ℕ) where
     -- the seek is answered so, by a mount that becomes this
     abbrev Sought : Reply → Mount → Type 0
@@ -196,21 +82,30 @@ module _ (m : Mount) (s : State) (st : IsStateOf m s) (c d : ℕ) where
 
     -- a seek that is told by what is open alone is refused so
     pub seek-refused : (e : Errno) → seek_fault (opened_by m.clients c d) offset whence ≡ Some e → Sought (reply.Refused e) m
-    seek-refused e h = serve-refused _ s c _ e m (by (opened_by m.clients c d) refl h) st
+    seek-refused e fault =
+        serve-refused _ s c _ e m
+        (by-opened m s st c d (λ o. seek_fault o offset whence ≡ Some e → refusal s c (call.Seek d offset whence) ≡ Some e)
+        (λ none g. (law_of_bad_descriptors s c d none).seeking offset whence ∙ g)
+        (λ f h on is g. absurd (no-fault g))
+        (λ o h on is g. (law_of_seek s c d h on is.directory).refused offset whence ∙ g)
+        fault)
+        st
       where
-        by : (o : Option handles.Handle) → opened_by m.clients c d ≡ o → seek_fault o offset whence ≡ Some e → refusal s c (call.Seek d offset whence) ≡ Some e
-        by None is g = (law_of_bad_descriptors s c d (handle-none is)).seeking offset whence ∙ g
-        by (Some (File f)) is g = cc
-        by (Some (Directory o)) is g =
-            let x = directory-at o is in
-            let law : Seeks s c d x.0 = law_of_seek s c d x.0 x.1 x.2.directory in
-            law.refused offset whence ∙ g
+        no-fault : None ≡ Some e → ⊥
+        no-fault g = cc
 
     -- seeks in an open file of these bytes
     module _ (f : OpenFile) (is : file_by m.clients c d ≡ Some f) (bytes : List ℕ) (are : AreBytes m.layers f.source bytes) where
+      -- it is open
+      opens : opened_by m.clients c d ≡ Some (File f)
+      opens = file-open (opened_by m.clients c d) f is
+
       -- the handle of the file
+      found : (h : Handle) × (handle_of s.tables c d ≡ Some h) × IsFile (the_upper m) (the_lowers m) s.tree f h
+      found = file-at m s st c d f opens
+
       abbrev h : Handle
-      h = (file-at f is).0
+      h = found.0
 
       -- from where the seek counts
       abbrev base : ℕ
@@ -218,13 +113,13 @@ module _ (m : Mount) (s : State) (st : IsStateOf m s) (c d : ℕ) where
 
       -- the machine's seek of it
       law : SeeksFile s c d h
-      law = law_of_file_seek s c d h (file-at f is).1 (file-not-folder U lowers s.tree f h (file-at f is).2)
+      law = law_of_file_seek s c d h found.1 (file-not-folder (the_upper m) (the_lowers m) s.tree f h found.2)
 
       -- it leads to the same place
       leads : laws.seek_place s h offset whence ≡ pos base +ℤ offset
       leads =
-          let read : laws.seen s h ≡ bytes = bytes-read m.layers s f h bytes (file-at f is).2 are in
-          λ i. pos (cond (nat_eq whence 0) 0 (cond (nat_eq whence 1) ((file-at f is).2.place i) (length (read i)))) +ℤ offset
+          let read : laws.seen s h ≡ bytes = bytes-read m.layers s f h bytes found.2 are in
+          λ i. pos (cond (nat_eq whence 0) 0 (cond (nat_eq whence 1) (found.2.place i) (length (read i)))) +ℤ offset
 
       -- a seek that leads to no place is refused
       pub file-unsought : (e : Errno) → seek_place f (length bytes) offset whence ≡ Err e → Sought (reply.Refused e) m
@@ -240,17 +135,17 @@ module _ (m : Mount) (s : State) (st : IsStateOf m s) (c d : ℕ) where
           (ap reply.Place same ∙ sym (law.answer offset whence))
           (subst (IsStateOf (record m { clients = new }))
           (ap (λ z. record s { tables = with_handle s.tables c d (Some (record h { place = z })) }) same ∙ sym (law.state offset whence))
-          (place-moved f is h (file-at f is).1 (file-at f is).2 place new ch))
+          (place-moved m s st c d h found.1 f opens place new ch))
 
   -- an open directory goes to its start
   rewound : (o : OpenDirectory) → opened_by m.clients c d ≡ Some (Directory o) → (new : Clients) → ChangesClient m.clients new c (λ x y. ChangesSlot x y d (with_listing None)) → Sought (pos 0) 0 (reply.Place 0) (record m { clients = new })
   rewound o is new ch =
-      let x = directory-at o is in
+      let x = directory-at m s st c d o is in
       let law : Seeks s c d x.0 = law_of_seek s c d x.0 x.1 x.2.directory in
       let set = slot-becomes m.clients new c d (Directory o) (with_listing None) is ch in
       serve-done _ s c _ _ (record m { clients = new }) (law.refused (pos 0) 0) (sym law.answer)
       (subst (IsStateOf (record m { clients = new })) (sym law.state)
-      (state-set x.0 x.1 new (with_listing None (Directory o)) (record x.0 { place = 0; listed = None }) set (λ f k same key. cc)
+      (state-set m s st c d x.0 x.1 (record m { clients = new }) refl (Some (with_listing None (Directory o))) (Some (record x.0 { place = 0; listed = None })) set (λ f z k same is key. cc same)
       (record {
         location = x.2.location;
         located = ch.places c d (record o { listing = None }) x.2.location (opened-after m.clients new c d (with_listing None (Directory o)) set) x.2.located;

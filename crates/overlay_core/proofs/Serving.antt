@@ -1,31 +1,19 @@
 -- The descriptors of a mount are those of the machine's tables.
 use Rattle.std.proofs.Common.{arith, ◌≡◌, ◌≢◌, ℕ, zero, suc, ◌<◌, Bool, true, false, cond, ◌||◌, List, [], ◌∷◌, Option, None, Some, refl, sym, ap, ◌∙◌, subst, ◌⊎◌, inl, inr, is_some, is_none, length, slice_get, slice_set, length-set, nat_eq}
-use Rattle.std.proofs.lemmas.Bool.{false≢true, cases_Bool, cases_eq, eqb-true, ne_eqb, lt-ltb, le-ltb}
+use Rattle.overlay_core.proofs.Words.{At, Attributes, cases_Bool, cases_eq, Dentries, Descriptors, DESCRIPTORS_MAX, Directory, eqb-true, false≢true, File, folder_attributes, Handle, handle_of, handles_of, held_in, is_folder, Layer, list_any, Location, lowest_free, nat_cmp, ne_eqb, node_at, NodeId, OpenDirectory, OpenFile, option_and_then, Path, Removed, SetsSlot, Table, Tree, Upper, with_handle}
+use Rattle.std.proofs.lemmas.Bool.{lt-ltb, le-ltb}
 use Rattle.std.proofs.lemmas.Option.{slice_get_within}
-use Rattle.std.specs.List.{list_any, position, position_or_len}
-use Rattle.std.specs.Option.{option_and_then}
+use Rattle.std.specs.List.{position, position_or_len}
 use Rattle.std.specs.BTreeMap.{get}
-use Rattle.std.specs.Ordering.{nat_cmp}
-use Rattle.ov_base.specs.declared.node_id.NodeId.{NodeId}
-use Rattle.plain_model.specs.Layers.{Path, Layer}
-use Rattle.plain_model.specs.Tree.{Tree, node_at, is_folder}
-use Rattle.plain_model.specs.Machine.{Handle, Table, DESCRIPTORS_MAX, handles_of, held_in, handle_of, lowest_free}
-use Rattle.plain_model.specs.Changes.{names_in, with_handle}
+use Rattle.plain_model.specs.Changes.{names_in}
 use Rattle.overlay_core.specs.declared.clients.Clients.{Clients}
-use Rattle.open_handles.specs.declared.descriptors.Descriptors.{Descriptors}
-use Rattle.open_handles.specs.Dentries.{Dentries}
 use Rattle.open_handles.specs.Opened as places
-use Rattle.mount_laws.specs.Removals.{folder_attributes}
-use Rattle.open_handles.specs.Opened.{Location, At, Removed}
+use Rattle.mount_laws.specs.Looks.{IsHidden}
 use Rattle.open_handles.specs.declared.handle.Handle as handles
-use Rattle.open_handles.specs.declared.handle.Handle.TheVariants.{Directory, File}
-use Rattle.open_handles.specs.declared.handle.OpenDirectory.{OpenDirectory}
-use Rattle.open_handles.specs.declared.open_file.OpenFile.{OpenFile}
 use Rattle.overlay_core.specs.Attaching.{KeepsAttached, KeepsPlaces, is_attached, opened_by, ChangesClient}
-use Rattle.open_handles.specs.Descriptors.{opened, IsFull, IsLowestFree, SetsSlot}
-use Rattle.open_handles.specs.declared.open_file.FileSource.TheVariants.{Upper}
+use Rattle.open_handles.specs.Descriptors.{opened, IsFull, IsLowestFree}
 use Rattle.overlay_core.specs.Files.{IsOpenOn, AreOne}
-use Rattle.overlay_core.specs.States.{Stands, IsHandle, IsOpenAs, IsSlot, AreTables}
+use Rattle.overlay_core.specs.States.{Stands, IsRemoved, IsHandle, IsOpenAs, IsSlot, AreTables}
 
 -- one element of a list after it is set, and the others
 get-set : {A : Type 0} (xs : List A) (i : ℕ) (v : A) → i < length xs → slice_get (slice_set xs i v) i ≡ Some v
@@ -85,17 +73,14 @@ slot-moved P Q None (Some h) f s = absurd s
 slot-moved P Q (Some o) None f s = absurd s
 slot-moved P Q (Some o) (Some h) f s = f o h refl refl s
 
+-- a handle on an open directory, told of where that stands now
+pub handle-now : (t u : Tree) (ds es : Dentries) (o : OpenDirectory) (h : Handle) → IsHandle t ds o h → (l : Location) → places.opened es o.directory ≡ Some l → Stands u l h.node → is_folder (u h.node) ≡ true → IsHandle u es o h
+handle-now t u ds es o h is l located stands directory = record { location = l; located = located; stands = stands; directory = directory; access = is.access; left = is.left }
+
 -- what is open stays so where its directory stands where it stood
 pub placed : (U : Layer) (lowers : List Layer) (t : Tree) (ds es : Dentries) (o : handles.Handle) (h : Handle) → ((d : OpenDirectory) (l : Location) → o ≡ Directory d → places.opened ds d.directory ≡ Some l → places.opened es d.directory ≡ Some l) → IsOpenAs U lowers t ds o h → IsOpenAs U lowers t es o h
 placed U lowers t ds es (File x) h f s = s
-placed U lowers t ds es (Directory o) h f s = record {
-  location = s.location;
-  located = f o s.location refl s.located;
-  stands = s.stands;
-  directory = s.directory;
-  access = s.access;
-  left = s.left;
-}
+placed U lowers t ds es (Directory o) h f s = handle-now t t ds es o h s s.location (f o s.location refl s.located) s.stands s.directory
 
 -- a descriptor that stays open, on a directory that stands where it stood
 pub carried : (U : Layer) (lowers : List Layer) (t : Tree) (clients new : Clients) → KeepsPlaces clients new → (b d : ℕ) (x : Option Handle) → opened_by new b d ≡ opened_by clients b d → IsSlot (IsOpenAs U lowers t clients.directories) (opened_by clients b d) x → IsSlot (IsOpenAs U lowers t new.directories) (opened_by new b d) x
@@ -131,35 +116,24 @@ slot-open P (Some a) (Some h) o s e =
     let same : a ≡ o = cc in
     (h, refl, subst (λ z. P z h) same s)
 
--- and the handle of a descriptor is of what is open there
-pub slot-handle : (P : handles.Handle → Handle → Type 0) (a : Option handles.Handle) (x : Option Handle) (h : Handle) → IsSlot P a x → x ≡ Some h → (o : handles.Handle) × (a ≡ Some o) × P o h
-slot-handle P a None h s e = cc
-slot-handle P None (Some x) h s e = absurd s
-slot-handle P (Some o) (Some x) h s e =
-    let same : x ≡ h = cc in
-    (o, refl, subst (λ z. P o z) same s)
-
 -- a closed one has none
 pub slot-closed : (P : handles.Handle → Handle → Type 0) (a : Option handles.Handle) (x : Option Handle) → IsSlot P a x → a ≡ None → x ≡ None
 slot-closed P None None s e = refl
 slot-closed P None (Some h) s e = absurd s
 slot-closed P (Some a) x s e = cc
 
+-- a directory that was removed is so in another tree with the same node, if no path leads there
+pub removed-same : (t u : Tree) (a : Attributes) (d : NodeId) → u d ≡ t d → IsHidden u d → IsRemoved t a d → IsRemoved u a d
+removed-same t u a d same hidden gone = record { hidden = hidden; empty = ap names_in same ∙ gone.empty; attributes = ap folder_attributes same ∙ gone.attributes }
+
 -- a directory stands in another tree where it did, if its paths and its node are the same
 stands-same : (t u : Tree) → ((q : Path) → node_at u q ≡ node_at t q) → (l : Location) (d : NodeId) → u d ≡ t d → Stands t l d → Stands u l d
 stands-same t u paths (At p) d same s = paths p ∙ s
-stands-same t u paths (Removed a) d same s = record { hidden = λ p e. s.hidden p (sym (paths p) ∙ e); empty = ap names_in same ∙ s.empty; attributes = ap folder_attributes same ∙ s.attributes }
+stands-same t u paths (Removed a) d same s = removed-same t u a d same (λ p e. s.hidden p (sym (paths p) ∙ e)) s
 
 -- and so is a handle on it
 pub handle-same : (t u : Tree) (ds : Dentries) → ((q : Path) → node_at u q ≡ node_at t q) → (o : OpenDirectory) (h : Handle) → u h.node ≡ t h.node → IsHandle t ds o h → IsHandle u ds o h
-handle-same t u ds paths o h same x = record {
-  location = x.location;
-  located = x.located;
-  stands = stands-same t u paths x.location h.node same x.stands;
-  directory = ap is_folder same ∙ x.directory;
-  access = x.access;
-  left = x.left;
-}
+handle-same t u ds paths o h same x = handle-now t u ds ds o h x x.location x.located (stands-same t u paths x.location h.node same x.stands) (ap is_folder same ∙ x.directory)
 
 -- the lowest free descriptor
 lowest-at : (hs : List (Option Handle)) (d : ℕ) → d < length hs → held_in (slice_get hs d) ≡ None → ((k : ℕ) → k < d → is_some (held_in (slice_get hs k)) ≡ true) → position_or_len is_none hs ≡ d
@@ -189,7 +163,7 @@ abbrev there : Option Descriptors → Bool
 there o = is_some o
 
 -- what a client has open under a descriptor
-opened-is : (clients : Clients) (c d : ℕ) (ds : Descriptors) → get nat_cmp clients.attached c ≡ Some ds → opened_by clients c d ≡ opened ds.slots.items d
+pub opened-is : (clients : Clients) (c d : ℕ) (ds : Descriptors) → get nat_cmp clients.attached c ≡ Some ds → opened_by clients c d ≡ opened ds.slots.items d
 opened-is clients c d ds e = ap (option_and_then (λ (x : Descriptors). opened x.slots.items d)) e
 
 -- the same clients are attached, with the same directories open, and the next number is the same
@@ -212,15 +186,8 @@ keeps-attached old new c P h = record { attached = same; next = h.next }
 
 -- a client's descriptors stay as they are
 pub same-clients : (clients new : Clients) (c : ℕ) → ChangesClient clients new c (λ x y. y ≡ x) → SameClients clients new
-same-clients clients new c h = record { attached = same; opened = opens; places = h.places; next = h.next }
+same-clients clients new c h = record { attached = (keeps-attached clients new c _ h).attached; opened = opens; places = h.places; next = h.next }
   where
-    same : (b : ℕ) → is_some (get nat_cmp new.attached b) ≡ is_some (get nat_cmp clients.attached b)
-    same b = by (cases_eq b c)
-      where
-        by : (b ≡ c) ⊎ (b ≡ c → ⊥) → is_some (get nat_cmp new.attached b) ≡ is_some (get nat_cmp clients.attached b)
-        by (inl e) = rw e (ap there h.is ∙ sym (ap there h.was))
-        by (inr n) = ap there (h.others b n)
-
     opens : (b d : ℕ) → opened_by new b d ≡ opened_by clients b d
     opens b d = by (cases_eq b c)
       where
@@ -285,11 +252,7 @@ module _ (P : handles.Handle → Handle → Type 0) (clients : Clients) (ks : Li
     }
       where
         same : (b : ℕ) → is_some (get nat_cmp new.attached b) ≡ is_some (get nat_cmp clients.attached b)
-        same b = by (cases_eq b c)
-          where
-            by : (b ≡ c) ⊎ (b ≡ c → ⊥) → is_some (get nat_cmp new.attached b) ≡ is_some (get nat_cmp clients.attached b)
-            by (inl e) = rw e (ap there h.is ∙ sym (ap there h.was))
-            by (inr n) = ap there (h.others b n)
+        same = (keeps-attached clients new c _ h).attached
 
         long : (b : ℕ) → length (handles_of (with_handle ks c fd x) b) ≡ length (handles_of ks b)
         long b = by (cases_eq b c)
@@ -333,6 +296,10 @@ module _ (P : handles.Handle → Handle → Type 0) (clients : Clients) (ks : Li
 abbrev pub OpensFewer : Clients → List Table → Clients → List Table → Type 0
 OpensFewer old ks new ls = (k : ℕ) (d : NodeId) → IsOpenOn new ls k d → IsOpenOn old ks k d
 
+-- what is open on a file of the upper was so before where the descriptor led where it leads
+pub open-before : (old new : Clients) (ks ls : List Table) (k : ℕ) (d : NodeId) (x : IsOpenOn new ls k d) → opened_by new x.client x.descriptor ≡ opened_by old x.client x.descriptor → handle_of ls x.client x.descriptor ≡ handle_of ks x.client x.descriptor → IsOpenOn old ks k d
+open-before old new ks ls k d x same still = record { client = x.client; descriptor = x.descriptor; file = x.file; handle = x.handle; opened = sym same ∙ x.opened; key = x.key; on = sym still ∙ x.on; at = x.at }
+
 -- so files and nodes are one still
 pub one-fewer : (old new : Clients) (ks ls : List Table) → OpensFewer old ks new ls → AreOne old ks → AreOne new ls
 one-fewer old new ks ls fewer one k j d e x y = one k j d e (fewer k d x) (fewer j e y)
@@ -343,16 +310,7 @@ set-fewer old new ks c fd o x h within again k d on = by (cases_eq on.client c) 
   where
     -- another descriptor led there before
     before : opened_by new on.client on.descriptor ≡ opened_by old on.client on.descriptor → handle_of (with_handle ks c fd x) on.client on.descriptor ≡ handle_of ks on.client on.descriptor → IsOpenOn old ks k d
-    before same still = record {
-      client = on.client;
-      descriptor = on.descriptor;
-      file = on.file;
-      handle = on.handle;
-      opened = sym same ∙ on.opened;
-      key = on.key;
-      on = sym still ∙ on.on;
-      at = on.at;
-    }
+    before = open-before old new ks (with_handle ks c fd x) k d on
 
     by : (on.client ≡ c) ⊎ (on.client ≡ c → ⊥) → (on.descriptor ≡ fd) ⊎ (on.descriptor ≡ fd → ⊥) → IsOpenOn old ks k d
     by (inl b) (inl i) =

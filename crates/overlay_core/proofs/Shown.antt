@@ -1,13 +1,7 @@
 -- What stands at the places that the layers show.
 use Rattle.std.proofs.Common.{◌≡◌, List, None, Result, refl}
-use Rattle.std.specs.Option.{option_and_then}
-use Rattle.ov_base.specs.declared.errno.Errno.{Errno}
-use Rattle.ov_base.specs.declared.reply.Stat.{Stat}
-use Rattle.plain_model.specs.Layers.{Path, Layer, shows}
-use Rattle.layer_tree.specs.Tree.{inode_of}
-use Rattle.merged_lookup.specs.declared.stack.Place.{Place}
-use Rattle.merged_lookup.specs.declared.layers.Layers.{Layers}
-use Rattle.merged_lookup.specs.Merged.{trees, layers_of, ShowsInode, node_in, walk_fault}
+use Rattle.overlay_core.proofs.Words.{Errno, inode_of, Layer, Layers, layers_of, node_in, option_and_then, Path, Place, shows, ShowsInode, Stat, trees}
+use Rattle.merged_lookup.specs.Merged.{walk_fault}
 use Rattle.merged_lookup.proofs.Looking.{inode-shown}
 use Rattle.overlay_core.specs.Status.{stat_at, stat_shown, stat_of_inode}
 

@@ -1,24 +1,30 @@
 -- A mount stands for a state still when its clients, or its layers, change so.
-use Rattle.std.proofs.Common.{◌≡◌, ℕ, List, Some, sym, ap, ◌∙◌, subst}
-use Rattle.plain_model.specs.Machine.{State, Table, Handle}
-use Rattle.layer_tree.specs.Tree.{layer_of}
-use Rattle.merged_lookup.specs.declared.layers.Layers.{Layers}
-use Rattle.merged_lookup.specs.Merged.{lowers_of}
-use Rattle.mount_laws.specs.Looks.{IsMountOf}
+use Rattle.std.proofs.Common.{◌≡◌, ℕ, List, Some, refl, sym, ap, ◌∙◌, subst}
+use Rattle.overlay_core.proofs.Words.{Handle, IsMountOf, Layer, layer_of, Layers, layers_of, lowers_of, State, Table}
 use Rattle.open_handles.specs.declared.handle.Handle as handles
 use Rattle.overlay_core.specs.declared.clients.Clients.{Clients}
 use Rattle.overlay_core.specs.declared.mount.Mount.{Mount}
 use Rattle.overlay_core.specs.Attaching.{ChangesClient}
 use Rattle.overlay_core.specs.Files.{AreOne}
 use Rattle.overlay_core.specs.States.{AreTables, AreUnwatched, IsOpenAs, IsStateOf}
-use Rattle.overlay_core.proofs.Serving.{SameClients, same-clients, tables-same, placed, one-fewer}
+use Rattle.overlay_core.proofs.Serving.{SameClients, same-clients, tables-same, placed, open-before, one-fewer}
+
+-- the layers of a mount: the upper, the lower ones, and all of them
+abbrev pub the_upper : Mount → Layer
+the_upper m = layer_of m.layers.upper
+
+abbrev pub the_lowers : Mount → List Layer
+the_lowers m = lowers_of m.layers
+
+abbrev pub the_layers : Mount → List Layer
+the_layers m = layers_of m.layers
 
 -- what descriptors lead to in a mount
 abbrev pub Alike : Layers → State → Clients → handles.Handle → Handle → Type 0
 Alike l s clients = IsOpenAs (layer_of l.upper) (lowers_of l) s.tree clients.directories
 
 -- a state, told of its parts
-pub state-as : (new : Mount) (l : Layers) (s : State) → new.layers ≡ l → IsMountOf (layer_of l.upper) (lowers_of l) s → AreTables (Alike l s new.clients) new.clients s.tables → AreOne new.clients s.tables → new.clients.next ≡ s.arrived → AreUnwatched s.instances → IsStateOf new s
+state-as : (new : Mount) (l : Layers) (s : State) → new.layers ≡ l → IsMountOf (layer_of l.upper) (lowers_of l) s → AreTables (Alike l s new.clients) new.clients s.tables → AreOne new.clients s.tables → new.clients.next ≡ s.arrived → AreUnwatched s.instances → IsStateOf new s
 state-as new l s e m a one next w = record {
   arrived = next;
   layers = subst (λ (x : Layers). IsMountOf (layer_of x.upper) (lowers_of x) s) (sym e) m;
@@ -28,24 +34,21 @@ state-as new l s e m a one next w = record {
 }
 
 module _ (m : Mount) (s : State) (st : IsStateOf m s) where
-  -- the state with other tables
-  pub with-tables : (new : Clients) (ks : List Table) → new.next ≡ m.clients.next → AreTables (Alike m.layers s new) new ks → AreOne new ks → IsStateOf (record m { clients = new }) (record s { tables = ks })
-  with-tables new ks next a one = record {
-    arrived = next ∙ st.arrived;
-    layers = record { layers = st.layers.layers; shows = st.layers.shows; kept = st.layers.kept; writable = st.layers.writable };
-    tables = a;
-    one = one;
-    unwatched = st.unwatched;
-  }
+  -- the state with other tables, of a mount of the same layers
+  pub with-tables : (new : Mount) (ks : List Table) → new.layers ≡ m.layers → new.clients.next ≡ m.clients.next → AreTables (Alike m.layers s new.clients) new.clients ks → AreOne new.clients ks → IsStateOf new (record s { tables = ks })
+  with-tables new ks same next a one =
+      state-as new m.layers (record s { tables = ks }) same
+      (record { layers = st.layers.layers; shows = st.layers.shows; kept = st.layers.kept; writable = st.layers.writable })
+      a one (next ∙ st.arrived) st.unwatched
 
   -- the same clients with the same descriptors
   pub keep-same : (new : Clients) → SameClients m.clients new → IsStateOf (record m { clients = new }) s
   keep-same new same =
-      with-tables new s.tables same.next
+      with-tables (record m { clients = new }) s.tables refl same.next
       (tables-same (Alike m.layers s m.clients) m.clients s.tables st.tables new (Alike m.layers s new) same
       (λ c d o h on at is. placed (layer_of m.layers.upper) (lowers_of m.layers) s.tree m.clients.directories new.directories o h (λ e l f. same.places c d e l (on ∙ ap Some f)) is))
       (one-fewer m.clients new s.tables s.tables
-      (λ k d x. record { client = x.client; descriptor = x.descriptor; file = x.file; handle = x.handle; opened = sym (same.opened x.client x.descriptor) ∙ x.opened; key = x.key; on = x.on; at = x.at })
+      (λ k d x. open-before m.clients new s.tables s.tables k d x (same.opened x.client x.descriptor) refl)
       st.one)
 
   -- nothing is changed

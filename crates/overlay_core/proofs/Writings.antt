@@ -1,39 +1,23 @@
 -- Writes and truncations of open files.
 use Rattle.std.proofs.Common.{arith, ◌≡◌, ◌≢◌, ℕ, ◌+◌, ◌-◌, Bool, true, false, cond, min, not, ◌&&◌, List, [], ◌∷◌, Option, None, Some, Result, Ok, Err, refl, sym, ap, ◌∙◌, subst, is_none, is_some, length, nat_eq, nat_lt}
-use Rattle.std.specs.Option.{option_and_then}
-use Rattle.std.specs.Result.{OnErr}
-use Rattle.std.specs.declared.alloc.AllocError.{AllocError}
-use Rattle.std.proofs.lemmas.Bool.{false≢true, eqb-true}
+use Rattle.overlay_core.proofs.Words.{after, AllocError, bytes_at, change, ChangesSlot, eqb-true, Errno, false≢true, File, file_bytes, FileSource, Handle, handle_of, Inode, IsLive, Layer, layer_of, Layers, Leaf, Lower, lowers_of, Node, NodeId, OnErr, OpenFile, option_and_then, or_else, over_node, Own, put, refusal, Reply, rewritten, sized, State, StaysLayers, StaysMount, Tree, Upper, when, with_bytes, with_handle, with_place}
 use Rattle.std.proofs.lemmas.List.{length-take, nil_from_length}
 use Rattle.ov_base.specs.declared.bytes.Content.TheVariants as content
 use Rattle.ov_base.specs.declared.call.Call.TheVariants as call
-use Rattle.ov_base.specs.declared.errno.Errno.{Errno}
 use Rattle.ov_base.specs.declared.errno.Errno.TheVariants as errno
-use Rattle.ov_base.specs.declared.node_id.NodeId.{NodeId}
-use Rattle.ov_base.specs.declared.reply.Reply.{Reply}
 use Rattle.ov_base.specs.declared.reply.Reply.TheVariants as reply
-use Rattle.plain_model.specs.Layers.{Inode, Layer, IsLayer}
-use Rattle.plain_model.specs.Tree.{Leaf, Node, Own, Tree, IsThin, put}
-use Rattle.plain_model.specs.Machine.{Handle, State, bytes_of_node, handle_of}
-use Rattle.plain_model.specs.Refusals.{FILE_MAX, TRANSFER_MAX, when, refusal}
-use Rattle.plain_model.specs.Changes.{after, change, fitting, over_node, sized, with_bytes, with_handle, wrote}
+use Rattle.plain_model.specs.Layers.{IsLayer}
+use Rattle.plain_model.specs.Tree.{IsThin}
+use Rattle.plain_model.specs.Machine.{bytes_of_node}
+use Rattle.plain_model.specs.Refusals.{FILE_MAX, TRANSFER_MAX}
+use Rattle.plain_model.specs.Changes.{fitting, wrote}
 use Rattle.plain_model.proofs.Uppers.{agree-where, under-agree}
-use Rattle.layer_tree.specs.Tree.{SameObjects, SameTree, bytes_at, file_bytes, layer_of, written}
-use Rattle.merged_lookup.specs.declared.layers.Layers.{Layers}
-use Rattle.merged_lookup.specs.Merged.{lowers_of}
+use Rattle.layer_tree.specs.Tree.{SameObjects, SameTree, written}
+use Rattle.layer_tree.specs.Tree.{Tree as LayerTree}
 use Rattle.mount_laws.specs.Descriptors.{TruncatesFile, WritesFile, resized, write_start}
-use Rattle.mount_laws.specs.Looks.{or_else}
-use Rattle.mount_laws.specs.OpenFiles.{IsLive, rewritten}
 use Rattle.mount_laws.proofs.Descriptors.{law_of_directory_handle, law_of_truncate, law_of_unopened, law_of_write}
-use Rattle.copy_up.specs.Showing.{StaysLayers, StaysMount, StaysThin}
+use Rattle.copy_up.specs.Showing.{StaysThin}
 use Rattle.copy_up.proofs.Keeping.{lowers-same, mounts-alike}
-use Rattle.open_handles.specs.declared.handle.Handle as handles
-use Rattle.open_handles.specs.declared.handle.Handle.TheVariants.{Directory, File}
-use Rattle.open_handles.specs.declared.handle.OpenDirectory.{OpenDirectory}
-use Rattle.open_handles.specs.declared.open_file.FileSource.{FileSource}
-use Rattle.open_handles.specs.declared.open_file.FileSource.TheVariants.{Upper, Lower}
-use Rattle.open_handles.specs.declared.open_file.OpenFile.{OpenFile}
-use Rattle.open_handles.specs.Listings.{ChangesSlot, file_in, with_place}
 use Rattle.open_handles.specs.Places.{IsWritePlace, count_fitting}
 use Rattle.overlay_core.specs.declared.clients.Clients.{Clients}
 use Rattle.overlay_core.specs.declared.mount.Mount.{Mount}
@@ -41,14 +25,14 @@ use Rattle.overlay_core.specs.Attaching.{file_by, opened_by, ChangesClient}
 use Rattle.overlay_core.specs.Files.{IsFile, IsOf, IsOpenOn, bytes_of_inode, source_inode}
 use Rattle.overlay_core.specs.Living.{SetsFile}
 use Rattle.overlay_core.specs.Opening.{truncate_fault, write_fault, written_key}
-use Rattle.overlay_core.specs.States.{IsHandle, IsStateOf, Serves}
+use Rattle.overlay_core.specs.States.{IsStateOf, Serves}
 use Rattle.overlay_core.proofs.Answering.{serve-done, serve-refused}
-use Rattle.overlay_core.proofs.Rewritten.{place-moved, state-rewritten}
-use Rattle.overlay_core.proofs.Serving.{open-at, slot-closed}
-use Rattle.overlay_core.proofs.Stating.{Alike}
+use Rattle.overlay_core.proofs.Rewritten.{state-rewritten}
+use Rattle.overlay_core.proofs.Slots.{file-open, file-at, by-opened, place-moved}
+use Rattle.overlay_core.proofs.Stating.{the_lowers, the_upper}
 
 -- where every path holds what it held, no whiteout is needless that was needed
-pub thin-held : (old new : Layers) → new.lowers ≡ old.lowers → SameObjects (layer_of old.upper) (layer_of new.upper) → StaysThin old new
+thin-held : (old new : Layers) → new.lowers ≡ old.lowers → SameObjects (layer_of old.upper) (layer_of new.upper) → StaysThin old new
 thin-held old new low same thin =
     subst (IsThin V) (sym (lowers-same old new low))
     (λ n p is. ap is_some (under-agree U V (lowers_of old) n p (agree-where U V (λ q. Unit {0}) (λ name q h. tt) (λ q h. same q) p tt)) ∙ thin n p (sym (same (n ∷ p)) ∙ is))
@@ -59,16 +43,18 @@ thin-held old new low same thin =
     V : Layer
     V = layer_of new.upper
 
--- a change of the upper that wants memory leaves the mount of each state
-pub mounts-unwritten : (old new : Layers) (r : Result (Unit {0}) AllocError) → new.lowers ≡ old.lowers → SameObjects (layer_of old.upper) (layer_of new.upper) → (IsLayer (layer_of old.upper) → IsLayer (layer_of new.upper)) → OnErr r (SameTree old.upper new.upper) → OnErr r (StaysMount old new)
-mounts-unwritten old new (Ok x) low same keep tree = tt
-mounts-unwritten old new (Err e) low same keep tree = mounts-alike old new low same (λ p k h. tree.inodes k) keep
+-- a write to the upper that leaves what each path holds leaves it thin, and where it wants memory, the mount of each state
+pub upper-written : (l : Layers) (u new : LayerTree) (r : Result (Unit {0}) AllocError) → l.upper ≡ u → SameObjects (layer_of u) (layer_of new) → (IsLayer (layer_of u) → IsLayer (layer_of new)) → OnErr r (SameTree u new) → StaysThin l (record l { upper = new }) × OnErr r (StaysMount l (record l { upper = new }))
+upper-written l u new r is objects keeps same = (thin-held l (record l { upper = new }) refl held, by r same)
+  where
+    held : SameObjects (layer_of l.upper) (layer_of new)
+    held = subst (λ (z : LayerTree). SameObjects (layer_of z) (layer_of new)) (sym is) objects
 
--- a file that a client has open under a descriptor
-file-open : (o : Option handles.Handle) (f : OpenFile) → file_in o ≡ Some f → o ≡ Some (File f)
-file-open None f h = cc
-file-open (Some (Directory o)) f h = cc
-file-open (Some (File g)) f h = cc
+    by : (x : Result (Unit {0}) AllocError) → OnErr x (SameTree u new) → OnErr x (StaysMount l (record l { upper = new }))
+    by (Ok x) tree = tt
+    by (Err e) tree =
+        mounts-alike l (record l { upper = new }) refl held (λ p k h. tree.inodes k ∙ sym (ap (λ (z : LayerTree). (layer_of z).inodes k) is))
+        (subst (λ (z : LayerTree). IsLayer (layer_of z) → IsLayer (layer_of new)) (sym is) keeps)
 
 -- a file that has a key to write to is of the upper
 upper-key : (f : OpenFile) → is_none (written_key f) ≡ false → (k : ℕ) × (f.source ≡ Upper k)
@@ -163,30 +149,12 @@ record IsWriting (m : Mount) (s : State) (c d : ℕ) (f : OpenFile) (h : Handle)
   live : IsLive (layer_of m.layers.upper) s.tree h.node key
 
 module _ (m : Mount) (s : State) (st : IsStateOf m s) (c d : ℕ) where
-  abbrev U : Layer
-  U = layer_of m.layers.upper
-
-  abbrev lowers : List Layer
-  lowers = lowers_of m.layers
-
-  -- what isn't open has no handle
-  handle-none : opened_by m.clients c d ≡ None → handle_of s.tables c d ≡ None
-  handle-none e = slot-closed (Alike m.layers s m.clients) _ _ (st.tables.slots c d) e
-
-  -- the handle of an open file
-  file-at : (f : OpenFile) → opened_by m.clients c d ≡ Some (File f) → (h : Handle) × (handle_of s.tables c d ≡ Some h) × IsFile U lowers s.tree f h
-  file-at f e = open-at (Alike m.layers s m.clients) m.clients s.tables st.tables c d (File f) e
-
-  -- the handle of an open directory
-  directory-at : (o : OpenDirectory) → opened_by m.clients c d ≡ Some (Directory o) → (h : Handle) × (handle_of s.tables c d ≡ Some h) × IsHandle s.tree m.clients.directories o h
-  directory-at o e = open-at (Alike m.layers s m.clients) m.clients s.tables st.tables c d (Directory o) e
-
   -- a file that has a key to write to is of the upper, and live
   writing : (f : OpenFile) → opened_by m.clients c d ≡ Some (File f) → is_none (written_key f) ≡ false → (h : Handle) × IsWriting m s c d f h
   writing f e some =
-      let x = file-at f e in
+      let x = file-at m s st c d f e in
       let key = upper-key f some in
-      let of : IsOf U lowers s.tree (Upper key.0) x.0 = subst (λ z. IsOf U lowers s.tree z x.0) key.1 x.2.source in
+      let of : IsOf (the_upper m) (the_lowers m) s.tree (Upper key.0) x.0 = subst (λ z. IsOf (the_upper m) (the_lowers m) s.tree z x.0) key.1 x.2.source in
       (x.0, record { opened = e; on = x.1; file = x.2; key = key.0; source = key.1; live = of.0 })
 
   -- by it the file is open on its node
@@ -204,17 +172,11 @@ module _ (m : Mount) (s : State) (st : IsStateOf m s) (c d : ℕ) where
 
     -- why a truncation is refused
     truncate-refusal : refusal s c (call.Truncate d size) ≡ truncate_fault (opened_by m.clients c d) size
-    truncate-refusal = by (opened_by m.clients c d) refl
-      where
-        by : (o : Option handles.Handle) → opened_by m.clients c d ≡ o → refusal s c (call.Truncate d size) ≡ truncate_fault o size
-        by None is = (law_of_unopened s c d (handle-none is)).sizing size
-        by (Some (File f)) is =
-            let x = file-at f is in
-            let law : TruncatesFile s c d x.0 = law_of_truncate s c d x.0 x.1 in
-            law.refused size ∙ ap (λ b. or_else (when b errno.EINVAL) (when (nat_lt FILE_MAX size) errno.EFBIG)) (not-writing U lowers s.tree f x.0 x.2)
-        by (Some (Directory o)) is =
-            let x = directory-at o is in
-            (law_of_directory_handle s c d x.0 x.1 x.2.directory).sizing (ap (λ (z : Handle). z.writes) x.2.access) size
+    truncate-refusal =
+        by-opened m s st c d (λ o. refusal s c (call.Truncate d size) ≡ truncate_fault o size)
+        (λ none. (law_of_unopened s c d none).sizing size)
+        (λ f h on is. (law_of_truncate s c d h on).refused size ∙ ap (λ b. or_else (when b errno.EINVAL) (when (nat_lt FILE_MAX size) errno.EFBIG)) (not-writing (the_upper m) (the_lowers m) s.tree f h is))
+        (λ o h on is. (law_of_directory_handle s c d h on is.directory).sizing (ap (λ (z : Handle). z.writes) is.access) size)
 
     -- it is refused so
     pub truncate-refused : (e : Errno) → truncate_fault (opened_by m.clients c d) size ≡ Some e → Truncates (reply.Refused e) m
@@ -255,23 +217,21 @@ module _ (m : Mount) (s : State) (st : IsStateOf m s) (c d : ℕ) where
     Writes r new = Serves (refusal s c (call.Write d bytes)) s c (call.Write d bytes) r new
 
     -- why a write by a handle on an open file is refused: for its count, for want of access, or for its place
-    faults : (f : OpenFile) (h : Handle) → handle_of s.tables c d ≡ Some h → IsFile U lowers s.tree f h → refusal s c (call.Write d bytes) ≡ or_else (when (nat_lt TRANSFER_MAX (length bytes)) errno.EINVAL) (or_else (when (is_none (written_key f)) errno.EBADF) (room_fault (length bytes) (write_start s h)))
+    faults : (f : OpenFile) (h : Handle) → handle_of s.tables c d ≡ Some h → IsFile (the_upper m) (the_lowers m) s.tree f h → refusal s c (call.Write d bytes) ≡ or_else (when (nat_lt TRANSFER_MAX (length bytes)) errno.EINVAL) (or_else (when (is_none (written_key f)) errno.EBADF) (room_fault (length bytes) (write_start s h)))
     faults f h on file =
         let law : WritesFile s c d h = law_of_write s c d h on in
-        law.refused bytes ∙ ap (λ b. or_else (when (nat_lt TRANSFER_MAX (length bytes)) errno.EINVAL) (or_else (when b errno.EBADF) (room_fault (length bytes) (write_start s h)))) (not-writing U lowers s.tree f h file)
+        law.refused bytes ∙ ap (λ b. or_else (when (nat_lt TRANSFER_MAX (length bytes)) errno.EINVAL) (or_else (when b errno.EBADF) (room_fault (length bytes) (write_start s h)))) (not-writing (the_upper m) (the_lowers m) s.tree f h file)
 
     -- a write is refused so before its place is asked for
     pub write-refused : (e : Errno) → write_fault (opened_by m.clients c d) (length bytes) ≡ Some e → Writes (reply.Refused e) m
-    write-refused e h = serve-refused _ s c _ e m (by (opened_by m.clients c d) refl h) st
-      where
-        by : (o : Option handles.Handle) → opened_by m.clients c d ≡ o → write_fault o (length bytes) ≡ Some e → refusal s c (call.Write d bytes) ≡ Some e
-        by None is g = (law_of_unopened s c d (handle-none is)).writing bytes ∙ g
-        by (Some (File f)) is g =
-            let x = file-at f is in
-            faults f x.0 x.1 x.2 ∙ first-of (when (nat_lt TRANSFER_MAX (length bytes)) errno.EINVAL) (when (is_none (written_key f)) errno.EBADF) (room_fault (length bytes) (write_start s x.0)) e g
-        by (Some (Directory o)) is g =
-            let x = directory-at o is in
-            (law_of_directory_handle s c d x.0 x.1 x.2.directory).writing (ap (λ (z : Handle). z.writes) x.2.access) bytes ∙ g
+    write-refused e fault =
+        serve-refused _ s c _ e m
+        (by-opened m s st c d (λ o. write_fault o (length bytes) ≡ Some e → refusal s c (call.Write d bytes) ≡ Some e)
+        (λ none g. (law_of_unopened s c d none).writing bytes ∙ g)
+        (λ f h on is g. faults f h on is ∙ first-of (when (nat_lt TRANSFER_MAX (length bytes)) errno.EINVAL) (when (is_none (written_key f)) errno.EBADF) (room_fault (length bytes) (write_start s h)) e g)
+        (λ o h on is g. (law_of_directory_handle s c d h on is.directory).writing (ap (λ (z : Handle). z.writes) is.access) bytes ∙ g)
+        fault)
+        st
 
     -- one that isn't
     module _ (f : OpenFile) (is : file_by m.clients c d ≡ Some f) (good : write_fault (opened_by m.clients c d) (length bytes) ≡ None) where
@@ -311,11 +271,11 @@ module _ (m : Mount) (s : State) (st : IsStateOf m s) (c d : ℕ) where
           (subst (IsStateOf m) (sym (ap (λ z. after s c (call.Write d z)) none ∙ law.nothing)) st)
 
       -- where a write begins in a file of these bytes
-      module _ (held : List ℕ) (reads : (i : Inode) → source_inode U lowers f.source ≡ Some i → held ≡ bytes_of_inode i) (start : ℕ) (begins : IsWritePlace f (length held) start) where
+      module _ (held : List ℕ) (reads : (i : Inode) → source_inode (the_upper m) (the_lowers m) f.source ≡ Some i → held ≡ bytes_of_inode i) (start : ℕ) (begins : IsWritePlace f (length held) start) where
         -- the machine's begins there too
         begin : start ≡ write_start s h
         begin =
-            let inode : source_inode U lowers f.source ≡ Some (record { content = content.File w.live.bytes; attributes = w.live.attributes; links = w.live.links }) = ap (source_inode U lowers) w.source ∙ w.live.inode in
+            let inode : source_inode (the_upper m) (the_lowers m) f.source ≡ Some (record { content = content.File w.live.bytes; attributes = w.live.attributes; links = w.live.links }) = ap (source_inode (the_upper m) (the_lowers m)) w.source ∙ w.live.inode in
             begins s.tree h w.file.append w.file.place (ap (λ o. length (bytes_of_node o)) w.live.node ∙ sym (ap length (reads _ inode)))
 
         -- so the place is refused alike
@@ -333,7 +293,7 @@ module _ (m : Mount) (s : State) (st : IsStateOf m s) (c d : ℕ) where
             (placed-refusal ∙ (fits (length bytes) start count fit).0)
             (ap reply.Written counted ∙ sym (law.answer bytes))
             (subst (IsStateOf (record m { layers = new; clients = clients })) (steps ∙ sym (law.state bytes (some-there bytes full)))
-            (place-moved (record m { layers = new }) (record s { tree = rewritten s.tree h.node now }) made c d f h opens w.on (start + count) clients moves))
+            (place-moved (record m { layers = new }) (record s { tree = rewritten s.tree h.node now }) made c d h w.on f opens (start + count) clients moves))
           where
             now : List ℕ
             now = written w.live.bytes start (fitting start bytes)

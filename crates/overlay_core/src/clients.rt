@@ -7,7 +7,7 @@ ghost use Rattle.open_handles.specs.Opened.{opened, holders, attributes_in, None
 ghost use Rattle.open_handles.specs.FileHolders.{file_holders};
 ghost use Rattle.overlay_core.specs.Held.{handles_below, files_below};
 
-use crate::closing::{close_all, close_file, close_handle, hold_file};
+use crate::closing::{close_file, close_handle, hold_file};
 use dir_listing::Cursor;
 use open_handles::{Descriptors, Handle, OpenDirectories, OpenDirectory, OpenFile, OpenFiles};
 use ov_base::{Attributes, Errno, NameList, Path};
@@ -81,15 +81,13 @@ impl Clients {
         Ok(Ok(number))
     }
 
-    /// Detaches a client, which closes its descriptors in rising order.
+    /// Detaches a client that has nothing open.
     pub fn detach(&mut self, client: u64)
+        requires { (d : ℕ) → opened_by self.old client d ≡ None }
         ensures detaches { Detaches self.old self.new client }
         ensures places { KeepsPlaces self.old self.new }
     {
-        if let Some(descriptors) = self.attached.remove(&client) {
-            let slots = descriptors.into_slots();
-            close_all(&mut self.directories, &mut self.files, slots.as_slice());
-        }
+        let _ = self.attached.remove(&client);
     }
 
     /// How many clients are attached.

@@ -9,25 +9,6 @@ ghost use Rattle.overlay_core.specs.Held.{ClosesAll, ReleasesAll};
 use open_handles::{FileSource, Handle, OpenDirectories, OpenFiles};
 use std::alloc::AllocError;
 
-/// Closes each handle in these slots, the first one first.
-pub(crate) fn close_all(
-    directories: &mut OpenDirectories,
-    files: &mut OpenFiles,
-    slots: &[Option<Handle>],
-)
-    requires directories { (k : ℕ) → handles_on slots.now k ≤ holders directories.old k }
-    requires files { (k : ℕ) → files_on slots.now k ≤ file_holders files.old k }
-    ensures directories { ClosesAll directories.old directories.new slots.now }
-    ensures files { ReleasesAll files.old files.new slots.now }
-{
-    directories.lawful();
-    for slot in slots {
-        if let Some(handle) = slot {
-            close_handle(directories, files, handle);
-        }
-    }
-}
-
 /// Closes one handle: on a directory, on a file of the upper, or on a file of a lower layer, of which nobody counts the handles.
 pub(crate) fn close_handle(
     directories: &mut OpenDirectories,

@@ -109,7 +109,8 @@ impl Mount {
 
     /// Detaches a client, which closes its descriptors in rising order.
     pub(crate) fn detach(&mut self, client: u64)
-        requires { IsSome (get nat_cmp self.old.clients.attached client) }
+        requires attached { IsSome (get nat_cmp self.old.clients.attached client) }
+        requires state { ∥ HasStateOf self.old ∥₁ }
         ensures leaves { (s : State) → IsStateOf self.old s → (t : State) × Leaves Nothing s client t × IsStateOf self.new t }
         ensures clients { Detaches self.old.clients self.new.clients client }
         ensures paths { KeepsPaths self.old.layers self.new.layers }

@@ -1,29 +1,16 @@
-use Rattle.std.proofs.Common.{rules, ◌≡◌, ◌≢◌, ℕ, Some, None}
+use Rattle.std.proofs.Common.{rules, None, refl}
 use Rattle.std.specs.BTreeMap.{get}
 use Rattle.std.specs.Ordering.{nat_cmp}
 use Rattle.open_handles.specs.Listings.{with_listing}
-use Rattle.overlay_core.proofs.Holding.{rises, held-listing, files-listing, number-with, source-with}
+use Rattle.overlay_core.proofs.Holding.{Becomes, client-changes, counts-changed, on-listing}
+use Rattle.overlay_core.proofs.clients.Clients.rewind.Goals.{After-rewind}
 use Rattle.overlay_core.proofs.clients.Clients.rewind.Goals as goal
 
+becomes : (c : After-rewind) → Becomes c.args.self.now c.args.client c.unwrap.result.now (get nat_cmp (c.get_mut.follows.lender c.rewind.new.self)) c.rewind.new.self
+becomes c = record { was = search rules; is = search rules; others = search rules }
+
 pub returns : goal.returns
-returns c = record {
-  before = c.unwrap.result.now;
-  was = search rules;
-  after = c.rewind.new.self;
-  is = search rules;
-  changes = c.rewind.ensures;
-  others = search rules;
-  places = λ b d o l there at. at;
-  next = search rules;
-}
+returns c = client-changes _ _ _ _ _ _ (becomes (goal.at.returns c).After-rewind) c.rewind.ensures (λ b d o l there at. at) refl
 
 pub invariant_of-self : goal.invariant_of-self
-invariant_of-self c =
-    let was : get nat_cmp c.args.self.now.attached c.args.client ≡ Some c.unwrap.result.now = search rules in
-    let is : get nat_cmp (c.get_mut.follows.lender c.rewind.new.self) c.args.client ≡ Some c.rewind.new.self = search rules in
-    let others : (m : ℕ) → m ≢ c.args.client → get nat_cmp (c.get_mut.follows.lender c.rewind.new.self) m ≡ get nat_cmp c.args.self.now.attached m = search rules in
-    record {
-      rising = rises c.args.self.now c.args.client c.unwrap.result.now was (get nat_cmp (c.get_mut.follows.lender c.rewind.new.self)) c.rewind.new.self is others;
-      held = held-listing c.args.self.now c.args.client c.unwrap.result.now was (get nat_cmp (c.get_mut.follows.lender c.rewind.new.self)) c.rewind.new.self is others c.args.descriptor (with_listing None) (number-with None) c.rewind.ensures;
-      held_files = files-listing c.args.self.now c.args.client c.unwrap.result.now was (get nat_cmp (c.get_mut.follows.lender c.rewind.new.self)) c.rewind.new.self is others c.args.descriptor (with_listing None) (source-with None) c.rewind.ensures;
-    }
+invariant_of-self c = counts-changed _ _ _ _ _ (becomes (goal.at.invariant_of-self c).After-rewind) c.args.descriptor (with_listing None) (on-listing None) c.rewind.ensures

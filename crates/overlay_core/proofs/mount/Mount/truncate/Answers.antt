@@ -1,5 +1,4 @@
-use Rattle.overlay_core.proofs.Answering.{on-err}
-use Rattle.overlay_core.proofs.Rewritten.{state-unwritten}
+use Rattle.overlay_core.proofs.Changing.{no-memory}
 use Rattle.overlay_core.proofs.Writings.{truncate-refused, truncate-done}
 use Rattle.overlay_core.proofs.mount.Mount.truncate.Goals as goal
 
@@ -9,7 +8,7 @@ returns-in-Err-clause-serves c = λ s st. truncate-refused c.args.self.now s st 
 pub returns-in_err-resize_file-clause-err : goal.returns-in_err-resize_file-clause-err
 returns-in_err-resize_file-clause-err c =
     let made = c.in_err-resize_file.ensures in
-    on-err c.from_residual.result _ (state-unwritten c.args.self.now c.resize_file.new.layers made.lowers made.mounts made.stays)
+    no-memory c.from_residual.result c.args.self.now c.resize_file.new.layers made.mounts made.lowers made.stays
 
 pub returns-clause-serves : goal.returns-clause-serves
 returns-clause-serves c =

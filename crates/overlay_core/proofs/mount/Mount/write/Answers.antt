@@ -1,6 +1,5 @@
 use Rattle.std.proofs.Common.{sym, ap, ◌∙◌, length, nat_eq, take}
-use Rattle.overlay_core.proofs.Answering.{on-err}
-use Rattle.overlay_core.proofs.Rewritten.{state-unwritten}
+use Rattle.overlay_core.proofs.Changing.{no-memory}
 use Rattle.overlay_core.proofs.Writings.{write-refused, write-nothing, write-unfitting, write-done}
 use Rattle.overlay_core.proofs.mount.Mount.write.Goals as goal
 
@@ -20,7 +19,7 @@ returns-in-Err-fitting-clause-serves c =
 pub returns-in_err-write_file-clause-err : goal.returns-in_err-write_file-clause-err
 returns-in_err-write_file-clause-err c =
     let made = c.in_err-write_file.ensures in
-    on-err c.from_residual.result _ (state-unwritten c.args.self.now c.write_file.new.layers made.lowers made.mounts made.stays)
+    no-memory c.from_residual.result c.args.self.now c.write_file.new.layers made.mounts made.lowers made.stays
 
 pub returns-clause-serves : goal.returns-clause-serves
 returns-clause-serves c =

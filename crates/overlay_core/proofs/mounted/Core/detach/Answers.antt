@@ -1,9 +1,13 @@
 use Rattle.std.proofs.Common.{arith, ◌+◌}
+use mathlib.Core.Logic.{∥∥₁_map}
 use Rattle.plain_model.specs.Runs.{Detached}
 use Rattle.overlay_core.specs.Agreement.{Goes}
 use Rattle.overlay_core.specs.Mounting.{machine_options}
 use Rattle.overlay_core.proofs.Agreeing.{goes-detached, goes-on, has-begun}
 use Rattle.overlay_core.proofs.mounted.Core.detach.Goals as goal
+
+pub detach-requires-clause-state : goal.detach-requires-clause-state
+detach-requires-clause-state c = ∥∥₁_map c.args.self.now.agrees (λ x. (x.0, x.1.stands))
 
 -- the client goes
 goes : (c : goal.After-detach) → Goes c.args.self.now.mount c.args.client Detached c.detach.new.self
