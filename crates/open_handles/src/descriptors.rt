@@ -167,14 +167,6 @@ impl Descriptors {
             Err(Errno::EBADF)
         }
     }
-
-    /// The slots in the order of their descriptors, at most 64, to close each that is open.
-    pub fn into_slots(self) -> Vec<Option<Handle>>
-        ensures slots { result.items ≡ self.slots.items }
-        ensures few { vec_len result ≤ 64 }
-    {
-        self.slots
-    }
 }
 
 // The first slot of none, or how many slots there are.
