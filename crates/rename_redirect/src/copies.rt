@@ -1,7 +1,6 @@
 // `link` of what a lower layer has, which is copied up first.
-ghost use Rattle.std.specs.Prelude.{◌≡◌, ◌≢◌, ◌<◌, ◌∷◌, ℕ, Option, Some, None, IfOk, OnOk, OnErr};
+ghost use Rattle.std.specs.Prelude.{◌≡◌, ◌<◌, ◌∷◌, Option, Some, None, IfOk, OnOk, OnErr};
 ghost use Rattle.plain_model.specs.Layers.{Name as NameOf, Path as Names, Inode, Contents, shows};
-ghost use Rattle.layer_tree.specs.Nameless.{KeepsObjects};
 ghost use Rattle.layer_tree.specs.Tree.{layer_of};
 ghost use Rattle.merged_lookup.specs.Merged.{layers_of, parents_fault, parent, IsStackOf, ShowsInode};
 ghost use Rattle.copy_up.specs.Showing.{ShowsSame, HasPlace, Stays, StaysLayers, StaysMount, StaysThin};

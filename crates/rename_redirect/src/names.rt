@@ -2,7 +2,6 @@
 ghost use Rattle.std.specs.Prelude.{◌≡◌, ◌≢◌, ◌<◌, ◌≤◌, ◌∷◌, ℕ, Some, None, OnOk, OnErr};
 ghost use Rattle.slab.specs.Slab.{HasRoomFor};
 ghost use Rattle.plain_model.specs.Layers.{Path as Names, Named, held, IsLayer};
-ghost use Rattle.plain_model.specs.Tree.{IsThin};
 ghost use Rattle.mount_laws.specs.Linking.{AddsName};
 ghost use Rattle.layer_tree.specs.Nameless.{KeepsObjects};
 ghost use Rattle.layer_tree.specs.Tree.{layer_of, names_room, IsDirectory, SameObjects, SameTree};
