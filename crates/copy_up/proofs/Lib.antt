@@ -5,4 +5,5 @@ pub mod Keeping
 pub mod Needing
 pub mod Copying
 pub mod OtherAttributes
+pub mod OwnAttributes
 pub mod AlteredObjects

@@ -1,7 +1,7 @@
 -- Other attributes of what the upper has, or gets first from the lower layers.
 use Rattle.std.proofs.Common.{◌≡◌, ◌≤◌, ◌<◌, ℕ, suc, Bool, true, false, List, [], ◌∷◌, Option, None, Some, Result, Ok, Err, OnOk, OnErr, refl, sym, ap, ◌∙◌, subst, is_some, IsSome, length, map, drop, reverse, arith}
 use Rattle.std.proofs.lemmas.List.{reverse-reverse}
-use Rattle.std.specs.Option.{option_and_then}
+use Rattle.std.specs.Option.{option_and_then, option_map_or}
 use Rattle.std.specs.Prelude.{slice_get, option_map}
 use Rattle.std.specs.declared.alloc.AllocError.{AllocError}
 use Rattle.slab.specs.Slab.{get}
@@ -22,15 +22,16 @@ use Rattle.merged_lookup.specs.declared.found.Found.TheVariants as found
 use Rattle.merged_lookup.specs.declared.layers.Layers.{Layers}
 use Rattle.merged_lookup.specs.declared.stack.Place.{Place}
 use Rattle.merged_lookup.specs.declared.stack.Stack.{Stack}
-use Rattle.merged_lookup.specs.Merged.{trees, layers_of, lowers_of, places_at, unless_cut, top_of, way_fault, walk_fault, IsFound, IsStackOf, ShowsDirectory, ShowsInode}
+use Rattle.merged_lookup.specs.Locating.{place_of}
+use Rattle.merged_lookup.specs.Merged.{trees, layers_of, lowers_of, places_at, unless_cut, top_of, IsFound, IsStackOf, ShowsInode}
 use Rattle.merged_lookup.proofs.Descending.{drop-get, key-of}
 use Rattle.merged_lookup.proofs.Folders.{IsDirectoryWith, held-node}
-use Rattle.merged_lookup.proofs.Looking.{way-next, directory-fault, head-places, head-unless}
+use Rattle.merged_lookup.proofs.Looking.{head-places, head-unless}
 use Rattle.copy_up.specs.Showing.{ShowsSame, StaysLayers, StaysThin}
 use Rattle.copy_up.specs.Altering.{ShowsAttributes}
 use Rattle.copy_up.proofs.Nodes.{table-some}
 use Rattle.copy_up.proofs.Placing.{Alike, agree-all, IsHeldDirectory, top-held}
-use Rattle.copy_up.proofs.Keeping.{lowers-same, or-first}
+use Rattle.copy_up.proofs.Keeping.{lowers-same}
 use Rattle.copy_up.proofs.Copying.{NamesSame, alters-since}
 
 -- directories of the same marks pass on alike
@@ -116,29 +117,8 @@ stands-at l p s dir tree is top is_dir =
     })
 
 -- the attributes of a directory under a key
-under-key : (t : Tree) (k : ℕ) (a : Attributes) → IsDirectoryWith (get t k) a → attributes_at t k ≡ Some a
+pub under-key : (t : Tree) (k : ℕ) (a : Attributes) → IsDirectoryWith (get t k) a → attributes_at t k ≡ Some a
 under-key t k a d = ap (option_map attributes_of) d.is ∙ ap Some d.attributes
-
--- a directory that is shown, whose topmost place is in the upper
-module _ (l : Layers) (p : Path) (s : Stack) (dir : Place) (tree : IsTree l.upper) (shown : ShowsDirectory l p s.places.items) (top : dir.layer ≡ 0) (is_dir : dir ≡ top_of s.places.items) where
-  first : (top_of s.places.items).layer ≡ 0
-  first = sym (ap (λ (x : Place). x.layer) is_dir) ∙ top
-
-  -- stands there
-  pub shown-stands : StandsAt l.upper p dir.key
-  shown-stands = stands-at l p s dir tree (record { places = shown.places }) first is_dir
-
-  -- with the attributes that are shown
-  pub shown-under : attributes_at l.upper dir.key ≡ Some shown.attributes
-  shown-under =
-      let U : Layer = layer_of l.upper in
-      let d = upper-directory l p s (record { places = shown.places }) first in
-      let here : shows 0 (layers_of l) p ≡ Some (Folder 0 (top_of s.places.items).key d.attributes) = ap (λ o. over 0 U.inodes o (unless (cuts U p) (shows 1 (lowers_of l) (below U p)))) d.is in
-      let two : Some (Folder (top_of s.places.items).layer (top_of s.places.items).key shown.attributes) ≡ Some (Folder 0 (top_of s.places.items).key d.attributes) = sym shown.shown ∙ here in
-      let same : d.attributes ≡ shown.attributes = cc in
-      ap (λ (x : Place). attributes_at l.upper x.key) is_dir
-      ∙ under-key l.upper (top_of s.places.items).key d.attributes (held-node l.upper tree p (top_of s.places.items).key d.attributes d.opaque d.redirect d.is)
-      ∙ ap Some same
 
 -- what is shown has one set of attributes
 pub shown-folder : (l : Layers) (p : Path) (j k : ℕ) (a b : Attributes) → shows 0 (layers_of l) p ≡ Some (Folder j k a) → ShowsAttributes l p b → a ≡ b
@@ -159,17 +139,21 @@ thin-either old new (Err e) low ok same = thin-agree old new low
     (λ x. agree-where (layer_of old.upper) (layer_of new.upper) (λ _. Unit {0}) (λ k y u. tt) (λ y u. ap (λ (t : Tree). held (layer_of t) y) same) x tt)
     (λ x h. sym (ap (λ (t : Tree). held (layer_of t) x) same) ∙ h)
 
-over-from : (i : ℕ) (inodes : ℕ → Option Inode) (o : Option Object) (c : Bool) (s : Option Shown) (j k : ℕ) (x : Option Inode) → (s ≡ Some (Contents j k x) → suc i ≤ j) → over i inodes o (unless c s) ≡ Some (Contents j k x) → i ≤ j
-over-from i inodes None true s j k x rest h = cc
-over-from i inodes None false s j k x rest h = omega (arith, rest h)
-over-from i inodes (Some Whiteout) c s j k x rest h = cc
-over-from i inodes (Some (Directory m a b r)) c s j k x rest h = cc
-over-from i inodes (Some (Named m)) c s j k x rest h = let e : i ≡ j = cc in omega (arith, e)
+-- a place in layer i is of it
+same-layer : (i m : ℕ) (d : Place) → ◌≡◌ {A = Option Place} (Some (record { layer = i; key = m })) (Some d) → i ≡ d.layer
+same-layer i m d h = ap (λ (o : Option Place). option_map_or (λ (x : Place). x.layer) o i) h
 
--- layers numbered from i show inodes of layers from i on
-shown-from : (i : ℕ) (Ls : List Layer) (p : Path) (j k : ℕ) (x : Option Inode) → shows i Ls p ≡ Some (Contents j k x) → i ≤ j
-shown-from i [] p j k x h = cc
-shown-from i (L ∷ Ls) p j k x h = over-from i L.inodes (held L p) (cuts L p) (shows (suc i) Ls (below L p)) j k x (shown-from (suc i) Ls (below L p) j k x) h
+over-from : (i : ℕ) (inodes : ℕ → Option Inode) (o : Option Object) (c : Bool) (s : Option Shown) (d : Place) → (place_of s ≡ Some d → suc i ≤ d.layer) → place_of (over i inodes o (unless c s)) ≡ Some d → i ≤ d.layer
+over-from i inodes None true s d rest h = cc
+over-from i inodes None false s d rest h = omega (arith, rest h)
+over-from i inodes (Some Whiteout) c s d rest h = cc
+over-from i inodes (Some (Directory m a b r)) c s d rest h = let e : i ≡ d.layer = same-layer i m d h in omega (arith, e)
+over-from i inodes (Some (Named m)) c s d rest h = let e : i ≡ d.layer = same-layer i m d h in omega (arith, e)
+
+-- layers numbered from i show objects of layers from i on
+pub shown-from : (i : ℕ) (Ls : List Layer) (p : Path) (d : Place) → place_of (shows i Ls p) ≡ Some d → i ≤ d.layer
+shown-from i [] p d h = cc
+shown-from i (L ∷ Ls) p d h = over-from i L.inodes (held L p) (cuts L p) (shows (suc i) Ls (below L p)) d (shown-from (suc i) Ls (below L p) d) h
 
 -- the layer names this inode at the path
 pub record IsNamed (U : Layer) (p : Path) (k : ℕ) (x : Option Inode) : Type 0 where
@@ -178,7 +162,7 @@ pub record IsNamed (U : Layer) (p : Path) (k : ℕ) (x : Option Inode) : Type 0 
 
 over-named : (U : Layer) (lowers : List Layer) (p q : Path) (o : Option Object) (c : Bool) (k : ℕ) (x : Option Inode) → held U p ≡ o → over 0 U.inodes o (unless c (shows 1 lowers q)) ≡ Some (Contents 0 k x) → IsNamed U p k x
 over-named U lowers p q None true k x e h = cc
-over-named U lowers p q None false k x e h = absurd (omega (arith, shown-from 1 lowers q 0 k x h))
+over-named U lowers p q None false k x e h = absurd (omega (arith, shown-from 1 lowers q (record { layer = 0; key = k }) (ap place_of h)))
 over-named U lowers p q (Some Whiteout) c k x e h = cc
 over-named U lowers p q (Some (Directory m a b r)) c k x e h = cc
 over-named U lowers p q (Some (Named m)) c k x e h =
@@ -249,19 +233,7 @@ inode-stands-in l p d t at together s =
     shown-there (shows 0 (layers_of l) p) d.layer d.key s.inode s.shown
     (names-there (trees l) d.layer d.key s.inode t (names-inode 0 (trees l) (trees l) refl p d.layer d.key s.inode s.shown) at together)
 
--- the root is no inode
-pub root-no-inode : (l : Layers) (p : Path) (d : Place) → p ≡ [] → ShowsInode l p d → ⊥
-root-no-inode l p d e s = let z : Some (Folder 0 0 (layer_of l.upper).root) ≡ Some (Contents d.layer d.key s.inode) = sym (ap (shows 0 (layers_of l)) e) ∙ s.shown in cc
-
--- the way to a directory that is found has no fault
-pub way-found : (l : Layers) (p : Path) (s : List Place) → walk_fault (layers_of l) p ≡ None → ShowsDirectory l p s → way_fault (layers_of l) p ≡ None
-way-found l [] s h d = refl
-way-found l (n ∷ p) s h d = way-next (layers_of l) p n None (or-first (way_fault (layers_of l) p) _ h) (directory-fault l (n ∷ p) s d)
-
--- what is found, by its kind
-pub found-directory : (l : Layers) (p : Path) (f : Found) (s : Stack) → f ≡ found.Directory s → IsFound l p f → ShowsDirectory l p s.places.items
-found-directory l p f s e h = let P : Found → Type 0 = λ f. IsFound l p f in subst P e h
-
+-- what is found, where it is an inode
 pub found-inode : (l : Layers) (p : Path) (f : Found) (d : Place) → f ≡ found.Inode d → IsFound l p f → ShowsInode l p d
 found-inode l p f d e h = let P : Found → Type 0 = λ f. IsFound l p f in subst P e h
 

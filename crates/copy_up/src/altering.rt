@@ -1,5 +1,5 @@
 // Other attributes of what a path shows.
-ghost use Rattle.std.specs.Prelude.{◌≡◌, List, ℕ, Some, None, IsSome, IfOk, OnOk, OnErr};
+ghost use Rattle.std.specs.Prelude.{◌≡◌, ◌<◌, ℕ, Some, None, IsSome, IfOk, OnOk, OnErr};
 ghost use Rattle.slab.specs.Slab.{get};
 ghost use Rattle.ov_base.specs.AttributeChanges.{changed};
 ghost use Rattle.ov_base.specs.declared.attributes.Attributes.{Attributes as AttributesOf};
@@ -7,15 +7,17 @@ ghost use Rattle.plain_model.specs.Layers.{Path as Names, Inode, Folder, Content
 ghost use Rattle.mount_laws.specs.Altered.{Alters};
 ghost use Rattle.layer_tree.specs.AttributeChange.{attributes_at, SetsAttributes, SetsInode, SetsDirectory};
 ghost use Rattle.layer_tree.specs.Nameless.{IsNameless};
-ghost use Rattle.layer_tree.specs.Tree.{layer_of, key_at, inode_at, IsDirectory, IsTree};
-ghost use Rattle.merged_lookup.specs.Merged.{layers_of, lowers_of, parent, parents_fault, walk_fault, way_fault, IsFound, IsStackOf, ShowsDirectory, ShowsInode};
+ghost use Rattle.layer_tree.specs.Tree.{layer_of, key_at, inode_at, IsDirectory, IsHeldTogether, IsTree};
+ghost use Rattle.merged_lookup.specs.declared.found.Topmost.{Topmost as MountTopmost};
+ghost use Rattle.merged_lookup.specs.Descent.{place_shown};
+ghost use Rattle.merged_lookup.specs.Merged.{layers_of, lowers_of, parent, parents_fault, walk_fault, way_fault, IsStackOf, IsTopmost, ShowsDirectory, ShowsInode};
 ghost use Rattle.copy_up.specs.Showing.{ShowsSame, GainsParents, StaysLayers, StaysMount, StaysThin};
 ghost use Rattle.copy_up.specs.Altering.{AltersObject, AltersAs, AltersObjectAs};
 
 use crate::leaves::all_at_once;
 use crate::parents::place_parents;
 use layer_tree::Node;
-use merged_lookup::{Found, Layers, Place, Stack};
+use merged_lookup::{Found, Layers, Place, Stack, Topmost};
 use ov_base::{AttributeChange, Attributes, Path};
 use std::alloc::AllocError;
 
@@ -25,13 +27,11 @@ use std::alloc::AllocError;
 pub fn alter(
     layers: &mut Layers,
     path: &Path,
-    directory: Stack,
-    found: Found,
+    top: Topmost,
     change: AttributeChange,
 ) -> Result<(), AllocError>
     requires walked { walk_fault (layers_of layers.old) path.now ≡ None }
-    requires directory { IsStackOf layers.old (parent path.now) directory }
-    requires found { IsFound layers.old path.now found }
+    requires shown { IsTopmost layers.old path.now (Some top) }
     ensures altered { OnOk result (AltersAs layers.old layers.new path.now change) }
     ensures object { OnOk result (AltersObjectAs layers.old layers.new path.now change) }
     ensures lowers { layers.new.lowers ≡ layers.old.lowers }
@@ -42,14 +42,39 @@ pub fn alter(
     ensures keeps { StaysLayers layers.old layers.new }
     ensures thin { StaysThin layers.old layers.new }
 {
+    let place = top.place();
+    if place.layer == 0 {
+        lawful(layers);
+        return alter_upper(layers, place.key, change);
+    }
+    alter_lower(layers, path, change)
+}
+
+// `alter` of what a lower layer has, to which it walks for the directories that a copy-up wants.
+fn alter_lower(layers: &mut Layers, path: &Path, change: AttributeChange) -> Result<(), AllocError>
+    requires walked { walk_fault (layers_of layers.old) path.now ≡ None }
+    requires lower { (top : MountTopmost) × IsTopmost layers.old path.now (Some top) × (0 < (place_shown top).layer) }
+    ensures altered { OnOk result (AltersAs layers.old layers.new path.now change) }
+    ensures object { OnOk result (AltersObjectAs layers.old layers.new path.now change) }
+    ensures lowers { layers.new.lowers ≡ layers.old.lowers }
+    ensures nameless { (k : ℕ) → IsNameless layers.old.upper k → IsNameless layers.new.upper k }
+    ensures no_memory { OnErr result (ShowsSame layers.old layers.new) }
+    ensures mounts { OnErr result (StaysMount layers.old layers.new) }
+    ensures parents { OnErr result (GainsParents layers.old layers.new path.now) }
+    ensures keeps { StaysLayers layers.old layers.new }
+    ensures thin { StaysThin layers.old layers.new }
+{
+    let Ok((directory, found)) = layers.walk_in(path) else {
+        unreachable!()
+    };
     match found {
-        Found::Directory(stack) => alter_directory(layers, path, stack, change),
-        Found::Inode(place) => alter_inode(layers, path, directory, place, change),
+        Found::Directory(stack) => place_changed(layers, path, stack, change),
+        Found::Inode(place) => copy_changed(layers, path, directory, place, change),
     }
 }
 
 // `alter` of a directory, which is placed first where the upper lacks it.
-fn alter_directory(
+fn place_changed(
     layers: &mut Layers,
     path: &Path,
     directory: Stack,
@@ -67,12 +92,7 @@ fn alter_directory(
     ensures keeps { StaysLayers layers.old layers.new }
     ensures thin { StaysThin layers.old layers.new }
 {
-    let top = directory.top();
-    if top.layer == 0 {
-        lawful(layers);
-        return alter_upper(layers, top.key, change);
-    }
-    let attributes = changed_directory(layers, top, change)?;
+    let attributes = changed_directory(layers, directory.top(), change)?;
     place_with(layers, path, directory, attributes)
 }
 
@@ -118,13 +138,14 @@ fn place_with(
 
 // What the upper keeps; it does nothing.
 fn lawful(layers: &Layers)
-    ensures { IsTree layers.now.upper }
+    ensures tree { IsTree layers.now.upper }
+    ensures together { IsHeldTogether (layer_of layers.now.upper) }
 {
     layers.upper().lawful();
 }
 
-// `alter` of a file or symbolic link, which is copied up where a lower layer has it.
-fn alter_inode(
+// `alter` of a file or symbolic link of a lower layer, which is copied up.
+fn copy_changed(
     layers: &mut Layers,
     path: &Path,
     directory: Stack,
@@ -134,6 +155,7 @@ fn alter_inode(
     requires way { parents_fault (layers_of layers.old) path.now ≡ None }
     requires directory { IsStackOf layers.old (parent path.now) directory }
     requires shown { ShowsInode layers.old path.now place }
+    requires lower { 0 < place.layer }
     ensures altered { OnOk result (AltersAs layers.old layers.new path.now change) }
     ensures object { OnOk result (AltersObjectAs layers.old layers.new path.now change) }
     ensures lowers { layers.new.lowers ≡ layers.old.lowers }
@@ -145,9 +167,6 @@ fn alter_inode(
     ensures thin { StaysThin layers.old layers.new }
 {
     stands(layers, place);
-    if place.layer == 0 {
-        return alter_upper(layers, place.key, change);
-    }
     let attributes = changed_inode(layers, place, change)?;
     let Some((name, parents)) = path.split_last() else {
         unreachable!()

@@ -1,5 +1,6 @@
 // The names of user attributes.
-ghost use Rattle.std.specs.Prelude.{◌≡◌, Ok, IfOk};
+ghost use Rattle.std.specs.Prelude.{◌≡◌, None, Ok, IfOk};
+ghost use Rattle.std.specs.Result.{result_err};
 ghost use Rattle.ov_base.specs.AttributeNames.{is_malformed, is_foreign, attribute_of};
 
 use crate::bytes::Bytes;
@@ -41,18 +42,36 @@ impl Clone for AttributeName {
 }
 
 impl AttributeName {
-    /// The name of these bytes, as setxattr(2) takes it: none, over 255 or with a NUL is EINVAL, one outside `user.` EOPNOTSUPP.
+    /// Why bytes are no name, as setxattr(2) tells it: none, over 255 or with a NUL is EINVAL, others outside `user.` EOPNOTSUPP.
+    pub fn fault(bytes: &[u8]) -> Option<Errno>
+        ensures { result ≡ result_err (attribute_of bytes.now) }
+    {
+        if is_malformed_name(bytes) {
+            return Some(Errno::EINVAL);
+        }
+        if is_foreign_name(bytes) {
+            return Some(Errno::EOPNOTSUPP);
+        }
+        None
+    }
+
+    /// The name of bytes that have no fault.
+    pub fn new(bytes: Bytes) -> AttributeName
+        requires { result_err (attribute_of bytes) ≡ None }
+        ensures { result ≡ bytes }
+    {
+        AttributeName { bytes }
+    }
+
+    /// The name of these bytes, unless they have a fault.
     pub fn parse(bytes: Bytes) -> Result<AttributeName, Errno>
         ensures told { result ≡ attribute_of bytes }
         ensures same { IfOk result (λ name. name ≡ bytes) }
     {
-        if is_malformed_name(bytes.as_slice()) {
-            return Err(Errno::EINVAL);
+        match AttributeName::fault(bytes.as_slice()) {
+            Some(errno) => Err(errno),
+            None => Ok(AttributeName::new(bytes)),
         }
-        if is_foreign_name(bytes.as_slice()) {
-            return Err(Errno::EOPNOTSUPP);
-        }
-        Ok(AttributeName { bytes })
     }
 
     /// The bytes.

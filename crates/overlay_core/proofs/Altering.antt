@@ -1,16 +1,16 @@
 -- The calls that change attributes, by how they end.
-use Rattle.std.proofs.Common.{◌≡◌, ℕ, true, false, not, ◌&&◌, is_none, length, nat_lt, List, Option, None, Some, Result, Ok, Err, MatchResult, IfOk, IfErr, refl, sym, ap, ◌∙◌, subst}
+use Rattle.std.proofs.Common.{◌≡◌, ℕ, true, false, not, ◌&&◌, is_none, length, nat_lt, List, Option, None, Some, Result, Ok, Err, MatchResult, refl, sym, ap, ◌∙◌, subst}
 use Rattle.ov_base.specs.AttributeChanges.{changed}
 use Rattle.ov_base.specs.declared.attributes.Attributes.{Attributes}
 use Rattle.ov_base.specs.declared.call.Call.{Call}
 use Rattle.ov_base.specs.declared.errno.Errno.{Errno}
 use Rattle.ov_base.specs.declared.errno.Errno.TheVariants.{ELOOP}
-use Rattle.plain_model.specs.Layers.{Path, Inode, Layer, Shown, Contents, shows, AreLayers}
+use Rattle.plain_model.specs.Layers.{Path, Inode, Layer, Shown, Contents, shows}
 use Rattle.plain_model.specs.Machine.{State, value_of}
 use Rattle.plain_model.specs.Refusals.{when, bad_attribute}
 use Rattle.layer_tree.specs.Tree.{IsTree, layer_of}
 use Rattle.merged_lookup.specs.declared.layers.Layers.{Layers}
-use Rattle.merged_lookup.specs.Merged.{layers_of, lowers_of, parent, IsFound, IsStackOf}
+use Rattle.merged_lookup.specs.Merged.{layers_of, lowers_of, IsTopmost}
 use Rattle.mount_laws.specs.Looks.{or_else, walk_fault, is_link_inode, shows_link, IsMountOf}
 use Rattle.mount_laws.specs.Attributes.{user_in, shown_attributes, chown_fault, set_fault, get_fault}
 use Rattle.mount_laws.specs.Altered.{Alters, AltersBy, AltersState}
@@ -71,15 +71,6 @@ chown-link Ls p none link = ap (λ w. or_else w (when (shows_link (shows 0 Ls p)
 pub shows-open : (Ls : List Layer) (p : Path) (a : Attributes) → walk_fault Ls p ≡ None → IsOpenTo (shows 0 Ls p) a → ShowsAttributes Ls p a
 shows-open Ls p a none h = record { allowed = ap (λ w. or_else w (when (shows_link (shows 0 Ls p)) ELOOP)) none ∙ ap (λ b. when b ELOOP) h.no_link; shown = h.attributes }
 
--- and so where either is told
-pub refused-open : {A : Type 0} (now : A → Attributes) (r : Result A Errno) (Ls : List Layer) (p : Path) → walk_fault Ls p ≡ None → MatchResult r (λ a. IsOpenTo (shows 0 Ls p) (now a)) (λ e. (e ≡ ELOOP) × (shows_link (shows 0 Ls p) ≡ true)) → IfErr r (λ e. chown_fault Ls p ≡ Some e)
-refused-open now (Ok a) Ls p none h = tt
-refused-open now (Err e) Ls p none h = chown-link Ls p none h.1 ∙ ap Some (sym h.0)
-
-pub told-open : {A : Type 0} (now : A → Attributes) (r : Result A Errno) (Ls : List Layer) (p : Path) → walk_fault Ls p ≡ None → MatchResult r (λ a. IsOpenTo (shows 0 Ls p) (now a)) (λ e. (e ≡ ELOOP) × (shows_link (shows 0 Ls p) ≡ true)) → IfOk r (λ a. ShowsAttributes Ls p (now a))
-told-open now (Ok a) Ls p none h = shows-open Ls p (now a) none h
-told-open now (Err e) Ls p none h = tt
-
 -- where chown isn't refused, neither is the walk
 pub walk-none : (Ls : List Layer) (p : Path) → chown_fault Ls p ≡ None → walk_fault Ls p ≡ None
 walk-none Ls p h = of (walk_fault Ls p) h
@@ -97,11 +88,10 @@ pub get-none : (Ls : List Layer) (p : Path) (n : List ℕ) (a : Attributes) → 
 get-none Ls p n a good s there = rw (good, s.allowed, ap user_in s.shown, there) refl
 
 -- a change of the attributes that are shown
-pub changes-shown : (f : Attributes → Attributes) (l : Layers) (p : Path) (x : Change) (a : Attributes) → ShowsAttributes (layers_of l) p a → IsStackOf l (parent p) x.directory → IsFound l p x.found → changed x.change a ≡ f a → IsChange f l p x
-changes-shown f l p x a s directory found after = record {
+pub changes-shown : (f : Attributes → Attributes) (l : Layers) (p : Path) (x : Change) (a : Attributes) → ShowsAttributes (layers_of l) p a → IsTopmost l p (Some x.top) → changed x.change a ≡ f a → IsChange f l p x
+changes-shown f l p x a s top after = record {
   walked = walk-none (layers_of l) p s.allowed;
-  directory = directory;
-  found = found;
+  top = top;
   before = a;
   shown = s.shown;
   after = after;

@@ -23,7 +23,6 @@ pub mod Changing
 pub mod Linking
 pub mod Paging
 pub mod Parsed
-pub mod Naming
 pub mod Altering
 pub mod Reading
 pub mod Coming

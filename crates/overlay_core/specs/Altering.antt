@@ -9,7 +9,7 @@ use Rattle.plain_model.specs.Layers.{Path, Layer, Shown, shows}
 use Rattle.plain_model.specs.Machine.{State}
 use Rattle.layer_tree.specs.Tree.{layer_of}
 use Rattle.merged_lookup.specs.declared.layers.Layers.{Layers}
-use Rattle.merged_lookup.specs.Merged.{layers_of, lowers_of, parent, walk_fault, IsFound, IsStackOf}
+use Rattle.merged_lookup.specs.Merged.{layers_of, lowers_of, walk_fault, IsTopmost}
 use Rattle.mount_laws.specs.Looks.{shows_link, IsMountOf}
 use Rattle.mount_laws.specs.Attributes.{shown_attributes, chown_fault}
 use Rattle.mount_laws.specs.Altered.{AltersBy, AltersState}
@@ -51,8 +51,7 @@ pub record AltersUnless (fault : Option Errno) (old new : Layers) (p : Path) (k 
 -- the change is of what the path shows, and makes f of the attributes that it shows
 pub record IsChange (f : Attributes → Attributes) (l : Layers) (p : Path) (x : Change) : Type 0 where
   pub walked : walk_fault (layers_of l) p ≡ None
-  pub directory : IsStackOf l (parent p) x.directory
-  pub found : IsFound l p x.found
+  pub top : IsTopmost l p (Some x.top)
   pub before : Attributes
   pub shown : shown_attributes (shows 0 (layers_of l) p) ≡ Some before
   pub after : changed x.change before ≡ f before

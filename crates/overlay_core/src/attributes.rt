@@ -7,33 +7,30 @@ ghost use Rattle.plain_model.specs.Layers.{Path as Names, Inode as HeldInode, sh
 ghost use Rattle.mount_laws.specs.Attributes.{chmod_fault, chown_fault};
 ghost use Rattle.mount_laws.specs.Looks.{shows_link, is_link_inode};
 ghost use Rattle.layer_tree.specs.Tree.{inode_of};
-ghost use Rattle.merged_lookup.specs.declared.layers.Layers.{Layers as MountLayers};
-ghost use Rattle.merged_lookup.specs.Merged.{layers_of, parent, IsFound, IsStackOf, IsTopmost, ShowsInode};
+ghost use Rattle.merged_lookup.specs.Merged.{layers_of, IsTopmost, ShowsInode};
 ghost use Rattle.overlay_core.specs.Altering.{AltersUnless, CarriesOut, IsOpenTo, IsPlan, Plans, ShowsAttributes};
 
 use copy_up::alter;
 use layer_tree::{Inode, Node};
-use merged_lookup::{Found, Layers, Place, Stack, Topmost};
+use merged_lookup::{Layers, Place, Topmost};
 use ov_base::{AttributeChange, Attributes, Content, Errno, Mode, Path};
 use std::alloc::AllocError;
 
-/// What a call alters: the merged directory in which it stands, what was found there, and its attributes.
+/// What a call alters: the topmost object that a path shows, and its attributes.
 #[derive(Drop)]
 pub(crate) struct Target<'a> {
-    directory: Stack,
-    found: Found,
+    top: Topmost,
     pub(crate) attributes: &'a Attributes,
 }
 
 impl<'a> Target<'a> {
     /// This change of it.
     pub(crate) fn into_change(self, change: AttributeChange) -> Change
-        ensures what { (result.directory ≡ self.entry.directory) × (result.found ≡ self.entry.found) }
+        ensures what { result.top ≡ self.entry.top }
         ensures change { result.change ≡ change }
     {
         Change {
-            directory: self.directory,
-            found: self.found,
+            top: self.top,
             change,
         }
     }
@@ -42,8 +39,7 @@ impl<'a> Target<'a> {
 /// A change that is to be made: what a call alters, and how.
 #[derive(Drop)]
 pub(crate) struct Change {
-    directory: Stack,
-    found: Found,
+    top: Topmost,
     change: AttributeChange,
 }
 
@@ -104,24 +100,19 @@ pub(crate) fn carry_out(
         Err(errno) => return Ok(Err(errno)),
     };
     layers.upper().lawful();
-    alter(layers, path, change.directory, change.found, change.change)?;
+    alter(layers, path, change.top, change.change)?;
     Ok(Ok(()))
 }
 
 /// What a path shows, to be altered; it is refused as `chown` is.
 pub(crate) fn target_at<'a>(layers: &'a Layers, path: &Path) -> Result<Target<'a>, Errno>
     ensures refused { IfErr result (λ e. chown_fault (layers_of layers.now) path.now ≡ Some e) }
-    ensures directory { IfOk result (λ t. IsStackOf layers.now (parent path.now) t.directory) }
-    ensures found { IfOk result (λ t. IsFound layers.now path.now t.found) }
+    ensures top { IfOk result (λ t. IsTopmost layers.now path.now (Some t.top)) }
     ensures shown { IfOk result (λ t. ShowsAttributes (layers_of layers.now) path.now t.attributes.now) }
 {
-    let (directory, found) = layers.walk_in(path)?;
-    let attributes = attributes_of(layers, topmost_of(&found))?;
-    Ok(Target {
-        directory,
-        found,
-        attributes,
-    })
+    let top = layers.walk_topmost(path)?;
+    let attributes = attributes_of(layers, top)?;
+    Ok(Target { top, attributes })
 }
 
 /// The attributes of what a path shows; it is refused as `chown` is.
@@ -129,18 +120,8 @@ pub(crate) fn attributes_at<'a>(layers: &'a Layers, path: &Path) -> Result<&'a A
     ensures refused { IfErr result (λ e. chown_fault (layers_of layers.now) path.now ≡ Some e) }
     ensures shown { IfOk result (λ a. ShowsAttributes (layers_of layers.now) path.now a.now) }
 {
-    let top = layers.walk_topmost(path)?;
-    attributes_of(layers, top)
-}
-
-// The topmost object of what was found.
-fn topmost_of(found: &Found) -> Topmost
-    ensures { (l : MountLayers) (p : Names) → IsFound l p found.now → IsTopmost l p (Some result) }
-{
-    match found {
-        Found::Directory(stack) => Topmost::Directory(stack.top()),
-        Found::Inode(place) => Topmost::Inode(*place),
-    }
+    let target = target_at(layers, path)?;
+    Ok(target.attributes)
 }
 
 // The attributes of what is shown; a symbolic link is ELOOP.

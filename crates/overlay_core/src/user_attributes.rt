@@ -1,5 +1,7 @@
 // The calls on user attributes.
 ghost use Rattle.std.specs.Prelude.{◌≡◌, ◌&&◌, not, None, Some, IfOk, IfErr, OnOk, is_none, length, map, nat_lt};
+ghost use Rattle.std.specs.Result.{result_err};
+ghost use Rattle.ov_base.specs.AttributeNames.{attribute_of};
 ghost use Rattle.ov_base.specs.UserValues.{value_of, set_value, drop_value};
 ghost use Rattle.ov_base.specs.declared.call.Call.TheVariants as call;
 ghost use Rattle.plain_model.specs.Layers.{shows};
@@ -42,10 +44,9 @@ fn value_change(
 ) -> Result<Result<Change, Errno>, AllocError>
     ensures { IfOk result (Plans (λ Ls. set_fault Ls path.now name.now value.now) (λ a. record a { user = set_value a.user name.now value.now }) layers.now path.now) }
 {
-    let name = match parsed(name)? {
-        Ok(name) => name,
-        Err(errno) => return Ok(Err(errno)),
-    };
+    if let Some(errno) = name_fault(name) {
+        return Ok(Err(errno));
+    }
     if value.as_slice().len() > VALUE_MAX {
         return Ok(Err(Errno::EFBIG));
     }
@@ -53,9 +54,10 @@ fn value_change(
         Ok(target) => target,
         Err(errno) => return Ok(Err(errno)),
     };
-    if has_no_room(&target.attributes.user, name.as_bytes()) {
+    if has_no_room(&target.attributes.user, name) {
         return Ok(Err(Errno::EFBIG));
     }
+    let name = AttributeName::new(name.clone()?);
     let value = value.clone()?;
     Ok(Ok(target.into_change(AttributeChange::Set(name, value))))
 }
@@ -76,17 +78,17 @@ pub(crate) fn delete_attribute(
 fn deletion(layers: &Layers, path: &Path, name: &Bytes) -> Result<Result<Change, Errno>, AllocError>
     ensures { IfOk result (Plans (λ Ls. get_fault Ls path.now name.now) (λ a. record a { user = drop_value a.user name.now }) layers.now path.now) }
 {
-    let name = match parsed(name)? {
-        Ok(name) => name,
-        Err(errno) => return Ok(Err(errno)),
-    };
+    if let Some(errno) = name_fault(name) {
+        return Ok(Err(errno));
+    }
     let target = match target_at(layers, path) {
         Ok(target) => target,
         Err(errno) => return Ok(Err(errno)),
     };
-    if is_unset(&target.attributes.user, name.as_bytes()) {
+    if is_unset(&target.attributes.user, name) {
         return Ok(Err(Errno::ENODATA));
     }
+    let name = AttributeName::new(name.clone()?);
     Ok(Ok(target.into_change(AttributeChange::Delete(name))))
 }
 
@@ -101,15 +103,14 @@ pub(crate) fn get_attribute(
     ensures allowed { IfOk result (λ r. OnOk r (get_fault (layers_of layers.now) path.now name.now ≡ None)) }
     ensures value { IfOk result (λ r. IfOk r (λ v. value_of (shown_user (shows 0 (layers_of layers.now) path.now)) name.now ≡ Some v)) }
 {
-    let name = match parsed(name)? {
-        Ok(name) => name,
-        Err(errno) => return Ok(Err(errno)),
-    };
+    if let Some(errno) = name_fault(name) {
+        return Ok(Err(errno));
+    }
     let attributes = match attributes_at(layers, path) {
         Ok(attributes) => attributes,
         Err(errno) => return Ok(Err(errno)),
     };
-    match attributes.user.get(name.as_bytes().as_slice()) {
+    match attributes.user.get(name.as_slice()) {
         Some(value) => Ok(Ok(value.clone()?)),
         None => Ok(Err(Errno::ENODATA)),
     }
@@ -132,13 +133,12 @@ pub(crate) fn list_attributes(
     }
 }
 
-// The name of these bytes.
-fn parsed(name: &Bytes) -> Result<Result<AttributeName, Errno>, AllocError>
-    ensures refused { IfOk result (λ r. IfErr r (λ e. bad_attribute name.now ≡ Some e)) }
-    ensures allowed { IfOk result (λ r. OnOk r (bad_attribute name.now ≡ None)) }
-    ensures same { IfOk result (λ r. IfOk r (λ n. n ≡ name.now)) }
+// The fault of a user attribute's name.
+fn name_fault(name: &Bytes) -> Option<Errno>
+    ensures refusal { result ≡ bad_attribute name.now }
+    ensures name { result ≡ result_err (attribute_of name.now) }
 {
-    Ok(AttributeName::parse(name.clone()?))
+    AttributeName::fault(name.as_slice())
 }
 
 fn is_unset(user: &UserAttributes, name: &Bytes) -> bool
@@ -151,5 +151,5 @@ fn is_unset(user: &UserAttributes, name: &Bytes) -> bool
 fn has_no_room(user: &UserAttributes, name: &Bytes) -> bool
     ensures { result ≡ (is_none (value_of user.now name.now) && not (nat_lt (length user.now) 64)) }
 {
-    is_unset(user, name) && user.len() >= ATTRIBUTES_MAX
+    user.len() >= ATTRIBUTES_MAX && is_unset(user, name)
 }

@@ -14,6 +14,7 @@ pub mod Values
 pub mod Counting
 pub mod Walks
 pub mod Names
+pub mod AttributeNames
 pub mod Keeping
 pub mod Flat
 pub mod Dropping

@@ -1,14 +1,9 @@
--- Attributes that change through a copy of them, which a node is given, and the faults of their names.
-use Rattle.std.proofs.Common.{◌≡◌, ℕ, List, Bool, true, false, cond, Option, None, Some, refl, sym, ap, ◌∙◌, unwrap_or}
-use Rattle.std.specs.Prelude.{Ok, Err}
-use Rattle.std.specs.Result.{result_err}
-use Rattle.ov_base.specs.AttributeNames.{is_malformed, is_foreign, attribute_of}
-use Rattle.ov_base.specs.declared.errno.Errno.TheVariants.{EINVAL, EOPNOTSUPP}
+-- Attributes that change through a copy of them, which a node is given.
+use Rattle.std.proofs.Common.{◌≡◌, Option, None, Some, refl, sym, ap, ◌∙◌, unwrap_or}
 use Rattle.ov_base.specs.declared.attributes.Attributes.{Attributes}
 use Rattle.ov_base.specs.declared.node_id.NodeId.{NodeId}
 use Rattle.plain_model.specs.Tree.{Node, Branch, Leaf, Own, Tree, node_of, put}
 use Rattle.plain_model.specs.Machine.{MountOptions}
-use Rattle.plain_model.specs.Refusals.{◌or_else◌, when, bad_attribute}
 use Rattle.plain_model.specs.Changes.{change, over_node, with_attributes}
 use Rattle.plain_reference.specs.Nodes.{attributes_at, given}
 use Rattle.plain_reference.proofs.SlotLemmas.{put_same}
@@ -34,13 +29,3 @@ no-node g (Some (Leaf content b u l)) e = absurd (cc)
 pub none-changed : (g : Node → Node) (t : Tree) (d : Option NodeId) → None ≡ attributes_at (node_of t d) → t ≡ change g t d
 none-changed g t None e = refl
 none-changed g t (Some d) e = sym (ap (λ (o : Option Node). put t d o) (no-node g (t d) e) ∙ put_same t d)
-
--- the faults of a name in their order
-two-faults : (m f : Bool) (n : List ℕ) → result_err (cond m (Err EINVAL) (cond f (Err EOPNOTSUPP) (Ok n))) ≡ (when m EINVAL or_else when f EOPNOTSUPP)
-two-faults true f n = refl
-two-faults false true n = refl
-two-faults false false n = refl
-
--- the fault of an attribute's name is the machine's
-pub name-fault : (n : List ℕ) → result_err (attribute_of n) ≡ bad_attribute n
-name-fault n = two-faults (is_malformed n) (is_foreign n) n

@@ -1,7 +1,7 @@
 use Rattle.std.proofs.Common.{◌∙◌, ap}
 use Rattle.std.specs.Result.{result_err}
 use Rattle.plain_model.specs.Refusals.{bad_attribute}
-use Rattle.plain_reference.proofs.AttributeLemmas.{name-fault}
+use Rattle.plain_model.proofs.AttributeNames.{name-fault}
 use Rattle.plain_reference.proofs.refusals.bad_attribute.Goals as goal
 
 pub returns : goal.returns

@@ -1,0 +1,138 @@
+-- Other attributes of an object of the upper that is shown, changed where they stand.
+use Rattle.std.proofs.Common.{◌≡◌, ◌⊎◌, ℕ, Bool, true, false, List, [], ◌∷◌, slice_get, Ok, Err, Option, None, Some, IsSome, Result, OnOk, refl, ap, ◌∙◌, sym, subst, inl, inr, arith}
+use Rattle.std.specs.declared.alloc.AllocError.{AllocError}
+use Rattle.slab.specs.Slab.{get}
+use Rattle.ov_base.specs.AttributeChanges.{changed}
+use Rattle.ov_base.specs.declared.attribute_change.AttributeChange.{AttributeChange}
+use Rattle.ov_base.specs.declared.attributes.Attributes.{Attributes}
+use Rattle.ov_base.specs.declared.redirect.Redirect.{Redirect}
+use Rattle.plain_model.specs.Layers.{Path, Object, Directory, Named, Whiteout, Inode, Layer, held, below, cuts, Folder, Contents, over, unless, shows, IsLayer}
+use Rattle.mount_laws.specs.Altered.{Alters}
+use Rattle.layer_tree.specs.AttributeChange.{attributes_at, SetsAttributes, SetsInode, SetsDirectory}
+use Rattle.layer_tree.specs.Nameless.{IsNameless}
+use Rattle.layer_tree.specs.Tree.{IsTree, IsHeldTogether, IsDirectory, layer_of, inode_at, key_at}
+use Rattle.layer_tree.proofs.AttributeChanges.{inode_attributes}
+use Rattle.layer_tree.proofs.Changing.{directory_is_present}
+use Rattle.merged_lookup.specs.declared.found.Topmost.{Topmost}
+use Rattle.merged_lookup.specs.declared.found.Topmost.TheVariants as topmost
+use Rattle.merged_lookup.specs.declared.layers.Layers.{Layers}
+use Rattle.merged_lookup.specs.declared.stack.Place.{Place}
+use Rattle.merged_lookup.specs.Descent.{place_shown}
+use Rattle.merged_lookup.specs.Locating.{place_of}
+use Rattle.merged_lookup.specs.Merged.{layers_of, lowers_of, trees, IsTopmost, ShowsInode}
+use Rattle.merged_lookup.proofs.Descending.{key-of}
+use Rattle.merged_lookup.proofs.Folders.{held-node}
+use Rattle.copy_up.specs.Altering.{AltersObject, AltersAs, AltersObjectAs}
+use Rattle.copy_up.specs.Showing.{StaysThin}
+use Rattle.copy_up.proofs.AlteredObjects.{object-inode, object-directory}
+use Rattle.copy_up.proofs.Frames.{gains-self}
+use Rattle.copy_up.proofs.Nodes.{table-some}
+use Rattle.copy_up.proofs.OtherAttributes.{StandsAt, IsNamed, under-key, shown-from, upper-named, inode-there, inode-stands-in, shown-folder, shown-inode, thin-directory, thin-inode, alters-directory, alters-inode}
+
+-- the upper's directory at this place is shown at the path, and stands there
+pub record IsOwnDirectory (l : Layers) (p : Path) (d : Place) : Type 0 where
+  pub attributes : Attributes
+  pub shown : shows 0 (layers_of l) p ≡ Some (Folder d.layer d.key attributes)
+  pub stands : StandsAt l.upper p d.key
+  pub under : attributes_at l.upper d.key ≡ Some attributes
+
+-- or its file or symbolic link
+pub record IsOwnInode (l : Layers) (p : Path) (d : Place) : Type 0 where
+  pub inode : Inode
+  pub shown : shows 0 (layers_of l) p ≡ Some (Contents d.layer d.key (Some inode))
+  pub is : IsNamed (layer_of l.upper) p d.key (Some inode)
+
+abbrev pub IsOwn : Layers → Path → Place → Type 0
+IsOwn l p d = IsOwnDirectory l p d ⊎ IsOwnInode l p d
+
+-- the layer holds this directory at the path
+record HoldsDirectory (U : Layer) (p : Path) (k : ℕ) (a : Attributes) : Type 0 where
+  pub opaque : Bool
+  pub redirect : Option Redirect
+  pub is : held U p ≡ Some (Directory k a opaque redirect)
+
+over-directory : (U : Layer) (lowers : List Layer) (p q : Path) (o : Option Object) (c : Bool) (k : ℕ) (a : Attributes) → held U p ≡ o → over 0 U.inodes o (unless c (shows 1 lowers q)) ≡ Some (Folder 0 k a) → HoldsDirectory U p k a
+over-directory U lowers p q None true k a e h = cc
+over-directory U lowers p q None false k a e h = absurd (omega (arith, shown-from 1 lowers q (record { layer = 0; key = k }) (ap place_of h)))
+over-directory U lowers p q (Some Whiteout) c k a e h = cc
+over-directory U lowers p q (Some (Named m)) c k a e h = cc
+over-directory U lowers p q (Some (Directory m b u r)) c k a e h =
+    let mk : m ≡ k = cc in
+    let ba : b ≡ a = cc in
+    record { opaque = u; redirect = r; is = e ∙ (λ i. Some (Directory (mk i) (ba i) u r)) }
+
+own-directory : (l : Layers) → IsTree l.upper → (p : Path) (d : Place) (a : Attributes) → d.layer ≡ 0 → shows 0 (layers_of l) p ≡ Some (Folder d.layer d.key a) → IsOwnDirectory l p d
+own-directory l tree p d a own shown =
+    let U : Layer = layer_of l.upper in
+    let is : HoldsDirectory U p d.key a = over-directory U (lowers_of l) p (below U p) (held U p) (cuts U p) d.key a refl (shown ∙ ap (λ j. Some (Folder j d.key a)) own) in
+    let node = held-node l.upper tree p d.key a is.opaque is.redirect is.is in
+    record {
+      attributes = a;
+      shown = shown;
+      stands = record { key = key-of l.upper p d.key a is.opaque is.redirect is.is; directory = table-some (get l.upper d.key) a node };
+      under = under-key l.upper d.key a node;
+    }
+
+own-inode : (l : Layers) → IsHeldTogether (layer_of l.upper) → (p : Path) (d : Place) → d.layer ≡ 0 → ShowsInode l p d → IsOwnInode l p d
+own-inode l together p d own shown =
+    let i = inode-stands-in l p d l.upper (ap (slice_get (trees l)) own) together shown in
+    record { inode = i.0; shown = i.1; is = upper-named l p d (Some i.0) own i.1 }
+
+-- what is shown and has its place in the upper is the upper's own
+pub is-own : (l : Layers) → IsTree l.upper → IsHeldTogether (layer_of l.upper) → (p : Path) (top : Topmost) (d : Place) → d ≡ place_shown top → d.layer ≡ 0 → IsTopmost l p (Some top) → IsOwn l p d
+is-own l tree together p (topmost.Directory t) d e own shown = inl (own-directory l tree p d shown.0 own (shown.1 ∙ ap (λ (x : Place). Some (Folder x.layer x.key shown.0)) (sym e)))
+is-own l tree together p (topmost.Inode t) d e own shown = inr (own-inode l together p d own (subst (λ (x : Place). ShowsInode l p x) (sym e) shown))
+
+-- and something stands there
+pub own-there : (l : Layers) (p : Path) (d : Place) → IsOwn l p d → IsSome (get l.upper d.key)
+own-there l p d (inl o) = directory_is_present l.upper d.key o.stands.directory
+own-there l p d (inr o) = inode-there (get l.upper d.key) o.inode o.is.inode
+
+-- the attributes under a key of the upper are changed where they stand
+pub record ChangesKey (old new : Layers) (key : ℕ) (x : AttributeChange) : Type 0 where
+  pub sets : (a : Attributes) → attributes_at old.upper key ≡ Some a → SetsAttributes old.upper new.upper key (changed x a)
+  pub inode : (i : Inode) → inode_at old.upper key ≡ Some i → SetsInode (layer_of old.upper) (layer_of new.upper) key (changed x i.attributes)
+  pub directory : (p : Path) (a : Attributes) → attributes_at old.upper key ≡ Some a → key_at old.upper p ≡ Some key → IsDirectory old.upper key → SetsDirectory (layer_of old.upper) (layer_of new.upper) p key (changed x a)
+
+-- an object of the upper that is shown, of which they are
+module _ (old new : Layers) (p : Path) (d : Place) (low : new.lowers ≡ old.lowers) (x : AttributeChange) (made : ChangesKey old new d.key x) where
+  sets-directory : (o : IsOwnDirectory old p d) → SetsDirectory (layer_of old.upper) (layer_of new.upper) p d.key (changed x o.attributes)
+  sets-directory o = made.directory p o.attributes o.under o.stands.key o.stands.directory
+
+  sets-inode : (o : IsOwnInode old p d) → SetsInode (layer_of old.upper) (layer_of new.upper) d.key (changed x o.inode.attributes)
+  sets-inode o = made.inode o.inode o.is.inode
+
+  -- leaves the upper thin
+  pub own-thin : IsOwn old p d → StaysThin old new
+  own-thin (inl o) = thin-directory old new low p d.key (changed x o.attributes) (sets-directory o)
+  own-thin (inr o) = thin-inode old new low d.key (changed x o.inode.attributes) (sets-inode o)
+
+  -- shows the changed attributes
+  pub own-alters : (IsLayer (layer_of old.upper) → IsLayer (layer_of new.upper)) → IsOwn old p d → AltersAs old new p x
+  own-alters keeps (inl o) a shows h =
+      subst (λ (b : Attributes). Alters (layer_of old.upper) (layer_of new.upper) (lowers_of old) p (changed x b))
+      (shown-folder old p d.layer d.key o.attributes a o.shown shows)
+      (alters-directory old new low p d.key (changed x o.attributes) (sets-directory o) keeps h)
+  own-alters keeps (inr o) a shows h =
+      subst (λ (b : Attributes). Alters (layer_of old.upper) (layer_of new.upper) (lowers_of old) p (changed x b))
+      (shown-inode old p d.layer d.key o.inode a o.shown shows)
+      (alters-inode old new low d.key (changed x o.inode.attributes) (sets-inode o) p o.is.named keeps h)
+
+  -- and is the one object that changes
+  pub own-object : ((k : ℕ) → IsNameless old.upper k → IsNameless new.upper k) → IsOwn old p d → AltersObjectAs old new p x
+  own-object nameless (inl o) a shows =
+      subst (λ (b : Attributes). AltersObject old new p (changed x b)) (shown-folder old p d.layer d.key o.attributes a o.shown shows)
+      (object-directory old old new [] p d.key (changed x o.attributes) (gains-self old ([] ∷ p)) (made.sets o.attributes o.under) (sets-directory o) nameless)
+  own-object nameless (inr o) a shows =
+      subst (λ (b : Attributes). AltersObject old new p (changed x b)) (shown-inode old p d.layer d.key o.inode a o.shown shows)
+      (object-inode old new p d.key (changed x o.inode.attributes)
+      (made.sets o.inode.attributes (inode_attributes old.upper d.key o.inode o.is.inode)) (sets-inode o) o.is.named nameless)
+
+-- the facts of a success together
+pub changes-key : (old new : Layers) (key : ℕ) (x : AttributeChange) (r : Result (Unit {0}) AllocError)
+    → OnOk r ((a : Attributes) → attributes_at old.upper key ≡ Some a → SetsAttributes old.upper new.upper key (changed x a))
+    → OnOk r ((i : Inode) → inode_at old.upper key ≡ Some i → SetsInode (layer_of old.upper) (layer_of new.upper) key (changed x i.attributes))
+    → OnOk r ((p : Path) (a : Attributes) → attributes_at old.upper key ≡ Some a → key_at old.upper p ≡ Some key → IsDirectory old.upper key → SetsDirectory (layer_of old.upper) (layer_of new.upper) p key (changed x a))
+    → OnOk r (ChangesKey old new key x)
+changes-key old new key x (Ok u) sets inode directory = record { sets = sets; inode = inode; directory = directory }
+changes-key old new key x (Err e) sets inode directory = tt

@@ -1,0 +1,40 @@
+use Rattle.std.proofs.Common.{◌<◌, arith, subst}
+use Rattle.std.proofs.lemmas.Result.{on_ok_weaker}
+use Rattle.merged_lookup.specs.declared.stack.Place.{Place}
+use Rattle.copy_up.proofs.OtherAttributes.{thin-either}
+use Rattle.copy_up.proofs.OwnAttributes.{is-own, own-there, own-alters, own-object, own-thin, changes-key}
+use Rattle.copy_up.proofs.altering.alter.Goals as goal
+
+pub alter_upper-requires : goal.alter_upper-requires
+alter_upper-requires c =
+    own-there c.args.layers.now c.args.path.now c.place-place.result
+    (is-own c.args.layers.now c.lawful.ensures.tree c.lawful.ensures.together c.args.path.now c.args.top c.place-place.result c.place-place.ensures c.if-place-eq0.true c.requires.shown)
+
+pub returns-then-place-eq0-clause-altered : goal.returns-then-place-eq0-clause-altered
+returns-then-place-eq0-clause-altered c =
+    let old = c.args.layers.now in
+    let own = is-own old c.lawful.ensures.tree c.lawful.ensures.together c.args.path.now c.args.top c.place-place.result c.place-place.ensures c.if-place-eq0.true c.requires.shown in
+    on_ok_weaker c.alter_upper.result
+    (λ made. own-alters old c.alter_upper.new.layers c.args.path.now c.place-place.result c.alter_upper.ensures.lowers c.args.change made c.alter_upper.ensures.keeps own)
+    (changes-key old c.alter_upper.new.layers c.place-place.result.key c.args.change c.alter_upper.result c.alter_upper.ensures.sets c.alter_upper.ensures.inode c.alter_upper.ensures.directory)
+
+pub returns-then-place-eq0-clause-object : goal.returns-then-place-eq0-clause-object
+returns-then-place-eq0-clause-object c =
+    let old = c.args.layers.now in
+    let own = is-own old c.lawful.ensures.tree c.lawful.ensures.together c.args.path.now c.args.top c.place-place.result c.place-place.ensures c.if-place-eq0.true c.requires.shown in
+    on_ok_weaker c.alter_upper.result
+    (λ made. own-object old c.alter_upper.new.layers c.args.path.now c.place-place.result c.alter_upper.ensures.lowers c.args.change made c.alter_upper.ensures.nameless own)
+    (changes-key old c.alter_upper.new.layers c.place-place.result.key c.args.change c.alter_upper.result c.alter_upper.ensures.sets c.alter_upper.ensures.inode c.alter_upper.ensures.directory)
+
+pub returns-then-place-eq0-clause-thin : goal.returns-then-place-eq0-clause-thin
+returns-then-place-eq0-clause-thin c =
+    let old = c.args.layers.now in
+    let own = is-own old c.lawful.ensures.tree c.lawful.ensures.together c.args.path.now c.args.top c.place-place.result c.place-place.ensures c.if-place-eq0.true c.requires.shown in
+    thin-either old c.alter_upper.new.layers c.alter_upper.result c.alter_upper.ensures.lowers
+    (on_ok_weaker c.alter_upper.result
+    (λ made. own-thin old c.alter_upper.new.layers c.args.path.now c.place-place.result c.alter_upper.ensures.lowers c.args.change made own)
+    (changes-key old c.alter_upper.new.layers c.place-place.result.key c.args.change c.alter_upper.result c.alter_upper.ensures.sets c.alter_upper.ensures.inode c.alter_upper.ensures.directory))
+    c.alter_upper.ensures.unchanged
+
+pub alter_lower-requires-clause-lower : goal.alter_lower-requires-clause-lower
+alter_lower-requires-clause-lower c = (c.args.top, c.requires.shown, subst (λ (d : Place). 0 < d.layer) c.place-place.ensures (omega (arith, c.if-place-eq0.false)))
