@@ -10,7 +10,7 @@ use ov_base::{Bytes, Call, Errno, OpenFlags, Path};
 use std::alloc::{AllocError, Global};
 
 impl CallText<'_> {
-    /// The call, or why its path text is refused.
+    /// The call, or why its path text is refused, the first that is where it has two.
     pub fn call(&self, alloc: Global) -> Result<Result<Call, Errno>, AllocError>
         ensures { IfOk result (λ outcome. outcome ≡ commands.call_of self.now) }
     {
@@ -29,6 +29,7 @@ impl CallText<'_> {
             }
             CallText::Mkdir { mode, path } => mkdir(alloc, *mode, path),
             CallText::Symlink { target, path } => symlink(alloc, target, path),
+            CallText::Link { old, new } => link(alloc, old, new),
             CallText::Open { flags, path, mode } => open(alloc, *flags, path, *mode),
             CallText::Unlink { path } => {
                 Ok(path_of(alloc, path)?.map(|path| Call::Unlink { path }))
@@ -159,6 +160,20 @@ fn symlink(
 {
     let target = bytes_of(alloc, target)?;
     Ok(path_of(alloc, path)?.map(|path| Call::Symlink { target, path }))
+}
+
+fn link(
+    alloc: Global,
+    old: &EscapedWord<'_>,
+    new: &EscapedWord<'_>,
+) -> Result<Result<Call, Errno>, AllocError>
+    ensures { IfOk result (λ outcome. outcome ≡ commands.call_of (text.Link old.now new.now)) }
+{
+    let old = match path_of(alloc, old)? {
+        Ok(old) => old,
+        Err(errno) => return Ok(Err(errno)),
+    };
+    Ok(path_of(alloc, new)?.map(|new| Call::Hardlink { old, new }))
 }
 
 fn open(

@@ -25,7 +25,7 @@ pub enum Command<'a> {
     Merge,
 }
 
-/// A call as a line spells it. Its words have their form; whether the path is one is judged later.
+/// A call as a line spells it. Its words have their form; whether a path is one is judged later.
 #[derive(Drop)]
 pub enum CallText<'a> {
     Stat {
@@ -66,6 +66,10 @@ pub enum CallText<'a> {
     Symlink {
         target: EscapedWord<'a>,
         path: EscapedWord<'a>,
+    },
+    Link {
+        old: EscapedWord<'a>,
+        new: EscapedWord<'a>,
     },
     Unlink {
         path: EscapedWord<'a>,
@@ -282,6 +286,10 @@ fn path_call_of_two<'a>(name: &[u8], first: &'a [u8], second: &'a [u8]) -> Optio
         let target = EscapedWord::parse(first)?;
         let path = EscapedWord::parse(second)?;
         Some(CallText::Symlink { target, path })
+    } else if name == b"link".as_slice() {
+        let old = EscapedWord::parse(first)?;
+        let new = EscapedWord::parse(second)?;
+        Some(CallText::Link { old, new })
     } else if name == b"open".as_slice() {
         let flags = open_flags(first)?;
         let path = EscapedWord::parse(second)?;

@@ -1,6 +1,6 @@
 -- The calls that change the layers: what becomes of open directories, and the machine's steps.
 use Rattle.std.proofs.Common.{arith, ◌≡◌, ◌≢◌, ℕ, ◌<◌, Bool, true, false, cond, List, [], ◌∷◌, ◌++◌, Option, None, Some, Result, Ok, Err, IsSome, refl, sym, ap, ◌∙◌, subst, is_some}
-use Rattle.overlay_core.proofs.Words.{after, AllocError, At, Attributes, base, Branch, Call, Dentries, Descriptors, Directory, Errno, false≢true, folder_attributes, Handle, handle_of, is_directory, is_folder, IsMountOf, Layer, layer_of, Layers, Leaf, Location, lowers_of, made_way, Name, nat_cmp, New, Node, node_at, NodeId, OnErr, OpenDirectory, option_and_then, option_map, or_else, Path, put, refusal, Removed, Removes, reply_of, same_id, shows, State, StaysMount, Table, Tree, way_of, when}
+use Rattle.overlay_core.proofs.Words.{after, AllocError, At, Attributes, base, Branch, Call, change, Dentries, Descriptors, Directory, Errno, false≢true, folder_attributes, Handle, handle_of, is_directory, is_folder, IsMountOf, Layer, layer_of, Layers, Leaf, Location, lowers_of, made_way, MountOptions, Name, nat_cmp, New, Node, node_at, NodeId, OnErr, OpenDirectory, option_and_then, option_map, or_else, over_node, Path, put, refusal, Removed, Removes, reply_of, same_id, shows, State, StaysMount, Table, Tree, way_of, when}
 use Rattle.std.specs.BTreeMap.{get}
 use Rattle.ov_base.specs.declared.call.Call.TheVariants as call
 use Rattle.ov_base.specs.declared.errno.Errno.TheVariants.{EBUSY, EISDIR}
@@ -8,11 +8,14 @@ use Rattle.ov_base.specs.declared.reply.Reply.TheVariants as reply
 use Rattle.plain_model.specs.Layers.{same_path}
 use Rattle.plain_model.specs.Tree.{names_of, entry, with_name}
 use Rattle.plain_model.specs.Machine.{is_root}
+use Rattle.plain_model.specs.Changes.{lead_way, one_more}
 use Rattle.plain_model.proofs.Paths.{ids_tell, paths_tell}
 use Rattle.mount_laws.specs.Looks.{walk_fault, KeepsHidden, Makes, mkdir_fault}
 use Rattle.mount_laws.specs.Leaves.{MakesLink, symlink_fault}
+use Rattle.mount_laws.specs.Linking.{MakesName, link_fault}
 use Rattle.mount_laws.specs.Removals.{unlink_fault, rmdir_fault, ShowsNoName}
 use Rattle.mount_laws.specs.Altered.{AltersState}
+use Rattle.mount_laws.proofs.Linked.{law_of_link}
 use Rattle.mount_laws.proofs.Looks.{law_of_mkdir}
 use Rattle.mount_laws.proofs.Refusing.{law_of_symlink, law_of_unlink, law_of_rmdir}
 use Rattle.overlay_core.specs.declared.clients.Clients.{Clients}
@@ -53,14 +56,31 @@ put-folder t x d o same f = by (same_id x d) refl
     by true e = same ((ids_tell x d).0 e)
     by false e = f
 
--- and so is one of a tree in which a node is made
+-- and so is one of a tree in which a name leads elsewhere
+way-folder : (t : Tree) (w : Option (NodeId × Name)) (e : Option NodeId) (d : NodeId) → is_folder (t d) ≡ true → is_folder (lead_way t w e d) ≡ true
+way-folder t None e d f = f
+way-folder t (Some w) e d f = put-folder t w.0 d (with_name w.1 e (t w.0)) (λ same. named-folder w.1 e (t w.0) (ap (λ z. is_folder (t z)) same ∙ f)) f
+
+-- and one of a tree in which a node is made
 made-folder : (t : Tree) (i : ℕ) (w : Option (NodeId × Name)) (x : Node) (d : NodeId) → t (New i) ≡ None → is_folder (t d) ≡ true → is_folder (made_way t i w x d) ≡ true
 made-folder t i None x d free f = f
 made-folder t i (Some w) x d free f =
-    let there : is_folder (put t (New i) (Some x) d) ≡ true = put-folder t (New i) d (Some x) (λ e. absurd (false≢true (sym (ap is_folder (ap t (sym e) ∙ free)) ∙ f))) f in
-    put-folder (put t (New i) (Some x)) w.0 d (with_name w.1 (Some (New i)) (put t (New i) (Some x) w.0))
-    (λ e. named-folder w.1 (Some (New i)) (put t (New i) (Some x) w.0) (ap (λ z. is_folder (put t (New i) (Some x) z)) e ∙ there))
-    there
+    way-folder (put t (New i) (Some x)) (Some w) (Some (New i)) d
+    (put-folder t (New i) d (Some x) (λ e. absurd (false≢true (sym (ap is_folder (ap t (sym e) ∙ free)) ∙ f))) f)
+
+-- a directory with a name more is one
+more-folder : (m : MountOptions) (o : Option Node) → is_folder o ≡ true → is_folder (over_node (one_more m) o) ≡ true
+more-folder m None f = f
+more-folder m (Some (Branch a b names c)) f = refl
+more-folder m (Some (Leaf content a u l)) f = f
+
+-- and so is one of a tree in which a node gets a further name
+linked-folder : (m : MountOptions) (t : Tree) (o : Option NodeId) (w : Option (NodeId × Name)) (d : NodeId) → is_folder (t d) ≡ true → is_folder (lead_way (change (one_more m) t o) w o d) ≡ true
+linked-folder m t o w d f = way-folder (change (one_more m) t o) w o d (changed o)
+  where
+    changed : (o : Option NodeId) → is_folder (change (one_more m) t o d) ≡ true
+    changed None = f
+    changed (Some e) = put-folder t e d (over_node (one_more m) (t e)) (λ same. more-folder m (t e) (ap (λ z. is_folder (t z)) same ∙ f)) f
 
 -- a directory stands where it stood if its path leads there still, or it was removed
 stands-on : (t u : Tree) → KeepsHidden t u → (l : Location) (d : NodeId) → is_folder (t d) ≡ true → ((q : Path) → l ≡ At q → node_at t q ≡ Some d → node_at u q ≡ Some d) → Stands t l d → Stands u l d
@@ -223,6 +243,14 @@ module _ (m : Mount) (s : State) (st : IsStateOf m s) (new : Layers) where
       let k = call.Symlink target p in
       done c k (law_of_symlink (the_upper m) (the_lowers m) s st.layers c target p ∙ ok) x.answer x.mounts x.tables refl same
       (λ b fd o h on. handle-beside c k p _ refl x.stays x.hidden o h) (files-kept m.layers new s st.layers c k m.clients live leaves)
+
+  -- so is a link
+  pub link-done : (c : ℕ) (p q : Path) → link_fault (the_layers m) p q ≡ None → new.lowers ≡ m.layers.lowers → MakesName V (lowers_of new) s c p q → KeepsLive m.layers new (call.Hardlink p q) → KeepsLeaves (call.Hardlink p q) → Serves (refusal s c (call.Hardlink p q)) s c (call.Hardlink p q) reply.Done (record m { layers = new })
+  link-done c p q ok same x live leaves =
+      let k = call.Hardlink p q in
+      done c k (law_of_link (the_upper m) (the_lowers m) s st.layers c p q ∙ ok) x.answer x.mounts x.tables refl same
+      (λ b fd o h on. handle-on s.tree (after s c k).tree x.stays x.hidden (linked-folder s.options s.tree (node_at s.tree p) (way_of s.tree q)) m.clients.directories o h)
+      (files-kept m.layers new s st.layers c k m.clients live leaves)
 
   -- no directory is open at the path of a file or link
   not-there : (p : Path) → unlink_fault (the_layers m) p ≡ None → (l : Location) (d : NodeId) → Stands s.tree l d → is_folder (s.tree d) ≡ true → l ≢ At p

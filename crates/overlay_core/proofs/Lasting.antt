@@ -17,19 +17,22 @@ use Rattle.layer_tree.specs.declared.node.Node.{Node as Stored}
 use Rattle.layer_tree.specs.declared.node.Node.TheVariants as node
 use Rattle.mount_laws.specs.Looks.{Gains, Makes}
 use Rattle.mount_laws.specs.Leaves.{GainsLeaf, MakesLink, MakesFile}
+use Rattle.mount_laws.specs.Linking.{MakesName}
 use Rattle.mount_laws.specs.StayOpen.{LosesLink, LivesThroughRemoval}
 use Rattle.mount_laws.proofs.OpenFiles.{one-number}
 use Rattle.mount_laws.proofs.StayOpen.{law_of_live_kept, law_of_live_through_made, law_of_live_through_link, law_of_live_through_file}
+use Rattle.mount_laws.proofs.LinkedOpen.{law_of_live_through_name}
 use Rattle.mount_laws.proofs.Outlive.{law_of_live_through_unlink, law_of_live_through_rmdir}
 use Rattle.copy_up.specs.Showing.{is_object, number_of, sight, KeepsPath, KeepsOthers, GainsParents}
 use Rattle.copy_up.proofs.Keeping.{lowers-same}
 use Rattle.make_remove.specs.Making.{MakesDirectory, MkdirSteps, new_attributes, shown_under}
 use Rattle.make_remove.specs.Leaves.{MakesLeaf, SymlinkSteps, CreateSteps}
 use Rattle.make_remove.specs.Removing.{TakesName, Unnames}
+use Rattle.rename_redirect.specs.Linking.{GainsBoth, GivesName, LinkSteps}
 use Rattle.overlay_core.specs.Files.{is_leaf}
 use Rattle.overlay_core.specs.declared.clients.Clients.{Clients}
 use Rattle.overlay_core.specs.Living.{StaysLive, KeepsLive, KeepsHeld}
-pub use Rattle.overlay_core.proofs.Leaves.{mkdir-leaves, symlink-leaves, chmod-leaves, chown-leaves, set-leaves, delete-leaves, open-leaves, unlink-leaves, rmdir-leaves}
+pub use Rattle.overlay_core.proofs.Leaves.{mkdir-leaves, symlink-leaves, link-leaves, chmod-leaves, chown-leaves, set-leaves, delete-leaves, open-leaves, unlink-leaves, rmdir-leaves}
 
 -- a path of which no more changes than that it gains a directory as a parent names what it named
 kept-name : (old new : Layers) (p q : Path) → KeepsPath old new p q → (k : ℕ) → (held (layer_of new.upper) q ≡ Some (Named k)) ↔ (held (layer_of old.upper) q ≡ Some (Named k))
@@ -43,6 +46,10 @@ kept-name old new p q (inr g) k = (
 pub parents-live : (old new : Layers) (p : Path) → GainsParents old new p → StaysLive old new
 parents-live old new p g t d k =
     law_of_live_kept (layer_of old.upper) (layer_of new.upper) t d k (λ q. kept-name old new p q (g.paths q) k) (g.objects.inodes k (λ e. cc))
+
+-- and so do those of two paths, gained one after the other
+pub both-live : (old new : Layers) (p q : Path) → GainsBoth old new p q → StaysLive old new
+both-live old new p q g t d k live = parents-live g.mid new q g.second t d k (parents-live old g.mid p g.first t d k live)
 
 -- an upper that makes an object keeps its names outside of it and below it
 module _ (old new : Layers) (p : Path) (others : KeepsOthers old new p) where
@@ -173,6 +180,13 @@ create-live old new p mode m steps flags s is c d k live =
     law_of_live_through_file (layer_of old.upper) (layer_of new.upper) (lowers_of old) s is c p flags mode g
     (subst (λ (Ls : List Layer). MakesFile (layer_of new.upper) Ls s c p flags mode) (lowers-same old new m.lowers) (steps s is c flags)) d k
     (gained-differs old new p _ _ m s.tree d k live g) (same-inode old new p _ _ m s.tree d k live) live
+
+-- link leaves each live file live, also the one that it names
+pub link-live : (old new : Layers) (p q : Path) → new.lowers ≡ old.lowers → GivesName old new p q → LinkSteps old new p q → KeepsLive old new (call.Hardlink p q)
+link-live old new p q low gives steps s is c d k live =
+    law_of_live_through_name (layer_of old.upper) (layer_of new.upper) (lowers_of old) s is c p q (gives.gains is.layers)
+    (subst (λ (Ls : List Layer). MakesName (layer_of new.upper) Ls s c p q) (lowers-same old new low) (steps s is c)) d k
+    (gives.links is.layers k (ap is_some live.inode)) live
 
 -- a directory that is held stands under a key that is no inode's
 folder-key : (t : LayerTree) (e : Option Entry) (k : ℕ) (a : Attributes) (o : Bool) (r : Option Redirect) → option_and_then (seen_entry t) e ≡ Some (Directory k a o r) → inode_at t k ≡ None

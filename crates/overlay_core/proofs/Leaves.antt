@@ -5,7 +5,7 @@ use Rattle.std.specs.FinMap as fin
 use Rattle.ov_base.specs.declared.bytes.Content.TheVariants.{File, SymbolicLink}
 use Rattle.ov_base.specs.declared.call.Call.TheVariants as call
 use Rattle.plain_model.specs.Tree.{IsKept, with_name}
-use Rattle.plain_model.specs.Changes.{lead_way, touched, one_fewer, with_attributes, with_mode, with_owner, set_value, drop_value, opened, is_named, is_held, settled, dropped}
+use Rattle.plain_model.specs.Changes.{lead_way, touched, one_fewer, one_more, with_attributes, with_mode, with_owner, set_value, drop_value, opened, is_named, is_held, settled, dropped}
 use Rattle.plain_model.proofs.Keeping.{put-here, put-there}
 use Rattle.plain_model.proofs.Paths.{ids_tell}
 use Rattle.overlay_core.specs.Files.{is_leaf}
@@ -67,6 +67,11 @@ fewer-leaf : (x : Node) → is_leaf (Some x) ≡ true → is_leaf (Some (one_few
 fewer-leaf (Branch a b names c) h = absurd (false≢true h)
 fewer-leaf (Leaf content a u l) h = refl
 
+-- and one with a name more
+more-leaf : (m : MountOptions) (x : Node) → is_leaf (Some x) ≡ true → is_leaf (Some (one_more m x)) ≡ true
+more-leaf m (Branch a b names c) h = absurd (false≢true h)
+more-leaf m (Leaf content a u l) h = refl
+
 -- a file that a handle is open on stays where what has neither name nor handle goes
 settled-leaf : (ks : List Table) (t : Tree) (o : Option NodeId) (d : NodeId) → is_held ks d ≡ true → is_leaf (t d) ≡ true → is_leaf (settled ks t o d) ≡ true
 settled-leaf ks t None d held h = h
@@ -93,6 +98,12 @@ mkdir-leaves p mode s kept c d h = made-leaf s.tree s.serial kept (way_of s.tree
 -- symlink does
 pub symlink-leaves : (target : List ℕ) (p : Path) → KeepsLeaves (call.Symlink target p)
 symlink-leaves target p s kept c d h = made-leaf s.tree s.serial kept (way_of s.tree p) (Leaf (SymbolicLink target) (fresh 0o777) Own 1) d h
+
+-- link does
+pub link-leaves : (p q : Path) → KeepsLeaves (call.Hardlink p q)
+link-leaves p q s kept c d h =
+    way-leaf (change (one_more s.options) s.tree (node_at s.tree p)) (way_of s.tree q) (node_at s.tree p) d
+    (change-leaf (one_more s.options) (more-leaf s.options) s.tree (node_at s.tree p) d h)
 
 -- chmod does
 pub chmod-leaves : (p : Path) (mode : ℕ) → KeepsLeaves (call.Chmod p mode)

@@ -18,6 +18,7 @@ use make_remove::{mkdir, symlink};
 use merged_lookup::{Found, Layers, Topmost};
 use open_handles::{DESCRIPTORS_MAX, FileSource, Handle, OpenFile};
 use ov_base::{Attributes, Bytes, Call, Content, Errno, LinkTarget, Mode, NameList, Path, Reply};
+use rename_redirect::link;
 use std::alloc::{AllocError, Global};
 use std::hash::RandomState;
 
@@ -131,8 +132,8 @@ impl Mount {
         }
     }
 
-    /// Makes a call of a client that is attached. Offered are all calls but those on hard links, renames and watches, which are EOPNOTSUPP
-    /// and change nothing. Want of memory leaves all that is shown as it was.
+    /// Makes a call of a client that is attached. Offered are all calls but renames and those on watches, which are EOPNOTSUPP and change
+    /// nothing. Want of memory leaves all that is shown as it was.
     pub(crate) fn perform(&mut self, client: u64, call: &Call) -> Result<Reply, AllocError>
         requires there { IsSome (get nat_cmp self.old.clients.attached client) }
         requires state { ∥ HasStateOf self.old ∥₁ }
@@ -159,6 +160,7 @@ impl Mount {
             Call::Symlink { target, path } => self.symlink(target, path),
             Call::Unlink { path } => self.unlink(path),
             Call::Rmdir { path } => self.rmdir(path),
+            Call::Hardlink { old, new } => self.link(old, new),
             Call::Open { path, flags, mode } => self.open(client, path, *flags, *mode),
             Call::Read { descriptor, count } => self.read(client, *descriptor, *count),
             Call::Write { descriptor, bytes } => self.write(client, *descriptor, bytes),
@@ -225,6 +227,20 @@ impl Mount {
             Err(errno) => return Ok(Reply::Refused(errno)),
         };
         match symlink(self.alloc, &mut self.layers, target, path)? {
+            Ok(()) => Ok(Reply::Done),
+            Err(errno) => Ok(Reply::Refused(errno)),
+        }
+    }
+
+    fn link(&mut self, old: &Path, new: &Path) -> Result<Reply, AllocError>
+        ensures serves { IfOk result (λ reply. (s : State) → IsStateOf self.old s → (c : ℕ) → Serves (refusal s c (Call.Hardlink old.now new.now)) s c (Call.Hardlink old.now new.now) reply self.new) }
+        ensures err { OnErr result (StaysState self.old self.new) }
+        ensures clients { self.new.clients ≡ self.old.clients }
+        ensures refused { IfOk result (λ reply. (errno : Errno) → reply ≡ Reply.Refused errno → self.new.layers ≡ self.old.layers) }
+        ensures lowers { self.new.layers.lowers ≡ self.old.layers.lowers }
+        ensures thin { StaysThin self.old.layers self.new.layers }
+    {
+        match link(&mut self.layers, old, new)? {
             Ok(()) => Ok(Reply::Done),
             Err(errno) => Ok(Reply::Refused(errno)),
         }

@@ -29,11 +29,12 @@ use std::rt::Files;
 use std::{fs, io};
 
 /// The files of the rows, each on one subject.
-const FILES: [&str; 13] = [
+const FILES: [&str; 14] = [
     "look_up.rows",
     "redirects.rows",
     "listings.rows",
     "making_and_removing.rows",
+    "links.rows",
     "refusals.rows",
     "attributes.rows",
     "descriptors_and_clients.rows",

@@ -28,6 +28,11 @@ const FILES: [&str; 11] = [
 // Where the mounts begin with nothing, so that directories come and go there.
 const PLACES: [&str; 5] = ["/d", "/d", "/a/d", "/a/b/d", "/d/d"];
 
+// Where they begin with nothing in directories of one layer or of several, so that further names come there.
+const FREE_NAMES: [&str; 10] = [
+    "/d", "/d", "/a/d", "/a/d", "/a/d", "/a/b/d", "/a/b/d", "/a/b/d", "/a/a/d", "/c/d",
+];
+
 const MODES: [&str; 6] = ["0", "600", "644", "755", "7777", "10000"];
 
 const OFFSETS: [&str; 16] = [
@@ -98,10 +103,11 @@ pub fn push_call(
     script: &mut String,
 ) -> Result<(), AllocError> {
     script.push_str(dice.pick(clients))?;
-    match dice.roll(36) {
+    match dice.roll(40) {
         0..=15 => push_descriptor_call(dice, script)?,
         16..=21 => push_open(dice, script)?,
         22..=32 => push_path_call(dice, script)?,
+        33..=36 => push_link(dice, script)?,
         _ => push_attribute_call(dice, script)?,
     }
     script.push_str("\n")
@@ -184,6 +190,20 @@ fn push_path_call(dice: &mut Dice, script: &mut String) -> Result<(), AllocError
         return push_one_of(dice, &PLACES, script);
     }
     push_path(dice, script)
+}
+
+// A link of any path, more often of a file, to any path, more often to one at which the mounts begin with nothing.
+fn push_link(dice: &mut Dice, script: &mut String) -> Result<(), AllocError> {
+    push_word(script, "link")?;
+    if dice.roll(4) == 0 {
+        push_path(dice, script)?;
+    } else {
+        push_one_of(dice, &FILES, script)?;
+    }
+    if dice.roll(3) == 0 {
+        return push_path(dice, script);
+    }
+    push_one_of(dice, &FREE_NAMES, script)
 }
 
 // A call on one user attribute.
