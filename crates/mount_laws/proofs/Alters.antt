@@ -11,7 +11,7 @@ use Rattle.plain_model.proofs.Uppers.{meld, merged-meld, AgreeTo, agree-where, t
 use Rattle.mount_laws.specs.Leaves.{PlacesLeaf, GainsLeaf, LawOfPlacedLeaf}
 use Rattle.mount_laws.specs.Removals.{ShowsNoName, TakesAway, fewer, left_behind, LawOfTakenAway}
 use Rattle.mount_laws.specs.Thin.{LawOfThin}
-use Rattle.mount_laws.proofs.Places.{nothing-in, nothing-below, named-shown, other-path, longer}
+use Rattle.mount_laws.proofs.Places.{bare-below, nothing-below, named-shown, other-path, longer}
 
 -- what is seen is told by the inode that is named, and by no other
 pub meld-alike : (f g : ℕ → Option Inode) (o : Option Object) (s : Option Shown) → ((k : ℕ) → o ≡ Some (Named k) → f k ≡ g k) → meld f o s ≡ meld g o s
@@ -37,7 +37,7 @@ module _ (L : Layer) (a : IsLayer L) (k : ℕ) (i : Inode) (is : L.inodes k ≡ 
   two : (n : ℕ) → (n - 1 ≡ 0 → ⊥) → 1 < n
   two n h = omega arith
 
-  two-names : 1 < i.links
+  pub two-names : 1 < i.links
   two-names = two i.links rest
 
 -- V is U but at p, below which it holds nothing
@@ -96,8 +96,7 @@ module _ (U V : Layer) (lowers : List Layer) (a : AreLayers (U ∷ lowers)) (b :
 
   -- nothing was shown below
   unshown : (k : Name) (r : Path) → shows 0 (U ∷ lowers) (k ∷ r ++ path) ≡ None
-  unshown k [] = bare k
-  unshown k (j ∷ r) = nothing-in (U ∷ lowers) a k (j ∷ r ++ path) (ap is_directory (unshown j r))
+  unshown = bare-below (U ∷ lowers) a path bare
 
   unnamed-below : (q : Path) (k : Name) (r : Path) (j : ℕ) → q ≡ k ∷ r ++ path → held U q ≡ Some (Named j) → ⊥
   unnamed-below q k r j e h = named-shown U lowers (k ∷ r ++ path) j (ap (held U) (sym e) ∙ h) (unshown k r)

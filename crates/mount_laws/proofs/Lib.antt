@@ -23,3 +23,11 @@ pub mod Outlive
 pub mod Naming
 pub mod Linked
 pub mod LinkedOpen
+pub mod Renaming
+pub mod Moving
+pub mod CopiedMoves
+pub mod RenamedTree
+pub mod RenamedHandles
+pub mod CanMove
+pub mod Renamed
+pub mod RenamedOpen

@@ -46,7 +46,7 @@ face-more m (Some (Leaf content a Own l)) one = refl
 face-more m (Some (Leaf content a (Untouched k) l)) one = ap (λ n. Some (SeenLeaf content a Own (n + 1))) (one refl)
 
 -- a name that leads elsewhere is not seen of its directory
-face-named : (n : Name) (e : Option NodeId) (o : Option Node) → face (with_name n e o) ≡ face o
+pub face-named : (n : Name) (e : Option NodeId) (o : Option Node) → face (with_name n e o) ≡ face o
 face-named n e None = refl
 face-named n e (Some (Branch a b names c)) = refl
 face-named n e (Some (Leaf content a u l)) = refl
@@ -131,11 +131,11 @@ pub record Joined (V : Layer) (lowers : List Layer) (s : State) (old new : Path)
   pub hidden : KeepsHidden s.tree u
 
 -- two paths that are one object are so either way round
-turned : (V : Layer) (x z : Path) → AreLinked V x z → AreLinked V z x
+pub turned : (V : Layer) (x z : Path) → AreLinked V x z → AreLinked V z x
 turned V x z l = record { number = l.number; first = l.second; second = l.first }
 
 -- and so are two that are one object with a third
-joined-links : (V : Layer) (x y z : Path) → AreLinked V x y → AreLinked V y z → AreLinked V x z
+pub joined-links : (V : Layer) (x y z : Path) → AreLinked V x y → AreLinked V y z → AreLinked V x z
 joined-links V x y z k l =
     let number : l.number ≡ k.number = (let w : Some (Named l.number) ≡ Some (Named k.number) = sym l.first ∙ k.second in cc) in
     record { number = k.number; first = k.first; second = l.second ∙ ap (λ j. Some (Named j)) number }

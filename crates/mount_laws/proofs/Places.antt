@@ -23,6 +23,11 @@ pub nothing-below : (Ls : List Layer) → AreLayers Ls → (p : Path) → is_dir
 nothing-below Ls a p h m [] = nothing-in Ls a m p h
 nothing-below Ls a p h m (k ∷ r) = nothing-in Ls a m (k ∷ r ++ p) (ap is_directory (nothing-below Ls a p h k r))
 
+-- and below a directory in which no name is shown nothing is
+pub bare-below : (Ls : List Layer) → AreLayers Ls → (p : Path) → ((m : Name) → shows 0 Ls (m ∷ p) ≡ None) → (m : Name) (r : Path) → shows 0 Ls (m ∷ r ++ p) ≡ None
+bare-below Ls a p h m [] = h m
+bare-below Ls a p h m (k ∷ r) = nothing-in Ls a m (k ∷ r ++ p) (ap is_directory (bare-below Ls a p h k r))
+
 -- a name of an inode is shown
 pub named-shown : (U : Layer) (lowers : List Layer) (p : Path) (k : ℕ) → held U p ≡ Some (Named k) → shows 0 (U ∷ lowers) p ≡ None → ⊥
 named-shown U lowers p k h e = let z : Some (Contents 0 k (U.inodes k)) ≡ None = sym (ap (λ o. over 0 U.inodes o (through U lowers p)) h) ∙ e in cc

@@ -18,6 +18,7 @@ use Rattle.plain_model.proofs.Walks.{lead-outside, lead-at}
 use Rattle.mount_laws.specs.Looks.{parents_fault, walk_fault, IsMountOf, IsHidden, KeepsHidden}
 use Rattle.mount_laws.specs.Removals.{folder_attributes, ShowsNoName, fewer, Loses, LawOfUnlinked, LawOfRemovedDirectory}
 use Rattle.mount_laws.proofs.Handles.{not-same, held-by}
+use Rattle.mount_laws.proofs.Linked.{face-named}
 use Rattle.mount_laws.proofs.Links.{first-none, second-none}
 use Rattle.mount_laws.proofs.Looks.{none-of, at-some, shown-there}
 use Rattle.mount_laws.proofs.Makes.{folder-alone}
@@ -145,23 +146,20 @@ module _ (t : Tree) (ks : List Table) (n : Name) (q : Path) (d e : NodeId) (at :
       by true = refl
       by false = refl
 
-face-named : (n : Name) (o : Option Node) → face (with_name n None o) ≡ face o
-face-named n None = refl
-face-named n (Some (Branch a b names c)) = refl
-face-named n (Some (Leaf content a u l)) = refl
+-- no name tells the attributes of a directory
+pub attributes-named : (n : Name) (e : Option NodeId) (o : Option Node) → folder_attributes (with_name n e o) ≡ folder_attributes o
+attributes-named n e None = refl
+attributes-named n e (Some (Branch a b names c)) = refl
+attributes-named n e (Some (Leaf content a u l)) = refl
 
-attributes-named : (n : Name) (o : Option Node) → folder_attributes (with_name n None o) ≡ folder_attributes o
-attributes-named n None = refl
-attributes-named n (Some (Branch a b names c)) = refl
-attributes-named n (Some (Leaf content a u l)) = refl
-
-attributes-fewer : (o : Option Node) → folder_attributes (over_node one_fewer o) ≡ folder_attributes o
+-- nor does their count
+pub attributes-fewer : (o : Option Node) → folder_attributes (over_node one_fewer o) ≡ folder_attributes o
 attributes-fewer None = refl
 attributes-fewer (Some (Branch a b names c)) = refl
 attributes-fewer (Some (Leaf content a u l)) = refl
 
 -- a name of the upper's fewer is seen as one
-face-fewer : (o : Option Node) (i : Option Inode) → face o ≡ see_inode 0 i → face (over_node one_fewer o) ≡ fewer (face o)
+pub face-fewer : (o : Option Node) (i : Option Inode) → face o ≡ see_inode 0 i → face (over_node one_fewer o) ≡ fewer (face o)
 face-fewer None i h = refl
 face-fewer (Some (Branch a b names c)) i h = refl
 face-fewer (Some (Leaf content a Own l)) i h = refl
@@ -169,7 +167,7 @@ face-fewer (Some (Leaf content a (Untouched k) l)) None h = cc
 face-fewer (Some (Leaf content a (Untouched k) l)) (Some i) h = cc
 
 -- a node with a name is there
-counted-some : (o : Option Node) → (count_of o ≡ zero → ⊥) → is_some o ≡ true
+pub counted-some : (o : Option Node) → (count_of o ≡ zero → ⊥) → is_some o ≡ true
 counted-some None h = absurd (h refl)
 counted-some (Some x) h = refl
 
@@ -246,7 +244,7 @@ module _ (U V : Layer) (lowers : List Layer) (s : State) (m : IsMountOf U lowers
           let is : e ≡ x = (ids_tell e x).0 same in
           by is (m.shows.apart path y e at-path-node (h ∙ ap Some (sym is)))
       | inr away ↦
-          other-fact s.tree s.tables n q d e at folder leads only bare face (face-named n) x away
+          other-fact s.tree s.tables n q d e at folder leads only bare face (face-named n None) x away
           ∙ ap (λ o. face (node_of s.tree o)) (sym h) ∙ m.shows.sights y
           ∙ sym (g.others y apart (λ l. both_ways (same_id e x) away (some-same e x (sym at-path-node ∙ m.shows.linked path y l ∙ h))))
     ]
@@ -298,7 +296,7 @@ module _ (U V : Layer) (lowers : List Layer) (s : State) (m : IsMountOf U lowers
           ∙ ap folder_attributes (still-held s.tree s.tables n q d e at folder leads only bare (ap (is_held s.tables) is ∙ held-by s.tables k fd h on))
           ∙ attributes-fewer (s.tree e)
           ∙ ap (λ x. folder_attributes (s.tree x)) is
-      | inr away ↦ other-fact s.tree s.tables n q d e at folder leads only bare folder_attributes (attributes-named n) h.node away
+      | inr away ↦ other-fact s.tree s.tables n q d e at folder leads only bare folder_attributes (attributes-named n None) h.node away
     ]
 
     empty-there : (x : NodeId) → node_at s.tree path ≡ Some x → is_folder (s.tree x) ≡ true → (names_in (rest x) ≡ []) × IsHidden rest x

@@ -11,3 +11,5 @@ pub mod Altered
 pub mod OpenFiles
 pub mod StayOpen
 pub mod Linking
+pub mod Moving
+pub mod Renaming

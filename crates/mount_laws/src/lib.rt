@@ -3,6 +3,7 @@
 
 mod handle_laws;
 mod laws;
+mod rename_laws;
 
 pub use handle_laws::{
     law_of_directory_handle, law_of_file_list, law_of_file_seek, law_of_fstat, law_of_handle_close,
@@ -25,4 +26,9 @@ pub use laws::{
     law_of_placed_parent, law_of_readlink, law_of_removed_directory, law_of_rmdir, law_of_seek,
     law_of_set_attribute, law_of_stat, law_of_symlink, law_of_taken_away, law_of_thin,
     law_of_unlink, law_of_unlinked, law_of_walks, law_of_written,
+};
+pub use rename_laws::{
+    law_of_can_move, law_of_copied_move, law_of_kept_move_link, law_of_live_through_rename,
+    law_of_moved_directory, law_of_moved_link, law_of_moved_name, law_of_placed_move,
+    law_of_rename, law_of_renamed, law_of_same_move, law_of_same_rename, law_of_thin_moves,
 };

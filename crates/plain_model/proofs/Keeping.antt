@@ -140,7 +140,8 @@ with-untouched n e None = refl
 with-untouched n e (Some (Branch a b names c)) = refl
 with-untouched n e (Some (Leaf content a u c)) = refl
 
-put-fact : {B : Type 0} (g : Option Node → B) (t : Tree) (d : NodeId) (o : Option Node) → g o ≡ g (t d) → (x : NodeId) → g (put t d o x) ≡ g (t x)
+-- a fact of the node put at an identity that holds of the one before holds at each
+pub put-fact : {B : Type 0} (g : Option Node → B) (t : Tree) (d : NodeId) (o : Option Node) → g o ≡ g (t d) → (x : NodeId) → g (put t d o x) ≡ g (t x)
 put-fact g t d o h x = elim (cases_Bool (same_id d x)) [
   | inl y ↦ ap g (put-here t d o x y) ∙ h ∙ ap (λ z. g (t z)) ((ids_tell d x).0 y)
   | inr f ↦ ap g (put-there t d o x f)

@@ -74,7 +74,8 @@ free-name t n q w f =
     by (Absent d) f w e r h = subst (Reached t n q) h r
 
 -- a path that is taken: its directory has the name, and it leads to a node
-taken-name : (t : Tree) (n : Name) (q : Path) → there (look t (n ∷ q)) ≡ None → (e : NodeId) × Reached t n q (Some e) × (look t (n ∷ q) ≡ Found e)
+-- a name that a walk finds
+pub taken-name : (t : Tree) (n : Name) (q : Path) → there (look t (n ∷ q)) ≡ None → (e : NodeId) × Reached t n q (Some e) × (look t (n ∷ q) ≡ Found e)
 taken-name t n q h = by (look t (n ∷ q)) refl h
   where
     by : (l : Look) → look t (n ∷ q) ≡ l → there l ≡ None → (e : NodeId) × Reached t n q (Some e) × (look t (n ∷ q) ≡ Found e)

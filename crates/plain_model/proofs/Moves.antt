@@ -5,7 +5,7 @@ use Rattle.ov_base.specs.declared.redirect.Redirect.{Redirect}
 use Rattle.ov_base.specs.declared.redirect.Redirect.TheVariants.{Absolute}
 use Rattle.plain_model.specs.Layers.{Name, Path, Object, Directory, Whiteout, Layer, Inode, held, spell, below, cut, cuts, Shown, unless, over, shows, through, under, is_directory, AreLayers}
 use Rattle.plain_model.proofs.Paths.{outside-parent, parent-outside}
-use Rattle.plain_model.specs.Laws.{IsOutside, Moved, LawOfMoves}
+use Rattle.plain_model.specs.Laws.{IsOutside, left_at, Moved, LawOfMoves}
 use Rattle.plain_model.proofs.Uppers.{AgreeTo, agree-where, through-agree, under-agree, nothing-beneath}
 use Rattle.plain_model.proofs.LookUp.{parent-shown, base-through}
 
@@ -68,23 +68,25 @@ gone-step low inodes o k c s h = grind arith
 gone-dead : (low : Path → Option Shown) (o : Option Object) (k : Name) (c : Bool) (s : Path) → o ≡ cond (is_some (unless c (low (k ∷ s)))) (Some Whiteout) None → is_directory (unless (cut o c) (low (spell o k s))) ≡ false
 gone-dead low o k c s h = grind arith
 
+-- where the upper V keeps what U leaves at k in p, and nothing below, and both agree on the way there, nothing is shown there or below
+module _ (U V : Layer) (lowers : List Layer) (trees : AreLayers lowers) (k : Name) (p : Path) (agree : AgreeTo U V p) (left : held V (k ∷ p) ≡ left_at U lowers (k ∷ p)) (emptied : (j : Name) (r : Path) → held V (j ∷ r ++ (k ∷ p)) ≡ None) where
+  left_now : held V (k ∷ p) ≡ cond (is_some (unless (cuts V p) (shows 1 lowers (k ∷ below V p)))) (Some Whiteout) None
+  left_now = left ∙ ap (λ s. cond (is_some s) (Some Whiteout) None) (sym (under-agree U V lowers k p agree))
+
+  dead : is_directory (through V lowers (k ∷ p)) ≡ false
+  dead = gone-dead (shows 1 lowers) (held V (k ∷ p)) k (cuts V p) (below V p) left_now
+
+  pub left-gone : (r : Path) → shows 0 (V ∷ lowers) (r ++ (k ∷ p)) ≡ None
+  left-gone [] = gone-step (shows 1 lowers) V.inodes (held V (k ∷ p)) k (cuts V p) (below V p) left_now
+  left-gone (j ∷ r) = ap (λ o. over 0 V.inodes o (through V lowers (j ∷ r ++ (k ∷ p)))) (emptied j r) ∙ nothing-beneath V lowers trees (k ∷ p) dead emptied j r
+
 module _ (U V : Layer) (lowers : List Layer) (trees : AreLayers lowers) where
   pub moved-gone : (old : Path) (n : Name) (q : Path) → Moved U V lowers old n q → IsOutside old (n ∷ q) → IsOutside (n ∷ q) old → (r : Path) → shows 0 (V ∷ lowers) (r ++ old) ≡ None
   moved-gone [] n q m apart back = absurd (apart (n ∷ q) (sym (append-nil (n ∷ q))))
-  moved-gone (k ∷ p) n q m apart back = at
-    where
-      a : AgreeTo U V p
-      a = agree-outside U V lowers trees (k ∷ p) n q m p (parent-outside k p) (outside-parent (n ∷ q) k p back)
-
-      left : held V (k ∷ p) ≡ cond (is_some (unless (cuts V p) (shows 1 lowers (k ∷ below V p)))) (Some Whiteout) None
-      left = m.left ∙ ap (λ s. cond (is_some s) (Some Whiteout) None) (sym (under-agree U V lowers k p a))
-
-      dead : is_directory (through V lowers (k ∷ p)) ≡ false
-      dead = gone-dead (shows 1 lowers) (held V (k ∷ p)) k (cuts V p) (below V p) left
-
-      at : (r : Path) → shows 0 (V ∷ lowers) (r ++ (k ∷ p)) ≡ None
-      at [] = gone-step (shows 1 lowers) V.inodes (held V (k ∷ p)) k (cuts V p) (below V p) left
-      at (j ∷ r) = ap (λ o. over 0 V.inodes o (through V lowers (j ∷ r ++ (k ∷ p)))) (m.emptied j r) ∙ nothing-beneath V lowers trees (k ∷ p) dead m.emptied j r
+  moved-gone (k ∷ p) n q m apart back =
+      left-gone U V lowers trees k p
+      (agree-outside U V lowers trees (k ∷ p) n q m p (parent-outside k p) (outside-parent (n ∷ q) k p back))
+      m.left m.emptied
 
 -- the law of moves
 pub law_of_moves : LawOfMoves

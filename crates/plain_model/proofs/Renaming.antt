@@ -11,6 +11,11 @@ use Rattle.plain_model.proofs.Names.{names-more, names-less, names-else, lead-en
 use Rattle.plain_model.proofs.Keeping.{like-refl, IsMild, change-like, lead-counts, lead-folders, IsKeptAs, kept-as, lead-kept}
 use Rattle.plain_model.proofs.Flat.{lost, gained, counts, as-told, like-kept_as, fewer-flat, flat-names, flat-folders, flat-kept, fewer-counts, some-same}
 
+-- a rename of a node leaves it like itself
+pub meta-mild : (m : MountOptions) → IsMild (meta_touched m)
+meta-mild m (Branch a b names c) = like-refl (Some (Branch a b names c))
+meta-mild m (Leaf content a u c) = record { names = λ n. refl; counts = refl; folders = refl; stands = refl; untouched = λ h. absurd (false≢true h) }
+
 -- a node takes a new name, which what stood there loses, and leaves the old one
 module _ (m : MountOptions) (t : Tree) (i : ℕ) (d1 : NodeId) (n1 : Name) (d2 : NodeId) (n2 : Name) (e : NodeId) (o : Option NodeId) (dir1 : is_folder (t d1) ≡ true) (dir2 : is_folder (t d2) ≡ true) (live : count_of (t d2) ≡ 0 → ⊥) (from : names_of (t d1) n1 ≡ Some e) (to : names_of (t d2) n2 ≡ o) (other : o ≡ Some e → ⊥) (empty : (x : NodeId) → o ≡ Some x → (m : Name) → names_of (t x) m ≡ None) (k : IsKept t i) where
   abbrev t1 : Tree
@@ -25,16 +30,12 @@ module _ (m : MountOptions) (t : Tree) (i : ℕ) (d1 : NodeId) (n1 : Name) (d2 :
   abbrev pub t4 : Tree
   t4 = lead t3 d1 n1 None
 
-  mild : IsMild (meta_touched m)
-  mild (Branch a b names c) = like-refl (Some (Branch a b names c))
-  mild (Leaf content a u c) = record { names = λ n. refl; counts = refl; folders = refl; stands = refl; untouched = λ h. absurd (false≢true h) }
-
   first : (o : Option NodeId) → ((x : NodeId) → o ≡ Some x → (m : Name) → names_of (t x) m ≡ None) → IsKeptAs (counts t) (change one_fewer t o) i
   first None empty = as-told t i k
   first (Some x) empty = flat-kept one_fewer fewer-flat t x i (λ h. empty x refl) k
 
   kept2 : IsKeptAs (counts t) t2 i
-  kept2 = like-kept_as (counts t) t1 t2 i (change-like (meta_touched m) mild t1 (Some e)) (first o empty)
+  kept2 = like-kept_as (counts t) t1 t2 i (change-like (meta_touched m) (meta-mild m) t1 (Some e)) (first o empty)
 
   first-names : (o : Option NodeId) (x : NodeId) (m : Name) → names_of (change one_fewer t o x) m ≡ names_of (t x) m
   first-names None x m = refl
@@ -45,13 +46,13 @@ module _ (m : MountOptions) (t : Tree) (i : ℕ) (d1 : NodeId) (n1 : Name) (d2 :
   first-folders (Some y) x = flat-folders one_fewer fewer-flat t y x
 
   names2 : (x : NodeId) (k : Name) → names_of (t2 x) k ≡ names_of (t x) k
-  names2 x k = (change-like (meta_touched m) mild t1 (Some e) x).names k ∙ first-names o x k
+  names2 x k = (change-like (meta_touched m) (meta-mild m) t1 (Some e) x).names k ∙ first-names o x k
 
   folders2 : (x : NodeId) → is_folder (t2 x) ≡ is_folder (t x)
-  folders2 x = (change-like (meta_touched m) mild t1 (Some e) x).folders ∙ first-folders o x
+  folders2 x = (change-like (meta_touched m) (meta-mild m) t1 (Some e) x).folders ∙ first-folders o x
 
   counts2 : (x : NodeId) → count_of (t2 x) ≡ lost o (counts t) x
-  counts2 x = (change-like (meta_touched m) mild t1 (Some e) x).counts ∙ fewer-counts t o x
+  counts2 x = (change-like (meta_touched m) (meta-mild m) t1 (Some e) x).counts ∙ fewer-counts t o x
 
   -- a node that does not lose the name keeps its count
   not-lost : (o : Option NodeId) (x : NodeId) → (o ≡ Some x → ⊥) → lost o (counts t) x ≡ count_of (t x)
