@@ -218,7 +218,7 @@ links_unbinds old new dir name e tree u no_object k i is = of (cases_key (child 
         let dropped = length_without (child old) (child new) dir name names.places (names.stands.all dir name led) in
         record {
           places = without dir name names.places;
-          stands = StandsAt-unbound (child old) (child new) dir name k names.places binds names.stands;
+          stands = StandsAt-unbound (child old) (child new) dir name k None names.places binds (λ f. cc) names.stands;
           counted = omega (arith, dropped, names.counted, fewer);
         }
 
@@ -259,7 +259,7 @@ links_inserts old new dir name o key tree ins no_object k i is = of (cases_eq k 
     first at =
         record {
           places = (dir, name) ∷ [];
-          stands = StandsAt-bound (child old) (child new) dir name key [] binds no_object nowhere;
+          stands = StandsAt-bound (child old) (child new) dir name key [] binds (λ f. true≢false (sym (ap is_some f) ∙ ap is_some no_object)) nowhere;
           counted = one o (sym ins.inode ∙ at);
         }
 

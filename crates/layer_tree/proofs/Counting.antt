@@ -1,5 +1,5 @@
 -- How a change of one name changes the places where a key stands.
-use Rattle.std.proofs.Common.{◌≡◌, ◌≢◌, ◌⊎◌, ℕ, suc, List, [], ◌∷◌, length, Option, Some, None, refl, sym, ap, subst, ◌∙◌, inl, inr}
+use Rattle.std.proofs.Common.{◌≡◌, ◌≢◌, ◌⊎◌, ℕ, suc, List, [], ◌∷◌, length, Option, Some, refl, sym, ap, subst, ◌∙◌, inl, inr}
 use Rattle.layer_tree.specs.Walk.{Rebinds}
 use Rattle.layer_tree.specs.Places.{Listed, Apart, StandsAt, HasNames}
 use Rattle.layer_tree.proofs.Walks.{cases_pair}
@@ -15,9 +15,9 @@ without d n [] = []
 without d n (p ∷ ps) = dropped p ps (without d n ps) (cases_pair p.0 d p.1 n)
 
 module _ (old new : ℕ → List ℕ → Option ℕ) (dir : ℕ) (name : List ℕ) where
-  pub StandsAt-bound : (key : ℕ) (places : List (ℕ × List ℕ)) → Rebinds old new dir name (Some key) → old dir name ≡ None → StandsAt old key places → StandsAt new key ((dir, name) ∷ places)
+  pub StandsAt-bound : (key : ℕ) (places : List (ℕ × List ℕ)) → Rebinds old new dir name (Some key) → old dir name ≢ Some key → StandsAt old key places → StandsAt new key ((dir, name) ∷ places)
   StandsAt-bound key places binds absent stands =
-      let fresh : Listed dir name places → ⊥ = λ l. let e = stands.found dir name l in absurd (cc) in
+      let fresh : Listed dir name places → ⊥ = λ l. absent (stands.found dir name l) in
       record {
         found = λ d n l. elim l [
           | inl here ↦ ap (λ (x : ℕ). new x n) here.0 ∙ ap (λ x. new dir x) here.1 ∙ binds.at
@@ -81,22 +81,19 @@ module _ (old new : ℕ → List ℕ → Option ℕ) (dir : ℕ) (name : List �
       keep p ps (inl same) apart rest was = apart.1
       keep p ps (inr differs) apart rest was = (λ l. apart.0 (was p.0 p.1 l), rest)
 
-  -- a name that goes takes its one place from the key's list
-  pub StandsAt-unbound : (key : ℕ) (places : List (ℕ × List ℕ)) → Rebinds old new dir name None → StandsAt old key places → StandsAt new key (without dir name places)
-  StandsAt-unbound key places binds stands =
+  -- a name that goes, or leads to another key, takes its one place from the key's list
+  pub StandsAt-unbound : (key : ℕ) (to : Option ℕ) (places : List (ℕ × List ℕ)) → Rebinds old new dir name to → to ≢ Some key → StandsAt old key places → StandsAt new key (without dir name places)
+  StandsAt-unbound key to places binds off_new stands =
       record {
         found = λ d n l.
             let was = listed_without places stands.apart d n l in
             binds.others d n was.1 ∙ stands.found d n was.0;
         all = λ d n e. elim (cases_pair d dir n name) [
-          | inl both ↦ absurd (nothing (ap (λ (x : ℕ). new x n) both.0 ∙ ap (λ x. new dir x) both.1 ∙ binds.at) e)
+          | inl both ↦ absurd (off_new (sym (ap (λ (x : ℕ). new x n) both.0 ∙ ap (λ x. new dir x) both.1 ∙ binds.at) ∙ e))
           | inr off ↦ listed_still places d n (stands.all d n (sym (binds.others d n off) ∙ e)) off
         ];
         apart = apart_without places stands.apart;
       }
-    where
-      nothing : {o : Option ℕ} → o ≡ None → o ≡ Some key → ⊥
-      nothing e f = cc
 
 -- steps that lead alike lead to a key by the same names
 pub HasNames-alike : (old new : ℕ → List ℕ → Option ℕ) → ((d : ℕ) (n : List ℕ) → new d n ≡ old d n) → (key count : ℕ) → HasNames old key count → HasNames new key count

@@ -57,8 +57,8 @@ HoldsNoObjects-alike old new same dir name bare key led n =
     let child_same = λ (d : ℕ) (m : List ℕ). ap (option_and_then object_key) (same.entries d m) in
     child_same key n ∙ bare key (sym (child_same dir name) ∙ led) n
 
--- a name that leads to no object any more
-module _ (old new : Tree) (dir : ℕ) (name : List ℕ) (e : Option Entry) (u : Unbinds old new dir name e) (path : Path) (at : key_at old path ≡ Some dir) (bare : HoldsNoObjects old dir name) where
+-- a name that leads to no object with others in it
+module _ (old : Tree) (dir : ℕ) (name : List ℕ) (path : Path) (at : key_at old path ≡ Some dir) (bare : HoldsNoObjects old dir name) where
   -- what is at the name is held at its path
   entry_here : entry_at old (name ∷ path) ≡ entry old dir name
   entry_here = ap (option_and_then (λ key. entry old key name)) at
@@ -77,14 +77,14 @@ module _ (old new : Tree) (dir : ℕ) (name : List ℕ) (e : Option Entry) (u : 
   no_key_below n (m ∷ s) = ap (option_and_then (λ key. child old key n)) (no_key_below m s)
 
   -- below the name no path names an inode
-  none_below : (n : List ℕ) (s : Path) (k : ℕ) → held (layer_of old) (n ∷ (s ++ name ∷ path)) ≢ Some (Named k)
+  pub none_below : (n : List ℕ) (s : Path) (k : ℕ) → held (layer_of old) (n ∷ (s ++ name ∷ path)) ≢ Some (Named k)
   none_below n s k h =
       let found : key_at old (n ∷ (s ++ name ∷ path)) ≡ Some k = named_key old n (s ++ name ∷ path) k h in
       let none : key_at old (n ∷ (s ++ name ∷ path)) ≡ None = no_key_below n s in
       absurd (cc)
 
   -- the name leads to an inode that its path names
-  led : (k : ℕ) → Names (layer_of old) k (name ∷ path) → child old dir name ≡ Some k
+  pub led : (k : ℕ) → Names (layer_of old) k (name ∷ path) → child old dir name ≡ Some k
   led k h = sym key_here ∙ named_key old name path k h
 
   -- the path names an inode to which the name leads
@@ -96,21 +96,24 @@ module _ (old new : Tree) (dir : ℕ) (name : List ℕ) (e : Option Entry) (u : 
       of (Some to.Whiteout) f = absurd (cc)
       of (Some (to.Object j)) f = ap (seen_at old) (unwrapped j k f) ∙ inode_seen old k i is
 
-  -- an inode that the path doesn't name stays
-  inode_left : (k : ℕ) → (Names (layer_of old) k (name ∷ path) → ⊥) → inode_at new k ≡ inode_at old k
-  inode_left k off =
+  -- where the inode that the name leads to has one name less, one that the path doesn't name stays
+  pub inode_left : (new : Tree) → ((k : ℕ) → child old dir name ≡ Some k → inode_at new k ≡ option_map with_less (inode_at old k)) → ((k : ℕ) → child old dir name ≢ Some k → inode_at new k ≡ inode_at old k) → (k : ℕ) → (Names (layer_of old) k (name ∷ path) → ⊥) → inode_at new k ≡ inode_at old k
+  inode_left new unlinked inodes k off =
       elim (cases_key (child old dir name) k) [
-        | inl f ↦ u.unlinked k f ∙ of (inode_at old k) refl f
-        | inr away ↦ u.inodes k away
+        | inl f ↦ unlinked k f ∙ of (inode_at old k) refl f
+        | inr away ↦ inodes k away
       ]
     where
       of : (o : Option layers.Inode) → inode_at old k ≡ o → child old dir name ≡ Some k → option_map with_less o ≡ o
       of None is f = refl
       of (Some i) is f = absurd (off (named k i is f))
 
+-- a name that leads to no object any more
+module _ (old new : Tree) (dir : ℕ) (name : List ℕ) (e : Option Entry) (u : Unbinds old new dir name e) (path : Path) (at : key_at old path ≡ Some dir) (bare : HoldsNoObjects old dir name) where
   -- the layer after it
   pub IsLayer-unbinds : (o : Option layers.Object) → ((k : ℕ) → o ≢ Some (Named k)) → ReplacesPath (layer_of old) (layer_of new) (name ∷ path) o → IsTree new → IsLayer (layer_of old) → IsLayer (layer_of new)
-  IsLayer-unbinds o no_name replaces tree = IsLayer-replaced (layer_of old) (layer_of new) (name ∷ path) o replaces no_name none_below (λ k h. u.unlinked k (led k h)) inode_left (held_together new tree)
+  IsLayer-unbinds o no_name replaces tree =
+      IsLayer-replaced (layer_of old) (layer_of new) (name ∷ path) o replaces no_name (none_below old dir name path at bare) (λ k h. u.unlinked k (led old dir name path at bare k h)) (inode_left old dir name path at bare new u.unlinked u.inodes) (held_together new tree)
 
 -- a new object has its name
 pub IsLayer-inserts : (old new : Tree) (dir : ℕ) (name : List ℕ) (o : Object) (key : ℕ) → Inserts old new dir name o key → child old dir name ≡ None → (path : Path) → key_at old path ≡ Some dir → SetsPath (layer_of old) (layer_of new) (name ∷ path) (seen_object key o) → IsTree new → IsLayer (layer_of old) → IsLayer (layer_of new)

@@ -1,17 +1,20 @@
 -- A layer stays a layer in the words of the definitions, where the names of an inode are counted by paths.
-use Rattle.std.proofs.Common.{◌≡◌, ◌≢◌, ◌↔◌, ◌⊎◌, ℕ, ◌+◌, ◌-◌, Bool, true, false, ◌||◌, List, [], ◌∷◌, ◌++◌, Option, Some, None, is_some, refl, sym, ap, subst, ◌∙◌, inl, inr, true≢false}
+use Rattle.std.proofs.Common.{◌≡◌, ◌≢◌, ◌↔◌, ◌⊎◌, ℕ, ◌+◌, ◌-◌, Bool, true, false, ◌||◌, List, [], ◌∷◌, ◌++◌, map, Option, Some, None, is_some, refl, sym, ap, subst, ◌∙◌, inl, inr, true≢false}
 use Rattle.std.specs.Prelude.{option_map}
 use Rattle.std.specs.List.{list_any, IsDistinct}
 use Rattle.std.proofs.lemmas.Bool.{cases_eq}
 use Rattle.ov_base.specs.declared.redirect.Redirect.TheVariants as redirect
 use Rattle.plain_model.specs.Layers as layers
 use Rattle.plain_model.specs.Layers.{Layer, Path, Named, held, same_path, AreLinks, HasAllPaths, IsLayer}
+use Rattle.plain_model.specs.Laws.{IsOutside}
 use Rattle.plain_model.proofs.Paths.{paths_tell}
 use Rattle.plain_model.proofs.Counting.{Counted, count-same, count-more, count-less}
 use Rattle.layer_tree.specs.Tree.{SetsPath, ReplacesPath, SameObjects, IsHeldTogether, with_less}
 use Rattle.layer_tree.specs.Link.{with_more}
+use Rattle.layer_tree.specs.Move.{MovesPath}
 use Rattle.layer_tree.proofs.Walks.{unwrapped, cases_ends, same_path as same_or_not}
 use Rattle.layer_tree.proofs.Roots.{links_of}
+use Rattle.layer_tree.proofs.Swapping.{member-swap, count-swap, swapped, swapped-first, swapped-second, swapped-neither, swapped-back, by_place}
 
 -- the path names the inode
 abbrev pub Names : Layer → ℕ → Path → Type 0
@@ -136,6 +139,11 @@ IsLayer-named old new there names was together layer =
     same : (k : ℕ) (w : Path) → Names old k w ↔ Names new k w
     same k w = ((λ h. named_tells (held new w) k (names w ∙ ap named_number h)), (λ h. named_tells (held old w) k (sym (names w) ∙ ap named_number h)))
 
+-- an inode with one name less was there with that name
+pub one_less : (i : layers.Inode) (o : Option layers.Inode) → Some i ≡ option_map with_less o → (j : layers.Inode) × (o ≡ Some j) × (i.links ≡ j.links - 1)
+one_less i None e = absurd (cc)
+one_less i (Some j) e = (j, refl, ap (λ (x : layers.Inode). x.links) (unwrapped i (with_less j) e))
+
 -- A path is replaced by what names no inode, and below it no path named one: an inode that it named has one name less.
 module _ (old new : Layer) (path : Path) (o : Option layers.Object) (replaces : ReplacesPath old new path o) (no_name : (k : ℕ) → o ≢ Some (Named k)) (bare : (n : List ℕ) (s : Path) (k : ℕ) → held old (n ∷ (s ++ path)) ≢ Some (Named k)) where
   -- an inode keeps its names but for the path
@@ -192,18 +200,14 @@ module _ (old new : Layer) (path : Path) (o : Option layers.Object) (replaces : 
         redirects = together.redirects;
         present = together.present;
         links = λ k i h. elim (cases_named (held old path) k) [
-          | inl named ↦ lost k i named (old.inodes k) refl (sym h ∙ less k named)
+          | inl named ↦
+              let was = one_less i (old.inodes k) (sym h ∙ less k named) in
+              subst (AreLinks new k) (sym was.2) (links-less k was.0.links named (layer.links k was.0 was.1))
           | inr off ↦ links-kept k i.links off (layer.links k i (sym (same k off) ∙ h))
         ];
         paths = [] ∷ path ∷ layer.paths;
         finite = finite-replaced layer.paths layer.finite;
       }
-    where
-      lost : (k : ℕ) (i : layers.Inode) → Names old k path → (j : Option layers.Inode) → old.inodes k ≡ j → Some i ≡ option_map with_less j → AreLinks new k i.links
-      lost k i named None was e = absurd (cc)
-      lost k i named (Some j) was e =
-          let fewer : i.links ≡ j.links - 1 = ap (λ (x : layers.Inode). x.links) (unwrapped i (with_less j) e) in
-          subst (AreLinks new k) (sym fewer) (links-less k j.links named (layer.links k j was))
 
 -- A path that named no inode is set to a new object, whose key names none, or an inode of one name.
 module _ (old new : Layer) (path : Path) (o : layers.Object) (key : ℕ) (sets : SetsPath old new path o) (vacant : (k : ℕ) → Names old k path → ⊥) (fresh : old.inodes key ≡ None) where
@@ -315,3 +319,102 @@ module _ (old new : Layer) (path : Path) (key : ℕ) (sets : SetsPath old new pa
       gained i (Some j) was h =
           let one : j.links + 1 ≡ i.links = ap (λ (x : layers.Inode). x.links) (unwrapped (with_more j) i (sym (ap (option_map with_more) was) ∙ sym more ∙ h)) in
           subst (AreLinks new key) one (links-more j.links (layer.links key j was))
+
+-- What stands at a place is moved to another, at which a name may go and below which no path names an inode; neither is below the other.
+module _ (old new : Layer) (m n : List ℕ) (p q : Path) (left : Option layers.Object) (moves : MovesPath old new (m ∷ p) (n ∷ q) left) (to_out : IsOutside (m ∷ p) (n ∷ q)) (from_out : IsOutside (n ∷ q) (m ∷ p)) (no_name : (k : ℕ) → left ≢ Some (Named k)) (bare : (l : List ℕ) (s : Path) (k : ℕ) → held old (l ∷ (s ++ n ∷ q)) ≢ Some (Named k)) where
+  abbrev swap : Path → Path
+  swap = swapped (m ∷ p) (n ∷ q)
+
+  swap-back : (w : Path) → swap (swap w) ≡ w
+  swap-back = swapped-back (m ∷ p) (n ∷ q) to_out from_out
+
+  -- an inode has the names that it had, with the places exchanged, but for the one at the place that is taken
+  names_moved : (k : ℕ) (w : Path) → Names new k w ↔ (Names old k (swap w) × (w ≡ m ∷ p → ⊥))
+  names_moved k = by_place (m ∷ p) (n ∷ q) to_out from_out (λ w. Names new k w ↔ (Names old k (swap w) × (w ≡ m ∷ p → ⊥))) first second neither
+    where
+      none_now : (r : Path) → Names new k (r ++ m ∷ p) → ⊥
+      none_now [] h = no_name k (sym moves.leaves ∙ h)
+      none_now (l ∷ r) h = true≢false (sym (ap is_some h) ∙ ap is_some (moves.emptied l r))
+
+      none_was : (r : Path) → Names old k (r ++ n ∷ q) → (r ++ m ∷ p ≡ m ∷ p → ⊥) → ⊥
+      none_was [] h off = off refl
+      none_was (l ∷ r) h off = bare l r k h
+
+      first : (r : Path) → Names new k (r ++ m ∷ p) ↔ (Names old k (swap (r ++ m ∷ p)) × (r ++ m ∷ p ≡ m ∷ p → ⊥))
+      first r = ((λ h. absurd (none_now r h)), (λ h. absurd (none_was r (sym (ap (held old) (swapped-first (m ∷ p) (n ∷ q) to_out from_out r)) ∙ h.0) h.1)))
+
+      second : (r : Path) → Names new k (r ++ n ∷ q) ↔ (Names old k (swap (r ++ n ∷ q)) × (r ++ n ∷ q ≡ m ∷ p → ⊥))
+      second r = (
+        (λ h. (ap (held old) (swapped-second (m ∷ p) (n ∷ q) to_out from_out r) ∙ sym (moves.inside r) ∙ h, λ e. from_out r (sym e))),
+        (λ h. moves.inside r ∙ sym (ap (held old) (swapped-second (m ∷ p) (n ∷ q) to_out from_out r)) ∙ h.0),
+      )
+
+      neither : (w : Path) → IsOutside (m ∷ p) w → IsOutside (n ∷ q) w → Names new k w ↔ (Names old k (swap w) × (w ≡ m ∷ p → ⊥))
+      neither w x y = (
+        (λ h. (ap (held old) (swapped-neither (m ∷ p) (n ∷ q) to_out from_out w x y) ∙ sym (moves.elsewhere w x y) ∙ h, x [])),
+        (λ h. moves.elsewhere w x y ∙ sym (ap (held old) (swapped-neither (m ∷ p) (n ∷ q) to_out from_out w x y)) ∙ h.0),
+      )
+
+  counts_swapped : (k count : ℕ) → AreLinks old k count → Counted Path same_path paths_tell (λ w. Names old k (swap w)) count
+  counts_swapped k count a = count-swap Path same_path paths_tell swap swap-back (Names old k) count (opens old k count a)
+
+  -- an inode that the place named has one name less
+  links-taken : (k count : ℕ) → Names old k (n ∷ q) → AreLinks old k count → AreLinks new k (count - 1)
+  links-taken k count named a =
+      shuts new k (count - 1) (count-less Path same_path paths_tell (λ w. Names old k (swap w)) (Names new k) count (m ∷ p) (ap (held old) (swapped-first (m ∷ p) (n ∷ q) to_out from_out []) ∙ named) (names_moved k) (counts_swapped k count a))
+
+  -- any other has as many as it had
+  links-moved : (k count : ℕ) → (Names old k (n ∷ q) → ⊥) → AreLinks old k count → AreLinks new k count
+  links-moved k count off a =
+      shuts new k count (count-same Path same_path paths_tell (λ w. Names old k (swap w)) (Names new k) count
+      (λ w. ((λ h. (names_moved k w).1 (h, λ e. off (sym (ap (held old) (ap swap e ∙ swapped-first (m ∷ p) (n ∷ q) to_out from_out [])) ∙ h))), (λ h. ((names_moved k w).0 h).0)))
+      (counts_swapped k count a))
+
+  -- a path at which something is held now, but for the place that was left, was swapped from one at which something was
+  held_swapped : (w : Path) → (w ≡ m ∷ p → ⊥) → is_some (held new w) ≡ true → is_some (held old (swap w)) ≡ true
+  held_swapped = by_place (m ∷ p) (n ∷ q) to_out from_out (λ w. (w ≡ m ∷ p → ⊥) → is_some (held new w) ≡ true → is_some (held old (swap w)) ≡ true) first second neither
+    where
+      first : (r : Path) → (r ++ m ∷ p ≡ m ∷ p → ⊥) → is_some (held new (r ++ m ∷ p)) ≡ true → is_some (held old (swap (r ++ m ∷ p))) ≡ true
+      first [] off h = absurd (off refl)
+      first (l ∷ r) off h = absurd (true≢false (sym h ∙ ap is_some (moves.emptied l r)))
+
+      second : (r : Path) → (r ++ n ∷ q ≡ m ∷ p → ⊥) → is_some (held new (r ++ n ∷ q)) ≡ true → is_some (held old (swap (r ++ n ∷ q))) ≡ true
+      second r off h = ap (λ x. is_some (held old x)) (swapped-second (m ∷ p) (n ∷ q) to_out from_out r) ∙ sym (ap is_some (moves.inside r)) ∙ h
+
+      neither : (w : Path) → IsOutside (m ∷ p) w → IsOutside (n ∷ q) w → (w ≡ m ∷ p → ⊥) → is_some (held new w) ≡ true → is_some (held old (swap w)) ≡ true
+      neither w x y off h = ap (λ z. is_some (held old z)) (swapped-neither (m ∷ p) (n ∷ q) to_out from_out w x y) ∙ sym (ap is_some (moves.elsewhere w x y)) ∙ h
+
+  -- no path below the root is swapped with the root
+  never_root : (l : List ℕ) (w : Path) → swap (l ∷ w) ≡ [] → ⊥
+  never_root l w e =
+      let root : swap [] ≡ [] = swapped-neither (m ∷ p) (n ∷ q) to_out from_out [] (λ r f. empty r m p f) (λ r f. empty r n q f) in
+      let same : l ∷ w ≡ [] = sym (swap-back (l ∷ w)) ∙ ap swap e ∙ root in
+      cc
+    where
+      empty : (r : Path) (x : List ℕ) (y : Path) → [] ≡ r ++ x ∷ y → ⊥
+      empty [] x y f = cc
+      empty (z ∷ r) x y f = cc
+
+  finite-moved : (ps : List Path) → HasAllPaths old ps → HasAllPaths new ([] ∷ (m ∷ p) ∷ map swap ps)
+  finite-moved ps all = has_all new (m ∷ p) (map swap ps) (λ l w off h. member-swap Path same_path paths_tell swap swap-back (l ∷ w) ps ∙ all (swap (l ∷ w)) (below_root (swap (l ∷ w)) (never_root l w) ∙ held_swapped (l ∷ w) off h))
+    where
+      below_root : (w : Path) → (w ≡ [] → ⊥) → is_some (old.objects w) ≡ is_some (held old w)
+      below_root [] off = absurd (off refl)
+      below_root (x ∷ w) off = refl
+
+  -- the layer after it
+  pub IsLayer-moved : ((k : ℕ) → Names old k (n ∷ q) → new.inodes k ≡ option_map with_less (old.inodes k)) → ((k : ℕ) → (Names old k (n ∷ q) → ⊥) → new.inodes k ≡ old.inodes k) → IsHeldTogether new → IsLayer old → IsLayer new
+  IsLayer-moved less same together layer =
+      record {
+        parents = together.parents;
+        redirects = together.redirects;
+        present = together.present;
+        links = λ k i h. elim (cases_named (held old (n ∷ q)) k) [
+          | inl named ↦
+              let was = one_less i (old.inodes k) (sym h ∙ less k named) in
+              subst (AreLinks new k) (sym was.2) (links-taken k was.0.links named (layer.links k was.0 was.1))
+          | inr off ↦ links-moved k i.links off (layer.links k i (sym (same k off) ∙ h))
+        ];
+        paths = [] ∷ (m ∷ p) ∷ map swap layer.paths;
+        finite = finite-moved layer.paths layer.finite;
+      }

@@ -8,12 +8,16 @@ pub mod Changing
 pub mod Binding
 pub mod Following
 pub mod Roots
+pub mod Replacing
 pub mod Writing
 pub mod Overlays
 pub mod Held
+pub mod Swapping
 pub mod Layers
 pub mod Keeping
 pub mod Freeing
 pub mod Nameless
 pub mod AttributeChanges
 pub mod Linking
+pub mod Moving
+pub mod Marking

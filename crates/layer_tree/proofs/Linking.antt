@@ -157,7 +157,7 @@ module _ (old new : Tree) (dir key : ℕ) (name : List ℕ) (tree : IsTree old) 
           let more : i.links + 1 ≡ j.links = ap (λ (x : layers.Inode). x.links) (unwrapped (with_more i) j (sym (ap (option_map with_more) at) ∙ sym l.linked ∙ now)) in
           record {
             places = (dir, name) ∷ names.places;
-            stands = StandsAt-bound (child old) (child new) dir name key names.places binds no_object names.stands;
+            stands = StandsAt-bound (child old) (child new) dir name key names.places binds (λ f. true≢false (sym (ap is_some f) ∙ ap is_some no_object)) names.stands;
             counted = omega (arith, names.counted, more);
           }
 

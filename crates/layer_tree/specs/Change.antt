@@ -1,5 +1,5 @@
 -- How the objects under their keys change. No public clause cites this module.
-use Rattle.std.specs.Prelude.{◌≡◌, ◌≢◌, ℕ, ◌+◌, ◌-◌, ◌<◌, ◌≤◌, List, Option, Some, None, option_map}
+use Rattle.std.specs.Prelude.{◌≡◌, ◌≢◌, ℕ, ◌+◌, ◌-◌, ◌<◌, ◌≤◌, Bool, true, false, List, Option, Some, None, option_map}
 use Rattle.std.specs.Option.{option_and_then, option_map_or}
 use Rattle.std.specs.FinMap as map
 use Rattle.slab.specs.Slab.{get}
@@ -8,6 +8,7 @@ use Rattle.ov_base.specs.declared.bytes.Content.TheVariants as content
 use Rattle.plain_model.specs.Layers as layers
 use Rattle.layer_tree.specs.Tree.{Tree, table_of, inode_of, file_bytes}
 use Rattle.layer_tree.specs.declared.name_table.Entry.{Entry}
+use Rattle.layer_tree.specs.declared.name_table.Entry.TheVariants as bound
 use Rattle.layer_tree.specs.declared.node.Node.{Node}
 use Rattle.layer_tree.specs.declared.node.Node.TheVariants as node
 use Rattle.layer_tree.specs.declared.node.Directory.{Directory}
@@ -37,6 +38,11 @@ pub record Retables (old new : Tree) (dir : ℕ) (change : NameMap → NameMap) 
   pub is : get new dir ≡ Some after
   pub retabled : Retabled before after change used
   pub others : (key : ℕ) → key ≢ dir → get new key ≡ get old key
+
+-- the entries without the one of this name, at which a whiteout is left if it is covered
+abbrev pub left_names : Bool → List ℕ → NameMap → NameMap
+left_names true name m = map.insert m name bound.Whiteout
+left_names false name m = map.remove m name
 
 -- how many more names fit into a node with no allocation
 abbrev pub node_room : Node → ℕ

@@ -7,3 +7,5 @@ pub mod Change
 pub mod Link
 pub mod AttributeChange
 pub mod ContentChange
+pub mod Move
+pub mod MarkChange

@@ -1,5 +1,5 @@
 // A hash table of names.
-ghost use Rattle.std.specs.Prelude.{◌≡◌, ℕ, ◌+◌, ◌<◌, ◌≤◌, None, OnOk, IsOk, IfOk, IsTrue, ◌↔◌, List, is_some, nat_eq};
+ghost use Rattle.std.specs.Prelude.{◌≡◌, ℕ, ◌+◌, ◌<◌, ◌≤◌, None, OnOk, IsOk, IfOk, IsSome, IsTrue, ◌↔◌, List, is_some, nat_eq};
 ghost use Rattle.std.specs.FinMap as map;
 ghost use Rattle.std.specs.List.{list_any, IsDistinct};
 ghost use Rattle.std.specs.List.Sorted.{IsStrictlySortedBy};
@@ -16,6 +16,7 @@ use ov_base::{Name, copy_names};
 use std::alloc::{AllocError, Global};
 use std::hash::RandomState;
 use std::marker::Model;
+use std::mem::replace;
 
 // So few names are compared one by one with the one that is asked, which takes less time than its hash.
 const FEW_NAMES: usize = 4;
@@ -92,6 +93,19 @@ impl HashedNames {
         match self.table.insert(name, entry) {
             Ok(old) => old,
             Err(_) => unreachable!(),
+        }
+    }
+
+    /// Puts an entry at a name that has one, which it returns.
+    pub(crate) fn replace(&mut self, name: &Name, entry: Entry) -> Option<Entry>
+        requires { IsSome (entry_in self.old name.now) }
+        ensures value { result ≡ entry_in self.old name.now }
+        ensures entries { self.new.entries ≡ map.insert self.old.entries name.now entry }
+        ensures spare { self.old.spare ≤ self.new.spare }
+    {
+        match self.table.get_mut(name) {
+            Some(place) => Some(replace(place, entry)),
+            None => unreachable!(),
         }
     }
 

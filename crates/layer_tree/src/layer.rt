@@ -20,6 +20,7 @@ ghost use Rattle.layer_tree.specs.declared.name_table.Entry.TheVariants as bound
 
 mod contents;
 mod hard_link;
+mod moves;
 
 use crate::link_count::lose_name;
 use crate::name_table::{Entry, NameTable};

@@ -1,5 +1,5 @@
 // The names of a directory.
-ghost use Rattle.std.specs.Prelude.{◌≡◌, ℕ, ◌+◌, ◌<◌, ◌≤◌, None, OnOk, IsOk, IfOk, IsTrue, ◌↔◌, List, is_some, nat_eq};
+ghost use Rattle.std.specs.Prelude.{◌≡◌, ℕ, ◌+◌, ◌<◌, ◌≤◌, None, OnOk, IsOk, IfOk, IsSome, IsTrue, ◌↔◌, List, is_some, nat_eq};
 ghost use Rattle.std.specs.FinMap as map;
 ghost use Rattle.std.specs.List.{list_any, IsDistinct};
 ghost use Rattle.std.specs.List.Sorted.{IsStrictlySortedBy};
@@ -89,6 +89,19 @@ impl NameTable {
     {
         match &mut self.hashed {
             Some(hashed) => hashed.put_reserved(name, entry),
+            None => unreachable!(),
+        }
+    }
+
+    /// Puts an entry at a name that has one, which it returns.
+    pub fn replace(&mut self, name: &Name, entry: Entry) -> Option<Entry>
+        requires { IsSome (entry_in self.old name.now) }
+        ensures value { result ≡ entry_in self.old name.now }
+        ensures entries { self.new.entries ≡ map.insert self.old.entries name.now entry }
+        ensures spare { self.old.spare ≤ self.new.spare }
+    {
+        match &mut self.hashed {
+            Some(hashed) => hashed.replace(name, entry),
             None => unreachable!(),
         }
     }

@@ -7,3 +7,4 @@ pub mod Walking
 pub mod Ways
 pub mod Locating
 pub mod Searching
+pub mod Respelling

@@ -7,7 +7,8 @@ use Rattle.slab.specs.Slab.{get}
 use Rattle.ov_base.specs.declared.attributes.Attributes.{Attributes}
 use Rattle.ov_base.specs.declared.errno.Errno.{Errno}
 use Rattle.ov_base.specs.declared.errno.Errno.TheVariants as errno
-use Rattle.plain_model.specs.Layers.{Name, Path, Object, Directory, Named, Whiteout, Inode, Layer, held, below, cuts, Shown, Folder, Contents, over, unless, shows, under, is_directory}
+use Rattle.plain_model.specs.Layers.{Name, Path, Object, Directory, Named, Whiteout, Inode, Layer, held, below, cuts, Shown, Folder, Contents, over, unless, shows, through, under, base, is_directory}
+use Rattle.plain_model.proofs.LookUp.{base-through}
 use Rattle.layer_tree.specs.Tree.{Tree, layer_of, inode_at, inode_of}
 use Rattle.merged_lookup.specs.declared.stack.Place.{Place}
 use Rattle.merged_lookup.specs.declared.stack.Stack.{Stack}
@@ -191,13 +192,25 @@ topmost-shown l s n few p is o e b =
     (b ∙ ap (λ z. not (nat_eq (length z) 0)) next.1 ∙ directory-top (places_from 0 (trees l) (n ∷ p)) (shows 0 (layers_of l) (n ∷ p)) (top-shown 0 (layers_of l) (n ∷ p)))
     (e ∙ ap (λ z. first (trees l) z n) is ∙ first-places 0 (trees l) (trees l) refl p n)
 
+-- the places below the upper are those that are reached in the lower layers
+without-is : (t : Tree) (us : List Tree) (s : List Place) (p : Path) → s ≡ places_at 0 (map layer_of (t ∷ us)) p → without_upper s ≡ unless_cut (cuts (layer_of t) p) (places_at 1 (map layer_of us) (below (layer_of t) p))
+without-is t us s p is =
+    let lower : List Place = unless_cut (cuts (layer_of t) p) (places_at 1 (map layer_of us) (below (layer_of t) p)) in
+    ap without_upper is ∙ without-level (held (layer_of t) p) lower (head-unless (cuts (layer_of t) p) (places_at 1 (map layer_of us) (below (layer_of t) p)) (head-places 1 (map layer_of us) (below (layer_of t) p)))
+
+-- there are some exactly where the directory is base
+pub base-places : (t : Tree) (us : List Tree) (s : List Place) (p : Path) → s ≡ places_at 0 (map layer_of (t ∷ us)) p → not (nat_eq (length (without_upper s)) 0) ≡ base (layer_of t) (map layer_of us) p
+base-places t us s p is =
+    ap (λ z. not (nat_eq (length z) 0)) (without-is t us s p is)
+    ∙ directory-top (unless_cut (cuts (layer_of t) p) (places_at 1 (map layer_of us) (below (layer_of t) p))) (through (layer_of t) (map layer_of us) p)
+    (top-unless (cuts (layer_of t) p) (places_at 1 (map layer_of us) (below (layer_of t) p)) (shows 1 (map layer_of us) (below (layer_of t) p)) (top-shown 1 (map layer_of us) (below (layer_of t) p)))
+    ∙ sym (base-through (layer_of t) (map layer_of us) p)
+
 -- what the lower layers show under a name is asked from the places below the upper
 module _ (t : Tree) (us : List Tree) (s : List Place) (p : Path) (n : Name) (is : s ≡ places_at 0 (map layer_of (t ∷ us)) p) where
   under-is : descend (t ∷ us) (without_upper s) n ≡ unless_cut (cuts (layer_of t) p) (places_at 1 (map layer_of us) (n ∷ below (layer_of t) p))
   under-is =
-      let lower : List Place = unless_cut (cuts (layer_of t) p) (places_at 1 (map layer_of us) (below (layer_of t) p)) in
-      let start : without_upper s ≡ lower = ap without_upper is ∙ without-level (held (layer_of t) p) lower (head-unless (cuts (layer_of t) p) (places_at 1 (map layer_of us) (below (layer_of t) p)) (head-places 1 (map layer_of us) (below (layer_of t) p))) in
-      ap (λ z. descend (t ∷ us) z n) start
+      ap (λ z. descend (t ∷ us) z n) (without-is t us s p is)
       ∙ descend-unless (t ∷ us) (cuts (layer_of t) p) (places_at 1 (map layer_of us) (below (layer_of t) p)) n
       ∙ ap (unless_cut (cuts (layer_of t) p)) (descend-places 1 (t ∷ us) us refl (below (layer_of t) p) n)
 
@@ -212,9 +225,7 @@ module _ (t : Tree) (us : List Tree) (s : List Place) (p : Path) (n : Name) (is 
 pub under-some : (t : Tree) (us : List Tree) (s : List Place) (p : Path) (n : Name) → s ≡ places_at 0 (map layer_of (t ∷ us)) p → is_some (first (t ∷ us) (without_upper s) n) ≡ is_some (under (layer_of t) (map layer_of us) n p)
 under-some t us s p n is =
     let spelled : Path = below (layer_of t) p in
-    let lower : List Place = unless_cut (cuts (layer_of t) p) (places_at 1 (map layer_of us) spelled) in
-    let start : without_upper s ≡ lower = ap without_upper is ∙ without-level (held (layer_of t) p) lower (head-unless (cuts (layer_of t) p) (places_at 1 (map layer_of us) spelled) (head-places 1 (map layer_of us) spelled)) in
-    ap (λ z. is_some (first (t ∷ us) z n)) start
+    ap (λ z. is_some (first (t ∷ us) z n)) (without-is t us s p is)
     ∙ ap is_some (first-unless (t ∷ us) (cuts (layer_of t) p) (places_at 1 (map layer_of us) spelled) n (shows 1 (map layer_of us) (n ∷ spelled)) (first-places 1 (t ∷ us) us refl spelled n))
     ∙ is_some-place (under (layer_of t) (map layer_of us) n p)
 

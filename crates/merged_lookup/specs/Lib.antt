@@ -6,3 +6,4 @@ pub mod Spelling
 pub mod Changing
 pub mod Locating
 pub mod Searching
+pub mod Respelling

@@ -2,6 +2,7 @@
 //! redirects.
 #![tactic(auto)]
 
+mod below;
 mod candidate;
 mod crossing;
 mod cursor;
@@ -10,6 +11,7 @@ mod found;
 mod layers;
 mod locate;
 mod onward;
+mod paths;
 mod spelling;
 mod stack;
 

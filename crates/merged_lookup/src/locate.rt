@@ -7,6 +7,7 @@ ghost use Rattle.merged_lookup.specs.Searching.{Covers, GoesOn, Offers, path_of}
 
 use crate::candidate::Candidate;
 use crate::layers::Layers;
+use crate::paths::path_of;
 use layer_tree::{Entry, Layer, ROOT};
 use ov_base::{Name, Path};
 use std::alloc::{AllocError, Global};
@@ -150,10 +151,7 @@ fn object_at(layer: &Layer, directory: usize, name: &Name) -> Option<usize>
 fn path_below(alloc: Global, directory: &Path, name: &Name) -> Result<Path, AllocError>
     ensures { IfOk result (λ path. path ≡ name.now ∷ directory.now) }
 {
-    let mut path = Path::root(alloc);
-    for parent in directory.names() {
-        path.push(parent.clone()?)?;
-    }
+    let mut path = path_of(alloc, directory.names())?;
     path.push(name.clone()?)?;
     Ok(path)
 }

@@ -2,6 +2,7 @@
 ghost use Rattle.std.specs.Prelude.{◌≡◌, ◌<◌};
 ghost use Rattle.arrayvec.specs.ArrayVec.{array_vec_len};
 
+use crate::descent::below_upper;
 use crate::layers::LAYERS_MAX;
 use arrayvec::ArrayVec;
 
@@ -23,7 +24,10 @@ pub struct Stack {
 }
 
 impl Stack {
-    ghost use Rattle.merged_lookup.specs.Merged.{top_of};
+    ghost use Rattle.plain_model.specs.Layers.{Path, base};
+    ghost use Rattle.layer_tree.specs.Tree.{layer_of};
+    ghost use Rattle.merged_lookup.specs.declared.layers.Layers.{Layers};
+    ghost use Rattle.merged_lookup.specs.Merged.{top_of, lowers_of, IsStackOf};
 
     /// The directory whose attributes the merged directory shows.
     pub fn top(&self) -> Place
@@ -37,5 +41,12 @@ impl Stack {
         ensures { result.now ≡ self.now.places.items }
     {
         self.places.as_slice()
+    }
+
+    /// Whether the merged directory is base: a lower layer that is reached has a directory there.
+    pub fn is_base(&self) -> bool
+        ensures { (l : Layers) (p : Path) → IsStackOf l p self.now → result ≡ base (layer_of l.upper) (lowers_of l) p }
+    {
+        !below_upper(self.places()).is_empty()
     }
 }

@@ -1,13 +1,12 @@
-use Rattle.std.proofs.Common.{◌≡◌, Some, sym, ap, subst, ◌∙◌}
-use Rattle.slab.specs.Slab.{get, with_value}
+use Rattle.std.proofs.Common.{sym, ap, subst, ◌∙◌}
+use Rattle.slab.specs.Slab.{with_value}
 use Rattle.plain_model.specs.Layers.{IsLayer}
 use Rattle.ov_base.specs.AttributeChanges.{changed}
 use Rattle.layer_tree.specs.Tree.{Tree, IsTree, key_at, inode_at, layer_of, IsDirectory}
 use Rattle.layer_tree.specs.Nameless.{IsNameless}
 use Rattle.layer_tree.specs.AttributeChange.{attributes_of, attributes_at, SetsAttributes, SetsInode, SetsDirectory}
 use Rattle.layer_tree.specs.declared.node.Node.{Node}
-use Rattle.layer_tree.proofs.AttributeChanges.{same_presence, same_children, sets_attributes, sets_inode, sets_directory, IsTree-attributes, IsLayer-attributes, inode_attributes, changed_node, on_ok}
-use Rattle.layer_tree.proofs.Nameless.{nameless_alike}
+use Rattle.layer_tree.proofs.AttributeChanges.{sets_attributes, nameless_attributes, sets_inode, sets_directory, IsTree-attributes, IsLayer-attributes, inode_attributes, changed_node, on_ok}
 use Rattle.layer_tree.proofs.layer.Layer.alter.Goals as goal
 
 pub invariant_of-self : goal.invariant_of-self
@@ -53,6 +52,4 @@ pub returns-clause-nameless : goal.returns-clause-nameless
 returns-clause-nameless c k nameless =
     let inside : IsNameless c.self.inside.nodes k = subst (λ (s : Tree). IsNameless s k) (sym c.self.view_is) nameless in
     subst (λ (n : Node). IsNameless (with_value c.self.inside.nodes c.args.key n) k) (sym c.alter_in.ensures.attributes)
-    (nameless_alike c.self.inside.nodes _
-    (same_children c.self.inside.nodes c.args.key c.index_mut-node.result.now c.index_mut-node.ensures.value (attributes_of c.alter_in.new.node)) k
-    (same_presence c.self.inside.nodes c.args.key c.index_mut-node.result.now c.index_mut-node.ensures.value (attributes_of c.alter_in.new.node) k) inside)
+    (nameless_attributes c.self.inside.nodes c.args.key c.index_mut-node.result.now c.index_mut-node.ensures.value (attributes_of c.alter_in.new.node) k inside)

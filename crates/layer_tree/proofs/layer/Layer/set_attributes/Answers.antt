@@ -5,8 +5,7 @@ use Rattle.layer_tree.specs.Tree.{Tree, IsTree, key_at, inode_at, layer_of, IsDi
 use Rattle.layer_tree.specs.Nameless.{IsNameless}
 use Rattle.layer_tree.specs.AttributeChange.{SetsAttributes, SetsInode, SetsDirectory}
 use Rattle.layer_tree.specs.declared.node.Node.{Node}
-use Rattle.layer_tree.proofs.AttributeChanges.{same_presence, same_children, sets_attributes, sets_inode, sets_directory, IsTree-attributes, IsLayer-attributes}
-use Rattle.layer_tree.proofs.Nameless.{nameless_alike}
+use Rattle.layer_tree.proofs.AttributeChanges.{sets_attributes, nameless_attributes, sets_inode, sets_directory, IsTree-attributes, IsLayer-attributes}
 use Rattle.layer_tree.proofs.layer.Layer.set_attributes.Goals as goal
 
 pub invariant_of-self : goal.invariant_of-self
@@ -45,6 +44,4 @@ pub returns-clause-nameless : goal.returns-clause-nameless
 returns-clause-nameless c k nameless =
     let inside : IsNameless c.self.inside.nodes k = subst (λ (s : Tree). IsNameless s k) (sym c.self.view_is) nameless in
     subst (λ (n : Node). IsNameless (with_value c.self.inside.nodes c.args.key n) k) (sym c.set_attributes_in.ensures)
-    (nameless_alike c.self.inside.nodes _
-    (same_children c.self.inside.nodes c.args.key c.index_mut-node.result.now c.index_mut-node.ensures.value c.args.attributes) k
-    (same_presence c.self.inside.nodes c.args.key c.index_mut-node.result.now c.index_mut-node.ensures.value c.args.attributes k) inside)
+    (nameless_attributes c.self.inside.nodes c.args.key c.index_mut-node.result.now c.index_mut-node.ensures.value c.args.attributes k inside)
