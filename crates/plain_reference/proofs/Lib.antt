@@ -8,4 +8,8 @@ pub mod TableLemmas
 pub mod HandleLemmas
 pub mod CloseLemmas
 pub mod AttributeLemmas
+pub mod LeadLemmas
+pub mod BelowLemmas
 pub mod LinkLemmas
+pub mod WayLemmas
+pub mod RenameLemmas

@@ -38,15 +38,22 @@ numbered-left p (k ∷ ks) from to h =
       | false ↦ lower (filter p ks) from (suc k.client) to (let first : from ≤ k.client = h.0 in omega arith) rest
     ]
 
+-- a change of clients that keeps their numbers and counts of descriptors keeps their order
+pub numbered-map : (g : Table → Table) (ks : List Table) (from to : ℕ) → ((k : Table) → (g k).client ≡ k.client) → ((k : Table) → length (g k).handles ≡ length k.handles) → AreNumbered from to ks → AreNumbered from to (map g ks)
+numbered-map g [] from to same few h = h
+numbered-map g (k ∷ ks) from to same few h =
+    let rest = numbered-map g ks (suc k.client) to same few h.1.1 in (
+      subst (λ (m : ℕ). from ≤ m) (sym (same k)) h.0,
+      (subst (λ (m : ℕ). m ≤ DESCRIPTORS_MAX) (sym (few k)) h.1.0, subst (λ (m : ℕ). AreNumbered (suc m) to (map g ks)) (sym (same k)) rest),
+    )
+
 -- a change of a client's handles keeps the order of the clients
 pub numbered-changed : (f : Table → Table) (ks : List Table) (c from to : ℕ) → ((k : Table) → (f k).client ≡ k.client) → ((k : Table) → length (f k).handles ≡ length k.handles) → AreNumbered from to ks → AreNumbered from to (changed f c ks)
-numbered-changed f [] c from to same few h = h
-numbered-changed f (k ∷ ks) c from to same few h =
-    let rest = numbered-changed f ks c (suc k.client) to same few h.1.1 in
-    elim (nat_eq k.client c) as (λ b. AreNumbered from to (cond b (f k) k ∷ changed f c ks)) [
-      | true ↦ (subst (λ (m : ℕ). from ≤ m) (sym (same k)) h.0, (subst (λ (m : ℕ). m ≤ DESCRIPTORS_MAX) (sym (few k)) h.1.0, subst (λ (m : ℕ). AreNumbered (suc m) to (changed f c ks)) (sym (same k)) rest))
-      | false ↦ (h.0, (h.1.0, rest))
-    ]
+numbered-changed f ks c from to same few h =
+    numbered-map (λ k. cond (nat_eq k.client c) (f k) k) ks from to
+    (λ k. elim (nat_eq k.client c) as (λ b. (cond b (f k) k).client ≡ k.client) [ true ↦ same k | false ↦ refl ])
+    (λ k. elim (nat_eq k.client c) as (λ b. length (cond b (f k) k).handles ≡ length k.handles) [ true ↦ few k | false ↦ refl ])
+    h
 
 -- clients above a number aren't of it
 changed-above : (f : Table → Table) (ks : List Table) (c from to : ℕ) → c < from → AreNumbered from to ks → changed f c ks ≡ ks

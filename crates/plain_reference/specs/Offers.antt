@@ -1,12 +1,13 @@
 -- Which calls the reference offers, and how it answers.
 use Rattle.std.specs.Prelude.{◌≡◌, ℕ, Bool, true, false, not, ◌||◌, Option, None, Some, is_some, nat_eq, nat_lt, [], length}
 use Rattle.ov_base.specs.declared.call.Call.{Call}
-use Rattle.ov_base.specs.declared.call.Call.TheVariants.{Stat, Readlink, Chmod, Chown, SetAttribute, GetAttribute, DeleteAttribute, ListAttributes, Mkdir, Symlink, Open, Unlink, Rmdir, Hardlink, Read, Write, Seek, Truncate, Fstat, ListNames, Close}
+use Rattle.ov_base.specs.declared.call.Call.TheVariants.{Stat, Readlink, Chmod, Chown, SetAttribute, GetAttribute, DeleteAttribute, ListAttributes, Mkdir, Symlink, Open, Unlink, Rmdir, Hardlink, Rename, Read, Write, Seek, Truncate, Fstat, ListNames, Close}
 use Rattle.ov_base.specs.declared.reply.Reply.{Reply}
 use Rattle.plain_model.specs.Layers.{Path}
 use Rattle.plain_model.specs.Tree.{node_at, node_of, count_of}
 use Rattle.plain_model.specs.Machine.{State}
 use Rattle.plain_model.specs.Refusals.{refusal}
+use Rattle.plain_model.specs.Changes.{moves}
 use Rattle.plain_model.specs.Runs.{Step, CLIENTS_MAX, Attached, Detached, Does, is_attached}
 use Rattle.plain_reference.specs.States.{Mute}
 
@@ -18,8 +19,12 @@ has_serial s = not (nat_eq s.serial 0xffff_ffff_ffff_ffff)
 abbrev pub has_count : State → Path → Bool
 has_count s p = nat_lt (count_of (node_of s.tree (node_at s.tree p))) 0xffff_ffff_ffff_ffff
 
--- the calls that are offered: those of names, attributes and handles, but no new node when the serials have run out, and no further name
--- of a node that can't count it
+-- whether the renames that move something can count one more
+abbrev pub has_rename : State → Bool
+has_rename s = not (nat_eq s.renames 0xffff_ffff_ffff_ffff)
+
+-- the calls that are offered: those of names, attributes and handles, but no new node when the serials have run out, no further name of a
+-- node that can't count it, and no move when the moves can't be counted
 abbrev pub offers : State → ℕ → Call → Bool
 offers s c (Stat p) = true
 offers s c (Readlink p) = true
@@ -35,6 +40,7 @@ offers s c (Open p f mode) = is_some (refusal s c (Open p f mode)) || is_some (n
 offers s c (Unlink p) = true
 offers s c (Rmdir p) = true
 offers s c (Hardlink old new) = is_some (refusal s c (Hardlink old new)) || has_count s old
+offers s c (Rename old new) = is_some (refusal s c (Rename old new)) || not (moves s (Rename old new)) || has_rename s
 offers s c (Read fd n) = true
 offers s c (Write fd bytes) = true
 offers s c (Seek fd offset whence) = true

@@ -12,7 +12,7 @@ abbrev pub state_of : Reference → State
 state_of r = record {
   tree = tree_of r.tree.slots.items;
   serial = r.serial;
-  renames = 0;
+  renames = r.renames;
   arrived = r.clients.arrived;
   options = record { redirects = r.redirects; read_only = false };
   tables = r.clients.list.items;

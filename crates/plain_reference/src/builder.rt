@@ -138,6 +138,7 @@ impl Builder {
             tree,
             clients: Clients::new(alloc),
             serial: 0,
+            renames: 0,
             redirects,
             alloc,
         }

@@ -90,6 +90,16 @@ impl Reference {
         }
     }
 
+    // The same of what a name led to, if anything.
+    pub(crate) fn settle_any(&mut self, node: &Option<Id>)
+        ensures tree { tree_of self.new.tree.slots.items ≡ settled self.old.clients.list.items (tree_of self.old.tree.slots.items) node.now }
+        ensures rest { self.new ≡ record self.old { tree = self.new.tree } }
+    {
+        if let Some(id) = node {
+            self.settle(id);
+        }
+    }
+
     // Takes the last name of a path away from the node that it leads to.
     fn drop_name(&mut self, path: &Path) -> Result<(), AllocError>
         ensures ok { OnOk result (tree_of self.new.tree.slots.items ≡ dropped self.old.clients.list.items (tree_of self.old.tree.slots.items) path.now) }
@@ -101,12 +111,8 @@ impl Reference {
         if let Some(id) = &node {
             self.tree.lose_name(id);
         }
-        if let Some((directory, name)) = &way {
-            self.tree.unlead(directory, name);
-        }
-        if let Some(id) = &node {
-            self.settle(id);
-        }
+        self.tree.unlead_way(&way);
+        self.settle_any(&node);
         Ok(())
     }
 
@@ -116,10 +122,8 @@ impl Reference {
         ensures err { OnErr result (tree_of self.new.tree.slots.items ≡ tree_of self.old.tree.slots.items) }
         ensures rest { self.new ≡ record self.old { tree = self.new.tree } }
     {
-        let leads_to = id.clone()?;
-        if let Some((directory, name)) = self.tree.way_of(self.alloc, path.names())? {
-            self.tree.lead(&directory, &name, leads_to)?;
-        }
+        let way = self.tree.way_of(self.alloc, path.names())?;
+        self.tree.lead_way(&way, id)?;
         self.tree.gain_name(id);
         Ok(())
     }

@@ -1,15 +1,16 @@
 // The clients and their open handles.
-ghost use Rattle.std.specs.Prelude.{◌≡◌, ◌+◌, ◌<◌, ◌^◌, ◌∷◌, ◌++◌, [], Some, None, IfOk, IfSome, OnOk, OnErr, is_none, position, replicate, length, filter, not, ◌||◌, nat_eq, nat_lt, unwrap_or, slice_set, slice_get};
+ghost use Rattle.std.specs.Prelude.{◌≡◌, ◌+◌, ◌<◌, ◌^◌, ◌∷◌, ◌++◌, [], Some, None, IfOk, IfSome, OnOk, OnErr, is_none, position, replicate, length, filter, not, ◌||◌, nat_eq, nat_lt, unwrap_or, slice_set, slice_get, ◌≤◌, cond, count_by, map, vec_len};
 ghost use Rattle.std.specs.Option.{option_copied};
 ghost use Rattle.std.specs.List.{list_any};
 ghost use Rattle.plain_model.specs.Machine.{DESCRIPTORS_MAX, free_table, handles_of, held_in, handle_of, lowest_free};
-ghost use Rattle.plain_model.specs.Changes.{holds, is_held, moved_to, rewound, with_handle};
+ghost use Rattle.plain_model.specs.Changes.{holds, is_held, moved_to, re_way, re_ways, rewound, with_handle};
 ghost use Rattle.plain_model.specs.Runs.{CLIENTS_MAX};
-ghost use Rattle.plain_reference.specs.Tables.{AreNumbered, AreNumbered-prop, kept, over_handle};
+ghost use Rattle.plain_reference.specs.Tables.{AreNumbered, AreNumbered-prop, came_by, kept, opened_by, over_handle};
 ghost use Rattle.plain_reference.specs.Views.{seen};
 
 use crate::id::Id;
 use crate::view::View;
+use crate::ways::{Copies, same_way};
 use ov_base::{Name, NameList, OpenFlags};
 use std::alloc::{AllocError, Global};
 use std::marker::Model;
@@ -166,6 +167,36 @@ impl Client {
         self.handles.as_slice()
     }
 
+    // Makes a copy for each handle on a node that was opened by a way in.
+    fn copy_for(
+        &self,
+        id: &Id,
+        way: &Option<(Id, Name)>,
+        copies: &mut Copies,
+    ) -> Result<(), AllocError>
+        ensures way { copies.new.way ≡ copies.old.way }
+        ensures made { OnOk result (vec_len copies.new.made ≡ vec_len copies.old.made + count_by (came_by id.now way.now) self.now.handles) }
+    {
+        for handle in self.handles() {
+            if came_by(handle, id, way) {
+                copies.add()?;
+            }
+        }
+        Ok(())
+    }
+
+    // Lets the handles on a node that were opened by a way in have another one, of which there are copies enough.
+    fn re_way(&mut self, id: &Id, way: &Option<(Id, Name)>, copies: &mut Copies)
+        requires { count_by (came_by id.now way.now) self.old.handles ≤ vec_len copies.old.made }
+        ensures handles { self.new ≡ record self.old { handles = map (re_way (Some id.now) way.now copies.old.way) self.old.handles } }
+        ensures way { copies.new.way ≡ copies.old.way }
+        ensures left { vec_len copies.new.made + count_by (came_by id.now way.now) self.old.handles ≡ vec_len copies.old.made }
+    {
+        for handle in self.handles.iter_mut() {
+            re_way(handle, id, way, copies);
+        }
+    }
+
     // Leads a descriptor to a handle, or frees it.
     fn set(&mut self, descriptor: u32, handle: Option<Handle>)
         ensures { self.new ≡ record self.old { handles = slice_set self.old.handles descriptor handle } }
@@ -296,6 +327,33 @@ impl Clients {
         }
     }
 
+    /// Copies of a new way in, one for each handle on a node that was opened by the old one.
+    pub fn copies(
+        &self,
+        alloc: Global,
+        id: &Id,
+        old: &Option<(Id, Name)>,
+        new: &Option<(Id, Name)>,
+    ) -> Result<Copies, AllocError>
+        ensures way { IfOk result (λ copies. copies.way ≡ new.now) }
+        ensures made { IfOk result (λ copies. vec_len copies.made ≡ opened_by id.now old.now self.now.list.items) }
+    {
+        let mut copies = Copies::new(alloc, new.clone()?);
+        for client in self.as_slice() {
+            client.copy_for(id, old, &mut copies)?;
+        }
+        Ok(copies)
+    }
+
+    /// Lets the handles on a node that were opened by a way in have another one, of which there are copies enough.
+    pub fn re_way(&mut self, id: &Id, way: &Option<(Id, Name)>, copies: Copies)
+        requires { opened_by id.now way.now self.old.list.items ≤ vec_len copies.made }
+        ensures list { self.new.list.items ≡ re_ways self.old.list.items (Some id.now) way.now copies.way }
+        ensures arrived { self.new.arrived ≡ self.old.arrived }
+    {
+        re_ways(self.list.as_mut_slice(), id, way, copies);
+    }
+
     /// Whether no client can come: 64 are attached, or the numbers have run out.
     pub fn is_full(&self) -> bool
         ensures full { result ≡ (not (nat_lt (length self.now.list.items) CLIENTS_MAX) || nat_eq self.now.arrived 0xffff_ffff) }
@@ -375,4 +433,38 @@ pub fn is_held(clients: &[Client], id: &Id) -> bool
     ensures { result ≡ is_held clients.now id.now }
 {
     clients.iter().any(|client| client.holds(id))
+}
+
+// Whether a handle is open on a node, by a way in.
+fn came_by(handle: &Option<Handle>, id: &Id, way: &Option<(Id, Name)>) -> bool
+    ensures { result ≡ came_by id.now way.now handle.now }
+{
+    match handle {
+        None => false,
+        Some(handle) => id.is(&handle.node) && same_way(&handle.way, way),
+    }
+}
+
+// Lets a handle on a node that was opened by a way in have another one.
+fn re_way(handle: &mut Option<Handle>, id: &Id, way: &Option<(Id, Name)>, copies: &mut Copies)
+    requires { cond (came_by id.now way.now handle.old) 1 0 ≤ vec_len copies.old.made }
+    ensures handle { handle.new ≡ re_way (Some id.now) way.now copies.old.way handle.old }
+    ensures way { copies.new.way ≡ copies.old.way }
+    ensures left { vec_len copies.new.made + cond (came_by id.now way.now handle.old) 1 0 ≡ vec_len copies.old.made }
+{
+    if let Some(open) = handle {
+        if id.is(&open.node) && same_way(&open.way, way) {
+            open.way = copies.take();
+        }
+    }
+}
+
+// The same of the handles of all clients.
+fn re_ways(clients: &mut [Client], id: &Id, way: &Option<(Id, Name)>, mut copies: Copies)
+    requires { opened_by id.now way.now clients.old ≤ vec_len copies.made }
+    ensures { clients.new ≡ re_ways clients.old (Some id.now) way.now copies.way }
+{
+    for client in clients.iter_mut() {
+        client.re_way(id, way, &mut copies);
+    }
 }

@@ -17,12 +17,15 @@ mod node;
 mod opens;
 mod reference;
 mod refusals;
+mod rename_refusals;
+mod renames;
 mod runs;
 mod sights;
 mod tree;
 mod user_attributes;
 mod view;
 mod walk;
+mod ways;
 
 pub use builder::Builder;
 pub use node::Origin;

@@ -2,7 +2,7 @@
 ghost use Rattle.std.specs.Prelude.{◌≡◌, [], IfOk, OnOk, OnErr, length, map, unwrap_or};
 ghost use Rattle.std.specs.Option.{option_copied};
 ghost use Rattle.plain_model.specs.Tree.{with_name, shown_links, count_of};
-ghost use Rattle.plain_model.specs.Machine.{is_link, has_names, bytes_of_node, user_of, value_of};
+ghost use Rattle.plain_model.specs.Machine.{is_base, is_link, has_names, bytes_of_node, user_of, value_of};
 ghost use Rattle.plain_model.specs.Tree.{is_folder};
 ghost use Rattle.plain_model.specs.Changes.{one_fewer, is_named, names_in, opened, touched, with_bytes};
 ghost use Rattle.plain_model.specs.Replies.{stat_of, stat_by, capped};
@@ -44,6 +44,16 @@ pub fn is_folder(node: Option<&Node>) -> bool
     ensures { result ≡ is_folder (shown (option_copied node.entry)) }
 {
     matches!(node, Some(Node::Directory { .. }))
+}
+
+/// Whether there is a directory that a lower layer has too.
+pub fn is_base(node: Option<&Node>) -> bool
+    ensures { result ≡ is_base (shown (option_copied node.entry)) }
+{
+    match node {
+        Some(Node::Directory { is_base, .. }) => *is_base,
+        _ => false,
+    }
 }
 
 /// Whether there is a symbolic link.
@@ -205,8 +215,8 @@ impl Node {
         }
     }
 
-    // Copies a file or symbolic link of a lower layer up.
-    fn touch(&mut self)
+    /// Copies a file or symbolic link of a lower layer up.
+    pub fn touch(&mut self)
         ensures { plain self.new ≡ touched (plain self.old) }
     {
         if let Node::Leaf { origin, .. } = self {

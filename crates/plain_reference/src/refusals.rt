@@ -19,14 +19,15 @@ use crate::walk::Look;
 use ov_base::{AttributeName, Bytes, Errno, OpenFlags, Path};
 use std::alloc::AllocError;
 
-fn when(applies: bool, errno: Errno) -> Option<Errno>
+/// A refusal, where its line applies.
+pub fn when(applies: bool, errno: Errno) -> Option<Errno>
     ensures { result ≡ rule.when applies errno }
 {
     if applies { Some(errno) } else { None }
 }
 
-// The walk of a path up to its last name.
-fn walked(look: &Look) -> Option<Errno>
+/// The walk of a path up to its last name.
+pub fn walked(look: &Look) -> Option<Errno>
     ensures { result ≡ rule.walked (look_of look.now) }
 {
     match look {
@@ -35,8 +36,8 @@ fn walked(look: &Look) -> Option<Errno>
     }
 }
 
-// The walk of a path, and that its last name is there.
-fn there(look: &Look) -> Option<Errno>
+/// The walk of a path, and that its last name is there.
+pub fn there(look: &Look) -> Option<Errno>
     ensures { result ≡ rule.there (look_of look.now) }
 {
     match look {
@@ -46,13 +47,15 @@ fn there(look: &Look) -> Option<Errno>
     }
 }
 
-fn is_found(look: &Look) -> bool
+/// Whether a walk leads to a node.
+pub fn is_found(look: &Look) -> bool
     ensures { result ≡ is_found (look_of look.now) }
 {
     matches!(look, Look::Found(_))
 }
 
-fn is_root(path: &Path) -> bool
+/// Whether a path is that of the root.
+pub fn is_root(path: &Path) -> bool
     ensures { result ≡ is_root path.now }
 {
     path.names().is_empty()

@@ -55,8 +55,8 @@ impl Reference {
         true
     }
 
-    /// Makes a client's call as the plain machine does. None where it isn't offered: a call on watches, one that moves, a new node when
-    /// the serials have run out, or a further name that can't be counted. Want of memory changes nothing.
+    /// Makes a client's call as the plain machine does. None where it isn't offered: a call on watches, a new node when the serials have
+    /// run out, or a further name or move that can't be counted. Want of memory changes nothing.
     pub fn call(&mut self, client: u32, call: &Call) -> Result<Option<Reply>, AllocError>
         ensures answer { IfOk result (λ answer. Answers (state_of self.old) client call.now answer (state_of self.new)) }
         ensures err { OnErr result (state_of self.new ≡ state_of self.old) }
@@ -80,6 +80,7 @@ impl Reference {
             Call::Unlink { path } => Ok(Some(self.unlink(client, path)?)),
             Call::Rmdir { path } => Ok(Some(self.rmdir(client, path)?)),
             Call::Hardlink { old, new } => self.link(client, old, new),
+            Call::Rename { old, new } => self.rename(client, old, new),
             Call::Seek {
                 descriptor,
                 offset,

@@ -2,7 +2,7 @@
 ghost use Rattle.std.specs.Prelude.{◌≡◌, ◌<◌, [], Some, None, OnOk, OnErr, IfSome, length, drop, position, vec_len};
 ghost use Rattle.std.specs.Option.{option_copied};
 ghost use Rattle.plain_model.specs.Tree.{same_id, put, lead};
-ghost use Rattle.plain_model.specs.Changes.{change, one_fewer, opened, with_bytes};
+ghost use Rattle.plain_model.specs.Changes.{change, lead_way, one_fewer, opened, touched, with_bytes};
 ghost use Rattle.plain_reference.specs.Nodes.{shown, plain, given, gained};
 ghost use Rattle.plain_reference.specs.Slots.{tree_of};
 
@@ -93,6 +93,26 @@ impl Tree {
         }
     }
 
+    /// Leads a way in to a node; without one nothing changes.
+    pub fn lead_way(&mut self, way: &Option<(Id, Name)>, to: &Id) -> Result<(), AllocError>
+        ensures ok { OnOk result (tree_of self.new.slots.items ≡ lead_way (tree_of self.old.slots.items) way.now (Some to.now)) }
+        ensures err { OnErr result (tree_of self.new.slots.items ≡ tree_of self.old.slots.items) }
+    {
+        if let Some((directory, name)) = way {
+            self.lead(directory, name, to.clone()?)?;
+        }
+        Ok(())
+    }
+
+    /// Takes the name of a way in out of its directory; without one nothing changes.
+    pub fn unlead_way(&mut self, way: &Option<(Id, Name)>)
+        ensures { tree_of self.new.slots.items ≡ lead_way (tree_of self.old.slots.items) way.now None }
+    {
+        if let Some((directory, name)) = way {
+            self.unlead(directory, name);
+        }
+    }
+
     /// Lets a node have a name less.
     pub fn lose_name(&mut self, id: &Id)
         ensures { tree_of self.new.slots.items ≡ change one_fewer (tree_of self.old.slots.items) (Some id.now) }
@@ -113,6 +133,18 @@ impl Tree {
             let slot = &mut self.slots[index];
             if let Some(node) = &mut slot.node {
                 node.gain_name();
+            }
+        }
+    }
+
+    /// Lets a file or symbolic link of a lower layer be copied up.
+    pub fn touch(&mut self, id: &Id)
+        ensures { tree_of self.new.slots.items ≡ change touched (tree_of self.old.slots.items) (Some id.now) }
+    {
+        if let Some(index) = self.index(id) {
+            let slot = &mut self.slots[index];
+            if let Some(node) = &mut slot.node {
+                node.touch();
             }
         }
     }

@@ -2,7 +2,7 @@
 ghost use Rattle.std.specs.Prelude.{◌≡◌, IfOk, reverse};
 ghost use Rattle.std.specs.Option.{option_copied};
 ghost use Rattle.plain_model.specs.Tree.{node_at};
-ghost use Rattle.plain_model.specs.Machine.{enter, into, look, found, node_found};
+ghost use Rattle.plain_model.specs.Machine.{enter, into, look, found, node_found, same_found};
 ghost use Rattle.plain_model.specs.Changes.{on_way, way_of};
 ghost use Rattle.plain_reference.specs.Nodes.{shown};
 ghost use Rattle.plain_reference.specs.Slots.{tree_of};
@@ -97,7 +97,8 @@ impl Tree {
     }
 }
 
-fn found_in(look: Look) -> Option<Id>
+/// The node that a walk leads to.
+pub fn found_in(look: Look) -> Option<Id>
     ensures { result ≡ found (look_of look) }
 {
     match look {
@@ -112,5 +113,15 @@ fn way_in(look: Look, name: Name) -> Option<(Id, Name)>
     match look {
         Look::Found(directory) => Some((directory, name)),
         _ => None,
+    }
+}
+
+/// Whether two walks lead to one node.
+pub fn same_found(first: &Look, second: &Look) -> bool
+    ensures { result ≡ same_found (look_of first.now) (look_of second.now) }
+{
+    match (first, second) {
+        (Look::Found(node), Look::Found(other)) => node.is(other),
+        _ => false,
     }
 }
