@@ -18,24 +18,24 @@ use Rattle.open_handles.proofs.Located.{unheld, stands, removed, standing, opene
 use Rattle.open_handles.proofs.Handles.{opened-held}
 
 -- a number is opened exactly where a handle holds it
-pub opened-counted : (t : Dentries) → IsTree t ROOT → (k : ℕ) → IsSome (opened t k) ↔ 0 < holders t k
+pub opened-counted : (t : Dentries) (i : ℕ) → IsTree t i → (k : ℕ) → IsSome (opened t k) ↔ 0 < holders t k
 unfolding holders
-opened-counted t tree k = (opened-held t ROOT tree k, λ some. back some)
+opened-counted t i tree k = (opened-held t i tree k, λ some. back some)
   where
     back : 0 < held t k → IsSome (opened t k)
-    back some = elim (standing t ROOT tree k) [
+    back some = elim (standing t i tree k) [
       | unheld none e ↦ absurd (omega arith)
       | stands _ p s e ↦ subst IsSome (sym e) refl
       | removed _ a gone e ↦ subst IsSome (sym e) refl
     ]
 
 -- no two are opened at one path
-pub opened-one : (t : Dentries) → IsTree t ROOT → (p : Path) (j k : ℕ) → opened t j ≡ Some (At p) → opened t k ≡ Some (At p) → j ≡ k
-opened-one t tree p j k e f = one_there t ROOT tree p j k (opened-at t ROOT tree j p e).0 (opened-at t ROOT tree k p f).0
+pub opened-one : (t : Dentries) (i : ℕ) → IsTree t i → (p : Path) (j k : ℕ) → opened t j ≡ Some (At p) → opened t k ≡ Some (At p) → j ≡ k
+opened-one t i tree p j k e f = one_there t i tree p j k (opened-at t i tree j p e).0 (opened-at t i tree k p f).0
 
 -- what is read of the entry of an opened directory
-pub attributes-read : (t : Dentries) (k : ℕ) (e : Dentry) → IsTree t ROOT → IsSome (opened t k) → get t k ≡ Some e → left_attributes e.place ≡ option_and_then attributes_in (opened t k)
-attributes-read t k e tree is_open at = elim (standing t ROOT tree k) [
+pub attributes-read : (t : Dentries) (i k : ℕ) (e : Dentry) → IsTree t i → IsSome (opened t k) → get t k ≡ Some e → left_attributes e.place ≡ option_and_then attributes_in (opened t k)
+attributes-read t i k e tree is_open at = elim (standing t i tree k) [
   | unheld none f ↦ let no : IsSome {T = Location} None = subst IsSome f is_open in absurd (true≢false (sym no))
   | stands some p s f ↦ none_left p s ∙ sym (ap (option_and_then attributes_in) f)
   | removed some a gone f ↦
@@ -60,28 +60,28 @@ unfolding opened
 opened-there t k is_open none = let no : IsSome {T = Location} None = subst (λ o. IsSome (option_and_then (λ (e : Dentry). cond (nat_eq e.holders 0) None (location t k e.place)) o)) none is_open in absurd (true≢false (sym no))
 
 -- what wasn't removed stands somewhere
-pub stands-opened : (t : Dentries) (k : ℕ) → IsTree t ROOT → IsSome (opened t k) → option_and_then attributes_in (opened t k) ≡ None → Stands t k
-stands-opened t k tree is_open kept = elim (standing t ROOT tree k) [
+pub stands-opened : (t : Dentries) (i k : ℕ) → IsTree t i → IsSome (opened t k) → option_and_then attributes_in (opened t k) ≡ None → Stands t k
+stands-opened t i k tree is_open kept = elim (standing t i tree k) [
   | unheld none f ↦ let no : IsSome {T = Location} None = subst IsSome f is_open in absurd (true≢false (sym no))
   | stands some p s f ↦ (p, s)
   | removed some a gone f ↦ let no : Some a ≡ None = sym (ap (option_and_then attributes_in) f) ∙ kept in absurd (cc)
 ]
 
 -- and its path is the one of its names
-pub path-read : (t : Dentries) (k : ℕ) (p : Path) → IsTree t ROOT → IsSome (opened t k) → StandsAt t k p → Some p ≡ option_and_then path_in (opened t k)
-path-read t k p tree is_open s = sym (ap (option_and_then path_in) (opened-stands t ROOT tree k p s (opened-held t ROOT tree k is_open)))
+pub path-read : (t : Dentries) (i k : ℕ) (p : Path) → IsTree t i → IsSome (opened t k) → StandsAt t k p → Some p ≡ option_and_then path_in (opened t k)
+path-read t i k p tree is_open s = sym (ap (option_and_then path_in) (opened-stands t i tree k p s (opened-held t i tree k is_open)))
 
 -- what is found at a path is open there where a handle holds it, and otherwise none is
-module _ (t : Dentries) (tree : IsTree t ROOT) (p : Path) where
+module _ (t : Dentries) (i : ℕ) (tree : IsTree t i) (p : Path) where
   -- where nothing stands at the path
   pub none-at : ((k : ℕ) → StandsAt t k p → ⊥) → (k : ℕ) → opened t k ≢ Some (At p)
-  none-at none k e = none k (opened-at t ROOT tree k p e).0
+  none-at none k e = none k (opened-at t i tree k p e).0
 
   -- where no handle holds what stands there
   pub none-held : (d : ℕ) (e : Dentry) → StandsAt t d p → get t d ≡ Some e → e.holders ≡ 0 → (k : ℕ) → opened t k ≢ Some (At p)
   none-held d e s at none k is =
-      let here = opened-at t ROOT tree k p is in
-      let one : k ≡ d = one_there t ROOT tree p k d here.0 s in
+      let here = opened-at t i tree k p is in
+      let one : k ≡ d = one_there t i tree p k d here.0 s in
       let count : held t k ≡ 0 = ap (held t) one ∙ ap (λ o. option_map_or (λ (e : Dentry). e.holders) o 0) at ∙ none in
       let some = here.1 in
       absurd (omega arith)
@@ -90,7 +90,7 @@ module _ (t : Dentries) (tree : IsTree t ROOT) (p : Path) where
   pub found-held : (d : ℕ) (e : Dentry) → StandsAt t d p → get t d ≡ Some e → e.holders ≢ 0 → opened t d ≡ Some (At p)
   found-held d e s at some =
       let count : held t d ≡ e.holders = ap (λ o. option_map_or (λ (e : Dentry). e.holders) o 0) at in
-      opened-stands t ROOT tree d p s (let more : 0 < e.holders = omega arith in omega arith)
+      opened-stands t i tree d p s (let more : 0 < e.holders = omega arith in omega arith)
 
 -- the tree of the root alone
 module _ (old new : Dentries) (e : Dentry) (key : ℕ) (empty : old.slots ≡ []) (is : key ≡ ROOT) (updates : Updates old new key (Some e)) (at_root : e.place ≡ place.Root) (unheld_yet : e.holders ≡ 0) (bare : e.children.entries ≡ []) where

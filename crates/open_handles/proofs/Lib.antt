@@ -9,3 +9,5 @@ pub mod Removing
 pub mod Walking
 pub mod Laws
 pub mod Holding
+pub mod Exchanging
+pub mod Renaming

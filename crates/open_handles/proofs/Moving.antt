@@ -24,7 +24,7 @@ same_name (x ∷ xs) (y ∷ ys) =
     ]
 
 -- a name of an entry is this one of that entry, or not
-cases_pair : (e d : ℕ) (m n : Name) → ((e ≡ d) × (m ≡ n)) ⊎ ((e ≡ d) → (m ≡ n) → ⊥)
+pub cases_pair : (e d : ℕ) (m n : Name) → ((e ≡ d) × (m ≡ n)) ⊎ ((e ≡ d) → (m ≡ n) → ⊥)
 cases_pair e d m n =
     elim (cases_eq e d) [
       | inl same ↦ elim (same_name m n) [ inl f ↦ inl (same, f) | inr g ↦ inr (λ _ f. g f) ]
@@ -53,7 +53,7 @@ tree-settled t k needed tree =
     }
 
 -- an entry without a child has no directory in it
-no_parent : (t : Dentries) (i k : ℕ) → IsTree t i → ((m : Name) → child t k m ≡ None) → (j : ℕ) (m : Name) → place_at t j ≢ Some (In k m)
+pub no_parent : (t : Dentries) (i k : ℕ) → IsTree t i → ((m : Name) → child t k m ≡ None) → (j : ℕ) (m : Name) → place_at t j ≢ Some (In k m)
 no_parent t i k tree childless j m e = let no : Some j ≡ None = sym (tree.listed j k m e) ∙ childless m in absurd (cc)
 
 -- where directories stand where they stood but for one that has none in it

@@ -24,13 +24,13 @@ split_at (n ∷ names) zero d within = refl
 split_at (n ∷ names) (suc i) d within = ap (λ xs. n ∷ xs) (split_at names i d (omega arith))
 
 -- where a walk finds no child, nothing stands at the path
-pub no_child_stands : (t : Dentries) (p : Path) (names : List Name) (i d : ℕ) (n : Name) → IsTree t ROOT → names ≡ reverse p → i < length names → get_or names i n ≡ n → StandsAt t d (reverse (take i names)) → child t d n ≡ None → (k : ℕ) → StandsAt t k p → ⊥
-no_child_stands t p names i d n tree is within named at none k s =
+pub no_child_stands : (t : Dentries) (idle : ℕ) (p : Path) (names : List Name) (i d : ℕ) (n : Name) → IsTree t idle → names ≡ reverse p → i < length names → get_or names i n ≡ n → StandsAt t d (reverse (take i names)) → child t d n ≡ None → (k : ℕ) → StandsAt t k p → ⊥
+no_child_stands t idle p names i d n tree is within named at none k s =
     let whole : p ≡ (reverse (drop (suc i) names) ++ (n ∷ [])) ++ reverse (take i names) =
     sym (reverse-reverse p) ∙ ap reverse (sym is) ∙ ap reverse (split_at names i n within) ∙ ap (λ (x : Name). reverse (take i names ++ (x ∷ drop (suc i) names))) named ∙ reverse-append (take i names) (n ∷ drop (suc i) names) ∙ ap (λ (x : Path). x ++ reverse (take i names)) (reverse-append (n ∷ []) (drop (suc i) names)) in
     let path : p ≡ reverse (drop (suc i) names) ++ (n ∷ reverse (take i names)) = whole ∙ append_assoc (reverse (drop (suc i) names)) (n ∷ []) (reverse (take i names)) in
     let up = one_above t k (reverse (drop (suc i) names)) (n ∷ reverse (take i names)) (subst (StandsAt t k) path s) in
-    let one : up.1.0 ≡ d = one_there t ROOT tree (reverse (take i names)) up.1.0 d up.1.2 at in
+    let one : up.1.0 ≡ d = one_there t idle tree (reverse (take i names)) up.1.0 d up.1.2 at in
     let found : child t d n ≡ Some up.0 = ap (λ (x : ℕ). child t x n) (sym one) ∙ tree.listed up.0 up.1.0 n up.1.1 in
     absurd (cc)
 

@@ -1,6 +1,7 @@
 pub mod Dentries
 pub mod Steps
 pub mod Opened
+pub mod Renames
 pub mod Descriptors
 pub mod Listings
 pub mod Holding

@@ -90,3 +90,22 @@ pub record Counts (old new : Dentries) (k count : ℕ) : Type 0 where
 -- each directory stands where it stood
 abbrev pub KeepsPaths : Dentries → Dentries → Type 0
 KeepsPaths old new = (k : ℕ) (p : Path) → StandsAt old k p → StandsAt new k p
+
+-- a directory stands in another, which has it as the child of that name
+pub record IsListed (t : Dentries) (k : ℕ) : Type 0 where
+  pub parent : ℕ
+  pub name : Name
+  pub placed : place_at t k ≡ Some (In parent name)
+  pub listed : child t parent name ≡ Some k
+
+-- each of two directories stands where the other one stood
+pub record Exchanges (old new : Dentries) (k j : ℕ) : Type 0 where
+  pub one : IsListed old k
+  pub other : IsListed old j
+  pub one_placed : place_at new k ≡ Some (In other.parent other.name)
+  pub other_placed : place_at new j ≡ Some (In one.parent one.name)
+  pub places : (i : ℕ) → i ≢ k → i ≢ j → place_at new i ≡ place_at old i
+  pub counts : (i : ℕ) → held new i ≡ held old i
+  pub one_listed : child new other.parent other.name ≡ Some k
+  pub other_listed : child new one.parent one.name ≡ Some j
+  pub children : (d : ℕ) (m : Name) → ((d ≡ one.parent) → (m ≡ one.name) → ⊥) → ((d ≡ other.parent) → (m ≡ other.name) → ⊥) → child new d m ≡ child old d m

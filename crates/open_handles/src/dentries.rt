@@ -3,8 +3,11 @@ ghost use Rattle.std.specs.Prelude.{◌≡◌, ◌≢◌, ℕ, ◌+◌, ◌-◌,
 ghost use Rattle.slab.specs.Slab.{get, slab_len};
 ghost use Rattle.open_handles.specs.declared.dentry.Place.TheVariants as place;
 ghost use Rattle.open_handles.specs.Dentries.{IsTree, StandsAt, Stands, child, place_at, held};
-ghost use Rattle.open_handles.specs.Steps.{SameEntries, Relists, Adds, Displaces, Counts, KeepsPaths};
-ghost use Rattle.open_handles.specs.Opened.{SameHandles, Opens, Closes, Removes, NoneBelow, opened};
+ghost use Rattle.open_handles.specs.Steps.{SameEntries, Relists, Adds, Displaces, IsListed, Exchanges, Counts, KeepsPaths};
+ghost use Rattle.open_handles.specs.Opened.{At, SameHandles, Opens, Closes, Removes, NoneBelow, opened};
+ghost use Rattle.open_handles.specs.Renames.{IsReady, Moves};
+ghost use Rattle.plain_model.specs.Layers.{Name};
+ghost use Rattle.plain_model.specs.Laws.{IsOutside};
 
 use crate::dentry::{Dentry, Place};
 use ov_base::{Attributes, Name, Path};
@@ -25,7 +28,7 @@ fn child_at(entries: &Slab<Dentry>, parent: usize, name: &Name) -> Option<usize>
 
 /// The entry that stands at a path.
 pub fn find(entries: &Slab<Dentry>, path: &Path) -> Option<usize>
-    requires { IsTree entries.now ROOT }
+    requires { (idle : ℕ) × IsTree entries.now idle }
     ensures found { IfSome result (λ k. StandsAt entries.now k path.now) }
     ensures absent { IfNone result ((k : ℕ) → StandsAt entries.now k path.now → ⊥) }
 {
@@ -49,18 +52,36 @@ pub fn open(
     ensures opens { IfOk result (λ k. Opens entries.old entries.new path.now k) }
     ensures err { OnErr result (SameHandles entries.old entries.new) }
 {
-    let mut directory = ROOT;
+    let directory = reach(entries, alloc, keys, path)?;
+    hold(entries, directory)?;
+    Ok(directory)
+}
+
+/// Gives the entry at a path, for which it makes those that lack, and which may be idle then. What is open stays as it is. Want of memory
+/// leaves no idle entry.
+pub fn reach(
+    entries: &mut Slab<Dentry>,
+    alloc: Global,
+    keys: RandomState,
+    path: &Path,
+) -> Result<usize, AllocError>
+    requires { IsTree entries.old ROOT }
+    ensures same { SameHandles entries.old entries.new }
+    ensures tree { IfOk result (λ k. IsTree entries.new k) }
+    ensures stands { IfOk result (λ k. StandsAt entries.new k path.now) }
+    ensures err { OnErr result (IsTree entries.new ROOT) }
+{
+    let mut reached = ROOT;
     for name in path.names() {
-        match enter(entries, alloc, keys, directory, name) {
-            Ok(below) => directory = below,
+        match enter(entries, alloc, keys, reached, name) {
+            Ok(below) => reached = below,
             Err(fault) => {
-                prune(entries, directory);
+                prune(entries, reached);
                 return Err(fault);
             }
         }
     }
-    hold(entries, directory)?;
-    Ok(directory)
+    Ok(reached)
 }
 
 // Goes on to the child of an entry at a name, which it makes where there is none.
@@ -162,8 +183,8 @@ fn release(entries: &mut Slab<Dentry>, key: usize)
     dentry.holders -= 1;
 }
 
-// Frees an entry that may be idle, and those above it that are idle then.
-fn prune(entries: &mut Slab<Dentry>, from: usize)
+/// Frees an entry that may be idle, and those above it that are idle then.
+pub fn prune(entries: &mut Slab<Dentry>, from: usize)
     requires { IsTree entries.old from }
     ensures tree { IsTree entries.new ROOT }
     ensures same { SameHandles entries.old entries.new }
@@ -211,19 +232,72 @@ pub fn remove(entries: &mut Slab<Dentry>, path: &Path, attributes: Attributes)
     let Some(key) = find(entries, path) else {
         return;
     };
-    if let Place::In(parent, name) = displace(entries, key, attributes) {
+    if let Place::In(parent, name) = displace(entries, key, Place::Removed(attributes)) {
         unlist_child(entries, parent, &name);
         prune(entries, parent);
     }
 }
 
-fn displace(entries: &mut Slab<Dentry>, key: usize, attributes: Attributes) -> Place
+fn displace(entries: &mut Slab<Dentry>, key: usize, to: Place) -> Place
     requires { IsSome (get entries.old key) }
     ensures was { place_at entries.old key ≡ Some result }
-    ensures displaces { Displaces entries.old entries.new key (place.Removed attributes) }
+    ensures displaces { Displaces entries.old entries.new key to }
 {
     let dentry = &mut entries[key];
-    mem::replace(&mut dentry.place, Place::Removed(attributes))
+    mem::replace(&mut dentry.place, to)
+}
+
+/// Moves the directory of an entry, with all that is below it, to a path at which an entry stands. Where that one is open it is removed,
+/// with these attributes. It takes no memory.
+pub fn rename(
+    entries: &mut Slab<Dentry>,
+    source: usize,
+    old: &Path,
+    new: &Path,
+    replaced: Option<Attributes>,
+)
+    requires ready { IsReady entries.old old.now new.now }
+    requires stands { StandsAt entries.old source old.now }
+    requires not_root { new.now ≢ [] }
+    requires apart { IsOutside old.now new.now }
+    requires below { NoneBelow entries.old new.now }
+    requires replaced { (k : ℕ) → opened entries.old k ≡ Some (At new.now) → IsSome replaced }
+    ensures tree { IsTree entries.new ROOT }
+    ensures moves { Moves entries.old entries.new old.now new.now replaced }
+{
+    let Some(target) = find(entries, new) else {
+        unreachable!();
+    };
+    exchange(entries, source, target);
+    prune(entries, target);
+    if let Some(attributes) = replaced {
+        remove(entries, old, attributes);
+    }
+}
+
+// Puts each of two entries where the other one stands.
+fn exchange(entries: &mut Slab<Dentry>, one: usize, other: usize)
+    requires different { one ≢ other }
+    requires one { IsListed entries.old one }
+    requires other { IsListed entries.old other }
+    ensures { Exchanges entries.old entries.new one other }
+{
+    let to = displace(entries, other, Place::Root);
+    relist_child(entries, &to, one);
+    let from = displace(entries, one, to);
+    relist_child(entries, &from, other);
+    let _ = displace(entries, other, from);
+}
+
+// Lists an entry as the child at a place where another one is listed.
+fn relist_child(entries: &mut Slab<Dentry>, at: &Place, key: usize)
+    requires { (d : ℕ) (n : Name) → at.now ≡ place.In d n → IsSome (child entries.old d n) }
+    ensures { (d : ℕ) (n : Name) → at.now ≡ place.In d n → Relists entries.old entries.new d n (Some key) }
+{
+    if let Place::In(parent, name) = at {
+        let dentry = &mut entries[*parent];
+        dentry.relist(name, key);
+    }
 }
 
 /// The names from a directory that stands somewhere up to the root.

@@ -1,7 +1,8 @@
 // One directory that is open, or has open ones below it.
-ghost use Rattle.std.specs.Prelude.{◌≡◌, ◌≢◌, ℕ, ◌+◌, ◌<◌, List, [], None, Some, IsTrue, ◌↔◌, OnOk, OnErr, IfSome, IfNone};
+ghost use Rattle.std.specs.Prelude.{◌≡◌, ◌≢◌, ℕ, ◌+◌, ◌<◌, List, [], None, Some, IsTrue, ◌↔◌, OnOk, OnErr, IsSome, IfSome, IfNone};
 ghost use Rattle.std.specs.Option.{option_copied};
 ghost use Rattle.open_handles.specs.declared.dentry.Place.TheVariants as place;
+ghost use Rattle.open_handles.specs.Dentries.{child_in};
 ghost use Rattle.open_handles.specs.Steps.{IsIdle, left_attributes, Lists, SameDentry};
 
 use indexmap::IndexMap;
@@ -77,6 +78,16 @@ impl Dentry {
     {
         self.children.insert(name, key)?;
         Ok(())
+    }
+
+    /// Lists another child at a name at which one is listed. It takes no memory.
+    pub fn relist(&mut self, name: &Name, key: usize)
+        requires { IsSome (child_in self.old name.now) }
+        ensures { Lists self.old self.new name.now (Some key) }
+    {
+        if let Some(child) = self.children.get_mut(name) {
+            *child = key;
+        }
     }
 
     /// Takes the child at a name off the list.

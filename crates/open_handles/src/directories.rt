@@ -1,10 +1,12 @@
 // The directories of a mount that are open.
-ghost use Rattle.std.specs.Prelude.{◌≡◌, ◌≢◌, ℕ, ◌<◌, ◌↔◌, [], Some, None, IsSome, IfOk, IfSome, IfNone, OnErr};
+ghost use Rattle.std.specs.Prelude.{◌≡◌, ◌≢◌, ℕ, ◌<◌, ◌↔◌, [], Some, None, IsSome, IfOk, IfSome, IfNone, OnOk, OnErr};
 ghost use Rattle.std.specs.Option.{option_and_then, option_copied};
 ghost use Rattle.plain_model.specs.Layers as layers;
+ghost use Rattle.plain_model.specs.Laws.{IsOutside};
 ghost use Rattle.open_handles.specs.Opened.{At, opened, holders, path_in, attributes_in, SameHandles, Opens, Closes, Removes, NoneBelow};
+ghost use Rattle.open_handles.specs.Renames.{IsSettled, IsOpenWithin, IsReady, Moves};
 
-use crate::dentries;
+use crate::dentries::{self, ROOT, prune};
 use crate::dentry::{Dentry, Place};
 use ov_base::{Attributes, Path};
 use slab::Slab;
@@ -17,6 +19,8 @@ use std::marker::Model;
 #[derive(Drop)]
 pub struct OpenDirectories {
     entries: Slab<Dentry>,
+    // the entry that the last rename that was prepared may have left idle
+    pending: usize,
     alloc: Global,
     keys: RandomState,
 }
@@ -31,11 +35,11 @@ impl Model for OpenDirectories {
 
     ghost coded = { slab_code stored.the_row.coded };
 
-    ghost use Rattle.open_handles.specs.Dentries.{IsTree, ROOT};
+    ghost use Rattle.open_handles.specs.Dentries.{IsTree};
 
     ghost view = { λ d. d.entries };
 
-    ghost invariant = { λ d. IsTree d.entries ROOT };
+    ghost invariant = { λ d. IsTree d.entries d.pending };
 }
 
 impl OpenDirectories {
@@ -47,6 +51,7 @@ impl OpenDirectories {
         entries.insert_reserved(Dentry::new(alloc, keys, Place::Root));
         Ok(OpenDirectories {
             entries,
+            pending: ROOT,
             alloc,
             keys,
         })
@@ -80,6 +85,7 @@ impl OpenDirectories {
     {
         let alloc = self.alloc;
         let keys = self.keys;
+        prune(&mut self.entries, self.pending);
         dentries::open(&mut self.entries, alloc, keys, path)
     }
 
@@ -88,6 +94,7 @@ impl OpenDirectories {
         requires { IsSome (opened self.old directory) }
         ensures { Closes self.old self.new directory }
     {
+        prune(&mut self.entries, self.pending);
         dentries::close(&mut self.entries, directory);
     }
 
@@ -97,7 +104,57 @@ impl OpenDirectories {
         requires below { NoneBelow self.old path.now }
         ensures { Removes self.old self.new path.now attributes }
     {
+        prune(&mut self.entries, self.pending);
         dentries::remove(&mut self.entries, path, attributes);
+    }
+
+    /// Takes the memory that `rename` needs to lead what is open at a path or below it to another path: none where nothing is. What is open
+    /// stays as it is. Any other call that changes what is open gives it up.
+    pub fn prepare_rename(&mut self, old: &Path, new: &Path) -> Result<(), AllocError>
+        requires { old.now ≢ [] }
+        ensures same { SameHandles self.old self.new }
+        ensures ready { OnOk result (IsReady self.new old.now new.now) }
+        ensures needed { OnErr result (IsOpenWithin self.old old.now) }
+        ensures none { (IsOpenWithin self.old old.now → ⊥) → IsSettled self.new }
+        ensures err { OnErr result (IsSettled self.new) }
+    {
+        let alloc = self.alloc;
+        let keys = self.keys;
+        prune(&mut self.entries, self.pending);
+        if dentries::find(&self.entries, old).is_some() {
+            self.pending = dentries::reach(&mut self.entries, alloc, keys, new)?;
+        }
+        Ok(())
+    }
+
+    /// Leads what is open at a path or below it to the same places under another path, whatever is open there. The directory that is open
+    /// at that other path, which is replaced, is a removed one then, with the attributes that it has. It takes no memory.
+    pub fn rename(&mut self, old: &Path, new: &Path, replaced: Option<Attributes>)
+        requires ready { IsReady self.old old.now new.now }
+        requires not_root { new.now ≢ [] }
+        requires apart { IsOutside old.now new.now }
+        requires below { NoneBelow self.old new.now }
+        requires replaced { (k : ℕ) → opened self.old k ≡ Some (At new.now) → IsSome replaced }
+        ensures moves { Moves self.old self.new old.now new.now replaced }
+        ensures settled { IsSettled self.new }
+    {
+        match dentries::find(&self.entries, old) {
+            Some(source) => dentries::rename(&mut self.entries, source, old, new, replaced),
+            None => {
+                prune(&mut self.entries, self.pending);
+                if let Some(attributes) = replaced {
+                    dentries::remove(&mut self.entries, new, attributes);
+                }
+            }
+        }
+    }
+
+    /// Gives up a rename that was prepared, and lets go the memory that it took.
+    pub fn cancel_rename(&mut self)
+        ensures same { SameHandles self.old self.new }
+        ensures settled { IsSettled self.new }
+    {
+        prune(&mut self.entries, self.pending);
     }
 
     /// The path of an open directory; none where it was removed.

@@ -4,4 +4,4 @@ use Rattle.open_handles.proofs.dentries.find.Goals as goal
 
 pub returns-in_err-directory-clause-absent : goal.returns-in_err-directory-clause-absent
 returns-in_err-directory-clause-absent c =
-    rw c.from_residual.ensures (no_child_stands c.args.entries.now c.args.path.now c.names-name-items.result.now c.loop-name.name-index c.loop-name.directory c.name-item.result c.requires c.names-name-items.ensures c.loop-name-test.true (sym c.name-item.is) c.loop-name.invariant (sym c.child_at.ensures ∙ c.in_err-directory.was))
+    rw c.from_residual.ensures (no_child_stands c.args.entries.now c.requires.0 c.args.path.now c.names-name-items.result.now c.loop-name.name-index c.loop-name.directory c.name-item.result c.requires.1 c.names-name-items.ensures c.loop-name-test.true (sym c.name-item.is) c.loop-name.invariant (sym c.child_at.ensures ∙ c.in_err-directory.was))

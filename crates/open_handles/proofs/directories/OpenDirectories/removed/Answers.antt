@@ -1,6 +1,6 @@
 use Rattle.std.proofs.Common.{sym, subst, ap, ◌∙◌}
 use Rattle.slab.specs.Slab.{get}
-use Rattle.open_handles.specs.Dentries.{Dentries, ROOT, IsTree}
+use Rattle.open_handles.specs.Dentries.{Dentries, IsTree}
 use Rattle.open_handles.proofs.Laws.{attributes-read, opened-there}
 use Rattle.open_handles.proofs.directories.OpenDirectories.removed.Goals as goal
 
@@ -10,4 +10,4 @@ returns-in_err-get c =
 
 pub returns : goal.returns
 returns c =
-    c.removed.ensures ∙ attributes-read c.args.self.now c.args.directory c.in_ok-get.field-0.now (subst (λ (t : Dentries). IsTree t ROOT) c.self.view_is c.self.invariant) c.requires (ap (λ (t : Dentries). get t c.args.directory) (sym c.self.view_is) ∙ sym c.in_ok-get.ensures)
+    c.removed.ensures ∙ attributes-read c.args.self.now c.self.inside.pending c.args.directory c.in_ok-get.field-0.now (subst (λ (t : Dentries). IsTree t c.self.inside.pending) c.self.view_is c.self.invariant) c.requires (ap (λ (t : Dentries). get t c.args.directory) (sym c.self.view_is) ∙ sym c.in_ok-get.ensures)
