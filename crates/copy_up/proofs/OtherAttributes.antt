@@ -23,7 +23,7 @@ use Rattle.merged_lookup.specs.declared.layers.Layers.{Layers}
 use Rattle.merged_lookup.specs.declared.stack.Place.{Place}
 use Rattle.merged_lookup.specs.declared.stack.Stack.{Stack}
 use Rattle.merged_lookup.specs.Locating.{place_of}
-use Rattle.merged_lookup.specs.Merged.{trees, layers_of, lowers_of, places_at, unless_cut, top_of, IsFound, IsStackOf, ShowsInode}
+use Rattle.merged_lookup.specs.Merged.{trees, layers_of, lowers_of, places_at, unless_cut, top_of, way_fault, walk_fault, IsFound, IsStackOf, ShowsDirectory, ShowsInode}
 use Rattle.merged_lookup.proofs.Descending.{drop-get, key-of}
 use Rattle.merged_lookup.proofs.Folders.{IsDirectoryWith, held-node}
 use Rattle.merged_lookup.proofs.Looking.{head-places, head-unless}

@@ -90,6 +90,7 @@ impl<W: Write> Output<W> {
     /// Hands the text on where there is much of it.
     pub fn relieve(&mut self) -> Result<(), DeviceFault>
         ensures mark { Marks self.old.failed self.new.failed result }
+        ensures little { OnOk result (length (string_bytes self.new.text) < 65536) }
     {
         if self.text.len() < HELD_MOST {
             Ok(())
