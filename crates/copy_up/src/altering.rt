@@ -1,5 +1,5 @@
 // Other attributes of what a path shows.
-ghost use Rattle.std.specs.Prelude.{◌≡◌, ◌<◌, List, ℕ, Some, None, IsSome, IfOk, OnOk, OnErr};
+ghost use Rattle.std.specs.Prelude.{◌≡◌, ◌<◌, ℕ, Some, None, IsSome, IfOk, OnOk, OnErr};
 ghost use Rattle.slab.specs.Slab.{get};
 ghost use Rattle.ov_base.specs.AttributeChanges.{changed};
 ghost use Rattle.ov_base.specs.declared.attributes.Attributes.{Attributes as AttributesOf};
@@ -8,6 +8,8 @@ ghost use Rattle.mount_laws.specs.Altered.{Alters};
 ghost use Rattle.layer_tree.specs.AttributeChange.{attributes_at, SetsAttributes, SetsInode, SetsDirectory};
 ghost use Rattle.layer_tree.specs.Nameless.{IsNameless};
 ghost use Rattle.layer_tree.specs.Tree.{layer_of, key_at, inode_at, IsDirectory, IsHeldTogether, IsTree};
+ghost use Rattle.merged_lookup.specs.declared.found.Topmost.{Topmost as MountTopmost};
+ghost use Rattle.merged_lookup.specs.Descent.{place_shown};
 ghost use Rattle.merged_lookup.specs.Merged.{layers_of, lowers_of, parent, parents_fault, walk_fault, way_fault, IsStackOf, IsTopmost, ShowsDirectory, ShowsInode};
 ghost use Rattle.copy_up.specs.Showing.{ShowsSame, GainsParents, StaysLayers, StaysMount, StaysThin};
 ghost use Rattle.copy_up.specs.Altering.{AltersObject, AltersAs, AltersObjectAs};
@@ -45,6 +47,23 @@ pub fn alter(
         lawful(layers);
         return alter_upper(layers, place.key, change);
     }
+    alter_lower(layers, path, change)
+}
+
+// `alter` of what a lower layer has, to which it walks for the directories that a copy-up wants.
+fn alter_lower(layers: &mut Layers, path: &Path, change: AttributeChange) -> Result<(), AllocError>
+    requires walked { walk_fault (layers_of layers.old) path.now ≡ None }
+    requires lower { (top : MountTopmost) × IsTopmost layers.old path.now (Some top) × (0 < (place_shown top).layer) }
+    ensures altered { OnOk result (AltersAs layers.old layers.new path.now change) }
+    ensures object { OnOk result (AltersObjectAs layers.old layers.new path.now change) }
+    ensures lowers { layers.new.lowers ≡ layers.old.lowers }
+    ensures nameless { (k : ℕ) → IsNameless layers.old.upper k → IsNameless layers.new.upper k }
+    ensures no_memory { OnErr result (ShowsSame layers.old layers.new) }
+    ensures mounts { OnErr result (StaysMount layers.old layers.new) }
+    ensures parents { OnErr result (GainsParents layers.old layers.new path.now) }
+    ensures keeps { StaysLayers layers.old layers.new }
+    ensures thin { StaysThin layers.old layers.new }
+{
     let Ok((directory, found)) = layers.walk_in(path) else {
         unreachable!()
     };

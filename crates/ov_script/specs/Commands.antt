@@ -13,7 +13,7 @@ use Rattle.ov_script.specs.Words.{words}
 use Rattle.ov_script.specs.declared.script.Command.{Command}
 use Rattle.ov_script.specs.declared.script.Command.TheVariants.{Attach, Detach, Call as CallOf, Layer, Merge}
 use Rattle.ov_script.specs.declared.script.CallText.{CallText}
-use Rattle.ov_script.specs.declared.script.CallText.TheVariants.{Stat, Readlink, Mkdir, Symlink, Link, Unlink, Rmdir, Open, Read, Write, Seek, Truncate, Fstat, ListNames, Close}
+use Rattle.ov_script.specs.declared.script.CallText.TheVariants.{Stat, Readlink, Mkdir, Symlink, Link, Rename, Unlink, Rmdir, Open, Read, Write, Seek, Truncate, Fstat, ListNames, Close}
 use Rattle.ov_script.specs.declared.script.CallText.TheVariants.{Chmod, Chown, SetAttribute, GetAttribute, DeleteAttribute, ListAttributes}
 
 -- what two words come to, if each has its form
@@ -42,8 +42,8 @@ call_of_one name w =
     else (if bytes_eq name (codes "fstat") then option_map Fstat (number_of 10 w)
     else option_and_then (call_of_path name) (spelled_word w))
 
--- `chmod MODE P`, `getattr P NAME`, `delattr P NAME`, `mkdir MODE P`, `symlink TARGET P`, `link OLD NEW`, `open FLAGS P`, whose mode is
--- 0o644
+-- `chmod MODE P`, `getattr P NAME`, `delattr P NAME`, `mkdir MODE P`, `symlink TARGET P`, `link OLD NEW`, `rename OLD NEW`, `open FLAGS P`,
+-- whose mode is 0o644
 abbrev pub path_call_of_two : List ℕ → List ℕ → List ℕ → Option CallText
 path_call_of_two name v w =
     if bytes_eq name (codes "chmod") then both Chmod (mode_of v) (spelled_word w)
@@ -52,7 +52,8 @@ path_call_of_two name v w =
     else (if bytes_eq name (codes "mkdir") then both Mkdir (mode_of v) (spelled_word w)
     else (if bytes_eq name (codes "symlink") then both Symlink (spelled_word v) (spelled_word w)
     else (if bytes_eq name (codes "link") then both Link (spelled_word v) (spelled_word w)
-    else (if bytes_eq name (codes "open") then both (λ flags path. Open flags path 420) (flags_of v) (spelled_word w) else None))))))
+    else (if bytes_eq name (codes "rename") then both Rename (spelled_word v) (spelled_word w)
+    else (if bytes_eq name (codes "open") then both (λ flags path. Open flags path 420) (flags_of v) (spelled_word w) else None)))))))
 
 -- `read FD N`, `write FD DATA`, `truncate FD SIZE`, `list FD N`, and the calls of a path and one word more
 abbrev pub call_of_two : List ℕ → List ℕ → List ℕ → Option CallText
@@ -120,10 +121,16 @@ abbrev pub on_path : (List (List ℕ) → Call) → Result (List (List ℕ)) Err
 on_path make (Ok path) = Ok (make path)
 on_path make (Err errno) = Err errno
 
--- what is made of two paths, or the refusal of the first that is refused
-abbrev pub on_paths : (List (List ℕ) → List (List ℕ) → Call) → Result (List (List ℕ)) Errno → Result (List (List ℕ)) Errno → Result Call Errno
-on_paths make (Ok path) other = on_path (make path) other
-on_paths make (Err errno) other = Err errno
+-- two paths, or the refusal of the first that is refused
+abbrev pub path_pair : Result (List (List ℕ)) Errno → Result (List (List ℕ)) Errno → Result (List (List ℕ) × List (List ℕ)) Errno
+path_pair (Err errno) other = Err errno
+path_pair (Ok path) (Err errno) = Err errno
+path_pair (Ok path) (Ok other) = Ok (path, other)
+
+-- what is made of two paths, or their refusal
+abbrev pub on_pair : (List (List ℕ) → List (List ℕ) → Call) → Result (List (List ℕ) × List (List ℕ)) Errno → Result Call Errno
+on_pair make (Ok pair) = Ok (make pair.0 pair.1)
+on_pair make (Err errno) = Err errno
 
 -- the call that a text asks for, or the refusal of its path, of its first one where it has two
 abbrev pub call_of : CallText → Result Call Errno
@@ -136,7 +143,8 @@ call_of (GetAttribute text name) = on_path (λ path. call.GetAttribute path name
 call_of (DeleteAttribute text name) = on_path (λ path. call.DeleteAttribute path name) (path_of_text text)
 call_of (ListAttributes text) = on_path call.ListAttributes (path_of_text text)
 call_of (Symlink target text) = on_path (call.Symlink target) (path_of_text text)
-call_of (Link old new) = on_paths call.Hardlink (path_of_text old) (path_of_text new)
+call_of (Link old new) = on_pair call.Hardlink (path_pair (path_of_text old) (path_of_text new))
+call_of (Rename old new) = on_pair call.Rename (path_pair (path_of_text old) (path_of_text new))
 call_of (Unlink text) = on_path call.Unlink (path_of_text text)
 call_of (Rmdir text) = on_path call.Rmdir (path_of_text text)
 call_of (Mkdir mode text) = on_path (λ path. call.Mkdir path mode) (path_of_text text)

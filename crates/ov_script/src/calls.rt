@@ -2,6 +2,7 @@
 ghost use Rattle.std.specs.Prelude.{◌≡◌, IfOk};
 ghost use Rattle.ov_base.specs.Paths.{path_of_text};
 ghost use Rattle.ov_script.specs.Commands as commands;
+ghost use Rattle.ov_script.specs.Commands.{path_pair};
 ghost use Rattle.ov_script.specs.declared.script.CallText.TheVariants as text;
 
 use crate::escape::EscapedWord;
@@ -30,6 +31,7 @@ impl CallText<'_> {
             CallText::Mkdir { mode, path } => mkdir(alloc, *mode, path),
             CallText::Symlink { target, path } => symlink(alloc, target, path),
             CallText::Link { old, new } => link(alloc, old, new),
+            CallText::Rename { old, new } => rename(alloc, old, new),
             CallText::Open { flags, path, mode } => open(alloc, *flags, path, *mode),
             CallText::Unlink { path } => {
                 Ok(path_of(alloc, path)?.map(|path| Call::Unlink { path }))
@@ -77,6 +79,20 @@ fn path_of(alloc: Global, word: &EscapedWord<'_>) -> Result<Result<Path, Errno>,
 {
     let text = word.bytes(alloc)?;
     Path::parse(alloc, text.as_slice())
+}
+
+fn paths_of(
+    alloc: Global,
+    old: &EscapedWord<'_>,
+    new: &EscapedWord<'_>,
+) -> Result<Result<(Path, Path), Errno>, AllocError>
+    ensures { IfOk result (λ outcome. outcome ≡ path_pair (path_of_text old.now) (path_of_text new.now)) }
+{
+    let old = match path_of(alloc, old)? {
+        Ok(old) => old,
+        Err(errno) => return Ok(Err(errno)),
+    };
+    Ok(path_of(alloc, new)?.map(|new| (old, new)))
 }
 
 fn bytes_of(alloc: Global, word: &EscapedWord<'_>) -> Result<Bytes, AllocError>
@@ -169,11 +185,19 @@ fn link(
 ) -> Result<Result<Call, Errno>, AllocError>
     ensures { IfOk result (λ outcome. outcome ≡ commands.call_of (text.Link old.now new.now)) }
 {
-    let old = match path_of(alloc, old)? {
-        Ok(old) => old,
-        Err(errno) => return Ok(Err(errno)),
-    };
-    Ok(path_of(alloc, new)?.map(|new| Call::Hardlink { old, new }))
+    let paths = paths_of(alloc, old, new)?;
+    Ok(paths.map(|(old, new)| Call::Hardlink { old, new }))
+}
+
+fn rename(
+    alloc: Global,
+    old: &EscapedWord<'_>,
+    new: &EscapedWord<'_>,
+) -> Result<Result<Call, Errno>, AllocError>
+    ensures { IfOk result (λ outcome. outcome ≡ commands.call_of (text.Rename old.now new.now)) }
+{
+    let paths = paths_of(alloc, old, new)?;
+    Ok(paths.map(|(old, new)| Call::Rename { old, new }))
 }
 
 fn open(

@@ -71,6 +71,10 @@ pub enum CallText<'a> {
         old: EscapedWord<'a>,
         new: EscapedWord<'a>,
     },
+    Rename {
+        old: EscapedWord<'a>,
+        new: EscapedWord<'a>,
+    },
     Unlink {
         path: EscapedWord<'a>,
     },
@@ -290,6 +294,10 @@ fn path_call_of_two<'a>(name: &[u8], first: &'a [u8], second: &'a [u8]) -> Optio
         let old = EscapedWord::parse(first)?;
         let new = EscapedWord::parse(second)?;
         Some(CallText::Link { old, new })
+    } else if name == b"rename".as_slice() {
+        let old = EscapedWord::parse(first)?;
+        let new = EscapedWord::parse(second)?;
+        Some(CallText::Rename { old, new })
     } else if name == b"open".as_slice() {
         let flags = open_flags(first)?;
         let path = EscapedWord::parse(second)?;

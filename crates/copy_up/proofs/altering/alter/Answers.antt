@@ -1,6 +1,8 @@
+use Rattle.std.proofs.Common.{◌<◌, arith, subst}
 use Rattle.std.proofs.lemmas.Result.{on_ok_weaker}
+use Rattle.merged_lookup.specs.declared.stack.Place.{Place}
 use Rattle.copy_up.proofs.OtherAttributes.{thin-either}
-use Rattle.copy_up.proofs.OwnAttributes.{IsOwn, is-own, own-there, own-alters, own-object, own-thin, changes-key}
+use Rattle.copy_up.proofs.OwnAttributes.{is-own, own-there, own-alters, own-object, own-thin, changes-key}
 use Rattle.copy_up.proofs.altering.alter.Goals as goal
 
 pub alter_upper-requires : goal.alter_upper-requires
@@ -33,3 +35,6 @@ returns-then-place-eq0-clause-thin c =
     (λ made. own-thin old c.alter_upper.new.layers c.args.path.now c.place-place.result c.alter_upper.ensures.lowers c.args.change made own)
     (changes-key old c.alter_upper.new.layers c.place-place.result.key c.args.change c.alter_upper.result c.alter_upper.ensures.sets c.alter_upper.ensures.inode c.alter_upper.ensures.directory))
     c.alter_upper.ensures.unchanged
+
+pub alter_lower-requires-clause-lower : goal.alter_lower-requires-clause-lower
+alter_lower-requires-clause-lower c = (c.args.top, c.requires.shown, subst (λ (d : Place). 0 < d.layer) c.place-place.ensures (omega (arith, c.if-place-eq0.false)))

@@ -5,7 +5,7 @@ use Rattle.ov_base.specs.declared.attributes.Attributes.{Attributes}
 use Rattle.mount_laws.specs.Altered.{Alters}
 use Rattle.layer_tree.specs.Tree.{layer_of}
 use Rattle.merged_lookup.specs.declared.stack.Place.{Place}
-use Rattle.merged_lookup.specs.Merged.{layers_of, lowers_of}
+use Rattle.merged_lookup.specs.Merged.{lowers_of}
 use Rattle.plain_model.specs.Layers.{Folder}
 use Rattle.copy_up.specs.Altering.{AltersObject}
 use Rattle.copy_up.proofs.OtherAttributes.{shown-folder}
