@@ -160,7 +160,7 @@ stays-unchanged old new low same inodes keep = record {
   holds = λ p o h. same p ∙ h;
 }
 
-places-agree : (i : ℕ) (U V : Layer) (Ls : List Layer) (p : Path) → held V p ≡ held U p → cuts V p ≡ cuts U p → below V p ≡ below U p → places_at i (V ∷ Ls) p ≡ places_at i (U ∷ Ls) p
+pub places-agree : (i : ℕ) (U V : Layer) (Ls : List Layer) (p : Path) → held V p ≡ held U p → cuts V p ≡ cuts U p → below V p ≡ below U p → places_at i (V ∷ Ls) p ≡ places_at i (U ∷ Ls) p
 places-agree i U V Ls p h c b j = level i (h j) (unless_cut (c j) (places_at (suc i) Ls (b j)))
 
 -- a directory that is shown at n in p, and that the upper lacks, is placed

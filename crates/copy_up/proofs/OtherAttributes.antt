@@ -99,7 +99,7 @@ pub record StandsAt (t : Tree) (p : Path) (dir : ℕ) : Type 0 where
   pub directory : IsDirectory t dir
 
 -- a directory whose topmost place is in the upper is held there
-upper-directory : (l : Layers) (p : Path) (s : Stack) → IsStackOf l p s → (top_of s.places.items).layer ≡ 0 → IsHeldDirectory (held (layer_of l.upper) p) (top_of s.places.items).key
+pub upper-directory : (l : Layers) (p : Path) (s : Stack) → IsStackOf l p s → (top_of s.places.items).layer ≡ 0 → IsHeldDirectory (held (layer_of l.upper) p) (top_of s.places.items).key
 upper-directory l p s is top =
     let U : Layer = layer_of l.upper in
     let rest : List Place = unless_cut (cuts U p) (places_at 1 (lowers_of l) (below U p)) in

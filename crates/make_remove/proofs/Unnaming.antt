@@ -44,17 +44,14 @@ released-key t (Some j) k h = by (has_more 0 (inode_at t j)) refl h
         let same : j ≡ k = cc in
         (e, sym (ap (λ z. has_more 0 (inode_at t z)) same) ∙ is)
 
--- the name that led to an object is bound to something else
-module _ (old new : Tree) (dir : ℕ) (name : Name) (to : Option Entry) (tree : IsTree old) (bare : HoldsNoObjects old dir name) (u : Unbinds old new dir name to) (unnamed : (key : ℕ) → child old dir name ≡ Some key → IsDirectory old key → (d : ℕ) (n : Name) → child new d n ≢ Some key) (linkless : (key : ℕ) (i : Inode) → inode_at new key ≡ Some i → i.links ≡ 0 → (d : ℕ) (n : Name) → child new d n ≢ Some key) where
+-- the name that led to an object is bound to something else, and what stood in the object stays
+module _ (old new : Tree) (dir : ℕ) (name : Name) (tree : IsTree old) (bare : HoldsNoObjects old dir name) (same : (k : ℕ) → seen_at new k ≡ seen_at old k) (inside : (key : ℕ) → child old dir name ≡ Some key → (n : Name) → entry new key n ≡ entry old key n) (unnamed : (key : ℕ) → child old dir name ≡ Some key → IsDirectory old key → (d : ℕ) (n : Name) → child new d n ≢ Some key) (linkless : (key : ℕ) (i : Inode) → inode_at new key ≡ Some i → i.links ≡ 0 → (d : ℕ) (n : Name) → child new d n ≢ Some key) where
   was-directory : (key : ℕ) → IsDirectory new key → IsDirectory old key
-  was-directory key is = sym (seen-table key (get old key)) ∙ ap holds_directory (sym (u.seen key)) ∙ seen-table key (get new key) ∙ is
+  was-directory key is = sym (seen-table key (get old key)) ∙ ap holds_directory (sym (same key)) ∙ seen-table key (get new key) ∙ is
 
   module _ (key : ℕ) (led : child old dir name ≡ Some key) (last : has_more 0 (inode_at new key) ≡ false) where
     there : IsSome (get new key)
-    there = same_presence old new key (u.seen key) ∙ tree.present dir name key led
-
-    apart : (n : Name) → key ≡ dir → n ≡ name → ⊥
-    apart n d e = let z : Some key ≡ None = sym led ∙ ap (λ x. child old x name) (sym d) ∙ ap (child old key) (sym e) ∙ bare key led n in cc
+    there = same_presence old new key (same key) ∙ tree.present dir name key led
 
     none-leads : (d : ℕ) (n : Name) → child new d n ≢ Some key
     none-leads d n again = by (get new key) refl
@@ -72,8 +69,15 @@ module _ (old new : Tree) (dir : ℕ) (name : Name) (to : Option Entry) (tree : 
       present = there;
       not_root = λ e. tree.root_unnamed dir name (led ∙ ap Some e);
       unnamed = none-leads;
-      bare = λ n. ap (option_and_then object_key) (u.binds.others key n (λ d e. apart n d e)) ∙ bare key led n;
+      bare = λ n. ap (option_and_then object_key) (inside key led n) ∙ bare key led n;
     }
+
+-- what stands in a bare object stays where the name that led to it is bound anew
+pub inside-bare : (old new : Tree) (dir : ℕ) (name : Name) (to : Option Entry) → HoldsNoObjects old dir name → Unbinds old new dir name to → (key : ℕ) → child old dir name ≡ Some key → (n : Name) → entry new key n ≡ entry old key n
+inside-bare old new dir name to bare u key led n = u.binds.others key n apart
+  where
+    apart : key ≡ dir → n ≡ name → ⊥
+    apart d e = let z : Some key ≡ None = sym led ∙ ap (λ x. child old x name) (sym d) ∙ ap (child old key) (sym e) ∙ bare key led n in cc
 
 -- the name of an inode leads to its number, and so does that of a directory
 pub entry-number : (t : Tree) (e : Option Entry) (k : ℕ) → number_of (option_and_then (seen_entry t) e) ≡ Some k → option_and_then object_key e ≡ Some k
@@ -98,26 +102,27 @@ unnamed-inode t k unnamed = by (get t k) refl
     by (Some (node.Directory d)) e = ap (option_and_then inode_of) e
     by (Some (node.Inode i)) e = absurd (unnamed (ap (option_map (seen k)) e))
 
-entry-object : (e : Option Entry) (k : ℕ) → option_and_then object_key e ≡ Some k → e ≡ Some (bound.Object k)
+pub entry-object : (e : Option Entry) (k : ℕ) → option_and_then object_key e ≡ Some k → e ≡ Some (bound.Object k)
 entry-object None k h = cc
 entry-object (Some bound.Whiteout) k h = cc
 entry-object (Some (bound.Object j)) k h = ap (λ z. Some (bound.Object z)) (let z : j ≡ k = cc in z)
 
--- the name goes: an inode that it named has a link fewer
-module _ (old new : Tree) (p : Path) (dir : ℕ) (name : Name) (o : Option Object) (to : Option Entry) (at : key_at old p ≡ Some dir) (r : ReplacesPath (layer_of old) (layer_of new) (name ∷ p) o) (u : Unbinds old new dir name to) where
+-- a name is bound to something else: an inode that it named has a link fewer
+module _ (old new : Tree) (p : Path) (dir : ℕ) (name : Name) (at : key_at old p ≡ Some dir) (unlinked : (k : ℕ) → child old dir name ≡ Some k → inode_at new k ≡ option_map with_less (inode_at old k)) (others : (k : ℕ) → child old dir name ≢ Some k → inode_at new k ≡ inode_at old k) where
   held-entry : held (layer_of old) (name ∷ p) ≡ option_and_then (seen_entry old) (entry old dir name)
   held-entry = held-in old p dir name at
 
   led-inode : (k : ℕ) → (held (layer_of old) (name ∷ p) ≡ Some (Named k) → ⊥) → entry old dir name ≡ Some (bound.Object k) → inode_at new k ≡ inode_at old k
   led-inode k away e =
       let none : inode_at old k ≡ None = unnamed-inode old k (λ h. away (held-entry ∙ ap (option_and_then (seen_entry old)) e ∙ h)) in
-      u.unlinked k (ap (option_and_then object_key) e) ∙ ap (option_map with_less) none ∙ sym none
+      unlinked k (ap (option_and_then object_key) e) ∙ ap (option_map with_less) none ∙ sym none
 
   other-inode : (k : ℕ) → (entry old dir name ≡ Some (bound.Object k) → ⊥) → inode_at new k ≡ inode_at old k
-  other-inode k off = u.inodes k (λ led. off (entry-object (entry old dir name) k led))
+  other-inode k off = others k (λ led. off (entry-object (entry old dir name) k led))
 
-  inodes : (k : ℕ) → (held (layer_of old) (name ∷ p) ≡ Some (Named k) → ⊥) → inode_at new k ≡ inode_at old k
-  inodes k away = by (entry old dir name) refl
+  -- every other inode stays
+  pub lost-inodes : (k : ℕ) → (held (layer_of old) (name ∷ p) ≡ Some (Named k) → ⊥) → inode_at new k ≡ inode_at old k
+  lost-inodes k away = by (entry old dir name) refl
     where
       by : (e : Option Entry) → entry old dir name ≡ e → inode_at new k ≡ inode_at old k
       by None is = other-inode k (λ h. let z : None ≡ Some (bound.Object k) = sym is ∙ h in cc)
@@ -127,24 +132,33 @@ module _ (old new : Tree) (p : Path) (dir : ℕ) (name : Name) (o : Option Objec
         | inr ne ↦ other-inode k (λ h. ne (let z : Some (bound.Object j) ≡ Some (bound.Object k) = sym is ∙ h in cc))
       ]
 
-  pub takes : TakesAway (layer_of old) (layer_of new) (name ∷ p) o
-  takes = record {
-    here = r.there;
-    beneath = r.below;
-    elsewhere = r.elsewhere;
-    fewer = λ k i here is more. u.unlinked k (number-child old p dir name k at (ap number_of here)) ∙ ap (option_map with_less) is;
-    inodes = inodes;
-  }
+  -- and it has one
+  pub lost-link : (k : ℕ) → held (layer_of old) (name ∷ p) ≡ Some (Named k) → inode_at new k ≡ option_map with_less (inode_at old k)
+  lost-link k here = unlinked k (number-child old p dir name k at (ap number_of here))
 
--- where no name is shown in what a name leads to, it holds no object
-pub bare-held : (t : Tree) (lowers : List Layer) (p : Path) (dir : ℕ) (n : Name) → IsTree t → key_at t p ≡ Some dir → ShowsNoName (layer_of t ∷ lowers) (n ∷ p) → HoldsNoObjects t dir n
-bare-held t lowers p dir n tree at unshown key led m =
+-- the name goes
+pub takes : (old new : Tree) (p : Path) (dir : ℕ) (name : Name) (o : Option Object) (to : Option Entry) → key_at old p ≡ Some dir → ReplacesPath (layer_of old) (layer_of new) (name ∷ p) o → Unbinds old new dir name to → TakesAway (layer_of old) (layer_of new) (name ∷ p) o
+takes old new p dir name o to at r u = record {
+  here = r.there;
+  beneath = r.below;
+  elsewhere = r.elsewhere;
+  fewer = λ k i here is more. lost-link old new p dir name at u.unlinked u.inodes k here ∙ ap (option_map with_less) is;
+  inodes = lost-inodes old new p dir name at u.unlinked u.inodes;
+}
+
+-- what a name leads to holds no object where none is held below its path
+pub bare-below : (t : Tree) (p : Path) (dir : ℕ) (n : Name) → IsTree t → key_at t p ≡ Some dir → ((m : Name) → is_object (held (layer_of t) (m ∷ n ∷ p)) ≡ false) → HoldsNoObjects t dir n
+bare-below t p dir n tree at free key led m =
     let there : key_at t (n ∷ p) ≡ Some key = ap (option_and_then (λ k. child t k n)) at ∙ led in
     free-entry t (entry t key m) (λ j e. tree.present key m j (ap (option_and_then object_key) e))
-    (sym (ap is_object (held-in t (n ∷ p) key m there)) ∙ free-absent (layer_of t).inodes (held (layer_of t) (m ∷ n ∷ p)) (through (layer_of t) lowers (m ∷ n ∷ p)) (unshown m))
+    (sym (ap is_object (held-in t (n ∷ p) key m there)) ∙ free m)
+
+-- and so where no name is shown in it
+pub bare-held : (t : Tree) (lowers : List Layer) (p : Path) (dir : ℕ) (n : Name) → IsTree t → key_at t p ≡ Some dir → ShowsNoName (layer_of t ∷ lowers) (n ∷ p) → HoldsNoObjects t dir n
+bare-held t lowers p dir n tree at unshown = bare-below t p dir n tree at (λ m. free-absent (layer_of t).inodes (held (layer_of t) (m ∷ n ∷ p)) (through (layer_of t) lowers (m ∷ n ∷ p)) (unshown m))
 
 -- no path is its own parent
-own-parent : (p : Path) → IsParent p p → ⊥
+pub own-parent : (p : Path) → IsParent p p → ⊥
 own-parent p (n, r, e) = omega (arith, simp length-append at (ap length e))
 
 -- what a name leads to is what is held there
@@ -162,7 +176,7 @@ less-more : (links : ℕ) → nat_lt 0 (links - 1) ≡ nat_lt 1 links
 less-more links = grind arith
 
 -- an object is left without a name exactly where it had one
-last-entry : (start old new : Tree) (e : Option Entry) → ((j : ℕ) → e ≡ Some (bound.Object j) → IsSome (get old j)) → ((k : ℕ) → inode_at old k ≡ inode_at start k) → ((k : ℕ) → option_and_then object_key e ≡ Some k → inode_at new k ≡ option_map with_less (inode_at old k)) → released_by new (option_and_then object_key e) ≡ last_named start (option_and_then (seen_entry old) e)
+pub last-entry : (start old new : Tree) (e : Option Entry) → ((j : ℕ) → e ≡ Some (bound.Object j) → IsSome (get old j)) → ((k : ℕ) → inode_at old k ≡ inode_at start k) → ((k : ℕ) → option_and_then object_key e ≡ Some k → inode_at new k ≡ option_map with_less (inode_at old k)) → released_by new (option_and_then object_key e) ≡ last_named start (option_and_then (seen_entry old) e)
 last-entry start old new None present same less = refl
 last-entry start old new (Some bound.Whiteout) present same less = refl
 last-entry start old new (Some (bound.Object j)) present same less = by (get old j) refl

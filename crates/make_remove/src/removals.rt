@@ -192,8 +192,8 @@ fn unbind(
     Ok(upper.take_out(dir, name))
 }
 
-// The key of what a name led to that went, unless that is an inode with other names.
-fn released(upper: &Layer, was: Option<Entry>) -> Option<usize>
+/// The key of what a name led to that went, unless that is an inode with other names.
+pub fn released(upper: &Layer, was: Option<Entry>) -> Option<usize>
     ensures { result ≡ released_by upper.now (option_and_then object_key was) }
 {
     match was {

@@ -1,4 +1,13 @@
 pub mod Rooms
+pub mod Moving
+pub mod Preparing
+pub mod Overs
+pub mod Marking
+pub mod Going
+pub mod Since
+pub mod Below
+pub mod Judged
+pub mod Steps
 pub mod Further
 pub mod Given
 pub mod Shown

@@ -1,5 +1,5 @@
 -- What a path shows stays while parents are placed, and where a file or link of a lower layer is copied up.
-use Rattle.std.proofs.Common.{◌≡◌, ◌<◌, ℕ, true, List, [], ◌∷◌, ◌++◌, Option, None, Some, refl, sym, ap, ap₂, ◌∙◌, subst, inl, inr, is_some, Result, Ok, Err, IfOk, IfErr}
+use Rattle.std.proofs.Common.{◌≡◌, ◌≢◌, ◌<◌, ℕ, true, List, [], ◌∷◌, ◌++◌, Option, None, Some, refl, sym, ap, ap₂, ◌∙◌, inl, inr, is_some, Result, Ok, Err, IfOk, IfErr}
 use Rattle.std.specs.Option.{MatchOption}
 use Rattle.std.proofs.lemmas.Bool.{false≢true}
 use Rattle.ov_base.specs.declared.errno.Errno.{Errno}
@@ -12,12 +12,15 @@ use Rattle.mount_laws.specs.Leaves.{PlacesLeaf}
 use Rattle.mount_laws.specs.Linking.{AddsName}
 use Rattle.layer_tree.specs.Tree.{layer_of}
 use Rattle.merged_lookup.specs.declared.layers.Layers.{Layers}
+use Rattle.rename_redirect.specs.Linking.{GainsBoth}
 use Rattle.merged_lookup.specs.declared.found.Parent.{Parent}
-use Rattle.merged_lookup.specs.Merged.{layers_of, lowers_of, or_else, fault, way_fault, parents_fault, IsParentOf}
-use Rattle.copy_up.specs.Showing.{is_object, ShowsSame, HasPlace, KeepsPath, GainsParents}
+use Rattle.merged_lookup.specs.declared.stack.Stack.{Stack}
+use Rattle.merged_lookup.specs.Merged.{layers_of, lowers_of, top_of, places_at, IsStackOf, or_else, fault, way_fault, parents_fault, IsParentOf}
+use Rattle.copy_up.specs.Showing.{ShowsSame, KeepsPath, GainsParents}
 use Rattle.copy_up.proofs.Copying.{free-inode}
 use Rattle.copy_up.proofs.Frames.{lacking, through-same}
-use Rattle.copy_up.proofs.Keeping.{directory-same, or-first, way-first, way-directory}
+use Rattle.copy_up.proofs.OtherAttributes.{upper-directory}
+use Rattle.copy_up.proofs.Keeping.{lowers-same, places-agree, directory-same, or-first, way-first, way-directory}
 
 -- what a lower layer has and a path shows is nothing that the upper holds
 pub lacked : (l : Layers) (p : Path) (j k : ℕ) (x : Option Inode) → shows 0 (layers_of l) p ≡ Some (Contents j k x) → 0 < j → held (layer_of l.upper) p ≡ None
@@ -61,6 +64,20 @@ outside-shown l p q j k x way none shown (n ∷ r) e =
     through [] h is = let z : Some (Folder 0 0 (layer_of l.upper).root) ≡ Some (Contents j k x) = is in cc
     through (m ∷ p) h is = false≢true (sym (ap is_directory is) ∙ way-directory (layers_of l) p m h)
 
+-- and what is shown is outside of what shows nothing
+pub outside-unshown : (l : Layers) (p q : Path) (j k : ℕ) (x : Option Inode) → parents_fault (layers_of l) p ≡ None → shows 0 (layers_of l) q ≡ None → shows 0 (layers_of l) p ≡ Some (Contents j k x) → IsOutside q p
+outside-unshown l p q j k x way none shown [] e = let z : None ≡ Some (Contents j k x) = sym none ∙ ap (shows 0 (layers_of l)) (sym e) ∙ shown in cc
+outside-unshown l p q j k x way none shown (n ∷ r) e =
+    through q (way-first (layers_of l) r q (sym (ap (parents_fault (layers_of l)) e) ∙ way)) none
+  where
+    through : (q : Path) → way_fault (layers_of l) q ≡ None → shows 0 (layers_of l) q ≡ None → ⊥
+    through [] h is = let z : Some (Folder 0 0 (layer_of l.upper).root) ≡ None = is in cc
+    through (m ∷ q) h is = false≢true (sym (ap is_directory is) ∙ way-directory (layers_of l) q m h)
+
+-- where parents of both paths are gained
+pub shown-both : (a b : Layers) (p q : Path) (j k : ℕ) (x : Option Inode) → GainsBoth a b p q → shows 0 (layers_of a) p ≡ Some (Contents j k x) → 0 < j → shows 0 (layers_of b) p ≡ Some (Contents j k x)
+shown-both a b p q j k x g shown lower = still-shown g.mid b q p g.same_second g.second j k x (still-shown a g.mid p p g.same_first g.first j k x shown lower) lower
+
 -- the same of paths told by their last names
 pub outside-split : (l : Layers) (p q : Path) (n : Name) (t : Path) (m : Name) (u : Path) → p ≡ n ∷ t → q ≡ m ∷ u → (j k : ℕ) (x : Option Inode) → parents_fault (layers_of l) q ≡ None → shows 0 (layers_of l) q ≡ None → shows 0 (layers_of l) p ≡ Some (Contents j k x) → IsOutside (n ∷ t) (m ∷ u)
 outside-split l p q n t m u e f j k x way none shown r g = outside-shown l p q j k x way none shown r (f ∙ g ∙ ap (λ z. r ++ z) (sym e))
@@ -89,26 +106,14 @@ thin-linked U V lowers p t m h k x is = elim (place t (k ∷ x)) [
     at (n ∷ r) e = let z : Some Whiteout ≡ None = sym is ∙ ap (held V) e ∙ m.beneath n r in cc
 
 -- the parent of a path that has a way, and isn't the root, is found
-pub parent-found : (l : Layers) (p : Path) (r : Result (Option Parent) Errno) → IfOk r (λ o. MatchOption o (p ≡ []) (IsParentOf l p)) → IfErr r (λ e. parents_fault (layers_of l) p ≡ Some e) → parents_fault (layers_of l) p ≡ None → shows 0 (layers_of l) p ≡ None → (o : Parent) × (r ≡ Ok (Some o))
-parent-found l p (Ok (Some o)) found refused way none = (o, refl)
-parent-found l p (Ok None) found refused way none = let z : Some (Folder 0 0 (layer_of l.upper).root) ≡ None = sym (ap (shows 0 (layers_of l)) found) ∙ none in absurd (cc)
-parent-found l p (Err e) found refused way none = let z : Some e ≡ None = sym refused ∙ way in absurd (cc)
+pub parent-there : (l : Layers) (p : Path) (r : Result (Option Parent) Errno) → IfOk r (λ o. MatchOption o (p ≡ []) (IsParentOf l p)) → IfErr r (λ e. parents_fault (layers_of l) p ≡ Some e) → parents_fault (layers_of l) p ≡ None → p ≢ [] → (o : Parent) × (r ≡ Ok (Some o))
+parent-there l p (Ok (Some o)) found refused way some = (o, refl)
+parent-there l p (Ok None) found refused way some = absurd (some found)
+parent-there l p (Err e) found refused way some = let z : Some e ≡ None = sym refused ∙ way in absurd (cc)
 
--- the place of a name, told by its path
-pub place-at : (L : Layer) (dir : ℕ) (p : Path) (n : Name) (t : Path) (m : Name) (u : Path) → p ≡ n ∷ t → p ≡ m ∷ u → HasPlace L dir n t → HasPlace L dir m u
-place-at L dir p n t m u e f h =
-    let z : n ∷ t ≡ m ∷ u = sym e ∙ f in
-    let a : n ≡ m = cc in
-    let b : t ≡ u = cc in
-    subst (λ (x : Path). HasPlace L dir m x) b (subst (λ (x : Name). HasPlace L dir x t) a h)
-
--- where more parents are gained the place of what a lower layer has stays
-pub place-kept : (a b : Layers) (dir : ℕ) (n : Name) (p : Path) → ((x : Path) (o : Object) → held (layer_of a.upper) x ≡ Some o → held (layer_of b.upper) x ≡ Some o) → held (layer_of b.upper) (n ∷ p) ≡ None → HasPlace (layer_of a.upper) dir n p → HasPlace (layer_of b.upper) dir n p
-place-kept a b dir n p holds none h =
-    record {
-      attributes = h.attributes;
-      opaque = h.opaque;
-      redirect = h.redirect;
-      directory = holds p (Directory dir h.attributes h.opaque h.redirect) h.directory;
-      free = ap is_object none;
-    }
+-- a directory that the upper has is one of the same places where more parents are gained
+pub stack-kept : (a b : Layers) → ShowsSame a b → ((x : Path) (o : Object) → held (layer_of a.upper) x ≡ Some o → held (layer_of b.upper) x ≡ Some o) → (p : Path) (s : Stack) → (top_of s.places.items).layer ≡ 0 → IsStackOf a p s → IsStackOf b p s
+stack-kept a b same holds p s top is =
+    let d = upper-directory a p s is top in
+    let alike = holds p (Directory (top_of s.places.items).key d.attributes d.opaque d.redirect) d.is ∙ sym d.is in
+    record { places = is.places ∙ sym (ap (λ Ls. places_at 0 (layer_of b.upper ∷ Ls) p) (lowers-same a b same.lowers) ∙ places-agree 0 (layer_of a.upper) (layer_of b.upper) (lowers_of a) p alike (same.passes.cuts p) (same.passes.spelling p)) }

@@ -1,1 +1,4 @@
 pub mod Linking
+pub mod Renaming
+pub mod Routes
+pub mod Judging

@@ -6,8 +6,8 @@ ghost use Rattle.merged_lookup.specs.Merged.{layers_of, parents_fault, parent, I
 ghost use Rattle.copy_up.specs.Showing.{ShowsSame, HasPlace, Stays, StaysLayers, StaysMount, StaysThin};
 ghost use Rattle.rename_redirect.specs.Linking.{GainsBoth, GivesName};
 
+use crate::moves::place_ways;
 use crate::names::insert_in_upper;
-use copy_up::place_parents;
 use layer_tree::Node;
 use merged_lookup::{Layers, Place, Stack};
 use ov_base::{Attributes, Content, Path};
@@ -48,7 +48,7 @@ pub(crate) fn link_copy(
 }
 
 // A copy of the file or symbolic link that is shown at a place: what it holds, and its attributes.
-fn copy_of(layers: &Layers, place: Place) -> Result<(Content, Attributes), AllocError>
+pub(crate) fn copy_of(layers: &Layers, place: Place) -> Result<(Content, Attributes), AllocError>
     requires { (p : Names) × ShowsInode layers.now p place }
     ensures { IfOk result (λ copy. (p : Names) → ShowsInode layers.now p place → (i : Inode) × (shows 0 (layers_of layers.now) p ≡ Some (Contents place.layer place.key (Some i))) × (copy.0 ≡ i.content) × (copy.1 ≡ i.attributes)) }
 {
@@ -86,17 +86,6 @@ fn place_both(
     ensures onto { IfOk result (λ dirs. (n : NameOf) (p : Names) → new.now ≡ n ∷ p → HasPlace (layer_of layers.new.upper) dirs.1 n p) }
     ensures shown { (x : Option Inode) → shows 0 (layers_of layers.old) old.now ≡ Some (Contents place.layer place.key x) → shows 0 (layers_of layers.new) old.now ≡ Some (Contents place.layer place.key x) }
 {
-    let Some((_, parents)) = old.split_last() else {
-        unreachable!()
-    };
-    let from = place_parents(layers, directory, parents)?;
-    let key = from.top().key;
-    let Ok(Some(found)) = layers.parent_of(new) else {
-        unreachable!()
-    };
-    let Some((_, parents)) = new.split_last() else {
-        unreachable!()
-    };
-    let onto = place_parents(layers, found.stack, parents)?;
-    Ok((key, onto.top().key))
+    let (from, onto) = place_ways(layers, old, new, directory)?;
+    Ok((from.top().key, onto.top().key))
 }

@@ -101,7 +101,7 @@ fn insert_linked(
 }
 
 // Makes room for a new object, for a name of it in one directory, and for one more in a directory that may be the same.
-fn room_for_both(upper: &mut Layer, from: usize, to: usize) -> Result<(), AllocError>
+pub(crate) fn room_for_both(upper: &mut Layer, from: usize, to: usize) -> Result<(), AllocError>
     requires from { IsDirectory upper.old from }
     requires to { IsDirectory upper.old to }
     ensures same { SameTree upper.old upper.new }

@@ -4,7 +4,7 @@ use Rattle.layer_tree.specs.Table.{object_key}
 use Rattle.layer_tree.proofs.Nameless.{keeps_same, keeps_unbound}
 use Rattle.copy_up.proofs.Keeping.{on-err}
 use Rattle.make_remove.specs.Removing.{released_by}
-use Rattle.make_remove.proofs.Unnaming.{no-object, released-key, nameless-left, takes}
+use Rattle.make_remove.proofs.Unnaming.{no-object, released-key, nameless-left, inside-bare, takes}
 use Rattle.make_remove.proofs.removals.remove_in.Goals as goal
 
 pub returns-clause-takes : goal.returns-clause-takes
@@ -22,7 +22,8 @@ returns-clause-released c = c.released.ensures ∙ ap (λ e. released_by c.unbin
 pub returns-clause-nameless : goal.returns-clause-nameless
 returns-clause-nameless c = λ k is.
     let found = released-key c.unbind.new.upper (option_and_then object_key c.in_ok-was.was') k (sym c.released.ensures ∙ is) in
-    nameless-left c.args.upper.now c.unbind.new.upper c.args.dir c.args.name.now _ c.lawful.ensures.tree c.requires.bare c.in_ok-was.ensures.unbinds c.in_ok-was.ensures.unnamed c.lawful-2.ensures.unnamed k
+    nameless-left c.args.upper.now c.unbind.new.upper c.args.dir c.args.name.now c.lawful.ensures.tree c.requires.bare c.in_ok-was.ensures.unbinds.seen
+    (inside-bare c.args.upper.now c.unbind.new.upper c.args.dir c.args.name.now _ c.requires.bare c.in_ok-was.ensures.unbinds) c.in_ok-was.ensures.unnamed c.lawful-2.ensures.unnamed k
     (ap (option_and_then object_key) (sym c.in_ok-was.ensures.value) ∙ found.0) found.1
 
 pub returns-clause-keeps : goal.returns-clause-keeps

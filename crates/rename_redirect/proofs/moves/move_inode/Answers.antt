@@ -1,0 +1,109 @@
+use Rattle.std.proofs.Common.{◌≡◌, ◌<◌, ◌∷◌, ℕ, Option, Some, ap, ap₂, ◌∙◌, arith}
+use Rattle.ov_base.specs.declared.attributes.Attributes.{Attributes}
+use Rattle.ov_base.specs.declared.bytes.Content.{Content}
+use Rattle.plain_model.specs.Layers.{Path, Contents, Inode, Named, is_directory, held, shows}
+use Rattle.layer_tree.specs.Tree.{Tree, layer_of}
+use Rattle.layer_tree.specs.Move.{left_object}
+use Rattle.layer_tree.specs.declared.node.Object.{Object}
+use Rattle.layer_tree.specs.declared.node.Object.TheVariants as object
+use Rattle.merged_lookup.specs.declared.layers.Layers.{Layers}
+use Rattle.merged_lookup.specs.declared.stack.Place.{Place}
+use Rattle.merged_lookup.specs.Merged.{layers_of, lowers_of, ShowsInode}
+use Rattle.copy_up.specs.Showing.{number_of}
+use Rattle.copy_up.proofs.OtherAttributes.{upper-named}
+use Rattle.rename_redirect.proofs.Given.{follows}
+use Rattle.rename_redirect.proofs.Shown.{lacked}
+use Rattle.rename_redirect.proofs.Moving.{leads-held, free-held}
+use Rattle.rename_redirect.proofs.Overs.{over-inode, replaces-inode, thin-inode}
+use Rattle.rename_redirect.proofs.Preparing.{Prepared, prepared-own, prepared-leaf, leaf-there}
+use Rattle.rename_redirect.specs.declared.entries.Route.{Route}
+use Rattle.rename_redirect.specs.Routes.{IsMove, MovesNew}
+use Rattle.rename_redirect.proofs.moves.move_inode.Goals as goal
+
+pub move_in_upper-requires-clause-route : goal.move_in_upper-requires-clause-route
+move_in_upper-requires-clause-route c = (c.requires.goes.0, c.requires.goes.1, c.requires.goes.2.route)
+
+pub move_in_upper-requires-clause-leads : goal.move_in_upper-requires-clause-leads
+move_in_upper-requires-clause-leads c =
+    let l = c.args.layers.now in
+    let p = c.requires.goes.0 in
+    let q = c.requires.goes.1 in
+    let move = c.requires.goes.2 in
+    let shown = c.requires.goes.3 in
+    let named = upper-named l (c.args.route.now.name.now ∷ p) c.args.place shown.inode c.if-place-eq0.true shown.shown in
+    leads-held l.upper p q c.args.route.now c.args.place.key c.lawful.ensures.tree move.route (ap number_of named.named)
+    (λ e. move.apart (record { number = c.args.place.key; first = named.named; second = e ∙ named.named }))
+
+pub returns-then-place-eq0-clause-moved : goal.returns-then-place-eq0-clause-moved
+returns-then-place-eq0-clause-moved c = λ p q move shown.
+    let l = c.args.layers.now in
+    let r = c.args.route.now in
+    let named = upper-named l (r.name.now ∷ p) c.args.place shown.inode c.if-place-eq0.true shown.shown in
+    let ready = prepared-own l.upper (lowers_of l) (r.name.now ∷ p) in
+    let e = c.in_ok-released.ensures.moved p q move.route in (
+      over-inode l c.move_in_upper.new.layers l.upper p q r c.in_ok-released.released move c.lawful.ensures.together c.move_in_upper.ensures.lowers c.move_in_upper.ensures.keeps ready c.args.place.key named.named e (ap is_directory shown.shown),
+      replaces-inode l c.move_in_upper.new.layers l.upper p q r c.in_ok-released.released move c.lawful.ensures.together c.move_in_upper.ensures.lowers c.move_in_upper.ensures.keeps ready c.args.place.key named.named e,
+    )
+
+pub returns-then-place-eq0-clause-thin : goal.returns-then-place-eq0-clause-thin
+returns-then-place-eq0-clause-thin c =
+    let l = c.args.layers.now in
+    let r = c.args.route.now in
+    let p = c.requires.goes.0 in
+    let q = c.requires.goes.1 in
+    let move = c.requires.goes.2 in
+    let shown = c.requires.goes.3 in
+    let named = upper-named l (r.name.now ∷ p) c.args.place shown.inode c.if-place-eq0.true shown.shown in
+    thin-inode l c.move_in_upper.new.layers l.upper p q r c.in_ok-released.released move c.lawful.ensures.together c.move_in_upper.ensures.lowers c.move_in_upper.ensures.keeps (prepared-own l.upper (lowers_of l) (r.name.now ∷ p)) c.args.place.key named.named (c.in_ok-released.ensures.moved p q move.route)
+
+pub insert_and_move-requires-clause-free : goal.insert_and_move-requires-clause-free
+insert_and_move-requires-clause-free c =
+    let l = c.args.layers.now in
+    let p = c.requires.goes.0 in
+    let shown = c.requires.goes.3 in
+    free-held l.upper p c.requires.goes.1 c.args.route.now c.lawful.ensures.tree c.requires.goes.2.route
+    (lacked l (c.args.route.now.name.now ∷ p) c.args.place.layer c.args.place.key shown.inode shown.shown (omega (arith, c.if-place-eq0.false)))
+
+-- the copy that stood ready
+record Copied (l : Layers) (new : Tree) (p q : Path) (r : Route) (key : ℕ) (released : Option ℕ) : Type 0 where
+  pub object : Object
+  pub m : MovesNew l.upper new (r.name.now ∷ p) (r.further.now ∷ q) object (left_object r.covered) key released
+  pub ready : Prepared l.upper m.mid (lowers_of l) (r.name.now ∷ p)
+  pub there : held (layer_of m.mid) (r.name.now ∷ p) ≡ Some (Named key)
+
+copied-as : (l : Layers) (new : Tree) (p q : Path) (r : Route) (key : ℕ) (released : Option ℕ) (d : Place) (content : Content) (a : Attributes) → (0 < d.layer) → (i : Inode) → shows 0 (layers_of l) (r.name.now ∷ p) ≡ Some (Contents d.layer d.key (Some i)) → content ≡ i.content → a ≡ i.attributes → MovesNew l.upper new (r.name.now ∷ p) (r.further.now ∷ q) (object.Inode content a) (left_object r.covered) key released → Copied l new p q r key released
+copied-as l new p q r key released d content a lower i shown one two m =
+    let s = follows d.layer lower in
+    let none = lacked l (r.name.now ∷ p) d.layer d.key (Some i) shown lower in
+    let leaf = ap₂ object.Inode one two in
+    let at = shown ∙ ap (λ j. Some (Contents j d.key (Some i))) s.1 in
+    record {
+      object = object.Inode content a;
+      m = m;
+      ready = prepared-leaf l.upper new (lowers_of l) r.name.now p (r.further.now ∷ q) (object.Inode content a) (left_object r.covered) key released m none i leaf s.0 d.key at;
+      there = leaf-there l.upper new (lowers_of l) r.name.now p (r.further.now ∷ q) (object.Inode content a) (left_object r.covered) key released m none i leaf s.0 d.key at;
+    }
+
+copied : (c : goal.In_ok-released-2) (p q : Path) → IsMove c.args.layers.now p q c.args.route.now → ShowsInode c.args.layers.now (c.args.route.now.name.now ∷ p) c.args.place → Copied c.args.layers.now c.insert_and_move.new.layers.upper p q c.args.route.now c.in_ok-released-2.field-0-0 c.in_ok-released-2.released
+copied c p q move shown =
+    let l = c.args.layers.now in
+    let found = c.in_ok-content.ensures (c.args.route.now.name.now ∷ p) shown in
+    copied-as l c.insert_and_move.new.layers.upper p q c.args.route.now c.in_ok-released-2.field-0-0 c.in_ok-released-2.released c.args.place c.in_ok-content.content c.in_ok-content.attributes (omega (arith, c.if-place-eq0.false)) found.0 found.1 found.2 found.3
+    (c.in_ok-released-2.ensures.moved p q move.route)
+
+pub returns-clause-moved : goal.returns-clause-moved
+returns-clause-moved c = λ p q move shown.
+    let l = c.args.layers.now in
+    let r = c.args.route.now in
+    let x = copied c p q move shown in (
+      over-inode l c.insert_and_move.new.layers x.m.mid p q r c.in_ok-released-2.released move c.lawful.ensures.together c.insert_and_move.ensures.lowers c.insert_and_move.ensures.keeps x.ready c.in_ok-released-2.field-0-0 x.there x.m.moves (ap is_directory shown.shown),
+      replaces-inode l c.insert_and_move.new.layers x.m.mid p q r c.in_ok-released-2.released move c.lawful.ensures.together c.insert_and_move.ensures.lowers c.insert_and_move.ensures.keeps x.ready c.in_ok-released-2.field-0-0 x.there x.m.moves,
+    )
+
+pub returns-clause-thin : goal.returns-clause-thin
+returns-clause-thin c =
+    let l = c.args.layers.now in
+    let p = c.requires.goes.0 in
+    let q = c.requires.goes.1 in
+    let x = copied c p q c.requires.goes.2 c.requires.goes.3 in
+    thin-inode l c.insert_and_move.new.layers x.m.mid p q c.args.route.now c.in_ok-released-2.released c.requires.goes.2 c.lawful.ensures.together c.insert_and_move.ensures.lowers c.insert_and_move.ensures.keeps x.ready c.in_ok-released-2.field-0-0 x.there x.m.moves

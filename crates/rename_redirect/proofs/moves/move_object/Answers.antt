@@ -1,0 +1,41 @@
+use Rattle.std.proofs.Common.{◌∙◌, ◌∷◌, sym}
+use Rattle.copy_up.proofs.Keeping.{on-err, then-layers}
+use Rattle.rename_redirect.proofs.Given.{fails-same, fails-stays, fails-both}
+use Rattle.rename_redirect.proofs.Since.{does-since, still-one, still-some, still-folder, still-unnamed}
+use Rattle.rename_redirect.proofs.moves.move_object.Goals as goal
+
+pub move_placed-requires-clause-shown : goal.move_placed-requires-clause-shown
+move_placed-requires-clause-shown c = still-some c.args.layers.now c.place_ways.new.layers c.args.old.now c.args.new.now c.place_ways.ensures.same c.place_ways.ensures.stays c.place_ways.ensures.gains c.requires.out c.requires.within ∙ c.requires.shown
+
+pub move_placed-requires-clause-kind : goal.move_placed-requires-clause-kind
+move_placed-requires-clause-kind c = λ h. still-unnamed c.args.layers.now c.place_ways.new.layers c.args.old.now c.args.new.now c.place_ways.ensures.same c.place_ways.ensures.stays c.place_ways.ensures.gains c.requires.out c.requires.within (c.requires.kind (sym (still-folder c.args.layers.now c.place_ways.new.layers c.args.old.now c.args.new.now c.place_ways.ensures.same c.place_ways.ensures.stays c.place_ways.ensures.gains c.requires.out c.requires.within) ∙ h))
+
+pub move_placed-requires-clause-empty : goal.move_placed-requires-clause-empty
+move_placed-requires-clause-empty c = λ n. c.place_ways.ensures.same.absent (n ∷ c.args.new.now) (c.requires.empty n)
+
+pub move_placed-requires-clause-apart : goal.move_placed-requires-clause-apart
+move_placed-requires-clause-apart c = still-one c.args.layers.now c.place_ways.new.layers c.args.old.now c.args.new.now c.place_ways.ensures.same c.place_ways.ensures.stays c.place_ways.ensures.gains c.requires.out c.requires.within ∙ c.requires.apart
+
+pub returns-in_err-renamed-clause-no_memory : goal.returns-in_err-renamed-clause-no_memory
+returns-in_err-renamed-clause-no_memory c = on-err _ c.from_residual-in_err-renamed.result (fails-same c.args.layers.now c.place_ways.new.layers c.move_placed.new.layers c.place_ways.ensures.same c.place_ways.ensures.stays c.move_placed.ensures.lowers c.in_err-renamed.ensures.unchanged c.in_err-renamed.ensures.same)
+
+pub returns-in_err-renamed-clause-mounts : goal.returns-in_err-renamed-clause-mounts
+returns-in_err-renamed-clause-mounts c = on-err _ c.from_residual-in_err-renamed.result (fails-stays c.args.layers.now c.place_ways.new.layers c.move_placed.new.layers c.place_ways.ensures.same c.place_ways.ensures.stays c.move_placed.ensures.lowers c.in_err-renamed.ensures.unchanged c.in_err-renamed.ensures.same c.move_placed.ensures.keeps).mounts
+
+pub returns-in_err-renamed-clause-parents : goal.returns-in_err-renamed-clause-parents
+returns-in_err-renamed-clause-parents c = on-err _ c.from_residual-in_err-renamed.result (fails-both c.args.layers.now c.place_ways.new.layers c.move_placed.new.layers c.place_ways.ensures.same c.place_ways.ensures.stays c.move_placed.ensures.lowers c.in_err-renamed.ensures.unchanged c.in_err-renamed.ensures.same c.args.old.now c.args.new.now c.place_ways.ensures.gains)
+
+pub returns-in_err-renamed-clause-keeps : goal.returns-in_err-renamed-clause-keeps
+returns-in_err-renamed-clause-keeps c = (fails-stays c.args.layers.now c.place_ways.new.layers c.move_placed.new.layers c.place_ways.ensures.same c.place_ways.ensures.stays c.move_placed.ensures.lowers c.in_err-renamed.ensures.unchanged c.in_err-renamed.ensures.same c.move_placed.ensures.keeps).layers
+
+pub returns-in_err-renamed-clause-thin : goal.returns-in_err-renamed-clause-thin
+returns-in_err-renamed-clause-thin c = λ h. (fails-stays c.args.layers.now c.place_ways.new.layers c.move_placed.new.layers c.place_ways.ensures.same c.place_ways.ensures.stays c.move_placed.ensures.lowers c.in_err-renamed.ensures.unchanged c.in_err-renamed.ensures.same c.move_placed.ensures.keeps).thin
+
+pub returns-clause-keeps : goal.returns-clause-keeps
+returns-clause-keeps c = then-layers c.args.layers.now c.place_ways.new.layers c.move_placed.new.layers c.place_ways.ensures.stays.layers c.move_placed.ensures.lowers c.move_placed.ensures.keeps
+
+pub returns-clause-thin : goal.returns-clause-thin
+returns-clause-thin c = λ h t. c.in_ok-renamed.ensures.thin (c.place_ways.ensures.stays.layers h) (c.place_ways.ensures.stays.thin t)
+
+pub returns-clause-does : goal.returns-clause-does
+returns-clause-does c = does-since c.args.layers.now c.place_ways.new.layers c.args.old.now c.args.new.now c.place_ways.ensures.same c.place_ways.ensures.stays c.place_ways.ensures.gains c.requires.out c.requires.within c.move_placed.new.layers c.in_ok-renamed.renamed c.requires.apart c.in_ok-renamed.ensures.does

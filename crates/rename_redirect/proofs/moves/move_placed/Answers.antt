@@ -1,0 +1,59 @@
+use Rattle.std.proofs.Common.{◌∷◌, false, true, reverse, ap, subst}
+use Rattle.plain_model.specs.Layers.{is_directory}
+use Rattle.merged_lookup.specs.declared.stack.Place.{Place}
+use Rattle.merged_lookup.specs.Merged.{parent, IsStackOf}
+use Rattle.copy_up.proofs.OtherAttributes.{found-directory, found-inode}
+use Rattle.rename_redirect.specs.declared.entries.Route.{Route}
+use Rattle.rename_redirect.proofs.Going.{not-root, is-move, is-folder, moves-as}
+use Rattle.rename_redirect.proofs.moves.move_placed.Goals as goal
+
+pub unreachable-requires : goal.unreachable-requires
+unreachable-requires c = not-root c.args.old.now c.args.new.now c.requires.out c.in_default.ensures
+
+pub unreachable-requires-in_default-split_last : goal.unreachable-requires-in_default-split_last
+unreachable-requires-in_default-split_last c = not-root c.args.new.now c.args.old.now c.requires.within c.in_default-split_last.ensures
+
+pub move_directory-requires : goal.move_directory-requires
+move_directory-requires c =
+    let l = c.args.layers.now in
+    let t = reverse c.in-Some.field-0-1.now in
+    let u = reverse c.in-Some-split_last.field-0-1.now in
+    let r : Route = record { from = c.top.result.key; name = c.in-Some.name; to = c.top-2.result.key; further = c.in-Some-split_last.further; covered = c.lowers_show.result } in
+    let at = subst (λ x. IsStackOf l (parent x) c.args.from) c.in-Some.ensures c.requires.from in
+    let move = is-move l c.args.old.now c.args.new.now t u r c.in-Some.ensures c.in-Some-split_last.ensures c.args.from c.args.onto c.requires.from c.requires.from_upper (ap (λ (d : Place). d.key) c.top.ensures) c.requires.onto c.requires.onto_upper (ap (λ (d : Place). d.key) c.top-2.ensures) c.requires.empty c.requires.apart c.requires.out c.requires.within (c.lowers_show.ensures t at) in
+    let shown = found-directory l (c.in-Some.name.now ∷ t) c.in-Some-Directory.field-0 c.in-Some-Directory.stack c.in-Some-Directory.field-0-is (c.in-Some-Directory.ensures t at) in
+    let folder = is-folder l c.args.old.now c.args.new.now t u r c.in-Some.ensures c.in-Some-split_last.ensures c.in-Some-Directory.stack c.top-in-Some-Directory.result c.in_ok-marks-in-Some-Directory.marks shown c.top-in-Some-Directory.ensures c.requires.kind c.in_ok-marks-in-Some-Directory.ensures.when_base c.args.onto c.requires.onto c.in_ok-marks-in-Some-Directory.ensures.when_not in
+    record { goes = (t, u, move, folder) }
+
+pub move_inode-requires : goal.move_inode-requires
+move_inode-requires c =
+    let l = c.args.layers.now in
+    let t = reverse c.in-Some.field-0-1.now in
+    let u = reverse c.in-Some-split_last.field-0-1.now in
+    let r : Route = record { from = c.top.result.key; name = c.in-Some.name; to = c.top-2.result.key; further = c.in-Some-split_last.further; covered = c.lowers_show.result } in
+    let at = subst (λ x. IsStackOf l (parent x) c.args.from) c.in-Some.ensures c.requires.from in
+    let move = is-move l c.args.old.now c.args.new.now t u r c.in-Some.ensures c.in-Some-split_last.ensures c.args.from c.args.onto c.requires.from c.requires.from_upper (ap (λ (d : Place). d.key) c.top.ensures) c.requires.onto c.requires.onto_upper (ap (λ (d : Place). d.key) c.top-2.ensures) c.requires.empty c.requires.apart c.requires.out c.requires.within (c.lowers_show.ensures t at) in
+    record { goes = (t, u, move, found-inode l (c.in-Some.name.now ∷ t) c.in-Some-Inode.field-0 c.in-Some-Inode.place c.in-Some-Inode.field-0-is (c.in-Some-Inode.ensures t at)) }
+
+pub returns-in_ok-released-in-Some-Directory-clause-does : goal.returns-in_ok-released-in-Some-Directory-clause-does
+returns-in_ok-released-in-Some-Directory-clause-does c =
+    let l = c.args.layers.now in
+    let t = reverse c.in-Some.field-0-1.now in
+    let u = reverse c.in-Some-split_last.field-0-1.now in
+    let r : Route = record { from = c.top.result.key; name = c.in-Some.name; to = c.top-2.result.key; further = c.in-Some-split_last.further; covered = c.lowers_show.result } in
+    let at = subst (λ x. IsStackOf l (parent x) c.args.from) c.in-Some.ensures c.requires.from in
+    let move = is-move l c.args.old.now c.args.new.now t u r c.in-Some.ensures c.in-Some-split_last.ensures c.args.from c.args.onto c.requires.from c.requires.from_upper (ap (λ (d : Place). d.key) c.top.ensures) c.requires.onto c.requires.onto_upper (ap (λ (d : Place). d.key) c.top-2.ensures) c.requires.empty c.requires.apart c.requires.out c.requires.within (c.lowers_show.ensures t at) in
+    let shown = found-directory l (c.in-Some.name.now ∷ t) c.in-Some-Directory.field-0 c.in-Some-Directory.stack c.in-Some-Directory.field-0-is (c.in-Some-Directory.ensures t at) in
+    let folder = is-folder l c.args.old.now c.args.new.now t u r c.in-Some.ensures c.in-Some-split_last.ensures c.in-Some-Directory.stack c.top-in-Some-Directory.result c.in_ok-marks-in-Some-Directory.marks shown c.top-in-Some-Directory.ensures c.requires.kind c.in_ok-marks-in-Some-Directory.ensures.when_base c.args.onto c.requires.onto c.in_ok-marks-in-Some-Directory.ensures.when_not in
+    moves-as l c.args.old.now c.args.new.now t u r c.in-Some.ensures c.in-Some-split_last.ensures c.move_directory.new.layers true c.in_ok-released-in-Some-Directory.released c.requires.apart (ap is_directory shown.shown) (c.in_ok-released-in-Some-Directory.ensures.moved t u move folder)
+
+pub returns-in_ok-released-in-Some-Inode-clause-does : goal.returns-in_ok-released-in-Some-Inode-clause-does
+returns-in_ok-released-in-Some-Inode-clause-does c =
+    let l = c.args.layers.now in
+    let t = reverse c.in-Some.field-0-1.now in
+    let u = reverse c.in-Some-split_last.field-0-1.now in
+    let r : Route = record { from = c.top.result.key; name = c.in-Some.name; to = c.top-2.result.key; further = c.in-Some-split_last.further; covered = c.lowers_show.result } in
+    let at = subst (λ x. IsStackOf l (parent x) c.args.from) c.in-Some.ensures c.requires.from in
+    let move = is-move l c.args.old.now c.args.new.now t u r c.in-Some.ensures c.in-Some-split_last.ensures c.args.from c.args.onto c.requires.from c.requires.from_upper (ap (λ (d : Place). d.key) c.top.ensures) c.requires.onto c.requires.onto_upper (ap (λ (d : Place). d.key) c.top-2.ensures) c.requires.empty c.requires.apart c.requires.out c.requires.within (c.lowers_show.ensures t at) in
+    let shown = found-inode l (c.in-Some.name.now ∷ t) c.in-Some-Inode.field-0 c.in-Some-Inode.place c.in-Some-Inode.field-0-is (c.in-Some-Inode.ensures t at) in
+    moves-as l c.args.old.now c.args.new.now t u r c.in-Some.ensures c.in-Some-split_last.ensures c.move_inode.new.layers false c.in_ok-released-in-Some-Inode.released c.requires.apart (ap is_directory shown.shown) (c.in_ok-released-in-Some-Inode.ensures.moved t u move shown)

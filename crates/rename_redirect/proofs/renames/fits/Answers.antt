@@ -1,0 +1,13 @@
+use Rattle.std.proofs.Common.{◌∙◌, sym}
+use Rattle.std.proofs.lemmas.Result.{on_ok_weaker}
+use Rattle.make_remove.proofs.Removing.{found-inode, found-directory}
+use Rattle.rename_redirect.proofs.Judged.{fits-inode}
+use Rattle.rename_redirect.proofs.renames.fits.Goals as goal
+
+pub returns-in-Inode-2-clause-fits : goal.returns-in-Inode-2-clause-fits
+returns-in-Inode-2-clause-fits c = λ p q h answer.
+    let l = c.args.layers.now in
+    fits-inode l c.args.redirects p q (found-inode l p c.args.found.now c.in-Inode-2.field-0 c.in-Inode-2.is h) (sym (c.is_directory.ensures l q answer) ∙ c.if-is_directory.false)
+
+pub returns-in-Directory-clause-fits : goal.returns-in-Directory-clause-fits
+returns-in-Directory-clause-fits c = on_ok_weaker c.directory_fits.result (λ f p q h answer. f p q (found-directory c.args.layers.now p c.args.found.now c.in-Directory.stack c.in-Directory.is h) answer) c.directory_fits.ensures.fits

@@ -1,0 +1,15 @@
+use Rattle.std.proofs.Common.{subst}
+use Rattle.std.specs.Option.{IfSome}
+use Rattle.rename_redirect.specs.Judging.{MayMove}
+use Rattle.rename_redirect.proofs.Steps.{renamed-over, rename-steps, rename-refused}
+use Rattle.rename_redirect.proofs.renames.rename.Goals as goal
+
+pub returns-in-Err-clause-refuses : goal.returns-in-Err-clause-refuses
+returns-in-Err-clause-refuses c = rename-refused c.args.layers.now c.args.redirects c.args.old.now c.args.new.now c.in-Err.errno c.in-Err.ensures.refused
+
+pub returns-clause-steps : goal.returns-clause-steps
+returns-clause-steps c = λ apart.
+    let l = c.args.layers.now in
+    let may = subst (λ o. IfSome o (λ s. MayMove l c.args.redirects c.args.old.now c.args.new.now s)) c.in-Ok-Some.field-0-is c.in-Ok-Some.ensures.moves in
+    rename-steps l c.move_object.new.layers c.args.redirects c.args.old.now c.args.new.now may.fine may.empty apart
+    (renamed-over l c.move_object.new.layers c.args.old.now c.args.new.now c.in_ok-renamed.renamed apart c.in_ok-renamed.ensures.does)

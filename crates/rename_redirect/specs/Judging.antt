@@ -1,0 +1,45 @@
+-- What rename finds at its two paths, and whether it may go on (rename(2)).
+use Rattle.std.specs.Prelude.{◌≡◌, ℕ, Bool, true, false, not, ◌&&◌, Option, None, Some, is_some}
+use Rattle.ov_base.specs.declared.errno.Errno.{Errno}
+use Rattle.plain_model.specs.Layers.{Path, Object, Named, shows, base, is_directory}
+use Rattle.plain_model.specs.Laws.{IsOutside}
+use Rattle.mount_laws.specs.Moving.{NamesNoInode}
+use Rattle.mount_laws.specs.Removals.{ShowsNoName}
+use Rattle.mount_laws.specs.Renaming.{is_one, move_fault, rename_fault}
+use Rattle.layer_tree.specs.Tree.{layer_of}
+use Rattle.merged_lookup.specs.declared.layers.Layers.{Layers}
+use Rattle.merged_lookup.specs.declared.stack.Stack.{Stack}
+use Rattle.merged_lookup.specs.Merged.{layers_of, lowers_of, parents_fault, parent, IsStackOf}
+
+-- the number of the inode that is named
+abbrev pub named_key : Option Object → Option ℕ
+named_key (Some (Named k)) = Some k
+named_key _ = None
+
+-- why what p shows is not moved to q, which is another object and not below it
+abbrev pub fit_fault : Layers → Bool → Path → Path → Bool → Option Errno
+fit_fault l redirects p q full =
+    move_fault false (shows 0 (layers_of l) p) (shows 0 (layers_of l) q) (base (layer_of l.upper) (lowers_of l) p && not redirects) full
+
+-- the fault is this one, told that names are shown at q or, where none is, that none is
+abbrev pub IsFaultOf : Layers → Path → (Bool → Option Errno) → Errno → Type 0
+IsFaultOf l q fault e = (full : Bool) → (full ≡ false → ShowsNoName (layers_of l) q) → fault full ≡ Some e
+
+-- what p shows may take the place of what q shows
+pub record Fits (l : Layers) (redirects : Bool) (p q : Path) : Type 0 where
+  pub fine : fit_fault l redirects p q false ≡ None
+  pub empty : ShowsNoName (layers_of l) q
+  pub kind : is_directory (shows 0 (layers_of l) p) ≡ true → NamesNoInode (layer_of l.upper) q
+
+-- what p shows, in this merged directory, may move to q
+pub record MayMove (l : Layers) (redirects : Bool) (p q : Path) (s : Stack) : Type 0 where
+  pub fine : rename_fault (layer_of l.upper) (lowers_of l) redirects p q false ≡ None
+  pub directory : IsStackOf l (parent p) s
+  pub way : parents_fault (layers_of l) p ≡ None
+  pub shown : is_some (shows 0 (layers_of l) p) ≡ true
+  pub parents : parents_fault (layers_of l) q ≡ None
+  pub empty : ShowsNoName (layers_of l) q
+  pub apart : is_one (layer_of l.upper) p q ≡ false
+  pub kind : is_directory (shows 0 (layers_of l) p) ≡ true → NamesNoInode (layer_of l.upper) q
+  pub out : IsOutside p q
+  pub within : IsOutside q p

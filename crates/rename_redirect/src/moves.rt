@@ -1,0 +1,235 @@
+// What a path shows moves to another path.
+ghost use Rattle.std.specs.Prelude.{◌≡◌, ◌∷◌, Bool, true, false, Some, None, is_some, IfOk, OnOk, OnErr};
+ghost use Rattle.ov_base.specs.declared.redirect.Redirect.TheVariants.{Absolute};
+ghost use Rattle.plain_model.specs.Layers.{Path as Names, below, shows, is_directory, base, under, IsLayer, AreLayers};
+ghost use Rattle.plain_model.specs.Laws.{IsOutside};
+ghost use Rattle.mount_laws.specs.Removals.{ShowsNoName};
+ghost use Rattle.mount_laws.specs.Moving.{NamesNoInode};
+ghost use Rattle.mount_laws.specs.Renaming.{is_one};
+ghost use Rattle.layer_tree.specs.Nameless.{KeepsObjects};
+ghost use Rattle.layer_tree.specs.Tree.{layer_of, IsHeldTogether, IsTree, SameObjects};
+ghost use Rattle.merged_lookup.specs.Merged.{layers_of, lowers_of, parents_fault, parent, top_of, IsStackOf, ShowsDirectory, ShowsInode};
+ghost use Rattle.copy_up.specs.Showing.{ShowsSame, Stays, StaysLayers, StaysMount, StaysThin};
+ghost use Rattle.rename_redirect.specs.Linking.{GainsBoth};
+ghost use Rattle.rename_redirect.specs.Renaming.{MovesOver, Replaces, DoesRename};
+ghost use Rattle.rename_redirect.specs.Routes.{IsMove, IsFolderMove};
+
+use crate::copies::copy_of;
+use crate::entries::{Route, insert_and_move, mark_in_upper, move_in_upper};
+use crate::renames::Renamed;
+use copy_up::place_parents;
+use layer_tree::{Marks, Object};
+use merged_lookup::{Found, Layers, Place, Stack};
+use ov_base::{Name, Path, Redirect};
+use std::alloc::{AllocError, Global};
+
+// Moves what a path shows in this merged directory to another path, whose parents are shown, over what stands there, in which no name is
+// shown. All that needs memory comes before the first change that shows.
+pub(crate) fn move_object(
+    alloc: Global,
+    layers: &mut Layers,
+    old: &Path,
+    new: &Path,
+    directory: Stack,
+) -> Result<Renamed, AllocError>
+    requires way { parents_fault (layers_of layers.old) old.now ≡ None }
+    requires directory { IsStackOf layers.old (parent old.now) directory }
+    requires shown { is_some (shows 0 (layers_of layers.old) old.now) ≡ true }
+    requires parents { parents_fault (layers_of layers.old) new.now ≡ None }
+    requires empty { ShowsNoName (layers_of layers.old) new.now }
+    requires apart { is_one (layer_of layers.old.upper) old.now new.now ≡ false }
+    requires kind { is_directory (shows 0 (layers_of layers.old) old.now) ≡ true → NamesNoInode (layer_of layers.old.upper) new.now }
+    requires out { IsOutside old.now new.now }
+    requires within { IsOutside new.now old.now }
+    ensures does { IfOk result (λ r. DoesRename layers.old layers.new old.now new.now r) }
+    ensures lowers { layers.new.lowers ≡ layers.old.lowers }
+    ensures no_memory { OnErr result (ShowsSame layers.old layers.new) }
+    ensures mounts { OnErr result (StaysMount layers.old layers.new) }
+    ensures parents { OnErr result (GainsBoth layers.old layers.new old.now new.now) }
+    ensures keeps { StaysLayers layers.old layers.new }
+    ensures thin { AreLayers (layers_of layers.old) → StaysThin layers.old layers.new }
+{
+    let (from, onto) = place_ways(layers, old, new, directory)?;
+    let renamed = move_placed(alloc, layers, old, new, from, onto)?;
+    Ok(renamed)
+}
+
+// The merged directories in which the last names of two paths stand; those that the upper lacks are placed.
+pub(crate) fn place_ways(
+    layers: &mut Layers,
+    old: &Path,
+    new: &Path,
+    directory: Stack,
+) -> Result<(Stack, Stack), AllocError>
+    requires way { parents_fault (layers_of layers.old) old.now ≡ None }
+    requires directory { IsStackOf layers.old (parent old.now) directory }
+    requires parents { parents_fault (layers_of layers.old) new.now ≡ None }
+    requires out { IsOutside old.now new.now }
+    requires within { IsOutside new.now old.now }
+    ensures same { ShowsSame layers.old layers.new }
+    ensures stays { Stays layers.old layers.new }
+    ensures gains { GainsBoth layers.old layers.new old.now new.now }
+    ensures from { IfOk result (λ ways. IsStackOf layers.new (parent old.now) ways.0) }
+    ensures from_upper { IfOk result (λ ways. (top_of ways.0.places.items).layer ≡ 0) }
+    ensures onto { IfOk result (λ ways. IsStackOf layers.new (parent new.now) ways.1) }
+    ensures onto_upper { IfOk result (λ ways. (top_of ways.1.places.items).layer ≡ 0) }
+{
+    let Some((_, parents)) = old.split_last() else {
+        unreachable!()
+    };
+    let from = place_parents(layers, directory, parents)?;
+    let Ok(Some(found)) = layers.parent_of(new) else {
+        unreachable!()
+    };
+    let Some((_, parents)) = new.split_last() else {
+        unreachable!()
+    };
+    let onto = place_parents(layers, found.stack, parents)?;
+    Ok((from, onto))
+}
+
+// `move_object`, where the upper has the parents.
+fn move_placed(
+    alloc: Global,
+    layers: &mut Layers,
+    old: &Path,
+    new: &Path,
+    from: Stack,
+    onto: Stack,
+) -> Result<Renamed, AllocError>
+    requires from { IsStackOf layers.old (parent old.now) from }
+    requires from_upper { (top_of from.places.items).layer ≡ 0 }
+    requires onto { IsStackOf layers.old (parent new.now) onto }
+    requires onto_upper { (top_of onto.places.items).layer ≡ 0 }
+    requires shown { is_some (shows 0 (layers_of layers.old) old.now) ≡ true }
+    requires empty { ShowsNoName (layers_of layers.old) new.now }
+    requires apart { is_one (layer_of layers.old.upper) old.now new.now ≡ false }
+    requires kind { is_directory (shows 0 (layers_of layers.old) old.now) ≡ true → NamesNoInode (layer_of layers.old.upper) new.now }
+    requires out { IsOutside old.now new.now }
+    requires within { IsOutside new.now old.now }
+    ensures does { IfOk result (λ r. DoesRename layers.old layers.new old.now new.now r) }
+    ensures lowers { layers.new.lowers ≡ layers.old.lowers }
+    ensures unchanged { OnErr result (SameObjects (layer_of layers.old.upper) (layer_of layers.new.upper)) }
+    ensures same { OnErr result (KeepsObjects layers.old.upper layers.new.upper None) }
+    ensures keeps { IsLayer (layer_of layers.old.upper) → IsLayer (layer_of layers.new.upper) }
+    ensures thin { OnOk result (AreLayers (layers_of layers.old) → StaysThin layers.old layers.new) }
+{
+    let Some((name, _)) = old.split_last() else {
+        unreachable!()
+    };
+    let Some((further, _)) = new.split_last() else {
+        unreachable!()
+    };
+    let found = layers.step(&from, name);
+    let route = Route {
+        from: from.top().key,
+        name,
+        to: onto.top().key,
+        further,
+        covered: layers.lowers_show(&from, name),
+    };
+    match found {
+        Some(Found::Directory(stack)) => {
+            let marks = moved_marks(alloc, layers, old, &stack, &onto, further)?;
+            let released = move_directory(layers, &route, stack.top(), marks)?;
+            Ok(Renamed::Directory(released))
+        }
+        Some(Found::Inode(place)) => {
+            let released = move_inode(layers, &route, place)?;
+            Ok(Renamed::Inode(released))
+        }
+        None => unreachable!(),
+    }
+}
+
+// The marks of a directory that moves to a name of a merged directory: a base one gets a redirect, any other covers what the lower layers
+// show there.
+fn moved_marks(
+    alloc: Global,
+    layers: &Layers,
+    old: &Path,
+    moved: &Stack,
+    onto: &Stack,
+    further: &Name,
+) -> Result<Marks, AllocError>
+    requires { IsStackOf layers.now old.now moved.now }
+    ensures when_base { IfOk result (λ marks. base (layer_of layers.now.upper) (lowers_of layers.now) old.now ≡ true → (marks.opaque ≡ false) × (marks.redirect ≡ Some (Absolute (below (layer_of layers.now.upper) old.now)))) }
+    ensures when_not { IfOk result (λ marks. base (layer_of layers.now.upper) (lowers_of layers.now) old.now ≡ false → (marks.redirect ≡ None) × ((q : Names) → IsStackOf layers.now q onto.now → marks.opaque ≡ is_directory (under (layer_of layers.now.upper) (lowers_of layers.now) further.now q))) }
+{
+    if moved.is_base() {
+        let below = layers.spelling_below(alloc, old)?;
+        return Ok(Marks {
+            opaque: false,
+            redirect: Some(Redirect::Absolute(below)),
+        });
+    }
+    Ok(Marks {
+        opaque: layers.lowers_show_directory(onto, further),
+        redirect: None,
+    })
+}
+
+// Moves a directory, which ends with these marks, and gives the key of what lost its last name by it.
+fn move_directory(
+    layers: &mut Layers,
+    route: &Route<'_>,
+    top: Place,
+    marks: Marks,
+) -> Result<Option<usize>, AllocError>
+    requires goes { (p q : Names) × IsMove layers.old p q route.now × IsFolderMove layers.old p q route.now top marks }
+    ensures lowers { layers.new.lowers ≡ layers.old.lowers }
+    ensures moved { IfOk result (λ released. (p q : Names) → IsMove layers.old p q route.now → IsFolderMove layers.old p q route.now top marks → MovesOver layers.old layers.new (route.now.name.now ∷ p) (route.now.further.now ∷ q) × Replaces layers.old layers.new (route.now.further.now ∷ q) released) }
+    ensures unchanged { OnErr result (SameObjects (layer_of layers.old.upper) (layer_of layers.new.upper)) }
+    ensures same { OnErr result (KeepsObjects layers.old.upper layers.new.upper None) }
+    ensures keeps { IsLayer (layer_of layers.old.upper) → IsLayer (layer_of layers.new.upper) }
+    ensures thin { OnOk result (AreLayers (layers_of layers.old) → StaysThin layers.old layers.new) }
+{
+    lawful(layers);
+    if top.layer == 0 {
+        let released = move_in_upper(layers, route)?;
+        lawful(layers);
+        mark_in_upper(layers, top.key, marks);
+        return Ok(released);
+    }
+    let attributes = layers.attributes_at(top).clone()?;
+    let unmarked = Marks {
+        opaque: false,
+        redirect: None,
+    };
+    let (key, released) = insert_and_move(layers, route, Object::Directory(attributes, unmarked))?;
+    lawful(layers);
+    mark_in_upper(layers, key, marks);
+    Ok(released)
+}
+
+// What the upper keeps; it does nothing.
+fn lawful(layers: &Layers)
+    ensures tree { IsTree layers.now.upper }
+    ensures together { IsHeldTogether (layer_of layers.now.upper) }
+{
+    layers.upper().lawful();
+}
+
+// Moves a file or symbolic link, and gives the key of what lost its last name by it.
+fn move_inode(
+    layers: &mut Layers,
+    route: &Route<'_>,
+    place: Place,
+) -> Result<Option<usize>, AllocError>
+    requires goes { (p q : Names) × IsMove layers.old p q route.now × ShowsInode layers.old (route.now.name.now ∷ p) place }
+    ensures lowers { layers.new.lowers ≡ layers.old.lowers }
+    ensures moved { IfOk result (λ released. (p q : Names) → IsMove layers.old p q route.now → ShowsInode layers.old (route.now.name.now ∷ p) place → MovesOver layers.old layers.new (route.now.name.now ∷ p) (route.now.further.now ∷ q) × Replaces layers.old layers.new (route.now.further.now ∷ q) released) }
+    ensures unchanged { OnErr result (SameObjects (layer_of layers.old.upper) (layer_of layers.new.upper)) }
+    ensures same { OnErr result (KeepsObjects layers.old.upper layers.new.upper None) }
+    ensures keeps { IsLayer (layer_of layers.old.upper) → IsLayer (layer_of layers.new.upper) }
+    ensures thin { OnOk result (AreLayers (layers_of layers.old) → StaysThin layers.old layers.new) }
+{
+    lawful(layers);
+    if place.layer == 0 {
+        let released = move_in_upper(layers, route)?;
+        return Ok(released);
+    }
+    let (content, attributes) = copy_of(layers, place)?;
+    let (_, released) = insert_and_move(layers, route, Object::Inode(content, attributes))?;
+    Ok(released)
+}

@@ -1,0 +1,170 @@
+// `rename`, and its refusals.
+ghost use Rattle.std.specs.Prelude.{◌≡◌, ◌&&◌, not, ℕ, Bool, true, false, Some, None, IfOk, IfErr, IfSome, OnOk, OnErr};
+ghost use Rattle.ov_base.specs.declared.call.Call.TheVariants as call;
+ghost use Rattle.plain_model.specs.Layers as shown;
+ghost use Rattle.plain_model.specs.Layers.{Path as Names, held, shows, base, AreLayers};
+ghost use Rattle.plain_model.specs.Machine.{State};
+ghost use Rattle.plain_model.specs.Refusals.{refusal};
+ghost use Rattle.mount_laws.specs.Looks.{IsMountOf};
+ghost use Rattle.mount_laws.specs.Removals.{ShowsNoName};
+ghost use Rattle.mount_laws.specs.Renaming as one;
+ghost use Rattle.layer_tree.specs.Tree.{layer_of};
+ghost use Rattle.merged_lookup.specs.declared.layers.Layers.{Layers as LayersOf};
+ghost use Rattle.merged_lookup.specs.Merged.{layers_of, lowers_of, IsFound, IsAnswer, IsStackOf, ShowsDirectory};
+ghost use Rattle.copy_up.specs.Showing.{ShowsSame, StaysLayers, StaysMount, StaysThin};
+ghost use Rattle.make_remove.specs.Removing.{TellsNames};
+ghost use Rattle.rename_redirect.specs.Linking.{GainsBoth};
+ghost use Rattle.rename_redirect.specs.Judging.{named_key, fit_fault, IsFaultOf, Fits, MayMove};
+ghost use Rattle.rename_redirect.specs.Renaming.{is_one, rename_fault, DoesRename, RenameSteps};
+
+use crate::moves::move_object;
+use crate::relation::{is_below, same_path};
+use dir_listing::shows_names;
+use merged_lookup::{Found, Layers, Stack};
+use ov_base::{Errno, Path};
+use std::alloc::{AllocError, Global};
+
+/// What a rename did: nothing, where both paths are one object, or it moved a directory, or a file or symbolic link. With it, the key of the
+/// upper's object that lost its last name by it, which stays until it is freed.
+#[derive(Clone, Copy)]
+pub enum Renamed {
+    Unchanged,
+    Directory(Option<usize>),
+    Inode(Option<usize>),
+}
+
+/// Moves what a path shows to another path, as rename(2), over a file, a symbolic link or a directory that shows no name. A file of a lower
+/// layer is copied up first, and so is a directory that only lower layers have, without what is in it; one that they have moves with a
+/// redirect (overlayfs.rst, "redirect_dir"). The root is EBUSY; the walk of the old path is refused first, then the way to the new one. Where
+/// both are one object nothing is done; else a directory is not moved below itself (EINVAL), nor over what is no directory (ENOTDIR), nor
+/// anything else over a directory (EISDIR), nor one that lower layers have if redirects aren't made (EXDEV), nor any over one that shows a
+/// name (ENOTEMPTY). A refusal changes nothing, and want of memory changes nothing that is shown.
+pub fn rename(
+    alloc: Global,
+    layers: &mut Layers,
+    old: &Path,
+    new: &Path,
+    redirects: bool,
+) -> Result<Result<Renamed, Errno>, AllocError>
+    ensures refused { IfOk result (λ r. IfErr r (λ e. (full : Bool) → TellsNames (layers_of layers.old) new.now full → rename_fault (layer_of layers.old.upper) (lowers_of layers.old) redirects old.now new.now full ≡ Some e)) }
+    ensures refuses { IfOk result (λ r. IfErr r (λ e. (s : State) → IsMountOf (layer_of layers.old.upper) (lowers_of layers.old) s → s.options.redirects ≡ redirects → (c : ℕ) → refusal s c (call.Rename old.now new.now) ≡ Some e)) }
+    ensures unchanged { IfOk result (λ r. OnErr r (layers.new ≡ layers.old)) }
+    ensures allowed { IfOk result (λ r. OnOk r (rename_fault (layer_of layers.old.upper) (lowers_of layers.old) redirects old.now new.now false ≡ None)) }
+    ensures bare { IfOk result (λ r. OnOk r (is_one (layer_of layers.old.upper) old.now new.now ≡ false → ShowsNoName (layers_of layers.old) new.now)) }
+    ensures does { IfOk result (λ r. IfOk r (λ renamed. DoesRename layers.old layers.new old.now new.now renamed)) }
+    ensures steps { IfOk result (λ r. OnOk r (is_one (layer_of layers.old.upper) old.now new.now ≡ false → RenameSteps layers.old layers.new redirects old.now new.now)) }
+    ensures lowers { layers.new.lowers ≡ layers.old.lowers }
+    ensures no_memory { OnErr result (ShowsSame layers.old layers.new) }
+    ensures mounts { OnErr result (StaysMount layers.old layers.new) }
+    ensures parents { OnErr result (GainsBoth layers.old layers.new old.now new.now) }
+    ensures keeps { StaysLayers layers.old layers.new }
+    ensures thin { AreLayers (layers_of layers.old) → StaysThin layers.old layers.new }
+{
+    let directory = match movable(layers, old, new, redirects) {
+        Ok(Some(directory)) => directory,
+        Ok(None) => return Ok(Ok(Renamed::Unchanged)),
+        Err(errno) => return Ok(Err(errno)),
+    };
+    let renamed = move_object(alloc, layers, old, new, directory)?;
+    Ok(Ok(renamed))
+}
+
+// The merged directory from which a name is to move; none where both paths are one object.
+fn movable(layers: &Layers, old: &Path, new: &Path, redirects: bool) -> Result<Option<Stack>, Errno>
+    ensures refused { IfErr result (λ e. IsFaultOf layers.now new.now (rename_fault (layer_of layers.now.upper) (lowers_of layers.now) redirects old.now new.now) e) }
+    ensures one { IfOk result (λ o. o ≡ None → is_one (layer_of layers.now.upper) old.now new.now ≡ true) }
+    ensures fine { OnOk result (rename_fault (layer_of layers.now.upper) (lowers_of layers.now) redirects old.now new.now false ≡ None) }
+    ensures moves { IfOk result (λ o. IfSome o (λ s. MayMove layers.now redirects old.now new.now s)) }
+{
+    if old.names().is_empty() || new.names().is_empty() {
+        return Err(Errno::EBUSY);
+    }
+    let (directory, found) = layers.walk_in(old)?;
+    let Some(onto) = layers.parent_of(new)? else {
+        unreachable!()
+    };
+    let target = layers.step(&onto.stack, onto.name);
+    if same_path(old, new) || same_inode(&found, &target) {
+        return Ok(None);
+    }
+    if is_below(old, new) {
+        return Err(Errno::EINVAL);
+    }
+    match fits(layers, &found, &target, redirects) {
+        Ok(()) => Ok(Some(directory)),
+        Err(errno) => Err(errno),
+    }
+}
+
+// Whether what two paths show is one inode of the upper.
+fn same_inode(found: &Found, target: &Option<Found>) -> bool
+    ensures { (l : LayersOf) (p q : Names) → IsFound l p found.now → IsAnswer l q target.now → result ≡ one.same_inode (held (layer_of l.upper) p) (held (layer_of l.upper) q) }
+{
+    let Some(target) = target else {
+        return false;
+    };
+    match (inode_key(found), inode_key(target)) {
+        (Some(key), Some(other)) => key == other,
+        _ => false,
+    }
+}
+
+// The key of what is found, where that is an inode of the upper.
+fn inode_key(found: &Found) -> Option<usize>
+    ensures { (l : LayersOf) (p : Names) → IsFound l p found.now → result ≡ named_key (held (layer_of l.upper) p) }
+{
+    match found {
+        Found::Inode(place) if place.layer == 0 => Some(place.key),
+        _ => None,
+    }
+}
+
+// Why what is found is not moved to where this is shown, which is another object and not below it.
+fn fits(
+    layers: &Layers,
+    found: &Found,
+    target: &Option<Found>,
+    redirects: bool,
+) -> Result<(), Errno>
+    ensures refused { IfErr result (λ e. (p q : Names) → IsFound layers.now p found.now → IsAnswer layers.now q target.now → IsFaultOf layers.now q (fit_fault layers.now redirects p q) e) }
+    ensures fits { OnOk result ((p q : Names) → IsFound layers.now p found.now → IsAnswer layers.now q target.now → Fits layers.now redirects p q) }
+{
+    match found {
+        Found::Inode(_) if is_directory(target) => Err(Errno::EISDIR),
+        Found::Inode(_) => Ok(()),
+        Found::Directory(stack) => directory_fits(layers, stack, target, redirects),
+    }
+}
+
+// Whether a directory is shown.
+fn is_directory(target: &Option<Found>) -> bool
+    ensures { (l : LayersOf) (q : Names) → IsAnswer l q target.now → result ≡ shown.is_directory (shows 0 (layers_of l) q) }
+{
+    matches!(target, Some(Found::Directory(_)))
+}
+
+// `fits`, of a directory.
+fn directory_fits(
+    layers: &Layers,
+    stack: &Stack,
+    target: &Option<Found>,
+    redirects: bool,
+) -> Result<(), Errno>
+    ensures refused { IfErr result (λ e. (p q : Names) → ShowsDirectory layers.now p stack.now.places.items → IsAnswer layers.now q target.now → IsFaultOf layers.now q (fit_fault layers.now redirects p q) e) }
+    ensures fits { OnOk result ((p q : Names) → ShowsDirectory layers.now p stack.now.places.items → IsAnswer layers.now q target.now → Fits layers.now redirects p q) }
+{
+    let redirected = needs_redirect(stack, redirects);
+    match target {
+        Some(Found::Inode(_)) => Err(Errno::ENOTDIR),
+        _ if redirected => Err(Errno::EXDEV),
+        Some(Found::Directory(onto)) if shows_names(layers, onto) => Err(Errno::ENOTEMPTY),
+        _ => Ok(()),
+    }
+}
+
+// Whether a directory moves only with a redirect, and none is made.
+fn needs_redirect(stack: &Stack, redirects: bool) -> bool
+    ensures { (l : LayersOf) (p : Names) → IsStackOf l p stack.now → result ≡ base (layer_of l.upper) (lowers_of l) p && not redirects }
+{
+    stack.is_base() && !redirects
+}
