@@ -214,6 +214,22 @@ module _ (old new : Tree) (from to : ℕ) (name further : List ℕ) (covered : B
             there.2 one.0 one.1
       ]
 
+  -- so, with no objects in it, it has no name
+  pub replaced_nameless : HoldsNoObjects old to further → (k : ℕ) → child old to further ≡ Some k → IsDirectory old k → IsNameless new k
+  replaced_nameless none_in k was is =
+      record {
+        present = same_presence old new k (m.seen k) ∙ tree.present to further k was;
+        not_root = λ e. tree.root_unnamed to further (was ∙ ap Some e);
+        unnamed = replaced_unnamed k was is;
+        bare = λ n. elim (cases_pair k from n name) [
+          | inl both ↦ ap (λ (x : ℕ). child new x n) both.0 ∙ ap (child new from) both.1 ∙ now_left
+          | inr off ↦ ap (option_and_then object_key) (m.others k n off (λ e f. itself n e f)) ∙ none_in k was n
+        ];
+      }
+    where
+      itself : (n : List ℕ) → (k ≡ to) → (n ≡ further) → ⊥
+      itself n e f = true≢false (sym (ap is_some was) ∙ ap is_some (sym (ap (λ (x : ℕ). child old x further) e) ∙ none_in k was further))
+
   pub IsTree-moved : ((k : ℕ) (i : layers.Inode) → inode_at new k ≡ Some i → HasNames (child new) k i.links) → IsTree new
   IsTree-moved links =
       record {
@@ -350,6 +366,7 @@ pub record Outcome (old new : Tree) (from to : ℕ) (name further : List ℕ) (c
   pub moves : Moves old new from name to further (left_entry covered)
   pub path : (p q : Path) → key_at old p ≡ Some from → key_at old q ≡ Some to → IsOutside (name ∷ p) (further ∷ q) → IsOutside (further ∷ q) (name ∷ p) → MovesPath (layer_of old) (layer_of new) (name ∷ p) (further ∷ q) (left_object covered)
   pub unnamed : (k : ℕ) → child old to further ≡ Some k → IsDirectory old k → (d : ℕ) (n : List ℕ) → child new d n ≢ Some k
+  pub nameless : HoldsNoObjects old to further → (k : ℕ) → child old to further ≡ Some k → IsDirectory old k → IsNameless new k
   pub keeps_objects : (q : Path) → key_at old q ≡ Some to → KeepsObjects old new (child old to further)
   pub keeps : (p q : Path) → key_at old p ≡ Some from → key_at old q ≡ Some to → IsOutside (name ∷ p) (further ∷ q) → IsOutside (further ∷ q) (name ∷ p) → HoldsNoObjects old to further → IsLayer (layer_of old) → IsLayer (layer_of new)
 
@@ -365,6 +382,7 @@ outcome t0 t1 t2 t3 from to name further covered e found apart left put was valu
       moves = m;
       path = λ p q at_from at_to to_out from_out. moves_path t0 t3 from to name further covered tree m key.0 key.1 apart p q at_from at_to to_dir to_out from_out;
       unnamed = replaced_unnamed t0 t3 from to name further covered tree m key.0 key.1 apart;
+      nameless = replaced_nameless t0 t3 from to name further covered tree m key.0 key.1 apart;
       keeps_objects = keeps_moved t0 t3 from to name further covered tree m key.0 key.1 apart;
       keeps = λ p q at_from at_to to_out from_out bare. IsLayer-moves t0 t3 from to name further covered tree m key.0 key.1 apart p q at_from at_to to_dir to_out from_out bare is_tree;
     }

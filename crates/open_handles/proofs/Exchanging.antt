@@ -110,10 +110,6 @@ module _ (old new : Dentries) (k j : ℕ) (p q : Path) (x : Exchanges old new k 
   child_same : (d : ℕ) (m : Name) → d ≢ x.one.parent → d ≢ x.other.parent → child new d m ≡ child old d m
   child_same d m off away = x.children d m (λ e _. off e) (λ e _. away e)
 
-  -- a removed directory is in the place of neither
-  removed_alone : (i : ℕ) (a : Attributes) → place_at old i ≡ Some (Removed a) → (l : IsListed old i) → ⊥
-  removed_alone i a gone l = let no : Some (Removed a) ≡ Some (In l.parent l.name) = sym gone ∙ l.placed in absurd (cc)
-
   -- a removed directory has no child
   parent_there : (i h : ℕ) (a : Attributes) (l : IsListed old h) → place_at old i ≡ Some (Removed a) → i ≢ l.parent
   parent_there i h a l gone e = let no : Some h ≡ None = sym l.listed ∙ ap (λ (y : ℕ). child old y l.name) (sym e) ∙ tree.bare i a gone l.name in absurd (cc)

@@ -289,7 +289,7 @@ fn exchange(entries: &mut Slab<Dentry>, one: usize, other: usize)
     let _ = displace(entries, other, from);
 }
 
-// Makes an entry the child that stands at a place in place of the one that does.
+// Lists an entry as the child at a place where another one is listed.
 fn relist_child(entries: &mut Slab<Dentry>, at: &Place, key: usize)
     requires { (d : ℕ) (n : Name) → at.now ≡ place.In d n → IsSome (child entries.old d n) }
     ensures { (d : ℕ) (n : Name) → at.now ≡ place.In d n → Relists entries.old entries.new d n (Some key) }

@@ -98,11 +98,11 @@ goes-attached old new c room h s a =
     (joined s [], does, settles s (joined s []) c (Attached []) old new a does comes.1)
 
 -- a mount of layers begins with each of their merges
-pub begins-with : (m : Mount) (layers : Layers) (options : Options) → m.layers ≡ layers → AreLayers (layers_of layers) → ((t : Tree) (redirects : Bool) → AreLayers (layers_of layers) → IsMerge (layer_of layers.upper) (lowers_of layers) t → IsStateOf m (opening t (record { redirects = redirects; read_only = false }))) → BeginsWith m.layers (machine_options options) m
+pub begins-with : (m : Mount) (layers : Layers) (options : Options) → m.layers ≡ layers → AreLayers (layers_of layers) → ((t : Tree) → AreLayers (layers_of layers) → IsMerge (layer_of layers.upper) (lowers_of layers) t → IsStateOf m (opening t (machine_options options))) → BeginsWith m.layers (machine_options options) m
 begins-with m layers options same are h t merge =
     let there : IsMerge (layer_of layers.upper) (lowers_of layers) t = subst (λ (l : Layers). IsMerge (layer_of l.upper) (lowers_of l) t) same merge in
     record {
-      stands = h t options.redirects are there;
+      stands = h t are there;
       settled = law_of_settled_opening (layer_of layers.upper) (lowers_of layers) t (machine_options options) there;
     }
 

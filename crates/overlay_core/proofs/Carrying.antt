@@ -7,7 +7,7 @@ use Rattle.overlay_core.specs.declared.clients.Clients.{Clients}
 use Rattle.overlay_core.specs.declared.mount.Mount.{Mount}
 use Rattle.overlay_core.specs.Attaching.{opened_by}
 use Rattle.overlay_core.specs.Files.{is_leaf, IsFile, HasFile}
-use Rattle.overlay_core.specs.Living.{StaysLive, KeepsLive, KeepsHeld, KeepsLeaves, KeepsHeldLeaves}
+use Rattle.overlay_core.specs.Living.{StaysLive, KeepsLive, KeepsHeldFrom, KeepsLeaves, KeepsHeldLeaves}
 use Rattle.overlay_core.specs.States.{IsHandle, IsOpenAs, AreTables, IsStateOf}
 use Rattle.overlay_core.proofs.Serving.{tables-moved}
 use Rattle.overlay_core.proofs.Slots.{of-on}
@@ -67,9 +67,9 @@ module _ (old new : Layers) where
     }
 
     -- a call through which those stay so that a handle holds
-    pub files-held : KeepsHeld clients old new k → KeepsHeldLeaves k → AreCounted clients → CarriesFiles U V s.tree (after s c k).tree clients s.tables
+    pub files-held : KeepsHeldFrom s c clients old new k → KeepsHeldLeaves k → AreCounted clients → CarriesFiles U V s.tree (after s c k).tree clients s.tables
     files-held live leaves counted = record {
-      live = λ b fd f h j at on key. live s mounts c h.node j ((counted j).0 (record { client = b; descriptor = fd; file = f; opened = at; key = key })) (held-by s.tables b fd h on);
+      live = λ b fd f h j at on key. live h.node j ((counted j).0 (record { client = b; descriptor = fd; file = f; opened = at; key = key })) (held-by s.tables b fd h on);
       leaves = λ b fd h on. leaves s mounts.kept c h.node (held-by s.tables b fd h on);
     }
 
@@ -81,6 +81,7 @@ module _ (m : Mount) (s : State) (st : IsStateOf m s) (new : Layers) (low : new.
     tables = tables-on m.layers new s.tree t m.clients s.tables low st.tables m.clients.directories (λ b fd o h on. directories o h) files;
     one = st.one;
     arrived = st.arrived;
+    redirects = st.redirects;
     unwatched = st.unwatched;
   }
 

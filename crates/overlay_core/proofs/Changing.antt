@@ -83,7 +83,7 @@ linked-folder m t o w d f = way-folder (change (one_more m) t o) w o d (changed 
     changed (Some e) = put-folder t e d (over_node (one_more m) (t e)) (λ same. more-folder m (t e) (ap (λ z. is_folder (t z)) same ∙ f)) f
 
 -- a directory stands where it stood if its path leads there still, or it was removed
-stands-on : (t u : Tree) → KeepsHidden t u → (l : Location) (d : NodeId) → is_folder (t d) ≡ true → ((q : Path) → l ≡ At q → node_at t q ≡ Some d → node_at u q ≡ Some d) → Stands t l d → Stands u l d
+pub stands-on : (t u : Tree) → KeepsHidden t u → (l : Location) (d : NodeId) → is_folder (t d) ≡ true → ((q : Path) → l ≡ At q → node_at t q ≡ Some d → node_at u q ≡ Some d) → Stands t l d → Stands u l d
 stands-on t u hidden (At p) d f stays at = stays p refl at
 stands-on t u hidden (Removed a) d f stays gone = let kept = hidden d (folder-some (t d) f) gone.hidden in removed-same t u a d kept.0 kept.1 gone
 
@@ -100,7 +100,7 @@ unlinked-none false None true e = cc
 unlinked-none false None false e = refl
 
 -- what has the attributes of a directory is one
-still-folder : (o q : Option Node) → folder_attributes q ≡ folder_attributes o → is_folder o ≡ true → is_folder q ≡ true
+pub still-folder : (o q : Option Node) → folder_attributes q ≡ folder_attributes o → is_folder o ≡ true → is_folder q ≡ true
 still-folder None q e f = absurd (false≢true f)
 still-folder (Some (Leaf content a u l)) q e f = absurd (false≢true f)
 still-folder (Some (Branch a b names l)) None e f = cc
@@ -180,6 +180,20 @@ stands-at t ds o h k q is on at =
     let same : is.location ≡ At q = cc in
     subst (λ z. Stands t z h.node) same is.stands
 
+-- each directory that is open has a handle
+abbrev pub AreHeld : Clients → Type 0
+AreHeld clients = (k : ℕ) → IsSome (places.opened clients.directories k) → 0 < handles_below (get nat_cmp clients.attached) clients.next k
+
+-- a directory that is open at a path is there in the tree
+pub open-there :
+    (m : Mount) (s : State) → IsStateOf m s → AreHeld m.clients → (k : ℕ) (p : Path) → places.opened m.clients.directories k ≡ Some (At p) →
+    (d : NodeId) × (node_at s.tree p ≡ Some d) × (is_folder (s.tree d) ≡ true)
+open-there m s st counted k p is =
+    let found = below-find (get nat_cmp m.clients.attached) m.clients.next k (counted k (subst IsSome (sym is) refl)) in
+    let there = st.tables.slots found.client found.descriptor in
+    let slot = slot-open (Alike m.layers s m.clients) _ _ (Directory found.handle) there found.there in
+    (slot.0.node, stands-at s.tree m.clients.directories found.handle slot.0 k p slot.2 found.on is, slot.2.directory)
+
 module _ (m : Mount) (s : State) (st : IsStateOf m s) (new : Layers) where
   abbrev V : Layer
   V = layer_of new.upper
@@ -203,6 +217,7 @@ module _ (m : Mount) (s : State) (st : IsStateOf m s) (new : Layers) where
     tables = subst (AreTables (Alike new (after s c k) clients) clients) (sym same) tables;
     one = subst (AreOne clients) (sym same) one;
     arrived = next ∙ st.arrived;
+    redirects = st.redirects;
     unwatched = subst AreUnwatched (sym still) st.unwatched;
   }
 
@@ -259,12 +274,10 @@ module _ (m : Mount) (s : State) (st : IsStateOf m s) (new : Layers) where
       false≢true (sym none ∙ shown-directory (the_upper m) (the_lowers m) s st.layers p d (subst (λ z. Stands s.tree z d) e stands) f)
 
   -- no directory is open below one in which no name is shown
-  pub none-below : (p : Path) → ShowsNoName (the_layers m) p → ((k : ℕ) → IsSome (places.opened m.clients.directories k) → 0 < handles_below (get nat_cmp m.clients.attached) m.clients.next k) → NoneBelow m.clients.directories p
+  pub none-below : (p : Path) → ShowsNoName (the_layers m) p → AreHeld m.clients → NoneBelow m.clients.directories p
   none-below p bare counted k n r is =
-      let found = below-find (get nat_cmp m.clients.attached) m.clients.next k (counted k (subst IsSome (sym is) refl)) in
-      let slot = slot-open (Alike m.layers s m.clients) _ _ (Directory found.handle) (st.tables.slots found.client found.descriptor) found.there in
-      let at = stands-at s.tree m.clients.directories found.handle slot.0 k (n ∷ (r ++ p)) slot.2 found.on is in
-      let under = beneath s.tree p r n slot.0.node at slot.2.directory in
+      let there = open-there m s st counted k (n ∷ (r ++ p)) is in
+      let under = beneath s.tree p r n there.0 there.1 there.2 in
       let shown : is_directory (shows 0 (the_layers m) (under.name ∷ p)) ≡ true = shown-directory (the_upper m) (the_lowers m) s st.layers (under.name ∷ p) under.node under.at under.directory in
       false≢true (sym (ap is_directory (bare under.name)) ∙ shown)
 
@@ -274,10 +287,10 @@ module _ (m : Mount) (s : State) (st : IsStateOf m s) (new : Layers) where
       let k = call.Unlink p in
       done c k (law_of_unlink (the_upper m) (the_lowers m) s st.layers c p ∙ ok) x.answer x.mounts x.tables refl same
       (λ b fd o h on is. handle-apart s c p k V (lowers_of new) x m.clients.directories b fd o h on is (not-there p ok is.location h.node is.stands is.directory))
-      (files-held m.layers new s st.layers c k m.clients live leaves counted)
+      (files-held m.layers new s st.layers c k m.clients (live s st.layers c) leaves counted)
 
   -- the node at the path of a directory that is shown has its attributes
-  folder-has : (p : Path) (a : Attributes) → HasAttributes (the_layers m) p a → (e : NodeId) → node_at s.tree p ≡ Some e → folder_attributes (s.tree e) ≡ Some a
+  pub folder-has : (p : Path) (a : Attributes) → HasAttributes (the_layers m) p a → (e : NodeId) → node_at s.tree p ≡ Some e → folder_attributes (s.tree e) ≡ Some a
   folder-has p a has e at = shown-attributes (s.tree e) (base (the_upper m) (the_lowers m) p) (shows 0 (the_layers m) p) a has (seen (the_upper m) (the_lowers m) s st.layers p e at)
 
   -- rmdir of a directory
@@ -287,7 +300,7 @@ module _ (m : Mount) (s : State) (st : IsStateOf m s) (new : Layers) where
 
     -- open files stay
     files : CarriesFiles (the_upper m) V s.tree u m.clients s.tables
-    files = files-held m.layers new s st.layers c (call.Rmdir p) m.clients live leaves counted
+    files = files-held m.layers new s st.layers c (call.Rmdir p) m.clients (live s st.layers c) leaves counted
 
     -- it is served where its tables are right
     rmdir-done : (clients : Clients) → AreTables (Alike new (after s c (call.Rmdir p)) clients) clients s.tables → AreOne clients s.tables → clients.next ≡ m.clients.next → Serves (refusal s c (call.Rmdir p)) s c (call.Rmdir p) reply.Done (record m { layers = new; clients = clients })

@@ -112,10 +112,11 @@ module _ (U : Layer) (lowers : List Layer) (t : Tree) (clients : Clients) (ks : 
   come-fewer = fewer-but clients new ks (ks ++ free_table n ∷ []) n h.others (handles-last-other ks n) opens-none
 
 -- a mount without clients stands for the opening state of the merge
-pub begins : (m : Mount) → ((n : ℕ) → get nat_cmp m.clients.attached n ≡ None) → m.clients.next ≡ 0 → (t : Tree) (redirects : Bool) → AreLayers (layers_of m.layers) → IsMerge (layer_of m.layers.upper) (lowers_of m.layers) t → IsStateOf m (opening t (record { redirects = redirects; read_only = false }))
-begins m none next t redirects a merge = record {
-  layers = law_of_beginning (layer_of m.layers.upper) (lowers_of m.layers) t redirects a merge;
+pub begins : (m : Mount) → ((n : ℕ) → get nat_cmp m.clients.attached n ≡ None) → m.clients.next ≡ 0 → (t : Tree) → AreLayers (layers_of m.layers) → IsMerge (layer_of m.layers.upper) (lowers_of m.layers) t → IsStateOf m (opening t (record { redirects = m.redirects; read_only = false }))
+begins m none next t a merge = record {
+  layers = law_of_beginning (layer_of m.layers.upper) (lowers_of m.layers) t m.redirects a merge;
   arrived = next;
+  redirects = refl;
   unwatched = tt;
   tables = record {
     attached = λ b. sym (ap (λ (o : Option Descriptors). is_some o) (none b));
@@ -153,6 +154,7 @@ module _ (m : Mount) (s : State) (st : IsStateOf m s) (new : Clients) where
         record {
           layers = record { layers = st.layers.layers; shows = st.layers.shows; kept = st.layers.kept; writable = st.layers.writable };
           unwatched = unwatched-last s.instances (silent s.arrived tags) st.unwatched refl;
+          redirects = st.redirects;
           arrived = h.rises ∙ add-one n ∙ ap suc same;
           tables = subst (λ z. AreTables (Alike m.layers s new) new (s.tables ++ free_table z ∷ [])) same (come (the_upper m) (the_lowers m) s.tree m.clients s.tables st.tables new n h);
           one = subst (λ z. AreOne new (s.tables ++ free_table z ∷ [])) same (one-fewer m.clients new s.tables _ (come-fewer (the_upper m) (the_lowers m) s.tree m.clients s.tables st.tables new n h) st.one);

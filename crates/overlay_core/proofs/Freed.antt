@@ -1,8 +1,8 @@
 -- What a removal leaves once what lost its last name is freed.
-use Rattle.std.proofs.Common.{◌≡◌, ◌≢◌, ℕ, List, ◌∷◌, ◌++◌, Some, sym, ap, ◌∙◌, subst, inl, inr, is_some}
-use Rattle.overlay_core.proofs.Words.{AreLayers, Call, Inode, inode_of, layer_of, Layers, layers_of, lowers_of, option_and_then, option_map, Path, Removes, State, StaysLayers, StaysMount}
+use Rattle.std.proofs.Common.{◌≡◌, ◌≢◌, ℕ, Bool, false, Option, List, ◌∷◌, ◌++◌, Some, sym, ap, ◌∙◌, subst, inl, inr, is_some}
+use Rattle.overlay_core.proofs.Words.{after, AreLayers, Call, Inode, inode_of, layer_of, Layers, layers_of, lowers_of, option_and_then, option_map, Path, Removes, State, StaysLayers, StaysMount}
 use Rattle.plain_model.specs.Tree.{merged}
-use Rattle.mount_laws.specs.Removals.{Loses}
+use Rattle.mount_laws.specs.Removals.{Loses, ShowsNoName}
 use Rattle.slab.specs.Slab.{get}
 use Rattle.layer_tree.specs.Table.{entry_in, object_key}
 use Rattle.layer_tree.specs.Tree.{table_of, seen, inode_at, child, IsUnmarked, IsTree, SameObjects}
@@ -13,6 +13,13 @@ use Rattle.layer_tree.specs.declared.node.Node.TheVariants as node
 use Rattle.copy_up.specs.Showing.{ShowsSame, KeepsPath, KeepsOthers}
 use Rattle.copy_up.proofs.Keeping.{lowers-same}
 use Rattle.make_remove.specs.Removing.{TakesName}
+use Rattle.mount_laws.specs.Renaming.{is_one, Renames}
+use Rattle.ov_base.specs.declared.call.Call.TheVariants as call
+use Rattle.rename_redirect.specs.Renaming.{Moves, RenameSteps}
+use Rattle.overlay_core.specs.declared.clients.Clients.{Clients}
+use Rattle.overlay_core.specs.Living.{StaysHeld}
+use Rattle.overlay_core.specs.Renaming.{RenamesHeld}
+use Rattle.overlay_core.proofs.Lasting.{rename-held}
 
 module _ (a b c : Layers) (p : Path) (held_same : SameObjects (layer_of b.upper) (layer_of c.upper)) (same : ShowsSame b c) where
   others : KeepsOthers a b p → KeepsOthers a c p
@@ -54,6 +61,32 @@ removes-then b c mounts s client p removal r = record {
   hidden = r.hidden;
   held = r.held;
   empty = r.empty;
+}
+
+-- so it is with rename
+renames-then : (b c : Layers) → StaysMount b c → (s : State) (client : ℕ) (p q : Path) → Renames (layer_of b.upper) (lowers_of b) s client p q → Renames (layer_of c.upper) (lowers_of c) s client p q
+renames-then b c mounts s client p q r = record {
+  answer = r.answer;
+  mounts = mounts _ r.mounts;
+  tables = r.tables;
+  handles = r.handles;
+  unopened = r.unopened;
+  free = r.free;
+  follows = r.follows;
+  gone = r.gone;
+  hidden = r.hidden;
+  held = r.held;
+  empty = r.empty;
+}
+
+-- what moved, moved
+pub moves-then : (clients : Clients) (a b c : Layers) (redirects : Bool) (p q : Path) (directory : Bool) (released : Option ℕ) → Moves a b p q directory released → (is_one (layer_of a.upper) p q ≡ false → ShowsNoName (layers_of a) q) → (is_one (layer_of a.upper) p q ≡ false → RenameSteps a b redirects p q) → StaysMount b c → StaysHeld clients b c → RenamesHeld clients a c redirects p q
+moves-then clients a b c redirects p q directory released moves bare steps mounts held = record {
+  apart = moves.apart;
+  bare = bare moves.apart;
+  steps = λ s is option client. renames-then b c mounts s client p q (steps moves.apart s is option client);
+  live = λ s is option client d k some on live.
+      held (after s client (call.Rename p q)).tree d k some (rename-held clients a b redirects p q moves.over (steps moves.apart) s is option client d k some on live);
 }
 
 -- an inode as a layer has it

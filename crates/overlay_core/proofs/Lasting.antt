@@ -22,6 +22,7 @@ use Rattle.mount_laws.specs.StayOpen.{LosesLink, LivesThroughRemoval}
 use Rattle.mount_laws.proofs.OpenFiles.{one-number}
 use Rattle.mount_laws.proofs.StayOpen.{law_of_live_kept, law_of_live_through_made, law_of_live_through_link, law_of_live_through_file}
 use Rattle.mount_laws.proofs.LinkedOpen.{law_of_live_through_name}
+use Rattle.mount_laws.proofs.RenamedOpen.{law_of_live_through_rename}
 use Rattle.mount_laws.proofs.Outlive.{law_of_live_through_unlink, law_of_live_through_rmdir}
 use Rattle.copy_up.specs.Showing.{is_object, number_of, sight, KeepsPath, KeepsOthers, GainsParents}
 use Rattle.copy_up.proofs.Keeping.{lowers-same}
@@ -29,10 +30,11 @@ use Rattle.make_remove.specs.Making.{MakesDirectory, MkdirSteps, new_attributes,
 use Rattle.make_remove.specs.Leaves.{MakesLeaf, SymlinkSteps, CreateSteps}
 use Rattle.make_remove.specs.Removing.{TakesName, Unnames}
 use Rattle.rename_redirect.specs.Linking.{GainsBoth, GivesName, LinkSteps}
+use Rattle.rename_redirect.specs.Renaming.{MovesOver, RenameSteps}
 use Rattle.overlay_core.specs.Files.{is_leaf}
 use Rattle.overlay_core.specs.declared.clients.Clients.{Clients}
-use Rattle.overlay_core.specs.Living.{StaysLive, KeepsLive, KeepsHeld}
-pub use Rattle.overlay_core.proofs.Leaves.{mkdir-leaves, symlink-leaves, link-leaves, chmod-leaves, chown-leaves, set-leaves, delete-leaves, open-leaves, unlink-leaves, rmdir-leaves}
+use Rattle.overlay_core.specs.Living.{StaysLive, KeepsLive, KeepsHeld, KeepsHeldFrom}
+pub use Rattle.overlay_core.proofs.Leaves.{mkdir-leaves, symlink-leaves, link-leaves, chmod-leaves, chown-leaves, set-leaves, delete-leaves, open-leaves, unlink-leaves, rmdir-leaves, rename-leaves}
 
 -- a path of which no more changes than that it gains a directory as a parent names what it named
 kept-name : (old new : Layers) (p q : Path) → KeepsPath old new p q → (k : ℕ) → (held (layer_of new.upper) q ≡ Some (Named k)) ↔ (held (layer_of old.upper) q ≡ Some (Named k))
@@ -240,3 +242,9 @@ unlink-held p = held-live p (call.Unlink p) (law_of_live_through_unlink p)
 -- and by rmdir
 pub rmdir-held : (p : Path) (clients : Clients) (old new : Layers) (released : Option ℕ) → TakesName old new p → Unnames old new p released → RemovalSteps old new p (call.Rmdir p) → KeepsHeld clients old new (call.Rmdir p)
 rmdir-held p = held-live p (call.Rmdir p) (law_of_live_through_rmdir p)
+
+-- and where rename moves an object
+pub rename-held : (clients : Clients) (old new : Layers) (redirects : Bool) (p q : Path) → MovesOver old new p q → RenameSteps old new redirects p q → (s : State) → IsMountOf (layer_of old.upper) (lowers_of old) s → s.options.redirects ≡ redirects → (c : ℕ) → KeepsHeldFrom s c clients old new (call.Rename p q)
+rename-held clients old new redirects p q over steps s is option c d k some on live =
+    law_of_live_through_rename (layer_of old.upper) (layer_of new.upper) (lowers_of new) s c p q (steps s is option c) d k
+    (over.links is.layers k (ap is_some live.inode)) (λ named. on) live

@@ -5,7 +5,8 @@ use Rattle.std.specs.FinMap as fin
 use Rattle.ov_base.specs.declared.bytes.Content.TheVariants.{File, SymbolicLink}
 use Rattle.ov_base.specs.declared.call.Call.TheVariants as call
 use Rattle.plain_model.specs.Tree.{IsKept, with_name}
-use Rattle.plain_model.specs.Changes.{lead_way, touched, one_fewer, one_more, with_attributes, with_mode, with_owner, set_value, drop_value, opened, is_named, is_held, settled, dropped}
+use Rattle.plain_model.specs.Machine.{look, same_found}
+use Rattle.plain_model.specs.Changes.{lead_way, touched, meta_touched, one_fewer, one_more, with_attributes, with_mode, with_owner, set_value, drop_value, opened, is_named, is_held, settled, dropped, renamed}
 use Rattle.plain_model.proofs.Keeping.{put-here, put-there}
 use Rattle.plain_model.proofs.Paths.{ids_tell}
 use Rattle.overlay_core.specs.Files.{is_leaf}
@@ -91,6 +92,11 @@ dropped-leaf ks t p d held h =
     settled-leaf ks (lead_way (change one_fewer t (node_at t p)) (way_of t p) None) (node_at t p) d held
     (way-leaf (change one_fewer t (node_at t p)) (way_of t p) None d (change-leaf one_fewer fewer-leaf t (node_at t p) d h))
 
+-- a file that moves is one still
+moved-leaf : (m : MountOptions) (x : Node) → is_leaf (Some x) ≡ true → is_leaf (Some (meta_touched m x)) ≡ true
+moved-leaf m (Branch a b names c) h = h
+moved-leaf m (Leaf content a u l) h = refl
+
 -- mkdir leaves each file one
 pub mkdir-leaves : (p : Path) (mode : ℕ) → KeepsLeaves (call.Mkdir p mode)
 mkdir-leaves p mode s kept c d h = made-leaf s.tree s.serial kept (way_of s.tree p) (Branch (fresh mode) false fin.empty 1) d h
@@ -136,3 +142,27 @@ unlink-leaves p s kept c d held h = dropped-leaf s.tables s.tree p d held h
 -- and so does rmdir
 pub rmdir-leaves : (p : Path) → KeepsHeldLeaves (call.Rmdir p)
 rmdir-leaves p s kept c d held h = dropped-leaf s.tables s.tree p d held h
+
+-- rename leaves each file one that a handle is open on
+pub rename-leaves : (p q : Path) → KeepsHeldLeaves (call.Rename p q)
+rename-leaves p q s kept c d held h = by (same_found (look s.tree p) (look s.tree q))
+  where
+    fewer : Tree
+    fewer = change one_fewer s.tree (node_at s.tree q)
+
+    touched-again : Tree
+    touched-again = change (meta_touched s.options) fewer (node_at s.tree p)
+
+    led : Tree
+    led = lead_way touched-again (way_of s.tree q) (node_at s.tree p)
+
+    leaf : is_leaf (renamed s.options s.tree p q d) ≡ true
+    leaf =
+        way-leaf led (way_of s.tree p) None d
+        (way-leaf touched-again (way_of s.tree q) (node_at s.tree p) d
+        (change-leaf (meta_touched s.options) (moved-leaf s.options) fewer (node_at s.tree p) d
+        (change-leaf one_fewer fewer-leaf s.tree (node_at s.tree q) d h)))
+
+    by : (b : Bool) → is_leaf (cond b s.tree (settled s.tables (renamed s.options s.tree p q) (node_at s.tree q)) d) ≡ true
+    by true = h
+    by false = settled-leaf s.tables (renamed s.options s.tree p q) (node_at s.tree q) d held leaf

@@ -21,6 +21,8 @@ pub mod Seeking
 pub mod FileReads
 pub mod Changing
 pub mod Linking
+pub mod Renames
+pub mod Renaming
 pub mod Paging
 pub mod Parsed
 pub mod Altering

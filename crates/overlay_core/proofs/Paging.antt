@@ -36,6 +36,7 @@ module _ (m : Mount) (new : Clients) (c d : ℕ) (o : OpenDirectory) (was : open
           changes = changes-to m.clients new c _ (λ x y. SetsSlot x y d (Some (Directory (record o { listing = Some (drop n left) })))) h
               (set-as _ _ d _ _ (ap (option_map (after_names n)) before ∙ ap (λ z. Some (Directory (record o { listing = option_map (drop n) z }))) e) h.changes.left);
           layers = refl;
+          redirects = refl;
         }
 
     -- the names come from the listing that is kept
@@ -58,6 +59,7 @@ module _ (m : Mount) (new : Clients) (c d : ℕ) (o : OpenDirectory) (was : open
       next = e;
       changes = slot-becomes m.clients new c d (Directory o) (with_listing (Some (drop n left))) was h;
       layers = refl;
+      redirects = refl;
     }
       where
         by : (l : Option (List Name)) → is_some l ≡ false → AreLeft (layers_of m.layers) (path_of m.clients o) l left

@@ -83,9 +83,9 @@ module _ (m : Mount) (s : State) (st : IsStateOf m s) where
 
     module _ (h : Handle) (on : handle_of s.tables c d ≡ Some h) where
       -- a descriptor is set on both sides, alike, and to a file of the upper only where it led to the same
-      pub state-set : (new : Mount) → new.layers ≡ m.layers → (o : Option handles.Handle) (x : Option Handle) → ChangesClient m.clients new.clients c (λ b y. SetsSlot b y d o) → ((f : OpenFile) (z : Handle) (k : ℕ) → o ≡ Some (File f) → x ≡ Some z → f.source ≡ Upper k → IsOpenOn m.clients s.tables k z.node) → IsSlot (Alike m.layers s new.clients) o x → IsStateOf new (record s { tables = with_handle s.tables c d x })
-      state-set new same o x ch again like =
-          with-tables m s st new (with_handle s.tables c d x) same ch.next
+      pub state-set : (new : Mount) → new.layers ≡ m.layers → new.redirects ≡ m.redirects → (o : Option handles.Handle) (x : Option Handle) → ChangesClient m.clients new.clients c (λ b y. SetsSlot b y d o) → ((f : OpenFile) (z : Handle) (k : ℕ) → o ≡ Some (File f) → x ≡ Some z → f.source ≡ Upper k → IsOpenOn m.clients s.tables k z.node) → IsSlot (Alike m.layers s new.clients) o x → IsStateOf new (record s { tables = with_handle s.tables c d x })
+      state-set new same option o x ch again like =
+          with-tables m s st new (with_handle s.tables c d x) same option ch.next
           (tables-set alike m.clients s.tables st.tables new.clients (Alike m.layers s new.clients) c d o x ch inside
           (λ b i p z opens was is l. placed (the_upper m) (the_lowers m) s.tree m.clients.directories new.clients.directories p z (λ e q is_e at. ch.places b i e q (opens ∙ ap Some is_e) at) l)
           like)
@@ -100,7 +100,7 @@ module _ (m : Mount) (s : State) (st : IsStateOf m s) where
       -- the place of an open file moves
       pub place-moved : (f : OpenFile) → opened_by m.clients c d ≡ Some (File f) → (place : ℕ) (new : Clients) → ChangesClient m.clients new c (λ x y. ChangesSlot x y d (with_place place)) → IsStateOf (record m { clients = new }) (record s { tables = with_handle s.tables c d (Some (record h { place = place })) })
       place-moved f opens place new ch =
-          state-set (record m { clients = new }) refl (Some (File (record f { place = place }))) (Some moved)
+          state-set (record m { clients = new }) refl refl (Some (File (record f { place = place }))) (Some moved)
           (slot-becomes m.clients new c d (File f) (with_place place) opens ch)
           again
           (record { source = of-on (the_upper m) (the_upper m) (the_lowers m) s.tree s.tree f.source h moved refl refl (λ k e live. live) (λ leaf. leaf) file.source; reads = file.reads; writes = file.writes; append = file.append; place = refl; unlisted = file.unlisted })

@@ -24,9 +24,10 @@ abbrev pub Alike : Layers → State → Clients → handles.Handle → Handle �
 Alike l s clients = IsOpenAs (layer_of l.upper) (lowers_of l) s.tree clients.directories
 
 -- a state, told of its parts
-state-as : (new : Mount) (l : Layers) (s : State) → new.layers ≡ l → IsMountOf (layer_of l.upper) (lowers_of l) s → AreTables (Alike l s new.clients) new.clients s.tables → AreOne new.clients s.tables → new.clients.next ≡ s.arrived → AreUnwatched s.instances → IsStateOf new s
-state-as new l s e m a one next w = record {
+state-as : (new : Mount) (l : Layers) (s : State) → new.layers ≡ l → s.options.redirects ≡ new.redirects → IsMountOf (layer_of l.upper) (lowers_of l) s → AreTables (Alike l s new.clients) new.clients s.tables → AreOne new.clients s.tables → new.clients.next ≡ s.arrived → AreUnwatched s.instances → IsStateOf new s
+state-as new l s e r m a one next w = record {
   arrived = next;
+  redirects = r;
   layers = subst (λ (x : Layers). IsMountOf (layer_of x.upper) (lowers_of x) s) (sym e) m;
   tables = subst (λ (x : Layers). AreTables (Alike x s new.clients) new.clients s.tables) (sym e) a;
   one = one;
@@ -35,16 +36,16 @@ state-as new l s e m a one next w = record {
 
 module _ (m : Mount) (s : State) (st : IsStateOf m s) where
   -- the state with other tables, of a mount of the same layers
-  pub with-tables : (new : Mount) (ks : List Table) → new.layers ≡ m.layers → new.clients.next ≡ m.clients.next → AreTables (Alike m.layers s new.clients) new.clients ks → AreOne new.clients ks → IsStateOf new (record s { tables = ks })
-  with-tables new ks same next a one =
-      state-as new m.layers (record s { tables = ks }) same
+  pub with-tables : (new : Mount) (ks : List Table) → new.layers ≡ m.layers → new.redirects ≡ m.redirects → new.clients.next ≡ m.clients.next → AreTables (Alike m.layers s new.clients) new.clients ks → AreOne new.clients ks → IsStateOf new (record s { tables = ks })
+  with-tables new ks same option next a one =
+      state-as new m.layers (record s { tables = ks }) same (st.redirects ∙ sym option)
       (record { layers = st.layers.layers; shows = st.layers.shows; kept = st.layers.kept; writable = st.layers.writable })
       a one (next ∙ st.arrived) st.unwatched
 
   -- the same clients with the same descriptors
   pub keep-same : (new : Clients) → SameClients m.clients new → IsStateOf (record m { clients = new }) s
   keep-same new same =
-      with-tables (record m { clients = new }) s.tables refl same.next
+      with-tables (record m { clients = new }) s.tables refl refl same.next
       (tables-same (Alike m.layers s m.clients) m.clients s.tables st.tables new (Alike m.layers s new) same
       (λ c d o h on at is. placed (layer_of m.layers.upper) (lowers_of m.layers) s.tree m.clients.directories new.directories o h (λ e l f. same.places c d e l (on ∙ ap Some f)) is))
       (one-fewer m.clients new s.tables s.tables

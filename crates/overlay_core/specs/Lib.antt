@@ -13,5 +13,6 @@ pub mod Agreement
 pub mod Leaving
 pub mod Living
 pub mod Mounting
+pub mod Renaming
 pub mod Jobs
 pub mod Drives

@@ -33,11 +33,16 @@ StaysHeld clients old new =
     (t : Tree) (d : NodeId) (k : ℕ) → 0 < file_holders clients.files k →
     IsLive (layer_of old.upper) t d k → IsLive (layer_of new.upper) t d k
 
+-- and through a call that a client makes in this state
+abbrev pub KeepsHeldFrom : State → ℕ → Clients → Layers → Layers → Call → Type 0
+KeepsHeldFrom s c clients old new call =
+    (d : NodeId) (k : ℕ) → 0 < file_holders clients.files k → is_held s.tables d ≡ true →
+    IsLive (layer_of old.upper) s.tree d k → IsLive (layer_of new.upper) (after s c call).tree d k
+
 -- and through a call of the machine
 abbrev pub KeepsHeld : Clients → Layers → Layers → Call → Type 0
 KeepsHeld clients old new call =
-    (s : State) → IsMountOf (layer_of old.upper) (lowers_of old) s → (c : ℕ) (d : NodeId) (k : ℕ) → 0 < file_holders clients.files k →
-    is_held s.tables d ≡ true → IsLive (layer_of old.upper) s.tree d k → IsLive (layer_of new.upper) (after s c call).tree d k
+    (s : State) → IsMountOf (layer_of old.upper) (lowers_of old) s → (c : ℕ) → KeepsHeldFrom s c clients old new call
 
 -- the call leaves each file of the tree a file
 abbrev pub KeepsLeaves : Call → Type 0

@@ -86,6 +86,7 @@ pub record IsStateOf (m : Mount) (s : State) : Type 0 where
   pub tables : AreTables (IsOpenAs (layer_of m.layers.upper) (lowers_of m.layers) s.tree m.clients.directories) m.clients s.tables
   pub one : AreOne m.clients s.tables
   pub arrived : m.clients.next ≡ s.arrived
+  pub redirects : s.options.redirects ≡ m.redirects
   pub unwatched : AreUnwatched s.instances
 
 -- some state is one that the mount stands for
@@ -120,3 +121,4 @@ pub record Pages (old new : Mount) (c d count : ℕ) (given : List Name) : Type 
   pub next : given ≡ take count left
   pub changes : ChangesClient old.clients new.clients c (λ before after. SetsSlot before after d (Some (Directory (record directory { listing = Some (drop count left) }))))
   pub layers : new.layers ≡ old.layers
+  pub redirects : new.redirects ≡ old.redirects

@@ -3,7 +3,9 @@ ghost use Rattle.std.specs.Prelude.{◌≡◌, ◌≢◌, ◌+◌, ◌<◌, ◌^
 ghost use Rattle.std.specs.Option.{option_and_then};
 ghost use Rattle.std.specs.BTreeMap.{get, btree_map_len};
 ghost use Rattle.std.specs.Ordering.{nat_cmp};
-ghost use Rattle.open_handles.specs.Opened.{opened, holders, attributes_in, NoneBelow};
+ghost use Rattle.open_handles.specs.Opened.{At, opened, holders, attributes_in, NoneBelow};
+ghost use Rattle.open_handles.specs.Renames.{IsReady, IsSettled};
+ghost use Rattle.plain_model.specs.Laws.{IsOutside};
 ghost use Rattle.open_handles.specs.FileHolders.{file_holders};
 ghost use Rattle.overlay_core.specs.Held.{handles_below, files_below};
 
@@ -37,6 +39,7 @@ impl Clients {
     ghost use Rattle.overlay_core.specs.Files.{HasFile, HasFileRoom, HasAllOpen};
     ghost use Rattle.overlay_core.specs.Opening.{OpensAt, OpensFile};
     ghost use Rattle.overlay_core.specs.Removing.{IsOpenNowhere, IsOpenAt, RemovesOpen};
+    ghost use Rattle.overlay_core.specs.Renaming.{RenamesOpen, SamePlaces};
     ghost use Rattle.open_handles.specs.Listings.{ChangesSlot, Closes, GivesNames, with_listing, with_place};
 
     /// No clients. The names of open directories and the keys of open files are hashed with these keys.
@@ -271,6 +274,41 @@ impl Clients {
         ensures { RemovesOpen self.old self.new path.now attributes }
     {
         self.directories.remove(path, attributes);
+    }
+
+    /// Takes the memory that `rename` needs to lead what is open at a path or below it to another path; for the root it takes none. What is
+    /// open stays as it is, and want of memory prepares nothing.
+    pub fn prepare_rename(&mut self, old: &Path, new: &Path) -> Result<(), AllocError>
+        ensures same { SamePlaces self.old self.new }
+        ensures ready { OnOk result (old.now ≢ [] → IsReady self.new.directories old.now new.now) }
+        ensures settled { OnErr result (IsSettled self.new.directories) }
+    {
+        match old.split_last() {
+            Some(_) => self.directories.prepare_rename(old, new),
+            None => Ok(()),
+        }
+    }
+
+    /// Leads what is open at a path or below it to another path. The directory that is open at that other path, which is replaced, is a
+    /// removed one then, with the attributes that it has.
+    pub fn rename(&mut self, old: &Path, new: &Path, replaced: Option<Attributes>)
+        requires ready { IsReady self.old.directories old.now new.now }
+        requires not_root { new.now ≢ [] }
+        requires apart { IsOutside old.now new.now }
+        requires below { NoneBelow self.old.directories new.now }
+        requires replaced { (k : ℕ) → opened self.old.directories k ≡ Some (At new.now) → IsSome replaced }
+        ensures renames { RenamesOpen self.old self.new old.now new.now replaced }
+        ensures settled { IsSettled self.new.directories }
+    {
+        self.directories.rename(old, new, replaced);
+    }
+
+    /// Gives up a rename that was prepared, and lets go the memory that it took.
+    pub fn cancel_rename(&mut self)
+        ensures same { SamePlaces self.old self.new }
+        ensures settled { IsSettled self.new.directories }
+    {
+        self.directories.cancel_rename();
     }
 
     /// Keeps a listing of an open directory of a client.

@@ -1,5 +1,5 @@
 // A mount and the clients on it: what each call does, by the plain machine, where nobody watches.
-ghost use Rattle.std.specs.Prelude.{◌≡◌, ◌<◌, ◌+◌, ◌^◌, ℕ, Bool, false, List, Some, None, Ok, IsOk, IfOk, IfErr, OnOk, OnErr, IsSome, IsSomeAnd, IfNone, IfSome, is_some, MatchResult, option_copied, true};
+ghost use Rattle.std.specs.Prelude.{◌≡◌, ◌<◌, ◌+◌, ◌^◌, ℕ, false, List, Some, None, Ok, IsOk, IfOk, IfErr, OnOk, OnErr, IsSome, IsSomeAnd, IfNone, IfSome, is_some, MatchResult, option_copied, true};
 ghost use Rattle.plain_model.specs.Layers.{AreLayers};
 ghost use Rattle.layer_tree.specs.Tree.{layer_of, inode_of};
 ghost use Rattle.merged_lookup.specs.Merged.{layers_of, lowers_of};
@@ -10,7 +10,7 @@ ghost use Rattle.std.specs.Option.{option_and_then};
 ghost use Rattle.mount_laws.specs.Leaves.{inode_target};
 
 use crate::clients::Clients;
-use crate::removals::{free_closed, rmdir_and_free, unlink_and_free};
+use crate::removals::{free_closed, rename_and_free, rmdir_and_free, unlink_and_free};
 use crate::status::status_at;
 use dir_listing::{Cursor, names};
 use layer_tree::{Inode, Node};
@@ -25,11 +25,12 @@ use std::hash::RandomState;
 /// The most names that one `list` gives.
 const LIST_MAX: u32 = 256;
 
-/// The layers of a mount and the clients attached to it.
+/// The layers of a mount, the clients attached to it, and whether renames of its directories make redirects.
 #[derive(Drop)]
 pub struct Mount {
     pub(crate) layers: Layers,
     pub(crate) clients: Clients,
+    pub(crate) redirects: bool,
     pub(crate) alloc: Global,
 }
 
@@ -37,16 +38,17 @@ impl Mount {
     ghost use Rattle.std.specs.BTreeMap.{get, btree_map_len};
     ghost use Rattle.std.specs.Ordering.{nat_cmp};
     ghost use Rattle.plain_model.specs.Machine as machine;
-    ghost use Rattle.plain_model.specs.Machine.{MountOptions, State};
+    ghost use Rattle.plain_model.specs.Machine.{State};
     ghost use Rattle.plain_model.specs.Tree.{Tree};
     ghost use Rattle.plain_model.specs.Merging.{IsMerge};
     ghost use Rattle.plain_model.specs.Runs as runs;
-    ghost use Rattle.plain_model.specs.Runs.{joined, without_instance, without_table, Leaves};
+    ghost use Rattle.plain_model.specs.Runs.{joined, Leaves};
     ghost use Rattle.plain_model.specs.Refusals.{refusal};
     ghost use Rattle.overlay_core.specs.Attaching as attaching;
     ghost use Rattle.overlay_core.specs.Attaching.{HasNoRoom, Attaches, Detaches, IsSame, KeepsAttached, KeepsOthers, opened_by, directory_by};
     ghost use Rattle.overlay_core.specs.States.{HasStateOf, IsStateOf, Serves, StaysState, Pages};
     ghost use Rattle.overlay_core.specs.Removing.{IsOpenNowhere, HasAttributes};
+    ghost use Rattle.open_handles.specs.Renames.{IsSettled};
     ghost use Rattle.mount_laws.specs.Removals.{rmdir_fault};
     ghost use Rattle.overlay_core.specs.Opening.{list_fault};
     ghost use Rattle.overlay_core.specs.Living.{KeepsPaths};
@@ -56,16 +58,24 @@ impl Mount {
     ghost use Rattle.overlay_core.specs.Keeping.{KeepsLayers, takes_no_memory};
     ghost use Rattle.copy_up.specs.Showing.{StaysThin};
 
-    /// A mount of these layers without a client. The names of open directories are hashed with these keys.
-    pub(crate) fn new(alloc: Global, keys: RandomState, layers: Layers) -> Result<Mount, AllocError>
+    /// A mount of these layers without a client, whose renames of directories make redirects or not. The names of open directories are
+    /// hashed with these keys.
+    pub(crate) fn new(
+        alloc: Global,
+        keys: RandomState,
+        layers: Layers,
+        redirects: bool,
+    ) -> Result<Mount, AllocError>
         ensures layers { IfOk result (λ mount. mount.layers ≡ layers) }
+        ensures redirects { IfOk result (λ mount. mount.redirects ≡ redirects) }
         ensures none { IfOk result (λ mount. (n : ℕ) → get nat_cmp mount.clients.attached n ≡ None) }
         ensures first { IfOk result (λ mount. mount.clients.next ≡ 0) }
-        ensures begins { IfOk result (λ mount. (t : Tree) (redirects : Bool) → AreLayers (layers_of layers) → IsMerge (layer_of layers.upper) (lowers_of layers) t → IsStateOf mount (machine.opening t (record { redirects = redirects; read_only = false }))) }
+        ensures begins { IfOk result (λ mount. (t : Tree) → AreLayers (layers_of layers) → IsMerge (layer_of layers.upper) (lowers_of layers) t → IsStateOf mount (machine.opening t (record { redirects = redirects; read_only = false }))) }
     {
         Ok(Mount {
             layers,
             clients: Clients::new(alloc, keys)?,
+            redirects,
             alloc,
         })
     }
@@ -132,8 +142,8 @@ impl Mount {
         }
     }
 
-    /// Makes a call of a client that is attached. Offered are all calls but renames and those on watches, which are EOPNOTSUPP and change
-    /// nothing. Want of memory leaves all that is shown as it was.
+    /// Makes a call of a client that is attached. Offered are all calls but those on watches, which are EOPNOTSUPP and change nothing. Want
+    /// of memory leaves all that is shown as it was.
     pub(crate) fn perform(&mut self, client: u64, call: &Call) -> Result<Reply, AllocError>
         requires there { IsSome (get nat_cmp self.old.clients.attached client) }
         requires state { ∥ HasStateOf self.old ∥₁ }
@@ -161,6 +171,7 @@ impl Mount {
             Call::Unlink { path } => self.unlink(path),
             Call::Rmdir { path } => self.rmdir(path),
             Call::Hardlink { old, new } => self.link(old, new),
+            Call::Rename { old, new } => self.rename(old, new),
             Call::Open { path, flags, mode } => self.open(client, path, *flags, *mode),
             Call::Read { descriptor, count } => self.read(client, *descriptor, *count),
             Call::Write { descriptor, bytes } => self.write(client, *descriptor, bytes),
@@ -280,6 +291,46 @@ impl Mount {
                 Ok(Reply::Done)
             }
             Err(errno) => Ok(Reply::Refused(errno)),
+        }
+    }
+
+    fn rename(&mut self, old: &Path, new: &Path) -> Result<Reply, AllocError>
+        requires { ∥ HasStateOf self.old ∥₁ }
+        ensures serves { IfOk result (λ reply. (s : State) → IsStateOf self.old s → (c : ℕ) → Serves (refusal s c (Call.Rename old.now new.now)) s c (Call.Rename old.now new.now) reply self.new) }
+        ensures err { OnErr result (StaysState self.old self.new) }
+        ensures clients { KeepsAttached self.old.clients self.new.clients }
+        ensures settled { IsSettled self.old.clients.directories → IsSettled self.new.clients.directories }
+        ensures refused { IfOk result (λ reply. (errno : Errno) → reply ≡ Reply.Refused errno → self.new.layers ≡ self.old.layers) }
+        ensures lowers { self.new.layers.lowers ≡ self.old.layers.lowers }
+        ensures thin { StaysThin self.old.layers self.new.layers }
+    {
+        let replaced = self.attributes_left(new)?;
+        self.clients.prepare_rename(old, new)?;
+        self.clients.lawful();
+        match rename_and_free(
+            self.alloc,
+            &mut self.layers,
+            &self.clients,
+            old,
+            new,
+            self.redirects,
+        ) {
+            Ok(Ok(true)) => {
+                self.clients.rename(old, new, replaced);
+                Ok(Reply::Done)
+            }
+            Ok(Ok(false)) => {
+                self.clients.cancel_rename();
+                Ok(Reply::Done)
+            }
+            Ok(Err(errno)) => {
+                self.clients.cancel_rename();
+                Ok(Reply::Refused(errno))
+            }
+            Err(fault) => {
+                self.clients.cancel_rename();
+                Err(fault)
+            }
         }
     }
 

@@ -1,4 +1,4 @@
-// `unlink` and `rmdir`, where what loses its last name is freed at once, unless a handle holds it, and what closing frees.
+// `unlink`, `rmdir` and `rename`, where what loses its last name is freed at once, unless a handle holds it, and what closing frees.
 ghost use Rattle.std.specs.Prelude.{◌≡◌, ◌<◌, ℕ, Bool, true, false, Some, None, IfOk, IfErr, OnOk, OnErr};
 ghost use Rattle.ov_base.specs.declared.call.Call.TheVariants as call;
 ghost use Rattle.plain_model.specs.Machine.{State};
@@ -11,15 +11,18 @@ ghost use Rattle.layer_tree.specs.Nameless.{IsNameless};
 ghost use Rattle.merged_lookup.specs.Merged.{layers_of, lowers_of};
 ghost use Rattle.copy_up.specs.Showing.{ShowsSame, StaysLayers, StaysMount, StaysThin};
 ghost use Rattle.make_remove.specs.Removing.{TakesName};
-ghost use Rattle.plain_model.specs.Layers.{Inode as HeldInode};
+ghost use Rattle.plain_model.specs.Layers.{AreLayers, Inode as HeldInode};
 ghost use Rattle.overlay_core.specs.Living.{FreesClosed, KeepsHeld, StaysHeld, StaysLive};
+ghost use Rattle.overlay_core.specs.Renaming.{MovesOrStays, RefusesRenames};
+ghost use Rattle.mount_laws.specs.Renaming.{rename_fault};
 
 use crate::clients::Clients;
 use layer_tree::Node;
 use make_remove::{free, rmdir, unlink};
 use merged_lookup::{Layers, Place};
 use ov_base::{Errno, Path};
-use std::alloc::AllocError;
+use rename_redirect::{Renamed, rename};
+use std::alloc::{AllocError, Global};
 
 /// `unlink`, which frees the inode whose last name this was, unless a handle holds it.
 pub(crate) fn unlink_and_free(
@@ -72,6 +75,41 @@ pub(crate) fn rmdir_and_free(
         Ok(key) => {
             free_released(layers, clients, key);
             Ok(Ok(()))
+        }
+        Err(errno) => Ok(Err(errno)),
+    }
+}
+
+/// `rename`, which frees what lost its last name by it, unless a handle holds it. It tells whether anything moved: nothing does where both
+/// paths are one object.
+pub(crate) fn rename_and_free(
+    alloc: Global,
+    layers: &mut Layers,
+    clients: &Clients,
+    old: &Path,
+    new: &Path,
+    redirects: bool,
+) -> Result<Result<bool, Errno>, AllocError>
+    ensures refuses { IfOk result (λ r. IfErr r (RefusesRenames layers.old redirects old.now new.now)) }
+    ensures unchanged { IfOk result (λ r. OnErr r (layers.new ≡ layers.old)) }
+    ensures allowed { IfOk result (λ r. OnOk r (rename_fault (layer_of layers.old.upper) (lowers_of layers.old) redirects old.now new.now false ≡ None)) }
+    ensures does { IfOk result (λ r. IfOk r (λ moved. MovesOrStays moved clients.now layers.old layers.new redirects old.now new.now)) }
+    ensures lowers { layers.new.lowers ≡ layers.old.lowers }
+    ensures keeps { StaysLayers layers.old layers.new }
+    ensures thin { AreLayers (layers_of layers.old) → StaysThin layers.old layers.new }
+    ensures no_memory { OnErr result (ShowsSame layers.old layers.new) }
+    ensures mounts { OnErr result (StaysMount layers.old layers.new) }
+    ensures stays { OnErr result (StaysLive layers.old layers.new) }
+{
+    match rename(alloc, layers, old, new, redirects)? {
+        Ok(Renamed::Unchanged) => Ok(Ok(false)),
+        Ok(Renamed::Directory(released)) => {
+            free_released(layers, clients, released);
+            Ok(Ok(true))
+        }
+        Ok(Renamed::Inode(released)) => {
+            free_released(layers, clients, released);
+            Ok(Ok(true))
         }
         Err(errno) => Ok(Err(errno)),
     }

@@ -40,9 +40,10 @@ below_starts p q r is longer =
     let long : length p < length q = omega (arith, length-reverse p, length-reverse q) in
     let starts = starts_is bytes_eq-Decides (reverse q) (reverse p) r is in
     let left = drop (length (reverse p)) (reverse q) in
-    same_from_decides r (is_below p q)
-    (λ e. below-longer p q (reverse left) (sym (reverse-reverse q) ∙ ap reverse (starts.0 e) ∙ reverse-append (reverse p) left ∙ ap (λ (x : Path). reverse left ++ x) (reverse-reverse p)) long,
-      λ e. let above = names-more p q e in starts.1 (reverse above.0) (ap reverse above.1 ∙ reverse-append above.0 p))
+    same_from_decides r (is_below p q) (
+      λ e. below-longer p q (reverse left) (sym (reverse-reverse q) ∙ ap reverse (starts.0 e) ∙ reverse-append (reverse p) left ∙ ap (λ (x : Path). reverse left ++ x) (reverse-reverse p)) long,
+      λ e. let above = names-more p q e in starts.1 (reverse above.0) (ap reverse above.1 ∙ reverse-append above.0 p),
+    )
     (λ e. e, λ e. e)
 
 -- a path that isn't longer isn't below

@@ -459,6 +459,7 @@ fn re_way(handle: &mut Option<Handle>, id: &Id, way: &Option<(Id, Name)>, copies
     }
 }
 
+// The same of the handles of all clients.
 fn re_ways(clients: &mut [Client], id: &Id, way: &Option<(Id, Name)>, mut copies: Copies)
     requires { opened_by id.now way.now clients.old ≤ vec_len copies.made }
     ensures { clients.new ≡ re_ways clients.old (Some id.now) way.now copies.way }

@@ -40,6 +40,7 @@ impl Layer {
         ensures names { (d : ℕ) → names_room self.old d ≤ names_room self.new d + 1 }
         ensures objects { UsesObjects self.old self.new 0 }
         ensures unnamed { (key : ℕ) → child self.old to further ≡ Some key → IsDirectory self.old key → (d : ℕ) (n : List ℕ) → child self.new d n ≢ Some key }
+        ensures nameless { HoldsNoObjects self.old to further → (key : ℕ) → child self.old to further ≡ Some key → IsDirectory self.old key → IsNameless self.new key }
         ensures keeps_objects { (q : List (List ℕ)) → key_at self.old q ≡ Some to → KeepsObjects self.old self.new (child self.old to further) }
         ensures keeps { (p q : List (List ℕ)) → key_at self.old p ≡ Some from → key_at self.old q ≡ Some to → IsOutside (name.now ∷ p) (further ∷ q) → IsOutside (further ∷ q) (name.now ∷ p) → HoldsNoObjects self.old to further → IsLayer (layer_of self.old) → IsLayer (layer_of self.new) }
     {

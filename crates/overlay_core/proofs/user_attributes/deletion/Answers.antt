@@ -12,8 +12,8 @@ returns c =
       get-none (layers_of c.args.layers.now) c.args.path.now c.args.name.now c.in-Ok.target.attributes.now
           (sym c.name_fault.ensures.refusal ∙ c.in_default.is)
           shown
-          (rw (c.as_bytes.ensures, same) at (sym c.is_unset.ensures ∙ c.if-is_unset.false)),
-      changes-shown _ c.args.layers.now c.args.path.now c.into_change.result c.in-Ok-target_at.target.attributes.now shown
-          (subst (λ (t : Topmost). IsTopmost c.args.layers.now c.args.path.now (Some t)) (sym c.into_change.ensures.what) c.in-Ok-target_at.ensures.top)
-          (ap (λ (x : AttributeChange). changed x c.in-Ok-target_at.target.attributes.now) (rw same at c.into_change.ensures.change)),
+          (sym c.is_unset.ensures ∙ c.if-is_unset.false),
+      changes-shown _ c.args.layers.now c.args.path.now c.into_change.result c.in-Ok.target.attributes.now shown
+          (subst (λ (t : Topmost). IsTopmost c.args.layers.now c.args.path.now (Some t)) (sym c.into_change.ensures.what) c.in-Ok.ensures.top)
+          (ap (λ (x : AttributeChange). changed x c.in-Ok.target.attributes.now) (rw (c.new-name.ensures, c.in_ok-clone.ensures.cases) at c.into_change.ensures.change)),
     )

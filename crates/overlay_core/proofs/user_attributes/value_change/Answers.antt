@@ -14,8 +14,8 @@ returns c =
           (sym c.name_fault.ensures.refusal ∙ c.in_default.is)
           (le-ltb 1024 (length c.args.value.now) (rw c.as_slice.ensures at c.if-as_slice-gt-VALUE_MAX.false))
           shown
-          (rw (c.as_bytes.ensures, same) at (sym c.has_no_room.ensures ∙ c.if-has_no_room.false)),
-      changes-shown _ c.args.layers.now c.args.path.now c.into_change.result c.in-Ok-target_at.target.attributes.now shown
-          (subst (λ (t : Topmost). IsTopmost c.args.layers.now c.args.path.now (Some t)) (sym c.into_change.ensures.what) c.in-Ok-target_at.ensures.top)
-          (ap (λ (x : AttributeChange). changed x c.in-Ok-target_at.target.attributes.now) (rw (same, c.in_ok-value.ensures.cases) at c.into_change.ensures.change)),
+          (sym c.has_no_room.ensures ∙ c.if-has_no_room.false),
+      changes-shown _ c.args.layers.now c.args.path.now c.into_change.result c.in-Ok.target.attributes.now shown
+          (subst (λ (t : Topmost). IsTopmost c.args.layers.now c.args.path.now (Some t)) (sym c.into_change.ensures.what) c.in-Ok.ensures.top)
+          (ap (λ (x : AttributeChange). changed x c.in-Ok.target.attributes.now) (rw (c.new-name.ensures, c.in_ok-clone.ensures.cases, c.in_ok-value.ensures.cases) at c.into_change.ensures.change)),
     )

@@ -2,7 +2,8 @@ use Rattle.std.proofs.Common.{◌∷◌, false, true, reverse, ap, subst}
 use Rattle.plain_model.specs.Layers.{is_directory}
 use Rattle.merged_lookup.specs.declared.stack.Place.{Place}
 use Rattle.merged_lookup.specs.Merged.{parent, IsStackOf}
-use Rattle.copy_up.proofs.OtherAttributes.{found-directory, found-inode}
+use Rattle.copy_up.proofs.OtherAttributes.{found-inode}
+use Rattle.make_remove.proofs.Removing.{found-directory}
 use Rattle.rename_redirect.specs.declared.entries.Route.{Route}
 use Rattle.rename_redirect.proofs.Going.{not-root, is-move, is-folder, moves-as}
 use Rattle.rename_redirect.proofs.moves.move_placed.Goals as goal

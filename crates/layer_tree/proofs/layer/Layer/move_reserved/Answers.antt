@@ -43,6 +43,9 @@ returns-clause-moves c = (moved c).moves
 pub returns-clause-unnamed : goal.returns-clause-unnamed
 returns-clause-unnamed c = (moved c).unnamed
 
+pub returns-clause-nameless : goal.returns-clause-nameless
+returns-clause-nameless c = (moved c).nameless
+
 pub returns-clause-keeps_objects : goal.returns-clause-keeps_objects
 returns-clause-keeps_objects c = (moved c).keeps_objects
 

@@ -28,6 +28,6 @@ returns-clause-ok c =
     ] in
     c.unlead_way.ensures
     ∙ ap (λ (u : Tree). lead_way u c.args.old.now None)
-      (c.touch.ensures
-      ∙ ap (λ (u : Tree). change touched u node) (lost ∙ changed_last one_fewer fewer-named t new node replaced)
-      ∙ changed_last touched touched-named (change one_fewer t replaced) new node node)
+    (c.touch.ensures
+    ∙ ap (λ (u : Tree). change touched u node) (lost ∙ changed_last one_fewer fewer-named t new node replaced)
+    ∙ changed_last touched touched-named (change one_fewer t replaced) new node node)
