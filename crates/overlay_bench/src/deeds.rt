@@ -2,7 +2,7 @@
 use crate::loads::since;
 use crate::manifests::{ManifestText, nested};
 use crate::mounts::{made, mounted, path_to};
-use crate::trees::{BLOCK, DIRECTORIES, FILES, copied, copied_again, served};
+use crate::trees::{BLOCK, DIRECTORIES, FILES, copied, copied_again, served, wide};
 use ov_base::{Bytes, Call, OpenFlags, Path, Reply};
 use overlay_core::Core;
 use std::alloc::{AllocError, Global};
@@ -28,6 +28,12 @@ pub enum Deed {
     Copy(u32),
     /// The same by another name of one lower file each time, and removing it, so that a copy takes the memory of the one before.
     CopyAgain(u32),
+    /// Giving a file of the upper a further name and removing that.
+    Link,
+    /// Renaming a file of the upper, to and fro.
+    Rename,
+    /// Renaming a directory of the lowest layer with 10,000 files, for which it is copied up without them, each time another one.
+    RenameDirectory,
     /// Setting a user attribute that is there, on a file of the upper.
     SetAttribute,
     /// Seeking to the start of an open file of the upper and writing 4,096 bytes.
@@ -39,7 +45,10 @@ impl Deed {
     fn ends_by(self, call: &Call) -> bool {
         match self {
             Deed::Read | Deed::Copy(_) => matches!(call, Call::Close { .. }),
-            Deed::Create | Deed::CopyAgain(_) => matches!(call, Call::Unlink { .. }),
+            Deed::Create | Deed::CopyAgain(_) | Deed::Link => {
+                matches!(call, Call::Unlink { .. })
+            }
+            Deed::Rename | Deed::RenameDirectory => matches!(call, Call::Rename { .. }),
             Deed::SetAttribute => matches!(call, Call::SetAttribute { .. }),
             Deed::Write => matches!(call, Call::Write { .. }),
         }
@@ -48,7 +57,7 @@ impl Deed {
     // The flags by which the file is opened.
     fn flags(self) -> OpenFlags {
         let reads = matches!(&self, Deed::Read);
-        let creates = matches!(&self, Deed::Create);
+        let creates = matches!(&self, Deed::Create | Deed::Link | Deed::Rename);
         OpenFlags {
             reads,
             writes: !reads,
@@ -87,7 +96,7 @@ pub fn measure_deeds<C: Clock>(
     Ok((nanos, done))
 }
 
-// The layers. For each copy there is a file, or a name of one file.
+// The layers. For each copy there is a file, or a name of one file, and for each rename of a directory there is one.
 fn layers_for(
     alloc: Global,
     deed: Deed,
@@ -97,17 +106,21 @@ fn layers_for(
     match deed {
         Deed::Copy(size) => copied(alloc, lowers, count, size),
         Deed::CopyAgain(size) => copied_again(alloc, lowers, count, size),
-        Deed::Read | Deed::Create | Deed::SetAttribute | Deed::Write => served(alloc, lowers),
+        Deed::RenameDirectory => wide(alloc, lowers, count),
+        Deed::Read | Deed::Create | Deed::Link | Deed::Rename | Deed::SetAttribute | Deed::Write =>
+            served(alloc, lowers),
     }
 }
 
-// The calls that come first and aren't measured: they bring into the upper what is written, and leave it open, or what gets the attribute.
+// The calls that come first and aren't measured: they bring into the upper what is written, and leave it open, or what gets an attribute or
+// another name.
 fn before(alloc: Global, deed: Deed) -> Result<Vec<Call>, AllocError> {
     let mut calls = Vec::new(alloc);
     match deed {
         Deed::Write => calls.push(opening(alloc, deed, 0)?)?,
+        Deed::Link | Deed::Rename => opened_in(alloc, &mut calls, deed, 0)?,
         Deed::SetAttribute => operation_in(alloc, &mut calls, deed, 0)?,
-        Deed::Read | Deed::Create | Deed::Copy(_) | Deed::CopyAgain(_) => {}
+        Deed::Read | Deed::Create | Deed::Copy(_) | Deed::CopyAgain(_) | Deed::RenameDirectory => {}
     }
     Ok(calls)
 }
@@ -128,24 +141,19 @@ fn operation_in(
     deed: Deed,
     number: u32,
 ) -> Result<(), AllocError> {
-    let descriptor = DESCRIPTOR;
     match deed {
-        Deed::Read => {
-            let count = BLOCK;
-            calls.push(opening(alloc, deed, number)?)?;
-            calls.push(Call::Read { descriptor, count })?;
-            calls.push(Call::Close { descriptor })?;
+        Deed::Read | Deed::Create | Deed::Copy(_) | Deed::CopyAgain(_) => {
+            opened_in(alloc, calls, deed, number)?;
         }
-        Deed::Create | Deed::CopyAgain(_) => {
-            calls.push(opening(alloc, deed, number)?)?;
-            calls.push(Call::Close { descriptor })?;
-            let path = path_for(alloc, deed, number)?;
+        Deed::Link => {
+            let old = path_for(alloc, deed, number)?;
+            let new = further_path(alloc, 0)?;
+            calls.push(Call::Hardlink { old, new })?;
+            let path = further_path(alloc, 0)?;
             calls.push(Call::Unlink { path })?;
         }
-        Deed::Copy(_) => {
-            calls.push(opening(alloc, deed, number)?)?;
-            calls.push(Call::Close { descriptor })?;
-        }
+        Deed::Rename => calls.push(renaming_back(alloc, deed, number)?)?,
+        Deed::RenameDirectory => calls.push(renaming(alloc, deed, number)?)?,
         Deed::SetAttribute => calls.push(setting(alloc, path_for(alloc, deed, number)?)?)?,
         Deed::Write => {
             calls.push(seeking())?;
@@ -155,16 +163,63 @@ fn operation_in(
     Ok(())
 }
 
+// The calls of an operation that opens a file and closes it: what is opened is read before, or removed after that.
+fn opened_in(
+    alloc: Global,
+    calls: &mut Vec<Call>,
+    deed: Deed,
+    number: u32,
+) -> Result<(), AllocError> {
+    let descriptor = DESCRIPTOR;
+    calls.push(opening(alloc, deed, number)?)?;
+    if matches!(deed, Deed::Read) {
+        let count = BLOCK;
+        calls.push(Call::Read { descriptor, count })?;
+    }
+    calls.push(Call::Close { descriptor })?;
+    if matches!(deed, Deed::Create | Deed::CopyAgain(_)) {
+        let path = path_for(alloc, deed, number)?;
+        calls.push(Call::Unlink { path })?;
+    }
+    Ok(())
+}
+
 // The file of an operation.
 fn path_for(alloc: Global, deed: Deed, number: u32) -> Result<Path, AllocError> {
     let (first, number) = match deed {
         Deed::Read => ("name-", number % FILES),
-        Deed::Create => ("made-", 0),
+        Deed::Create | Deed::Link | Deed::Rename => ("made-", 0),
+        Deed::RenameDirectory => ("wide-", number),
         Deed::Copy(_) | Deed::CopyAgain(_) => ("copy-", number),
         Deed::SetAttribute | Deed::Write => ("name-", 0),
     };
     let parent = nested(alloc, DIRECTORIES)?;
     path_to(alloc, parent.as_str(), first, number)
+}
+
+// Another path in the same directory, where nothing is.
+fn further_path(alloc: Global, number: u32) -> Result<Path, AllocError> {
+    let parent = nested(alloc, DIRECTORIES)?;
+    path_to(alloc, parent.as_str(), "more-", number)
+}
+
+// The call that renames a directory.
+fn renaming(alloc: Global, deed: Deed, number: u32) -> Result<Call, AllocError> {
+    let old = path_for(alloc, deed, number)?;
+    let new = further_path(alloc, number)?;
+    Ok(Call::Rename { old, new })
+}
+
+// The call that renames the file, and the one after it that renames it back.
+fn renaming_back(alloc: Global, deed: Deed, number: u32) -> Result<Call, AllocError> {
+    let path = path_for(alloc, deed, number)?;
+    let further = further_path(alloc, 0)?;
+    let (old, new) = if number & 1 == 0 {
+        (path, further)
+    } else {
+        (further, path)
+    };
+    Ok(Call::Rename { old, new })
 }
 
 // The call that opens the file.

@@ -17,8 +17,8 @@ use std::rt::{Clock, Env};
 use std::{env, io};
 
 const USAGE: &str = "usage: overlay_bench LOAD COUNT [LOWERS]
-calls of a client over LOWERS lower layers, 16 if not given: stat stat_many absent absent_new list list_10k symlink mkdir whiteout setattr
-several calls an operation, over as many: open_read (open, read, close) create (open, close, unlink) copy_64k copy_1m (open, close) copy_64k_again copy_1m_again (open, close, unlink) write_4k (seek, write)
+calls of a client over LOWERS lower layers, 16 if not given: stat stat_many absent absent_new list list_10k symlink mkdir whiteout rename rename_directory setattr
+several calls an operation, over as many: open_read (open, read, close) create (open, close, unlink) copy_64k copy_1m (open, close) copy_64k_again copy_1m_again (open, close, unlink) link (link, unlink) write_4k (seek, write)
 directories made in one, by names that collide under fixed keys and by others: collide others
 stat below redirects in 17 layers: chains chains_absent chains_past chains_past_named chains_single chains_longer";
 

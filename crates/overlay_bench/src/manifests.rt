@@ -15,6 +15,12 @@ impl ManifestText {
         }
     }
 
+    /// No layer yet, on a mount that makes redirects.
+    pub fn with_redirects(alloc: Global) -> Result<ManifestText, AllocError> {
+        let text = String::from_str(alloc, "redirect_dir = \"on\"\n")?;
+        Ok(ManifestText { text })
+    }
+
     /// The text so far.
     pub fn as_bytes(&self) -> &[u8] {
         self.text.as_bytes()

@@ -88,6 +88,24 @@ pub fn copied_again(
     Ok(manifest)
 }
 
+/// An empty upper over so many lower layers, which makes redirects: the lowest has so many directories, each of `OBJECTS` files, beside one
+/// another at depth 4.
+pub fn wide(alloc: Global, lowers: u32, directories: u32) -> Result<ManifestText, AllocError> {
+    let mut manifest = ManifestText::with_redirects(alloc)?;
+    manifest.layer()?;
+    for _ in 0..lowers {
+        manifest.layer()?;
+        nested_in(alloc, &mut manifest, DIRECTORIES)?;
+    }
+    let last = nested(alloc, DIRECTORIES)?;
+    for number in 0..directories {
+        let path = child(alloc, last.as_str(), "wide-", number)?;
+        manifest.directory(path.as_str())?;
+        files_in(alloc, &mut manifest, path.as_str(), OBJECTS)?;
+    }
+    Ok(manifest)
+}
+
 // The names of `MERGED` that one of so many lower layers has: every so many.
 fn share_in(
     alloc: Global,

@@ -18,15 +18,22 @@ const LINES: u32 = 40;
 
 const LINES_MORE: u32 = 20;
 
-/// Plays generated scripts over the manifest of a file, and tells how many get the same lines from the engine and from the reference.
+// What makes a manifest one whose mount makes redirects.
+const REDIRECTS: &[u8] = b"redirect_dir = \"on\"\n";
+
+/// Plays generated scripts over the manifest of a file, half of them on a mount that makes redirects, and tells how many get the same lines from
+/// the engine and from the reference.
 pub fn play_generated<R: Files + AllocGlobal + Print>(
     rt: &R,
     keys: RandomState,
     (file, layers): (&str, u32),
 ) -> io::Result<()> {
-    let manifest = fs::read(rt, file)?;
+    let follows = fs::read(rt, file)?;
+    let mut makes = Vec::from_slice(rt.alloc(), REDIRECTS)?;
+    makes.extend_from_slice(follows.as_slice())?;
     let mut count = 0u64;
     for seed in 0..SCRIPTS {
+        let manifest = if seed & 1 == 0 { &follows } else { &makes };
         let script = script_of(rt.alloc(), seed, layers)?;
         match script_difference(rt.alloc(), keys, manifest.as_slice(), script.as_bytes())? {
             None => count = count.saturating_add(1),

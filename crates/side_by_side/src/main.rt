@@ -29,12 +29,14 @@ use std::rt::Files;
 use std::{fs, io};
 
 /// The files of the rows, each on one subject.
-const FILES: [&str; 14] = [
+const FILES: [&str; 16] = [
     "look_up.rows",
     "redirects.rows",
     "listings.rows",
     "making_and_removing.rows",
     "links.rows",
+    "renames.rows",
+    "moved_directories.rows",
     "refusals.rows",
     "attributes.rows",
     "descriptors_and_clients.rows",
@@ -47,7 +49,11 @@ const FILES: [&str; 14] = [
 ];
 
 /// The manifests over which generated scripts are played, and how many layers each has.
-const MANIFESTS: [(&str, u32); 2] = [("two_layers.toml", 2), ("four_layers.toml", 4)];
+const MANIFESTS: [(&str, u32); 3] = [
+    ("two_layers.toml", 2),
+    ("three_layers.toml", 3),
+    ("four_layers.toml", 4),
+];
 
 fn main(rt: HostRuntime) -> io::Result<()> {
     let keys = RandomState::new(&rt)?;

@@ -7,7 +7,7 @@ use crate::plain_layer::PlainLayer;
 use crate::tree_lines::push_tree;
 use plain_reference::Reference;
 use std::alloc::{AllocError, Global};
-use toml::Table;
+use toml::{Table, Value};
 
 /// The reference, what its mount began with, and its history.
 #[derive(Drop)]
@@ -40,10 +40,15 @@ fn opened(alloc: Global, manifest: &Table) -> Result<Option<(Reference, usize)>,
     let Some(layers) = layers_of(alloc, manifest)? else {
         return Ok(None);
     };
-    match reference_of(alloc, layers.as_slice())? {
+    match reference_of(alloc, layers.as_slice(), makes_redirects(manifest))? {
         Some(reference) => Ok(Some((reference, layers.len()))),
         None => Ok(None),
     }
+}
+
+// Whether directories of lower layers may be renamed, which makes redirects.
+fn makes_redirects(manifest: &Table) -> bool {
+    manifest.get("redirect_dir").and_then(Value::as_str) == Some("on")
 }
 
 impl PlainMount {
@@ -88,7 +93,7 @@ impl PlainMount {
 /// The lines of the tree that layers show; none where the root of the upper has no mode.
 pub fn lines_of(alloc: Global, layers: &[PlainLayer<'_>]) -> Result<String, AllocError> {
     let mut lines = String::new(alloc);
-    if let Some(reference) = reference_of(alloc, layers)? {
+    if let Some(reference) = reference_of(alloc, layers, false)? {
         push_tree(alloc, &reference, &mut lines)?;
     }
     Ok(lines)

@@ -7,10 +7,12 @@ use ov_base::Path;
 use plain_reference::{Builder, Origin, Reference};
 use std::alloc::{AllocError, Global};
 
-/// The reference at the tree that layers show. None where there is no layer, or the root of the upper has no mode.
+/// The reference at the tree that layers show, which makes redirects or not. None where there is no layer, or the root of the upper has no
+/// mode.
 pub fn reference_of(
     alloc: Global,
     layers: &[PlainLayer<'_>],
+    redirects: bool,
 ) -> Result<Option<Reference>, AllocError> {
     let Some(upper) = layers.first() else {
         return Ok(None);
@@ -18,7 +20,7 @@ pub fn reference_of(
     let Some(root) = attributes_of(alloc, &upper.root())? else {
         return Ok(None);
     };
-    let mut builder = Builder::new(alloc, root, false)?;
+    let mut builder = Builder::new(alloc, root, redirects)?;
     let objects = shown_below(alloc, layers)?;
     for shown in objects.as_slice() {
         put(alloc, &mut builder, objects.as_slice(), shown)?;

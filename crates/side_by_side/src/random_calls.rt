@@ -25,6 +25,11 @@ const FILES: [&str; 11] = [
     "/a/a", "/a/b/a", "/a/b/b", "/a/b/c", "/a/b/c", "/a/a/a", "/a/a/b", "/b", "/c", "/c/b/c", "/d",
 ];
 
+// Where they begin with directories of one layer or of several, or where directories come to be.
+const DIRECTORIES: [&str; 12] = [
+    "/a", "/a", "/a/a", "/a/b", "/a/b", "/a/d", "/b", "/c", "/c/a", "/c/b", "/d", "/d/d",
+];
+
 // Where the mounts begin with nothing, so that directories come and go there.
 const PLACES: [&str; 5] = ["/d", "/d", "/a/d", "/a/b/d", "/d/d"];
 
@@ -103,11 +108,12 @@ pub fn push_call(
     script: &mut String,
 ) -> Result<(), AllocError> {
     script.push_str(dice.pick(clients))?;
-    match dice.roll(40) {
+    match dice.roll(48) {
         0..=15 => push_descriptor_call(dice, script)?,
         16..=21 => push_open(dice, script)?,
         22..=32 => push_path_call(dice, script)?,
         33..=36 => push_link(dice, script)?,
+        37..=44 => push_rename(dice, script)?,
         _ => push_attribute_call(dice, script)?,
     }
     script.push_str("\n")
@@ -145,9 +151,13 @@ fn push_descriptor_call(dice: &mut Dice, script: &mut String) -> Result<(), Allo
     }
 }
 
-// An open with any flags, and in some lines with a mode.
+// An open of a directory, or one with any flags, and in some lines with a mode.
 fn push_open(dice: &mut Dice, script: &mut String) -> Result<(), AllocError> {
     push_word(script, "open")?;
+    if dice.roll(8) == 0 {
+        push_word(script, "rd")?;
+        return push_one_of(dice, &DIRECTORIES, script);
+    }
     if dice.roll(4) == 0 {
         push_any_flags(dice, script)?;
     } else {
@@ -204,6 +214,27 @@ fn push_link(dice: &mut Dice, script: &mut String) -> Result<(), AllocError> {
         return push_path(dice, script);
     }
     push_one_of(dice, &FREE_NAMES, script)
+}
+
+// A rename of a file, of a directory or of what came to a name that was free. The new path is that of such a name, any other one, or the old
+// path itself or one below it.
+fn push_rename(dice: &mut Dice, script: &mut String) -> Result<(), AllocError> {
+    push_word(script, "rename")?;
+    let old = match dice.roll(4) {
+        0 => dice.pick(&FILES),
+        1 => dice.pick(&FREE_NAMES),
+        _ => dice.pick(&DIRECTORIES),
+    };
+    push_word(script, old)?;
+    match dice.roll(8) {
+        0 => {
+            push_word(script, old)?;
+            script.push_str(dice.pick(&["", "/a", "/b", "/d"]))
+        }
+        1 | 2 => push_path(dice, script),
+        3 => push_one_of(dice, &DIRECTORIES, script),
+        _ => push_one_of(dice, &FREE_NAMES, script),
+    }
 }
 
 // A call on one user attribute.
