@@ -20,7 +20,7 @@ use Rattle.mount_laws.proofs.Places.{bare-below}
 use Rattle.mount_laws.proofs.Renaming.{object-one}
 
 -- a path below another is told to be
-below-told : (p : Path) (k : Name) (r : Path) → is_below p (k ∷ r ++ p) ≡ true
+pub below-told : (p : Path) (k : Name) (r : Path) → is_below p (k ∷ r ++ p) ≡ true
 below-told p k [] = ap (λ b. b || is_below p p) ((paths_tell p p).1 refl)
 below-told p k (j ∷ r) = ap (λ b. same_path p (j ∷ r ++ p) || b) (below-told p j r) ∙ or-true (same_path p (j ∷ r ++ p))
 

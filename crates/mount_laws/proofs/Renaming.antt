@@ -93,7 +93,7 @@ over-base inodes (Some Whiteout) c s = refl
 over-base inodes (Some (Named k)) c s = refl
 over-base inodes (Some (Directory k a o r)) c s = refl
 
-base-shown : (U : Layer) (lowers : List Layer) (p : Path) → is_directory (shows 0 (U ∷ lowers) p) && base U lowers p ≡ base U lowers p
+pub base-shown : (U : Layer) (lowers : List Layer) (p : Path) → is_directory (shows 0 (U ∷ lowers) p) && base U lowers p ≡ base U lowers p
 base-shown U lowers [] = refl
 base-shown U lowers (n ∷ q) =
     ap (λ b. is_directory (shows 0 (U ∷ lowers) (n ∷ q)) && b) (base-through U lowers (n ∷ q))
@@ -199,7 +199,7 @@ module _ (U : Layer) (lowers : List Layer) (s : State) (m : IsMountOf U lowers s
         named : has_names (node_found s.tree to) ≡ names
         named = ap has_names (found-node new) ∙ h
 
-    told :
+    pub told :
         (names : Bool) → has_names (node_of s.tree (node_at s.tree new)) ≡ names →
         refusal s c (Rename old new) ≡ rename_fault U lowers redirects old new names
     told names h =

@@ -22,6 +22,7 @@ use Rattle.mount_laws.specs.StayOpen.{LosesLink, LivesThroughRemoval}
 use Rattle.mount_laws.proofs.OpenFiles.{one-number}
 use Rattle.mount_laws.proofs.StayOpen.{law_of_live_kept, law_of_live_through_made, law_of_live_through_link, law_of_live_through_file}
 use Rattle.mount_laws.proofs.LinkedOpen.{law_of_live_through_name}
+use Rattle.mount_laws.proofs.RenamedOpen.{law_of_live_through_rename}
 use Rattle.mount_laws.proofs.Outlive.{law_of_live_through_unlink, law_of_live_through_rmdir}
 use Rattle.copy_up.specs.Showing.{is_object, number_of, sight, KeepsPath, KeepsOthers, GainsParents}
 use Rattle.copy_up.proofs.Keeping.{lowers-same}
@@ -29,10 +30,11 @@ use Rattle.make_remove.specs.Making.{MakesDirectory, MkdirSteps, new_attributes,
 use Rattle.make_remove.specs.Leaves.{MakesLeaf, SymlinkSteps, CreateSteps}
 use Rattle.make_remove.specs.Removing.{TakesName, Unnames}
 use Rattle.rename_redirect.specs.Linking.{GainsBoth, GivesName, LinkSteps}
+use Rattle.rename_redirect.specs.Renaming.{MovesOver, RenameSteps}
 use Rattle.overlay_core.specs.Files.{is_leaf}
 use Rattle.overlay_core.specs.declared.clients.Clients.{Clients}
-use Rattle.overlay_core.specs.Living.{StaysLive, KeepsLive, KeepsHeld}
-pub use Rattle.overlay_core.proofs.Leaves.{mkdir-leaves, symlink-leaves, link-leaves, chmod-leaves, chown-leaves, set-leaves, delete-leaves, open-leaves, unlink-leaves, rmdir-leaves}
+use Rattle.overlay_core.specs.Living.{StaysLive, KeepsLive, KeepsHeld, KeepsHeldFrom}
+pub use Rattle.overlay_core.proofs.Leaves.{mkdir-leaves, symlink-leaves, link-leaves, chmod-leaves, chown-leaves, set-leaves, delete-leaves, open-leaves, unlink-leaves, rmdir-leaves, rename-leaves}
 
 -- a path of which no more changes than that it gains a directory as a parent names what it named
 kept-name : (old new : Layers) (p q : Path) → KeepsPath old new p q → (k : ℕ) → (held (layer_of new.upper) q ≡ Some (Named k)) ↔ (held (layer_of old.upper) q ≡ Some (Named k))

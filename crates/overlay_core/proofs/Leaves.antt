@@ -5,7 +5,8 @@ use Rattle.std.specs.FinMap as fin
 use Rattle.ov_base.specs.declared.bytes.Content.TheVariants.{File, SymbolicLink}
 use Rattle.ov_base.specs.declared.call.Call.TheVariants as call
 use Rattle.plain_model.specs.Tree.{IsKept, with_name}
-use Rattle.plain_model.specs.Changes.{lead_way, touched, one_fewer, one_more, with_attributes, with_mode, with_owner, set_value, drop_value, opened, is_named, is_held, settled, dropped}
+use Rattle.plain_model.specs.Machine.{look, same_found}
+use Rattle.plain_model.specs.Changes.{lead_way, touched, meta_touched, one_fewer, one_more, with_attributes, with_mode, with_owner, set_value, drop_value, opened, is_named, is_held, settled, dropped, renamed}
 use Rattle.plain_model.proofs.Keeping.{put-here, put-there}
 use Rattle.plain_model.proofs.Paths.{ids_tell}
 use Rattle.overlay_core.specs.Files.{is_leaf}

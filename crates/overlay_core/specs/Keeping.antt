@@ -24,6 +24,7 @@ KeepsLayers (call.Symlink target p) old new = Unit {0}
 KeepsLayers (call.Unlink p) old new = Unit {0}
 KeepsLayers (call.Rmdir p) old new = Unit {0}
 KeepsLayers (call.Hardlink p q) old new = Unit {0}
+KeepsLayers (call.Rename p q) old new = Unit {0}
 KeepsLayers (call.Open p f mode) old new = cond (f.writes || f.create) (Unit {0}) (new ≡ old)
 KeepsLayers (call.Write d bytes) old new = Unit {0}
 KeepsLayers (call.Truncate d size) old new = Unit {0}

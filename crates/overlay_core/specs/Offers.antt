@@ -3,7 +3,7 @@ use Rattle.std.specs.Prelude.{Bool, true, false}
 use Rattle.ov_base.specs.declared.call.Call.{Call}
 use Rattle.ov_base.specs.declared.call.Call.TheVariants as call
 
--- all calls but renames and those on watches
+-- all calls but those on watches
 abbrev pub is_offered : Call → Bool
 is_offered (call.Stat p) = true
 is_offered (call.Readlink p) = true
@@ -19,6 +19,7 @@ is_offered (call.Open p f mode) = true
 is_offered (call.Unlink p) = true
 is_offered (call.Rmdir p) = true
 is_offered (call.Hardlink old new) = true
+is_offered (call.Rename old new) = true
 is_offered (call.Read d n) = true
 is_offered (call.Write d bytes) = true
 is_offered (call.Seek d offset whence) = true

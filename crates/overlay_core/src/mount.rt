@@ -142,8 +142,8 @@ impl Mount {
         }
     }
 
-    /// Makes a call of a client that is attached. Offered are all calls but renames and those on watches, which are EOPNOTSUPP and change
-    /// nothing. Want of memory leaves all that is shown as it was.
+    /// Makes a call of a client that is attached. Offered are all calls but those on watches, which are EOPNOTSUPP and change nothing. Want
+    /// of memory leaves all that is shown as it was.
     pub(crate) fn perform(&mut self, client: u64, call: &Call) -> Result<Reply, AllocError>
         requires there { IsSome (get nat_cmp self.old.clients.attached client) }
         requires state { ∥ HasStateOf self.old ∥₁ }
@@ -171,6 +171,7 @@ impl Mount {
             Call::Unlink { path } => self.unlink(path),
             Call::Rmdir { path } => self.rmdir(path),
             Call::Hardlink { old, new } => self.link(old, new),
+            Call::Rename { old, new } => self.rename(old, new),
             Call::Open { path, flags, mode } => self.open(client, path, *flags, *mode),
             Call::Read { descriptor, count } => self.read(client, *descriptor, *count),
             Call::Write { descriptor, bytes } => self.write(client, *descriptor, bytes),

@@ -149,7 +149,7 @@ impl Core {
     }
 
     /// One step of a job that is open, of a client that is attached. Each call is finished in one step; want of memory gives it up and
-    /// leaves all that is shown as it was. Renames and watches aren't offered yet: EOPNOTSUPP.
+    /// leaves all that is shown as it was. Watches aren't offered yet: EOPNOTSUPP.
     pub fn advance(&mut self, job: &mut Job) -> Turn
         requires open { job.old.standing ≡ Standing.Open }
         requires attached { attaching.is_attached self.old.mount.clients job.old.client ≡ true }

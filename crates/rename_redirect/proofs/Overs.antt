@@ -45,6 +45,12 @@ pub follows-held : (L M : Layer) (p q : Path) (left : Option Object) → MovesPa
 follows-held L M p q left m x y (Goes r e f) = ap (held M) f ∙ m.inside r ∙ ap (held L) (sym e)
 follows-held L M p q left m x y (Stays out off e) = ap (held M) e ∙ m.elsewhere x out off
 
+-- but the place itself nothing follows to the new place
+follows-apart : (p q x y : Path) → Follows p q x y → x ≢ p → y ≢ q
+follows-apart p q x y (Goes [] e f) off g = off e
+follows-apart p q x y (Goes (k ∷ r) e f) off g = longer q k r (sym g ∙ f)
+follows-apart p q x y (Stays out off e) apart g = off [] (sym e ∙ g)
+
 -- whose name is the last one is told by the inode
 pub last-alike : (a b : Tree) (o : Option Object) → ((k : ℕ) → o ≡ Some (Named k) → inode_at b k ≡ inode_at a k) → last_named b o ≡ last_named a o
 last-alike a b None same = refl
@@ -222,6 +228,7 @@ module _ (old new : Layers) (w : Tree) (p q : Path) (r : Route) (released : Opti
     moves = name-moves old.upper w new.upper (lowers_of old) r.name.now p r.further.now q r.covered released ready together move.route.out move.route.within move.covered e key source move.apart keep;
     left = left-there old.upper w new.upper (lowers_of old) r.name.now p r.further.now q r.covered released ready together move.route.out move.route.within move.covered e;
     marks = λ h. absurd (false≢true (sym file ∙ h));
+    paths = λ x y f off. inl (follows-held (layer_of w) (layer_of new.upper) (r.name.now ∷ p) (r.further.now ∷ q) (left_object r.covered) e.path x y f ∙ ready.elsewhere x off);
     directories = directory-follows old.upper w new.upper (lowers_of old) r.name.now p r.further.now q r.covered released ready together move.route.out move.route.within move.covered e;
     links = name-links old.upper w new.upper (lowers_of old) r.name.now p r.further.now q r.covered released ready together move.route.out move.route.within move.covered e key source;
     seen = λ k is off. seen-kept old.upper w new.upper (lowers_of old) r.name.now p r.further.now q r.covered released ready together move.route.out move.route.within move.covered e k is;
@@ -249,6 +256,11 @@ module _ (old mid new : Layers) (w : Tree) (p q : Path) (r : Route) (released : 
     marks = λ h.
         let b = marks-moved old.upper w mid.upper (lowers_of old) r.name.now p r.further.now q r.covered released ready together move.route.out move.route.within move.covered e key a was had source new.upper marks.opaque marks.redirect m folder.unnamed folder.when_base folder.when_not in
         record { when_base = b.0; when_not = b.1 };
+    paths = λ x y f off.
+        inl
+        (m.elsewhere y (follows-apart (r.name.now ∷ p) (r.further.now ∷ q) x y f off)
+        ∙ follows-held (layer_of w) (layer_of mid.upper) (r.name.now ∷ p) (r.further.now ∷ q) (left_object r.covered) e.path x y f
+        ∙ ready.elsewhere x off);
     directories = marked-follows old.upper w mid.upper (lowers_of old) r.name.now p r.further.now q r.covered released ready together move.route.out move.route.within move.covered e key a was had source new.upper marks.opaque marks.redirect m folder.unnamed folder.when_base folder.when_not;
     links = directory-links old.upper w mid.upper (lowers_of old) r.name.now p r.further.now q r.covered released ready together move.route.out move.route.within move.covered e key a was had source new.upper marks.opaque marks.redirect m folder.unnamed folder.when_base folder.when_not;
     seen = λ k is off. ap (option_map (seen k)) (sets.others k (other k is off)) ∙ seen-kept old.upper w mid.upper (lowers_of old) r.name.now p r.further.now q r.covered released ready together move.route.out move.route.within move.covered e k is;

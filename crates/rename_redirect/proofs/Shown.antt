@@ -1,5 +1,5 @@
 -- What a path shows stays while parents are placed, and where a file or link of a lower layer is copied up.
-use Rattle.std.proofs.Common.{◌≡◌, ◌≢◌, ◌<◌, ℕ, true, List, [], ◌∷◌, ◌++◌, Option, None, Some, refl, sym, ap, ap₂, ◌∙◌, subst, inl, inr, is_some, Result, Ok, Err, IfOk, IfErr}
+use Rattle.std.proofs.Common.{◌≡◌, ◌≢◌, ◌<◌, ℕ, true, List, [], ◌∷◌, ◌++◌, Option, None, Some, refl, sym, ap, ap₂, ◌∙◌, inl, inr, is_some, Result, Ok, Err, IfOk, IfErr}
 use Rattle.std.specs.Option.{MatchOption}
 use Rattle.std.proofs.lemmas.Bool.{false≢true}
 use Rattle.ov_base.specs.declared.errno.Errno.{Errno}
@@ -16,7 +16,7 @@ use Rattle.rename_redirect.specs.Linking.{GainsBoth}
 use Rattle.merged_lookup.specs.declared.found.Parent.{Parent}
 use Rattle.merged_lookup.specs.declared.stack.Stack.{Stack}
 use Rattle.merged_lookup.specs.Merged.{layers_of, lowers_of, top_of, places_at, IsStackOf, or_else, fault, way_fault, parents_fault, IsParentOf}
-use Rattle.copy_up.specs.Showing.{is_object, ShowsSame, HasPlace, KeepsPath, GainsParents}
+use Rattle.copy_up.specs.Showing.{ShowsSame, KeepsPath, GainsParents}
 use Rattle.copy_up.proofs.Copying.{free-inode}
 use Rattle.copy_up.proofs.Frames.{lacking, through-same}
 use Rattle.copy_up.proofs.OtherAttributes.{upper-directory}
@@ -110,29 +110,6 @@ pub parent-there : (l : Layers) (p : Path) (r : Result (Option Parent) Errno) �
 parent-there l p (Ok (Some o)) found refused way some = (o, refl)
 parent-there l p (Ok None) found refused way some = absurd (some found)
 parent-there l p (Err e) found refused way some = let z : Some e ≡ None = sym refused ∙ way in absurd (cc)
-
--- what shows nothing isn't the root
-pub unshown-root : (l : Layers) (p : Path) → shows 0 (layers_of l) p ≡ None → p ≢ []
-unshown-root l p none e = let z : Some (Folder 0 0 (layer_of l.upper).root) ≡ None = sym (ap (shows 0 (layers_of l)) e) ∙ none in cc
-
--- the place of a name, told by its path
-pub place-at : (L : Layer) (dir : ℕ) (p : Path) (n : Name) (t : Path) (m : Name) (u : Path) → p ≡ n ∷ t → p ≡ m ∷ u → HasPlace L dir n t → HasPlace L dir m u
-place-at L dir p n t m u e f h =
-    let z : n ∷ t ≡ m ∷ u = sym e ∙ f in
-    let a : n ≡ m = cc in
-    let b : t ≡ u = cc in
-    subst (λ (x : Path). HasPlace L dir m x) b (subst (λ (x : Name). HasPlace L dir x t) a h)
-
--- where more parents are gained the place of what a lower layer has stays
-pub place-kept : (a b : Layers) (dir : ℕ) (n : Name) (p : Path) → ((x : Path) (o : Object) → held (layer_of a.upper) x ≡ Some o → held (layer_of b.upper) x ≡ Some o) → held (layer_of b.upper) (n ∷ p) ≡ None → HasPlace (layer_of a.upper) dir n p → HasPlace (layer_of b.upper) dir n p
-place-kept a b dir n p holds none h =
-    record {
-      attributes = h.attributes;
-      opaque = h.opaque;
-      redirect = h.redirect;
-      directory = holds p (Directory dir h.attributes h.opaque h.redirect) h.directory;
-      free = ap is_object none;
-    }
 
 -- a directory that the upper has is one of the same places where more parents are gained
 pub stack-kept : (a b : Layers) → ShowsSame a b → ((x : Path) (o : Object) → held (layer_of a.upper) x ≡ Some o → held (layer_of b.upper) x ≡ Some o) → (p : Path) (s : Stack) → (top_of s.places.items).layer ≡ 0 → IsStackOf a p s → IsStackOf b p s

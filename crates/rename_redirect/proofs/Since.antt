@@ -1,22 +1,22 @@
 -- What moved in an upper whose missing parents were placed moved in the upper before that.
-use Rattle.std.proofs.Common.{◌≡◌, ◌↔◌, ℕ, Bool, true, false, not, ◌&&◌, ◌||◌, [], ◌∷◌, Option, None, Some, is_some, refl, sym, ap, ap₂, ◌∙◌, subst, inl, inr, cond}
+use Rattle.std.proofs.Common.{◌≡◌, ◌↔◌, ℕ, Bool, true, false, not, ◌&&◌, ◌||◌, [], ◌∷◌, ◌++◌, ◌⊎◌, length, length-append, append_assoc, arith, Option, None, Some, is_some, refl, sym, ap, ap₂, ◌∙◌, subst, inl, inr, cond}
 use Rattle.std.proofs.lemmas.Bool.{false≢true}
 use Rattle.ov_base.specs.declared.redirect.Redirect.TheVariants.{Absolute}
 use Rattle.plain_model.specs.Layers.{Path, Object, Directory, Named, Whiteout, Inode, Layer, held, Shown, over, shows, through, base, reaches_directory, is_directory, same_path}
 use Rattle.plain_model.specs.Laws.{IsOutside, left_at}
 use Rattle.plain_model.specs.Tree.{merged, AreLinked}
-use Rattle.mount_laws.specs.Moving.{MovesTo, NamesNoInode}
+use Rattle.mount_laws.specs.Moving.{Follows, Goes, Stays as StaysPut, MovesTo, NamesNoInode}
 use Rattle.mount_laws.specs.Renaming.{is_one, same_inode}
 use Rattle.mount_laws.proofs.CopiedMoves.{law_of_same_move}
 use Rattle.mount_laws.proofs.RenamedOpen.{law_of_kept_move_link}
 use Rattle.layer_tree.specs.Tree.{layer_of, directory_number}
 use Rattle.layer_tree.specs.Nameless.{KeepsObjects}
 use Rattle.layer_tree.proofs.Changing.{same_presence}
-use Rattle.layer_tree.proofs.Nameless.{keeps_then}
+use Rattle.layer_tree.proofs.Nameless.{keeps_then, vacant_before}
 use Rattle.merged_lookup.specs.declared.layers.Layers.{Layers}
 use Rattle.merged_lookup.specs.Merged.{layers_of, lowers_of}
-use Rattle.copy_up.specs.Showing.{ShowsSame, Stays, GainsParents, KeepsPath, IsParent}
-use Rattle.copy_up.proofs.Frames.{through-same}
+use Rattle.copy_up.specs.Showing.{ShowsSame, Stays, GainsParents, PlacedParent, KeepsPath, IsParent}
+use Rattle.copy_up.proofs.Frames.{lacking, through-same}
 use Rattle.copy_up.proofs.Keeping.{lowers-same, linked-by}
 use Rattle.make_remove.specs.Making.{shown_under}
 use Rattle.make_remove.specs.Removing.{last_named}
@@ -25,7 +25,7 @@ use Rattle.make_remove.proofs.Unnaming.{own-parent}
 use Rattle.rename_redirect.specs.declared.renames.Renamed.{Renamed}
 use Rattle.rename_redirect.specs.declared.renames.Renamed.TheVariants as renamed
 use Rattle.rename_redirect.specs.Linking.{GainsBoth}
-use Rattle.rename_redirect.specs.Renaming.{HasMarks, MovesMarks, MovesOver, Replaces, Moves, DoesRename}
+use Rattle.rename_redirect.specs.Renaming.{HasMarks, KeepsMoved, MovesMarks, MovesOver, Replaces, Moves, DoesRename}
 use Rattle.rename_redirect.proofs.Overs.{last-alike}
 
 -- a path that is no parent of the other holds what it held
@@ -35,6 +35,50 @@ keeps-apart a b t x off g = by (g.paths x)
     by : KeepsPath a b t x → held (layer_of b.upper) x ≡ held (layer_of a.upper) x
     by (inl e) = e
     by (inr p) = absurd (off p.parent)
+
+-- a parent of either path stays where it is
+follows-parent : (p q x y : Path) → IsOutside p q → Follows p q x y → IsParent x p ⊎ IsParent x q → y ≡ x
+follows-parent p q x y out (StaysPut a b e) i = e
+follows-parent p q x y out (Goes r e f) (inl (n, s, i)) =
+    let a = ap length i in
+    let b = length-append s x in
+    let c = ap length e in
+    let d = length-append r p in
+    absurd (omega (arith, a, b, c, d))
+follows-parent p q x y out (Goes r e f) (inr (n, s, i)) = absurd (out (n ∷ (s ++ r)) (i ∙ ap (λ z. n ∷ z) (ap (λ z. s ++ z) e ∙ sym (append_assoc s r p))))
+
+-- what was held stays, so what is lacked after was lacked before
+lacked-before : (x : Option Object) (y : Option Object) → ((o : Object) → x ≡ Some o → y ≡ Some o) → y ≡ None → x ≡ None
+lacked-before None y keep none = refl
+lacked-before (Some o) y keep none = let z : Some o ≡ None = sym (keep o refl) ∙ none in absurd (cc)
+
+-- a parent that is gained after others were
+parent-since : (a b c : Layers) (t x : Path) → ShowsSame a b → KeepsObjects a.upper b.upper None → held (layer_of a.upper) x ≡ None → PlacedParent b c t x → PlacedParent a c t x
+parent-since a b c t x same kept none g = record {
+  parent = g.parent;
+  lacked = none;
+  layer = g.layer;
+  key = g.key;
+  attributes = g.attributes;
+  shown = lacking a x none ∙ sym (through-same a b x same) ∙ sym (lacking b x g.lacked) ∙ g.shown;
+  number = g.number;
+  vacant = vacant_before a.upper b.upper None kept g.number g.vacant;
+  gained = g.gained;
+}
+
+-- and one that stays where it is gained
+parent-then : (a b c : Layers) (t x y : Path) → y ≡ x → held (layer_of c.upper) y ≡ held (layer_of b.upper) x → PlacedParent a b t x → PlacedParent a c t x
+parent-then a b c t x y at e g = record {
+  parent = g.parent;
+  lacked = g.lacked;
+  layer = g.layer;
+  key = g.key;
+  attributes = g.attributes;
+  shown = g.shown;
+  number = g.number;
+  vacant = g.vacant;
+  gained = sym (ap (held (layer_of c.upper)) at) ∙ e ∙ g.gained;
+}
 
 -- whether something is shown, and whether that is a directory, is told without the inodes
 some-over : (f g : ℕ → Option Inode) (o : Option Object) (s : Option Shown) → is_some (over 0 f o s) ≡ is_some (over 0 g o s)
@@ -109,12 +153,27 @@ module _ (a b : Layers) (p q : Path) (same : ShowsSame a b) (stays : Stays a b) 
       when_not = λ h. subst (λ x. HasMarks (layer_of c.upper) q x None) (under-since q) (m.when_not (base-since ∙ h));
     }
 
+    held-before : (x : Path) → held B x ≡ None → held A x ≡ None
+    held-before x = lacked-before (held A x) (held B x) (stays.holds x)
+
+    paths-since : (x y : Path) → Follows p q x y → KeepsMoved b c p q x y → KeepsMoved a c p q x y
+    paths-since x y f (inr (inl g)) = inr (inl (parent-since a b c p x same objects (held-before x g.lacked) g))
+    paths-since x y f (inr (inr g)) = inr (inr (parent-since a b c q x same objects (held-before x g.lacked) g))
+    paths-since x y f (inl e) = by (gains.first.paths x) (gains.second.paths x)
+      where
+        by : KeepsPath a gains.mid p x → KeepsPath gains.mid b q x → KeepsMoved a c p q x y
+        by (inl h) (inl i) = inl (e ∙ i ∙ h)
+        by (inr g) (inl i) = inr (inl (parent-then a gains.mid c p x y (follows-parent p q x y out f (inl g.parent)) (e ∙ i) g))
+        by (inl h) (inr g) = inr (inr (parent-then a b c q x y (follows-parent p q x y out f (inr g.parent)) e (parent-since a gains.mid b q x gains.same_first gains.first.objects (sym h ∙ g.lacked) g)))
+        by (inr g) (inr h) = let z : Some (Directory g.number g.attributes false None) ≡ None = sym g.gained ∙ h.lacked in absurd (cc)
+
     over-since : MovesOver b c p q → MovesOver a c p q
     over-since o = record {
       lowers = o.lowers ∙ same.lowers;
       moves = λ h. moves-since (layer_of c.upper) (o.moves (stays.layers h));
       left = o.left ∙ left-since p;
       marks = λ h. marks-since (o.marks (still-folder ∙ h));
+      paths = λ x y f off. paths-since x y f (o.paths x y f off);
       directories = λ x y f k i h. o.directories x y f k i (h.0, h.1, stays.holds x (Directory k i h.0 h.1) h.2);
       links = λ h j is. law_of_kept_move_link A B (layer_of c.upper) p q j (λ x. stays.names x j) (stays.inodes j) (o.links (stays.layers h) j (ap is_some (stays.inodes j) ∙ is));
       seen = λ k is off. o.seen k (same_presence a.upper b.upper k (objects.seen k is) ∙ is) (λ h. off (sym (ap directory_number old-held) ∙ h)) ∙ objects.seen k is;

@@ -1,5 +1,5 @@
 -- What rename leaves of the layers (rename(2); overlayfs.rst, "redirect_dir", "whiteouts and opaque directories" and "Non-directories").
-use Rattle.std.specs.Prelude.{◌≡◌, ℕ, Bool, true, false, Option, None, Some, IsSome, is_some}
+use Rattle.std.specs.Prelude.{◌≡◌, ◌≢◌, ◌⊎◌, ℕ, Bool, true, false, Option, None, Some, IsSome, is_some}
 use Rattle.slab.specs.Slab.{get}
 use Rattle.ov_base.specs.declared.attributes.Attributes.{Attributes}
 use Rattle.ov_base.specs.declared.redirect.Redirect.{Redirect}
@@ -15,6 +15,7 @@ use Rattle.layer_tree.specs.Tree.{layer_of, seen_at, directory_number}
 use Rattle.layer_tree.specs.Nameless.{IsNameless}
 use Rattle.merged_lookup.specs.declared.layers.Layers.{Layers}
 use Rattle.merged_lookup.specs.Merged.{layers_of, lowers_of}
+use Rattle.copy_up.specs.Showing.{PlacedParent}
 use Rattle.make_remove.specs.Making.{shown_under}
 use Rattle.make_remove.specs.Removing.{last_named}
 use Rattle.rename_redirect.specs.declared.renames.Renamed.{Renamed}
@@ -31,20 +32,35 @@ HasMarks L x opaque r = (k : ℕ) × (a : Attributes) × (held L x ≡ Some (Dir
 -- A directory that moved from p to q: a base one is not opaque, and its redirect is the path by which the layers below have it; any other
 -- is opaque exactly where they show a directory at its new place, and has no redirect.
 pub record MovesMarks (old new : Layers) (p q : Path) : Type 0 where
-  pub when_base : base (layer_of old.upper) (lowers_of old) p ≡ true → HasMarks (layer_of new.upper) q false (Some (Absolute (below (layer_of old.upper) p)))
+  pub when_base :
+      base (layer_of old.upper) (lowers_of old) p ≡ true →
+      HasMarks (layer_of new.upper) q false (Some (Absolute (below (layer_of old.upper) p)))
   pub when_not : base (layer_of old.upper) (lowers_of old) p ≡ false → HasMarks (layer_of new.upper) q (shown_under old q) None
 
+-- the upper holds at y what it held at x, or x is a parent of p, or of q, that it gained
+abbrev pub KeepsMoved : Layers → Layers → Path → Path → Path → Path → Type 0
+KeepsMoved old new p q x y =
+    (held (layer_of new.upper) y ≡ held (layer_of old.upper) x) ⊎ (PlacedParent old new p x ⊎ PlacedParent old new q x)
+
 -- What p showed moved to q, and at p a whiteout is left exactly where the lower layers show something there. A directory that moved has
--- the marks that its new place asks for; those that the upper held keep number and attributes at the places that they follow. An inode of
--- the upper has the names that follow its names, and else what stood under the upper's keys stays, also what has no name.
+-- the marks that its new place asks for. What the upper holds at other paths stays at the paths that follow them, but for missing parents
+-- that it gained; its directories keep number and attributes, and its inodes have the names that follow their names. Else what stood under
+-- its keys stays, also what has no name.
 pub record MovesOver (old new : Layers) (p q : Path) : Type 0 where
   pub lowers : new.lowers ≡ old.lowers
   pub moves : AreLayers (layers_of old) → MovesTo (layer_of old.upper) (layer_of new.upper) (lowers_of old) p q
   pub left : held (layer_of new.upper) p ≡ left_at (layer_of old.upper) (lowers_of old) p
   pub marks : is_directory (shows 0 (layers_of old) p) ≡ true → MovesMarks old new p q
-  pub directories : (x y : Path) → Follows p q x y → (k : ℕ) (a : Attributes) → HoldsDirectory (layer_of old.upper) x k a → HoldsDirectory (layer_of new.upper) y k a
-  pub links : AreLayers (layers_of old) → (j : ℕ) → is_some ((layer_of old.upper).inodes j) ≡ true → MovesLink (layer_of old.upper) (layer_of new.upper) p q j
-  pub seen : (k : ℕ) → IsSome (get old.upper k) → (directory_number (held (layer_of old.upper) p) ≡ Some k → ⊥) → seen_at new.upper k ≡ seen_at old.upper k
+  pub paths : (x y : Path) → Follows p q x y → x ≢ p → KeepsMoved old new p q x y
+  pub directories :
+      (x y : Path) → Follows p q x y → (k : ℕ) (a : Attributes) →
+      HoldsDirectory (layer_of old.upper) x k a → HoldsDirectory (layer_of new.upper) y k a
+  pub links :
+      AreLayers (layers_of old) → (j : ℕ) → is_some ((layer_of old.upper).inodes j) ≡ true →
+      MovesLink (layer_of old.upper) (layer_of new.upper) p q j
+  pub seen :
+      (k : ℕ) → IsSome (get old.upper k) → (directory_number (held (layer_of old.upper) p) ≡ Some k → ⊥) →
+      seen_at new.upper k ≡ seen_at old.upper k
   pub nameless : (k : ℕ) → IsNameless old.upper k → IsNameless new.upper k
 
 -- What the upper held at q lost this name: where that was its last one, it stays without a name, and its key is handed back.
@@ -68,4 +84,5 @@ DoesRename old new p q (renamed.Inode released) = Moves old new p q false releas
 -- every state of the machine with this option whose mount has the old layers goes on to one with the new layers by rename
 abbrev pub RenameSteps : Layers → Layers → Bool → Path → Path → Type 0
 RenameSteps old new redirects p q =
-    (s : State) → IsMountOf (layer_of old.upper) (lowers_of old) s → s.options.redirects ≡ redirects → (c : ℕ) → Renames (layer_of new.upper) (lowers_of new) s c p q
+    (s : State) → IsMountOf (layer_of old.upper) (lowers_of old) s → s.options.redirects ≡ redirects → (c : ℕ) →
+    Renames (layer_of new.upper) (lowers_of new) s c p q

@@ -55,15 +55,17 @@ pub record MovesEntry (old new : Tree) (p q : Path) (left : Option layers.Object
   pub unnamed : (k : ℕ) → released ≡ Some k → IsNameless new k
 
 -- a new object stands at p first, under a vacant key, and is what moves to q
-pub record MovesNew (old new : Tree) (p q : Path) (o : Object) (left : Option layers.Object) (key : ℕ) (released : Option ℕ) : Type 0 where
-  pub mid : Tree
-  pub vacant : get old key ≡ None
-  pub sets : SetsPath (layer_of old) (layer_of mid) p (seen_object key o)
-  pub inode : inode_at mid key ≡ new_inode o
-  pub inodes : (k : ℕ) → k ≢ key → inode_at mid k ≡ inode_at old k
-  pub objects : KeepsObjects old mid (Some key)
-  pub layer : IsLayer (layer_of old) → IsLayer (layer_of mid)
-  pub moves : MovesEntry mid new p q left released
+pub record MovesNew
+    (old new : Tree) (p q : Path) (o : Object) (left : Option layers.Object) (key : ℕ) (released : Option ℕ) : Type 0
+  where
+    pub mid : Tree
+    pub vacant : get old key ≡ None
+    pub sets : SetsPath (layer_of old) (layer_of mid) p (seen_object key o)
+    pub inode : inode_at mid key ≡ new_inode o
+    pub inodes : (k : ℕ) → k ≢ key → inode_at mid k ≡ inode_at old k
+    pub objects : KeepsObjects old mid (Some key)
+    pub layer : IsLayer (layer_of old) → IsLayer (layer_of mid)
+    pub moves : MovesEntry mid new p q left released
 
 -- The route is that of a move in the mount, from what is shown at its first name to where no name is shown below its last: the names are
 -- not of one inode, and the first is covered exactly where the lower layers show something there.
@@ -80,5 +82,9 @@ pub record IsFolderMove (l : Layers) (p q : Path) (r : Route) (top : Place) (mar
   pub shown : shows 0 (layers_of l) (r.name.now ∷ p) ≡ Some (Folder top.layer top.key attributes)
   pub own : top.layer ≡ 0 → IsUnder (layer_of l.upper) (r.name.now ∷ p) top.key
   pub unnamed : NamesNoInode (layer_of l.upper) (r.further.now ∷ q)
-  pub when_base : base (layer_of l.upper) (lowers_of l) (r.name.now ∷ p) ≡ true → (marks.opaque ≡ false) × (marks.redirect ≡ Some (Absolute (below (layer_of l.upper) (r.name.now ∷ p))))
-  pub when_not : base (layer_of l.upper) (lowers_of l) (r.name.now ∷ p) ≡ false → (marks.redirect ≡ None) × (marks.opaque ≡ is_directory (under (layer_of l.upper) (lowers_of l) r.further.now q))
+  pub when_base :
+      base (layer_of l.upper) (lowers_of l) (r.name.now ∷ p) ≡ true →
+      (marks.opaque ≡ false) × (marks.redirect ≡ Some (Absolute (below (layer_of l.upper) (r.name.now ∷ p))))
+  pub when_not :
+      base (layer_of l.upper) (lowers_of l) (r.name.now ∷ p) ≡ false →
+      (marks.redirect ≡ None) × (marks.opaque ≡ is_directory (under (layer_of l.upper) (lowers_of l) r.further.now q))

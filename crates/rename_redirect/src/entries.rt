@@ -14,9 +14,9 @@ use merged_lookup::Layers;
 use ov_base::Name;
 use std::alloc::AllocError;
 
-/// From a name of a directory of the upper to one of another directory, or of the same. The first is covered by a whiteout then, or left.
+// From a name of a directory of the upper to one of another directory, or of the same. The first is covered by a whiteout then, or left.
 #[derive(Clone, Copy)]
-pub struct Route<'a> {
+pub(crate) struct Route<'a> {
     pub from: usize,
     pub name: &'a Name,
     pub to: usize,

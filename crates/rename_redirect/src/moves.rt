@@ -55,7 +55,7 @@ pub(crate) fn move_object(
 }
 
 // The merged directories in which the last names of two paths stand; those that the upper lacks are placed.
-fn place_ways(
+pub(crate) fn place_ways(
     layers: &mut Layers,
     old: &Path,
     new: &Path,

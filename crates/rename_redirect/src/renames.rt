@@ -24,8 +24,8 @@ use merged_lookup::{Found, Layers, Stack};
 use ov_base::{Errno, Path};
 use std::alloc::{AllocError, Global};
 
-/// What a rename did: nothing, where both paths are one object, or it moved a directory, or a file or symbolic link. With it, the key of the
-/// upper's object that lost its last name by it, which stays until it is freed.
+/// What a rename did: nothing, where both paths are one object, or it moved a directory, or a file or symbolic link. With it, the key of
+/// the upper's object that lost its last name by it, which stays until it is freed.
 #[derive(Clone, Copy)]
 pub enum Renamed {
     Unchanged,
@@ -33,12 +33,12 @@ pub enum Renamed {
     Inode(Option<usize>),
 }
 
-/// Moves what a path shows to another path, as rename(2), over a file, a symbolic link or a directory that shows no name. A file of a lower
-/// layer is copied up first, and so is a directory that only lower layers have, without what is in it; one that they have moves with a
-/// redirect (overlayfs.rst, "redirect_dir"). The root is EBUSY; the walk of the old path is refused first, then the way to the new one. Where
-/// both are one object nothing is done; else a directory is not moved below itself (EINVAL), nor over what is no directory (ENOTDIR), nor
-/// anything else over a directory (EISDIR), nor one that lower layers have if redirects aren't made (EXDEV), nor any over one that shows a
-/// name (ENOTEMPTY). A refusal changes nothing, and want of memory changes nothing that is shown.
+/// Moves what a path shows to another path, as rename(2), over a file, a symbolic link or a directory that shows no name. A file of a
+/// lower layer is copied up first, and so is a directory that only lower layers have, without what is in it; one that they have moves with
+/// a redirect (overlayfs.rst, "redirect_dir"). The root is EBUSY; the walk of the old path is refused first, then the way to the new one.
+/// Where both are one object nothing is done; else a directory is not moved below itself (EINVAL), nor over what is no directory (ENOTDIR),
+/// nor anything else over a directory (EISDIR), nor one that lower layers have if redirects aren't made (EXDEV), nor any over one that
+/// shows a name (ENOTEMPTY). A refusal changes nothing, and want of memory changes nothing that is shown.
 pub fn rename(
     alloc: Global,
     layers: &mut Layers,

@@ -16,6 +16,7 @@ mod look_ups;
 mod making;
 #[cfg(test)]
 mod manifests;
+#[cfg(test)]
 mod moves;
 #[cfg(test)]
 mod schedules;
