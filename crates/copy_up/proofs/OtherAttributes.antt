@@ -1,8 +1,8 @@
 -- Other attributes of what the upper has, or gets first from the lower layers.
-use Rattle.std.proofs.Common.{◌≡◌, ◌≤◌, ◌<◌, ℕ, suc, Bool, true, false, List, [], ◌∷◌, Option, None, Some, Result, Ok, Err, OnOk, OnErr, refl, sym, ap, ◌∙◌, subst, is_some, IsSome, length, map, drop, reverse, arith}
+use Rattle.std.proofs.Common.{◌≡◌, ◌≤◌, ◌<◌, ℕ, suc, Bool, true, false, List, [], ◌∷◌, Option, None, Some, Result, Ok, Err, OnOk, OnErr, refl, sym, ap, ◌∙◌, subst, is_some, IsSome, length, reverse, arith}
 use Rattle.std.proofs.lemmas.List.{reverse-reverse}
 use Rattle.std.specs.Option.{option_and_then, option_map_or}
-use Rattle.std.specs.Prelude.{slice_get, option_map}
+use Rattle.std.specs.Prelude.{option_map}
 use Rattle.std.specs.declared.alloc.AllocError.{AllocError}
 use Rattle.slab.specs.Slab.{get}
 use Rattle.ov_base.specs.declared.attributes.Attributes.{Attributes}
@@ -15,7 +15,7 @@ use Rattle.mount_laws.specs.Altered.{Alters}
 use Rattle.mount_laws.proofs.Changed.{law_of_altered_inode, law_of_altered_directory}
 use Rattle.mount_laws.specs.Attributes.{shown_attributes}
 use Rattle.layer_tree.specs.AttributeChange.{attributes_of, attributes_at, SetsInode, SetsDirectory}
-use Rattle.layer_tree.specs.Tree.{Tree, IsTree, IsHeldTogether, IsDirectory, layer_of, inode_of, inode_at, key_at}
+use Rattle.layer_tree.specs.Tree.{Tree, IsTree, IsDirectory, layer_of, inode_of, key_at}
 use Rattle.layer_tree.specs.declared.node.Node.{Node}
 use Rattle.merged_lookup.specs.declared.found.Found.{Found}
 use Rattle.merged_lookup.specs.declared.found.Found.TheVariants as found
@@ -23,9 +23,10 @@ use Rattle.merged_lookup.specs.declared.layers.Layers.{Layers}
 use Rattle.merged_lookup.specs.declared.stack.Place.{Place}
 use Rattle.merged_lookup.specs.declared.stack.Stack.{Stack}
 use Rattle.merged_lookup.specs.Locating.{place_of}
-use Rattle.merged_lookup.specs.Merged.{trees, layers_of, lowers_of, places_at, unless_cut, top_of, IsFound, IsStackOf, ShowsInode}
-use Rattle.merged_lookup.proofs.Descending.{drop-get, key-of}
+use Rattle.merged_lookup.specs.Merged.{layers_of, lowers_of, places_at, unless_cut, top_of, IsFound, IsStackOf, ShowsInode}
+use Rattle.merged_lookup.proofs.Descending.{key-of}
 use Rattle.merged_lookup.proofs.Folders.{IsDirectoryWith, held-node}
+use Rattle.merged_lookup.proofs.Inodes.{IsNamed}
 use Rattle.merged_lookup.proofs.Looking.{head-places, head-unless}
 use Rattle.copy_up.specs.Showing.{ShowsSame, StaysLayers, StaysThin}
 use Rattle.copy_up.specs.Altering.{ShowsAttributes}
@@ -155,11 +156,6 @@ pub shown-from : (i : ℕ) (Ls : List Layer) (p : Path) (d : Place) → place_of
 shown-from i [] p d h = cc
 shown-from i (L ∷ Ls) p d h = over-from i L.inodes (held L p) (cuts L p) (shows (suc i) Ls (below L p)) d (shown-from (suc i) Ls (below L p) d) h
 
--- the layer names this inode at the path
-pub record IsNamed (U : Layer) (p : Path) (k : ℕ) (x : Option Inode) : Type 0 where
-  pub named : held U p ≡ Some (Named k)
-  pub inode : U.inodes k ≡ x
-
 over-named : (U : Layer) (lowers : List Layer) (p q : Path) (o : Option Object) (c : Bool) (k : ℕ) (x : Option Inode) → held U p ≡ o → over 0 U.inodes o (unless c (shows 1 lowers q)) ≡ Some (Contents 0 k x) → IsNamed U p k x
 over-named U lowers p q None true k x e h = cc
 over-named U lowers p q None false k x e h = absurd (omega (arith, shown-from 1 lowers q (record { layer = 0; key = k }) (ap place_of h)))
@@ -179,59 +175,6 @@ upper-named l p d x first h =
 pub inode-there : (x : Option Node) (i : Inode) → option_and_then inode_of x ≡ Some i → IsSome x
 inode-there None i h = cc
 inode-there (Some n) i h = refl
-
--- the layer of this number names the inode
-record NamesInode (ts : List Tree) (j k : ℕ) (x : Option Inode) : Type 0 where
-  pub tree : Tree
-  pub is : slice_get ts j ≡ Some tree
-  pub path : Path
-  pub there : IsNamed (layer_of tree) path k x
-
-over-names : (i : ℕ) (ts : List Tree) (t : Tree) (p : Path) (j k : ℕ) (x : Option Inode) (o : Option Object) (c : Bool) (y : Option Shown) → slice_get ts i ≡ Some t → held (layer_of t) p ≡ o → (y ≡ Some (Contents j k x) → NamesInode ts j k x) → over i (inode_at t) o (unless c y) ≡ Some (Contents j k x) → NamesInode ts j k x
-over-names i ts t p j k x None true y at is rest h = cc
-over-names i ts t p j k x None false y at is rest h = rest h
-over-names i ts t p j k x (Some Whiteout) c y at is rest h = cc
-over-names i ts t p j k x (Some (Directory m b u r)) c y at is rest h = cc
-over-names i ts t p j k x (Some (Named m)) c y at is rest h =
-    let ij : i ≡ j = cc in
-    let mk : m ≡ k = cc in
-    let ix : inode_at t m ≡ x = cc in
-    record { tree = t; is = sym (ap (slice_get ts) ij) ∙ at; path = p; there = record { named = is ∙ ap (λ z. Some (Named z)) mk; inode = sym (ap (inode_at t) mk) ∙ ix } }
-
--- the layer of an inode that is shown names it
-names-inode : (i : ℕ) (ts us : List Tree) → drop i ts ≡ us → (p : Path) (j k : ℕ) (x : Option Inode) → shows i (map layer_of us) p ≡ Some (Contents j k x) → NamesInode ts j k x
-names-inode i ts [] e p j k x h = cc
-names-inode i ts (t ∷ us) e p j k x h =
-    let d : (slice_get ts i ≡ Some t) × (drop (suc i) ts ≡ us) = drop-get ts i t us e in
-    over-names i ts t p j k x (held (layer_of t) p) (cuts (layer_of t) p) (shows (suc i) (map layer_of us) (below (layer_of t) p)) d.0 refl (names-inode (suc i) ts us d.1 (below (layer_of t) p) j k x) h
-
-is-there : (x : Option Inode) → is_some x ≡ true → (i : Inode) × (x ≡ Some i)
-is-there None h = cc
-is-there (Some i) h = (i, refl)
-
--- an inode that a layer names is there
-named-there : (L : Layer) (p : Path) (k : ℕ) (x : Option Inode) → IsHeldTogether L → IsNamed L p k x → (i : Inode) × (x ≡ Some i)
-named-there L p k x together n = is-there x (subst (λ (o : Option Inode). is_some o ≡ true) n.inode (together.present p k n.named))
-
--- the layer of an inode that is shown is there
-pub layer-there : (l : Layers) (p : Path) (d : Place) → ShowsInode l p d → (t : Tree) × (slice_get (trees l) d.layer ≡ Some t)
-layer-there l p d s = let f : NamesInode (trees l) d.layer d.key s.inode = names-inode 0 (trees l) (trees l) refl p d.layer d.key s.inode s.shown in (f.tree, f.is)
-
--- what it names there is an inode
-names-there : (ts : List Tree) (j k : ℕ) (x : Option Inode) (t : Tree) → NamesInode ts j k x → slice_get ts j ≡ Some t → IsHeldTogether (layer_of t) → (i : Inode) × (x ≡ Some i)
-names-there ts j k x t f at together =
-    let two : Some f.tree ≡ Some t = sym f.is ∙ at in
-    let same : f.tree ≡ t = cc in
-    named-there (layer_of t) f.path k x together (subst (λ (z : Tree). IsNamed (layer_of z) f.path k x) same f.there)
-
-shown-there : (y : Option Shown) (j k : ℕ) (x : Option Inode) → y ≡ Some (Contents j k x) → (i : Inode) × (x ≡ Some i) → (i : Inode) × (y ≡ Some (Contents j k (Some i)))
-shown-there y j k x h there = (there.0, h ∙ ap (λ z. Some (Contents j k z)) there.1)
-
--- and the inode stands in it
-pub inode-stands-in : (l : Layers) (p : Path) (d : Place) (t : Tree) → slice_get (trees l) d.layer ≡ Some t → IsHeldTogether (layer_of t) → ShowsInode l p d → (i : Inode) × (shows 0 (layers_of l) p ≡ Some (Contents d.layer d.key (Some i)))
-inode-stands-in l p d t at together s =
-    shown-there (shows 0 (layers_of l) p) d.layer d.key s.inode s.shown
-    (names-there (trees l) d.layer d.key s.inode t (names-inode 0 (trees l) (trees l) refl p d.layer d.key s.inode s.shown) at together)
 
 -- what is found, where it is an inode
 pub found-inode : (l : Layers) (p : Path) (f : Found) (d : Place) → f ≡ found.Inode d → IsFound l p f → ShowsInode l p d

@@ -27,7 +27,8 @@ use Rattle.copy_up.specs.Showing.{StaysThin}
 use Rattle.copy_up.proofs.AlteredObjects.{object-inode, object-directory}
 use Rattle.copy_up.proofs.Frames.{gains-self}
 use Rattle.copy_up.proofs.Nodes.{table-some}
-use Rattle.copy_up.proofs.OtherAttributes.{StandsAt, IsNamed, under-key, shown-from, upper-named, inode-there, inode-stands-in, shown-folder, shown-inode, thin-directory, thin-inode, alters-directory, alters-inode}
+use Rattle.merged_lookup.proofs.Inodes.{IsNamed, inode-stands-in}
+use Rattle.copy_up.proofs.OtherAttributes.{StandsAt, under-key, shown-from, upper-named, inode-there, shown-folder, shown-inode, thin-directory, thin-inode, alters-directory, alters-inode}
 
 -- the upper's directory at this place is shown at the path, and stands there
 pub record IsOwnDirectory (l : Layers) (p : Path) (d : Place) : Type 0 where

@@ -7,7 +7,7 @@ ghost use Rattle.plain_model.specs.Layers.{Path as Names, Inode, Folder, Content
 ghost use Rattle.mount_laws.specs.Altered.{Alters};
 ghost use Rattle.layer_tree.specs.AttributeChange.{attributes_at, SetsAttributes, SetsInode, SetsDirectory};
 ghost use Rattle.layer_tree.specs.Nameless.{IsNameless};
-ghost use Rattle.layer_tree.specs.Tree.{layer_of, key_at, inode_at, IsDirectory, IsHeldTogether, IsTree};
+ghost use Rattle.layer_tree.specs.Tree.{layer_of, key_at, inode_at, IsDirectory};
 ghost use Rattle.merged_lookup.specs.declared.found.Topmost.{Topmost as MountTopmost};
 ghost use Rattle.merged_lookup.specs.Descent.{place_shown};
 ghost use Rattle.merged_lookup.specs.Merged.{layers_of, lowers_of, parent, parents_fault, walk_fault, way_fault, IsStackOf, IsTopmost, ShowsDirectory, ShowsInode};
@@ -16,7 +16,6 @@ ghost use Rattle.copy_up.specs.Altering.{AltersObject, AltersAs, AltersObjectAs}
 
 use crate::leaves::all_at_once;
 use crate::parents::place_parents;
-use layer_tree::Node;
 use merged_lookup::{Found, Layers, Place, Stack, Topmost};
 use ov_base::{AttributeChange, Attributes, Path};
 use std::alloc::AllocError;
@@ -44,7 +43,7 @@ pub fn alter(
 {
     let place = top.place();
     if place.layer == 0 {
-        lawful(layers);
+        layers.lawful();
         return alter_upper(layers, place.key, change);
     }
     alter_lower(layers, path, change)
@@ -131,17 +130,9 @@ fn place_with(
 {
     let placed = place_parents(layers, directory, path.names())?;
     let dir = placed.top();
-    lawful(layers);
+    layers.lawful();
     set_attributes(layers, dir.key, attributes);
     Ok(())
-}
-
-// What the upper keeps; it does nothing.
-fn lawful(layers: &Layers)
-    ensures tree { IsTree layers.now.upper }
-    ensures together { IsHeldTogether (layer_of layers.now.upper) }
-{
-    layers.upper().lawful();
 }
 
 // `alter` of a file or symbolic link of a lower layer, which is copied up.
@@ -166,7 +157,6 @@ fn copy_changed(
     ensures keeps { StaysLayers layers.old layers.new }
     ensures thin { StaysThin layers.old layers.new }
 {
-    stands(layers, place);
     let attributes = changed_inode(layers, place, change)?;
     let Some((name, parents)) = path.split_last() else {
         unreachable!()
@@ -181,26 +171,12 @@ fn changed_inode(
     place: Place,
     change: AttributeChange,
 ) -> Result<Attributes, AllocError>
-    requires { (p : Names) × (i : Inode) × (shows 0 (layers_of layers.now) p ≡ Some (Contents place.layer place.key (Some i))) }
-    ensures { IfOk result (λ x. (p : Names) (i : Inode) → shows 0 (layers_of layers.now) p ≡ Some (Contents place.layer place.key (Some i)) → x ≡ changed change i.attributes) }
+    requires { (p : Names) × ShowsInode layers.now p place }
+    ensures { IfOk result (λ x. (p : Names) → ShowsInode layers.now p place → (i : Inode) × (shows 0 (layers_of layers.now) p ≡ Some (Contents place.layer place.key (Some i))) × (x ≡ changed change i.attributes)) }
 {
-    let mut attributes = match layers.node(place) {
-        Some(Node::Inode(inode)) => inode.attributes.clone()?,
-        _ => unreachable!(),
-    };
+    let mut attributes = layers.inode_at(place).attributes.clone()?;
     change.apply(&mut attributes)?;
     Ok(attributes)
-}
-
-// The inode that is shown at a place stands there; it does nothing.
-fn stands(layers: &Layers, place: Place)
-    requires { (p : Names) × ShowsInode layers.now p place }
-    ensures { (p : Names) → ShowsInode layers.now p place → (i : Inode) × (shows 0 (layers_of layers.now) p ≡ Some (Contents place.layer place.key (Some i))) }
-{
-    let Some(layer) = layers.layer(place.layer) else {
-        unreachable!()
-    };
-    layer.lawful();
 }
 
 // Changes the attributes of what stands under a key of the upper, where they stand; the lower layers stay.

@@ -10,7 +10,7 @@ ghost use Rattle.copy_up.specs.Showing.{ShowsSame, HasPlace, GainsParents, Stays
 ghost use Rattle.copy_up.specs.Leaves.{CopiesLeaf};
 
 use crate::parents::place_parents;
-use layer_tree::{Layer, Node, Object};
+use layer_tree::{Layer, Object};
 use merged_lookup::{Layers, Place, Stack};
 use ov_base::{Attributes, Content, Name};
 use std::alloc::AllocError;
@@ -37,22 +37,11 @@ pub fn all_at_once(
     ensures keeps { StaysLayers layers.old layers.new }
     ensures thin { StaysThin layers.old layers.new }
 {
-    let content = content_at(layers, place)?;
+    let content = layers.inode_at(place).content.clone()?;
     let parent = place_parents(layers, directory, parents)?;
     let dir = parent.top();
     let key = insert_leaf(layers, dir.key, name, content, attributes)?;
     Ok(key)
-}
-
-// A copy of what the file or symbolic link that is shown at a place holds.
-fn content_at(layers: &Layers, place: Place) -> Result<Content, AllocError>
-    requires { (p : Names) × (i : Inode) × (shows 0 (layers_of layers.now) p ≡ Some (Contents place.layer place.key (Some i))) }
-    ensures { IfOk result (λ c. (p : Names) (i : Inode) → shows 0 (layers_of layers.now) p ≡ Some (Contents place.layer place.key (Some i)) → c ≡ i.content) }
-{
-    match layers.node(place) {
-        Some(Node::Inode(inode)) => inode.content.clone(),
-        _ => unreachable!(),
-    }
 }
 
 /// Puts a new file or symbolic link at a name of a directory of the upper at which no object stands, and gives its key. It fails only for

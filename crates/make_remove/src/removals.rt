@@ -9,7 +9,7 @@ ghost use Rattle.plain_model.specs.Refusals.{refusal};
 ghost use Rattle.mount_laws.specs.Looks.{IsMountOf};
 ghost use Rattle.layer_tree.specs.Nameless.{IsNameless, KeepsObjects};
 ghost use Rattle.layer_tree.specs.Table.{object_key};
-ghost use Rattle.layer_tree.specs.Tree.{layer_of, inode_at, with_less, entry, child, key_at, IsDirectory, HoldsNoObjects, ReplacesPath, Unbinds, SameTree, SameObjects, IsTree};
+ghost use Rattle.layer_tree.specs.Tree.{layer_of, inode_at, with_less, entry, child, key_at, IsDirectory, HoldsNoObjects, ReplacesPath, Unbinds, SameTree, SameObjects};
 ghost use Rattle.layer_tree.specs.declared.name_table.Entry.TheVariants as bound;
 ghost use Rattle.merged_lookup.specs.Merged.{layers_of, lowers_of, way_fault, IsStackOf};
 ghost use Rattle.copy_up.specs.Showing.{ShowsSame, GainsParents, Stays, StaysLayers, StaysMount, StaysThin};
@@ -112,16 +112,9 @@ fn take_away(
     let parent = place_parents(layers, directory, parents)?;
     let covered = layers.lowers_show(&parent, name);
     let dir = parent.top();
-    lawful(layers);
+    layers.lawful();
     let key = remove_name(layers, dir.key, name, covered)?;
     Ok(key)
-}
-
-// What the upper keeps; it does nothing.
-fn lawful(layers: &Layers)
-    ensures { IsTree layers.now.upper }
-{
-    layers.upper().lawful();
 }
 
 // Takes a name out of a directory of the upper, or covers it by a whiteout, and gives the key of what lost its last name.

@@ -1,5 +1,6 @@
 pub mod Descending
 pub mod Folders
+pub mod Inodes
 pub mod Looking
 pub mod Passing
 pub mod Rows
@@ -8,3 +9,4 @@ pub mod Ways
 pub mod Locating
 pub mod Searching
 pub mod Respelling
+pub mod Trails

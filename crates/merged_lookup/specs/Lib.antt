@@ -7,3 +7,4 @@ pub mod Changing
 pub mod Locating
 pub mod Searching
 pub mod Respelling
+pub mod Trails

@@ -4,12 +4,14 @@ ghost use Rattle.arrayvec.specs.ArrayVec.{array_vec_len};
 ghost use Rattle.merged_lookup.specs.Merged.{trees};
 ghost use Rattle.merged_lookup.specs.Descent as down;
 ghost use Rattle.merged_lookup.specs.Descent.{places_from, place_shown, leads};
+ghost use Rattle.merged_lookup.specs.Trails.{LeadsOn};
 
 use crate::crossing::walk_below;
 use crate::found::Topmost;
 use crate::layers::Layers;
 use crate::onward::{Onward, onward_in};
 use crate::stack::{Place, Places};
+use crate::trail::{Trail, further};
 use layer_tree::ROOT;
 use ov_base::Name;
 
@@ -34,13 +36,16 @@ pub(crate) fn copied(places: &Places) -> Places
 }
 
 // One name on, in place: these places become those of the directories that the name leads to. Where it leads to none it gives the file or
-// symbolic link that the name shows, if any. Where an absolute redirect led to some, for which the layers below were crossed, `crossed` is set.
-pub(crate) fn enter(
-    layers: &Layers,
+// symbolic link that the name shows, if any. An absolute redirect of the upper to one name more than the trail goes on by that name; where
+// another one led to some, for which the layers below were crossed, `crossed` is set.
+pub(crate) fn enter<'a>(
+    layers: &'a Layers,
     places: &mut Places,
-    name: &Name,
+    name: &'a Name,
+    trail: Option<Trail<'a>>,
     crossed: &mut bool,
 ) -> Option<Place>
+    requires { LeadsOn (trees layers.now) places.old.items trail }
     ensures reached { length (down.descend (trees layers.now) places.old.items name.now) ≤ 17 → places.new.items ≡ down.descend (trees layers.now) places.old.items name.now }
     ensures inode { length (down.descend (trees layers.now) places.old.items name.now) ≤ 17 → places.new.items ≡ [] → result ≡ down.first (trees layers.now) places.old.items name.now }
 {
@@ -73,10 +78,15 @@ pub(crate) fn enter(
                 asked = other;
             }
             Onward::From(key, path) => {
-                end(places, kept, Place { key, ..place });
-                append(places, &walk_below(layers, place.layer + 1, path));
-                *crossed = true;
-                return None;
+                let Some(other) = further(trail, index, place, path) else {
+                    end(places, kept, Place { key, ..place });
+                    append(places, &walk_below(layers, place.layer + 1, path));
+                    *crossed = true;
+                    return None;
+                };
+                put(places, kept, Place { key, ..place });
+                kept += 1;
+                asked = other;
             }
         }
     }

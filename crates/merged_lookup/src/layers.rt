@@ -1,21 +1,25 @@
 // The layers of a mount.
-ghost use Rattle.std.specs.Prelude.{◌≡◌, ◌≢◌, ◌+◌, ◌<◌, ◌≤◌, ◌∷◌, [], List, ℕ, Option, length, slice_get, Some, None, is_some, IsOk, IfOk, IfErr, MatchOption, ◌↔◌, reverse, take};
+ghost use Rattle.std.specs.Prelude.{◌≡◌, ◌≢◌, ◌+◌, ◌<◌, ◌≤◌, ◌∷◌, ◌++◌, [], List, ℕ, Option, length, slice_get, Some, None, is_some, IsOk, IfOk, IfErr, IfSome, MatchOption, ◌↔◌, reverse, take};
 ghost use Rattle.std.specs.Vec.{vec_len};
 ghost use Rattle.std.specs.Option.{option_copied, option_and_then};
 ghost use Rattle.ov_base.specs.declared.attributes.Attributes.{Attributes};
 ghost use Rattle.plain_model.specs.Layers as held;
 ghost use Rattle.plain_model.specs.Layers.{Path, shows, is_directory, under};
-ghost use Rattle.layer_tree.specs.Tree.{layer_of, inode_of};
+ghost use Rattle.layer_tree.specs.Tree.{layer_of, inode_of, inode_at, child, IsTree, IsHeldTogether};
 
 use crate::crossing::cross_all;
 use crate::descent::{below_upper, copied, enter, roots, topmost};
 use crate::found::{Found, Parent, Topmost};
 use crate::stack::{Place, Places, Stack};
+use crate::trail::{Trail, trail_past};
 use layer_tree::{Inode, Layer, Node, ROOT};
 use ov_base::{Attributes, Content, Errno, Name, Path};
 
 /// The most layers of a mount: the upper and 16 lower ones.
 pub const LAYERS_MAX: usize = 17;
+
+// The most names of a path on which the trail is followed. On longer ones a crossing costs less than the comparisons.
+const FOLLOWED_MAX: usize = 16;
 
 /// The layers of a mount. Layer 0 is the upper, which takes every change; the lower ones follow, the nearest first.
 #[derive(Drop)]
@@ -27,10 +31,12 @@ pub struct Layers {
 }
 
 impl Layers {
-    ghost use Rattle.merged_lookup.specs.Merged.{trees, node_in, layers_of, lowers_of, places_at, IsStackOf, IsAnswer, IsFound, IsTopmost, IsParentOf, parent, parents_fault, walk_fault, way_fault, inode_fault, place_fault};
+    ghost use Rattle.merged_lookup.specs.Merged.{trees, node_in, layers_of, lowers_of, places_at, IsStackOf, IsAnswer, IsFound, IsTopmost, IsParentOf, parent, parents_fault, walk_fault, way_fault, inode_fault, place_fault, ShowsInode};
     ghost use Rattle.merged_lookup.specs.Descent.{first, places_from};
     ghost use Rattle.merged_lookup.specs.Changing.{LendsUpper};
+    ghost use Rattle.merged_lookup.specs.Trails.{IsTrail, IsUppers};
     ghost use Rattle.std.specs.Borrow.{sem};
+    ghost use Rattle.layer_tree.specs.declared.node.Node.TheVariants as Node;
 
     /// An upper layer over 1 to 16 lower ones, the nearest first.
     pub fn new(upper: Layer, lowers: Vec<Layer>) -> Layers
@@ -55,6 +61,15 @@ impl Layers {
         ensures* lends { sem 𝓛 (LendsUpper self.entry result) }
     {
         &mut self.upper
+    }
+
+    /// What the upper keeps, for those who reason about one; it does nothing.
+    pub fn lawful(&self)
+        ensures tree { IsTree self.now.upper }
+        ensures together { IsHeldTogether (layer_of self.now.upper) }
+        ensures unnamed { (key : ℕ) (i : held.Inode) → inode_at self.now.upper key ≡ Some i → i.links ≡ 0 → (dir : ℕ) (name : List ℕ) → child self.now.upper dir name ≢ Some key }
+    {
+        self.upper.lawful();
     }
 
     /// How many layers there are, the upper included.
@@ -106,6 +121,21 @@ impl Layers {
         }
     }
 
+    /// The file or symbolic link that is shown at a place.
+    pub fn inode_at(&self, place: Place) -> &Inode
+        requires { (p : Path) × ShowsInode self.now p place }
+        ensures { (p : Path) → ShowsInode self.now p place → shows 0 (layers_of self.now) p ≡ Some (held.Contents place.layer place.key (inode_of (Node.Inode result.now))) }
+    {
+        let Some(layer) = self.layer(place.layer) else {
+            unreachable!()
+        };
+        layer.lawful();
+        match layer.node(place.key) {
+            Some(Node::Inode(inode)) => inode,
+            _ => unreachable!(),
+        }
+    }
+
     /// What a name shows in a merged directory.
     pub fn step(&self, stack: &Stack, name: &Name) -> Option<Found>
         ensures { (p : Path) → IsStackOf self.now p stack.now → IsAnswer self.now (name.now ∷ p) result }
@@ -118,7 +148,7 @@ impl Layers {
         ensures { (p : Path) → places.items ≡ places_at 0 (layers_of self.now) p → IsAnswer self.now (name.now ∷ p) result }
     {
         let mut places = places;
-        let inode = enter(self, &mut places, name, &mut false);
+        let inode = enter(self, &mut places, name, None, &mut false);
         if !places.is_empty() {
             return Some(Found::Directory(Stack { places }));
         }
@@ -198,15 +228,19 @@ impl Layers {
     }
 
     /// The directory that names lead to from the root, name by name as long as no more than one of them crosses the layers.
-    fn directory(&self, names: &[Name]) -> Result<Stack, Errno>
+    fn directory<'a>(&'a self, names: &'a [Name]) -> Result<Stack, Errno>
         ensures found { IfOk result (λ s. (way_fault (layers_of self.now) (reverse names.now) ≡ None) × IsStackOf self.now (reverse names.now) s) }
         ensures refused { IfErr result (λ e. way_fault (layers_of self.now) (reverse names.now) ≡ Some e) }
     {
         let mut places = roots(self, 0);
+        let mut trail = Some(Trail {
+            redirect: &[],
+            since: &[],
+        });
         let mut crossed = false;
-        for name in names {
+        for (index, name) in names.iter().enumerate() {
             let mut again = false;
-            let inode = enter(self, &mut places, name, &mut again);
+            let inode = enter(self, &mut places, name, trail, &mut again);
             if crossed && again {
                 return self.directory_at_once(names);
             }
@@ -214,8 +248,35 @@ impl Layers {
             if places.is_empty() {
                 return Err(self.fault_at(inode));
             }
+            trail = self.trail_on(trail, places.as_slice()[0], names, index + 1);
         }
         Ok(Stack { places })
+    }
+
+    // The trail one name on, where this is the first place that so many of the names lead to; none where that isn't the upper's, which then
+    // has no redirect further on, and none for many names, since each redirect is compared with them.
+    fn trail_on<'a>(
+        &'a self,
+        trail: Option<Trail<'a>>,
+        first: Place,
+        names: &'a [Name],
+        walked: usize,
+    ) -> Option<Trail<'a>>
+        requires within { walked ≤ length names.now }
+        requires since { IfSome trail (λ t. length t.since.now < walked) }
+        ensures { (before : List held.Name) (n : held.Name) → take walked names.now ≡ before ++ n ∷ [] → IsUppers self.now.upper (n ∷ reverse before) first → IfSome trail.entry (IsTrail self.now.upper before) → IfSome result (IsTrail self.now.upper (take walked names.now)) }
+    {
+        if first.layer != 0 || names.len() > FOLLOWED_MAX {
+            return None;
+        }
+        match self.upper.node(first.key) {
+            Some(Node::Directory(directory)) => trail_past(
+                trail,
+                &directory.marks,
+                &names[..walked],
+            ),
+            _ => None,
+        }
     }
 
     // Why a name leads to no directory: an inode that it shows, or nothing.

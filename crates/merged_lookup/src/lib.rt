@@ -14,6 +14,7 @@ mod onward;
 mod paths;
 mod spelling;
 mod stack;
+mod trail;
 
 pub use found::{Found, Parent, Topmost};
 pub use layers::{LAYERS_MAX, Layers};

@@ -8,7 +8,6 @@ ghost use Rattle.rename_redirect.specs.Linking.{GainsBoth, GivesName};
 
 use crate::moves::place_ways;
 use crate::names::insert_in_upper;
-use layer_tree::Node;
 use merged_lookup::{Layers, Place, Stack};
 use ov_base::{Attributes, Content, Path};
 use std::alloc::AllocError;
@@ -52,13 +51,7 @@ pub(crate) fn copy_of(layers: &Layers, place: Place) -> Result<(Content, Attribu
     requires { (p : Names) × ShowsInode layers.now p place }
     ensures { IfOk result (λ copy. (p : Names) → ShowsInode layers.now p place → (i : Inode) × (shows 0 (layers_of layers.now) p ≡ Some (Contents place.layer place.key (Some i))) × (copy.0 ≡ i.content) × (copy.1 ≡ i.attributes)) }
 {
-    let Some(layer) = layers.layer(place.layer) else {
-        unreachable!()
-    };
-    layer.lawful();
-    let Some(Node::Inode(inode)) = layers.node(place) else {
-        unreachable!()
-    };
+    let inode = layers.inode_at(place);
     let content = inode.content.clone()?;
     let attributes = inode.attributes.clone()?;
     Ok((content, attributes))

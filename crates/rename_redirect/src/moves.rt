@@ -7,7 +7,7 @@ ghost use Rattle.mount_laws.specs.Removals.{ShowsNoName};
 ghost use Rattle.mount_laws.specs.Moving.{NamesNoInode};
 ghost use Rattle.mount_laws.specs.Renaming.{is_one};
 ghost use Rattle.layer_tree.specs.Nameless.{KeepsObjects};
-ghost use Rattle.layer_tree.specs.Tree.{layer_of, IsHeldTogether, IsTree, SameObjects};
+ghost use Rattle.layer_tree.specs.Tree.{layer_of, SameObjects};
 ghost use Rattle.merged_lookup.specs.Merged.{layers_of, lowers_of, parents_fault, parent, top_of, IsStackOf, ShowsDirectory, ShowsInode};
 ghost use Rattle.copy_up.specs.Showing.{ShowsSame, Stays, StaysLayers, StaysMount, StaysThin};
 ghost use Rattle.rename_redirect.specs.Linking.{GainsBoth};
@@ -184,10 +184,10 @@ fn move_directory(
     ensures keeps { IsLayer (layer_of layers.old.upper) → IsLayer (layer_of layers.new.upper) }
     ensures thin { OnOk result (AreLayers (layers_of layers.old) → StaysThin layers.old layers.new) }
 {
-    lawful(layers);
+    layers.lawful();
     if top.layer == 0 {
         let released = move_in_upper(layers, route)?;
-        lawful(layers);
+        layers.lawful();
         mark_in_upper(layers, top.key, marks);
         return Ok(released);
     }
@@ -197,17 +197,9 @@ fn move_directory(
         redirect: None,
     };
     let (key, released) = insert_and_move(layers, route, Object::Directory(attributes, unmarked))?;
-    lawful(layers);
+    layers.lawful();
     mark_in_upper(layers, key, marks);
     Ok(released)
-}
-
-// What the upper keeps; it does nothing.
-fn lawful(layers: &Layers)
-    ensures tree { IsTree layers.now.upper }
-    ensures together { IsHeldTogether (layer_of layers.now.upper) }
-{
-    layers.upper().lawful();
 }
 
 // Moves a file or symbolic link, and gives the key of what lost its last name by it.
@@ -224,7 +216,7 @@ fn move_inode(
     ensures keeps { IsLayer (layer_of layers.old.upper) → IsLayer (layer_of layers.new.upper) }
     ensures thin { OnOk result (AreLayers (layers_of layers.old) → StaysThin layers.old layers.new) }
 {
-    lawful(layers);
+    layers.lawful();
     if place.layer == 0 {
         let released = move_in_upper(layers, route)?;
         return Ok(released);

@@ -10,43 +10,38 @@ use Rattle.copy_up.specs.Altering.{AltersObject}
 use Rattle.copy_up.proofs.AlteredObjects.{object-copied}
 use Rattle.copy_up.proofs.altering.copy_changed.Goals as goal
 
-pub changed_inode-requires : goal.changed_inode-requires
-changed_inode-requires c =
-    let found = c.stands.ensures c.args.path.now c.requires.shown in
-    (c.args.path.now, found.0, found.1)
-
 pub all_at_once-requires-clause-shown : goal.all_at_once-requires-clause-shown
 all_at_once-requires-clause-shown c =
-    let found = c.stands.ensures c.args.path.now c.requires.shown in
+    let found = c.in_ok-attributes.ensures c.args.path.now c.requires.shown in
     (found.0, sym (ap (shows 0 (layers_of c.args.layers.now)) c.in-Some.ensures) ∙ found.1)
 
 pub returns-clause-altered : goal.returns-clause-altered
 returns-clause-altered c = λ a seen h.
-    let found = c.stands.ensures c.args.path.now c.requires.shown in
+    let found = c.in_ok-attributes.ensures c.args.path.now c.requires.shown in
     let shown = sym (ap (shows 0 (layers_of c.args.layers.now)) c.in-Some.ensures) ∙ found.1 in
     let leaf = (c.in_ok-all_at_once.ensures.copied found.0 shown).0 in
-    let same = c.in_ok-attributes.ensures c.args.path.now found.0 found.1 ∙ ap (changed c.args.change) (shown-inode c.args.layers.now c.args.path.now _ _ found.0 a found.1 seen) in
+    let same = found.2 ∙ ap (changed c.args.change) (shown-inode c.args.layers.now c.args.path.now _ _ found.0 a found.1 seen) in
     subst (λ (b : Attributes). Alters (layer_of c.args.layers.now.upper) (layer_of c.all_at_once.new.layers.upper) (lowers_of c.args.layers.now) c.args.path.now b) same
     (subst (λ (q : Path). Alters (layer_of c.args.layers.now.upper) (layer_of c.all_at_once.new.layers.upper) (lowers_of c.args.layers.now) q c.in_ok-attributes.attributes) (sym c.in-Some.ensures) (leaf.alters h))
 
 pub returns-clause-object : goal.returns-clause-object
 returns-clause-object c = λ a seen.
-    let found = c.stands.ensures c.args.path.now c.requires.shown in
+    let found = c.in_ok-attributes.ensures c.args.path.now c.requires.shown in
     let shown = sym (ap (shows 0 (layers_of c.args.layers.now)) c.in-Some.ensures) ∙ found.1 in
     let leaf = (c.in_ok-all_at_once.ensures.copied found.0 shown).0 in
-    let same = c.in_ok-attributes.ensures c.args.path.now found.0 found.1 ∙ ap (changed c.args.change) (shown-inode c.args.layers.now c.args.path.now _ _ found.0 a found.1 seen) in
+    let same = found.2 ∙ ap (changed c.args.change) (shown-inode c.args.layers.now c.args.path.now _ _ found.0 a found.1 seen) in
     subst (λ (b : Attributes). AltersObject c.args.layers.now c.all_at_once.new.layers c.args.path.now b) same
     (subst (λ (q : Path). AltersObject c.args.layers.now c.all_at_once.new.layers q c.in_ok-attributes.attributes) (sym c.in-Some.ensures)
     (object-copied c.args.layers.now c.all_at_once.new.layers _ found.0.content c.in_ok-attributes.attributes leaf c.args.place.layer c.args.place.key (Some found.0) shown c.requires.lower))
 
 pub returns-clause-lowers : goal.returns-clause-lowers
 returns-clause-lowers c =
-    let found = c.stands.ensures c.args.path.now c.requires.shown in
+    let found = c.in_ok-attributes.ensures c.args.path.now c.requires.shown in
     let shown = sym (ap (shows 0 (layers_of c.args.layers.now)) c.in-Some.ensures) ∙ found.1 in
     (c.in_ok-all_at_once.ensures.copied found.0 shown).0.lowers
 
 pub returns-clause-nameless : goal.returns-clause-nameless
 returns-clause-nameless c =
-    let found = c.stands.ensures c.args.path.now c.requires.shown in
+    let found = c.in_ok-attributes.ensures c.args.path.now c.requires.shown in
     let shown = sym (ap (shows 0 (layers_of c.args.layers.now)) c.in-Some.ensures) ∙ found.1 in
     (c.in_ok-all_at_once.ensures.copied found.0 shown).0.objects.nameless

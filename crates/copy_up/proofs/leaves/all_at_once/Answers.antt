@@ -1,4 +1,4 @@
-use Rattle.std.proofs.Common.{◌∷◌, Some, reverse, subst}
+use Rattle.std.proofs.Common.{◌≡◌, ◌∷◌, Some, reverse, subst, sym, ◌∙◌}
 use Rattle.ov_base.specs.declared.bytes.Content.{Content}
 use Rattle.mount_laws.specs.Leaves.{PlacesLeaf}
 use Rattle.layer_tree.specs.Tree.{layer_of}
@@ -6,6 +6,9 @@ use Rattle.copy_up.proofs.Frames.{gains-then, gains-unchanged}
 use Rattle.copy_up.proofs.Keeping.{same-then, same-unchanged, stays-unchanged, then-layers, on-err}
 use Rattle.copy_up.proofs.Copying.{leaf_of, copy-place, leaf-copied, thin-copied}
 use Rattle.copy_up.proofs.leaves.all_at_once.Goals as goal
+
+pub inode_at-requires : goal.inode_at-requires
+inode_at-requires c = (c.args.name.now ∷ reverse c.args.parents.now, record { inode = Some c.requires.shown.0; shown = c.requires.shown.1 })
 
 pub insert_leaf-requires : goal.insert_leaf-requires
 insert_leaf-requires c = (reverse c.args.parents.now, copy-place c.args.layers.now c.place_parents.new.layers c.place_parents.ensures.same c.args.name.now (reverse c.args.parents.now) (c.place_parents.ensures.gains c.args.name.now) c.args.place.layer c.args.place.key (Some c.requires.shown.0) c.requires.shown.1 c.requires.lower c.in_ok-parent.parent c.top-dir.result c.in_ok-parent.ensures.stack c.in_ok-parent.ensures.upper c.top-dir.ensures)
@@ -39,8 +42,10 @@ returns-clause-copied c = λ i shown.
     let q = reverse c.args.parents.now in
     let gains = c.place_parents.ensures.gains n in
     let placed = c.in_ok-key.ensures.placed q (copy-place c.args.layers.now c.place_parents.new.layers c.place_parents.ensures.same n q gains c.args.place.layer c.args.place.key (Some c.requires.shown.0) c.requires.shown.1 c.requires.lower c.in_ok-parent.parent c.top-dir.result c.in_ok-parent.ensures.stack c.in_ok-parent.ensures.upper c.top-dir.ensures) in
+    let both = sym (c.inode_at.ensures (n ∷ q) (record { inode = Some i; shown = shown })) ∙ shown in
+    let same : c.inode_at.result.now.content ≡ i.content = cc in
     leaf-copied c.args.layers.now c.place_parents.new.layers c.insert_leaf.new.layers c.place_parents.ensures.same n q gains c.insert_leaf.ensures.lowers c.in_ok-key.key c.args.attributes c.place_parents.ensures.keeps c.place_parents.ensures.names c.insert_leaf.ensures.keeps c.args.place.layer c.args.place.key i shown c.requires.lower
-    (subst (λ (z : Content). PlacesLeaf (layer_of c.place_parents.new.layers.upper) (layer_of c.insert_leaf.new.layers.upper) (n ∷ q) c.in_ok-key.key (leaf_of z c.args.attributes)) (c.in_ok-content.ensures (n ∷ q) i shown) placed)
+    (subst (λ (z : Content). PlacesLeaf (layer_of c.place_parents.new.layers.upper) (layer_of c.insert_leaf.new.layers.upper) (n ∷ q) c.in_ok-key.key (leaf_of z c.args.attributes)) (c.in_ok-content.ensures.cases ∙ same) placed)
     c.in_ok-key.ensures.vacant c.in_ok-key.ensures.objects
 
 pub returns-clause-thin : goal.returns-clause-thin

@@ -1,11 +1,13 @@
-use Rattle.std.proofs.Common.{◌≡◌, ◌<◌, None, length, reverse, take}
+use Rattle.std.proofs.Common.{◌≡◌, ◌<◌, None, IfSome, length, reverse, take}
 use Rattle.merged_lookup.specs.Merged.{layers_of, places_at, way_fault}
+use Rattle.merged_lookup.specs.Trails.{IsTrail}
 use Rattle.merged_lookup.proofs.layers.Layers.directory.Given as goal
 
-abbrev pub invariant-loop-name : goal.invariant-loop-name
-invariant-loop-name l =
+abbrev pub invariant-loop-index : goal.invariant-loop-index
+invariant-loop-index l =
     record {
-      way : way_fault (layers_of l.self) (reverse (take l.name-index l.names)) ≡ None;
-      places : l.places.items ≡ places_at 0 (layers_of l.self) (reverse (take l.name-index l.names));
+      way : way_fault (layers_of l.self) (reverse (take l.index l.names)) ≡ None;
+      places : l.places.items ≡ places_at 0 (layers_of l.self) (reverse (take l.index l.names));
       some : 0 < length l.places.items;
+      trail : IfSome l.trail (IsTrail l.self.upper (take l.index l.names));
     }
