@@ -1,8 +1,6 @@
 -- What clients do to a mount is what they do to each state that agrees with it.
-use Rattle.std.proofs.Common.{arith, ◌≡◌, ℕ, ◌<◌, ◌≤◌, Bool, true, false, ◌||◌, List, [], ◌∷◌, refl, sym, ap, ◌∙◌, subst, length, nat_eq, nat_lt}
-use Rattle.overlay_core.proofs.Words.{AreLayers, Call, eq-eqb, eqb-true, false≢true, Layer, layer_of, Layers, layers_of, list_any, lowers_of, MountOptions, nat_cmp, refusal, Reply, State, Table, Tree}
-use Rattle.std.proofs.Math.Bool.{or-true}
-use Rattle.std.proofs.lemmas.Bool.{le-ltb}
+use Rattle.std.proofs.Common.{arith, ◌≡◌, ℕ, ◌<◌, ◌≤◌, Bool, true, false, List, [], ◌∷◌, refl, sym, ◌∙◌, subst, length, nat_eq}
+use Rattle.overlay_core.proofs.Words.{AreLayers, Call, Layer, layer_of, Layers, layers_of, list_any, lowers_of, MountOptions, nat_cmp, refusal, Reply, State, Table, Tree}
 use Rattle.std.proofs.lemmas.Cmp.{eq_by_cmp_equiv, nat_cmp_total}
 use Rattle.std.proofs.lemmas.List.{length-map}
 use Rattle.std.proofs.lemmas.Map.Steps.{length-le_from_keys}
@@ -56,30 +54,15 @@ goes-detached old new c there h s a =
 
 -- keys are told apart as numbers are
 tied : (x y : ℕ) → eq_by_cmp nat_cmp x y ≡ nat_eq x y
-tied x y = by (nat_lt x y) (nat_eq x y) refl refl
-  where
-    by : (less same : Bool) → nat_lt x y ≡ less → nat_eq x y ≡ same → eq_by_cmp nat_cmp x y ≡ same
-    by true true l e =
-        let alike : x ≡ y = eqb-true x y e in
-        absurd (false≢true (sym (le-ltb x y (omega (arith, alike))) ∙ l))
-    by true false l e = rw l refl
-    by false true l e = rw (l, e) refl
-    by false false l e = rw (l, e) refl
+tied x y = grind arith
 
 same-keys : eq_by_cmp nat_cmp ≡ nat_eq
 same-keys = λ i x y. tied x y i
 
--- numbers are the same in either order
-eq-back : (x y : ℕ) → nat_eq x y ≡ true → nat_eq y x ≡ true
-eq-back x y e = eq-eqb y x (sym (eqb-true x y e))
-
+-- a number that is one of these is so in either order
 any-back : (c : ℕ) (xs : List ℕ) → list_any (λ x. nat_eq c x) xs ≡ true → list_any (λ x. nat_eq x c) xs ≡ true
 any-back c [] h = h
-any-back c (x ∷ xs) h = by (any-back c xs) (nat_eq c x) refl h
-  where
-    by : (list_any (λ y. nat_eq c y) xs ≡ true → list_any (λ y. nat_eq y c) xs ≡ true) → (b : Bool) → nat_eq c x ≡ b → (b || list_any (λ y. nat_eq c y) xs) ≡ true → (nat_eq x c || list_any (λ y. nat_eq y c) xs) ≡ true
-    by rest true e g = ap (λ z. z || list_any (λ y. nat_eq y c) xs) (eq-back c x e)
-    by rest false e g = ap (λ z. nat_eq x c || z) (rest g) ∙ or-true (nat_eq x c)
+any-back c (x ∷ xs) h = grind (arith, any-back c xs)
 
 -- a state has at most as many tables as clients are attached
 few-tables : (m : Mount) (s : State) → Agrees m s → length s.tables ≤ btree_map_len m.clients.attached

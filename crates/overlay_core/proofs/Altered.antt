@@ -1,17 +1,12 @@
 -- What other attributes of what a path shows leave of the names and the attributes of the upper's inodes.
-use Rattle.std.proofs.Common.{◌≡◌, ◌≢◌, ◌↔◌, ℕ, true, false, [], ◌∷◌, Option, None, Some, IsSome, is_some, refl, sym, ap, ◌∙◌, subst, inl, inr}
+use Rattle.std.proofs.Common.{◌≡◌, ◌≢◌, ◌↔◌, ℕ, true, false, [], ◌∷◌, Some, IsSome, is_some, sym, ap, ◌∙◌, subst, inl, inr, arith}
 use Rattle.std.proofs.lemmas.Bool.{cases_eq}
 use Rattle.std.specs.Prelude.{option_map}
-use Rattle.std.specs.Option.{option_and_then}
 use Rattle.slab.specs.Slab.{get}
 use Rattle.ov_base.specs.declared.attributes.Attributes.{Attributes}
-use Rattle.plain_model.specs.Layers.{Name, Path, Directory, Named, Inode, held}
+use Rattle.plain_model.specs.Layers.{Name, Path, Named, Inode, held}
 use Rattle.mount_laws.specs.StayOpen.{AltersNamed}
-use Rattle.layer_tree.specs.Tree.{Tree, ROOT, IsTree, IsUnmarked, layer_of, inode_of, seen, seen_at, seen_entry, entry_at, inode_at}
-use Rattle.layer_tree.specs.declared.name_table.Entry.{Entry}
-use Rattle.layer_tree.specs.declared.name_table.Entry.TheVariants as bound
-use Rattle.layer_tree.specs.declared.node.Node.{Node}
-use Rattle.layer_tree.specs.declared.node.Node.TheVariants as node
+use Rattle.layer_tree.specs.Tree.{Tree, ROOT, IsTree, IsUnmarked, layer_of, seen_at, inode_at}
 use Rattle.layer_tree.proofs.Walks.{same_path}
 use Rattle.merged_lookup.specs.declared.layers.Layers.{Layers}
 use Rattle.copy_up.specs.Showing.{number_of, KeepsPath}
@@ -23,63 +18,25 @@ StillNames old new j q = (held (layer_of new.upper) q ≡ Some (Named j)) ↔ (h
 
 -- a path that holds what it held, or a parent that was gained, names the inodes that it named
 pub names-kept : (old new : Layers) (p q : Path) (j : ℕ) → KeepsPath old new p q → StillNames old new j q
-names-kept old new p q j (inl e) = (λ h. sym e ∙ h, λ h. e ∙ h)
-names-kept old new p q j (inr g) = (
-  λ h. (let z : Some (Directory g.number g.attributes false None) ≡ Some (Named j) = sym g.gained ∙ h in cc),
-  λ h. (let z : None ≡ Some (Named j) = sym g.lacked ∙ h in cc),
-)
-
--- what is seen under a key has that number
-number-seen : (t : Tree) (m k : ℕ) → number_of (seen_at t m) ≡ Some k → m ≡ k
-number-seen t m k h = of (get t m) h
-  where
-    of : (x : Option Node) → number_of (option_map (seen m) x) ≡ Some k → m ≡ k
-    of None h = cc
-    of (Some (node.Directory d)) h = cc
-    of (Some (node.Inode i)) h = cc
+names-kept old new p q j is = grind arith
 
 -- an object below the root is the one that is seen under its number
 seen-numbered : (t : Tree) (n : Name) (p : Path) (k : ℕ) → number_of (held (layer_of t) (n ∷ p)) ≡ Some k → held (layer_of t) (n ∷ p) ≡ seen_at t k
-seen-numbered t n p k h = of (entry_at t (n ∷ p)) h
-  where
-    of : (e : Option Entry) → number_of (option_and_then (seen_entry t) e) ≡ Some k → option_and_then (seen_entry t) e ≡ seen_at t k
-    of None h = cc
-    of (Some bound.Whiteout) h = cc
-    of (Some (bound.Object m)) h = ap (seen_at t) (number-seen t m k h)
+seen-numbered t n p k h = grind arith
 
 -- where an inode is, its name is seen
 inode-seen : (t : Tree) (k : ℕ) (i : Inode) → inode_at t k ≡ Some i → seen_at t k ≡ Some (Named k)
-inode-seen t k i h = of (get t k) h
-  where
-    of : (x : Option Node) → option_and_then inode_of x ≡ Some i → option_map (seen k) x ≡ Some (Named k)
-    of None h = cc
-    of (Some (node.Directory d)) h = cc
-    of (Some (node.Inode x)) h = refl
+inode-seen t k i h = grind arith
 
 -- and something stands there
 inode-stands : (t : Tree) (k : ℕ) (i : Inode) → inode_at t k ≡ Some i → IsSome (get t k)
-inode-stands t k i h = of (get t k) h
-  where
-    of : (x : Option Node) → option_and_then inode_of x ≡ Some i → IsSome x
-    of None h = cc
-    of (Some x) h = refl
+inode-stands t k i h = grind arith
 
 -- the root is no inode
 root-apart : (t : Tree) → IsTree t → (k : ℕ) (i : Inode) → inode_at t k ≡ Some i → k ≢ ROOT
 root-apart t tree k i is e = subst IsUnmarked (inode-seen t ROOT i (ap (inode_at t) (sym e) ∙ is)) tree.root
 
 module _ (old new : Layers) (p : Path) (a : Attributes) (x : AltersObject old new p a) (j : ℕ) where
-  -- the path is no name of another inode now
-  not-now : j ≢ x.key → held (layer_of new.upper) p ≡ Some (Named j) → ⊥
-  not-now off h = off (let z : Some j ≡ Some x.key = sym (ap number_of h) ∙ x.number in cc)
-
-  -- and was none
-  not-before : j ≢ x.key → held (layer_of old.upper) p ≡ Some (Named j) → ⊥
-  not-before off h = elim x.was [
-    | inl was ↦ off (let z : Some j ≡ Some x.key = sym (ap number_of h) ∙ was in cc)
-    | inr new ↦ (let z : None ≡ Some (Named j) = sym new.0 ∙ h in cc)
-  ]
-
   -- names elsewhere are as they were
   names-by : StillNames old new j p → (q : Path) → StillNames old new j q
   names-by here q = elim (same_path q p) [
@@ -89,11 +46,7 @@ module _ (old new : Layers) (p : Path) (a : Attributes) (x : AltersObject old ne
 
   -- another inode stays
   alters-other : j ≢ x.key → AltersNamed (layer_of old.upper) (layer_of new.upper) p a j
-  alters-other off = record {
-    names = names-by (λ h. absurd (not-now off h), λ h. absurd (not-before off h));
-    altered = λ i h is. absurd (not-before off h);
-    same = λ not. x.inodes j off;
-  }
+  alters-other off = grind arith
 
   -- the inode of that key
   module _ (i : Inode) (is : (layer_of old.upper).inodes j ≡ Some i) (same : j ≡ x.key) where
@@ -122,11 +75,7 @@ module _ (old new : Layers) (p : Path) (a : Attributes) (x : AltersObject old ne
 
     -- is altered, where the path was and is a name of it
     alters-own : held (layer_of old.upper) p ≡ Some (Named j) → held (layer_of new.upper) p ≡ Some (Named j) → AltersNamed (layer_of old.upper) (layer_of new.upper) p a j
-    alters-own before now = record {
-      names = names-by (λ h. before, λ h. now);
-      altered = λ i h is. inode-now ∙ ap (option_map (inode_with a)) is;
-      same = λ not. absurd (not before);
-    }
+    alters-own before now = grind (arith, names-by, inode-now)
 
 -- an inode that is there keeps its names, and has the attributes where the path is one of them
 pub alters-named : (old new : Layers) → IsTree old.upper → (p : Path) (a : Attributes) → AltersObject old new p a → (j : ℕ) (i : Inode) → (layer_of old.upper).inodes j ≡ Some i → AltersNamed (layer_of old.upper) (layer_of new.upper) p a j

@@ -1,5 +1,6 @@
 -- The calls that change attributes, by how they end.
-use Rattle.std.proofs.Common.{◌≡◌, ℕ, true, false, not, ◌&&◌, is_none, length, nat_lt, List, Option, None, Some, Result, Ok, Err, MatchResult, refl, sym, ap, ◌∙◌, subst}
+use Rattle.std.proofs.Common.{◌≡◌, ℕ, true, false, not, ◌&&◌, is_none, length, nat_lt, List, Option, None, Some, Result, Ok, MatchResult, refl, sym, ap, ◌∙◌, subst}
+use Rattle.std.proofs.Common.{arith}
 use Rattle.ov_base.specs.AttributeChanges.{changed}
 use Rattle.ov_base.specs.declared.attributes.Attributes.{Attributes}
 use Rattle.ov_base.specs.declared.call.Call.{Call}
@@ -12,7 +13,7 @@ use Rattle.layer_tree.specs.Tree.{IsTree, layer_of}
 use Rattle.merged_lookup.specs.declared.layers.Layers.{Layers}
 use Rattle.merged_lookup.specs.Merged.{layers_of, lowers_of, IsTopmost}
 use Rattle.mount_laws.specs.Looks.{or_else, walk_fault, is_link_inode, shows_link, IsMountOf}
-use Rattle.mount_laws.specs.Attributes.{user_in, shown_attributes, chown_fault, set_fault, get_fault}
+use Rattle.mount_laws.specs.Attributes.{user_in, chown_fault, set_fault, get_fault}
 use Rattle.mount_laws.specs.Altered.{Alters, AltersBy, AltersState}
 use Rattle.mount_laws.specs.StayOpen.{AltersNamed, LivesThroughChange}
 use Rattle.copy_up.specs.Altering.{AltersAs, AltersObjectAs}
@@ -60,8 +61,7 @@ module _
 
 -- what is told of an inode is told where it is shown
 pub open-as : {A : Type 0} (now : A → Attributes) (r : Result A Errno) (s : Option Shown) (j k : ℕ) (i : Option Inode) → s ≡ Some (Contents j k i) → MatchResult r (λ a. IsOpenTo (Some (Contents 0 0 i)) (now a)) (λ e. (e ≡ ELOOP) × (is_link_inode i ≡ true)) → MatchResult r (λ a. IsOpenTo s (now a)) (λ e. (e ≡ ELOOP) × (shows_link s ≡ true))
-open-as now (Ok a) s j k i is h = record { no_link = ap shows_link is ∙ h.no_link; attributes = ap shown_attributes is ∙ h.attributes }
-open-as now (Err e) s j k i is h = (h.0, ap shows_link is ∙ h.1)
+open-as now r s j k i is h = grind arith
 
 -- a symbolic link is the refusal of chown where the walk isn't refused
 pub chown-link : (Ls : List Layer) (p : Path) → walk_fault Ls p ≡ None → shows_link (shows 0 Ls p) ≡ true → chown_fault Ls p ≡ Some ELOOP
@@ -70,14 +70,6 @@ chown-link Ls p none link = ap (λ w. or_else w (when (shows_link (shows 0 Ls p)
 -- what is no symbolic link shows its attributes there
 pub shows-open : (Ls : List Layer) (p : Path) (a : Attributes) → walk_fault Ls p ≡ None → IsOpenTo (shows 0 Ls p) a → ShowsAttributes Ls p a
 shows-open Ls p a none h = record { allowed = ap (λ w. or_else w (when (shows_link (shows 0 Ls p)) ELOOP)) none ∙ ap (λ b. when b ELOOP) h.no_link; shown = h.attributes }
-
--- where chown isn't refused, neither is the walk
-pub walk-none : (Ls : List Layer) (p : Path) → chown_fault Ls p ≡ None → walk_fault Ls p ≡ None
-walk-none Ls p h = of (walk_fault Ls p) h
-  where
-    of : (w : Option Errno) → or_else w (when (shows_link (shows 0 Ls p)) ELOOP) ≡ None → w ≡ None
-    of None h = refl
-    of (Some e) h = cc
 
 -- a set is not refused where its name, its value and the path are not, and there is room
 pub set-none : (Ls : List Layer) (p : Path) (n v : List ℕ) (a : Attributes) → bad_attribute n ≡ None → nat_lt 1024 (length v) ≡ false → ShowsAttributes Ls p a → (is_none (value_of a.user n) && not (nat_lt (length a.user) 64)) ≡ false → set_fault Ls p n v ≡ None
@@ -89,10 +81,4 @@ get-none Ls p n a good s there = rw (good, s.allowed, ap user_in s.shown, there)
 
 -- a change of the attributes that are shown
 pub changes-shown : (f : Attributes → Attributes) (l : Layers) (p : Path) (x : Change) (a : Attributes) → ShowsAttributes (layers_of l) p a → IsTopmost l p (Some x.top) → changed x.change a ≡ f a → IsChange f l p x
-changes-shown f l p x a s top after = record {
-  walked = walk-none (layers_of l) p s.allowed;
-  top = top;
-  before = a;
-  shown = s.shown;
-  after = after;
-}
+changes-shown f l p x a s top after = grind arith

@@ -1,20 +1,18 @@
 -- The mount answers each call as the machine does.
 use Rattle.std.proofs.Common.{arith, ◌≡◌, ℕ, ◌+◌, true, min, List, Option, None, Some, Result, Ok, Err, refl, sym, ap, ◌∙◌, subst, is_some, length, take, drop}
-use Rattle.overlay_core.proofs.Words.{after, AllocError, At, Call, Content, Contents, Directory, directory_in, Errno, false≢true, File, Folder, GivesNames, Handle, handle_of, Inode, is_directory, Layer, Location, Name, OnErr, OpenDirectory, option_and_then, or_else, parents_fault, Path, refusal, Removed, Reply, reply_of, Shown, shows, Stat, State}
+use Rattle.overlay_core.proofs.Words.{after, AllocError, At, Call, directory_in, Errno, GivesNames, Handle, handle_of, is_directory, Layer, Location, Name, OnErr, OpenDirectory, option_and_then, or_else, parents_fault, Path, refusal, Removed, Reply, reply_of, Shown, shows, Stat, State}
 use Rattle.std.specs.Option.{unwrap_or}
 use Rattle.std.proofs.lemmas.List.{drop_min, drop-drop}
-use Rattle.ov_base.specs.declared.bytes.Content.TheVariants as content
 use Rattle.ov_base.specs.declared.call.Call.TheVariants as call
 use Rattle.ov_base.specs.declared.reply.Reply.TheVariants as reply
-use Rattle.plain_model.specs.Machine.{Look, Found, Absent, Fails, look, is_found}
+use Rattle.plain_model.specs.Machine.{Look, look, is_found}
 use Rattle.plain_model.specs.Refusals.{there}
 use Rattle.plain_model.specs.Changes.{names_in, listing, listed_on}
 use Rattle.mount_laws.specs.Looks.{absent, walk_fault, shown_status, Stats, Lists}
 use Rattle.mount_laws.specs.Removed.{ListsRemoved}
 use Rattle.mount_laws.proofs.Looks.{is_present, present, law_of_walks, law_of_stat}
-use Rattle.mount_laws.proofs.Lists.{law_of_list, law_of_bad_descriptors}
+use Rattle.mount_laws.proofs.Lists.{law_of_list}
 use Rattle.mount_laws.proofs.Removed.{law_of_list_removed}
-use Rattle.mount_laws.proofs.Descriptors.{law_of_file_list}
 use Rattle.open_handles.specs.Opened.{path_in}
 use Rattle.open_handles.specs.declared.handle.Handle as handles
 use Rattle.overlay_core.specs.declared.clients.Clients.{Clients}
@@ -24,8 +22,7 @@ use Rattle.overlay_core.specs.Opening.{list_fault}
 use Rattle.overlay_core.specs.Status.{stat_at, stat_shown, unless_refused}
 use Rattle.overlay_core.specs.States.{IsLeft, Stands, IsHandle, IsStateOf, StaysState, Serves, AreNamesIn, AreLeft, Pages}
 use Rattle.overlay_core.proofs.Directories.{Turns, shown-directory, turns}
-use Rattle.overlay_core.proofs.FileSight.{file-not-folder}
-use Rattle.overlay_core.proofs.Slots.{changes-as, opened-after, directory-at, by-opened, state-set}
+use Rattle.overlay_core.proofs.Slots.{changes-as, opened-after, directory-at, state-set}
 use Rattle.overlay_core.proofs.Stating.{the_layers, the_lowers, the_upper, keep-state}
 
 -- a refusal answers as the machine does, where it refuses so
@@ -38,49 +35,27 @@ serve-done o s c k r new h e st = subst (λ z. Serves z s c k r new) (sym h) (e,
 
 -- what holds, holds where a call wants memory
 pub on-err : {T : Type 0} (r : Result T AllocError) (P : Type 0) → P → OnErr r P
-on-err (Ok x) P p = tt
-on-err (Err e) P p = p
-
--- an inode that is shown, with this content
-abbrev holding : ℕ → ℕ → Inode → Content → Option Shown
-holding i k inode x = Some (Contents i k (Some (record inode { content = x })))
+on-err r P p = grind arith
 
 -- the status of what is shown
 pub status-shown : (o : Option Shown) (st : Stat) → is_present o ≡ true → stat_shown o ≡ Ok st → shown_status o ≡ st
-status-shown None st p h = cc
-status-shown (Some (Folder i k a)) st p h = cc
-status-shown (Some (Contents i k None)) st p h = cc
-status-shown (Some (Contents i k (Some inode))) st p h = by inode.content h
-  where
-    by : (x : Content) → stat_shown (holding i k inode x) ≡ Ok st → shown_status (holding i k inode x) ≡ st
-    by (content.File bytes) h = cc
-    by (content.SymbolicLink target) h = cc
+status-shown o st p h = grind arith
 
 -- a walk that isn't refused leads to what has a status
 pub no-status : (w : Option Errno) (o : Option Shown) (e : Errno) → is_present o ≡ true → or_else w (absent o) ≡ None → stat_shown o ≡ Err e → ⊥
-no-status (Some d) o e p n h = cc
-no-status None None e p n h = cc
-no-status None (Some (Folder i k a)) e p n h = cc
-no-status None (Some (Contents i k None)) e p n h = false≢true p
-no-status None (Some (Contents i k (Some inode))) e p n h = cc
+no-status w o e p n h = grind arith
 
 -- a directory that is shown is shown
 directory-some : (o : Option Shown) → is_directory o ≡ true → is_some o ≡ true
-directory-some None h = h
-directory-some (Some x) h = refl
+directory-some o h = grind arith
 
 -- where a walk leads somewhere, something is there
 there-found : (l : Look) → is_found l ≡ true → there l ≡ None
-there-found (Found d) h = refl
-there-found (Absent d) h = absurd (false≢true h)
-there-found (Fails e) h = absurd (false≢true h)
+there-found l h = grind arith
 
 -- the names that are left of a listing, at a handle's place
 left-is : (Ls : List Layer) (o : Option Path) (x l : Option (List Name)) (place : ℕ) (now left : List Name) → AreLeft Ls o x left → IsLeft x l place → (l ≡ None → (names : List Name) → AreNamesIn Ls o names → names ≡ unwrap_or l now) → left ≡ drop place (unwrap_or l now)
-left-is Ls o None None place now left a i alone = rw i (alone refl left a)
-left-is Ls o (Some q) (Some r) place now left a i alone = a ∙ i
-left-is Ls o None (Some r) place now left a i alone = absurd i
-left-is Ls o (Some q) None place now left a i alone = absurd i
+left-is Ls o x l place now left a i alone = grind arith
 
 -- the lesser of two, told otherwise
 min-comm : (a b : ℕ) → min a b ≡ min b a
@@ -88,9 +63,7 @@ min-comm a b = omega arith
 
 -- a list that is not refused is of an open directory
 pub unrefused-list : (o : Option handles.Handle) (n : ℕ) → list_fault o n ≡ None → is_some (directory_in o) ≡ true
-unrefused-list None n h = cc
-unrefused-list (Some (File f)) n h = cc
-unrefused-list (Some (Directory x)) n h = refl
+unrefused-list o n h = grind arith
 
 module _ (m : Mount) (s : State) (st : IsStateOf m s) (c : ℕ) where
   -- what is shown at a path is there
@@ -129,11 +102,7 @@ module _ (m : Mount) (s : State) (st : IsStateOf m s) (c : ℕ) where
 
   -- why a list is refused, told by what is open
   refused-list : (d n : ℕ) → refusal s c (call.ListNames d n) ≡ list_fault (opened_by m.clients c d) n
-  refused-list d n =
-      by-opened m s st c d (λ o. refusal s c (call.ListNames d n) ≡ list_fault o n)
-      (λ none. (law_of_bad_descriptors s c d none).listing n)
-      (λ f h on is. (law_of_file_list s c d h on (file-not-folder (the_upper m) (the_lowers m) s.tree f h is)).refused n)
-      (λ o h on is. (turns (the_upper m) (the_lowers m) s st.layers c d m.clients.directories o h on is).refused n)
+  refused-list d n = grind arith
 
   -- a list that is refused
   pub list-refused : (d n : ℕ) (e : Errno) → list_fault (opened_by m.clients c d) n ≡ Some e → Serves (refusal s c (call.ListNames d n)) s c (call.ListNames d n) (reply.Refused e) m

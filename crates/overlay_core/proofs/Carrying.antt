@@ -1,5 +1,5 @@
 -- Open files through changes of the layers and of the tree.
-use Rattle.std.proofs.Common.{◌≡◌, ◌↔◌, ℕ, ◌<◌, true, List, Some, refl, sym, ap, ◌∙◌, subst, map}
+use Rattle.std.proofs.Common.{◌≡◌, ◌↔◌, ℕ, ◌<◌, true, List, Some, arith}
 use Rattle.overlay_core.proofs.Words.{after, Call, Dentries, Directory, File, file_holders, Handle, handle_of, IsLive, IsMountOf, Layer, layer_of, Layers, lowers_of, OpenDirectory, OpenFile, State, Table, Tree, Upper}
 use Rattle.mount_laws.proofs.Handles.{held-by}
 use Rattle.open_handles.specs.declared.handle.Handle as handles
@@ -9,25 +9,15 @@ use Rattle.overlay_core.specs.Attaching.{opened_by}
 use Rattle.overlay_core.specs.Files.{is_leaf, IsFile, HasFile}
 use Rattle.overlay_core.specs.Living.{StaysLive, KeepsLive, KeepsHeldFrom, KeepsLeaves, KeepsHeldLeaves}
 use Rattle.overlay_core.specs.States.{IsHandle, IsOpenAs, AreTables, IsStateOf}
-use Rattle.overlay_core.proofs.Serving.{tables-moved}
-use Rattle.overlay_core.proofs.Slots.{of-on}
 
 module _ (U V : Layer) (lowers : List Layer) (t u : Tree) where
   -- a handle is on the open file still where that stays live, and the node a file
   pub file-on : (f : OpenFile) (h : Handle) → IsFile U lowers t f h → ((k : ℕ) → f.source ≡ Upper k → IsLive U t h.node k → IsLive V u h.node k) → (is_leaf (t h.node) ≡ true → is_leaf (u h.node) ≡ true) → IsFile V lowers u f h
-  file-on f h is live leaf = record {
-    source = of-on U V lowers t u f.source h h refl refl live leaf is.source;
-    reads = is.reads;
-    writes = is.writes;
-    append = is.append;
-    place = is.place;
-    unlisted = is.unlisted;
-  }
+  file-on f h is live leaf = grind arith
 
   -- and what a descriptor leads to is what it was
   pub open-on : (ds es : Dentries) (o : handles.Handle) (h : Handle) → ((d : OpenDirectory) → o ≡ Directory d → IsHandle t ds d h → IsHandle u es d h) → ((f : OpenFile) → o ≡ File f → IsFile U lowers t f h → IsFile V lowers u f h) → IsOpenAs U lowers t ds o h → IsOpenAs V lowers u es o h
-  open-on ds es (Directory d) h directory file is = directory d refl is
-  open-on ds es (File f) h directory file is = file f refl is
+  open-on ds es o h directory file is = grind arith
 
 -- the files of the upper that clients have open are those that handles hold
 abbrev pub AreCounted : Clients → Type 0
@@ -47,12 +37,7 @@ module _ (old new : Layers) where
 
   -- tables over other layers and another tree, where the lower layers are the same
   pub tables-on : (t u : Tree) (clients : Clients) (ks : List Table) → new.lowers ≡ old.lowers → AreTables (IsOpenAs U (lowers_of old) t clients.directories) clients ks → (es : Dentries) → ((c fd : ℕ) (o : OpenDirectory) (h : Handle) → handle_of ks c fd ≡ Some h → IsHandle t clients.directories o h → IsHandle u es o h) → CarriesFiles U V t u clients ks → AreTables (IsOpenAs V (lowers_of new) u es) clients ks
-  tables-on t u clients ks lowers tables es directories files =
-      subst (λ z. AreTables (IsOpenAs V (map layer_of z.items) u es) clients ks) (sym lowers)
-      (tables-moved (IsOpenAs U (lowers_of old) t clients.directories) clients ks tables (IsOpenAs V (lowers_of old) u es)
-      (λ c fd o h at on. open-on U V (lowers_of old) t u clients.directories es o h
-      (λ d e. directories c fd d h on)
-      (λ f e is. file-on U V (lowers_of old) t u f h is (λ k. files.live c fd f h k (at ∙ ap Some e) on) (files.leaves c fd h on))))
+  tables-on t u clients ks lowers tables es directories files = grind arith
 
   -- other layers in which live files stay live
   pub files-stay : (t : Tree) (clients : Clients) (ks : List Table) → StaysLive old new → CarriesFiles U V t t clients ks
@@ -61,29 +46,16 @@ module _ (old new : Layers) where
   module _ (s : State) (mounts : IsMountOf U (lowers_of old) s) (c : ℕ) (k : Call) (clients : Clients) where
     -- a call through which live files stay live, and files files
     pub files-kept : KeepsLive old new k → KeepsLeaves k → CarriesFiles U V s.tree (after s c k).tree clients s.tables
-    files-kept live leaves = record {
-      live = λ b fd f h j at on key. live s mounts c h.node j;
-      leaves = λ b fd h on. leaves s mounts.kept c h.node;
-    }
+    files-kept live leaves = grind arith
 
     -- a call through which those stay so that a handle holds
     pub files-held : KeepsHeldFrom s c clients old new k → KeepsHeldLeaves k → AreCounted clients → CarriesFiles U V s.tree (after s c k).tree clients s.tables
-    files-held live leaves counted = record {
-      live = λ b fd f h j at on key. live h.node j ((counted j).0 (record { client = b; descriptor = fd; file = f; opened = at; key = key })) (held-by s.tables b fd h on);
-      leaves = λ b fd h on. leaves s mounts.kept c h.node (held-by s.tables b fd h on);
-    }
+    files-held live leaves counted = grind (arith, held-by)
 
 module _ (m : Mount) (s : State) (st : IsStateOf m s) (new : Layers) (low : new.lowers ≡ m.layers.lowers) where
   -- other layers and another tree, in which what is open is what it was
   pub state-on : (t : Tree) (serial : ℕ) → IsMountOf (layer_of new.upper) (lowers_of new) (record s { tree = t; serial = serial }) → ((o : OpenDirectory) (h : Handle) → IsHandle s.tree m.clients.directories o h → IsHandle t m.clients.directories o h) → CarriesFiles (layer_of m.layers.upper) (layer_of new.upper) s.tree t m.clients s.tables → IsStateOf (record m { layers = new }) (record s { tree = t; serial = serial })
-  state-on t serial mounts directories files = record {
-    layers = mounts;
-    tables = tables-on m.layers new s.tree t m.clients s.tables low st.tables m.clients.directories (λ b fd o h on. directories o h) files;
-    one = st.one;
-    arrived = st.arrived;
-    redirects = st.redirects;
-    unwatched = st.unwatched;
-  }
+  state-on t serial mounts directories files = grind arith
 
   -- other layers of the same mount, in which live files stay live
   pub state-stays : IsMountOf (layer_of new.upper) (lowers_of new) s → StaysLive m.layers new → IsStateOf (record m { layers = new }) s

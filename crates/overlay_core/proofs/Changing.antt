@@ -1,16 +1,15 @@
 -- The calls that change the layers: what becomes of open directories, and the machine's steps.
-use Rattle.std.proofs.Common.{arith, ◌≡◌, ◌≢◌, ℕ, ◌<◌, Bool, true, false, cond, List, [], ◌∷◌, ◌++◌, Option, None, Some, Result, Ok, Err, IsSome, refl, sym, ap, ◌∙◌, subst, is_some}
-use Rattle.overlay_core.proofs.Words.{after, AllocError, At, Attributes, base, Branch, Call, change, Dentries, Descriptors, Directory, Errno, false≢true, folder_attributes, Handle, handle_of, is_directory, is_folder, IsMountOf, Layer, layer_of, Layers, Leaf, Location, lowers_of, made_way, MountOptions, Name, nat_cmp, New, Node, node_at, NodeId, OnErr, OpenDirectory, option_and_then, option_map, or_else, over_node, Path, put, refusal, Removed, Removes, reply_of, same_id, shows, State, StaysMount, Table, Tree, way_of, when}
+use Rattle.std.proofs.Common.{arith, ◌≡◌, ◌≢◌, ℕ, ◌<◌, Bool, true, false, cond, List, [], ◌∷◌, ◌++◌, Option, None, Some, Result, Ok, Err, IsSome, refl, sym, ap, ◌∙◌, subst}
+use Rattle.overlay_core.proofs.Words.{after, AllocError, At, Attributes, base, Call, change, Dentries, Descriptors, Directory, Errno, false≢true, folder_attributes, Handle, handle_of, is_directory, is_folder, IsMountOf, Layer, layer_of, Layers, Location, lowers_of, made_way, MountOptions, Name, nat_cmp, New, Node, node_at, NodeId, OnErr, OpenDirectory, option_and_then, option_map, or_else, over_node, Path, put, refusal, Removed, Removes, reply_of, shows, State, StaysMount, Table, Tree, way_of, when}
 use Rattle.std.specs.BTreeMap.{get}
 use Rattle.ov_base.specs.declared.call.Call.TheVariants as call
 use Rattle.ov_base.specs.declared.errno.Errno.TheVariants.{EBUSY, EISDIR}
 use Rattle.ov_base.specs.declared.reply.Reply.TheVariants as reply
 use Rattle.plain_model.specs.Layers.{same_path}
-use Rattle.plain_model.specs.Tree.{names_of, entry, with_name}
-use Rattle.plain_model.specs.Machine.{is_root}
+use Rattle.plain_model.specs.Tree.{with_name}
 use Rattle.plain_model.specs.Changes.{lead_way, one_more}
 use Rattle.plain_model.proofs.Paths.{ids_tell, paths_tell}
-use Rattle.mount_laws.specs.Looks.{walk_fault, KeepsHidden, Makes, mkdir_fault}
+use Rattle.mount_laws.specs.Looks.{KeepsHidden, Makes, mkdir_fault}
 use Rattle.mount_laws.specs.Leaves.{MakesLink, symlink_fault}
 use Rattle.mount_laws.specs.Linking.{MakesName, link_fault}
 use Rattle.mount_laws.specs.Removals.{unlink_fault, rmdir_fault, ShowsNoName}
@@ -32,60 +31,38 @@ use Rattle.overlay_core.specs.Living.{StaysLive, KeepsLive, KeepsHeld, KeepsLeav
 use Rattle.overlay_core.specs.States.{Stands, IsHandle, AreTables, AreUnwatched, IsStateOf, StaysState, Serves}
 use Rattle.overlay_core.proofs.Answering.{on-err, serve-refused, serve-done}
 use Rattle.overlay_core.proofs.Counting.{below-find}
-use Rattle.overlay_core.proofs.Serving.{slot-as, slot-open, handle-now, removed-same, open-before, one-fewer}
+use Rattle.overlay_core.proofs.Serving.{slot-open, handle-now, open-before, one-fewer}
 use Rattle.overlay_core.proofs.Stating.{the_layers, the_lowers, the_upper, Alike}
 use Rattle.overlay_core.proofs.Carrying.{AreCounted, CarriesFiles, tables-on, state-stays, files-kept, files-held}
 use Rattle.overlay_core.proofs.Directories.{seen, shown-attributes, shown-directory}
 
--- a directory is there
-folder-some : (o : Option Node) → is_folder o ≡ true → is_some o ≡ true
-folder-some None f = absurd (false≢true f)
-folder-some (Some x) f = refl
-
 -- a directory with another name in it is one still
 named-folder : (n : Name) (e : Option NodeId) (o : Option Node) → is_folder o ≡ true → is_folder (with_name n e o) ≡ true
-named-folder n e None f = f
-named-folder n e (Some (Branch a b names c)) f = refl
-named-folder n e (Some (Leaf content a u l)) f = f
+named-folder n e o f = grind arith
 
 -- a directory of a tree that gets another node is one still
 put-folder : (t : Tree) (x d : NodeId) (o : Option Node) → (x ≡ d → is_folder o ≡ true) → is_folder (t d) ≡ true → is_folder (put t x o d) ≡ true
-put-folder t x d o same f = by (same_id x d) refl
-  where
-    by : (b : Bool) → same_id x d ≡ b → is_folder (cond b o (t d)) ≡ true
-    by true e = same ((ids_tell x d).0 e)
-    by false e = f
+put-folder t x d o same f = grind (arith, ids_tell)
 
 -- and so is one of a tree in which a name leads elsewhere
 way-folder : (t : Tree) (w : Option (NodeId × Name)) (e : Option NodeId) (d : NodeId) → is_folder (t d) ≡ true → is_folder (lead_way t w e d) ≡ true
-way-folder t None e d f = f
-way-folder t (Some w) e d f = put-folder t w.0 d (with_name w.1 e (t w.0)) (λ same. named-folder w.1 e (t w.0) (ap (λ z. is_folder (t z)) same ∙ f)) f
+way-folder t w e d f = grind (arith, put-folder, named-folder)
 
 -- and one of a tree in which a node is made
 made-folder : (t : Tree) (i : ℕ) (w : Option (NodeId × Name)) (x : Node) (d : NodeId) → t (New i) ≡ None → is_folder (t d) ≡ true → is_folder (made_way t i w x d) ≡ true
-made-folder t i None x d free f = f
-made-folder t i (Some w) x d free f =
-    way-folder (put t (New i) (Some x)) (Some w) (Some (New i)) d
-    (put-folder t (New i) d (Some x) (λ e. absurd (false≢true (sym (ap is_folder (ap t (sym e) ∙ free)) ∙ f))) f)
+made-folder t i w x d free f = grind (arith, way-folder, put-folder)
 
 -- a directory with a name more is one
 more-folder : (m : MountOptions) (o : Option Node) → is_folder o ≡ true → is_folder (over_node (one_more m) o) ≡ true
-more-folder m None f = f
-more-folder m (Some (Branch a b names c)) f = refl
-more-folder m (Some (Leaf content a u l)) f = f
+more-folder m o f = grind arith
 
 -- and so is one of a tree in which a node gets a further name
 linked-folder : (m : MountOptions) (t : Tree) (o : Option NodeId) (w : Option (NodeId × Name)) (d : NodeId) → is_folder (t d) ≡ true → is_folder (lead_way (change (one_more m) t o) w o d) ≡ true
-linked-folder m t o w d f = way-folder (change (one_more m) t o) w o d (changed o)
-  where
-    changed : (o : Option NodeId) → is_folder (change (one_more m) t o d) ≡ true
-    changed None = f
-    changed (Some e) = put-folder t e d (over_node (one_more m) (t e)) (λ same. more-folder m (t e) (ap (λ z. is_folder (t z)) same ∙ f)) f
+linked-folder m t o w d f = grind (arith, way-folder, put-folder, more-folder)
 
 -- a directory stands where it stood if its path leads there still, or it was removed
 pub stands-on : (t u : Tree) → KeepsHidden t u → (l : Location) (d : NodeId) → is_folder (t d) ≡ true → ((q : Path) → l ≡ At q → node_at t q ≡ Some d → node_at u q ≡ Some d) → Stands t l d → Stands u l d
-stands-on t u hidden (At p) d f stays at = stays p refl at
-stands-on t u hidden (Removed a) d f stays gone = let kept = hidden d (folder-some (t d) f) gone.hidden in removed-same t u a d kept.0 kept.1 gone
+stands-on t u hidden l d f stays at = grind arith
 
 -- open directories where nothing is removed
 module _ (t u : Tree) (stays : (q : Path) (d : NodeId) → node_at t q ≡ Some d → node_at u q ≡ Some d) (hidden : KeepsHidden t u) (folders : (d : NodeId) → is_folder (t d) ≡ true → is_folder (u d) ≡ true) where
@@ -94,18 +71,11 @@ module _ (t u : Tree) (stays : (q : Path) (d : NodeId) → node_at t q ≡ Some 
 
 -- an unlink that isn't refused is not of a directory
 unlinked-none : (root : Bool) (w : Option Errno) (d : Bool) → or_else (when root EBUSY) (or_else w (when d EISDIR)) ≡ None → d ≡ false
-unlinked-none true w d e = cc
-unlinked-none false (Some x) d e = cc
-unlinked-none false None true e = cc
-unlinked-none false None false e = refl
+unlinked-none root w d e = grind arith
 
 -- what has the attributes of a directory is one
 pub still-folder : (o q : Option Node) → folder_attributes q ≡ folder_attributes o → is_folder o ≡ true → is_folder q ≡ true
-still-folder None q e f = absurd (false≢true f)
-still-folder (Some (Leaf content a u l)) q e f = absurd (false≢true f)
-still-folder (Some (Branch a b names l)) None e f = cc
-still-folder (Some (Branch a b names l)) (Some (Leaf content z u m)) e f = cc
-still-folder (Some (Branch a b names l)) (Some (Branch z k ns m)) e f = refl
+still-folder o q e f = grind arith
 
 -- open directories where one is removed
 module _ (s : State) (c : ℕ) (p : Path) (k : Call) (V : Layer) (lowers : List Layer) (x : Removes V lowers s c p k) where
@@ -140,11 +110,7 @@ module _ (s : State) (c : ℕ) (p : Path) (k : Call) (V : Layer) (lowers : List 
 
 -- clients that have the same descriptors have the same tables
 tables-attached : (P : handles.Handle → Handle → Type 0) (clients new : Clients) (ks : List Table) → new.attached ≡ clients.attached → AreTables P clients ks → AreTables P new ks
-tables-attached P clients new ks same tables = record {
-  attached = λ b. tables.attached b ∙ sym (ap (λ z. is_some (get nat_cmp z b)) same);
-  room = λ b. tables.room b ∙ sym (ap (λ z. cond (is_some (get nat_cmp z b)) 64 0) same);
-  slots = λ b d. slot-as P _ _ _ _ (sym (ap (λ z. option_and_then (λ (e : Descriptors). opened e.slots.items d) (get nat_cmp z b)) same)) refl (tables.slots b d);
-}
+tables-attached P clients new ks same tables = grind arith
 
 -- and have the same files open
 one-attached : (clients new : Clients) (ks : List Table) → new.attached ≡ clients.attached → AreOne clients ks → AreOne new ks
@@ -159,26 +125,13 @@ record Beneath (t : Tree) (p : Path) : Type 0 where
   pub at : node_at t (name ∷ p) ≡ Some node
   pub directory : is_folder (t node) ≡ true
 
--- what has a name in it is a directory
-named-is-folder : (o : Option Node) (n : Name) (d : NodeId) → names_of o n ≡ Some d → is_folder o ≡ true
-named-is-folder None n d e = cc
-named-is-folder (Some (Leaf content a u l)) n d e = cc
-named-is-folder (Some (Branch a b names c)) n d e = refl
-
 beneath : (t : Tree) (p : Path) (r : Path) (n : Name) (d : NodeId) → node_at t (n ∷ (r ++ p)) ≡ Some d → is_folder (t d) ≡ true → Beneath t p
 beneath t p [] n d at f = record { name = n; node = d; at = at; directory = f }
-beneath t p (x ∷ r) n d at f = by (λ up e g. beneath t p r x up e g) (node_at t (x ∷ (r ++ p))) refl at
-  where
-    by : ((up : NodeId) → node_at t (x ∷ (r ++ p)) ≡ Some up → is_folder (t up) ≡ true → Beneath t p) → (o : Option NodeId) → node_at t (x ∷ (r ++ p)) ≡ o → entry t o n ≡ Some d → Beneath t p
-    by later None e is = let no : None ≡ Some d = is in absurd (cc)
-    by later (Some up) e is = later up e (named-is-folder (t up) n d is)
+beneath t p (x ∷ r) n d at f = grind (arith, beneath t p r x)
 
 -- a handle on the directory that is open at a path is on the node there
 stands-at : (t : Tree) (ds : Dentries) (o : OpenDirectory) (h : Handle) (k : ℕ) (q : Path) → IsHandle t ds o h → o.directory ≡ k → places.opened ds k ≡ Some (At q) → node_at t q ≡ Some h.node
-stands-at t ds o h k q is on at =
-    let located : Some is.location ≡ Some (At q) = sym is.located ∙ ap (places.opened ds) on ∙ at in
-    let same : is.location ≡ At q = cc in
-    subst (λ z. Stands t z h.node) same is.stands
+stands-at t ds o h k q is on at = grind arith
 
 -- each directory that is open has a handle
 abbrev pub AreHeld : Clients → Type 0
@@ -269,9 +222,7 @@ module _ (m : Mount) (s : State) (st : IsStateOf m s) (new : Layers) where
 
   -- no directory is open at the path of a file or link
   not-there : (p : Path) → unlink_fault (the_layers m) p ≡ None → (l : Location) (d : NodeId) → Stands s.tree l d → is_folder (s.tree d) ≡ true → l ≢ At p
-  not-there p ok l d stands f e =
-      let none : is_directory (shows 0 (the_layers m) p) ≡ false = unlinked-none (is_root p) (walk_fault (the_layers m) p) (is_directory (shows 0 (the_layers m) p)) ok in
-      false≢true (sym none ∙ shown-directory (the_upper m) (the_lowers m) s st.layers p d (subst (λ z. Stands s.tree z d) e stands) f)
+  not-there p ok l d stands f e = grind (arith, unlinked-none, shown-directory)
 
   -- no directory is open below one in which no name is shown
   pub none-below : (p : Path) → ShowsNoName (the_layers m) p → AreHeld m.clients → NoneBelow m.clients.directories p

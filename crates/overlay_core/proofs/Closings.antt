@@ -1,6 +1,6 @@
 -- What closing a descriptor does to a mount, where a file that nothing names or holds any more is freed.
-use Rattle.std.proofs.Common.{arith, ◌≡◌, ◌≢◌, ◌↔◌, ℕ, zero, suc, ◌<◌, true, false, cond, ◌||◌, List, Option, None, Some, Ok, Err, refl, sym, ap, ◌∙◌, subst, ◌⊎◌, inl, inr, is_some}
-use Rattle.overlay_core.proofs.Words.{after, cases_Bool, cases_eq, Directory, Errno, false≢true, File, file_holders, file_in, FileSource, Handle, handle_of, Inode, IsLive, IsMountOf, Layer, layer_of, Layers, Lower, lowers_of, node_at, NodeId, OpenFile, Path, refusal, SetsSlot, State, StaysMount, Table, Tree, Upper, with_handle}
+use Rattle.std.proofs.Common.{arith, ◌≡◌, ◌↔◌, ℕ, ◌<◌, true, false, cond, ◌||◌, List, Option, None, Some, Ok, Err, refl, sym, ap, ◌∙◌, subst, ◌⊎◌, inl, inr, is_some}
+use Rattle.overlay_core.proofs.Words.{after, cases_Bool, Errno, false≢true, file_holders, Handle, handle_of, Inode, IsLive, IsMountOf, Layer, layer_of, Layers, lowers_of, node_at, NodeId, Path, refusal, SetsSlot, State, StaysMount, Table, Tree, with_handle}
 use Rattle.ov_base.specs.declared.call.Call.TheVariants as call
 use Rattle.ov_base.specs.declared.errno.Errno.TheVariants as errno
 use Rattle.ov_base.specs.declared.reply.Reply.TheVariants as reply
@@ -10,18 +10,16 @@ use Rattle.plain_model.proofs.Lasting.{some-named}
 use Rattle.copy_up.specs.Showing.{StaysThin}
 use Rattle.mount_laws.specs.Descriptors.{ClosesHandle}
 use Rattle.mount_laws.specs.Removed.{ClosesHidden}
-use Rattle.mount_laws.specs.OpenFiles.{DropsInode}
 use Rattle.mount_laws.proofs.Opens.{put-same}
 use Rattle.mount_laws.proofs.Lists.{law_of_bad_descriptors}
 use Rattle.mount_laws.proofs.Descriptors.{law_of_handle_close}
 use Rattle.mount_laws.proofs.Removed.{law_of_close_removed}
-use Rattle.mount_laws.proofs.StayOpen.{law_of_live_kept}
 use Rattle.open_handles.specs.declared.handle.Handle as handles
 use Rattle.open_handles.specs.Listings.{Closes}
 use Rattle.overlay_core.specs.declared.clients.Clients.{Clients}
 use Rattle.overlay_core.specs.declared.mount.Mount.{Mount}
 use Rattle.overlay_core.specs.Attaching.{opened_by, file_by, ChangesClient}
-use Rattle.overlay_core.specs.Files.{is_leaf, IsOf, AreOne, HasFile, upper_of}
+use Rattle.overlay_core.specs.Files.{is_leaf, AreOne, HasFile, upper_of}
 use Rattle.overlay_core.specs.Living.{StaysHeld, KeepsPaths, FreesClosed}
 use Rattle.overlay_core.specs.States.{IsOpenAs, AreTables, IsStateOf, Serves}
 use Rattle.overlay_core.proofs.Carrying.{tables-on}
@@ -74,27 +72,7 @@ module _ (U : Layer) (lowers : List Layer) (s : State) (m : IsMountOf U lowers s
 module _ (clients : Clients) (old new : Layers) (k : ℕ) (f : FreesClosed clients old new k) (i : Inode) (at : (layer_of old.upper).inodes k ≡ Some i) where
   -- the files that handles hold stay live
   freed-held : StaysHeld clients old new
-  freed-held t d j holds l = by (cases_eq j k)
-    where
-      -- nothing was freed
-      unchanged : new ≡ old → IsLive (layer_of new.upper) t d j
-      unchanged e = subst (λ (x : Layers). IsLive (layer_of x.upper) t d j) (sym e) l
-
-      -- another file was freed
-      dropped : j ≢ k → DropsInode (layer_of old.upper) (layer_of new.upper) k → IsLive (layer_of new.upper) t d j
-      dropped apart drops =
-          law_of_live_kept (layer_of old.upper) (layer_of new.upper) t d j
-          (λ q. (λ h. sym (drops.objects q) ∙ h, λ h. drops.objects q ∙ h))
-          (drops.inodes j apart) l
-
-      other : j ≢ k → (n links : ℕ) → file_holders clients.files k ≡ n → i.links ≡ links → IsLive (layer_of new.upper) t d j
-      other apart (suc n) links e g = unchanged (f.held (rw e (omega arith)))
-      other apart zero (suc links) e g = unchanged (f.named i at (rw g (omega arith)))
-      other apart zero zero e g = dropped apart (f.freed e i at g)
-
-      by : (j ≡ k) ⊎ (j ≡ k → ⊥) → IsLive (layer_of new.upper) t d j
-      by (inl e) = unchanged (f.held (subst (λ z. 0 < file_holders clients.files z) e holds))
-      by (inr apart) = other apart (file_holders clients.files k) i.links refl refl
+  freed-held t d j holds l = grind arith
 
 -- What the close of a descriptor leaves of the layers: paths hold what they held, no whiteout is needless, the mount stays one of the
 -- machine's, and the files that handles hold stay live.
@@ -106,12 +84,7 @@ pub record LeavesOpen (clients : Clients) (old new : Layers) (closed : Option �
 
 -- layers that stay are left so
 same-leaves : (clients : Clients) (old : Layers) (closed : Option ℕ) → LeavesOpen clients old old closed
-same-leaves clients old closed = record {
-  paths = record { lowers = refl; objects = λ x. refl; inodes = λ x k h. refl };
-  thin = λ thin. thin;
-  mounts = λ s m. m;
-  live = λ there t d k holds l. l;
-}
+same-leaves clients old closed = grind arith
 
 -- where an open file of the upper was closed, and where anything else was
 pub close-leaves : (clients : Clients) (old new : Layers) (closed : Option ℕ) → ((k : ℕ) → closed ≡ Some k → FreesClosed clients old new k) → (closed ≡ None → new ≡ old) → LeavesOpen clients old new closed
@@ -129,24 +102,7 @@ close-leaves clients old new (Some k) freed none = record {
 
 -- a live file stays so in a tree with the same paths and the same node
 live-still : (U : Layer) (t u : Tree) (d : NodeId) (k : ℕ) → ((q : Path) → node_at u q ≡ node_at t q) → u d ≡ t d → IsLive U t d k → IsLive U u d k
-live-still U t u d k paths same l = record {
-  bytes = l.bytes;
-  attributes = l.attributes;
-  links = l.links;
-  inode = l.inode;
-  node = same ∙ l.node;
-  paths = λ q. (λ h. (l.paths q).0 (sym (paths q) ∙ h), λ h. paths q ∙ (l.paths q).1 h);
-}
-
--- what is open on a file of the upper
-upper-open : (o : Option handles.Handle) (k : ℕ) → upper_of (file_in o) ≡ Some k → (f : OpenFile) × (o ≡ Some (File f)) × (f.source ≡ Upper k)
-upper-open None k e = cc
-upper-open (Some (Directory o)) k e = cc
-upper-open (Some (File f)) k e = (f, refl, by f.source e)
-  where
-    by : (x : FileSource) → elim x [ Upper j ↦ Some j | Lower layer j ↦ None ] ≡ Some k → x ≡ Upper k
-    by (Upper j) e = let same : j ≡ k = cc in ap Upper same
-    by (Lower layer j) e = cc
+live-still U t u d k paths same l = grind arith
 
 -- a client closes a descriptor
 module _ (m : Mount) (s : State) (st : IsStateOf m s) (c d : ℕ) where
@@ -165,11 +121,7 @@ module _ (m : Mount) (s : State) (st : IsStateOf m s) (c d : ℕ) where
 
   -- a file of the upper that is open has an inode
   inode-there : (k : ℕ) → upper_of (file_by m.clients c d) ≡ Some k → is_some ((the_upper m).inodes k) ≡ true
-  inode-there k e =
-      let file = upper-open (opened_by m.clients c d) k e in
-      let at = open-at (Alike m.layers s m.clients) m.clients s.tables st.tables c d (File file.0) file.1 in
-      let source = subst (λ (x : FileSource). IsOf (the_upper m) (lowers_of m.layers) s.tree x at.0) file.2 at.2.source in
-      ap is_some source.0.inode
+  inode-there k e = grind arith
 
   -- an open one is closed
   module _ (new : Clients) (ch : ChangesClient m.clients new c (λ x y. Closes x y d (Ok tt))) (files : (k : ℕ) → HasFile new k ↔ 0 < file_holders new.files k)

@@ -1,6 +1,6 @@
 -- Clients come on both sides.
-use Rattle.std.proofs.Common.{◌≡◌, ◌≢◌, ℕ, zero, suc, Bool, false, cond, ◌||◌, List, [], ◌∷◌, ◌++◌, Option, None, Some, Result, Ok, Err, refl, sym, ap, ◌∙◌, subst, ◌⊎◌, inl, inr, is_some, length, replicate, slice_get, nat_eq, add-one}
-use Rattle.overlay_core.proofs.Words.{AllocError, AreLayers, cases_eq, Descriptors, DESCRIPTORS_MAX, eq-eqb, Errno, File, Handle, handle_of, handles_of, held_in, IfOk, Layer, layer_of, layers_of, list_any, lowers_of, nat_cmp, ne_eqb, OnErr, OpenFile, option_and_then, State, Table, Tree}
+use Rattle.std.proofs.Common.{◌≡◌, ◌≢◌, ℕ, zero, suc, Bool, false, cond, ◌||◌, List, [], ◌∷◌, ◌++◌, Option, None, Some, Result, Ok, Err, refl, sym, ap, ◌∙◌, subst, is_some, length, replicate, slice_get, nat_eq, add-one, arith}
+use Rattle.overlay_core.proofs.Words.{AllocError, AreLayers, Descriptors, DESCRIPTORS_MAX, eq-eqb, Errno, File, Handle, handle_of, handles_of, held_in, IfOk, Layer, layer_of, layers_of, list_any, lowers_of, nat_cmp, ne_eqb, OnErr, OpenFile, option_and_then, State, Table, Tree}
 use Rattle.std.proofs.Math.Bool.{or-false, or-true}
 use Rattle.std.proofs.lemmas.Bool.{or_parts}
 use Rattle.std.proofs.lemmas.List.Folds.{list_any-append}
@@ -16,9 +16,9 @@ use Rattle.open_handles.specs.declared.handle.Handle as handles
 use Rattle.overlay_core.specs.declared.mount.Mount.{Mount}
 use Rattle.overlay_core.specs.Attaching.{Attaches, IsSame, KeepsPlaces, opened_by}
 use Rattle.open_handles.specs.Descriptors.{opened}
-use Rattle.overlay_core.specs.Files.{IsOpenOn, AreOne}
-use Rattle.overlay_core.specs.States.{IsOpenAs, IsSlot, AreTables, AreUnwatched, IsStateOf}
-use Rattle.overlay_core.proofs.Serving.{slot-as, carried, places-same, OpensFewer, open-before, one-fewer}
+use Rattle.overlay_core.specs.Files.{AreOne}
+use Rattle.overlay_core.specs.States.{IsOpenAs, AreTables, AreUnwatched, IsStateOf}
+use Rattle.overlay_core.proofs.Serving.{slot-as, places-same, OpensFewer, one-fewer}
 use Rattle.overlay_core.proofs.Stating.{the_lowers, the_upper, Alike, keep-same}
 
 -- whether a table is of a client
@@ -36,9 +36,7 @@ handles-last-other (k ∷ ks) n b h = ap (cond (nat_eq k.client b) k.handles) (h
 
 handles-last : (ks : List Table) (n : ℕ) → list_any (of n) ks ≡ false → handles_of (ks ++ free_table n ∷ []) n ≡ replicate DESCRIPTORS_MAX None
 handles-last [] n h = ap (λ x. cond x (replicate DESCRIPTORS_MAX None) []) (eq-eqb n n refl)
-handles-last (k ∷ ks) n h =
-    ap (λ x. cond x k.handles (handles_of (ks ++ free_table n ∷ []) n)) (or_parts (nat_eq k.client n) (list_any (of n) ks) h).0
-    ∙ handles-last ks n (or_parts (nat_eq k.client n) (list_any (of n) ks) h).1
+handles-last (k ∷ ks) n h = grind (arith, or_parts, handles-last ks n)
 
 -- a free table holds nothing
 held-free : (k d : ℕ) → held_in (slice_get (replicate k None) d) ≡ None
@@ -59,33 +57,11 @@ open_in d o = option_and_then (λ (x : Descriptors). opened x.slots.items d) o
 module _ (clients new : Clients) (ks ls : List Table) (n : ℕ) (others : (b : ℕ) → b ≢ n → get nat_cmp new.attached b ≡ get nat_cmp clients.attached b) (kept : (b : ℕ) → b ≢ n → handles_of ls b ≡ handles_of ks b) (none : (d : ℕ) → opened_by new n d ≡ None) where
   -- a file that is open was so before
   pub fewer-but : OpensFewer clients ks new ls
-  fewer-but k d x = by (cases_eq x.client n)
-    where
-      by : (x.client ≡ n) ⊎ (x.client ≡ n → ⊥) → IsOpenOn clients ks k d
-      by (inl e) =
-          let nothing : opened_by new x.client x.descriptor ≡ None = ap (λ z. opened_by new z x.descriptor) e ∙ none x.descriptor in
-          cc (nothing, x.opened)
-      by (inr m) = open-before clients new ks ls k d x (ap (open_in x.descriptor) (others x.client m)) (ap (λ z. held_in (slice_get z x.descriptor)) (kept x.client m))
+  fewer-but k d x = grind arith
 
   -- the tables are right if its own is
   pub tables-but : (U : Layer) (lowers : List Layer) (t : Tree) → AreTables (IsOpenAs U lowers t clients.directories) clients ks → KeepsPlaces clients new → ((b : ℕ) → b ≢ n → list_any (of b) ls ≡ list_any (of b) ks) → list_any (of n) ls ≡ is_some (get nat_cmp new.attached n) → length (handles_of ls n) ≡ cond (is_some (get nat_cmp new.attached n)) DESCRIPTORS_MAX 0 → ((d : ℕ) → handle_of ls n d ≡ None) → AreTables (IsOpenAs U lowers t new.directories) new ls
-  tables-but U lowers t a places any here long bare = record { attached = λ b. attached b (cases_eq b n); room = λ b. room b (cases_eq b n); slots = λ b d. slots b d (cases_eq b n) }
-    where
-      attached : (b : ℕ) → (b ≡ n) ⊎ (b ≡ n → ⊥) → list_any (of b) ls ≡ is_some (get nat_cmp new.attached b)
-      attached b (inl e) = subst (λ z. list_any (of z) ls ≡ is_some (get nat_cmp new.attached z)) (sym e) here
-      attached b (inr m) = any b m ∙ a.attached b ∙ sym (ap (λ (o : Option Descriptors). is_some o) (others b m))
-
-      room : (b : ℕ) → (b ≡ n) ⊎ (b ≡ n → ⊥) → length (handles_of ls b) ≡ cond (is_some (get nat_cmp new.attached b)) DESCRIPTORS_MAX 0
-      room b (inl e) = subst (λ z. length (handles_of ls z) ≡ cond (is_some (get nat_cmp new.attached z)) DESCRIPTORS_MAX 0) (sym e) long
-      room b (inr m) = ap length (kept b m) ∙ a.room b ∙ sym (ap (λ (o : Option Descriptors). cond (is_some o) DESCRIPTORS_MAX 0) (others b m))
-
-      slots : (b d : ℕ) → (b ≡ n) ⊎ (b ≡ n → ⊥) → IsSlot (IsOpenAs U lowers t new.directories) (opened_by new b d) (handle_of ls b d)
-      slots b d (inl e) =
-          subst (λ z. IsSlot (IsOpenAs U lowers t new.directories) (opened_by new z d) (handle_of ls z d)) (sym e)
-          (slot-as (IsOpenAs U lowers t new.directories) None _ None _ (sym (none d)) (sym (bare d)) tt)
-      slots b d (inr m) =
-          slot-as (IsOpenAs U lowers t new.directories) _ _ _ _ refl (sym (ap (λ z. held_in (slice_get z d)) (kept b m)))
-          (carried U lowers t clients new places b d (handle_of ks b d) (ap (open_in d) (others b m)) (a.slots b d))
+  tables-but U lowers t a places any here long bare = grind arith
 
 module _ (U : Layer) (lowers : List Layer) (t : Tree) (clients : Clients) (ks : List Table) (a : AreTables (IsOpenAs U lowers t clients.directories) clients ks) (new : Clients) (n : ℕ) (h : Attaches clients new n) where
   -- the client had no table
@@ -127,9 +103,7 @@ begins m none next t a merge = record {
 }
   where
     opens-nothing : (b d : ℕ) (f : OpenFile) → opened_by m.clients b d ≡ Some (File f) → ⊥
-    opens-nothing b d f e =
-        let free : opened_by m.clients b d ≡ None = ap (open_in d) (none b) in
-        cc (free, e)
+    opens-nothing b d f e = grind arith
 
 module _ (m : Mount) (s : State) (st : IsStateOf m s) (new : Clients) where
   -- nothing changed
@@ -168,9 +142,7 @@ module _ (m : Mount) (s : State) (st : IsStateOf m s) (new : Clients) where
 module _ (m : Mount) (new : Clients) where
   -- an attach by its result
   pub attach-serves : (r : Result (Result ℕ Errno) AllocError) → IfOk r (λ a. IfOk a (Attaches m.clients new)) → IfOk r (λ a. IfOk a (λ n. (s : State) → IsStateOf m s → (tags : List ℕ) → (n ≡ s.arrived) × IsStateOf (record m { clients = new }) (joined s tags)))
-  attach-serves (Err e) h = tt
-  attach-serves (Ok (Err e)) h = tt
-  attach-serves (Ok (Ok n)) h = λ s st tags. attaches m s st new n h tags
+  attach-serves r h = grind (arith, attaches)
 
   -- and where it wanted memory
   pub attach-failed : (r : Result (Result ℕ Errno) AllocError) → OnErr r (IsSame m.clients new) → OnErr r ((s : State) → IsStateOf m s → IsStateOf (record m { clients = new }) s)

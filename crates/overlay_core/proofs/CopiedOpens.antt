@@ -1,6 +1,6 @@
 -- Opens that copy a file up: the states that the mount stands for on the way.
-use Rattle.std.proofs.Common.{◌≡◌, ◌≢◌, ◌↔◌, ℕ, ◌<◌, Bool, true, false, cond, List, [], Option, None, Some, Result, Ok, Err, MatchResult, IfOk, OnErr, refl, sym, ap, ◌∙◌, subst, inl, inr, is_some}
-use Rattle.overlay_core.proofs.Words.{after, AllocError, Attributes, bad_flags, base, bytes_at, Call, change, Contents, EINVAL, false≢true, File, file_bytes, Handle, Inode, inode_of, IsLive, IsMountOf, Layer, layer_of, Layers, layers_of, Leaf, live_handle, lowers_of, lowest_free, MountOptions, Node, node_at, node_in, NodeId, OpenFile, OpenFlags, opening_fault, option_and_then, or_else, over_node, Own, parents_fault, Path, Place, put, refusal, rewritten, same_id, see, shows, shows_link, ShowsInode, sized, State, StaysLayers, Tree, trees, Upper, way_of, when, with_bytes, with_handle}
+use Rattle.std.proofs.Common.{◌≡◌, ◌≢◌, ◌↔◌, ℕ, ◌<◌, true, false, cond, List, [], Option, None, Some, Result, Ok, Err, IfOk, OnErr, refl, sym, ap, ◌∙◌, subst, inl, inr, is_some, arith}
+use Rattle.overlay_core.proofs.Words.{after, AllocError, Attributes, bad_flags, base, bytes_at, Call, change, Contents, EINVAL, false≢true, File, file_bytes, Handle, Inode, inode_of, IsLive, IsMountOf, Layer, layer_of, Layers, layers_of, Leaf, live_handle, lowers_of, lowest_free, MountOptions, Node, node_at, NodeId, OpenFile, OpenFlags, opening_fault, option_and_then, or_else, over_node, Own, parents_fault, Path, Place, put, refusal, rewritten, see, shows, shows_link, ShowsInode, sized, State, StaysLayers, Tree, Upper, way_of, when, with_bytes, with_handle}
 use Rattle.slab.specs.Slab.{get}
 use Rattle.ov_base.specs.declared.bytes.Content.TheVariants as content
 use Rattle.ov_base.specs.declared.call.Call.TheVariants as call
@@ -15,7 +15,6 @@ use Rattle.plain_model.proofs.Paths.{ids_tell}
 use Rattle.layer_tree.specs.declared.node.Inode.{Inode as StoredInode}
 use Rattle.layer_tree.specs.declared.node.Node.TheVariants as node
 use Rattle.layer_tree.proofs.Walks.{same_path}
-use Rattle.merged_lookup.proofs.Looking.{inode-shown}
 use Rattle.mount_laws.specs.Looks.{absent, is_link_inode}
 use Rattle.mount_laws.specs.Attributes.{shown_attributes, chown_fault}
 use Rattle.mount_laws.specs.Altered.{AltersState}
@@ -47,12 +46,12 @@ use Rattle.overlay_core.proofs.OpeningWrites.{sized-none, writing-served}
 use Rattle.overlay_core.proofs.Rewritten.{state-rewritten}
 use Rattle.overlay_core.proofs.Stating.{the_layers, the_lowers, the_upper}
 
--- a copy of what stands at a place has the attributes that are shown
-pub attributes-stored : (l : Layers) (d : Place) (x : StoredInode) → Some (node.Inode x) ≡ node_in (trees l) d → (E : AllocError → Type 0) (r : Result Attributes AllocError) → MatchResult r (λ b. b ≡ x.attributes) E → IfOk r (λ a. (p : Path) (i : Inode) → shows 0 (layers_of l) p ≡ Some (Contents d.layer d.key (Some i)) → a ≡ i.attributes)
-attributes-stored l d x is E (Err e) h = tt
-attributes-stored l d x is E (Ok a) h = λ p i shown.
-    let same : option_and_then inode_of (Some (node.Inode x)) ≡ Some i = ap (option_and_then inode_of) is ∙ inode-shown 0 (trees l) (trees l) refl p d.layer d.key (Some i) shown in
-    h ∙ (let z : x.attributes ≡ i.attributes = cc in z)
+-- the inode that is shown at a place has the attributes that are shown
+pub attributes-stored : (l : Layers) (d : Place) (x : StoredInode) → ((p : Path) → ShowsInode l p d → shows 0 (layers_of l) p ≡ Some (Contents d.layer d.key (inode_of (node.Inode x)))) → (p : Path) (i : Inode) → shows 0 (layers_of l) p ≡ Some (Contents d.layer d.key (Some i)) → x.attributes ≡ i.attributes
+attributes-stored l d x is p i shown =
+    let both = sym (is p (record { inode = Some i; shown = shown })) ∙ shown in
+    let same : x.attributes ≡ i.attributes = cc in
+    same
 
 -- a file of a lower layer is copied, with its own attributes
 abbrev pub Copied : Layers → Layers → Path → Place → (Inode → Attributes) → ℕ → Type 0
@@ -68,16 +67,11 @@ copied-as old new p q d a same own (Ok key) h = λ i shown.
 
 -- the lower layers stay where a file is copied, and where memory is wanted for that
 pub copied-lowers : (old new : Layers) (q : Path) (d : Place) (a : Attributes) (i : Inode) → shows 0 (layers_of old) q ≡ Some (Contents d.layer d.key (Some i)) → (r : Result ℕ AllocError) → IfOk r (Copied old new q d (λ i. a)) → OnErr r (ShowsSame old new) → new.lowers ≡ old.lowers
-copied-lowers old new q d a i shown (Ok key) h same = (h i shown).0.lowers
-copied-lowers old new q d a i shown (Err e) h same = same.lowers
+copied-lowers old new q d a i shown r h same = grind arith
 
 -- a node that is put at an identity twice is put there once
 put-again : (t : Tree) (d : NodeId) (o q : Option Node) → put (put t d o) d q ≡ put t d q
-put-again t d o q = λ i x. by (same_id d x) (t x) i
-  where
-    by : (b : Bool) (z : Option Node) → cond b q (cond b o z) ≡ cond b q z
-    by true z = refl
-    by false z = refl
+put-again t d o q = grind arith
 
 -- a file of a lower layer that is opened to be written, on its node, becomes the upper's own
 module _ (f : OpenFlags) (w : f.writes ≡ true) (options : MountOptions) (t : Tree) (d : NodeId) (bytes : List ℕ) (a : Attributes) (u : Origin) (n : ℕ) (is : t d ≡ Some (Leaf (content.File bytes) a u n)) where

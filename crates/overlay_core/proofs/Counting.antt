@@ -1,10 +1,10 @@
 -- The handles of all clients on a directory or a file, after one client's descriptors changed.
-use Rattle.std.proofs.Common.{arith, ◌≡◌, ◌≢◌, ℕ, zero, suc, ◌+◌, ◌<◌, ◌≤◌, Bool, true, false, cond, List, [], ◌∷◌, Option, None, Some, refl, ap, ◌∙◌, inl, inr, is_some, nat_eq, eqb-true}
-use Rattle.overlay_core.proofs.Words.{cases_eq, Descriptors, Directory, File, FileSource, Lower, OpenDirectory, OpenFile, option_and_then, Upper}
+use Rattle.std.proofs.Common.{arith, ◌≡◌, ◌≢◌, ℕ, zero, suc, ◌+◌, ◌<◌, ◌≤◌, true, List, [], ◌∷◌, Option, None, Some, refl, ap, ◌∙◌, is_some}
+use Rattle.overlay_core.proofs.Words.{cases_eq, Descriptors, Directory, File, OpenDirectory, OpenFile, option_and_then, Upper}
 use Rattle.std.specs.Option.{option_map_or}
 use Rattle.open_handles.specs.declared.handle.Handle as handles
 use Rattle.open_handles.specs.Descriptors.{opened}
-use Rattle.open_handles.specs.Holding.{holds, handles_on, is_upper, holds_file, files_on}
+use Rattle.open_handles.specs.Holding.{holds, handles_on, holds_file, files_on}
 use Rattle.open_handles.proofs.Holding.{handles_on-some, files_on-some}
 use Rattle.overlay_core.specs.Held.{sum_below, handles_by, handles_below, files_by, files_below}
 
@@ -18,33 +18,17 @@ module _ (count : Option Descriptors → ℕ) where
   -- where a count is the same of each client, the sum is
   pub below-same : (f g : Found) (n : ℕ) → ((m : ℕ) → m < n → count (g m) ≡ count (f m)) → sum_below count g n ≡ sum_below count f n
   below-same f g zero same = refl
-  below-same f g (suc n) same =
-      let here : count (g n) ≡ count (f n) = same n (omega arith) in
-      let rest : sum_below count g n ≡ sum_below count f n = below-same f g n (λ m h. same m (omega arith)) in
-      omega arith
+  below-same f g (suc n) same = grind (arith, below-same f g n)
 
   -- where one client's changes, the sum changes as that client's
   pub below-changes : (f g : Found) (n c : ℕ) → c < n → ((m : ℕ) → m ≢ c → g m ≡ f m) → sum_below count g n + count (f c) ≡ sum_below count f n + count (g c)
   below-changes f g zero c h others = absurd (omega arith)
-  below-changes f g (suc n) c h others = elim (cases_eq n c) [
-    | inl e ↦
-        let rest : sum_below count g n ≡ sum_below count f n = below-same f g n (λ m l. ap count (others m (λ same. absurd (omega arith)))) in
-        let old : count (f n) ≡ count (f c) = ap (λ m. count (f m)) e in
-        let new : count (g n) ≡ count (g c) = ap (λ m. count (g m)) e in
-        omega arith
-    | inr off ↦
-        let rest = below-changes f g n c (omega arith) others in
-        let here : count (g n) ≡ count (f n) = ap count (others n off) in
-        omega arith
-  ]
+  below-changes f g (suc n) c h others = grind (arith, cases_eq, below-same f g n, below-changes f g n c)
 
   -- one client's is no more than the sum
   pub below-one : (f : Found) (n c : ℕ) → c < n → count (f c) ≤ sum_below count f n
   below-one f zero c h = absurd (omega arith)
-  below-one f (suc n) c h = elim (cases_eq n c) [
-    | inl e ↦ let same : count (f n) ≡ count (f c) = ap (λ m. count (f m)) e in omega arith
-    | inr off ↦ let rest = below-one f n c (omega arith) in omega arith
-  ]
+  below-one f (suc n) c h = grind (arith, cases_eq, below-one f n c)
 
 -- whose descriptor is open is attached, with these descriptors
 client-with : (f : Found) (c d : ℕ) (o : handles.Handle) → option_and_then (λ (e : Descriptors). opened e.slots.items d) (f c) ≡ Some o → (e : Descriptors) × (f c ≡ Some e) × (opened e.slots.items d ≡ Some o)
@@ -107,25 +91,11 @@ module _ (one : Option handles.Handle → ℕ) (on : Slots → ℕ) (bare : one 
 
 -- what counts on a directory is a handle on it
 held-on : (h : handles.Handle) (k : ℕ) → 0 < holds (Some h) k → (o : OpenDirectory) × (h ≡ Directory o) × (o.directory ≡ k)
-held-on (File x) k some = absurd (omega arith)
-held-on (Directory o) k some = (o, refl, by (nat_eq o.directory k) refl some)
-  where
-    by : (b : Bool) → nat_eq o.directory k ≡ b → 0 < cond {A = ℕ} b 1 0 → o.directory ≡ k
-    by true e more = eqb-true o.directory k e
-    by false e more = absurd (omega arith)
+held-on h k some = grind arith
 
 -- and on a file of the upper
 held-file : (h : handles.Handle) (k : ℕ) → 0 < holds_file (Some h) k → (x : OpenFile) × (h ≡ File x) × (x.source ≡ Upper k)
-held-file (Directory o) k some = absurd (omega arith)
-held-file (File x) k some = (x, refl, by x.source some)
-  where
-    by : (source : FileSource) → 0 < is_upper source k → source ≡ Upper k
-    by (Lower layer key) more = absurd (omega arith)
-    by (Upper key) more = of (nat_eq key k) refl more
-      where
-        of : (b : Bool) → nat_eq key k ≡ b → 0 < cond {A = ℕ} b 1 0 → Upper key ≡ Upper k
-        of true e more = ap Upper (eqb-true key k e)
-        of false e more = absurd (omega arith)
+held-file h k some = grind arith
 
 -- a client's handle on the directory of this number
 pub record HeldBy (f : Found) (k : ℕ) : Type 0 where

@@ -1,6 +1,6 @@
 -- Runs grow at their end, and what a change of one job makes of counts.
-use Rattle.std.proofs.Common.{arith, ◌≡◌, ◌≢◌, ℕ, suc, zero, ◌+◌, ◌<◌, ◌≤◌, Bool, true, false, ◌||◌, List, [], ◌∷◌, ◌++◌, length, get_or, cond, Option, Some, None, refl, sym, ap, subst, ◌∙◌, slice_get, nat_eq, take, option_map, ◌⊎◌, inl, inr}
-use Rattle.overlay_core.proofs.Words.{Call, cases_eq, eq-eqb, false≢true, list_any, ne_eqb, Reply, State}
+use Rattle.std.proofs.Common.{arith, ◌≡◌, ℕ, suc, zero, ◌+◌, ◌<◌, ◌≤◌, Bool, true, false, ◌||◌, List, [], ◌∷◌, ◌++◌, length, get_or, cond, Option, Some, refl, sym, ap, subst, ◌∙◌, slice_get, nat_eq, take, option_map}
+use Rattle.overlay_core.proofs.Words.{Call, cases_eq, eq-eqb, list_any, ne_eqb, Reply, State}
 use Rattle.std.proofs.Math.ListN.{set}
 use Rattle.std.proofs.Math.Bool.{or-false}
 use Rattle.std.proofs.lemmas.List.Folds.{list_any-append}
@@ -14,23 +14,11 @@ use Rattle.overlay_core.specs.declared.job.Standing.TheVariants.{Open, Answered,
 use Rattle.overlay_core.specs.declared.mount.Mount.{Mount}
 use Rattle.overlay_core.specs.Agreement.{Stays, Goes}
 use Rattle.overlay_core.specs.Attaching.{KeepsAttached, is_attached}
-use Rattle.overlay_core.specs.Drives.{call_of, calls_of, AreOffered, AreEntries, Drives, Answers, one_if_open, one_if_answered, open_count, answered, answered_of, replies_to, PassesOver}
+use Rattle.overlay_core.specs.Drives.{call_of, calls_of, AreOffered, AreEntries, Drives, Answers, one_if_open, one_if_answered, open_count, answered, replies_to, PassesOver}
 use Rattle.overlay_core.specs.Jobs.{AnswersBy}
 use Rattle.overlay_core.specs.Offers.{is_offered}
 use Rattle.overlay_core.specs.Rules.{Nothing}
-
--- what is set in a list stands there, and elsewhere what stood there
-slice_get-set_same : {X : Type 0} (xs : List X) (i : ℕ) (x : X) → i < length xs → slice_get (set xs i x) i ≡ Some x
-slice_get-set_same [] i x h = absurd (omega arith)
-slice_get-set_same (y ∷ xs) zero x h = refl
-slice_get-set_same (y ∷ xs) (suc i) x h = slice_get-set_same xs i x (omega arith)
-
-slice_get-set_other : {X : Type 0} (xs : List X) (i k : ℕ) (x : X) → k ≢ i → slice_get (set xs i x) k ≡ slice_get xs k
-slice_get-set_other [] i k x h = refl
-slice_get-set_other (y ∷ xs) zero zero x h = absurd (h refl)
-slice_get-set_other (y ∷ xs) zero (suc k) x h = refl
-slice_get-set_other (y ∷ xs) (suc i) zero x h = refl
-slice_get-set_other (y ∷ xs) (suc i) (suc k) x h = slice_get-set_other xs i k x (λ e. h (ap (λ n. suc n) e))
+use Rattle.overlay_core.proofs.Serving.{get-set, get-others}
 
 -- one more entry, and one more deed of a run
 entries-more : (calls : List (ℕ × Call)) (rs : List (ℕ × Reply)) (es : List Entry) (i : ℕ) (r : Reply) (e : Entry) (call : Call) → AreEntries calls rs es → slice_get calls i ≡ Some (e.client, call) → e.deed ≡ Called call r → AreEntries calls (rs ++ (i, r) ∷ []) (es ++ e ∷ [])
@@ -58,9 +46,7 @@ pub drives-stay : (calls : List (ℕ × Call)) (l m n : Mount) (rs : List (ℕ �
 drives-stay calls l m n rs d h s a = let x = d s a in (x.0, x.1, (x.2.0, x.2.1, h x.2.0 x.2.2))
 
 at-most : (x : Standing) (n m : ℕ) → n ≤ m → one_if_open x + n ≤ suc m
-at-most Open n m h = omega arith
-at-most Answered n m h = omega arith
-at-most GivenUp n m h = omega arith
+at-most x n m h = grind arith
 
 pub open-at-most : (jobs : List Job) → open_count jobs ≤ length jobs
 open-at-most [] = omega arith
@@ -78,11 +64,7 @@ open-set (x ∷ jobs) (suc i) j k h = omega (arith, open-set jobs i j k h)
 
 pub calls-set : (jobs : List Job) (i : ℕ) (j k : Job) → slice_get jobs i ≡ Some j → k.client ≡ j.client → k.call ≡ j.call → calls_of (set jobs i k) ≡ calls_of jobs
 calls-set [] i j k h p q = cc
-calls-set (x ∷ jobs) zero j k h p q =
-    let e : x ≡ j = same_Some x j h in
-    let client : k.client ≡ x.client = p ∙ sym (ap (λ (y : Job). y.client) e) in
-    let call : k.call ≡ x.call = q ∙ sym (ap (λ (y : Job). y.call) e) in
-    ap (λ (n : ℕ). (n, k.call) ∷ calls_of jobs) client ∙ ap (λ (d : Call). (x.client, d) ∷ calls_of jobs) call
+calls-set (x ∷ jobs) zero j k h p q = grind arith
 calls-set (x ∷ jobs) (suc i) j k h p q = ap (λ (l : List (ℕ × Call)). call_of x ∷ l) (calls-set jobs i j k h p q)
 
 pub call-here : (jobs : List Job) (i : ℕ) (j : Job) → slice_get jobs i ≡ Some j → slice_get (calls_of jobs) i ≡ Some (j.client, j.call)
@@ -90,76 +72,36 @@ call-here jobs i j h = slice_get-map call_of jobs i ∙ ap (λ (o : Option Job).
 
 -- a job that changed stands at its index
 set-here : (jobs : List Job) (n : ℕ) (j k : Job) → slice_get jobs n ≡ Some j → slice_get (set jobs n k) n ≡ Some k
-set-here jobs n j k h = slice_get-set_same jobs n k (slice_get_within jobs n j h)
+set-here jobs n j k h = get-set jobs n k (slice_get_within jobs n j h)
 
 -- the job of one index counts as it stands now, and the others as they did
 once-set : (jobs : List Job) (n : ℕ) (j k : Job) → slice_get jobs n ≡ Some j → j.standing ≡ Open → (i : ℕ) → answered (set jobs n k) i ≡ answered jobs i + cond (nat_eq n i) (one_if_answered k.standing) 0
-once-set jobs n j k h stood i = by (cases_eq n i)
-  where
-    by : (n ≡ i) ⊎ (n ≡ i → ⊥) → answered (set jobs n k) i ≡ answered jobs i + cond (nat_eq n i) (one_if_answered k.standing) 0
-    by (inl q) =
-        let new : answered (set jobs n k) i ≡ one_if_answered k.standing = ap (answered (set jobs n k)) (sym q) ∙ ap answered_of (set-here jobs n j k h) in
-        let old : answered jobs i ≡ 0 = ap (answered jobs) (sym q) ∙ ap answered_of h ∙ ap one_if_answered stood in
-        let one : cond (nat_eq n i) (one_if_answered k.standing) 0 ≡ one_if_answered k.standing = ap (λ b. cond b (one_if_answered k.standing) 0) (eq-eqb n i q) in
-        omega arith
-    by (inr ne) =
-        let same : answered (set jobs n k) i ≡ answered jobs i = ap answered_of (slice_get-set_other jobs n i k (λ q. ne (sym q))) in
-        let none : cond (nat_eq n i) (one_if_answered k.standing) 0 ≡ 0 = ap (λ b. cond b (one_if_answered k.standing) 0) (ne_eqb n i ne) in
-        omega arith
+once-set jobs n j k h stood i = grind (arith, cases_eq, set-here, eq-eqb, get-others, ne_eqb)
 
 -- it is answered now, or is not
 pub once-done : (jobs : List Job) (n : ℕ) (j k : Job) → slice_get jobs n ≡ Some j → j.standing ≡ Open → k.standing ≡ Answered → (i : ℕ) → answered (set jobs n k) i ≡ answered jobs i + cond (nat_eq n i) 1 0
 once-done jobs n j k h stood done i = once-set jobs n j k h stood i ∙ ap (λ x. answered jobs i + cond (nat_eq n i) (one_if_answered x) 0) done
 
 pub once-none : (jobs : List Job) (n : ℕ) (j k : Job) → slice_get jobs n ≡ Some j → j.standing ≡ Open → k.standing ≡ GivenUp → (i : ℕ) → answered (set jobs n k) i ≡ answered jobs i + 0
-once-none jobs n j k h stood given i = once-set jobs n j k h stood i ∙ ap (λ x. answered jobs i + cond (nat_eq n i) (one_if_answered x) 0) given ∙ ap (λ x. answered jobs i + x) (cond-same (nat_eq n i))
-  where
-    cond-same : (b : Bool) → cond {A = ℕ} b 0 0 ≡ 0
-    cond-same true = refl
-    cond-same false = refl
+once-none jobs n j k h stood given i = grind (arith, once-set)
 
 pub room-less : (jobs : List Job) (n : ℕ) (j k : Job) → slice_get jobs n ≡ Some j → j.standing ≡ Open → one_if_open k.standing ≡ 0 → open_count (set jobs n k) + 1 ≤ open_count jobs
 room-less jobs n j k h stood over = let one : one_if_open j.standing ≡ 1 = ap one_if_open stood in omega (arith, open-set jobs n j k h)
 
 -- a job that does not change
 passes-same : (clients : Clients) (o : Option Job) → PassesOver clients o o false
-passes-same clients (Some j) = (refl, λ is. (is, λ asked. absurd (false≢true asked)))
-passes-same clients None = tt
+passes-same clients o = grind arith
 
 pub passes-start : (clients : Clients) (jobs : List Job) (schedule : List ℕ) (i : ℕ) → PassesOver clients (slice_get jobs i) (slice_get jobs i) (list_any (λ x. nat_eq x i) (take 0 schedule))
 passes-start clients jobs schedule i = passes-same clients (slice_get jobs i)
 
 -- the job of one index ends
 pub passes-end : (clients : Clients) (jobs : List Job) (n : ℕ) (j k : Job) → slice_get jobs n ≡ Some j → k.client ≡ j.client → (k.standing ≡ Open → ⊥) → (i : ℕ) → PassesOver clients (slice_get jobs i) (slice_get (set jobs n k) i) (nat_eq n i)
-passes-end clients jobs n j k h client over i = by (cases_eq n i)
-  where
-    here : (a b : Option Job) → a ≡ Some j → b ≡ Some k → PassesOver clients a b (nat_eq n i)
-    here a b p q = rw (p, q) (client, λ is. absurd (over is))
-
-    by : (n ≡ i) ⊎ (n ≡ i → ⊥) → PassesOver clients (slice_get jobs i) (slice_get (set jobs n k) i) (nat_eq n i)
-    by (inl q) = here (slice_get jobs i) (slice_get (set jobs n k) i) (ap (slice_get jobs) (sym q) ∙ h) (ap (slice_get (set jobs n k)) (sym q) ∙ set-here jobs n j k h)
-    by (inr ne) =
-        subst (λ (o : Option Job). PassesOver clients (slice_get jobs i) o (nat_eq n i)) (sym (slice_get-set_other jobs n i k (λ q. ne (sym q))))
-        (subst (λ b. PassesOver clients (slice_get jobs i) (slice_get jobs i) b) (sym (ne_eqb n i ne)) (passes-same clients (slice_get jobs i)))
+passes-end clients jobs n j k h client over i = grind (arith, cases_eq, set-here, get-others, ne_eqb, passes-same)
 
 -- a client that is not attached stays so, and what is asked of two parts of a schedule is asked of the whole
 passes-on : (clients between : Clients) (a b c : Option Job) (p q : Bool) → ((n : ℕ) → is_attached between n ≡ is_attached clients n) → PassesOver clients a b p → PassesOver between b c q → PassesOver clients a c (p || q)
-passes-on clients between (Some x) (Some y) (Some z) p q same h g = (
-  g.0 ∙ h.0,
-  λ is.
-      let second = g.1 is in
-      let first = h.1 second.0 in
-      (first.0, λ asked. by p q asked first.1 second.1),
-)
-  where
-    by : (p q : Bool) → (p || q) ≡ true → (p ≡ true → is_attached clients x.client ≡ false) → (q ≡ true → is_attached between y.client ≡ false) → is_attached clients x.client ≡ false
-    by true q asked f s = f refl
-    by false q asked f s = sym (ap (is_attached clients) h.0) ∙ sym (same y.client) ∙ s asked
-passes-on clients between (Some x) (Some y) None p q same h g = absurd g
-passes-on clients between (Some x) None c p q same h g = absurd h
-passes-on clients between None (Some y) c p q same h g = absurd h
-passes-on clients between None None (Some z) p q same h g = absurd g
-passes-on clients between None None None p q same h g = tt
+passes-on clients between a b c p q same h g = grind arith
 
 pub passes-more : (clients between : Clients) (a b c : List Job) (schedule : List ℕ) (at i : ℕ) → KeepsAttached clients between → at < length schedule → PassesOver clients (slice_get a i) (slice_get b i) (list_any (λ x. nat_eq x i) (take at schedule)) → PassesOver between (slice_get b i) (slice_get c i) (nat_eq (get_or schedule at 0) i) → PassesOver clients (slice_get a i) (slice_get c i) (list_any (λ x. nat_eq x i) (take (at + 1) schedule))
 passes-more clients between a b c schedule at i same within h g =

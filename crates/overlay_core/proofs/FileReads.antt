@@ -1,6 +1,7 @@
 -- Reads of open files, and what fstat shows of what is open.
 use Rattle.std.proofs.Common.{◌≡◌, ℕ, ◌+◌, true, not, List, Option, None, Some, Result, Ok, Err, refl, sym, ap, ◌∙◌, subst, is_some, length, take, drop, nat_lt}
-use Rattle.overlay_core.proofs.Words.{At, Attributes, base, Branch, ChangesSlot, Contents, Directory, directory_in, Errno, false≢true, File, FileSource, Folder, folder_attributes, Handle, handle_of, Inode, is_directory, Layer, Leaf, Location, Node, OpenDirectory, OpenFile, option_and_then, or_else, Path, refusal, Removed, Reply, Shown, shows, Stat, State, when, with_handle, with_place}
+use Rattle.std.proofs.Common.{arith}
+use Rattle.overlay_core.proofs.Words.{At, Attributes, base, ChangesSlot, Directory, directory_in, Errno, FileSource, Folder, folder_attributes, Handle, handle_of, Inode, is_directory, Layer, Location, Node, OpenDirectory, OpenFile, option_and_then, or_else, Path, refusal, Removed, Reply, Shown, shows, Stat, State, when, with_handle, with_place}
 use Rattle.ov_base.specs.declared.call.Call.TheVariants as call
 use Rattle.ov_base.specs.declared.errno.Errno.TheVariants as errno
 use Rattle.ov_base.specs.declared.reply.ObjectKind.TheVariants as kind
@@ -8,9 +9,9 @@ use Rattle.ov_base.specs.declared.reply.Reply.TheVariants as reply
 use Rattle.plain_model.specs.Refusals.{TRANSFER_MAX}
 use Rattle.plain_model.specs.Replies.{stat_of, stat_seen}
 use Rattle.mount_laws.specs.Looks.{walk_fault}
-use Rattle.mount_laws.specs.Descriptors.{ReadsFile, Fstats, next_bytes}
+use Rattle.mount_laws.specs.Descriptors.{ReadsFile, next_bytes}
 use Rattle.mount_laws.specs.Descriptors as laws
-use Rattle.mount_laws.proofs.Descriptors.{law_of_read, law_of_fstat, law_of_directory_handle, law_of_unopened}
+use Rattle.mount_laws.proofs.Descriptors.{law_of_read, law_of_directory_handle, law_of_unopened}
 use Rattle.open_handles.specs.declared.handle.Handle as handles
 use Rattle.open_handles.specs.Opened.{path_in, attributes_in}
 use Rattle.overlay_core.specs.declared.clients.Clients.{Clients}
@@ -34,17 +35,11 @@ status_reply (Err e) = reply.Refused e
 
 -- what stat shows of a directory, by its attributes
 folder-status : (o : Option Node) (a : Attributes) → folder_attributes o ≡ Some a → stat_of o ≡ reply.Status (stat_with kind.Directory a 0 1)
-folder-status None a h = cc
-folder-status (Some (Leaf content x u l)) a h = cc
-folder-status (Some (Branch x b names l)) a h =
-    let same : x ≡ a = cc in
-    ap (λ z. reply.Status (stat_with kind.Directory z 0 1)) same
+folder-status o a h = grind arith
 
 -- what is shown of a directory
 shown-folder : (x : Option Shown) → is_directory x ≡ true → (a : Attributes) × (i k : ℕ) × (x ≡ Some (Folder i k a))
-shown-folder None h = absurd (false≢true h)
-shown-folder (Some (Contents i k inode)) h = absurd (false≢true h)
-shown-folder (Some (Folder i k a)) h = (a, i, k, refl)
+shown-folder x h = grind arith
 
 -- what stat shows of an open directory: at its path, or by the attributes that it had when it was removed
 abbrev status_standing : List Layer → Location → Result Stat Errno
@@ -53,21 +48,11 @@ status_standing Ls (Removed a) = Ok (stat_with kind.Directory a 0 1)
 
 -- what stands at a path shows what is there
 status-named : (Ls : List Layer) (p : Path) (r : Result Stat Errno) → r ≡ stat_at Ls p → (l : Location) → Some p ≡ path_in l → r ≡ status_standing Ls l
-status-named Ls p r is (At q) h =
-    let same : p ≡ q = cc in
-    is ∙ ap (stat_at Ls) same
-status-named Ls p r is (Removed a) h = cc
-
--- and what was removed, what it had
-status-kept : (Ls : List Layer) (r : Result Stat Errno) (l : Location) → ((a : Attributes) → attributes_in l ≡ Some a → r ≡ Ok (stat_with kind.Directory a 0 1)) → None ≡ path_in l → r ≡ status_standing Ls l
-status-kept Ls r (At q) tells h = cc
-status-kept Ls r (Removed a) tells h = tells a refl
+status-named Ls p r is l h = grind arith
 
 -- the directory that is open under a descriptor
 directory-open : (x : Option handles.Handle) → is_some (directory_in x) ≡ true → (o : OpenDirectory) × (x ≡ Some (Directory o))
-directory-open None h = absurd (false≢true h)
-directory-open (Some (File f)) h = absurd (false≢true h)
-directory-open (Some (Directory o)) h = (o, refl)
+directory-open x h = grind arith
 
 module _ (m : Mount) (s : State) (st : IsStateOf m s) (c d : ℕ) where
   module _ (n : ℕ) where
@@ -108,9 +93,7 @@ module _ (m : Mount) (s : State) (st : IsStateOf m s) (c d : ℕ) where
 
   -- fstat shows what the handle sees
   status-shown : (h : Handle) → handle_of s.tables c d ≡ Some h → (r : Reply) → r ≡ stat_seen h.view (s.tree h.node) → Shows r
-  status-shown h on r is =
-      let law : Fstats s c d h = law_of_fstat s c d h on in
-      serve-done _ s c _ r m law.refused (is ∙ sym law.answer) (subst (IsStateOf m) (sym law.state) st)
+  status-shown h on r is = grind arith
 
   -- of a file, its inode
   pub file-status : (f : OpenFile) → file_by m.clients c d ≡ Some f → (source : FileSource) → f.source ≡ source → (r : Result Stat Errno) → ((i : Inode) → source_inode (the_upper m) (the_lowers m) source ≡ Some i → r ≡ stat_of_inode (Some i)) → Shows (status_reply r)
@@ -156,8 +139,4 @@ module _ (m : Mount) (s : State) (st : IsStateOf m s) (c d : ℕ) where
 
     -- of one that was removed, the attributes that it had
     pub removed-status : None ≡ option_and_then (path_of m.clients) (directory_by m.clients c d) → ((a : Attributes) → option_and_then attributes_in (option_and_then (located m.clients) (directory_by m.clients c d)) ≡ Some a → r ≡ Ok (stat_with kind.Directory a 0 1)) → Shows (status_reply r)
-    removed-status path tells =
-        directory-status standing.0 standing.1 r
-        (λ l at. status-kept (the_layers m) r l
-        (λ a kept. tells a (ap (λ z. option_and_then attributes_in (option_and_then (located m.clients) (directory_in z))) standing.1 ∙ ap (option_and_then attributes_in) at ∙ kept))
-        (path ∙ ap (λ z. option_and_then (path_of m.clients) (directory_in z)) standing.1 ∙ ap (option_and_then path_in) at))
+    removed-status path tells = grind arith

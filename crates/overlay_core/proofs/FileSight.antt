@@ -1,6 +1,6 @@
 -- What the machine's handle on an open file sees: the bytes, the attributes and the links of the inode that the file is.
-use Rattle.std.proofs.Common.{◌≡◌, ℕ, true, false, List, length, Option, None, Some, refl, ap}
-use Rattle.overlay_core.proofs.Words.{Attributes, Branch, false≢true, FileSource, Handle, is_folder, Layer, Leaf, Lower, Node, OpenFile, Tree, Upper}
+use Rattle.std.proofs.Common.{◌≡◌, ℕ, true, false, List, length, Option, Some, arith}
+use Rattle.overlay_core.proofs.Words.{Attributes, FileSource, Handle, is_folder, Layer, Node, OpenFile, Tree}
 use Rattle.ov_base.specs.declared.bytes.Content.TheVariants as content
 use Rattle.ov_base.specs.declared.reply.ObjectKind.TheVariants as kind
 use Rattle.plain_model.specs.Machine.{bytes_seen}
@@ -9,9 +9,7 @@ use Rattle.overlay_core.specs.Files.{source_inode, is_leaf, IsOf, IsFile}
 
 -- a file is no directory
 pub leaf-not-folder : (o : Option Node) → is_leaf o ≡ true → is_folder o ≡ false
-leaf-not-folder None h = refl
-leaf-not-folder (Some (Branch a b names c)) h = absurd (false≢true h)
-leaf-not-folder (Some (Leaf content a u l)) h = refl
+leaf-not-folder o h = grind arith
 
 -- what a handle on the inode of an open file sees of it
 pub record SeesOf (U : Layer) (lowers : List Layer) (t : Tree) (source : FileSource) (h : Handle) : Type 0 where
@@ -29,8 +27,7 @@ Sees U lowers t f h = SeesOf U lowers t f.source h
 
 -- the node of such a handle is a file
 source-leaf : (U : Layer) (lowers : List Layer) (t : Tree) (source : FileSource) (h : Handle) → IsOf U lowers t source h → is_leaf (t h.node) ≡ true
-source-leaf U lowers t (Upper k) h s = ap is_leaf s.0.node
-source-leaf U lowers t (Lower layer k) h s = s.file
+source-leaf U lowers t source h s = grind arith
 
 -- the node of a handle on an open file is a file
 pub file-leaf : (U : Layer) (lowers : List Layer) (t : Tree) (f : OpenFile) (h : Handle) → IsFile U lowers t f h → is_leaf (t h.node) ≡ true
@@ -42,24 +39,7 @@ file-not-folder U lowers t f h x = leaf-not-folder (t h.node) (file-leaf U lower
 
 -- a handle on the inode of an open file sees it, as it is or as it was
 source-sees : (U : Layer) (lowers : List Layer) (t : Tree) (source : FileSource) (h : Handle) → IsOf U lowers t source h → SeesOf U lowers t source h
-source-sees U lowers t (Upper k) h s = record {
-  bytes = s.0.bytes;
-  attributes = s.0.attributes;
-  links = s.0.links;
-  inode = s.0.inode;
-  seen = rw (s.1, s.0.node) refl;
-  status = rw (s.1, s.0.node) refl;
-  folder = leaf-not-folder (t h.node) (ap is_leaf s.0.node);
-}
-source-sees U lowers t (Lower layer k) h s = record {
-  bytes = s.bytes;
-  attributes = s.attributes;
-  links = s.links;
-  inode = s.inode;
-  seen = rw s.view refl;
-  status = rw s.view refl;
-  folder = leaf-not-folder (t h.node) s.file;
-}
+source-sees U lowers t source h s = grind arith
 
 -- and so does each handle on an open file
 pub file-sees : (U : Layer) (lowers : List Layer) (t : Tree) (f : OpenFile) (h : Handle) → IsFile U lowers t f h → Sees U lowers t f h

@@ -1,5 +1,5 @@
 -- What a removal leaves once what lost its last name is freed.
-use Rattle.std.proofs.Common.{◌≡◌, ◌≢◌, ℕ, Bool, false, Option, List, ◌∷◌, ◌++◌, Some, sym, ap, ◌∙◌, subst, inl, inr, is_some}
+use Rattle.std.proofs.Common.{◌≡◌, ◌≢◌, ℕ, Bool, false, Option, List, ◌∷◌, ◌++◌, Some, sym, ap, ◌∙◌, subst, is_some, rules, arith}
 use Rattle.overlay_core.proofs.Words.{after, AreLayers, Call, Inode, inode_of, layer_of, Layers, layers_of, lowers_of, option_and_then, option_map, Path, Removes, State, StaysLayers, StaysMount}
 use Rattle.plain_model.specs.Tree.{merged}
 use Rattle.mount_laws.specs.Removals.{Loses, ShowsNoName}
@@ -26,17 +26,14 @@ module _ (a b c : Layers) (p : Path) (held_same : SameObjects (layer_of b.upper)
   others k = record { lowers = same.lowers ∙ k.lowers; paths = λ x out. by x (k.paths x out); bare = k.bare; below = λ n r. held_same (n ∷ r ++ p) ∙ k.below n r }
     where
       by : (x : Path) → KeepsPath a b p x → KeepsPath a c p x
-      by x (inl e) = inl (held_same x ∙ e)
-      by x (inr g) = inr (record { parent = g.parent; lacked = g.lacked; layer = g.layer; key = g.key; attributes = g.attributes; shown = g.shown; number = g.number; vacant = g.vacant; gained = held_same x ∙ g.gained })
+      by x is = grind arith
 
   -- the name is taken
   pub takes-then : StaysLayers b c → TakesName a b p → TakesName a c p
   takes-then keeps t = record { lowers = same.lowers ∙ t.lowers; left = held_same p ∙ t.left; loses = loses; others = others t.others }
     where
       sights : (x : Path) → merged (layer_of c.upper) (lowers_of a) x ≡ merged (layer_of b.upper) (lowers_of a) x
-      sights x =
-          let low : lowers_of b ≡ lowers_of a = lowers-same a b t.lowers in
-          sym (ap (λ Ls. merged (layer_of c.upper) Ls x) (lowers-same b c same.lowers ∙ low)) ∙ same.sights x ∙ ap (λ Ls. merged (layer_of b.upper) Ls x) low
+      sights x = grind arith
 
       loses : AreLayers (layers_of a) → Loses (layer_of a.upper) (layer_of c.upper) (lowers_of a) p
       loses h =
@@ -52,32 +49,11 @@ module _ (a b c : Layers) (p : Path) (held_same : SameObjects (layer_of b.upper)
 
 -- the step is the machine's
 pub removes-then : (b c : Layers) → StaysMount b c → (s : State) (client : ℕ) (p : Path) (removal : Call) → Removes (layer_of b.upper) (lowers_of b) s client p removal → Removes (layer_of c.upper) (lowers_of c) s client p removal
-removes-then b c mounts s client p removal r = record {
-  answer = r.answer;
-  mounts = mounts _ r.mounts;
-  tables = r.tables;
-  gone = r.gone;
-  stays = r.stays;
-  hidden = r.hidden;
-  held = r.held;
-  empty = r.empty;
-}
+removes-then b c mounts s client p removal r = search rules
 
 -- so it is with rename
 renames-then : (b c : Layers) → StaysMount b c → (s : State) (client : ℕ) (p q : Path) → Renames (layer_of b.upper) (lowers_of b) s client p q → Renames (layer_of c.upper) (lowers_of c) s client p q
-renames-then b c mounts s client p q r = record {
-  answer = r.answer;
-  mounts = mounts _ r.mounts;
-  tables = r.tables;
-  handles = r.handles;
-  unopened = r.unopened;
-  free = r.free;
-  follows = r.follows;
-  gone = r.gone;
-  hidden = r.hidden;
-  held = r.held;
-  empty = r.empty;
-}
+renames-then b c mounts s client p q r = search rules
 
 -- what moved, moved
 pub moves-then : (clients : Clients) (a b c : Layers) (redirects : Bool) (p q : Path) (directory : Bool) (released : Option ℕ) → Moves a b p q directory released → (is_one (layer_of a.upper) p q ≡ false → ShowsNoName (layers_of a) q) → (is_one (layer_of a.upper) p q ≡ false → RenameSteps a b redirects p q) → StaysMount b c → StaysHeld clients b c → RenamesHeld clients a c redirects p q

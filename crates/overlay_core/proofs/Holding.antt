@@ -1,5 +1,5 @@
 -- As many handles hold a directory or a file as its count says, after one client's descriptors changed.
-use Rattle.std.proofs.Common.{arith, ◌≡◌, ◌≢◌, ℕ, zero, suc, ◌+◌, ◌<◌, ◌≤◌, Bool, true, false, cond, List, [], ◌∷◌, Option, None, Some, IsSome, Result, Ok, Err, IsOk, OnOk, refl, sym, ap, ◌∙◌, subst, inl, inr, ◌⊎◌, is_some, nat_eq, eq-eqb, option_map}
+use Rattle.std.proofs.Common.{arith, ◌≡◌, ◌≢◌, ℕ, ◌+◌, ◌<◌, ◌≤◌, true, false, cond, List, [], ◌∷◌, Option, None, Some, IsSome, Result, Ok, Err, IsOk, OnOk, refl, sym, ap, ◌∙◌, inl, inr, is_some, nat_eq, option_map}
 use Rattle.overlay_core.proofs.Words.{AllocError, cases_eq, ChangesSlot, Dentries, Descriptors, Directory, Errno, File, file_holders, FileSource, GivesNames, Location, Name, nat_cmp, ne_eqb, OpenDirectory, OpenFile, option_and_then, Path, SetsSlot, with_listing, with_place}
 use Rattle.std.specs.BTreeMap.{get}
 use Rattle.std.specs.Result.{IsErr}
@@ -24,30 +24,7 @@ kept-located n o h = ap (λ b. cond b None o) (ne_eqb n 0 (λ e. absurd (omega a
 
 -- a count goes up by one and down again
 pub open-and-close : (old mid new : Dentries) (p : Path) (k : ℕ) → (IsSome (places.opened old k) → 0 < holders old k) → (0 < holders old k → IsSome (places.opened old k)) → places.Opens old mid p k → places.Closes mid new k → SameHandles old new
-open-and-close old mid new p k some there opens closes = record { located = λ j. located j (cases_eq j k); counted = λ j. counted j (cases_eq j k) }
-  where
-    count : holders new k ≡ holders old k
-    count = let up = opens.counted in let down = closes.counted in omega arith
-
-    counted : (j : ℕ) → (j ≡ k) ⊎ (j ≡ k → ⊥) → holders new j ≡ holders old j
-    counted j (inl e) = ap (holders new) e ∙ count ∙ sym (ap (holders old) e)
-    counted j (inr off) = closes.others.counted j off ∙ opens.others.counted j off
-
-    here : places.opened new k ≡ places.opened old k
-    here = elim (opens.was) [
-      | inl stood ↦
-          let more : 0 < holders old k = some (subst IsSome (sym stood) refl) in
-          closes.located ∙ kept-located (holders new k) (places.opened mid k) (omega (arith, count, more)) ∙ opens.located ∙ sym stood
-      | inr none ↦ by (holders old k) refl none
-    ]
-      where
-        by : (n : ℕ) → holders old k ≡ n → places.opened old k ≡ None → places.opened new k ≡ places.opened old k
-        by zero e none = closes.located ∙ ap (λ m. cond (nat_eq m 0) None (places.opened mid k)) (count ∙ e) ∙ sym none
-        by (suc n) e none = let no : IsSome {T = Location} None = subst IsSome none (there (omega arith)) in absurd (cc)
-
-    located : (j : ℕ) → (j ≡ k) ⊎ (j ≡ k → ⊥) → places.opened new j ≡ places.opened old j
-    located j (inl e) = ap (places.opened new) e ∙ here ∙ sym (ap (places.opened old) e)
-    located j (inr off) = closes.others.located j off ∙ opens.others.located j off
+open-and-close old mid new p k some there opens closes = grind arith
 
 -- a file is held by one handle more, and let go again
 pub hold-and-close : (old mid new : HeldFiles) (source : FileSource) → ((k : ℕ) → file_holders mid k ≡ file_holders old k + is_upper source k) → ((k : ℕ) → file_holders new k + is_upper source k ≡ file_holders mid k) → SameCounts old new
@@ -55,8 +32,7 @@ hold-and-close old mid new source up down k = let more = up k in let less = down
 
 -- a hold that succeeds counts one handle more
 pub held-now : (old new : HeldFiles) (source : FileSource) (r : Result (Unit {0}) AllocError) → IsOk r → OnOk r ((k : ℕ) → file_holders new k ≡ file_holders old k + is_upper source k) → (k : ℕ) → file_holders new k ≡ file_holders old k + is_upper source k
-held-now old new source (Ok x) ok counts = counts
-held-now old new source (Err e) ok counts = let no : false ≡ true = ok in absurd (cc)
+held-now old new source r ok counts = grind arith
 
 -- a change of a handle that leaves it on its directory, or its file
 abbrev pub KeepsOn : (handles.Handle → handles.Handle) → Type 0
@@ -64,18 +40,15 @@ KeepsOn change = (h : handles.Handle) (k : ℕ) → (holds (Some (change h)) k �
 
 -- a change of a listing does
 pub on-listing : (l : Option (List Name)) → KeepsOn (with_listing l)
-on-listing l (Directory o) k = (refl, refl)
-on-listing l (File f) k = (refl, refl)
+on-listing l h k = grind arith
 
 -- and so do a place
 pub on-place : (n : ℕ) → KeepsOn (with_place n)
-on-place n (Directory o) k = (refl, refl)
-on-place n (File f) k = (refl, refl)
+on-place n h k = grind arith
 
 -- and names that are given
 on-after : (n : ℕ) → KeepsOn (after_names n)
-on-after n (Directory o) k = (refl, refl)
-on-after n (File f) k = (refl, refl)
+on-after n h k = grind arith
 
 -- clients with these descriptors have numbers below the next, and as many handles as are counted
 abbrev pub Counts : Clients → (ℕ → Option Descriptors) → Dentries → HeldFiles → Type 0
@@ -153,8 +126,7 @@ module _ (old : Clients) (c : ℕ) (before : Descriptors) (g : ℕ → Option De
       (λ k. omega (arith, (same (opened before.slots.items d) k).1))
     where
       same : (o : Option handles.Handle) (k : ℕ) → (holds (option_map change o) k ≡ holds o k) × (holds_file (option_map change o) k ≡ holds_file o k)
-      same None k = (refl, refl)
-      same (Some h) k = keeps h k
+      same o k = grind arith
 
   pub counts-gives : (d n : ℕ) (r : Result (List Name) AllocError) → GivesNames before.slots.items after.slots.items d n r → Counts old g old.directories old.files
   counts-gives d n (Ok names) gives = counts-changed d (after_names n) (on-after n) gives.left
@@ -169,14 +141,7 @@ module _ (old : Clients) (c : ℕ) (before : Descriptors) (g : ℕ → Option De
         (λ k. omega (arith, ap (λ z. holds_file z k) free))
       where
         counted : (k : ℕ) → holders ds k ≡ holders old.directories k + holds (Some (Directory o)) k
-        counted k = elim (cases_eq k o.directory) [
-          | inl e ↦
-              ap (holders ds) e ∙ opens.counted ∙ sym (ap (λ j. holders old.directories j + 1) e)
-              ∙ sym (ap (λ (z : Bool). holders old.directories k + cond {A = ℕ} z 1 0) (eq-eqb o.directory k (sym e)))
-          | inr off ↦
-              let none : holds (Some (Directory o)) k ≡ 0 = ap (λ (z : Bool). cond {A = ℕ} z 1 0) (ne_eqb o.directory k (λ e. off (sym e))) in
-              omega (arith, opens.others.counted k off)
-        ]
+        counted k = grind arith
 
     pub counts-opens-file : (f : OpenFile) (fs : HeldFiles) → SetsSlot before.slots.items after.slots.items d (Some (File f)) → ((k : ℕ) → file_holders fs k ≡ file_holders old.files k + is_upper f.source k) → Counts old g old.directories fs
     counts-opens-file f fs sets counted =
@@ -208,13 +173,7 @@ module _ (old : Clients) (c : ℕ) (before : Descriptors) (g : ℕ → Option De
 
 -- what has a number that is open keeps its place where one is opened
 pub placed-opens : (old new : Dentries) (p : Path) (j : ℕ) → places.Opens old new p j → (k : ℕ) (l : Location) → places.opened old k ≡ Some l → places.opened new k ≡ Some l
-placed-opens old new p j opens k l at = elim (cases_eq k j) [
-  | inl e ↦ elim (opens.was) [
-    | inl stood ↦ ap (places.opened new) e ∙ opens.located ∙ sym stood ∙ sym (ap (places.opened old) e) ∙ at
-    | inr none ↦ let no : Some l ≡ None = sym at ∙ ap (places.opened old) e ∙ none in absurd (cc)
-  ]
-  | inr off ↦ opens.others.located k off ∙ at
-]
+placed-opens old new p j opens k l at = grind arith
 
 -- a directory that a client has open is held
 pub directory-held : (clients : Clients) (c d : ℕ) (o : OpenDirectory) → opened_by clients c d ≡ Some (Directory o) → 0 < holders clients.directories o.directory

@@ -1,32 +1,27 @@
 -- Open files of the upper stay live, and files of the tree stay files, through what changes the layers.
 use Rattle.std.proofs.Common.{◌≡◌, ◌≢◌, ◌↔◌, ℕ, Bool, true, false, cond, List, [], ◌∷◌, ◌++◌, Option, None, Some, refl, sym, ap, ◌∙◌, subst, inl, inr, is_some}
-use Rattle.overlay_core.proofs.Words.{after, Attributes, Branch, Call, cases_Bool, Content, face, false≢true, fresh, Inode, inode_of, IsLive, IsMountOf, Layer, layer_of, Layers, Leaf, lowers_of, Name, Node, node_at, node_of, NodeId, OpenFlags, option_and_then, option_map, Path, Removes, State, StaysLayers, Tree}
+use Rattle.std.proofs.Common.{arith}
+use Rattle.overlay_core.proofs.Words.{after, Attributes, Call, cases_Bool, Content, face, false≢true, fresh, Inode, inode_of, IsLive, IsMountOf, Layer, layer_of, Layers, lowers_of, Node, node_at, node_of, NodeId, OpenFlags, option_and_then, Path, Removes, State, StaysLayers, Tree}
 use Rattle.slab.specs.Slab.{get}
 use Rattle.ov_base.specs.declared.bytes.Content.TheVariants as content
 use Rattle.ov_base.specs.declared.call.Call.TheVariants as call
-use Rattle.ov_base.specs.declared.redirect.Redirect.{Redirect}
-use Rattle.plain_model.specs.Layers.{Object, Directory, Named, Whiteout, held, same_path}
+use Rattle.plain_model.specs.Layers.{Named, held, same_path}
 use Rattle.plain_model.specs.Tree.{Sight, SeenBranch, see_inode, merged}
 use Rattle.plain_model.proofs.Merged.{named-seen}
 use Rattle.plain_model.proofs.Paths.{paths_tell, place}
-use Rattle.layer_tree.specs.Tree.{inode_at, seen, seen_entry, entry_at, with_less}
-use Rattle.layer_tree.specs.Tree.{Tree as LayerTree}
-use Rattle.layer_tree.specs.declared.name_table.Entry.{Entry}
-use Rattle.layer_tree.specs.declared.name_table.Entry.TheVariants as bound
-use Rattle.layer_tree.specs.declared.node.Node.{Node as Stored}
-use Rattle.layer_tree.specs.declared.node.Node.TheVariants as node
+use Rattle.layer_tree.specs.Tree.{inode_at}
 use Rattle.mount_laws.specs.Looks.{Gains, Makes}
 use Rattle.mount_laws.specs.Leaves.{GainsLeaf, MakesLink, MakesFile}
 use Rattle.mount_laws.specs.Linking.{MakesName}
 use Rattle.mount_laws.specs.StayOpen.{LosesLink, LivesThroughRemoval}
 use Rattle.mount_laws.proofs.OpenFiles.{one-number}
-use Rattle.mount_laws.proofs.StayOpen.{law_of_live_kept, law_of_live_through_made, law_of_live_through_link, law_of_live_through_file}
+use Rattle.mount_laws.proofs.StayOpen.{law_of_live_through_made, law_of_live_through_link, law_of_live_through_file}
 use Rattle.mount_laws.proofs.LinkedOpen.{law_of_live_through_name}
 use Rattle.mount_laws.proofs.RenamedOpen.{law_of_live_through_rename}
 use Rattle.mount_laws.proofs.Outlive.{law_of_live_through_unlink, law_of_live_through_rmdir}
-use Rattle.copy_up.specs.Showing.{is_object, number_of, sight, KeepsPath, KeepsOthers, GainsParents}
+use Rattle.copy_up.specs.Showing.{is_object, sight, KeepsPath, KeepsOthers, GainsParents}
 use Rattle.copy_up.proofs.Keeping.{lowers-same}
-use Rattle.make_remove.specs.Making.{MakesDirectory, MkdirSteps, new_attributes, shown_under}
+use Rattle.make_remove.specs.Making.{MakesDirectory, MkdirSteps, new_attributes}
 use Rattle.make_remove.specs.Leaves.{MakesLeaf, SymlinkSteps, CreateSteps}
 use Rattle.make_remove.specs.Removing.{TakesName, Unnames}
 use Rattle.rename_redirect.specs.Linking.{GainsBoth, GivesName, LinkSteps}
@@ -38,16 +33,11 @@ pub use Rattle.overlay_core.proofs.Leaves.{mkdir-leaves, symlink-leaves, link-le
 
 -- a path of which no more changes than that it gains a directory as a parent names what it named
 kept-name : (old new : Layers) (p q : Path) → KeepsPath old new p q → (k : ℕ) → (held (layer_of new.upper) q ≡ Some (Named k)) ↔ (held (layer_of old.upper) q ≡ Some (Named k))
-kept-name old new p q (inl e) k = (λ h. sym e ∙ h, λ h. e ∙ h)
-kept-name old new p q (inr g) k = (
-  λ h. (let z : Some (Directory g.number g.attributes false None) ≡ Some (Named k) = sym g.gained ∙ h in cc),
-  λ h. (let z : None ≡ Some (Named k) = sym g.lacked ∙ h in cc),
-)
+kept-name old new p q is k = grind arith
 
 -- missing parents leave each live file live
 pub parents-live : (old new : Layers) (p : Path) → GainsParents old new p → StaysLive old new
-parents-live old new p g t d k =
-    law_of_live_kept (layer_of old.upper) (layer_of new.upper) t d k (λ q. kept-name old new p q (g.paths q) k) (g.objects.inodes k (λ e. cc))
+parents-live old new p g t d k = grind arith
 
 -- and so do those of two paths, gained one after the other
 pub both-live : (old new : Layers) (p q : Path) → GainsBoth old new p q → StaysLive old new
@@ -57,10 +47,7 @@ both-live old new p q g t d k live = parents-live g.mid new q g.second t d k (pa
 module _ (old new : Layers) (p : Path) (others : KeepsOthers old new p) where
   -- a path below it names nothing
   bare-name : (q : Path) (k : ℕ) → is_object (held (layer_of old.upper) q) ≡ false → held (layer_of new.upper) q ≡ None → (held (layer_of new.upper) q ≡ Some (Named k)) ↔ (held (layer_of old.upper) q ≡ Some (Named k))
-  bare-name q k bare none = (
-    λ h. (let z : None ≡ Some (Named k) = sym none ∙ h in cc),
-    λ h. absurd (false≢true (sym bare ∙ ap is_object h)),
-  )
+  bare-name q k bare none = grind arith
 
   -- each path but its own names what it named
   pub other-names : (q : Path) → q ≢ p → (k : ℕ) → (held (layer_of new.upper) q ≡ Some (Named k)) ↔ (held (layer_of old.upper) q ≡ Some (Named k))
@@ -75,16 +62,11 @@ module _ (old new : Layers) (p : Path) (others : KeepsOthers old new p) where
 
 -- a node that is seen as an inode is a file or link
 leaf-seen : (o : Option Node) (i : Option Inode) → is_some i ≡ true → face o ≡ see_inode 0 i → is_leaf o ≡ true
-leaf-seen o None h e = absurd (false≢true h)
-leaf-seen None (Some i) h e = cc
-leaf-seen (Some (Branch a b names c)) (Some i) h e = cc
-leaf-seen (Some (Leaf y a u l)) (Some i) h e = refl
+leaf-seen o i h e = grind arith
 
 -- and one that is seen as a directory is none
 branch-seen : (o : Option Node) (a : Attributes) (b : Bool) → face o ≡ Some (SeenBranch a b) → is_leaf o ≡ false
-branch-seen None a b e = refl
-branch-seen (Some (Branch x y names c)) a b e = refl
-branch-seen (Some (Leaf y x u l)) a b e = cc
+branch-seen o a b e = grind arith
 
 -- a directory that mkdir makes
 module _ (old new : Layers) (p : Path) (mode : ℕ) (m : MakesDirectory old new p mode) (s : State) (is : IsMountOf (layer_of old.upper) (lowers_of old) s) (c : ℕ) (x : Makes (layer_of new.upper) (lowers_of old) s c p mode) where
@@ -142,10 +124,7 @@ module _ (old new : Layers) (p : Path) (mode : ℕ) (m : MakesDirectory old new 
       away q n e = false≢true (sym n ∙ (paths_tell p q).1 (sym e))
 
       here : (q : Path) → p ≡ q → (k : ℕ) → (held V q ≡ Some (Named k)) ↔ (held U q ≡ Some (Named k))
-      here q e k = (
-        λ h. (let z : Some (Directory m.key (new_attributes mode) (shown_under old p) None) ≡ Some (Named k) = sym m.held_there ∙ ap (held V) e ∙ h in cc),
-        λ h. absurd (unnamed k (ap (held U) e ∙ h)),
-      )
+      here q e k = grind (arith, unnamed)
 
 -- mkdir leaves each live file live
 pub mkdir-live : (old new : Layers) (p : Path) (mode : ℕ) → StaysLayers old new → MakesDirectory old new p mode → MkdirSteps old new p mode → KeepsLive old new (call.Mkdir p mode)
@@ -190,38 +169,9 @@ link-live old new p q low gives steps s is c d k live =
     (subst (λ (Ls : List Layer). MakesName (layer_of new.upper) Ls s c p q) (lowers-same old new low) (steps s is c)) d k
     (gives.links is.layers k (ap is_some live.inode)) live
 
--- a directory that is held stands under a key that is no inode's
-folder-key : (t : LayerTree) (e : Option Entry) (k : ℕ) (a : Attributes) (o : Bool) (r : Option Redirect) → option_and_then (seen_entry t) e ≡ Some (Directory k a o r) → inode_at t k ≡ None
-folder-key t None k a o r h = cc
-folder-key t (Some bound.Whiteout) k a o r h = cc
-folder-key t (Some (bound.Object j)) k a o r h = by (get t j) refl h
-  where
-    by : (x : Option Stored) → get t j ≡ x → option_map (seen j) x ≡ Some (Directory k a o r) → inode_at t k ≡ None
-    by None e h = cc
-    by (Some (node.Inode i)) e h = cc
-    by (Some (node.Directory d)) e h =
-        let same : j ≡ k = cc in
-        ap (option_and_then inode_of) (ap (get t) (sym same) ∙ e)
-
--- what is held under the number of an inode is a name of it
-inode-named : (t : LayerTree) (n : Name) (q : Path) (k : ℕ) → is_some (inode_at t k) ≡ true → number_of (held (layer_of t) (n ∷ q)) ≡ Some k → held (layer_of t) (n ∷ q) ≡ Some (Named k)
-inode-named t n q k there h = by (held (layer_of t) (n ∷ q)) refl h
-  where
-    by : (x : Option Object) → held (layer_of t) (n ∷ q) ≡ x → number_of x ≡ Some k → x ≡ Some (Named k)
-    by None e h = cc
-    by (Some Whiteout) e h = cc
-    by (Some (Named j)) e h = ap (λ z. Some (Named z)) (let z : j ≡ k = cc in z)
-    by (Some (Directory j a o r)) e h =
-        let same : j ≡ k = cc in
-        absurd (false≢true (sym (ap is_some (ap (inode_at t) (sym same) ∙ folder-key t (entry_at t (n ∷ q)) j a o r e)) ∙ there))
-
 -- where the upper loses a name, an inode that it names loses a link
 loses-link : (old new : Layers) (p : Path) (released : Option ℕ) → TakesName old new p → Unnames old new p released → (j : ℕ) → is_some (inode_at old.upper j) ≡ true → LosesLink (layer_of old.upper) (layer_of new.upper) p j
-loses-link old new [] released takes y j there = let z : Some (Directory 0 (layer_of new.upper).root false None) ≡ None = takes.left in absurd (cc)
-loses-link old new (n ∷ q) released takes y j there = record {
-  fewer = λ i h is. y.fewer j (ap number_of h) ∙ ap (option_map with_less) is;
-  same = λ away. y.objects.inodes j (λ e. away (inode-named old.upper n q j there e));
-}
+loses-link old new p released takes y j there = grind arith
 
 -- every state of the machine whose mount has the old layers goes on to one with the new layers by the call that takes p away
 abbrev RemovalSteps : Layers → Layers → Path → Call → Type 0

@@ -1,16 +1,14 @@
 -- Clients go on both sides: each descriptor is closed, the lowest first, and then the client's table goes.
-use Rattle.std.proofs.Common.{arith, ◌≡◌, ◌≢◌, ℕ, zero, suc, ◌+◌, ◌<◌, ◌≤◌, Bool, true, false, not, cond, ◌||◌, List, [], ◌∷◌, ◌++◌, Option, None, Some, refl, sym, ap, ◌∙◌, subst, ◌⊎◌, inl, inr, is_some, is_none, length, filter, slice_get, slice_set, nat_eq, get_or, take}
-use Rattle.overlay_core.proofs.Words.{after, Call, cases_eq, Descriptors, DESCRIPTORS_MAX, eqb-true, Errno, Handle, handle_of, handles_of, held_in, Layer, layer_of, Layers, list_any, lowers_of, ne_eqb, refusal, Reply, State, Table, Tree, when, with_handle}
+use Rattle.std.proofs.Common.{arith, ◌≡◌, ◌≢◌, ℕ, zero, suc, ◌+◌, ◌<◌, ◌≤◌, Bool, false, not, List, [], ◌∷◌, ◌++◌, Option, None, Some, refl, sym, ap, ◌∙◌, subst, ◌⊎◌, inl, inr, is_none, length, filter, slice_get, slice_set, nat_eq, get_or, take}
+use Rattle.overlay_core.proofs.Words.{after, Call, cases_eq, Errno, Handle, handle_of, handles_of, held_in, Layer, layer_of, Layers, list_any, lowers_of, refusal, Reply, State, Table, Tree, when, with_handle}
 use Rattle.std.proofs.lemmas.Bool.{cases_lt}
 use Rattle.std.proofs.lemmas.List.{take_more, take_all, length-take-le}
 use Rattle.std.proofs.lemmas.Option.{slice_get-get_or, slice_get_past}
-use Rattle.std.specs.List.{flat_map}
 use mathlib.Core.Logic.{∥∥₁_elim}
 use mathlib.Core.HLevel.{⊥_prop}
-use Rattle.std.specs.Prelude.{map, slice_index_or}
 use Rattle.ov_base.specs.declared.call.Call.TheVariants.{Close}
 use Rattle.ov_base.specs.declared.errno.Errno.TheVariants.{EBADF}
-use Rattle.plain_model.specs.Watching.{Rule, Subject, Instance, AllHear, Puts, events, ends, all_asked, passed, all_passed}
+use Rattle.plain_model.specs.Watching.{Rule, Subject, Instance, AllHear, Puts, all_asked, all_passed}
 use Rattle.plain_model.specs.Subjects.{subjects}
 use Rattle.plain_model.specs.Runs.{Answered, Step, Closes, Leaves, without_instance, without_table}
 use Rattle.plain_model.proofs.Looking.{refusal-reading}
@@ -30,25 +28,17 @@ use Rattle.overlay_core.proofs.Stating.{with-tables}
 -- fewer instances without watches
 unwatched-filter : (f : Instance → Bool) (es : List Instance) → AreUnwatched es → AreUnwatched (filter f es)
 unwatched-filter f [] a = tt
-unwatched-filter f (e ∷ es) a = by (f e) (unwatched-filter f es a.1)
-  where
-    by : (b : Bool) → AreUnwatched (filter f es) → AreUnwatched (cond b (e ∷ filter f es) (filter f es))
-    by true rest = (a.0, rest)
-    by false rest = rest
+unwatched-filter f (e ∷ es) a = grind (arith, unwatched-filter f es)
 
 -- an instance without watches stays as it is whatever is told
 passed-none : (ss : List Subject) (e : Instance) → e.watches ≡ [] → all_passed e ss ≡ e
 passed-none [] e h = refl
-passed-none (s ∷ ss) e h =
-    let same : passed e s ≡ e = ap (λ ws. record e { watches = filter (λ w. not (ends e.client s w)) ws }) h ∙ sym (ap (λ ws. record e { watches = ws }) h) in
-    ap (λ z. all_passed z ss) same ∙ passed-none ss e h
+passed-none (s ∷ ss) e h = grind (arith, passed-none ss)
 
 -- and it asks nothing
 asked-none : (ss : List Subject) (e : Instance) → e.watches ≡ [] → all_asked e ss ≡ []
 asked-none [] e h = refl
-asked-none (s ∷ ss) e h =
-    ap (λ ws. flat_map (λ w. map (λ v. (slice_index_or e.tags w.slot 0, v)) (events e.client s w)) ws ++ all_asked (passed e s) ss) h
-    ∙ asked-none ss (passed e s) (ap (λ ws. filter (λ w. not (ends e.client s w)) ws) h)
+asked-none (s ∷ ss) e h = grind (arith, asked-none ss)
 
 -- so each of them hears whatever is told, and stays as it is
 pub all-hear : (shows : Rule) (ss : List Subject) (es : List Instance) → AreUnwatched es → AllHear shows ss es es
@@ -78,9 +68,7 @@ closed-none (h ∷ hs) (suc i) = closed-none hs i
 
 -- a slot without a handle is not open
 slot-free : (P : handles.Handle → Handle → Type 0) (a : Option handles.Handle) (x : Option Handle) → IsSlot P a x → x ≡ None → a ≡ None
-slot-free P None x s e = refl
-slot-free P (Some o) None s e = absurd s
-slot-free P (Some o) (Some h) s e = cc
+slot-free P a x s e = grind arith
 
 -- an open descriptor can be closed
 unrefused : (s : State) (c i : ℕ) (h : Handle) → handle_of s.tables c i ≡ Some h → refusal s c (Close i) ≡ None
@@ -104,20 +92,7 @@ pub record ClosesBelow (s : State) (c i : ℕ) (new : Mount) : Type 0 where
 
 -- none is closed, and nobody watches for the client
 pub closes-none : (m : Mount) (s : State) (c : ℕ) → IsStateOf m s → ClosesBelow s c 0 m
-closes-none m s c st = record {
-  last = without_instance s c;
-  closes = refl;
-  stands = record {
-    layers = record { layers = st.layers.layers; shows = st.layers.shows; kept = st.layers.kept; writable = st.layers.writable };
-    tables = st.tables;
-    one = st.one;
-    arrived = st.arrived;
-    redirects = st.redirects;
-    unwatched = unwatched-filter (λ e. not (nat_eq e.client c)) s.instances st.unwatched;
-  };
-  free = λ d below. absurd (omega arith);
-  rest = λ d above. refl;
-}
+closes-none m s c st = grind (arith, unwatched-filter)
 
 module _ (s : State) (m new : Mount) (c i : ℕ) (b : ClosesBelow s c i m) (within : i < length (handles_of s.tables c)) where
   -- the client's descriptors as they were
@@ -169,11 +144,7 @@ module _ (s : State) (m new : Mount) (c i : ℕ) (b : ClosesBelow s c i m) (with
       others d n = ap (λ z. held_in (slice_get z d)) (handles-set b.last.tables c i None) ∙ ap held_in (get-others (handles_of b.last.tables c) i d None n)
 
       free : (d : ℕ) → (d ≡ i) ⊎ (d ≡ i → ⊥) → d < i + 1 → handle_of (with_handle b.last.tables c i None) c d ≡ None
-      free d (inl e) below =
-          ap (λ z. handle_of (with_handle b.last.tables c i None) c z) e
-          ∙ ap (λ z. held_in (slice_get z i)) (handles-set b.last.tables c i None)
-          ∙ closed-none (handles_of b.last.tables c) i
-      free d (inr n) below = others d n ∙ b.free d (omega arith)
+      free d is below = grind (arith, handles-set, closed-none, others)
 
   -- one descriptor more is closed
   pub closes-next : (r : Reply) → Serves (refusal b.last c (Close i)) b.last c (Close i) r new → ClosesBelow s c (i + 1) new
@@ -187,16 +158,7 @@ module _ (s : State) (m new : Mount) (c i : ℕ) (b : ClosesBelow s c i m) (with
 
 -- all are closed
 pub closes-each : (s : State) (new : Mount) (c i : ℕ) → length (handles_of s.tables c) ≤ i → ClosesBelow s c i new → ClosesEach s c new
-closes-each s new c i all b = record {
-  last = b.last;
-  closes = subst (λ hs. Closes Nothing (without_instance s c) c 0 hs b.last) (take_all i (handles_of s.tables c) all) b.closes;
-  stands = b.stands;
-  none = λ d. slot-free _ _ _ (b.stands.tables.slots c d) (by d (cases_lt d i));
-}
-  where
-    by : (d : ℕ) → (d < i) ⊎ (i ≤ d) → handle_of b.last.tables c d ≡ None
-    by d (inl below) = b.free d below
-    by d (inr above) = b.rest d above ∙ ap held_in (slice_get_past (handles_of s.tables c) d (omega arith))
+closes-each s new c i all b = grind (arith, take_all, slot-free, cases_lt, slice_get_past)
 
 -- the tables but a client's
 abbrev without : ℕ → List Table → List Table
@@ -205,46 +167,26 @@ without n ks = filter (λ (k : Table). not (nat_eq k.client n)) ks
 -- without its table a client has no descriptors
 handles-gone : (ks : List Table) (n : ℕ) → handles_of (without n ks) n ≡ []
 handles-gone [] n = refl
-handles-gone (k ∷ ks) n = by (nat_eq k.client n) refl (handles-gone ks n)
-  where
-    by : (x : Bool) → nat_eq k.client n ≡ x → handles_of (without n ks) n ≡ [] → handles_of (cond (not x) (k ∷ without n ks) (without n ks)) n ≡ []
-    by true e rest = rest
-    by false e rest = ap (λ x. cond x k.handles (handles_of (without n ks) n)) e ∙ rest
+handles-gone (k ∷ ks) n = grind (arith, handles-gone ks n)
 
 -- and the others have theirs
 handles-kept : (ks : List Table) (n b : ℕ) → b ≢ n → handles_of (without n ks) b ≡ handles_of ks b
 handles-kept [] n b h = refl
-handles-kept (k ∷ ks) n b h = by (nat_eq k.client n) refl (handles-kept ks n b h)
-  where
-    by : (x : Bool) → nat_eq k.client n ≡ x → handles_of (without n ks) b ≡ handles_of ks b → handles_of (cond (not x) (k ∷ without n ks) (without n ks)) b ≡ cond (nat_eq k.client b) k.handles (handles_of ks b)
-    by true e rest = rest ∙ sym (ap (λ x. cond x k.handles (handles_of ks b)) (ne_eqb k.client b (λ f. h (sym f ∙ eqb-true k.client n e))))
-    by false e rest = ap (cond (nat_eq k.client b) k.handles) rest
+handles-kept (k ∷ ks) n b h = grind (arith, handles-kept ks n b h)
 
 -- it is not attached
 any-gone : (ks : List Table) (n : ℕ) → list_any (of n) (without n ks) ≡ false
 any-gone [] n = refl
-any-gone (k ∷ ks) n = by (nat_eq k.client n) refl (any-gone ks n)
-  where
-    by : (x : Bool) → nat_eq k.client n ≡ x → list_any (of n) (without n ks) ≡ false → list_any (of n) (cond (not x) (k ∷ without n ks) (without n ks)) ≡ false
-    by true e rest = rest
-    by false e rest = ap (λ x. x || list_any (of n) (without n ks)) e ∙ rest
+any-gone (k ∷ ks) n = grind (arith, any-gone ks n)
 
 -- and the others are as they were
 any-kept : (ks : List Table) (n b : ℕ) → b ≢ n → list_any (of b) (without n ks) ≡ list_any (of b) ks
 any-kept [] n b h = refl
-any-kept (k ∷ ks) n b h = by (nat_eq k.client n) refl (any-kept ks n b h)
-  where
-    by : (x : Bool) → nat_eq k.client n ≡ x → list_any (of b) (without n ks) ≡ list_any (of b) ks → list_any (of b) (cond (not x) (k ∷ without n ks) (without n ks)) ≡ (nat_eq k.client b || list_any (of b) ks)
-    by true e rest = rest ∙ sym (ap (λ x. x || list_any (of b) ks) (ne_eqb k.client b (λ f. h (sym f ∙ eqb-true k.client n e))))
-    by false e rest = ap (λ x. nat_eq k.client b || x) rest
+any-kept (k ∷ ks) n b h = grind (arith, any-kept ks n b h)
 
 -- without a client that goes the tables are those of the others
 go : (U : Layer) (lowers : List Layer) (t : Tree) (clients new : Clients) (ks : List Table) (n : ℕ) → AreTables (IsOpenAs U lowers t clients.directories) clients ks → Detaches clients new n → KeepsPlaces clients new → AreTables (IsOpenAs U lowers t new.directories) new (without n ks)
-go U lowers t clients new ks n a h places =
-    tables-but clients new ks (without n ks) n h.others (handles-kept ks n) (λ d. ap (open_in d) h.gone) U lowers t a places (any-kept ks n)
-    (any-gone ks n ∙ sym (ap (λ (o : Option Descriptors). is_some o) h.gone))
-    (ap length (handles-gone ks n) ∙ sym (ap (λ (o : Option Descriptors). cond (is_some o) DESCRIPTORS_MAX 0) h.gone))
-    (λ d. ap (λ z. held_in (slice_get z d)) (handles-gone ks n))
+go U lowers t clients new ks n a h places = grind (arith, tables-but, handles-kept, any-kept, any-gone, handles-gone)
 
 -- the mount stands for the state without a client that is gone
 gone : (m : Mount) (s : State) (new : Clients) (n : ℕ) → IsStateOf m s → Detaches m.clients new n → KeepsPlaces m.clients new → IsStateOf (record m { clients = new }) (without_table s n)

@@ -1,7 +1,6 @@
 -- What readlink answers.
-use Rattle.std.proofs.Common.{◌≡◌, ℕ, Bool, true, false, not, List, Option, None, Some, Result, Ok, Err, refl, sym, ap, ◌∙◌, ◌⊎◌, inl, inr}
-use Rattle.overlay_core.proofs.Words.{AllocError, Content, Contents, EINVAL, Errno, Folder, IfOk, inode_of, layer_of, Layers, layers_of, lowers_of, node_in, option_and_then, or_else, Path, Place, refusal, Reply, Shown, shows, shows_link, ShowsInode, State, trees, when}
-use Rattle.ov_base.specs.declared.bytes.Content.TheVariants as content
+use Rattle.std.proofs.Common.{◌≡◌, ℕ, Bool, true, false, not, List, Option, None, Some, Result, refl, sym, ap, ◌∙◌, ◌⊎◌, inl, inr, arith}
+use Rattle.overlay_core.proofs.Words.{AllocError, EINVAL, Errno, IfOk, inode_of, layer_of, Layers, layers_of, lowers_of, node_in, option_and_then, or_else, Path, Place, refusal, Reply, Shown, shows, shows_link, ShowsInode, State, trees, when}
 use Rattle.ov_base.specs.declared.call.Call.TheVariants as call
 use Rattle.ov_base.specs.declared.reply.Reply.TheVariants as reply
 use Rattle.merged_lookup.specs.Merged.{walk_fault}
@@ -23,13 +22,11 @@ link-inode l p d none i =
 
 -- a call that may want memory answers the same reply told otherwise
 pub answers-as : (result : Result Reply AllocError) (a b : Reply) → a ≡ b → IfOk result (λ r. r ≡ a) → IfOk result (λ r. r ≡ b)
-answers-as (Ok r) a b e h = h ∙ e
-answers-as (Err x) a b e h = tt
+answers-as result a b e h = grind arith
 
 -- and so what holds of that reply
 pub serves-as : (result : Result Reply AllocError) (a : Reply) (P : Reply → Type 0) → ((r : Reply) → r ≡ a → P r) → IfOk result (λ r. r ≡ a) → IfOk result P
-serves-as (Ok r) a P f h = f r h
-serves-as (Err x) a P f h = tt
+serves-as result a P f h = grind arith
 
 -- a symbolic link is shown with its target, and nothing else has one
 abbrev pub Tells : Option Shown → Type 0
@@ -37,14 +34,7 @@ Tells o = ((shown_target o ≡ None) × (shows_link o ≡ false)) ⊎ ((target :
 
 -- each of what is shown is one of these
 tells : (o : Option Shown) → Tells o
-tells None = inl (refl, refl)
-tells (Some (Folder i k a)) = inl (refl, refl)
-tells (Some (Contents i k None)) = inl (refl, refl)
-tells (Some (Contents i k (Some inode))) = by inode.content
-  where
-    by : (x : Content) → Tells (Some (Contents i k (Some (record inode { content = x }))))
-    by (content.File bytes) = inl (refl, refl)
-    by (content.SymbolicLink target) = inr (target, refl, refl)
+tells o = grind arith
 
 module _ (m : Mount) (s : State) (st : IsStateOf m s) (c : ℕ) (p : Path) where
   law : Reads (the_layers m) s c p

@@ -1,6 +1,6 @@
 -- Opens that make a file: the states that the mount stands for on the way.
-use Rattle.std.proofs.Common.{arith, ◌≡◌, ◌↔◌, ℕ, zero, suc, cond, List, [], None, Some, Ok, Err, refl, sym, ap, ◌∙◌, subst, is_none, is_some}
-use Rattle.overlay_core.proofs.Words.{after, Call, change, Descriptors, Directory, Errno, false≢true, File, file_holders, fresh, Handle, inode_of, IsLive, IsMountOf, Layer, layer_of, Layers, layers_of, Leaf, live_handle, lowers_of, lowest_free, made_way, New, NodeId, OpenFile, OpenFlags, opening_fault, option_and_then, Own, Path, refusal, shows, State, StaysMount, Tree, Upper, way_of, with_handle}
+use Rattle.std.proofs.Common.{arith, ◌≡◌, ◌↔◌, ℕ, zero, suc, cond, List, [], None, Some, Ok, Err, refl, sym, ap, ◌∙◌, subst, is_none}
+use Rattle.overlay_core.proofs.Words.{after, Call, change, Descriptors, Directory, Errno, File, file_holders, fresh, Handle, IsLive, IsMountOf, Layer, layer_of, Layers, layers_of, Leaf, live_handle, lowers_of, lowest_free, made_way, New, NodeId, OpenFile, OpenFlags, opening_fault, Own, Path, refusal, shows, State, StaysMount, Tree, Upper, way_of, with_handle}
 use mathlib.Core.Logic.{∥∥₁_elim}
 use mathlib.Core.HLevel.{⊥_prop}
 use Rattle.slab.specs.Slab.{get}
@@ -29,9 +29,7 @@ use Rattle.overlay_core.proofs.Carrying.{AreCounted, files-kept, state-on, state
 use Rattle.overlay_core.proofs.Changing.{handle-beside}
 use Rattle.overlay_core.proofs.Lasting.{create-live, open-leaves, parents-live}
 use Rattle.overlay_core.proofs.Openings.{open-full, free-there, state-open, open-served, unfaulted}
-use Rattle.overlay_core.proofs.Serving.{open-at}
-use Rattle.overlay_core.proofs.Slots.{open-live}
-use Rattle.overlay_core.proofs.Stating.{the_lowers, the_upper, Alike, keep-state}
+use Rattle.overlay_core.proofs.Stating.{the_lowers, the_upper, keep-state}
 
 -- room that is made where all descriptors are open is an open that is refused
 pub full-opens : (old new : Clients) (c : ℕ) (h : handles.Handle) (e : Errno) → ChangesClient old new c (λ x y. y ≡ x) → (e ≡ EMFILE) × HasAllOpen old c → ChangesClient old new c (λ x y. Opens x y h (Ok (Err e)))
@@ -51,10 +49,7 @@ full-opens old new c h e same full =
 
 -- no client has a file open under whose key nothing stands
 not-open : (m : Mount) (s : State) → IsStateOf m s → (k : ℕ) → get m.layers.upper k ≡ None → HasFile m.clients k → ⊥
-not-open m s st k vacant has =
-    let at = open-at (Alike m.layers s m.clients) m.clients s.tables st.tables has.client has.descriptor (File has.file) has.opened in
-    let live = open-live m s st k at.0.node (record { client = has.client; descriptor = has.descriptor; file = has.file; handle = at.0; opened = has.opened; key = has.key; on = at.1; at = refl }) in
-    false≢true (sym (ap (λ o. is_some (option_and_then inode_of o)) vacant) ∙ ap is_some live.inode)
+not-open m s st k vacant has = grind arith
 
 -- so no handle holds it, where room is made
 pub none-holds : (m : Mount) (c : ℕ) (clients : Clients) → ChangesClient m.clients clients c (λ x y. y ≡ x) → ∥ HasStateOf m ∥₁ → AreCounted clients → (key : ℕ) → ((s : State) → IsStateOf m s → get m.layers.upper key ≡ None) → (k : ℕ) → Upper key ≡ Upper k → file_holders clients.files k ≡ 0
@@ -147,13 +142,7 @@ module _ (m : Mount) (s : State) (st : IsStateOf m s) (c : ℕ) (clients : Clien
 
     -- no open file is on its node or under its key
     made-fresh : (j : ℕ) (e : NodeId) → IsOpenOn clients s.tables j e → (New s.serial ≡ e) ↔ (key ≡ j)
-    made-fresh j e y =
-        let live : IsLive (the_upper m) s.tree e j = open-live reserved s reserved-state j e y in
-        let unused : s.tree (New s.serial) ≡ None = st.layers.kept.unused s.serial (omega arith) in
-        let vacant : (the_upper m).inodes key ≡ None = ap (λ k. option_and_then inode_of (get m.layers.upper k)) (sym number) ∙ ap (option_and_then inode_of) leaf.vacant in (
-          λ same. absurd (false≢true (sym (ap is_some unused) ∙ ap (λ x. is_some (s.tree x)) same ∙ ap is_some live.node)),
-          λ same. absurd (false≢true (sym (ap is_some vacant) ∙ ap (λ k. is_some ((the_upper m).inodes k)) same ∙ ap is_some live.inode)),
-        )
+    made-fresh j e y = grind arith
 
     -- the mount stands for the state in which the file is open
     opened-state : IsStateOf (record m { layers = new; clients = last }) (record s { tree = u; serial = suc s.serial; tables = with_handle s.tables c d (Some made) })

@@ -1,6 +1,6 @@
 -- Opens for writing of files of the upper: what is opened is as the machine opens it, emptied where that is asked for.
-use Rattle.std.proofs.Common.{arith, ◌≡◌, ◌-◌, ℕ, Bool, true, false, not, cond, ◌&&◌, ◌||◌, List, [], ◌++◌, length, take, replicate, None, Some, Ok, refl, sym, ap, ◌∙◌, subst, ◌⊎◌, inl, inr, nat_eq, is_some}
-use Rattle.overlay_core.proofs.Words.{Attributes, bad_flags, bytes_at, Call, cases_Bool, change, Contents, EINVAL, File, file_bytes, Handle, Inode, IsLive, Layer, Layers, layers_of, Leaf, live_handle, Lower, lowest_free, Node, NodeId, OpenFile, OpenFlags, opening_fault, option_and_then, over_node, Own, Path, Place, put, refusal, rewritten, shows, ShowsInode, sized, State, StaysLayers, Tree, Upper, way_of, when, with_bytes, with_handle}
+use Rattle.std.proofs.Common.{arith, ◌≡◌, ℕ, true, false, cond, List, [], None, Some, Ok, refl, sym, ap, ◌∙◌, subst, ◌⊎◌, inl, inr, nat_eq, is_some}
+use Rattle.overlay_core.proofs.Words.{Attributes, bad_flags, bytes_at, Call, cases_Bool, change, Contents, EINVAL, File, file_bytes, Handle, Inode, IsLive, Layer, Layers, layers_of, Leaf, live_handle, Lower, lowest_free, Node, NodeId, OpenFile, OpenFlags, opening_fault, option_and_then, Own, Path, Place, refusal, rewritten, shows, ShowsInode, sized, State, StaysLayers, Tree, Upper, way_of, when, with_handle}
 use Rattle.ov_base.specs.declared.bytes.Content.TheVariants as content
 use Rattle.ov_base.specs.declared.call.Call.TheVariants as call
 use Rattle.ov_base.specs.declared.reply.Reply.TheVariants as reply
@@ -21,23 +21,9 @@ use Rattle.overlay_core.proofs.Openings.{IsShownFile, fresh-one, free-there, sta
 use Rattle.overlay_core.proofs.Rewritten.{state-rewritten}
 use Rattle.overlay_core.proofs.Stating.{the_layers, the_lowers, the_upper}
 
--- flags that go together don't ask to empty a file that isn't to be written
-fourth-false : (a u x y z : Bool) → (a || u || x || y || z) ≡ false → y ≡ false
-fourth-false a u x false z fine = refl
-fourth-false true u x true z fine = fine
-fourth-false false true x true z fine = fine
-fourth-false false false true true z fine = fine
-fourth-false false false false true z fine = fine
-
--- so those that ask to empty it ask to write it
+-- flags that go together and ask to empty a file ask to write it
 writes-flag : (f : OpenFlags) → bad_flags f ≡ false → f.truncate ≡ true → f.writes ≡ true
-writes-flag f fine t =
-    let both : f.truncate && not f.writes ≡ false = fourth-false (not f.reads && not f.writes) f.unknown (f.exclusive && not f.create) (f.truncate && not f.writes) (f.directory && f.create) fine in
-    by f.writes (ap (λ b. b && not f.writes) (sym t) ∙ both)
-  where
-    by : (w : Bool) → not w ≡ false → w ≡ true
-    by true h = refl
-    by false h = sym h
+writes-flag f fine t = grind arith
 
 -- what is opened to be emptied is to be written
 pub truncate-writes : (Ls : List Layer) (p : Path) (f : OpenFlags) (mode : ℕ) → opening_fault Ls p f mode (Some 0) ≡ None → f.truncate ≡ true → f.writes ≡ true
@@ -45,9 +31,7 @@ truncate-writes Ls p f mode fine t = writes-flag f (when-not (bad_flags f) EINVA
 
 -- a file of no size has no bytes
 pub sized-none : (bytes : List ℕ) → sized bytes 0 ≡ []
-sized-none bytes =
-    let none : 0 - length bytes ≡ 0 = omega arith in
-    ap (λ n. take 0 bytes ++ replicate n 0) none
+sized-none bytes = grind arith
 
 module _ (f : OpenFlags) (w : f.writes ≡ true) (t : Tree) (d : NodeId) (bytes : List ℕ) (a : Attributes) (l : ℕ) (is : t d ≡ Some (Leaf (content.File bytes) a Own l)) where
   abbrev x : Node
@@ -55,15 +39,11 @@ module _ (f : OpenFlags) (w : f.writes ≡ true) (t : Tree) (d : NodeId) (bytes 
 
   -- an open of a file of the upper leaves the tree as it is
   tree-kept : f.truncate ≡ false → change (opened f) t (Some d) ≡ t
-  tree-kept e =
-      let same : over_node (opened f) (t d) ≡ t d = ap (over_node (opened f)) is ∙ (λ i. Some (cond (w i) (cond (e i) (with_bytes [] x) x) x)) ∙ sym is in
-      λ i y. put-same t d (over_node (opened f) (t d)) same y i
+  tree-kept e = grind (arith, put-same)
 
   -- or empties the file
   tree-emptied : f.truncate ≡ true → change (opened f) t (Some d) ≡ rewritten t d []
-  tree-emptied e =
-      let same : over_node (opened f) (t d) ≡ over_node (with_bytes []) (t d) = ap (over_node (opened f)) is ∙ (λ i. Some (cond (w i) (cond (e i) (with_bytes [] x) x) x)) ∙ sym (ap (over_node (with_bytes [])) is) in
-      ap (put t d) same
+  tree-emptied e = grind arith
 
 -- an open for writing is served where this becomes of the tree
 pub writing-served : (m : Mount) (s : State) (st : IsStateOf m s) (c : ℕ) (p : Path) (f : OpenFlags) (mode : ℕ) → opening_fault (layers_of m.layers) p f mode (Some 0) ≡ None → (law : OpensWriting s c p f mode) (d : ℕ) → lowest_free s.tables c ≡ Some d → (t : Tree) → change (opened f) s.tree (Some law.node) ≡ t → (new : Mount) → IsStateOf new (record s { tree = t; tables = with_handle s.tables c d (Some (live_handle f law.node (way_of s.tree p))) }) → Serves (refusal s c (call.Open p f mode)) s c (call.Open p f mode) (reply.Descriptor d) new

@@ -1,9 +1,10 @@
 -- Opens: what they are refused for, and that what is opened for reading is as the machine opens it.
 use Rattle.std.proofs.Common.{arith, ◌≡◌, ◌↔◌, ℕ, zero, suc, ◌<◌, Bool, true, false, not, cond, ◌&&◌, ◌||◌, List, [], ◌∷◌, Option, None, Some, Ok, Err, map, refl, sym, ap, ◌∙◌, subst, ◌⊎◌, inl, inr, is_none, is_some}
-use Rattle.overlay_core.proofs.Words.{after, AllocError, At, Attributes, bad_flags, base, Branch, Call, Content, Contents, DESCRIPTORS_MAX, Directory, EINVAL, Errno, face, false≢true, File, Folder, Handle, Inode, inode_of, is_directory, Layer, layer_of, Layers, layers_of, Leaf, Lower, lowest_free, ne_eqb, Node, node_at, node_in, node_of, NodeId, OpenFile, OpenFlags, opening_fault, option_and_then, or_else, parents_fault, Path, Place, refusal, reply_of, see, SetsSlot, Shown, shows, shows_link, ShowsInode, State, Table, trees, Upper, way_of, when, with_handle}
+use Rattle.std.proofs.Common.{rules}
+use Rattle.overlay_core.proofs.Words.{after, AllocError, At, Attributes, bad_flags, base, Call, Content, Contents, DESCRIPTORS_MAX, Directory, EINVAL, Errno, face, File, Folder, Handle, Inode, inode_of, is_directory, Layer, layer_of, Layers, layers_of, Leaf, Lower, lowest_free, ne_eqb, Node, node_at, node_in, node_of, NodeId, OpenFile, OpenFlags, opening_fault, option_and_then, or_else, parents_fault, Path, Place, refusal, reply_of, see, SetsSlot, Shown, shows, shows_link, ShowsInode, State, Table, trees, Upper, way_of, when, with_handle}
 use Rattle.ov_base.specs.declared.bytes.Content.TheVariants as content
 use Rattle.ov_base.specs.declared.call.Call.TheVariants as call
-use Rattle.ov_base.specs.declared.errno.Errno.TheVariants.{EEXIST, EISDIR, ELOOP, ENOTDIR, EMFILE}
+use Rattle.ov_base.specs.declared.errno.Errno.TheVariants.{ELOOP, ENOTDIR, EMFILE}
 use Rattle.ov_base.specs.declared.reply.Reply.TheVariants as reply
 use Rattle.plain_model.specs.Tree.{Origin, SeenLeaf}
 use Rattle.plain_model.specs.Machine.{Live}
@@ -17,7 +18,7 @@ use Rattle.mount_laws.specs.Opening.{shown_fault, inode_view, shown_view, OpensR
 use Rattle.mount_laws.proofs.Looks.{is_present, present}
 use Rattle.mount_laws.proofs.Links.{first-none, second-none}
 use Rattle.mount_laws.proofs.Opening.{law_of_open_refusal, law_of_opened_for_reading}
-use Rattle.mount_laws.proofs.OpenFiles.{law_of_live_one, law_of_live_shown}
+use Rattle.mount_laws.proofs.OpenFiles.{law_of_live_shown}
 use Rattle.open_handles.specs.declared.handle.Handle as handles
 use Rattle.open_handles.specs.Listings.{Opens}
 use Rattle.overlay_core.specs.declared.clients.Clients.{Clients}
@@ -27,7 +28,7 @@ use Rattle.overlay_core.specs.Files.{lower_inode, is_leaf, IsFrozen, IsOf, IsOpe
 use Rattle.overlay_core.specs.Opening.{inode_refusal, OpensAt, OpensFile}
 use Rattle.overlay_core.specs.States.{IsLeft, AreTables, IsStateOf, Serves}
 use Rattle.overlay_core.proofs.Answering.{serve-refused, serve-done}
-use Rattle.overlay_core.proofs.Slots.{changes-as, opened-after, open-live}
+use Rattle.overlay_core.proofs.Slots.{changes-as, opened-after}
 use Rattle.overlay_core.proofs.Serving.{handle-set, room-of, placed, open-at, free-lowest, free-none, tables-set}
 use Rattle.overlay_core.proofs.Stating.{the_layers, the_lowers, the_upper, Alike, with-tables, keep-state}
 
@@ -39,11 +40,7 @@ inode-refused l p d f b i link =
 
 -- the last of the refusals, told apart from the others
 faults-last : (a b w d r : Option Errno) → or_else a (or_else b (or_else w (or_else d r))) ≡ or_else (or_else a (or_else b (or_else w (or_else d None)))) r
-faults-last (Some e) b w d r = refl
-faults-last None (Some e) w d r = refl
-faults-last None None (Some e) d r = refl
-faults-last None None None (Some e) r = refl
-faults-last None None None None r = refl
+faults-last a b w d r = grind arith
 
 -- the descriptors are asked for last
 table-last : (Ls : List Layer) (p : Path) (f : OpenFlags) (mode : ℕ) (free : Option ℕ) → opening_fault Ls p f mode free ≡ or_else (opening_fault Ls p f mode (Some 0)) (when (is_none free) EMFILE)
@@ -51,12 +48,7 @@ table-last Ls p f mode free = faults-last (when (bad_flags f) EINVAL) (bad_mode 
 
 -- a fault of the flags or of the mode comes first
 pub flags-first : (Ls : List Layer) (p : Path) (f : OpenFlags) (mode : ℕ) (e : Errno) → or_else (when (bad_flags f) EINVAL) (bad_mode mode) ≡ Some e → opening_fault Ls p f mode (Some 0) ≡ Some e
-flags-first Ls p f mode e h = by (when (bad_flags f) EINVAL) (bad_mode mode) _ h
-  where
-    by : (a b r : Option Errno) → or_else a b ≡ Some e → or_else a (or_else b r) ≡ Some e
-    by (Some x) b r is = is
-    by None (Some x) r is = is
-    by None None r is = cc
+flags-first Ls p f mode e h = search rules
 
 -- then one of the parents
 pub parents-next : (Ls : List Layer) (p : Path) (f : OpenFlags) (mode : ℕ) (e : Errno) → bad_flags f ≡ false → bad_mode mode ≡ None → parents_fault Ls p ≡ Some e → opening_fault Ls p f mode (Some 0) ≡ Some e
@@ -64,33 +56,19 @@ parents-next Ls p f mode e flags bits way = λ i. or_else (when (flags i) EINVAL
 
 -- then one of what is shown
 pub shown-next : (Ls : List Layer) (p : Path) (f : OpenFlags) (mode : ℕ) → bad_flags f ≡ false → bad_mode mode ≡ None → parents_fault Ls p ≡ None → opening_fault Ls p f mode (Some 0) ≡ shown_fault f (shows 0 Ls p)
-shown-next Ls p f mode flags bits way = (λ i. or_else (when (flags i) EINVAL) (or_else (bits i) (or_else (way i) (or_else (shown_fault f (shows 0 Ls p)) None)))) ∙ by (shown_fault f (shows 0 Ls p))
-  where
-    by : (a : Option Errno) → or_else a None ≡ a
-    by None = refl
-    by (Some x) = refl
+shown-next Ls p f mode flags bits way = grind arith
 
 -- flags that go together and ask not to write ask to read
 reads-flag : (r w u x y z : Bool) → w ≡ false → (not r && not w || u || x || y || z) ≡ false → r ≡ true
-reads-flag true w u x y z unwritten fine = refl
-reads-flag false true u x y z unwritten fine = absurd (false≢true (sym unwritten))
-reads-flag false false u x y z unwritten fine = absurd (false≢true (sym fine))
+reads-flag r w u x y z unwritten fine = grind arith
 
 -- a directory that is opened isn't to be written
 no-write : (f : OpenFlags) (j k : ℕ) (a : Attributes) → shown_fault f (Some (Folder j k a)) ≡ None → f.writes ≡ false
-no-write f j k a fine = by f.writes (when-not (f.writes || f.create) EISDIR (second-none (when (f.directory && false) ENOTDIR) _ (second-none (when (f.create && f.exclusive) EEXIST) _ fine)))
-  where
-    by : (w : Bool) → (w || f.create) ≡ false → w ≡ false
-    by true h = h
-    by false h = refl
+no-write f j k a fine = grind arith
 
 -- what is opened is no symbolic link
 no-link : (f : OpenFlags) (o : Option Shown) → shown_fault f o ≡ None → shows_link o ≡ false
-no-link f o fine =
-    when-not (shows_link o) ELOOP
-    (first-none (when (shows_link o) ELOOP) _
-    (second-none (when (is_some o && f.create && f.exclusive) _) _
-    (second-none (when (is_none o && not f.create) _) _ fine)))
+no-link f o fine = grind arith
 
 -- a file that is shown
 pub record IsShownFile (o : Option Shown) (j k : ℕ) : Type 0 where
@@ -101,14 +79,7 @@ pub record IsShownFile (o : Option Shown) (j k : ℕ) : Type 0 where
 
 -- what is shown and no directory and no symbolic link is a file
 shown-file : (o : Option Shown) (j k : ℕ) (x : Option Inode) → o ≡ Some (Contents j k x) → is_present o ≡ true → shows_link o ≡ false → IsShownFile o j k
-shown-file o j k None is there link = absurd (false≢true (sym (ap is_present is) ∙ there))
-shown-file o j k (Some i) is there link = by i.content refl
-  where
-    by : (z : Content) → i.content ≡ z → IsShownFile o j k
-    by (content.File bytes) e = record { inode = i; bytes = bytes; content = e; shown = is }
-    by (content.SymbolicLink target) e =
-        let yes : shows_link o ≡ true = ap shows_link is ∙ ap (λ z. is_link_inode (Some (record i { content = z }))) e in
-        absurd (false≢true (sym link ∙ yes))
+shown-file o j k x is there link = grind arith
 
 -- the inode of a lower layer is the one at its place
 lower-in : (u : Tree) (ts : List Tree) (j k : ℕ) → lower_inode (map layer_of ts) (suc j) k ≡ inode_in (u ∷ ts) (suc j) k
@@ -122,13 +93,7 @@ source-below j k = ap (λ b. cond b (Upper k) (Lower (suc j) k)) (ne_eqb (suc j)
 
 -- a node that is seen as a file or link is one
 pub leaf-seen : (o : Option Node) (content : Content) (a : Attributes) (u : Origin) (l : ℕ) → face o ≡ Some (SeenLeaf content a u l) → (n : ℕ) × (o ≡ Some (Leaf content a u n))
-leaf-seen None content a u l h = cc
-leaf-seen (Some (Branch x b names c)) content a u l h = cc
-leaf-seen (Some (Leaf y x v n)) content a u l h =
-    let contents : y ≡ content = cc in
-    let attributes : x ≡ a = cc in
-    let origins : v ≡ u = cc in
-    (n, λ i. Some (Leaf (contents i) (attributes i) (origins i) n))
+leaf-seen o content a u l h = grind arith
 
 -- a handle leads to the upper's file of this key, on this node
 record LeadsTo (o : handles.Handle) (x : Handle) (k : ℕ) (d : NodeId) : Type 0 where
@@ -152,10 +117,7 @@ module _ (old new : Clients) (ks : List Table) (P : handles.Handle → Handle �
 
   -- so is what a descriptor leads to
   led : (k : ℕ) (d : NodeId) → IsOpenOn new (with_handle ks c fd (Some x)) k d → IsOpenOn old ks k d ⊎ LeadsTo o x k d
-  led k d y =
-      let z = open-at Led new (with_handle ks c fd (Some x)) all-led y.client y.descriptor (File y.file) y.opened in
-      let same : z.0 ≡ y.handle = cc (z.1, y.on) in
-      subst (λ e. IsOpenOn old ks k e ⊎ LeadsTo o x k e) (ap (λ (g : Handle). g.node) same ∙ y.at) (z.2 y.file k refl y.key)
+  led k d y = grind (arith, open-at, all-led)
 
   -- files and nodes are one still, where the file of that handle is one with those that were open
   pub one-more : AreOne old ks → ((f : OpenFile) (k j : ℕ) (e : NodeId) → o ≡ File f → f.source ≡ Upper k → IsOpenOn old ks j e → (x.node ≡ e) ↔ (k ≡ j)) → AreOne new (with_handle ks c fd (Some x))
@@ -184,10 +146,7 @@ module _ (m : Mount) (s : State) (st : IsStateOf m s) (c : ℕ) where
 
   -- an open file at a path is one with it exactly where it is one inode
   pub fresh-one : (p : Path) (file : OpenFile) (x : Handle) → node_at s.tree p ≡ Some x.node → IsOf (the_upper m) (the_lowers m) s.tree file.source x → (g : OpenFile) (k j : ℕ) (e : NodeId) → File file ≡ File g → g.source ≡ Upper k → IsOpenOn m.clients s.tables j e → (x.node ≡ e) ↔ (k ≡ j)
-  fresh-one p file x at of g k j e same key y =
-      let files : file ≡ g = cc in
-      let live : IsOf (the_upper m) (the_lowers m) s.tree (Upper k) x = subst (λ w. IsOf (the_upper m) (the_lowers m) s.tree w x) (ap (λ (z : OpenFile). z.source) files ∙ key) of in
-      law_of_live_one (the_upper m) s.tree p x.node e k j at live.0 (open-live m s st j e y)
+  fresh-one p file x at of g k j e same key y = grind arith
 
   -- a descriptor that is opened on both sides, alike
   module _ (h : handles.Handle) (d : ℕ) (new : Clients) (ch : ChangesClient m.clients new c (λ x y. Opens x y h (Ok (Ok d)))) where
@@ -253,9 +212,7 @@ module _ (m : Mount) (s : State) (st : IsStateOf m s) (c : ℕ) where
 
       -- an open is served where the mount stands for the state with the descriptor that the machine finds too
       pub open-served : (d x : ℕ) → lowest_free s.tables c ≡ Some d → lowest_free s.tables c ≡ Some x → reply_of s c asked ≡ reply.Descriptor x → (next : ℕ → State) → after s c asked ≡ next x → (new : Mount) → IsStateOf new (next d) → Serves (refusal s c asked) s c asked (reply.Descriptor d) new
-      open-served d x free found answer next state new stands =
-          let same : x ≡ d = cc (found, free) in
-          serve-done _ s c asked _ new (unrefused d free) (sym (answer ∙ ap reply.Descriptor same)) (subst (IsStateOf new) (sym (state ∙ ap next same)) stands)
+      open-served d x free found answer next state new stands = grind (arith, serve-done, unrefused)
 
       module _ (w : f.writes ≡ false) (there : is_some (shows 0 (the_layers m) p) ≡ true) (h : handles.Handle) (d : ℕ) (new : Clients) (ch : ChangesClient m.clients new c (λ x y. Opens x y h (Ok (Ok d)))) where
         -- the machine finds the same descriptor

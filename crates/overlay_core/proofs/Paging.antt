@@ -1,5 +1,6 @@
 -- The names that a listing gives.
 use Rattle.std.proofs.Common.{◌≡◌, ℕ, true, false, List, [], Option, None, Some, Result, Ok, Err, refl, sym, ap, ◌∙◌, subst, is_some, take, drop, option_map, unwrap_or}
+use Rattle.std.proofs.Common.{arith}
 use Rattle.overlay_core.proofs.Words.{AllocError, ChangesSlot, Directory, directory_in, false≢true, GivesNames, IfOk, layers_of, Name, OpenDirectory, SetsSlot, with_listing}
 use Rattle.std.specs.Option.{IsSomeAnd}
 use Rattle.overlay_core.specs.declared.clients.Clients.{Clients}
@@ -19,9 +20,7 @@ set-as x y d u v e h = subst (SetsSlot x y d) e h
 
 module _ (m : Mount) (new : Clients) (c d : ℕ) (o : OpenDirectory) (was : opened_by m.clients c d ≡ Some (Directory o)) where
   opened-before : (P : Slots → Slots → Type 0) (h : ChangesClient m.clients new c P) → opened h.before.slots.items d ≡ Some (Directory o)
-  opened-before P h =
-      let same : opened_by m.clients c d ≡ opened h.before.slots.items d = rw h.was refl in
-      sym same ∙ was
+  opened-before P h = grind arith
 
   module _ (n : ℕ) where
     next-names : (left names : List Name) → o.listing ≡ Some left → ChangesClient m.clients new c (λ x y. GivesNames x y d n (Ok names)) → Pages m (record m { clients = new }) c d n names
@@ -63,5 +62,4 @@ module _ (m : Mount) (new : Clients) (c d : ℕ) (o : OpenDirectory) (was : open
     }
       where
         by : (l : Option (List Name)) → is_some l ≡ false → AreLeft (layers_of m.layers) (path_of m.clients o) l left
-        by None t = shown
-        by (Some x) t = absurd (false≢true (sym t))
+        by l t = grind arith

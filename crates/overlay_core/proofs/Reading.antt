@@ -1,5 +1,5 @@
 -- What the calls that read user attributes answer.
-use Rattle.std.proofs.Common.{◌≡◌, ℕ, true, List, None, Some, Result, Ok, Err, IfOk, sym, ap, ◌∙◌, subst, map}
+use Rattle.std.proofs.Common.{◌≡◌, ℕ, true, List, None, Some, Result, IfOk, sym, ap, ◌∙◌, map, arith}
 use Rattle.overlay_core.proofs.Words.{AllocError, Call, Errno, layer_of, lowers_of, Path, refusal, Reply, shows, State}
 use Rattle.ov_base.specs.declared.call.Call.TheVariants as call
 use Rattle.ov_base.specs.declared.reply.Reply.TheVariants as reply
@@ -14,8 +14,7 @@ use Rattle.overlay_core.proofs.Stating.{the_layers}
 
 -- a call that serves, told of a call that is offered
 pub serves-offered : (old new : Mount) (r : Result Reply AllocError) (client : ℕ) (given k : Call) → given ≡ k → IfOk r (λ reply. (s : State) → IsStateOf old s → (c : ℕ) → Serves (refusal s c k) s c k reply new) → IfOk r (λ reply. is_offered given ≡ true → (s : State) → IsStateOf old s → Serves (refusal s client given) s client given reply new)
-serves-offered old new (Ok answer) client given k is h = λ offered s st. subst (λ (z : Call). Serves (refusal s client z) s client z answer new) (sym is) (h s st client)
-serves-offered old new (Err e) client given k is h = tt
+serves-offered old new r client given k is h = grind arith
 
 module _ (m : Mount) (s : State) (st : IsStateOf m s) (c : ℕ) (p : Path) where
   gets : (n : List ℕ) → GetsAttribute (the_layers m) s c p n

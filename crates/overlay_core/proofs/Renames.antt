@@ -1,11 +1,10 @@
 -- Open directories and open files through a rename.
-use Rattle.std.proofs.Common.{◌≡◌, ℕ, Bool, true, false, cond, ◌||◌, List, [], ◌∷◌, ◌++◌, Option, None, Some, IsSome, refl, sym, ap, ◌∙◌, subst, inl, inr, is_some, length, map, nat_eq}
+use Rattle.std.proofs.Common.{◌≡◌, ℕ, true, ◌||◌, List, [], ◌∷◌, ◌++◌, Option, None, Some, IsSome, refl, sym, ap, ◌∙◌, inl, inr, is_some, length, nat_eq, arith}
 use Rattle.std.proofs.lemmas.List.{length-map}
 use Rattle.std.specs.BTreeMap.{get}
-use Rattle.overlay_core.proofs.Words.{after, At, Attributes, Dentries, Descriptors, Directory, false≢true, File, folder_attributes, Handle, handle_of, handles_of, is_folder, Layer, list_any, Location, Name, nat_cmp, node_at, NodeId, OpenDirectory, OpenFile, option_and_then, Path, Removed, State, Table, Tree}
+use Rattle.overlay_core.proofs.Words.{after, At, Attributes, Dentries, Descriptors, false≢true, folder_attributes, Handle, handle_of, handles_of, is_folder, Layer, list_any, Location, Name, nat_cmp, node_at, NodeId, OpenDirectory, option_and_then, Path, Removed, State, Table, Tree}
 use Rattle.ov_base.specs.declared.call.Call.TheVariants as call
-use Rattle.plain_model.specs.Changes.{re_way, re_ways, way_of}
-use Rattle.plain_model.specs.Machine.{DESCRIPTORS_MAX}
+use Rattle.plain_model.specs.Changes.{re_ways, way_of}
 use Rattle.plain_model.proofs.Paths.{place}
 use Rattle.mount_laws.specs.Moving.{Goes, Stays}
 use Rattle.mount_laws.specs.Renaming.{KeepsHandle, Renames}
@@ -16,38 +15,16 @@ use Rattle.open_handles.specs.Renames.{Moves}
 use Rattle.open_handles.specs.declared.handle.Handle as handles
 use Rattle.overlay_core.specs.declared.clients.Clients.{Clients}
 use Rattle.overlay_core.specs.Attaching.{opened_by}
-use Rattle.overlay_core.specs.Files.{AreOne, IsFile, IsOpenOn}
+use Rattle.overlay_core.specs.Files.{AreOne, IsOpenOn}
 use Rattle.overlay_core.specs.States.{Stands, IsHandle, IsOpenAs, IsSlot, AreTables}
 use Rattle.overlay_core.proofs.Carrying.{CarriesFiles, file-on, open-on}
 use Rattle.overlay_core.proofs.Changing.{stands-on, still-folder}
 use Rattle.overlay_core.proofs.Serving.{handle-now, one-fewer, slot-as}
-use Rattle.overlay_core.proofs.Slots.{of-on}
 
 -- a handle is alike still with another way in
 module _ (U : Layer) (lowers : List Layer) (t : Tree) (ds : Dentries) (way : Option (NodeId × Name)) where
-  way-directory : (o : OpenDirectory) (h : Handle) → IsHandle t ds o h → IsHandle t ds o (record h { way = way })
-  way-directory o h is = record {
-    location = is.location;
-    located = is.located;
-    stands = is.stands;
-    directory = is.directory;
-    access = ap (λ (z : Handle). record z { way = way }) is.access;
-    left = is.left;
-  }
-
-  way-file : (f : OpenFile) (h : Handle) → IsFile U lowers t f h → IsFile U lowers t f (record h { way = way })
-  way-file f h is = record {
-    source = of-on U U lowers t t f.source h (record h { way = way }) refl refl (λ k e live. live) (λ leaf. leaf) is.source;
-    reads = is.reads;
-    writes = is.writes;
-    append = is.append;
-    place = is.place;
-    unlisted = is.unlisted;
-  }
-
   pub way-open : (o : handles.Handle) (h : Handle) → IsOpenAs U lowers t ds o h → IsOpenAs U lowers t ds o (record h { way = way })
-  way-open (Directory o) h is = way-directory o h is
-  way-open (File f) h is = way-file f h is
+  way-open o h is = grind arith
 
 -- tables in which handles get other ways in have the same clients, each with as many descriptors
 ways-attached :
@@ -60,14 +37,7 @@ ways-room :
     (d : Option NodeId) (old new : Option (NodeId × Name)) (ks : List Table) (b : ℕ) →
     length (handles_of (re_ways ks d old new) b) ≡ length (handles_of ks b)
 ways-room d old new [] b = refl
-ways-room d old new (k ∷ ks) b = by (nat_eq k.client b) (ways-room d old new ks b)
-  where
-    by :
-        (z : Bool) → length (handles_of (re_ways ks d old new) b) ≡ length (handles_of ks b) →
-        length (cond z (map (re_way d old new) k.handles) (handles_of (re_ways ks d old new) b))
-        ≡ length (cond z k.handles (handles_of ks b))
-    by true rest = length-map k.handles (re_way d old new)
-    by false rest = rest
+ways-room d old new (k ∷ ks) b = grind (arith, length-map, ways-room d old new ks b)
 
 -- a slot whose handle is kept but for its way in
 slot-kept :
@@ -75,12 +45,7 @@ slot-kept :
     ((h : Handle) → x ≡ Some h → KeepsHandle y h) →
     ((o : handles.Handle) (h : Handle) (way : Option (NodeId × Name)) → a ≡ Some o → x ≡ Some h → P o h → Q o (record h { way = way })) →
     IsSlot P a x → IsSlot Q a y
-slot-kept P Q None None y none kept f s = subst (λ z. IsSlot Q None z) (sym (none refl)) tt
-slot-kept P Q None (Some h) y none kept f s = absurd s
-slot-kept P Q (Some o) None y none kept f s = absurd s
-slot-kept P Q (Some o) (Some h) y none kept f s =
-    let k = kept h refl in
-    subst (λ z. IsSlot Q (Some o) z) (sym k.1) (f o h k.0 refl refl s)
+slot-kept P Q a x y none kept f s = grind arith
 
 -- what each client has open, where the same are attached with the same descriptors
 pub opened-same : (clients new : Clients) → new.attached ≡ clients.attached → (b d : ℕ) → opened_by new b d ≡ opened_by clients b d
@@ -104,20 +69,7 @@ module _
       ((b d : ℕ) (o : handles.Handle) (h : Handle) (way : Option (NodeId × Name)) →
       opened_by clients b d ≡ Some o → handle_of s.tables b d ≡ Some h → P o h → Q o (record h { way = way })) →
       AreTables P clients s.tables → AreTables Q new left
-  tables-renamed P Q f tables = record {
-    attached = λ b. ap (λ ks. list_any (λ (k : Table). nat_eq k.client b) ks) x.tables
-        ∙ ways-attached (node_at s.tree p) (way_of s.tree p) (way_of s.tree q) s.tables b
-        ∙ tables.attached b
-        ∙ sym (ap (λ z. is_some (get nat_cmp z b)) same);
-    room = λ b. ap (λ ks. length (handles_of ks b)) x.tables
-        ∙ ways-room (node_at s.tree p) (way_of s.tree p) (way_of s.tree q) s.tables b
-        ∙ tables.room b
-        ∙ sym (ap (λ z. cond (is_some (get nat_cmp z b)) DESCRIPTORS_MAX 0) same);
-    slots = λ b d.
-        slot-as Q _ _ _ _ (sym (opened-same clients new same b d)) refl
-        (slot-kept P Q (opened_by clients b d) (handle_of s.tables b d) (handle_of left b d) (x.unopened b d) (x.handles b d)
-        (f b d) (tables.slots b d));
-  }
+  tables-renamed P Q f tables = grind (arith, ways-attached, ways-room, slot-as, opened-same, slot-kept)
 
   -- a file that is open was so on the same node
   opened-fewer : (k : ℕ) (d : NodeId) → IsOpenOn new left k d → IsOpenOn clients s.tables k d

@@ -1,23 +1,22 @@
 -- The mount answers rename as the machine does.
 use Rattle.std.proofs.Common.{◌≡◌, ◌≢◌, ℕ, Bool, true, false, not, ◌&&◌, ◌||◌, List, [], ◌∷◌, Option, None, Some, IfNone, IsSome, refl, sym, ap, ◌∙◌, subst, is_some, map}
+use Rattle.std.proofs.Common.{arith}
 use mathlib.Core.Logic.{∥∥₁_elim, ∥∥₁_map}
 use mathlib.Core.Bool.{Bool-set}
 use mathlib.Core.HLevel.{⊥_prop}
 use Rattle.std.specs.BTreeMap.{get}
-use Rattle.overlay_core.proofs.Words.{after, AreLayers, At, Attributes, base, Errno, false≢true, Handle, handle_of, is_directory, Layer, layer_of, Layers, lowers_of, nat_cmp, node_at, node_of, OpenDirectory, or_else, Path, refusal, shows, State, StaysMount, Table, Tree, when}
+use Rattle.overlay_core.proofs.Words.{after, AreLayers, At, Attributes, base, Errno, Handle, handle_of, is_directory, Layer, layer_of, Layers, lowers_of, nat_cmp, node_at, node_of, OpenDirectory, or_else, Path, refusal, shows, State, StaysMount, Table, Tree, when}
 use Rattle.ov_base.specs.declared.call.Call.TheVariants as call
 use Rattle.ov_base.specs.declared.errno.Errno.TheVariants.{EBUSY, ENOTDIR, ENOTEMPTY}
 use Rattle.ov_base.specs.declared.reply.Reply.TheVariants as reply
 use Rattle.plain_model.specs.Laws.{IsOutside}
 use Rattle.plain_model.specs.Machine.{has_names, is_below, is_root}
-use Rattle.plain_model.specs.Refusals.{unless_same}
 use Rattle.copy_up.specs.Showing.{StaysThin}
 use Rattle.copy_up.proofs.Keeping.{lowers-same}
 use Rattle.mount_laws.specs.Looks.{parents_fault, walk_fault}
 use Rattle.mount_laws.specs.Removals.{rmdir_fault, ShowsNoName}
 use Rattle.mount_laws.specs.Renaming.{CanMove, is_one, move_fault, rename_fault, Renames, RenamesSame}
 use Rattle.mount_laws.proofs.CanMove.{law_of_can_move}
-use Rattle.mount_laws.proofs.Links.{first-none}
 use Rattle.mount_laws.proofs.Renaming.{law_of_rename, law_of_same_rename, told}
 use Rattle.open_handles.specs.Opened as places
 use Rattle.open_handles.specs.Opened.{NoneBelow}
@@ -37,11 +36,7 @@ use Rattle.overlay_core.proofs.Stating.{the_layers, the_lowers, the_upper, Alike
 
 -- the same places twice
 pub same-then : (a b c : Clients) → SamePlaces a b → SamePlaces b c → SamePlaces a c
-same-then a b c f g = record {
-  attached = g.attached ∙ f.attached;
-  places = record { located = λ k. g.places.located k ∙ f.places.located k; counted = λ k. g.places.counted k ∙ f.places.counted k };
-  next = g.next ∙ f.next;
-}
+same-then a b c f g = grind arith
 
 -- the mount stands for a state still where each open directory stands where it stood
 pub same-state :
@@ -68,27 +63,17 @@ module _ (U : Layer) (lowers : List Layer) (redirects : Bool) (p q : Path) where
 
   -- the names in the new place are of no account where both paths are one object
   pub one-fault : is_one U p q ≡ true → (a b : Bool) → rename_fault U lowers redirects p q a ≡ rename_fault U lowers redirects p q b
-  one-fault one a b = with-one a ∙ sym (with-one b)
-    where
-      with-one : (names : Bool) → rename_fault U lowers redirects p q names ≡ fault None
-      with-one names = ap (λ z. fault (unless_same z (move names))) one
+  one-fault one a b = grind arith
 
   -- the new path isn't the root
   pub to-path : rename_fault U lowers redirects p q false ≡ None → q ≢ []
-  to-path fine e = by p (first-none (when (is_root p || is_root q) EBUSY) (after_walks (unless_same (is_one U p q) (move false))) fine)
-    where
-      by : (x : Path) → when (is_root x || is_root q) EBUSY ≡ None → ⊥
-      by [] h = cc
-      by (n ∷ x) h = let z : Some EBUSY ≡ None = sym (ap (λ y. when (is_root y) EBUSY) e) ∙ h in cc
+  to-path fine e = grind arith
 
 -- a walk to a directory without names, where rmdir refuses nothing
 rmdir-fine :
     (p : Path) (w : Option Errno) (d : Bool) → p ≢ [] → w ≡ None → d ≡ true →
     or_else (when (is_root p) EBUSY) (or_else w (or_else (when (not d) ENOTDIR) (when false ENOTEMPTY))) ≡ None
-rmdir-fine [] w d root h g = absurd (root refl)
-rmdir-fine (n ∷ p) None true root h g = refl
-rmdir-fine (n ∷ p) None false root h g = absurd (false≢true g)
-rmdir-fine (n ∷ p) (Some e) d root h g = cc
+rmdir-fine p w d root h g = grind arith
 
 module _ (m : Mount) (s : State) (st : IsStateOf m s) where
   -- a directory that is open at a path other than the root is one that rmdir would find

@@ -1,7 +1,6 @@
 -- A mount stands for the state still where an open file gets other bytes.
-use Rattle.std.proofs.Common.{◌≡◌, ◌↔◌, ℕ, Bool, true, false, List, ◌∷◌, refl, sym, ap, ◌∙◌, subst, ◌⊎◌, inl, inr}
-use Rattle.overlay_core.proofs.Words.{AreLayers, cases_eq, Dentries, false≢true, Handle, is_folder, IsLive, IsMountOf, Layer, layer_of, Layers, lowers_of, NodeId, OpenDirectory, rewritten, same_id, State, StaysLayers, Tree}
-use Rattle.plain_model.proofs.Paths.{ids_tell}
+use Rattle.std.proofs.Common.{◌≡◌, ◌↔◌, ℕ, true, List, ◌∷◌, refl, sym, subst, ◌⊎◌, arith}
+use Rattle.overlay_core.proofs.Words.{AreLayers, cases_eq, Dentries, Handle, IsLive, IsMountOf, Layer, layer_of, Layers, lowers_of, NodeId, OpenDirectory, rewritten, State, StaysLayers, Tree}
 use Rattle.mount_laws.specs.OpenFiles.{Rewrites}
 use Rattle.mount_laws.proofs.Written.{law_of_written}
 use Rattle.copy_up.proofs.Keeping.{lowers-same}
@@ -10,7 +9,6 @@ use Rattle.overlay_core.specs.Files.{is_leaf, IsOpenOn}
 use Rattle.overlay_core.specs.Living.{SetsFile}
 use Rattle.overlay_core.specs.States.{IsHandle, IsStateOf}
 use Rattle.overlay_core.proofs.Carrying.{state-on}
-use Rattle.overlay_core.proofs.Serving.{handle-same}
 use Rattle.overlay_core.proofs.Slots.{open-live}
 
 -- a tree in which a file of the upper has other bytes
@@ -20,26 +18,18 @@ module _ (U V : Layer) (lowers : List Layer) (s : State) (d : NodeId) (k : ℕ) 
 
   -- what is a file stays one
   leaf-still : (e : NodeId) → is_leaf (s.tree e) ≡ true → is_leaf (t e) ≡ true
-  leaf-still e leaf = by (same_id d e) refl
-    where
-      by : (b : Bool) → same_id d e ≡ b → is_leaf (t e) ≡ true
-      by true h = ap (λ z. is_leaf (t z)) (sym ((ids_tell d e).0 h)) ∙ ap is_leaf r.live.node
-      by false h = ap is_leaf (r.others e (λ x. false≢true (sym h ∙ (ids_tell d e).1 (sym x)))) ∙ leaf
+  leaf-still e leaf = grind arith
 
   -- a live file stays so that is the one that is written exactly where its node is
   live-still : (e : NodeId) (j : ℕ) → (d ≡ e) ↔ (k ≡ j) → IsLive U s.tree e j → IsLive V t e j
   live-still e j one live = by (cases_eq k j)
     where
       by : (k ≡ j) ⊎ (k ≡ j → ⊥) → IsLive V t e j
-      by (inl same) = subst (λ z. IsLive V t z j) (one.1 same) (subst (λ z. IsLive V t d z) same r.live)
-      by (inr apart) = r.stays e j (λ x. apart (one.0 (sym x))) (λ x. apart (sym x)) live
+      by is = grind arith
 
   -- an open directory isn't the file that is written
   directory-still : (ds : Dentries) (o : OpenDirectory) (h : Handle) → IsHandle s.tree ds o h → IsHandle t ds o h
-  directory-still ds o h is =
-      let file : is_folder (s.tree d) ≡ false = sym (r.folders d) ∙ ap is_folder r.live.node in
-      let apart : h.node ≡ d → ⊥ = λ e. false≢true (sym file ∙ ap (λ z. is_folder (s.tree z)) (sym e) ∙ is.directory) in
-      handle-same s.tree t ds r.paths o h (r.others h.node apart) is
+  directory-still ds o h is = grind arith
 
 -- a file of the upper that is open gets other bytes on both sides
 pub state-rewritten : (m : Mount) (s : State) → IsStateOf m s → (new : Layers) (k : ℕ) (d : NodeId) (bytes : List ℕ) → IsOpenOn m.clients s.tables k d → StaysLayers m.layers new → SetsFile m.layers new k bytes → IsStateOf (record m { layers = new }) (record s { tree = rewritten s.tree d bytes })

@@ -1,5 +1,5 @@
 -- Seeks: of an open file to a place, and of an open directory to its start.
-use Rattle.std.proofs.Common.{◌≡◌, ℕ, ℤ, pos, nat_abs, ◌+ℤ◌, int_lt, Bool, true, false, cond, not, ◌&&◌, List, Option, None, Some, Result, Ok, Err, refl, sym, ap, ◌∙◌, subst, length, nat_eq, nat_lt}
+use Rattle.std.proofs.Common.{◌≡◌, ℕ, ℤ, pos, nat_abs, ◌+ℤ◌, int_lt, Bool, cond, List, Option, None, Some, Result, Ok, Err, refl, sym, ap, ◌∙◌, subst, length, nat_eq, nat_lt, arith}
 use Rattle.overlay_core.proofs.Words.{ChangesSlot, Directory, Errno, File, file_in, FileSource, Handle, handle_of, Inode, layer_of, Layers, lowers_of, OpenDirectory, OpenFile, or_else, refusal, Reply, State, when, with_handle, with_listing, with_place}
 use Rattle.ov_base.specs.declared.call.Call.TheVariants as call
 use Rattle.ov_base.specs.declared.errno.Errno.TheVariants as errno
@@ -10,7 +10,7 @@ use Rattle.mount_laws.specs.Descriptors.{SeeksFile}
 use Rattle.mount_laws.specs.Seeks.{Seeks}
 use Rattle.mount_laws.proofs.Lists.{law_of_bad_descriptors}
 use Rattle.mount_laws.proofs.Descriptors.{law_of_file_seek}
-use Rattle.mount_laws.proofs.Seeks.{at-start, law_of_seek}
+use Rattle.mount_laws.proofs.Seeks.{law_of_seek}
 use Rattle.open_handles.specs.declared.handle.Handle as handles
 use Rattle.open_handles.specs.Places.{sought_from}
 use Rattle.overlay_core.specs.declared.clients.Clients.{Clients}
@@ -42,37 +42,17 @@ sent bad base offset = elim (cond bad (Err errno.EINVAL) (Ok base)) [ Ok b ↦ s
 abbrev barred : Bool → ℤ → Option Errno
 barred bad to = or_else (when bad errno.EINVAL) (or_else (when (int_lt PLACE_MAX to) errno.EOVERFLOW) (when (int_lt to (pos 0)) errno.EINVAL))
 
--- a place that is neither over the greatest nor before the start
-placed-ok : (over below : Bool) (to : ℤ) (place : ℕ) → cond over (Err errno.EOVERFLOW) (cond below (Err errno.EINVAL) (Ok (nat_abs to))) ≡ Ok place → (or_else (when over errno.EOVERFLOW) (when below errno.EINVAL) ≡ None) × (place ≡ nat_abs to)
-placed-ok true below to place h = cc
-placed-ok false true to place h = cc
-placed-ok false false to place h = (refl, cc)
-
--- and one that is
-placed-err : (over below : Bool) (to : ℤ) (e : Errno) → cond over (Err errno.EOVERFLOW) (cond below (Err errno.EINVAL) (Ok (nat_abs to))) ≡ Err e → or_else (when over errno.EOVERFLOW) (when below errno.EINVAL) ≡ Some e
-placed-err true below to e h = cc
-placed-err false true to e h = cc
-placed-err false false to e h = cc
-
 -- a seek that leads to a place is refused nothing
 sent-ok : (bad : Bool) (base : ℕ) (offset : ℤ) (place : ℕ) → sent bad base offset ≡ Ok place → (barred bad (pos base +ℤ offset) ≡ None) × (place ≡ nat_abs (pos base +ℤ offset))
-sent-ok true base offset place h = cc
-sent-ok false base offset place h = placed-ok (int_lt PLACE_MAX (pos base +ℤ offset)) (int_lt (pos base +ℤ offset) (pos 0)) (pos base +ℤ offset) place h
+sent-ok bad base offset place h = grind arith
 
 -- one that leads to none is refused so
 sent-err : (bad : Bool) (base : ℕ) (offset : ℤ) (e : Errno) → sent bad base offset ≡ Err e → barred bad (pos base +ℤ offset) ≡ Some e
-sent-err true base offset e h = cc
-sent-err false base offset e h = placed-err (int_lt PLACE_MAX (pos base +ℤ offset)) (int_lt (pos base +ℤ offset) (pos 0)) (pos base +ℤ offset) e h
+sent-err bad base offset e h = grind arith
 
 -- a seek of what is no file is refused nothing where it is of an open directory, to its start
 unrefused-seek : (o : Option handles.Handle) (offset : ℤ) (whence : ℕ) → seek_fault o offset whence ≡ None → file_in o ≡ None → ((x : OpenDirectory) × (o ≡ Some (Directory x))) × (offset ≡ pos 0) × (whence ≡ 0)
-unrefused-seek None offset whence h bare = cc
-unrefused-seek (Some (File f)) offset whence h bare = cc
-unrefused-seek (Some (Directory x)) offset whence h bare = by (nat_eq (nat_abs offset) 0 && nat_eq whence 0) refl h
-  where
-    by : (b : Bool) → (nat_eq (nat_abs offset) 0 && nat_eq whence 0) ≡ b → when (not b) errno.EINVAL ≡ None → ((y : OpenDirectory) × (Some (Directory x) ≡ Some (Directory y))) × (offset ≡ pos 0) × (whence ≡ 0)
-    by true e g = let start = at-start offset whence e in ((x, refl), start.0, start.1)
-    by false e g = cc
+unrefused-seek o offset whence h bare = grind arith
 
 module _ (m : Mount) (s : State) (st : IsStateOf m s) (c d : ℕ) where
   module _ (offset : ℤ) (whence : ℕ) where
@@ -157,8 +137,4 @@ module _ (m : Mount) (s : State) (st : IsStateOf m s) (c d : ℕ) where
 
   -- a seek of what is no file that is refused nothing
   pub seek-done : (offset : ℤ) (whence : ℕ) (new : Clients) → seek_fault (opened_by m.clients c d) offset whence ≡ None → file_by m.clients c d ≡ None → ChangesClient m.clients new c (λ x y. ChangesSlot x y d (with_listing None)) → Sought offset whence (reply.Place 0) (record m { clients = new })
-  seek-done offset whence new good bare ch =
-      let start = unrefused-seek (opened_by m.clients c d) offset whence good bare in
-      subst (λ z. Sought z whence (reply.Place 0) (record m { clients = new })) (sym start.1)
-      (subst (λ z. Sought (pos 0) z (reply.Place 0) (record m { clients = new })) (sym start.2)
-      (rewound start.0.0 start.0.1 new ch))
+  seek-done offset whence new good bare ch = grind (arith, unrefused-seek, rewound)

@@ -1,22 +1,20 @@
 -- The descriptors of a mount are those of the machine's tables.
-use Rattle.std.proofs.Common.{arith, ◌≡◌, ◌≢◌, ℕ, zero, suc, ◌<◌, Bool, true, false, cond, ◌||◌, List, [], ◌∷◌, Option, None, Some, refl, sym, ap, ◌∙◌, subst, ◌⊎◌, inl, inr, is_some, is_none, length, slice_get, slice_set, length-set, nat_eq}
-use Rattle.overlay_core.proofs.Words.{At, Attributes, cases_Bool, cases_eq, Dentries, Descriptors, DESCRIPTORS_MAX, Directory, eqb-true, false≢true, File, folder_attributes, Handle, handle_of, handles_of, held_in, is_folder, Layer, list_any, Location, lowest_free, nat_cmp, ne_eqb, node_at, NodeId, OpenDirectory, OpenFile, option_and_then, Path, Removed, SetsSlot, Table, Tree, Upper, with_handle}
+use Rattle.std.proofs.Common.{arith, ◌≡◌, ◌≢◌, ℕ, zero, suc, ◌<◌, Bool, true, cond, ◌||◌, List, [], ◌∷◌, Option, None, Some, refl, sym, ap, ◌∙◌, subst, ◌⊎◌, inl, inr, is_some, is_none, length, slice_get, slice_set, length-set, nat_eq}
+use Rattle.overlay_core.proofs.Words.{cases_eq, Dentries, Descriptors, DESCRIPTORS_MAX, Directory, false≢true, File, Handle, handle_of, handles_of, held_in, is_folder, Layer, list_any, Location, lowest_free, nat_cmp, node_at, NodeId, OpenDirectory, OpenFile, option_and_then, Path, SetsSlot, Table, Tree, Upper, with_handle}
 use Rattle.std.proofs.lemmas.Bool.{lt-ltb, le-ltb}
 use Rattle.std.proofs.lemmas.Option.{slice_get_within}
 use Rattle.std.specs.List.{position, position_or_len}
 use Rattle.std.specs.BTreeMap.{get}
-use Rattle.plain_model.specs.Changes.{names_in}
 use Rattle.overlay_core.specs.declared.clients.Clients.{Clients}
 use Rattle.open_handles.specs.Opened as places
-use Rattle.mount_laws.specs.Looks.{IsHidden}
 use Rattle.open_handles.specs.declared.handle.Handle as handles
-use Rattle.overlay_core.specs.Attaching.{KeepsAttached, KeepsPlaces, is_attached, opened_by, ChangesClient}
+use Rattle.overlay_core.specs.Attaching.{KeepsAttached, KeepsPlaces, opened_by, ChangesClient}
 use Rattle.open_handles.specs.Descriptors.{opened, IsFull, IsLowestFree}
 use Rattle.overlay_core.specs.Files.{IsOpenOn, AreOne}
-use Rattle.overlay_core.specs.States.{Stands, IsRemoved, IsHandle, IsOpenAs, IsSlot, AreTables}
+use Rattle.overlay_core.specs.States.{Stands, IsHandle, IsOpenAs, IsSlot, AreTables}
 
 -- one element of a list after it is set, and the others
-get-set : {A : Type 0} (xs : List A) (i : ℕ) (v : A) → i < length xs → slice_get (slice_set xs i v) i ≡ Some v
+pub get-set : {A : Type 0} (xs : List A) (i : ℕ) (v : A) → i < length xs → slice_get (slice_set xs i v) i ≡ Some v
 get-set [] i v h = absurd (omega arith)
 get-set (x ∷ xs) zero v h = refl
 get-set (x ∷ xs) (suc i) v h = get-set xs i v (omega arith)
@@ -33,30 +31,16 @@ abbrev set_in : ℕ → ℕ → Option Handle → Table → Table
 set_in c fd h k = cond (nat_eq k.client c) (record k { handles = slice_set k.handles fd h }) k
 
 same-client : (c fd : ℕ) (h : Option Handle) (k : Table) → (set_in c fd h k).client ≡ k.client
-same-client c fd h k = by (nat_eq k.client c)
-  where
-    by : (b : Bool) → (cond b (record k { handles = slice_set k.handles fd h }) k).client ≡ k.client
-    by true = refl
-    by false = refl
+same-client c fd h k = grind arith
 
 -- the handles of a client after one is set, and of the others
 pub handles-set : (ks : List Table) (c fd : ℕ) (h : Option Handle) → handles_of (with_handle ks c fd h) c ≡ slice_set (handles_of ks c) fd h
 handles-set [] c fd h = refl
-handles-set (k ∷ ks) c fd h = by (handles-set ks c fd h) (cases_Bool (nat_eq k.client c))
-  where
-    by : handles_of (with_handle ks c fd h) c ≡ slice_set (handles_of ks c) fd h → (nat_eq k.client c ≡ true) ⊎ (nat_eq k.client c ≡ false) → cond (nat_eq (set_in c fd h k).client c) (set_in c fd h k).handles (handles_of (with_handle ks c fd h) c) ≡ slice_set (cond (nat_eq k.client c) k.handles (handles_of ks c)) fd h
-    by rest (inl e) = rw (e, e) refl
-    by rest (inr e) = rw (e, e) rest
+handles-set (k ∷ ks) c fd h = grind (arith, handles-set ks c fd h)
 
 pub handles-others : (ks : List Table) (c fd b : ℕ) (h : Option Handle) → b ≢ c → handles_of (with_handle ks c fd h) b ≡ handles_of ks b
 handles-others [] c fd b h n = refl
-handles-others (k ∷ ks) c fd b h n = by (handles-others ks c fd b h n) (cases_Bool (nat_eq k.client c))
-  where
-    by : handles_of (with_handle ks c fd h) b ≡ handles_of ks b → (nat_eq k.client c ≡ true) ⊎ (nat_eq k.client c ≡ false) → cond (nat_eq (set_in c fd h k).client b) (set_in c fd h k).handles (handles_of (with_handle ks c fd h) b) ≡ cond (nat_eq k.client b) k.handles (handles_of ks b)
-    by rest (inl e) =
-        let other : nat_eq k.client b ≡ false = ne_eqb k.client b (λ f. n (sym f ∙ eqb-true k.client c e)) in
-        rw (e, other) rest
-    by rest (inr e) = rw e (ap (cond (nat_eq k.client b) k.handles) rest)
+handles-others (k ∷ ks) c fd b h n = grind (arith, handles-others ks c fd b h n)
 
 pub attached-same : (ks : List Table) (c fd b : ℕ) (h : Option Handle) → list_any (λ (k : Table). nat_eq k.client b) (with_handle ks c fd h) ≡ list_any (λ (k : Table). nat_eq k.client b) ks
 attached-same [] c fd b h = refl
@@ -66,43 +50,23 @@ attached-same (k ∷ ks) c fd b h = λ i. (nat_eq (same-client c fd h k i) b) ||
 pub slot-as : (P : handles.Handle → Handle → Type 0) (a b : Option handles.Handle) (x y : Option Handle) → a ≡ b → x ≡ y → IsSlot P a x → IsSlot P b y
 slot-as P a b x y e f s = subst (λ z. IsSlot P z y) e (subst (λ z. IsSlot P a z) f s)
 
--- a slot told otherwise
-pub slot-moved : (P Q : handles.Handle → Handle → Type 0) (a : Option handles.Handle) (x : Option Handle) → ((o : handles.Handle) (h : Handle) → a ≡ Some o → x ≡ Some h → P o h → Q o h) → IsSlot P a x → IsSlot Q a x
-slot-moved P Q None None f s = tt
-slot-moved P Q None (Some h) f s = absurd s
-slot-moved P Q (Some o) None f s = absurd s
-slot-moved P Q (Some o) (Some h) f s = f o h refl refl s
-
 -- a handle on an open directory, told of where that stands now
 pub handle-now : (t u : Tree) (ds es : Dentries) (o : OpenDirectory) (h : Handle) → IsHandle t ds o h → (l : Location) → places.opened es o.directory ≡ Some l → Stands u l h.node → is_folder (u h.node) ≡ true → IsHandle u es o h
 handle-now t u ds es o h is l located stands directory = record { location = l; located = located; stands = stands; directory = directory; access = is.access; left = is.left }
 
 -- what is open stays so where its directory stands where it stood
 pub placed : (U : Layer) (lowers : List Layer) (t : Tree) (ds es : Dentries) (o : handles.Handle) (h : Handle) → ((d : OpenDirectory) (l : Location) → o ≡ Directory d → places.opened ds d.directory ≡ Some l → places.opened es d.directory ≡ Some l) → IsOpenAs U lowers t ds o h → IsOpenAs U lowers t es o h
-placed U lowers t ds es (File x) h f s = s
-placed U lowers t ds es (Directory o) h f s = handle-now t t ds es o h s s.location (f o s.location refl s.located) s.stands s.directory
-
--- a descriptor that stays open, on a directory that stands where it stood
-pub carried : (U : Layer) (lowers : List Layer) (t : Tree) (clients new : Clients) → KeepsPlaces clients new → (b d : ℕ) (x : Option Handle) → opened_by new b d ≡ opened_by clients b d → IsSlot (IsOpenAs U lowers t clients.directories) (opened_by clients b d) x → IsSlot (IsOpenAs U lowers t new.directories) (opened_by new b d) x
-carried U lowers t clients new kept b d x same s =
-    slot-as (IsOpenAs U lowers t new.directories) _ _ _ _ (sym same) refl
-    (slot-moved (IsOpenAs U lowers t clients.directories) (IsOpenAs U lowers t new.directories) (opened_by clients b d) x
-    (λ o h on is. placed U lowers t clients.directories new.directories o h (λ e l f. kept b d e l (same ∙ on ∙ ap Some f)))
-    s)
+placed U lowers t ds es o h f s = grind arith
 
 -- where the open directories are the same, they stand where they stood
 pub places-same : (clients new : Clients) → new.directories ≡ clients.directories → KeepsPlaces clients new
 places-same clients new same c d o l is at = ap (λ z. places.opened z o.directory) same ∙ at
 
 pub slot-some : (P : handles.Handle → Handle → Type 0) (a : Option handles.Handle) (x : Option Handle) → IsSlot P a x → is_some a ≡ is_some x
-slot-some P None None s = refl
-slot-some P None (Some h) s = absurd s
-slot-some P (Some o) None s = absurd s
-slot-some P (Some o) (Some h) s = refl
+slot-some P a x s = grind arith
 
 held-some : (o : Option Handle) → held_in (Some o) ≡ o
-held-some None = refl
-held-some (Some h) = refl
+held-some o = grind arith
 
 -- the handle of a descriptor that was set
 pub handle-set : (ks : List Table) (c fd : ℕ) (h : Option Handle) → fd < length (handles_of ks c) → handle_of (with_handle ks c fd h) c fd ≡ h
@@ -110,26 +74,15 @@ handle-set ks c fd h within = ap (λ z. held_in (slice_get z fd)) (handles-set k
 
 -- an open descriptor has a handle
 pub slot-open : (P : handles.Handle → Handle → Type 0) (a : Option handles.Handle) (x : Option Handle) (o : handles.Handle) → IsSlot P a x → a ≡ Some o → (h : Handle) × (x ≡ Some h) × P o h
-slot-open P None x o s e = cc
-slot-open P (Some a) None o s e = absurd s
-slot-open P (Some a) (Some h) o s e =
-    let same : a ≡ o = cc in
-    (h, refl, subst (λ z. P z h) same s)
+slot-open P a x o s e = grind arith
 
 -- a closed one has none
 pub slot-closed : (P : handles.Handle → Handle → Type 0) (a : Option handles.Handle) (x : Option Handle) → IsSlot P a x → a ≡ None → x ≡ None
-slot-closed P None None s e = refl
-slot-closed P None (Some h) s e = absurd s
-slot-closed P (Some a) x s e = cc
-
--- a directory that was removed is so in another tree with the same node, if no path leads there
-pub removed-same : (t u : Tree) (a : Attributes) (d : NodeId) → u d ≡ t d → IsHidden u d → IsRemoved t a d → IsRemoved u a d
-removed-same t u a d same hidden gone = record { hidden = hidden; empty = ap names_in same ∙ gone.empty; attributes = ap folder_attributes same ∙ gone.attributes }
+slot-closed P a x s e = grind arith
 
 -- a directory stands in another tree where it did, if its paths and its node are the same
 stands-same : (t u : Tree) → ((q : Path) → node_at u q ≡ node_at t q) → (l : Location) (d : NodeId) → u d ≡ t d → Stands t l d → Stands u l d
-stands-same t u paths (At p) d same s = paths p ∙ s
-stands-same t u paths (Removed a) d same s = removed-same t u a d same (λ p e. s.hidden p (sym (paths p) ∙ e)) s
+stands-same t u paths l d same s = grind arith
 
 -- and so is a handle on it
 pub handle-same : (t u : Tree) (ds : Dentries) → ((q : Path) → node_at u q ≡ node_at t q) → (o : OpenDirectory) (h : Handle) → u h.node ≡ t h.node → IsHandle t ds o h → IsHandle u ds o h
@@ -175,31 +128,13 @@ pub record SameClients (old new : Clients) : Type 0 where
 
 -- where one client's descriptors change the same clients are attached
 pub keeps-attached : (old new : Clients) (c : ℕ) (P : List (Option handles.Handle) → List (Option handles.Handle) → Type 0) → ChangesClient old new c P → KeepsAttached old new
-keeps-attached old new c P h = record { attached = same; next = h.next }
-  where
-    same : (b : ℕ) → is_attached new b ≡ is_attached old b
-    same b = by (cases_eq b c)
-      where
-        by : (b ≡ c) ⊎ (b ≡ c → ⊥) → is_attached new b ≡ is_attached old b
-        by (inl e) = rw e (ap there h.is ∙ sym (ap there h.was))
-        by (inr n) = ap there (h.others b n)
+keeps-attached old new c P h = grind arith
 
 -- a client's descriptors stay as they are
 pub same-clients : (clients new : Clients) (c : ℕ) → ChangesClient clients new c (λ x y. y ≡ x) → SameClients clients new
-same-clients clients new c h = record { attached = (keeps-attached clients new c _ h).attached; opened = opens; places = h.places; next = h.next }
-  where
-    opens : (b d : ℕ) → opened_by new b d ≡ opened_by clients b d
-    opens b d = by (cases_eq b c)
-      where
-        by : (b ≡ c) ⊎ (b ≡ c → ⊥) → opened_by new b d ≡ opened_by clients b d
-        by (inl e) = rw e (opened-is new c d h.after h.is ∙ ap (λ s. opened s d) h.changes ∙ sym (opened-is clients c d h.before h.was))
-        by (inr n) = ap (option_and_then (λ (x : Descriptors). opened x.slots.items d)) (h.others b n)
+same-clients clients new c h = grind arith
 
 module _ (P : handles.Handle → Handle → Type 0) (clients : Clients) (ks : List Table) (a : AreTables P clients ks) where
-  -- the tables told otherwise, where each handle is alike otherwise
-  pub tables-moved : (Q : handles.Handle → Handle → Type 0) → ((c d : ℕ) (o : handles.Handle) (h : Handle) → opened_by clients c d ≡ Some o → handle_of ks c d ≡ Some h → P o h → Q o h) → AreTables Q clients ks
-  tables-moved Q f = record { attached = a.attached; room = a.room; slots = λ c d. slot-moved P Q _ _ (f c d) (a.slots c d) }
-
   -- what is open under a descriptor, and its handle
   pub open-at : (c d : ℕ) (o : handles.Handle) → opened_by clients c d ≡ Some o → (h : Handle) × (handle_of ks c d ≡ Some h) × P o h
   open-at c d o e = slot-open P _ _ o (a.slots c d) e
@@ -210,11 +145,7 @@ module _ (P : handles.Handle → Handle → Type 0) (clients : Clients) (ks : Li
 
   -- an open descriptor is below 64
   pub in-room : (c d : ℕ) (h : Handle) → handle_of ks c d ≡ Some h → d < length (handles_of ks c)
-  in-room c d h e = by (slice_get (handles_of ks c) d) refl e
-    where
-      by : (o : Option (Option Handle)) → slice_get (handles_of ks c) d ≡ o → held_in o ≡ Some h → d < length (handles_of ks c)
-      by None is e = cc
-      by (Some o) is e = slice_get_within (handles_of ks c) d o is
+  in-room c d h e = grind (arith, slice_get_within)
 
   -- the machine gives the lowest free descriptor
   pub free-lowest : (c d : ℕ) (ds : Descriptors) → get nat_cmp clients.attached c ≡ Some ds → IsLowestFree ds.slots.items d → lowest_free ks c ≡ Some d
@@ -228,20 +159,12 @@ module _ (P : handles.Handle → Handle → Type 0) (clients : Clients) (ks : Li
 
   -- it gives none where all are open
   pub free-none : (c : ℕ) (ds : Descriptors) → get nat_cmp clients.attached c ≡ Some ds → IsFull ds.slots.items → lowest_free ks c ≡ None
-  free-none c ds e full =
-      let long : length (handles_of ks c) ≡ DESCRIPTORS_MAX = room-of c (ap is_some e) in
-      position-none (handles_of ks c)
-      (none-free (handles_of ks c)
-      (λ k h. sym (slot-some P _ _ (a.slots c k)) ∙ ap is_some (opened-is clients c k ds e) ∙ full k (rw long at h)))
+  free-none c ds e full = grind (arith, room-of, position-none, none-free, slot-some, opened-is)
 
   module _ (new : Clients) (Q : handles.Handle → Handle → Type 0) where
     -- the clients and their descriptors stay as they are
     pub tables-same : SameClients clients new → ((c d : ℕ) (o : handles.Handle) (h : Handle) → opened_by new c d ≡ Some o → handle_of ks c d ≡ Some h → P o h → Q o h) → AreTables Q new ks
-    tables-same h f = record {
-      attached = λ b. a.attached b ∙ sym (h.attached b);
-      room = λ b. a.room b ∙ sym (ap (λ z. cond z DESCRIPTORS_MAX 0) (h.attached b));
-      slots = λ b d. slot-as Q _ _ _ _ (sym (h.opened b d)) refl (slot-moved P Q _ _ (λ o x on is. f b d o x (h.opened b d ∙ on) is) (a.slots b d));
-    }
+    tables-same h f = grind arith
 
     -- one descriptor is set on both sides
     pub tables-set : (c fd : ℕ) (o : Option handles.Handle) (x : Option Handle) → ChangesClient clients new c (λ b y. SetsSlot b y fd o) → fd < DESCRIPTORS_MAX → ((b d : ℕ) (o : handles.Handle) (h : Handle) → opened_by new b d ≡ Some o → opened_by clients b d ≡ Some o → handle_of ks b d ≡ Some h → P o h → Q o h) → IsSlot Q o x → AreTables Q new (with_handle ks c fd x)
@@ -266,9 +189,7 @@ module _ (P : handles.Handle → Handle → Type 0) (clients : Clients) (ks : Li
 
         -- another descriptor is alike as it was
         other : (b d : ℕ) → opened_by new b d ≡ opened_by clients b d → handle_of (with_handle ks c fd x) b d ≡ handle_of ks b d → IsSlot Q (opened_by new b d) (handle_of (with_handle ks c fd x) b d)
-        other b d same still =
-            slot-as Q _ _ _ _ (sym same) (sym still)
-            (slot-moved P Q _ _ (λ o h on is. f b d o h (same ∙ on) on is) (a.slots b d))
+        other b d same still = grind arith
 
         here : (d : ℕ) → (d ≡ fd) ⊎ (d ≡ fd → ⊥) → IsSlot Q (opened_by new c d) (handle_of (with_handle ks c fd x) c d)
         here d (inl e) =
@@ -283,14 +204,7 @@ module _ (P : handles.Handle → Handle → Type 0) (clients : Clients) (ks : Li
             (ap (λ z. held_in (slice_get z d)) (handles-set ks c fd x) ∙ ap held_in (get-others (handles_of ks c) fd d x n))
 
         slots : (b d : ℕ) → IsSlot Q (opened_by new b d) (handle_of (with_handle ks c fd x) b d)
-        slots b d = by (cases_eq b c)
-          where
-            by : (b ≡ c) ⊎ (b ≡ c → ⊥) → IsSlot Q (opened_by new b d) (handle_of (with_handle ks c fd x) b d)
-            by (inl e) = subst (λ z. IsSlot Q (opened_by new z d) (handle_of (with_handle ks c fd x) z d)) (sym e) (here d (cases_eq d fd))
-            by (inr n) =
-                other b d
-                (ap (option_and_then (λ (z : Descriptors). opened z.slots.items d)) (h.others b n))
-                (ap (λ z. held_in (slice_get z d)) (handles-others ks c fd b x n))
+        slots b d = grind (arith, cases_eq, here, other, handles-others)
 
 -- what is open on a file of the upper was open so before
 abbrev pub OpensFewer : Clients → List Table → Clients → List Table → Type 0

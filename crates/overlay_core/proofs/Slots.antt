@@ -1,6 +1,6 @@
 -- The handles of what a client has open, and the states in which one of its descriptors changes.
-use Rattle.std.proofs.Common.{◌≡◌, ℕ, ◌<◌, true, List, Option, None, Some, refl, sym, ap, ◌∙◌, subst, is_some, length, option_map}
-use Rattle.overlay_core.proofs.Words.{ChangesSlot, DESCRIPTORS_MAX, Directory, File, file_in, FileSource, Handle, handle_of, handles_of, IsLive, Layer, Lower, NodeId, OpenDirectory, OpenFile, SetsSlot, State, Tree, Upper, with_handle, with_place}
+use Rattle.std.proofs.Common.{◌≡◌, ℕ, ◌<◌, true, List, Option, None, Some, refl, sym, ap, ◌∙◌, subst, is_some, length, option_map, arith}
+use Rattle.overlay_core.proofs.Words.{ChangesSlot, DESCRIPTORS_MAX, Directory, File, file_in, FileSource, Handle, handle_of, handles_of, IsLive, Layer, NodeId, OpenDirectory, OpenFile, SetsSlot, State, Tree, Upper, with_handle, with_place}
 use Rattle.open_handles.specs.declared.handle.Handle as handles
 use Rattle.overlay_core.specs.declared.clients.Clients.{Clients}
 use Rattle.overlay_core.specs.declared.mount.Mount.{Mount}
@@ -30,22 +30,11 @@ opened-after old new c d o h = opened-is new c d h.after h.is ∙ h.changes.here
 
 -- a file that a client has open under a descriptor
 pub file-open : (o : Option handles.Handle) (f : OpenFile) → file_in o ≡ Some f → o ≡ Some (File f)
-file-open None f h = cc
-file-open (Some (Directory o)) f h = cc
-file-open (Some (File g)) f h = cc
+file-open o f h = grind arith
 
 -- a handle that sees as another saw, where live files stay so and files stay files, is of the inode that that was of
 pub of-on : (U V : Layer) (lowers : List Layer) (t u : Tree) (x : FileSource) (h g : Handle) → g.view ≡ h.view → g.writes ≡ h.writes → ((k : ℕ) → x ≡ Upper k → IsLive U t h.node k → IsLive V u g.node k) → (is_leaf (t h.node) ≡ true → is_leaf (u g.node) ≡ true) → IsOf U lowers t x h → IsOf V lowers u x g
-of-on U V lowers t u (Upper k) h g view writes live leaf s = (live k refl s.0, view ∙ s.1)
-of-on U V lowers t u (Lower layer k) h g view writes live leaf s = record {
-  bytes = s.bytes;
-  attributes = s.attributes;
-  links = s.links;
-  inode = s.inode;
-  view = view ∙ s.view;
-  file = leaf s.file;
-  reads_alone = writes ∙ s.reads_alone;
-}
+of-on U V lowers t u x h g view writes live leaf s = grind arith
 
 module _ (m : Mount) (s : State) (st : IsStateOf m s) where
   abbrev alike : handles.Handle → Handle → Type 0
@@ -53,11 +42,7 @@ module _ (m : Mount) (s : State) (st : IsStateOf m s) where
 
   -- a file of the upper that is open is live
   pub open-live : (k : ℕ) (d : NodeId) → IsOpenOn m.clients s.tables k d → IsLive (the_upper m) s.tree d k
-  open-live k d y =
-      let z = open-at alike m.clients s.tables st.tables y.client y.descriptor (File y.file) y.opened in
-      let same : z.0 ≡ y.handle = cc (z.1, y.on) in
-      let of : IsOf (the_upper m) (the_lowers m) s.tree (Upper k) z.0 = subst (λ w. IsOf (the_upper m) (the_lowers m) s.tree w z.0) y.key z.2.source in
-      subst (λ e. IsLive (the_upper m) s.tree e k) (ap (λ (g : Handle). g.node) same ∙ y.at) of.0
+  open-live k d y = grind arith
 
   module _ (c d : ℕ) where
     -- the handle of an open file
@@ -74,12 +59,7 @@ module _ (m : Mount) (s : State) (st : IsStateOf m s) where
 
     -- what holds where nothing is open, where a file is, and where a directory is
     pub by-opened : (P : Option handles.Handle → Type 0) → (handle_of s.tables c d ≡ None → P None) → ((f : OpenFile) (h : Handle) → handle_of s.tables c d ≡ Some h → IsFile (the_upper m) (the_lowers m) s.tree f h → P (Some (File f))) → ((o : OpenDirectory) (h : Handle) → handle_of s.tables c d ≡ Some h → IsHandle s.tree m.clients.directories o h → P (Some (Directory o))) → P (opened_by m.clients c d)
-    by-opened P none file directory = by (opened_by m.clients c d) refl
-      where
-        by : (o : Option handles.Handle) → opened_by m.clients c d ≡ o → P o
-        by None is = none (handle-none is)
-        by (Some (File f)) is = let x = file-at f is in file f x.0 x.1 x.2
-        by (Some (Directory o)) is = let x = directory-at o is in directory o x.0 x.1 x.2
+    by-opened P none file directory = grind arith
 
     module _ (h : Handle) (on : handle_of s.tables c d ≡ Some h) where
       -- a descriptor is set on both sides, alike, and to a file of the upper only where it led to the same
@@ -116,7 +96,4 @@ module _ (m : Mount) (s : State) (st : IsStateOf m s) where
 
           -- it is the same file, on the same node
           again : (g : OpenFile) (z : Handle) (k : ℕ) → Some (File (record f { place = place })) ≡ Some (File g) → Some moved ≡ Some z → g.source ≡ Upper k → IsOpenOn m.clients s.tables k z.node
-          again g z k is held key =
-              let same : record f { place = place } ≡ g = cc in
-              let at : moved ≡ z = cc in
-              record { client = c; descriptor = d; file = f; handle = h; opened = opens; key = ap (λ (y : OpenFile). y.source) same ∙ key; on = on; at = ap (λ (y : Handle). y.node) at }
+          again g z k is held key = grind arith

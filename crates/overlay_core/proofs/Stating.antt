@@ -1,12 +1,12 @@
 -- A mount stands for a state still when its clients, or its layers, change so.
-use Rattle.std.proofs.Common.{◌≡◌, ℕ, List, Some, refl, sym, ap, ◌∙◌, subst}
-use Rattle.overlay_core.proofs.Words.{Handle, IsMountOf, Layer, layer_of, Layers, layers_of, lowers_of, State, Table}
+use Rattle.std.proofs.Common.{◌≡◌, ℕ, List, Some, refl, ap, ◌∙◌, arith}
+use Rattle.overlay_core.proofs.Words.{Handle, Layer, layer_of, Layers, layers_of, lowers_of, State, Table}
 use Rattle.open_handles.specs.declared.handle.Handle as handles
 use Rattle.overlay_core.specs.declared.clients.Clients.{Clients}
 use Rattle.overlay_core.specs.declared.mount.Mount.{Mount}
 use Rattle.overlay_core.specs.Attaching.{ChangesClient}
 use Rattle.overlay_core.specs.Files.{AreOne}
-use Rattle.overlay_core.specs.States.{AreTables, AreUnwatched, IsOpenAs, IsStateOf}
+use Rattle.overlay_core.specs.States.{AreTables, IsOpenAs, IsStateOf}
 use Rattle.overlay_core.proofs.Serving.{SameClients, same-clients, tables-same, placed, open-before, one-fewer}
 
 -- the layers of a mount: the upper, the lower ones, and all of them
@@ -23,24 +23,10 @@ the_layers m = layers_of m.layers
 abbrev pub Alike : Layers → State → Clients → handles.Handle → Handle → Type 0
 Alike l s clients = IsOpenAs (layer_of l.upper) (lowers_of l) s.tree clients.directories
 
--- a state, told of its parts
-state-as : (new : Mount) (l : Layers) (s : State) → new.layers ≡ l → s.options.redirects ≡ new.redirects → IsMountOf (layer_of l.upper) (lowers_of l) s → AreTables (Alike l s new.clients) new.clients s.tables → AreOne new.clients s.tables → new.clients.next ≡ s.arrived → AreUnwatched s.instances → IsStateOf new s
-state-as new l s e r m a one next w = record {
-  arrived = next;
-  redirects = r;
-  layers = subst (λ (x : Layers). IsMountOf (layer_of x.upper) (lowers_of x) s) (sym e) m;
-  tables = subst (λ (x : Layers). AreTables (Alike x s new.clients) new.clients s.tables) (sym e) a;
-  one = one;
-  unwatched = w;
-}
-
 module _ (m : Mount) (s : State) (st : IsStateOf m s) where
   -- the state with other tables, of a mount of the same layers
   pub with-tables : (new : Mount) (ks : List Table) → new.layers ≡ m.layers → new.redirects ≡ m.redirects → new.clients.next ≡ m.clients.next → AreTables (Alike m.layers s new.clients) new.clients ks → AreOne new.clients ks → IsStateOf new (record s { tables = ks })
-  with-tables new ks same option next a one =
-      state-as new m.layers (record s { tables = ks }) same (st.redirects ∙ sym option)
-      (record { layers = st.layers.layers; shows = st.layers.shows; kept = st.layers.kept; writable = st.layers.writable })
-      a one (next ∙ st.arrived) st.unwatched
+  with-tables new ks same option next a one = grind arith
 
   -- the same clients with the same descriptors
   pub keep-same : (new : Clients) → SameClients m.clients new → IsStateOf (record m { clients = new }) s

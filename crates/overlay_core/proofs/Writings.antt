@@ -1,6 +1,6 @@
 -- Writes and truncations of open files.
-use Rattle.std.proofs.Common.{arith, ◌≡◌, ◌≢◌, ℕ, ◌+◌, ◌-◌, Bool, true, false, cond, min, not, ◌&&◌, List, [], ◌∷◌, Option, None, Some, Result, Ok, Err, refl, sym, ap, ◌∙◌, subst, is_none, is_some, length, nat_eq, nat_lt}
-use Rattle.overlay_core.proofs.Words.{after, AllocError, bytes_at, change, ChangesSlot, eqb-true, Errno, false≢true, File, file_bytes, FileSource, Handle, handle_of, Inode, IsLive, Layer, layer_of, Layers, Leaf, Lower, lowers_of, Node, NodeId, OnErr, OpenFile, option_and_then, or_else, over_node, Own, put, refusal, Reply, rewritten, sized, State, StaysLayers, StaysMount, Tree, Upper, when, with_bytes, with_handle, with_place}
+use Rattle.std.proofs.Common.{arith, ◌≡◌, ◌≢◌, ℕ, ◌+◌, ◌-◌, true, false, min, not, ◌&&◌, List, [], ◌∷◌, Option, None, Some, Result, Ok, Err, refl, sym, ap, ◌∙◌, subst, is_none, is_some, length, nat_eq, nat_lt}
+use Rattle.overlay_core.proofs.Words.{AllocError, bytes_at, change, ChangesSlot, eqb-true, Errno, false≢true, File, file_bytes, Handle, handle_of, Inode, IsLive, Layer, layer_of, Layers, Leaf, lowers_of, Node, NodeId, OnErr, OpenFile, option_and_then, or_else, over_node, Own, put, refusal, Reply, rewritten, sized, State, StaysLayers, StaysMount, Tree, Upper, when, with_bytes, with_handle, with_place}
 use Rattle.std.proofs.lemmas.List.{length-take, nil_from_length}
 use Rattle.ov_base.specs.declared.bytes.Content.TheVariants as content
 use Rattle.ov_base.specs.declared.call.Call.TheVariants as call
@@ -22,13 +22,13 @@ use Rattle.open_handles.specs.Places.{IsWritePlace, count_fitting}
 use Rattle.overlay_core.specs.declared.clients.Clients.{Clients}
 use Rattle.overlay_core.specs.declared.mount.Mount.{Mount}
 use Rattle.overlay_core.specs.Attaching.{file_by, opened_by, ChangesClient}
-use Rattle.overlay_core.specs.Files.{IsFile, IsOf, IsOpenOn, bytes_of_inode, source_inode}
+use Rattle.overlay_core.specs.Files.{IsFile, IsOpenOn, bytes_of_inode, source_inode}
 use Rattle.overlay_core.specs.Living.{SetsFile}
 use Rattle.overlay_core.specs.Opening.{truncate_fault, write_fault, written_key}
 use Rattle.overlay_core.specs.States.{IsStateOf, Serves}
 use Rattle.overlay_core.proofs.Answering.{serve-done, serve-refused}
 use Rattle.overlay_core.proofs.Rewritten.{state-rewritten}
-use Rattle.overlay_core.proofs.Slots.{file-open, file-at, by-opened, place-moved}
+use Rattle.overlay_core.proofs.Slots.{file-open, by-opened, place-moved}
 use Rattle.overlay_core.proofs.Stating.{the_lowers, the_upper}
 
 -- where every path holds what it held, no whiteout is needless that was needed
@@ -56,54 +56,21 @@ upper-written l u new r is objects keeps same = (thin-held l (record l { upper =
         mounts-alike l (record l { upper = new }) refl held (λ p k h. tree.inodes k ∙ sym (ap (λ (z : LayerTree). (layer_of z).inodes k) is))
         (subst (λ (z : LayerTree). IsLayer (layer_of z) → IsLayer (layer_of new)) (sym is) keeps)
 
--- a file that has a key to write to is of the upper
-upper-key : (f : OpenFile) → is_none (written_key f) ≡ false → (k : ℕ) × (f.source ≡ Upper k)
-upper-key f some = by f.source refl
-  where
-    by : (source : FileSource) → f.source ≡ source → (k : ℕ) × (f.source ≡ Upper k)
-    by (Upper k) at = (k, at)
-    by (Lower layer k) at = absurd (false≢true (sym some ∙ (λ i. is_none (written_key (record f { source = at i })))))
-
 -- a handle on an open file writes where that has a key to write to
 not-writing : (U : Layer) (lowers : List Layer) (t : Tree) (f : OpenFile) (h : Handle) → IsFile U lowers t f h → not h.writes ≡ is_none (written_key f)
-not-writing U lowers t f h x = by f.source refl x.source
-  where
-    keyed : (k : ℕ) (b : Bool) → not b ≡ is_none (cond b (Some k) None)
-    keyed k true = refl
-    keyed k false = refl
+not-writing U lowers t f h x = grind arith
 
-    by : (source : FileSource) → f.source ≡ source → IsOf U lowers t source h → not h.writes ≡ is_none (written_key f)
-    by (Upper k) at y = ap not x.writes ∙ keyed k f.writes ∙ sym (λ i. is_none (written_key (record f { source = at i })))
-    by (Lower layer k) at y = ap not y.reads_alone ∙ sym (λ i. is_none (written_key (record f { source = at i })))
-
--- the first of three refusals, where one of the first two is there
-first-of : (a b x : Option Errno) (e : Errno) → or_else a b ≡ Some e → or_else a (or_else b x) ≡ Some e
-first-of None None x e h = cc
-first-of None (Some b) x e h = h
-first-of (Some a) b x e h = h
-
--- and where none of them is
+-- the last of three refusals, where none of the first two is there
 last-of : (a b x : Option Errno) → or_else a b ≡ None → or_else a (or_else b x) ≡ x
-last-of None None x h = refl
-last-of None (Some b) x h = cc
-last-of (Some a) b x h = cc
+last-of a b x h = grind arith
 
 -- a write that is refused nothing is of a file to write to
 unrefused-write : (f : OpenFile) (count : ℕ) → write_fault (Some (File f)) count ≡ None → is_none (written_key f) ≡ false
-unrefused-write f count h = by (nat_lt TRANSFER_MAX count) (is_none (written_key f)) h
-  where
-    by : (a b : Bool) → or_else (when a errno.EINVAL) (when b errno.EBADF) ≡ None → b ≡ false
-    by true b h = cc
-    by false true h = cc
-    by false false h = refl
+unrefused-write f count h = grind arith
 
 -- and so is a truncation
 unrefused-truncation : (f : OpenFile) (size : ℕ) → truncate_fault (Some (File f)) size ≡ None → is_none (written_key f) ≡ false
-unrefused-truncation f size h = by (is_none (written_key f)) (nat_lt FILE_MAX size) h
-  where
-    by : (a b : Bool) → or_else (when a errno.EINVAL) (when b errno.EFBIG) ≡ None → a ≡ false
-    by true b h = cc
-    by false b h = refl
+unrefused-truncation f size h = grind arith
 
 -- why a write of so many bytes is refused at its place: none of them fits
 abbrev room_fault : ℕ → ℕ → Option Errno
@@ -111,19 +78,11 @@ room_fault n start = when (nat_lt 0 n && not (nat_lt start FILE_MAX)) errno.EFBI
 
 -- so is a count of those that fit
 unfitting : (n start : ℕ) (e : Errno) → count_fitting start n ≡ Err e → room_fault n start ≡ Some e
-unfitting n start e h = by (nat_lt 0 n && not (nat_lt start FILE_MAX)) h
-  where
-    by : (b : Bool) → cond b (Err errno.EFBIG) (Ok (min (FILE_MAX - start) n)) ≡ Err e → when b errno.EFBIG ≡ Some e
-    by true h = cc
-    by false h = cc
+unfitting n start e h = grind arith
 
 -- or they are as many as there is room for
 fits : (n start count : ℕ) → count_fitting start n ≡ Ok count → (room_fault n start ≡ None) × (count ≡ min (FILE_MAX - start) n)
-fits n start count h = by (nat_lt 0 n && not (nat_lt start FILE_MAX)) h
-  where
-    by : (b : Bool) → cond b (Err errno.EFBIG) (Ok (min (FILE_MAX - start) n)) ≡ Ok count → (when b errno.EFBIG ≡ None) × (count ≡ min (FILE_MAX - start) n)
-    by true h = cc
-    by false h = (refl, cc)
+fits n start count h = grind arith
 
 -- bytes that aren't none
 some-there : (bytes : List ℕ) → nat_eq (length bytes) 0 ≡ false → bytes ≢ []
@@ -131,9 +90,7 @@ some-there bytes h e = false≢true (sym h ∙ ap (λ z. nat_eq (length z) 0) e)
 
 -- of nothing, nothing fits
 none-fits : (start : ℕ) → length (fitting start []) ≡ 0
-none-fits start =
-    let least : min (FILE_MAX - start) 0 ≡ 0 = omega arith in
-    length-take {A = ℕ} (FILE_MAX - start) [] ∙ least
+none-fits start = grind arith
 
 -- a change of a file is that of its bytes
 change-bytes : (t : Tree) (d : NodeId) (f : Node → Node) (x : Node) (bytes : List ℕ) → t d ≡ Some x → f x ≡ with_bytes bytes x → change f t (Some d) ≡ rewritten t d bytes
@@ -151,11 +108,7 @@ record IsWriting (m : Mount) (s : State) (c d : ℕ) (f : OpenFile) (h : Handle)
 module _ (m : Mount) (s : State) (st : IsStateOf m s) (c d : ℕ) where
   -- a file that has a key to write to is of the upper, and live
   writing : (f : OpenFile) → opened_by m.clients c d ≡ Some (File f) → is_none (written_key f) ≡ false → (h : Handle) × IsWriting m s c d f h
-  writing f e some =
-      let x = file-at m s st c d f e in
-      let key = upper-key f some in
-      let of : IsOf (the_upper m) (the_lowers m) s.tree (Upper key.0) x.0 = subst (λ z. IsOf (the_upper m) (the_lowers m) s.tree z x.0) key.1 x.2.source in
-      (x.0, record { opened = e; on = x.1; file = x.2; key = key.0; source = key.1; live = of.0 })
+  writing f e some = grind arith
 
   -- by it the file is open on its node
   open-on : (f : OpenFile) (h : Handle) (w : IsWriting m s c d f h) → IsOpenOn m.clients s.tables w.key h.node
@@ -218,20 +171,11 @@ module _ (m : Mount) (s : State) (st : IsStateOf m s) (c d : ℕ) where
 
     -- why a write by a handle on an open file is refused: for its count, for want of access, or for its place
     faults : (f : OpenFile) (h : Handle) → handle_of s.tables c d ≡ Some h → IsFile (the_upper m) (the_lowers m) s.tree f h → refusal s c (call.Write d bytes) ≡ or_else (when (nat_lt TRANSFER_MAX (length bytes)) errno.EINVAL) (or_else (when (is_none (written_key f)) errno.EBADF) (room_fault (length bytes) (write_start s h)))
-    faults f h on file =
-        let law : WritesFile s c d h = law_of_write s c d h on in
-        law.refused bytes ∙ ap (λ b. or_else (when (nat_lt TRANSFER_MAX (length bytes)) errno.EINVAL) (or_else (when b errno.EBADF) (room_fault (length bytes) (write_start s h)))) (not-writing (the_upper m) (the_lowers m) s.tree f h file)
+    faults f h on file = grind arith
 
     -- a write is refused so before its place is asked for
     pub write-refused : (e : Errno) → write_fault (opened_by m.clients c d) (length bytes) ≡ Some e → Writes (reply.Refused e) m
-    write-refused e fault =
-        serve-refused _ s c _ e m
-        (by-opened m s st c d (λ o. write_fault o (length bytes) ≡ Some e → refusal s c (call.Write d bytes) ≡ Some e)
-        (λ none g. (law_of_unopened s c d none).writing bytes ∙ g)
-        (λ f h on is g. faults f h on is ∙ first-of (when (nat_lt TRANSFER_MAX (length bytes)) errno.EINVAL) (when (is_none (written_key f)) errno.EBADF) (room_fault (length bytes) (write_start s h)) e g)
-        (λ o h on is g. (law_of_directory_handle s c d h on is.directory).writing (ap (λ (z : Handle). z.writes) is.access) bytes ∙ g)
-        fault)
-        st
+    write-refused e fault = grind arith
 
     -- one that isn't
     module _ (f : OpenFile) (is : file_by m.clients c d ≡ Some f) (good : write_fault (opened_by m.clients c d) (length bytes) ≡ None) where
@@ -263,12 +207,7 @@ module _ (m : Mount) (s : State) (st : IsStateOf m s) (c d : ℕ) where
 
       -- a write of nothing changes nothing
       pub write-nothing : nat_eq (length bytes) 0 ≡ true → Writes (reply.Written 0) m
-      write-nothing empty =
-          let none : bytes ≡ [] = nil_from_length bytes (eqb-true (length bytes) 0 empty) in
-          serve-done _ s c _ _ m
-          (write-refusal ∙ ap (λ z. room_fault (length z) (write_start s h)) none)
-          (ap reply.Written (sym (ap (λ z. length (fitting (write_start s h) z)) none ∙ none-fits (write_start s h))) ∙ sym (law.answer bytes))
-          (subst (IsStateOf m) (sym (ap (λ z. after s c (call.Write d z)) none ∙ law.nothing)) st)
+      write-nothing empty = grind (arith, nil_from_length, eqb-true, serve-done, write-refusal, none-fits)
 
       -- where a write begins in a file of these bytes
       module _ (held : List ℕ) (reads : (i : Inode) → source_inode (the_upper m) (the_lowers m) f.source ≡ Some i → held ≡ bytes_of_inode i) (start : ℕ) (begins : IsWritePlace f (length held) start) where

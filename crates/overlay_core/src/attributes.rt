@@ -99,7 +99,7 @@ pub(crate) fn carry_out(
         Ok(change) => change,
         Err(errno) => return Ok(Err(errno)),
     };
-    layers.upper().lawful();
+    layers.lawful();
     alter(layers, path, change.top, change.change)?;
     Ok(Ok(()))
 }
@@ -140,22 +140,7 @@ fn attributes_in(layers: &Layers, place: Place) -> Result<&Attributes, Errno>
     requires { (p : Names) × ShowsInode layers.now p place }
     ensures { (p : Names) → ShowsInode layers.now p place → MatchResult result (λ a. IsOpenTo (shows 0 (layers_of layers.now) p) a.now) (λ e. (e ≡ Errno.ELOOP) × (shows_link (shows 0 (layers_of layers.now) p) ≡ true)) }
 {
-    stands(layers, place);
-    match layers.node(place) {
-        Some(Node::Inode(inode)) => attributes_on(inode),
-        _ => unreachable!(),
-    }
-}
-
-/// The inode that is shown at a place stands there; it does nothing.
-pub(crate) fn stands(layers: &Layers, place: Place)
-    requires { (p : Names) × ShowsInode layers.now p place }
-    ensures { (p : Names) → ShowsInode layers.now p place → (i : HeldInode) × (shows 0 (layers_of layers.now) p ≡ Some (held.Contents place.layer place.key (Some i))) }
-{
-    let Some(layer) = layers.layer(place.layer) else {
-        unreachable!()
-    };
-    layer.lawful();
+    attributes_on(layers.inode_at(place))
 }
 
 // The attributes of a file; a symbolic link is ELOOP.

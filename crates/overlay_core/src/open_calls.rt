@@ -19,7 +19,6 @@ ghost use Rattle.overlay_core.specs.Keeping.{KeepsLayers};
 ghost use Rattle.overlay_core.specs.Opening as opening;
 ghost use Rattle.overlay_core.specs.States.{HasStateOf, IsStateOf, Serves, StaysState};
 
-use crate::attributes::stands;
 use crate::file_bytes::resize_file;
 use crate::files::file_at;
 use crate::mount::Mount;
@@ -27,7 +26,7 @@ use copy_up::all_at_once;
 use layer_tree::{Inode, Node};
 use make_remove::create;
 use merged_lookup::{Layers, Place, Stack, Topmost};
-use ov_base::{Attributes, Call, Content, Errno, Mode, OpenFlags, Path, Reply};
+use ov_base::{Call, Content, Errno, Mode, OpenFlags, Path, Reply};
 use std::alloc::AllocError;
 
 impl Mount {
@@ -279,19 +278,6 @@ fn bring_up(
     let Some((name, parents)) = path.split_last() else {
         unreachable!()
     };
-    stands(layers, place);
-    let attributes = attributes_of(layers, place)?;
+    let attributes = layers.inode_at(place).attributes.clone()?;
     all_at_once(layers, directory, parents, name, place, attributes)
-}
-
-// A copy of the attributes of the file that is shown at a place.
-fn attributes_of(layers: &Layers, place: Place) -> Result<Attributes, AllocError>
-    requires { (p : Names) × ShowsInode layers.now p place }
-    ensures { IfOk result (λ a. (p : Names) (i : HeldInode) → shows 0 (layers_of layers.now) p ≡ Some (Contents place.layer place.key (Some i)) → a ≡ i.attributes) }
-{
-    stands(layers, place);
-    match layers.node(place) {
-        Some(Node::Inode(inode)) => inode.attributes.clone(),
-        _ => unreachable!(),
-    }
 }

@@ -149,7 +149,7 @@ fn is_unlinked(layers: &Layers, key: usize) -> bool
     ensures unlinked { result ≡ true → IsNameless layers.now.upper key × ((i : HeldInode) → (layer_of layers.now.upper).inodes key ≡ Some i → i.links ≡ 0) }
     ensures linked { result ≡ false → (i : HeldInode) → (layer_of layers.now.upper).inodes key ≡ Some i → 0 < i.links }
 {
-    layers.upper().lawful();
+    layers.lawful();
     match layers.node(Place { layer: 0, key }) {
         Some(Node::Inode(inode)) => inode.links == 0,
         _ => false,

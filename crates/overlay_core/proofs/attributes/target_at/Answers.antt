@@ -4,9 +4,6 @@ use Rattle.merged_lookup.specs.Merged.{layers_of}
 use Rattle.overlay_core.proofs.Altering.{chown-link, shows-open}
 use Rattle.overlay_core.proofs.attributes.target_at.Goals as goal
 
-pub attributes_of-requires : goal.attributes_of-requires
-attributes_of-requires c = (c.args.path.now, c.in_ok-top.ensures.found)
-
 pub returns-in_err-attributes-clause-refused : goal.returns-in_err-attributes-clause-refused
 returns-in_err-attributes-clause-refused c =
     let p = err_from_is_err_and c.from_residual-in_err-attributes.result c.from_residual-in_err-attributes.ensures.1 in

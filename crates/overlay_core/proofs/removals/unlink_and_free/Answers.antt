@@ -3,9 +3,6 @@ use Rattle.overlay_core.proofs.Freed.{takes-then, removes-then}
 use Rattle.overlay_core.proofs.Lasting.{unlink-held}
 use Rattle.overlay_core.proofs.removals.unlink_and_free.Goals as goal
 
-pub free_released-requires : goal.free_released-requires
-free_released-requires c = (rw c.in-Ok.is at c.in_ok-key.ensures.unnames).nameless
-
 pub returns-in-Ok-clause-takes : goal.returns-in-Ok-clause-takes
 returns-in-Ok-clause-takes c = takes-then c.args.layers.now c.unlink.new.layers c.free_released.new.layers c.args.path.now c.free_released.ensures.held c.free_released.ensures.same c.free_released.ensures.keeps (rw c.in-Ok.is at c.in_ok-key.ensures.takes)
 

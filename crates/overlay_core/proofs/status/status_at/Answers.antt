@@ -8,11 +8,6 @@ use Rattle.overlay_core.specs.Status.{stat_of_inode, stat_shown}
 use Rattle.overlay_core.proofs.Shown.{stat-inode, stat-found}
 use Rattle.overlay_core.proofs.status.status_at.Goals as goal
 
-pub directory_status-requires : goal.directory_status-requires
-directory_status-requires c =
-    let found : (a : Attributes) × (shows 0 (layers_of c.args.layers.now) c.args.path.now ≡ Some (Folder c.in-Directory.place.layer c.in-Directory.place.key a)) = rw c.in-Directory.is at c.in_ok-place.ensures.found in
-    (c.args.path.now, found.0, found.1)
-
 pub returns-in-Directory : goal.returns-in-Directory
 returns-in-Directory c =
     let none : walk_fault (layers_of c.args.layers.now) c.args.path.now ≡ None = search rules in
