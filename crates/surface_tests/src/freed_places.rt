@@ -1,9 +1,9 @@
 // Files that lose their name while they are open leave their places in the upper to others.
+use crate::cores::{attached, detach, mounted, reply};
 use crate::fixtures::path;
 use merged_lookup::Topmost;
 use ov_base::{Call, OpenFlags, Path, Reply};
-use ov_wire::manifest_of;
-use overlay_core::{Core, Job, Turn};
+use overlay_core::Core;
 use std::alloc::Global;
 use std::hash::RandomState;
 use std::process::Abort;
@@ -13,52 +13,6 @@ const DIRECTORY: &str = "history = 1000000
 layer = [{}, {entry = [{path = '/d', kind = 'dir'}]}]";
 
 const FILE: &str = "/d/f";
-
-/// More attaches, calls and detaches than a test makes.
-const DEEDS_MAX: u64 = 1 << 32;
-
-// A mount of the directory.
-fn mounted(alloc: Global, keys: RandomState) -> Result<Core, Fail> {
-    let (upper, lowers, options) = manifest_of(alloc, keys, DIRECTORY.as_bytes())?;
-    match Core::mount(alloc, keys, upper, lowers, options)? {
-        Ok(core) => Ok(core),
-        Err(_) => Err(Fail::from("no mount")),
-    }
-}
-
-// Attaches a client.
-fn attached(core: &mut Core) -> Result<u64, Fail> {
-    if core.finished() >= DEEDS_MAX {
-        return Err(Fail::from("too many deeds"));
-    }
-    match core.attach()? {
-        Ok(client) => Ok(client),
-        Err(_) => Err(Fail::from("no client")),
-    }
-}
-
-// Detaches a client.
-fn detach(core: &mut Core, client: u64) -> Result<(), Fail> {
-    if core.finished() >= DEEDS_MAX || !core.is_attached(client) {
-        return Err(Fail::from("not attached"));
-    }
-    core.detach(client);
-    Ok(())
-}
-
-// The reply to a call of a client.
-fn reply(core: &mut Core, client: u64, call: Call) -> Result<Reply, Fail> {
-    if core.finished() >= DEEDS_MAX || !core.is_attached(client) {
-        return Err(Fail::from("not attached"));
-    }
-    let mut job = Job::new(client, call);
-    let turn = core.advance(&mut job);
-    let _ = job.into_call();
-    match turn {
-        Turn::Done(reply) => Ok(reply),
-        Turn::More | Turn::NoMemory => Err(Fail::from("no reply")),
-    }
-}
 
 // Makes a file, opens it for writing, and removes its name.
 fn open_nameless(rt: &impl Abort, alloc: Global, core: &mut Core, client: u64) -> Result<(), Fail> {
@@ -105,7 +59,7 @@ fn key_given(rt: &impl Abort, alloc: Global, core: &mut Core, client: u64) -> Re
 #[test]
 fn closed_files_leave_their_places(rt: HostRuntime) -> Result<(), Fail> {
     let alloc = rt.alloc();
-    let mut core = mounted(alloc, RandomState::new(&rt)?)?;
+    let mut core = mounted(alloc, RandomState::new(&rt)?, DIRECTORY)?;
     let client = attached(&mut core)?;
     for _ in 0..100_000u32 {
         open_nameless(&rt, alloc, &mut core, client)?;
@@ -119,7 +73,7 @@ fn closed_files_leave_their_places(rt: HostRuntime) -> Result<(), Fail> {
 #[test]
 fn clients_that_detach_leave_places(rt: HostRuntime) -> Result<(), Fail> {
     let alloc = rt.alloc();
-    let mut core = mounted(alloc, RandomState::new(&rt)?)?;
+    let mut core = mounted(alloc, RandomState::new(&rt)?, DIRECTORY)?;
     for _ in 0..1_000u32 {
         let client = attached(&mut core)?;
         open_nameless(&rt, alloc, &mut core, client)?;

@@ -1,9 +1,11 @@
 //! Tests of what no script reaches: streams that fail, command lines, options, schedules of jobs, places that are freed, and public
-//! functions that no command calls. Scripts and manifests with what they come to are rows of `side_by_side`.
+//! functions that no command calls; and of renames, beside what is open. Scripts and manifests with what they come to are rows of `side_by_side`.
 #![tactic(auto)]
 
 #[cfg(test)]
 mod command_lines;
+#[cfg(test)]
+mod cores;
 #[cfg(test)]
 mod files;
 #[cfg(test)]
@@ -18,6 +20,8 @@ mod making;
 mod manifests;
 #[cfg(test)]
 mod moves;
+#[cfg(test)]
+mod renames;
 #[cfg(test)]
 mod schedules;
 #[cfg(test)]
