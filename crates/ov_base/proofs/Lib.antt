@@ -1,3 +1,4 @@
 pub mod PathLemmas
 pub mod LinkTargets
 pub mod UserPlaces
+pub mod EventNames

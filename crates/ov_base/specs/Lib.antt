@@ -1,6 +1,8 @@
 pub mod AttributeChanges
 pub mod AttributeNames
+pub mod Cookies
 pub mod Errnos
+pub mod EventNames
 pub mod Modes
 pub mod Names
 pub mod Paths

@@ -1,5 +1,5 @@
 // Names in directories.
-ghost use Rattle.std.specs.Prelude.{◌≡◌, ◌≤◌, ◌==◌, [], ◌∷◌, length, not, nat_eq, ◌&&◌, IfOk, IsOk, OnErr, Ok};
+ghost use Rattle.std.specs.Prelude.{◌≡◌, ◌≤◌, ◌==◌, [], ◌∷◌, length, not, nat_eq, ◌&&◌, IfOk, IsOk, IsTrue, OnErr, Ok};
 ghost use Rattle.std.specs.Ordering.{nat_cmp, as_partial_cmp};
 ghost use Rattle.std.specs.Cmp.Lexicographic.{slice_cmp, pointwise};
 ghost use Rattle.std.specs.Cmp.{partial_order_from_own_ties};
@@ -187,6 +187,13 @@ impl Name {
         ensures { result.now ≡ self.now }
     {
         self.stored.as_slice()
+    }
+
+    /// What each name is; it does nothing.
+    pub fn lawful(&self)
+        ensures { IsTrue (names.is_name self.now) }
+    {
+        let _ = &self.stored;
     }
 }
 

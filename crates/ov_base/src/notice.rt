@@ -1,26 +1,26 @@
 // What watches tell: inotify(7).
 ghost use Rattle.std.specs.Prelude.{◌≡◌, [], IfOk};
 
-use crate::name::Name;
+use crate::event_name::EventName;
 use std::marker::Model;
 
 /// What is asked of a watch's callback.
-#[derive(Drop)]
+#[derive(Clone, Copy)]
 pub struct Event {
     pub watch: u32,
     pub bits: u32,
     pub cookie: u32,
-    pub name: Option<Name>,
+    pub name: Option<EventName>,
 }
 
 /// What a client reads, as `struct inotify_event`.
-#[derive(Drop)]
+#[derive(Clone, Copy)]
 pub struct Notice {
     /// The watch's number, or -1 for an overflow.
     pub watch: i32,
     pub mask: u32,
     pub cookie: u32,
-    pub name: Option<Name>,
+    pub name: Option<EventName>,
 }
 
 /// Notices in the order in which they were put.

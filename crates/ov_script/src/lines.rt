@@ -5,7 +5,7 @@ ghost use Rattle.ov_script.specs.Lines as lines;
 ghost use Rattle.ov_script.specs.Lines.{stat_words, word_after, notice_after, answer_words, outcome_words, reply_line};
 
 use crate::escape::Escaped;
-use ov_base::{Bytes, Name, Notice, ObjectKind, Reply, Stat};
+use ov_base::{Bytes, EventName, Name, Notice, ObjectKind, Reply, Stat};
 use std::fmt;
 
 /// The first six words of an object line: kind, mode, owner, group, size and links.
@@ -161,14 +161,14 @@ impl fmt::Display for NoticeWord<'_> {
 }
 
 #[derive(Clone, Copy)]
-struct NoticeName<'a>(&'a Option<Name>);
+struct NoticeName<'a>(&'a Option<EventName>);
 
 impl fmt::Display for NoticeName<'_> {
     ghost output = { λ n. Some (lines.notice_name n.0.now) };
 
     fn fmt<W: fmt::Write>(&self, f: &mut fmt::Formatter<W>) -> fmt::Result {
         let word = match self.0 {
-            Some(name) => Escaped(name.as_slice()),
+            Some(name) => Escaped(name.as_bytes()),
             None => Escaped(&[]),
         };
         write!(f, "{word}")
