@@ -12,6 +12,7 @@ use Rattle.plain_model.specs.Watching.{EVENTS, ONESHOT, has_bit, Instance, Subje
 use Rattle.plain_model.specs.Machine.{Table, State, DESCRIPTORS_MAX, look, same_found, watch_on}
 use Rattle.plain_model.specs.Changes.{way_of, tables_after, re_mask, armed_on, at_client, instances_after}
 use Rattle.plain_model.specs.Settling.{clients_of}
+pub use Rattle.plain_model.specs.Instances.{hearers_of}
 use Rattle.plain_model.proofs.Held.{IsFixed, fixed-with, fixed-ways}
 
 -- either as before, or changed so that the fact stays
@@ -30,10 +31,6 @@ call-fixed f fixed s c (Close fd) = fixed-with f fixed s.tables c fd None
 call-fixed f fixed s c (Rename old new) =
     either f (same_found (look s.tree old) (look s.tree new)) s.tables _ (fixed-ways f fixed s.tables (node_at s.tree old) (way_of s.tree old) (way_of s.tree new))
 call-fixed f fixed s c _ = refl
-
--- the clients whose instances these are
-abbrev pub hearers_of : List Instance → List ℕ
-hearers_of es = map {A = Instance} (λ e. e.client) es
 
 -- a change of one client's instance
 at-hearers : (c : ℕ) (f : Instance → Instance) → ((e : Instance) → (f e).client ≡ e.client) → (es : List Instance) → hearers_of (at_client c f es) ≡ hearers_of es

@@ -69,7 +69,7 @@ set-on x (Some g ∷ hs) zero h e = ap (λ b. b || is_on x hs) e
 set-on x (g ∷ hs) (suc fd) h e = ap (λ b. holds x g || b) (set-on x hs fd h e)
 
 -- numbers that differ do so from the other side
-flipped : (a b : ℕ) → nat_eq a b ≡ false → nat_eq b a ≡ false
+pub flipped : (a b : ℕ) → nat_eq a b ≡ false → nat_eq b a ≡ false
 flipped a b e = ne_eqb b a (λ f. eqb-false a b e (sym f))
 
 -- tables of other clients don't change

@@ -29,3 +29,7 @@ pub mod Lasting
 pub mod Calls
 pub mod Clients
 pub mod Settled
+pub mod Told
+pub mod Instances
+pub mod Alike
+pub mod AlikeKept

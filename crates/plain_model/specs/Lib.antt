@@ -13,3 +13,5 @@ pub mod Subjects
 pub mod Runs
 pub mod Bounds
 pub mod Settling
+pub mod Instances
+pub mod Alike

@@ -1,12 +1,14 @@
 -- Whom each call that is not refused tells, in order (inotify(7), "inotify events"; the order is this engine's own).
 use Rattle.std.specs.Prelude.{ℕ, suc, ◌+◌, ◌-◌, ◌%◌, ◌^◌, cond, List, [], ◌∷◌, ◌++◌, Option, None, Some, nat_eq, is_none, length}
+pub use Rattle.ov_base.specs.Cookies.{cookie_of}
+use Rattle.std.specs.List.{All}
 use Rattle.ov_base.specs.declared.call.Call.{Call}
 use Rattle.ov_base.specs.declared.call.Call.TheVariants.{Chmod, Chown, SetAttribute, DeleteAttribute, Mkdir, Symlink, Open, Unlink, Rmdir, Hardlink, Rename, Read, Write, Truncate, Close, Disarm}
 use Rattle.ov_base.specs.declared.node_id.NodeId.{NodeId}
 use Rattle.ov_base.specs.declared.node_id.NodeId.TheVariants.{New}
 use Rattle.plain_model.specs.Layers.{Name}
 use Rattle.plain_model.specs.Tree.{Node, Tree, node_at, node_of, is_folder}
-use Rattle.plain_model.specs.Watching.{ACCESS, MODIFY, ATTRIB, CLOSE_WRITE, CLOSE_NOWRITE, OPEN, MOVED_FROM, MOVED_TO, CREATE, DELETE, DELETE_SELF, MOVE_SELF, IGNORED, ISDIR, On, Only, Subject}
+use Rattle.plain_model.specs.Watching.{ACCESS, MODIFY, ATTRIB, CLOSE_WRITE, CLOSE_NOWRITE, OPEN, MOVED_FROM, MOVED_TO, CREATE, DELETE, DELETE_SELF, MOVE_SELF, IGNORED, ISDIR, On, Only, Subject, IsSubject}
 use Rattle.plain_model.specs.Machine.{Handle, State, look, same_found, handle_of, handle_node}
 use Rattle.plain_model.specs.Changes.{way_of, node_of_handle, read_bytes, tree_after}
 
@@ -45,10 +47,6 @@ abbrev pub closes : Option Handle → ℕ
 closes None = CLOSE_NOWRITE
 closes (Some h) = cond h.writes CLOSE_WRITE CLOSE_NOWRITE
 
--- the cookie of the k-th rename that moved something: it is never 0
-abbrev pub cookie_of : ℕ → ℕ
-cookie_of k = (k - 1) % (2 ^ 32 - 1) + 1
-
 -- a rename of d from the old way in to the new one, where e stood; t is the tree afterwards
 abbrev pub rename_subjects : State → Option NodeId → Option NodeId → Option (NodeId × Name) → Option (NodeId × Name) → Tree → List Subject
 rename_subjects s d e old new t =
@@ -80,3 +78,7 @@ subjects s c (Truncate fd size) = by_handle s.tree (handle_of s.tables c fd) MOD
 subjects s c (Close fd) = by_handle s.tree (handle_of s.tables c fd) (closes (handle_of s.tables c fd)) ++ gone (tree_after s c (Close fd)) (node_of_handle (handle_of s.tables c fd))
 subjects s c (Disarm number) = record { aim = Only c number; bits = IGNORED; cookie = 0; name = None } ∷ []
 subjects s c _ = []
+
+-- in every state, what a client's call tells are subjects
+abbrev pub LawOfSubjects : Type 0
+LawOfSubjects = (s : State) (c : ℕ) (call : Call) → All IsSubject (subjects s c call)

@@ -1,6 +1,6 @@
 -- Watches: whom a change tells of, which watches that reaches, what their callbacks are asked, and the queues of notices (inotify(7)).
 use Rattle.std.specs.Prelude.{◌≡◌, ◌≢◌, ◌↔◌, ℕ, ◌<◌, ◌≤◌, ◌^◌, ◌+◌, ℤ, pos, negsuc, Bool, true, false, cond, not, ◌&&◌, ◌||◌, List, [], ◌∷◌, ◌++◌, Option, None, Some, nat_eq, nat_lt, bit_and, length, filter, flat_map, map, slice_index_or, IsTrue}
-use Rattle.std.specs.List.{list_any}
+use Rattle.std.specs.List.{All, list_any}
 use Rattle.std.specs.Ordering.{int_eq}
 use Rattle.ov_base.specs.declared.node_id.NodeId.{NodeId}
 use Rattle.ov_base.specs.declared.notice.Event.{Event}
@@ -236,3 +236,20 @@ pub record IsEvent (e : Event) : Type 0 where
   pub fits : e.watch < 2 ^ 31
   pub known : IsTrue (is_one_of MOVES e.bits || is_one_of OTHERS e.bits)
   pub moves : IsTrue (is_one_of MOVES e.bits) ↔ (e.cookie ≢ 0)
+
+-- whether a subject is for one watch alone
+abbrev pub is_only : Aim → Bool
+is_only (On d) = false
+is_only (Only c number) = true
+
+-- What every subject of a call is: its bits are those of an event; its cookie is not 0 exactly for the two events of a rename, and has 32
+-- bits; where it is for one watch alone, it ends it.
+pub record IsSubject (s : Subject) : Type 0 where
+  pub known : IsTrue (is_one_of MOVES s.bits || is_one_of OTHERS s.bits)
+  pub moves : IsTrue (is_one_of MOVES s.bits) ↔ (s.cookie ≢ 0)
+  pub fits : s.cookie < 2 ^ 32
+  pub alone : is_only s.aim ≡ true → s.bits ≡ IGNORED
+
+-- what a subject asks at a watch are events, the IGNORED that follows a watch's only event too
+abbrev pub LawOfEvents : Type 0
+LawOfEvents = (c : ℕ) (s : Subject) (w : Watch) → IsSubject s → 0 < w.number → w.number < 2 ^ 31 → All IsEvent (events c s w)
