@@ -1,0 +1,11 @@
+pub mod Lasts
+pub mod Hearing
+pub mod Keys
+pub mod Arming
+pub mod Clients
+pub mod Telling
+pub mod Outcomes
+pub mod Numbers
+pub mod Reaching
+pub mod Indexing
+pub mod Fired

@@ -1,0 +1,5 @@
+pub mod Hooks
+pub mod Subjects
+pub mod Listening
+pub mod Clients
+pub mod Watched
