@@ -11,3 +11,4 @@ pub mod Laws
 pub mod Holding
 pub mod Exchanging
 pub mod Renaming
+pub mod Numbering

@@ -7,3 +7,4 @@ pub mod Listings
 pub mod Holding
 pub mod FileHolders
 pub mod Places
+pub mod Numbers

@@ -7,11 +7,13 @@ mod dentry;
 mod descriptors;
 mod directories;
 mod handle;
+mod numbers;
 mod open_file;
 mod open_files;
 
 pub use descriptors::{DESCRIPTORS_MAX, Descriptors};
 pub use directories::OpenDirectories;
 pub use handle::{Handle, OpenDirectory};
+pub use numbers::{NumberedObjects, ObjectPlace};
 pub use open_file::{FILE_MAX, FileSource, OpenFile, PLACE_MAX, fitting, read_at, sought};
 pub use open_files::OpenFiles;
