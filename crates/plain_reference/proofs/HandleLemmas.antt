@@ -16,27 +16,27 @@ use Rattle.plain_model.specs.Changes.{after, change, opened, opens, new_handle, 
 use Rattle.plain_model.specs.Replies.{reply_of, page}
 use Rattle.plain_model.specs.Subjects.{subjects}
 use Rattle.plain_model.specs.Runs.{Step}
-use Rattle.plain_reference.specs.States.{Mute, silent_all, state_of, heard_by}
+use Rattle.plain_reference.specs.States.{Mute, silent_all, unwatched_of, heard_by}
 use Rattle.plain_reference.specs.Slots.{tree_of}
 use Rattle.plain_reference.specs.Tables.{listing_of, kept, over_handle}
-use Rattle.plain_reference.specs.declared.reference.Reference.{Reference}
+use Rattle.plain_reference.specs.declared.unwatched.Unwatched.{Unwatched}
 use Rattle.plain_reference.proofs.StepLemmas.{silence, silent-with_handle, taken_step}
 
 -- a call that changes one handle of a client, and perhaps the tree and the serial
-pub handled_step : (old new : Reference) (ks : List Table) (c fd : ℕ) (h : Option Handle) (k : Call) (r : Reply) → None ≡ refusal (heard_by old ks) c k → r ≡ reply_of (heard_by old ks) c k → new.clients.list.items ≡ with_handle old.clients.list.items c fd h → new.clients.arrived ≡ old.clients.arrived → new ≡ record old { tree = new.tree; clients = new.clients; serial = new.serial } → after (heard_by old ks) c k ≡ record (heard_by old ks) { tree = tree_of new.tree.slots.items; serial = new.serial; tables = with_handle old.clients.list.items c fd h } → Step Mute (heard_by old ks) c k r (heard_by new ks)
+pub handled_step : (old new : Unwatched) (ks : List Table) (c fd : ℕ) (h : Option Handle) (k : Call) (r : Reply) → None ≡ refusal (heard_by old ks) c k → r ≡ reply_of (heard_by old ks) c k → new.clients.list.items ≡ with_handle old.clients.list.items c fd h → new.clients.arrived ≡ old.clients.arrived → new ≡ record old { tree = new.tree; clients = new.clients; serial = new.serial } → after (heard_by old ks) c k ≡ record (heard_by old ks) { tree = tree_of new.tree.slots.items; serial = new.serial; tables = with_handle old.clients.list.items c fd h } → Step Mute (heard_by old ks) c k r (heard_by new ks)
 handled_step old new ks c fd h k r none answer tables arrived rest shape =
     let to : State = record (heard_by old ks) { tree = tree_of new.tree.slots.items; serial = new.serial; tables = with_handle old.clients.list.items c fd h } in
-    let is_to : heard_by new ks ≡ to = ap (λ (x : Reference). heard_by x ks) rest ∙ (λ i. record (heard_by old ks) { tree = tree_of new.tree.slots.items; serial = new.serial; arrived = arrived i; tables = tables i }) in
+    let is_to : heard_by new ks ≡ to = ap (λ (x : Unwatched). heard_by x ks) rest ∙ (λ i. record (heard_by old ks) { tree = tree_of new.tree.slots.items; serial = new.serial; arrived = arrived i; tables = tables i }) in
     let steps : to ≡ record (after (heard_by old ks) c k) { instances = to.instances } = sym (ap (λ (a : State). record a { instances = silent_all ks }) shape) in
     let hears = subst (λ (es : List Instance). AllHear Mute (subjects (heard_by old ks) c k) es (silent_all ks)) (sym (ap (λ (a : State). a.instances) shape)) (silence (subjects (heard_by old ks) c k) ks) in
     subst (λ (t : State). Step Mute (heard_by old ks) c k r t) (sym is_to) (taken_step (heard_by old ks) to c k r none (record { answer = answer; state = steps; heard = hears }))
 
 -- the same where the client stays heard
-pub own_step : (old new : Reference) (c fd : ℕ) (h : Option Handle) (k : Call) (r : Reply) → new.clients.list.items ≡ with_handle old.clients.list.items c fd h → Step Mute (heard_by old old.clients.list.items) c k r (heard_by new old.clients.list.items) → Step Mute (state_of old) c k r (state_of new)
-own_step old new c fd h k r tables step = subst (λ (es : List Instance). Step Mute (state_of old) c k r (record (state_of new) { instances = es })) (sym (ap silent_all tables ∙ silent-with_handle old.clients.list.items c fd h)) step
+pub own_step : (old new : Unwatched) (c fd : ℕ) (h : Option Handle) (k : Call) (r : Reply) → new.clients.list.items ≡ with_handle old.clients.list.items c fd h → Step Mute (heard_by old old.clients.list.items) c k r (heard_by new old.clients.list.items) → Step Mute (unwatched_of old) c k r (unwatched_of new)
+own_step old new c fd h k r tables step = subst (λ (es : List Instance). Step Mute (unwatched_of old) c k r (record (unwatched_of new) { instances = es })) (sym (ap silent_all tables ∙ silent-with_handle old.clients.list.items c fd h)) step
 
 -- the same of a client that stays
-pub held_step : (old new : Reference) (c fd : ℕ) (h : Option Handle) (k : Call) (r : Reply) → None ≡ refusal (state_of old) c k → r ≡ reply_of (state_of old) c k → new.clients.list.items ≡ with_handle old.clients.list.items c fd h → new.clients.arrived ≡ old.clients.arrived → new ≡ record old { tree = new.tree; clients = new.clients; serial = new.serial } → after (state_of old) c k ≡ record (state_of old) { tree = tree_of new.tree.slots.items; serial = new.serial; tables = with_handle old.clients.list.items c fd h } → Step Mute (state_of old) c k r (state_of new)
+pub held_step : (old new : Unwatched) (c fd : ℕ) (h : Option Handle) (k : Call) (r : Reply) → None ≡ refusal (unwatched_of old) c k → r ≡ reply_of (unwatched_of old) c k → new.clients.list.items ≡ with_handle old.clients.list.items c fd h → new.clients.arrived ≡ old.clients.arrived → new ≡ record old { tree = new.tree; clients = new.clients; serial = new.serial } → after (unwatched_of old) c k ≡ record (unwatched_of old) { tree = tree_of new.tree.slots.items; serial = new.serial; tables = with_handle old.clients.list.items c fd h } → Step Mute (unwatched_of old) c k r (unwatched_of new)
 held_step old new c fd h k r none answer tables arrived rest shape = own_step old new c fd h k r tables (handled_step old new old.clients.list.items c fd h k r none answer tables arrived rest shape)
 
 no_names : (n : ℕ) → take n (drop 0 []) ≡ (let none : List Name = [] in none)

@@ -6,10 +6,16 @@ pub mod RuleLemmas
 pub mod StepLemmas
 pub mod TableLemmas
 pub mod HandleLemmas
-pub mod CloseLemmas
 pub mod AttributeLemmas
 pub mod LeadLemmas
 pub mod BelowLemmas
 pub mod LinkLemmas
 pub mod WayLemmas
 pub mod RenameLemmas
+pub mod HearingLemmas
+pub mod RisingLemmas
+pub mod AloneLemmas
+pub mod LeavingLemmas
+pub mod LastLemmas
+pub mod ArmLemmas
+pub mod EndLemmas

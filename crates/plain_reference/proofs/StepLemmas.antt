@@ -13,9 +13,9 @@ use Rattle.plain_model.specs.Changes.{after, tree_after, with_handle}
 use Rattle.plain_model.specs.Replies.{reply_of}
 use Rattle.plain_model.specs.Subjects.{subjects}
 use Rattle.plain_model.specs.Runs.{Taken, Answered, Step}
-use Rattle.plain_reference.specs.States.{Mute, silent_all, state_of}
+use Rattle.plain_reference.specs.States.{Mute, silent_all, unwatched_of}
 use Rattle.plain_reference.specs.Slots.{tree_of}
-use Rattle.plain_reference.specs.declared.reference.Reference.{Reference}
+use Rattle.plain_reference.specs.declared.unwatched.Unwatched.{Unwatched}
 
 passed-silent : (c : ℕ) (ss : List Subject) → silent c [] ≡ all_passed (silent c []) ss
 passed-silent c [] = refl
@@ -48,22 +48,22 @@ pub taken_step : (s t : State) (c : ℕ) (k : Call) (r : Reply) → None ≡ ref
 taken_step s t c k r is taken = subst (λ (o : Option Errno). Answered o Mute s c k r t) is taken
 
 -- a call that makes a node: only the tree and the serial change
-pub made_step : (old mid : Reference) (c : ℕ) (k : Call) (r : Reply) → None ≡ refusal (state_of old) c k → r ≡ reply_of (state_of old) c k → mid ≡ record old { tree = mid.tree } → tree_of mid.tree.slots.items ≡ tree_after (state_of old) c k → after (state_of old) c k ≡ record (state_of old) { tree = tree_after (state_of old) c k; serial = suc old.serial } → Step Mute (state_of old) c k r (state_of (record mid { serial = mid.serial + 1 }))
+pub made_step : (old mid : Unwatched) (c : ℕ) (k : Call) (r : Reply) → None ≡ refusal (unwatched_of old) c k → r ≡ reply_of (unwatched_of old) c k → mid ≡ record old { tree = mid.tree } → tree_of mid.tree.slots.items ≡ tree_after (unwatched_of old) c k → after (unwatched_of old) c k ≡ record (unwatched_of old) { tree = tree_after (unwatched_of old) c k; serial = suc old.serial } → Step Mute (unwatched_of old) c k r (unwatched_of (record mid { serial = mid.serial + 1 }))
 made_step old mid c k r none answer rest tree shape =
-    let new : State = record (state_of old) { tree = tree_of mid.tree.slots.items; serial = old.serial + 1 } in
-    let is_new : state_of (record mid { serial = mid.serial + 1 }) ≡ new = ap (λ (x : Reference). state_of (record x { tree = mid.tree; serial = x.serial + 1 })) rest in
+    let new : State = record (unwatched_of old) { tree = tree_of mid.tree.slots.items; serial = old.serial + 1 } in
+    let is_new : unwatched_of (record mid { serial = mid.serial + 1 }) ≡ new = ap (λ (x : Unwatched). unwatched_of (record x { tree = mid.tree; serial = x.serial + 1 })) rest in
     let later : old.serial + 1 ≡ suc old.serial = omega arith in
-    let steps : new ≡ record (after (state_of old) c k) { instances = new.instances } =
-    (λ i. record (state_of old) { tree = tree i; serial = later i }) ∙ sym (ap (λ (a : State). record a { instances = silent_all old.clients.list.items }) shape) in
-    let hears = subst (λ (es : List Instance). AllHear Mute (subjects (state_of old) c k) es (silent_all old.clients.list.items)) (sym (ap (λ (a : State). a.instances) shape)) (silence (subjects (state_of old) c k) old.clients.list.items) in
-    subst (λ (t : State). Step Mute (state_of old) c k r t) (sym is_new) (taken_step (state_of old) new c k r none (record { answer = answer; state = steps; heard = hears }))
+    let steps : new ≡ record (after (unwatched_of old) c k) { instances = new.instances } =
+    (λ i. record (unwatched_of old) { tree = tree i; serial = later i }) ∙ sym (ap (λ (a : State). record a { instances = silent_all old.clients.list.items }) shape) in
+    let hears = subst (λ (es : List Instance). AllHear Mute (subjects (unwatched_of old) c k) es (silent_all old.clients.list.items)) (sym (ap (λ (a : State). a.instances) shape)) (silence (subjects (unwatched_of old) c k) old.clients.list.items) in
+    subst (λ (t : State). Step Mute (unwatched_of old) c k r t) (sym is_new) (taken_step (unwatched_of old) new c k r none (record { answer = answer; state = steps; heard = hears }))
 
 -- a call that changes the tree alone
-pub changed_step : (old new : Reference) (c : ℕ) (k : Call) (r : Reply) → None ≡ refusal (state_of old) c k → r ≡ reply_of (state_of old) c k → new ≡ record old { tree = new.tree } → tree_of new.tree.slots.items ≡ tree_after (state_of old) c k → after (state_of old) c k ≡ record (state_of old) { tree = tree_after (state_of old) c k } → Step Mute (state_of old) c k r (state_of new)
+pub changed_step : (old new : Unwatched) (c : ℕ) (k : Call) (r : Reply) → None ≡ refusal (unwatched_of old) c k → r ≡ reply_of (unwatched_of old) c k → new ≡ record old { tree = new.tree } → tree_of new.tree.slots.items ≡ tree_after (unwatched_of old) c k → after (unwatched_of old) c k ≡ record (unwatched_of old) { tree = tree_after (unwatched_of old) c k } → Step Mute (unwatched_of old) c k r (unwatched_of new)
 changed_step old new c k r none answer rest tree shape =
-    let to : State = record (state_of old) { tree = tree_of new.tree.slots.items } in
-    let is_to : state_of new ≡ to = ap state_of rest in
-    let steps : to ≡ record (after (state_of old) c k) { instances = to.instances } =
-    (λ i. record (state_of old) { tree = tree i }) ∙ sym (ap (λ (a : State). record a { instances = silent_all old.clients.list.items }) shape) in
-    let hears = subst (λ (es : List Instance). AllHear Mute (subjects (state_of old) c k) es (silent_all old.clients.list.items)) (sym (ap (λ (a : State). a.instances) shape)) (silence (subjects (state_of old) c k) old.clients.list.items) in
-    subst (λ (t : State). Step Mute (state_of old) c k r t) (sym is_to) (taken_step (state_of old) to c k r none (record { answer = answer; state = steps; heard = hears }))
+    let to : State = record (unwatched_of old) { tree = tree_of new.tree.slots.items } in
+    let is_to : unwatched_of new ≡ to = ap unwatched_of rest in
+    let steps : to ≡ record (after (unwatched_of old) c k) { instances = to.instances } =
+    (λ i. record (unwatched_of old) { tree = tree i }) ∙ sym (ap (λ (a : State). record a { instances = silent_all old.clients.list.items }) shape) in
+    let hears = subst (λ (es : List Instance). AllHear Mute (subjects (unwatched_of old) c k) es (silent_all old.clients.list.items)) (sym (ap (λ (a : State). a.instances) shape)) (silence (subjects (unwatched_of old) c k) old.clients.list.items) in
+    subst (λ (t : State). Step Mute (unwatched_of old) c k r t) (sym is_to) (taken_step (unwatched_of old) to c k r none (record { answer = answer; state = steps; heard = hears }))

@@ -5,6 +5,11 @@ pub mod Slots
 pub mod Views
 pub mod Tables
 pub mod Looks
+pub mod Answering
+pub mod Aims
+pub mod Rising
+pub mod Hearing
+pub mod Telling
 pub mod States
 pub mod Offers
 pub mod Planted

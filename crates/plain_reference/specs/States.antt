@@ -1,15 +1,17 @@
--- The state of the plain machine that the reference stands for. Its clients have no hooks, so they never hear anything.
+-- The states of the plain machine that the reference stands for: without its watches, where clients never hear anything, and with them.
 use Rattle.std.specs.Prelude.{false, List, [], map}
 use Rattle.plain_model.specs.Watching.{Instance, Rule, silent}
 use Rattle.plain_model.specs.Machine.{Table, State}
 use Rattle.plain_reference.specs.Slots.{tree_of}
+use Rattle.plain_reference.specs.declared.unwatched.Unwatched.{Unwatched}
 use Rattle.plain_reference.specs.declared.reference.Reference.{Reference}
 
 abbrev pub silent_all : List Table → List Instance
 silent_all tables = map (λ table. silent table.client []) tables
 
-abbrev pub state_of : Reference → State
-state_of r = record {
+-- the state without watches: no client has a hook
+abbrev pub unwatched_of : Unwatched → State
+unwatched_of r = record {
   tree = tree_of r.tree.slots.items;
   serial = r.serial;
   renames = r.renames;
@@ -24,5 +26,9 @@ abbrev pub Mute : Rule
 Mute tag event answer = ⊥
 
 -- the state in which the instances are those of other clients: a client that goes is unheard first
-abbrev pub heard_by : Reference → List Table → State
-heard_by r tables = record (state_of r) { instances = silent_all tables }
+abbrev pub heard_by : Unwatched → List Table → State
+heard_by r tables = record (unwatched_of r) { instances = silent_all tables }
+
+-- the state with the clients' instances
+abbrev pub state_of : Reference → State
+state_of r = record (unwatched_of r.unwatched) { instances = r.instances.list.items }

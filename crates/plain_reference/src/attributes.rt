@@ -7,14 +7,14 @@ ghost use Rattle.plain_model.specs.Changes.{change};
 ghost use Rattle.plain_model.specs.Runs.{Step};
 ghost use Rattle.plain_reference.specs.Nodes.{attributes_at, given};
 ghost use Rattle.plain_reference.specs.Slots.{tree_of};
-ghost use Rattle.plain_reference.specs.States.{state_of, Mute};
+ghost use Rattle.plain_reference.specs.States.{unwatched_of, Mute};
 
 use crate::node::attributes_of;
-use crate::reference::Reference;
+use crate::unwatched::Unwatched;
 use ov_base::{Attributes, Bytes, Mode, Path, Reply};
 use std::alloc::AllocError;
 
-impl Reference {
+impl Unwatched {
     // A copy of the attributes of the node at a path.
     fn attributes(&self, path: &Path) -> Result<Option<Attributes>, AllocError>
         ensures { IfOk result (λ attributes. attributes ≡ attributes_at (node_of (tree_of self.now.tree.slots.items) (node_at (tree_of self.now.tree.slots.items) path.now))) }
@@ -38,8 +38,8 @@ impl Reference {
     }
 
     pub(crate) fn chmod(&mut self, client: u32, path: &Path, mode: u32) -> Result<Reply, AllocError>
-        ensures step { IfOk result (λ reply. Step Mute (state_of self.old) client (call.Chmod path.now mode) reply (state_of self.new)) }
-        ensures err { OnErr result (state_of self.new ≡ state_of self.old) }
+        ensures step { IfOk result (λ reply. Step Mute (unwatched_of self.old) client (call.Chmod path.now mode) reply (unwatched_of self.new)) }
+        ensures err { OnErr result (unwatched_of self.new ≡ unwatched_of self.old) }
     {
         if let Some(errno) = self.chmod_refusal(client, path, mode)? {
             return Ok(Reply::Refused(errno));
@@ -62,8 +62,8 @@ impl Reference {
         uid: u32,
         gid: u32,
     ) -> Result<Reply, AllocError>
-        ensures step { IfOk result (λ reply. Step Mute (state_of self.old) client (call.Chown path.now uid gid) reply (state_of self.new)) }
-        ensures err { OnErr result (state_of self.new ≡ state_of self.old) }
+        ensures step { IfOk result (λ reply. Step Mute (unwatched_of self.old) client (call.Chown path.now uid gid) reply (unwatched_of self.new)) }
+        ensures err { OnErr result (unwatched_of self.new ≡ unwatched_of self.old) }
     {
         if let Some(errno) = self.chown_refusal(client, path, uid, gid)? {
             return Ok(Reply::Refused(errno));
@@ -84,8 +84,8 @@ impl Reference {
         name: &Bytes,
         value: &Bytes,
     ) -> Result<Reply, AllocError>
-        ensures step { IfOk result (λ reply. Step Mute (state_of self.old) client (call.SetAttribute path.now name.now value.now) reply (state_of self.new)) }
-        ensures err { OnErr result (state_of self.new ≡ state_of self.old) }
+        ensures step { IfOk result (λ reply. Step Mute (unwatched_of self.old) client (call.SetAttribute path.now name.now value.now) reply (unwatched_of self.new)) }
+        ensures err { OnErr result (unwatched_of self.new ≡ unwatched_of self.old) }
     {
         if let Some(errno) = self.set_attribute_refusal(client, path, name, value)? {
             return Ok(Reply::Refused(errno));
@@ -104,8 +104,8 @@ impl Reference {
         path: &Path,
         name: &Bytes,
     ) -> Result<Reply, AllocError>
-        ensures step { IfOk result (λ reply. Step Mute (state_of self.old) client (call.DeleteAttribute path.now name.now) reply (state_of self.new)) }
-        ensures err { OnErr result (state_of self.new ≡ state_of self.old) }
+        ensures step { IfOk result (λ reply. Step Mute (unwatched_of self.old) client (call.DeleteAttribute path.now name.now) reply (unwatched_of self.new)) }
+        ensures err { OnErr result (unwatched_of self.new ≡ unwatched_of self.old) }
     {
         if let Some(errno) = self.delete_attribute_refusal(client, path, name)? {
             return Ok(Reply::Refused(errno));

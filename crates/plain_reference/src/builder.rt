@@ -10,10 +10,12 @@ ghost use Rattle.plain_reference.specs.States.{state_of};
 
 use crate::clients::Clients;
 use crate::id::Id;
+use crate::instances::Instances;
 use crate::names::Names;
 use crate::node::{Node, Origin};
 use crate::reference::Reference;
 use crate::tree::Tree;
+use crate::unwatched::Unwatched;
 use ov_base::{Attributes, Bytes, Content, Path};
 use std::alloc::{AllocError, Global};
 
@@ -134,13 +136,17 @@ impl Builder {
             redirects,
             alloc,
         } = self;
-        Reference {
+        let unwatched = Unwatched {
             tree,
             clients: Clients::new(alloc),
             serial: 0,
             renames: 0,
             redirects,
             alloc,
+        };
+        Reference {
+            unwatched,
+            instances: Instances::new(alloc),
         }
     }
 }

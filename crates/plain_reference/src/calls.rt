@@ -6,14 +6,14 @@ ghost use Rattle.plain_model.specs.Tree.{node_at, node_of};
 ghost use Rattle.plain_model.specs.Runs.{Step};
 ghost use Rattle.plain_reference.specs.Nodes.{shown};
 ghost use Rattle.plain_reference.specs.Slots.{tree_of};
-ghost use Rattle.plain_reference.specs.States.{state_of, Mute};
+ghost use Rattle.plain_reference.specs.States.{unwatched_of, Mute};
 
 use crate::node::{Node, bytes_of, stat_of};
-use crate::reference::Reference;
+use crate::unwatched::Unwatched;
 use ov_base::{Path, Reply};
 use std::alloc::AllocError;
 
-impl Reference {
+impl Unwatched {
     // The node at a path.
     pub(crate) fn node(&self, path: &Path) -> Result<Option<&Node>, AllocError>
         ensures { IfOk result (λ node. shown (option_copied node) ≡ node_of (tree_of self.now.tree.slots.items) (node_at (tree_of self.now.tree.slots.items) path.now)) }
@@ -24,7 +24,7 @@ impl Reference {
     }
 
     pub(crate) fn stat(&self, client: u32, path: &Path) -> Result<Reply, AllocError>
-        ensures { IfOk result (λ reply. Step Mute (state_of self.now) client (call.Stat path.now) reply (state_of self.now)) }
+        ensures { IfOk result (λ reply. Step Mute (unwatched_of self.now) client (call.Stat path.now) reply (unwatched_of self.now)) }
     {
         if let Some(errno) = self.stat_refusal(client, path)? {
             return Ok(Reply::Refused(errno));
@@ -34,7 +34,7 @@ impl Reference {
     }
 
     pub(crate) fn readlink(&self, client: u32, path: &Path) -> Result<Reply, AllocError>
-        ensures { IfOk result (λ reply. Step Mute (state_of self.now) client (call.Readlink path.now) reply (state_of self.now)) }
+        ensures { IfOk result (λ reply. Step Mute (unwatched_of self.now) client (call.Readlink path.now) reply (unwatched_of self.now)) }
     {
         if let Some(errno) = self.readlink_refusal(client, path)? {
             return Ok(Reply::Refused(errno));

@@ -8,14 +8,14 @@ ghost use Rattle.plain_model.specs.Changes.{change, dropped, fresh, lead_way, ma
 ghost use Rattle.plain_model.specs.Runs.{Step};
 ghost use Rattle.plain_reference.specs.Nodes.{plain as node_of, gained};
 ghost use Rattle.plain_reference.specs.Slots.{tree_of};
-ghost use Rattle.plain_reference.specs.States.{state_of, Mute};
-ghost use Rattle.plain_reference.specs.Offers.{Answers};
+ghost use Rattle.plain_reference.specs.States.{unwatched_of, Mute};
+ghost use Rattle.plain_reference.specs.Offers.{AnswersBy};
 
 use crate::clients::is_held;
 use crate::id::Id;
 use crate::names::Names;
 use crate::node::{Node, Origin, count_of, is_named};
-use crate::reference::Reference;
+use crate::unwatched::Unwatched;
 use ov_base::{Attributes, Bytes, Content, LinkTarget, Mode, Path, Reply, UserAttributes};
 use std::alloc::{AllocError, Global};
 
@@ -64,7 +64,7 @@ pub fn new_file(alloc: Global, mode: Mode) -> Node
     }
 }
 
-impl Reference {
+impl Unwatched {
     /// Puts a new node under the next serial, and leads the last name of a path to it.
     pub(crate) fn make(&mut self, path: &Path, node: Node) -> Result<(), AllocError>
         ensures ok { OnOk result (tree_of self.new.tree.slots.items ≡ made_way (tree_of self.old.tree.slots.items) self.old.serial (way_of (tree_of self.old.tree.slots.items) path.now) (node_of node)) }
@@ -134,8 +134,8 @@ impl Reference {
         path: &Path,
         mode: u32,
     ) -> Result<Option<Reply>, AllocError>
-        ensures answer { IfOk result (λ answer. Answers (state_of self.old) client (call.Mkdir path.now mode) answer (state_of self.new)) }
-        ensures err { OnErr result (state_of self.new ≡ state_of self.old) }
+        ensures answer { IfOk result (λ answer. AnswersBy Mute (unwatched_of self.old) client (call.Mkdir path.now mode) answer (unwatched_of self.new)) }
+        ensures err { OnErr result (unwatched_of self.new ≡ unwatched_of self.old) }
     {
         if self.serial == u64::MAX {
             return Ok(None);
@@ -157,8 +157,8 @@ impl Reference {
         target: &Bytes,
         path: &Path,
     ) -> Result<Option<Reply>, AllocError>
-        ensures answer { IfOk result (λ answer. Answers (state_of self.old) client (call.Symlink target.now path.now) answer (state_of self.new)) }
-        ensures err { OnErr result (state_of self.new ≡ state_of self.old) }
+        ensures answer { IfOk result (λ answer. AnswersBy Mute (unwatched_of self.old) client (call.Symlink target.now path.now) answer (unwatched_of self.new)) }
+        ensures err { OnErr result (unwatched_of self.new ≡ unwatched_of self.old) }
     {
         if self.serial == u64::MAX {
             return Ok(None);
@@ -175,8 +175,8 @@ impl Reference {
     }
 
     pub(crate) fn unlink(&mut self, client: u32, path: &Path) -> Result<Reply, AllocError>
-        ensures step { IfOk result (λ reply. Step Mute (state_of self.old) client (call.Unlink path.now) reply (state_of self.new)) }
-        ensures err { OnErr result (state_of self.new ≡ state_of self.old) }
+        ensures step { IfOk result (λ reply. Step Mute (unwatched_of self.old) client (call.Unlink path.now) reply (unwatched_of self.new)) }
+        ensures err { OnErr result (unwatched_of self.new ≡ unwatched_of self.old) }
     {
         if let Some(errno) = self.unlink_refusal(client, path)? {
             return Ok(Reply::Refused(errno));
@@ -186,8 +186,8 @@ impl Reference {
     }
 
     pub(crate) fn rmdir(&mut self, client: u32, path: &Path) -> Result<Reply, AllocError>
-        ensures step { IfOk result (λ reply. Step Mute (state_of self.old) client (call.Rmdir path.now) reply (state_of self.new)) }
-        ensures err { OnErr result (state_of self.new ≡ state_of self.old) }
+        ensures step { IfOk result (λ reply. Step Mute (unwatched_of self.old) client (call.Rmdir path.now) reply (unwatched_of self.new)) }
+        ensures err { OnErr result (unwatched_of self.new ≡ unwatched_of self.old) }
     {
         if let Some(errno) = self.rmdir_refusal(client, path)? {
             return Ok(Reply::Refused(errno));
@@ -203,8 +203,8 @@ impl Reference {
         old: &Path,
         new: &Path,
     ) -> Result<Option<Reply>, AllocError>
-        ensures answer { IfOk result (λ answer. Answers (state_of self.old) client (call.Hardlink old.now new.now) answer (state_of self.new)) }
-        ensures err { OnErr result (state_of self.new ≡ state_of self.old) }
+        ensures answer { IfOk result (λ answer. AnswersBy Mute (unwatched_of self.old) client (call.Hardlink old.now new.now) answer (unwatched_of self.new)) }
+        ensures err { OnErr result (unwatched_of self.new ≡ unwatched_of self.old) }
     {
         if let Some(errno) = self.link_refusal(client, old, new)? {
             return Ok(Some(Reply::Refused(errno)));

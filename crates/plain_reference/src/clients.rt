@@ -68,6 +68,13 @@ impl Handle {
         &self.node
     }
 
+    /// The directory and name by which it was opened.
+    pub fn way(&self) -> &Option<(Id, Name)>
+        ensures { result.now ≡ self.now.way }
+    {
+        &self.way
+    }
+
     /// Whether it may read.
     pub fn reads(&self) -> bool
         ensures { result ≡ self.now.reads }

@@ -5,13 +5,13 @@ ghost use Rattle.ov_base.specs.declared.call.Call.TheVariants as call;
 ghost use Rattle.plain_model.specs.Runs.{Step};
 ghost use Rattle.plain_reference.specs.Slots.{tree_of};
 ghost use Rattle.plain_reference.specs.Tables.{listing_of};
-ghost use Rattle.plain_reference.specs.States.{state_of, Mute};
+ghost use Rattle.plain_reference.specs.States.{unwatched_of, Mute};
 
 use crate::clients::Handle;
 use crate::files::part;
 use crate::handles::place_of;
 use crate::node::names_in;
-use crate::reference::Reference;
+use crate::unwatched::Unwatched;
 use ov_base::{NameList, Reply, copy_names};
 use std::alloc::{AllocError, Global};
 
@@ -21,7 +21,7 @@ fn copied(alloc: Global, names: &NameList) -> Result<NameList, AllocError>
     Ok(NameList::from_vec(copy_names(alloc, names.as_slice())?))
 }
 
-impl Reference {
+impl Unwatched {
     // The names that a handle lists.
     fn listing(&self, handle: Option<&Handle>) -> Result<NameList, AllocError>
         ensures { IfOk result (λ names. names ≡ listing_of (tree_of self.now.tree.slots.items) (option_copied handle.entry)) }
@@ -42,8 +42,8 @@ impl Reference {
         descriptor: u32,
         count: u32,
     ) -> Result<Reply, AllocError>
-        ensures step { IfOk result (λ reply. Step Mute (state_of self.old) client (call.ListNames descriptor count) reply (state_of self.new)) }
-        ensures err { OnErr result (state_of self.new ≡ state_of self.old) }
+        ensures step { IfOk result (λ reply. Step Mute (unwatched_of self.old) client (call.ListNames descriptor count) reply (unwatched_of self.new)) }
+        ensures err { OnErr result (unwatched_of self.new ≡ unwatched_of self.old) }
     {
         if let Some(errno) = self.list_refusal(client, descriptor, count) {
             return Ok(Reply::Refused(errno));

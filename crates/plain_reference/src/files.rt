@@ -5,13 +5,13 @@ ghost use Rattle.plain_model.specs.Machine.{handle_of};
 ghost use Rattle.plain_model.specs.Changes.{change, fitting, node_of_handle, sized, with_bytes, written};
 ghost use Rattle.plain_model.specs.Runs.{Step};
 ghost use Rattle.plain_reference.specs.Slots.{tree_of};
-ghost use Rattle.plain_reference.specs.States.{state_of, Mute};
+ghost use Rattle.plain_reference.specs.States.{unwatched_of, Mute};
 
 use crate::clients::open_handle;
 use crate::handle_refusals::FILE_MAX;
 use crate::handles::place_of;
 use crate::node::bytes_in;
-use crate::reference::Reference;
+use crate::unwatched::Unwatched;
 use ov_base::{Bytes, Reply};
 use std::alloc::{AllocError, Global};
 
@@ -53,7 +53,7 @@ fn fitting(at: u64, bytes: &[u8]) -> &[u8]
     &bytes[..bytes.len().min(room)]
 }
 
-impl Reference {
+impl Unwatched {
     /// Reads the next bytes of a file's handle, at most so many.
     pub(crate) fn read(
         &mut self,
@@ -61,8 +61,8 @@ impl Reference {
         descriptor: u32,
         count: u32,
     ) -> Result<Reply, AllocError>
-        ensures step { IfOk result (λ reply. Step Mute (state_of self.old) client (call.Read descriptor count) reply (state_of self.new)) }
-        ensures err { OnErr result (state_of self.new ≡ state_of self.old) }
+        ensures step { IfOk result (λ reply. Step Mute (unwatched_of self.old) client (call.Read descriptor count) reply (unwatched_of self.new)) }
+        ensures err { OnErr result (unwatched_of self.new ≡ unwatched_of self.old) }
     {
         if let Some(errno) = self.read_refusal(client, descriptor, count) {
             return Ok(Reply::Refused(errno));
@@ -93,8 +93,8 @@ impl Reference {
         descriptor: u32,
         bytes: &Bytes,
     ) -> Result<Reply, AllocError>
-        ensures step { IfOk result (λ reply. Step Mute (state_of self.old) client (call.Write descriptor bytes.now) reply (state_of self.new)) }
-        ensures err { OnErr result (state_of self.new ≡ state_of self.old) }
+        ensures step { IfOk result (λ reply. Step Mute (unwatched_of self.old) client (call.Write descriptor bytes.now) reply (unwatched_of self.new)) }
+        ensures err { OnErr result (unwatched_of self.new ≡ unwatched_of self.old) }
     {
         if let Some(errno) = self.write_refusal(client, descriptor, bytes) {
             return Ok(Reply::Refused(errno));
@@ -120,8 +120,8 @@ impl Reference {
         descriptor: u32,
         size: u64,
     ) -> Result<Reply, AllocError>
-        ensures step { IfOk result (λ reply. Step Mute (state_of self.old) client (call.Truncate descriptor size) reply (state_of self.new)) }
-        ensures err { OnErr result (state_of self.new ≡ state_of self.old) }
+        ensures step { IfOk result (λ reply. Step Mute (unwatched_of self.old) client (call.Truncate descriptor size) reply (unwatched_of self.new)) }
+        ensures err { OnErr result (unwatched_of self.new ≡ unwatched_of self.old) }
     {
         if let Some(errno) = self.truncate_refusal(client, descriptor, size) {
             return Ok(Reply::Refused(errno));

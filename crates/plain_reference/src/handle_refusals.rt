@@ -8,11 +8,11 @@ ghost use Rattle.plain_model.specs.Refusals as rule;
 ghost use Rattle.plain_model.specs.Refusals.{◌or_else◌, refusal};
 ghost use Rattle.plain_model.specs.Changes.{sought};
 ghost use Rattle.plain_reference.specs.Nodes.{shown};
-ghost use Rattle.plain_reference.specs.States.{state_of};
+ghost use Rattle.plain_reference.specs.States.{unwatched_of};
 
 use crate::clients::Handle;
 use crate::node::{Node, is_folder};
-use crate::reference::Reference;
+use crate::unwatched::Unwatched;
 use ov_base::{Bytes, Errno};
 
 /// The most bytes of a file.
@@ -138,29 +138,29 @@ fn place_from(base: u64, offset: i64) -> Result<u64, Errno>
     Ok(place as u64)
 }
 
-impl Reference {
+impl Unwatched {
     pub(crate) fn read_refusal(&self, client: u32, descriptor: u32, count: u32) -> Option<Errno>
-        ensures { result ≡ refusal (state_of self.now) client (call.Read descriptor count) }
+        ensures { result ≡ refusal (unwatched_of self.now) client (call.Read descriptor count) }
     {
         let handle = self.handle(client, descriptor);
         read_line(handle, self.handle_node(handle), count)
     }
 
     pub(crate) fn write_refusal(&self, client: u32, descriptor: u32, bytes: &Bytes) -> Option<Errno>
-        ensures { result ≡ refusal (state_of self.now) client (call.Write descriptor bytes.now) }
+        ensures { result ≡ refusal (unwatched_of self.now) client (call.Write descriptor bytes.now) }
     {
         let handle = self.handle(client, descriptor);
         write_line(handle, self.write_place(handle), bytes.as_slice())
     }
 
     pub(crate) fn truncate_refusal(&self, client: u32, descriptor: u32, size: u64) -> Option<Errno>
-        ensures { result ≡ refusal (state_of self.now) client (call.Truncate descriptor size) }
+        ensures { result ≡ refusal (unwatched_of self.now) client (call.Truncate descriptor size) }
     {
         truncate_line(self.handle(client, descriptor), size)
     }
 
     pub(crate) fn list_refusal(&self, client: u32, descriptor: u32, count: u32) -> Option<Errno>
-        ensures { result ≡ refusal (state_of self.now) client (call.ListNames descriptor count) }
+        ensures { result ≡ refusal (unwatched_of self.now) client (call.ListNames descriptor count) }
     {
         let handle = self.handle(client, descriptor);
         list_line(handle, self.handle_node(handle), count)
@@ -174,8 +174,8 @@ impl Reference {
         offset: i64,
         whence: u8,
     ) -> Result<u64, Errno>
-        ensures refused { result_err result ≡ refusal (state_of self.now) client (call.Seek descriptor offset whence) }
-        ensures place { IfOk result (λ place. place ≡ sought (state_of self.now) client descriptor offset whence) }
+        ensures refused { result_err result ≡ refusal (unwatched_of self.now) client (call.Seek descriptor offset whence) }
+        ensures place { IfOk result (λ place. place ≡ sought (unwatched_of self.now) client descriptor offset whence) }
     {
         let handle = self.handle(client, descriptor);
         if let Some(errno) = seek_line(handle, self.handle_node(handle), offset, whence) {
@@ -185,7 +185,7 @@ impl Reference {
     }
 
     pub(crate) fn fstat_refusal(&self, client: u32, descriptor: u32) -> Option<Errno>
-        ensures { result ≡ refusal (state_of self.now) client (call.Fstat descriptor) }
+        ensures { result ≡ refusal (unwatched_of self.now) client (call.Fstat descriptor) }
     {
         if self.handle(client, descriptor).is_none() {
             return Some(Errno::EBADF);

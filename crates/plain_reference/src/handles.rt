@@ -9,12 +9,12 @@ ghost use Rattle.plain_model.specs.Replies.{stat_of_handle};
 ghost use Rattle.plain_model.specs.Runs.{Step};
 ghost use Rattle.plain_reference.specs.Nodes.{shown};
 ghost use Rattle.plain_reference.specs.Slots.{tree_of};
-ghost use Rattle.plain_reference.specs.States.{state_of, heard_by, Mute};
+ghost use Rattle.plain_reference.specs.States.{unwatched_of, heard_by, Mute};
 
 use crate::clients::{Handle, open_handle};
 use crate::node::{Node, bytes_in, is_folder};
-use crate::reference::Reference;
-use ov_base::{Errno, Reply};
+use crate::unwatched::Unwatched;
+use ov_base::Reply;
 
 /// The place of a handle.
 pub fn place_of(handle: Option<&Handle>) -> u64
@@ -26,7 +26,7 @@ pub fn place_of(handle: Option<&Handle>) -> u64
     }
 }
 
-impl Reference {
+impl Unwatched {
     /// The open handle of a client's descriptor.
     pub(crate) fn handle(&self, client: u32, descriptor: u32) -> Option<&Handle>
         ensures { option_copied result ≡ handle_of self.now.clients.list.items client descriptor }
@@ -89,7 +89,7 @@ impl Reference {
     }
 
     pub(crate) fn fstat(&self, client: u32, descriptor: u32) -> Reply
-        ensures { Step Mute (state_of self.now) client (call.Fstat descriptor) result (state_of self.now) }
+        ensures { Step Mute (unwatched_of self.now) client (call.Fstat descriptor) result (unwatched_of self.now) }
     {
         if let Some(errno) = self.fstat_refusal(client, descriptor) {
             return Reply::Refused(errno);
@@ -99,7 +99,7 @@ impl Reference {
 
     /// Moves a handle; a directory's goes back to its start alone, and forgets its listing.
     pub(crate) fn seek(&mut self, client: u32, descriptor: u32, offset: i64, whence: u8) -> Reply
-        ensures { Step Mute (state_of self.old) client (call.Seek descriptor offset whence) result (state_of self.new) }
+        ensures { Step Mute (unwatched_of self.old) client (call.Seek descriptor offset whence) result (unwatched_of self.new) }
     {
         match self.sought(client, descriptor, offset, whence) {
             Err(errno) => Reply::Refused(errno),
@@ -112,25 +112,17 @@ impl Reference {
         }
     }
 
-    // Frees an open descriptor, and lets go of its node where nothing else keeps it.
-    pub(crate) fn release(&mut self, client: u32, descriptor: u32)
+    /// Frees an open descriptor, and lets go of its node where nothing else keeps it. Gives the handle.
+    pub(crate) fn release(&mut self, client: u32, descriptor: u32) -> Option<Handle>
         requires { IsSome (handle_of self.old.clients.list.items client descriptor) }
         ensures step { (tables : List Table) → Step Mute (heard_by self.old tables) client (call.Close descriptor) reply.Done (heard_by self.new tables) }
         ensures list { self.new.clients.list.items ≡ with_handle self.old.clients.list.items client descriptor None }
+        ensures handle { result ≡ handle_of self.old.clients.list.items client descriptor }
     {
-        if let Some(handle) = self.clients.take(client, descriptor) {
-            self.settle(handle.node());
+        let handle = self.clients.take(client, descriptor);
+        if let Some(closed) = &handle {
+            self.settle(closed.node());
         }
-    }
-
-    /// Closes a descriptor.
-    pub(crate) fn close(&mut self, client: u32, descriptor: u32) -> Reply
-        ensures { Step Mute (state_of self.old) client (call.Close descriptor) result (state_of self.new) }
-    {
-        if open_handle(self.clients.as_slice(), client, descriptor).is_none() {
-            return Reply::Refused(Errno::EBADF);
-        }
-        self.release(client, descriptor);
-        Reply::Done
+        handle
     }
 }

@@ -1,8 +1,10 @@
-//! A slow reference of the plain machine, for tests alone: one tree, its clients and their handles, in ordinary values.
-//! Its contracts are the definitions of the crate `plain_model`; nothing in the engine stands on it.
+//! A slow reference of the plain machine, for tests alone: one tree, its clients, their handles and their watches, in ordinary values.
+//! Its contracts are the definitions of the crate `plain_model`; nothing in the engine stands on it, and it stands on nothing of the engine.
 #![tactic(auto)]
 
+mod answering;
 mod attributes;
+mod bits;
 mod builder;
 mod calls;
 mod changes;
@@ -12,19 +14,28 @@ mod files;
 mod handle_refusals;
 mod handles;
 mod id;
+mod instance;
+mod instances;
 mod names;
 mod node;
 mod opens;
+mod queue;
 mod reference;
 mod refusals;
 mod rename_refusals;
 mod renames;
 mod runs;
 mod sights;
+mod subject;
+mod telling;
+mod tellings;
 mod tree;
+mod unwatched;
 mod user_attributes;
 mod view;
 mod walk;
+mod watch;
+mod watches;
 mod ways;
 
 pub use builder::Builder;

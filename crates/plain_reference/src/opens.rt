@@ -7,18 +7,18 @@ ghost use Rattle.plain_model.specs.Tree as plain;
 ghost use Rattle.plain_model.specs.Machine.{lowest_free, DESCRIPTORS_MAX};
 ghost use Rattle.plain_model.specs.Changes.{change, fresh, made_way, new_handle, opened, way_of, with_handle};
 ghost use Rattle.plain_reference.specs.Slots.{tree_of};
-ghost use Rattle.plain_reference.specs.States.{state_of};
-ghost use Rattle.plain_reference.specs.Offers.{Answers};
+ghost use Rattle.plain_reference.specs.States.{unwatched_of, Mute};
+ghost use Rattle.plain_reference.specs.Offers.{AnswersBy};
 
 use crate::changes::new_file;
 use crate::clients::Handle;
 use crate::id::Id;
-use crate::reference::Reference;
+use crate::unwatched::Unwatched;
 use crate::view::View;
 use ov_base::{Mode, Name, OpenFlags, Path, Reply};
 use std::alloc::AllocError;
 
-impl Reference {
+impl Unwatched {
     // Leads the lowest free descriptor of a client to a new handle.
     fn hold(&mut self, client: u32, handle: Handle) -> u32
         ensures descriptor { result ≡ unwrap_or (lowest_free self.old.clients.list.items client) DESCRIPTORS_MAX }
@@ -44,7 +44,7 @@ impl Reference {
         ensures list { IfOk result (λ descriptor. self.new.clients.list.items ≡ with_handle self.old.clients.list.items client descriptor (Some (new_handle flags node way (tree_of self.old.tree.slots.items node)))) }
         ensures arrived { self.new.clients.arrived ≡ self.old.clients.arrived }
         ensures rest { self.new ≡ record self.old { tree = self.new.tree; clients = self.new.clients } }
-        ensures err { OnErr result (state_of self.new ≡ state_of self.old) }
+        ensures err { OnErr result (unwatched_of self.new ≡ unwatched_of self.old) }
     {
         let view = View::of(flags, self.tree.node(&node))?;
         self.tree.open(self.alloc, &node, flags);
@@ -68,7 +68,7 @@ impl Reference {
         ensures list { IfOk result (λ descriptor. self.new.clients.list.items ≡ with_handle self.old.clients.list.items client descriptor (Some (new_handle flags (node.New self.old.serial) way None))) }
         ensures arrived { self.new.clients.arrived ≡ self.old.clients.arrived }
         ensures rest { self.new ≡ record self.old { tree = self.new.tree; clients = self.new.clients; serial = self.new.serial } }
-        ensures err { OnErr result (state_of self.new ≡ state_of self.old) }
+        ensures err { OnErr result (unwatched_of self.new ≡ unwatched_of self.old) }
     {
         self.make(path, new_file(self.alloc, mode))?;
         let node = Id::new(self.serial);
@@ -86,8 +86,8 @@ impl Reference {
         flags: OpenFlags,
         mode: u32,
     ) -> Result<Option<Reply>, AllocError>
-        ensures answer { IfOk result (λ answer. Answers (state_of self.old) client (call.Open path.now flags mode) answer (state_of self.new)) }
-        ensures err { OnErr result (state_of self.new ≡ state_of self.old) }
+        ensures answer { IfOk result (λ answer. AnswersBy Mute (unwatched_of self.old) client (call.Open path.now flags mode) answer (unwatched_of self.new)) }
+        ensures err { OnErr result (unwatched_of self.new ≡ unwatched_of self.old) }
     {
         if let Some(errno) = self.open_refusal(client, path, flags, mode)? {
             return Ok(Some(Reply::Refused(errno)));

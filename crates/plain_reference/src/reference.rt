@@ -1,18 +1,13 @@
 // The state of the reference.
 ghost use Rattle.std.specs.Prelude.{◌≡◌};
 
-use crate::clients::Clients;
-use crate::tree::Tree;
-use std::alloc::Global;
+use crate::instances::Instances;
+use crate::unwatched::Unwatched;
 
-/// The plain machine: its tree, its attached clients, the next serial, how many renames moved something, and whether renames of base
-/// directories make redirects.
+/// The plain machine: what it is without its watches, and the clients' inotify instances.
 #[derive(Drop)]
 pub struct Reference {
-    pub(crate) tree: Tree,
-    pub(crate) clients: Clients,
-    pub(crate) serial: u64,
-    pub(crate) renames: u64,
-    pub(crate) redirects: bool,
-    pub(crate) alloc: Global,
+    pub(crate) unwatched: Unwatched,
+    pub(crate) instances: Instances,
+    ghost alike: { instances.arrived ≡ unwatched.clients.arrived },
 }

@@ -10,11 +10,11 @@ ghost use Rattle.plain_model.specs.Refusals.{◌or_else◌, refusal};
 ghost use Rattle.plain_reference.specs.Nodes.{shown};
 ghost use Rattle.plain_reference.specs.Slots.{tree_of};
 ghost use Rattle.plain_reference.specs.Looks.{look_of};
-ghost use Rattle.plain_reference.specs.States.{state_of};
+ghost use Rattle.plain_reference.specs.States.{unwatched_of};
 
 use crate::clients::lowest_free;
 use crate::node::{Node, has_names, is_folder, is_link, user_count, value_of};
-use crate::reference::Reference;
+use crate::unwatched::Unwatched;
 use crate::walk::Look;
 use ov_base::{AttributeName, Bytes, Errno, OpenFlags, Path};
 use std::alloc::AllocError;
@@ -292,7 +292,7 @@ fn open_there(
     when(free.is_none(), Errno::EMFILE)
 }
 
-impl Reference {
+impl Unwatched {
     /// The walk of a path.
     pub(crate) fn look(&self, path: &Path) -> Result<Look, AllocError>
         ensures { IfOk result (λ found. look_of found ≡ machine.look (tree_of self.now.tree.slots.items) path.now) }
@@ -301,7 +301,7 @@ impl Reference {
     }
 
     pub(crate) fn stat_refusal(&self, client: u32, path: &Path) -> Result<Option<Errno>, AllocError>
-        ensures { IfOk result (λ errno. errno ≡ refusal (state_of self.now) client (call.Stat path.now)) }
+        ensures { IfOk result (λ errno. errno ≡ refusal (unwatched_of self.now) client (call.Stat path.now)) }
     {
         let look = self.look(path)?;
         Ok(stat_line(&look))
@@ -312,7 +312,7 @@ impl Reference {
         client: u32,
         path: &Path,
     ) -> Result<Option<Errno>, AllocError>
-        ensures { IfOk result (λ errno. errno ≡ refusal (state_of self.now) client (call.Readlink path.now)) }
+        ensures { IfOk result (λ errno. errno ≡ refusal (unwatched_of self.now) client (call.Readlink path.now)) }
     {
         let look = self.look(path)?;
         let node = self.tree.node_found(&look);
@@ -325,7 +325,7 @@ impl Reference {
         path: &Path,
         mode: u32,
     ) -> Result<Option<Errno>, AllocError>
-        ensures { IfOk result (λ errno. errno ≡ refusal (state_of self.now) client (call.Chmod path.now mode)) }
+        ensures { IfOk result (λ errno. errno ≡ refusal (unwatched_of self.now) client (call.Chmod path.now mode)) }
     {
         let look = self.look(path)?;
         let node = self.tree.node_found(&look);
@@ -339,7 +339,7 @@ impl Reference {
         uid: u32,
         gid: u32,
     ) -> Result<Option<Errno>, AllocError>
-        ensures { IfOk result (λ errno. errno ≡ refusal (state_of self.now) client (call.Chown path.now uid gid)) }
+        ensures { IfOk result (λ errno. errno ≡ refusal (unwatched_of self.now) client (call.Chown path.now uid gid)) }
     {
         let look = self.look(path)?;
         let node = self.tree.node_found(&look);
@@ -351,7 +351,7 @@ impl Reference {
         client: u32,
         path: &Path,
     ) -> Result<Option<Errno>, AllocError>
-        ensures { IfOk result (λ errno. errno ≡ refusal (state_of self.now) client (call.ListAttributes path.now)) }
+        ensures { IfOk result (λ errno. errno ≡ refusal (unwatched_of self.now) client (call.ListAttributes path.now)) }
     {
         let look = self.look(path)?;
         let node = self.tree.node_found(&look);
@@ -365,7 +365,7 @@ impl Reference {
         name: &Bytes,
         value: &Bytes,
     ) -> Result<Option<Errno>, AllocError>
-        ensures { IfOk result (λ errno. errno ≡ refusal (state_of self.now) client (call.SetAttribute path.now name.now value.now)) }
+        ensures { IfOk result (λ errno. errno ≡ refusal (unwatched_of self.now) client (call.SetAttribute path.now name.now value.now)) }
     {
         let fault = bad_attribute(name)?;
         let look = self.look(path)?;
@@ -379,7 +379,7 @@ impl Reference {
         path: &Path,
         name: &Bytes,
     ) -> Result<Option<Errno>, AllocError>
-        ensures { IfOk result (λ errno. errno ≡ refusal (state_of self.now) client (call.GetAttribute path.now name.now)) }
+        ensures { IfOk result (λ errno. errno ≡ refusal (unwatched_of self.now) client (call.GetAttribute path.now name.now)) }
     {
         let fault = bad_attribute(name)?;
         let look = self.look(path)?;
@@ -393,7 +393,7 @@ impl Reference {
         path: &Path,
         name: &Bytes,
     ) -> Result<Option<Errno>, AllocError>
-        ensures { IfOk result (λ errno. errno ≡ refusal (state_of self.now) client (call.DeleteAttribute path.now name.now)) }
+        ensures { IfOk result (λ errno. errno ≡ refusal (unwatched_of self.now) client (call.DeleteAttribute path.now name.now)) }
     {
         let fault = bad_attribute(name)?;
         let look = self.look(path)?;
@@ -407,7 +407,7 @@ impl Reference {
         path: &Path,
         mode: u32,
     ) -> Result<Option<Errno>, AllocError>
-        ensures { IfOk result (λ errno. errno ≡ refusal (state_of self.now) client (call.Mkdir path.now mode)) }
+        ensures { IfOk result (λ errno. errno ≡ refusal (unwatched_of self.now) client (call.Mkdir path.now mode)) }
     {
         let look = self.look(path)?;
         Ok(mkdir_line(mode, &look))
@@ -419,7 +419,7 @@ impl Reference {
         target: &Bytes,
         path: &Path,
     ) -> Result<Option<Errno>, AllocError>
-        ensures { IfOk result (λ errno. errno ≡ refusal (state_of self.now) client (call.Symlink target.now path.now)) }
+        ensures { IfOk result (λ errno. errno ≡ refusal (unwatched_of self.now) client (call.Symlink target.now path.now)) }
     {
         let look = self.look(path)?;
         Ok(symlink_line(target, &look))
@@ -430,7 +430,7 @@ impl Reference {
         client: u32,
         path: &Path,
     ) -> Result<Option<Errno>, AllocError>
-        ensures { IfOk result (λ errno. errno ≡ refusal (state_of self.now) client (call.Unlink path.now)) }
+        ensures { IfOk result (λ errno. errno ≡ refusal (unwatched_of self.now) client (call.Unlink path.now)) }
     {
         let look = self.look(path)?;
         let node = self.tree.node_found(&look);
@@ -442,7 +442,7 @@ impl Reference {
         client: u32,
         path: &Path,
     ) -> Result<Option<Errno>, AllocError>
-        ensures { IfOk result (λ errno. errno ≡ refusal (state_of self.now) client (call.Rmdir path.now)) }
+        ensures { IfOk result (λ errno. errno ≡ refusal (unwatched_of self.now) client (call.Rmdir path.now)) }
     {
         let look = self.look(path)?;
         let node = self.tree.node_found(&look);
@@ -455,7 +455,7 @@ impl Reference {
         old: &Path,
         new: &Path,
     ) -> Result<Option<Errno>, AllocError>
-        ensures { IfOk result (λ errno. errno ≡ refusal (state_of self.now) client (call.Hardlink old.now new.now)) }
+        ensures { IfOk result (λ errno. errno ≡ refusal (unwatched_of self.now) client (call.Hardlink old.now new.now)) }
     {
         let look = self.look(old)?;
         let node = self.tree.node_found(&look);
@@ -470,7 +470,7 @@ impl Reference {
         flags: OpenFlags,
         mode: u32,
     ) -> Result<Option<Errno>, AllocError>
-        ensures { IfOk result (λ errno. errno ≡ refusal (state_of self.now) client (call.Open path.now flags mode)) }
+        ensures { IfOk result (λ errno. errno ≡ refusal (unwatched_of self.now) client (call.Open path.now flags mode)) }
     {
         let look = self.look(path)?;
         let node = self.tree.node_found(&look);

@@ -9,12 +9,12 @@ ghost use Rattle.plain_model.specs.Refusals.{◌or_else◌, refusal};
 ghost use Rattle.plain_reference.specs.Nodes.{shown};
 ghost use Rattle.plain_reference.specs.Slots.{tree_of};
 ghost use Rattle.plain_reference.specs.Looks.{look_of};
-ghost use Rattle.plain_reference.specs.States.{state_of};
+ghost use Rattle.plain_reference.specs.States.{unwatched_of};
 
 use crate::node::{Node, has_names, is_base, is_folder};
-use crate::reference::Reference;
 use crate::refusals::{is_found, is_root, there, walked, when};
 use crate::tree::Tree;
+use crate::unwatched::Unwatched;
 use crate::walk::{Look, same_found};
 use ov_base::{Errno, Path};
 use std::alloc::AllocError;
@@ -81,14 +81,14 @@ impl Tree {
     }
 }
 
-impl Reference {
+impl Unwatched {
     pub(crate) fn rename_refusal(
         &self,
         client: u32,
         old: &Path,
         new: &Path,
     ) -> Result<Option<Errno>, AllocError>
-        ensures { IfOk result (λ errno. errno ≡ refusal (state_of self.now) client (call.Rename old.now new.now)) }
+        ensures { IfOk result (λ errno. errno ≡ refusal (unwatched_of self.now) client (call.Rename old.now new.now)) }
     {
         let look = self.look(old)?;
         let target = self.look(new)?;

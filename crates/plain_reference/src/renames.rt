@@ -4,12 +4,12 @@ ghost use Rattle.ov_base.specs.declared.call.Call.TheVariants as call;
 ghost use Rattle.plain_model.specs.Tree.{node_at};
 ghost use Rattle.plain_model.specs.Changes.{change, lead_way, one_fewer, re_ways, settled, touched, way_of};
 ghost use Rattle.plain_reference.specs.Slots.{tree_of};
-ghost use Rattle.plain_reference.specs.States.{state_of};
-ghost use Rattle.plain_reference.specs.Offers.{Answers};
+ghost use Rattle.plain_reference.specs.States.{unwatched_of, Mute};
+ghost use Rattle.plain_reference.specs.Offers.{AnswersBy};
 
 use crate::id::Id;
-use crate::reference::Reference;
 use crate::tree::Tree;
+use crate::unwatched::Unwatched;
 use crate::walk::{found_in, same_found};
 use ov_base::{Name, Path, Reply};
 use std::alloc::AllocError;
@@ -36,14 +36,14 @@ impl Tree {
     }
 }
 
-impl Reference {
+impl Unwatched {
     // Moves a node from one path to another. What is there loses the name, and the handles that were opened by the old way in follow.
     fn move_node(&mut self, node: &Id, old: &Path, new: &Path) -> Result<(), AllocError>
         ensures tree { OnOk result (tree_of self.new.tree.slots.items ≡ (let t = tree_of self.old.tree.slots.items in settled self.old.clients.list.items (lead_way (lead_way (change touched (change one_fewer t (node_at t new.now)) (Some node.now)) (way_of t new.now) (Some node.now)) (way_of t old.now) None) (node_at t new.now))) }
         ensures list { OnOk result (self.new.clients.list.items ≡ (let t = tree_of self.old.tree.slots.items in re_ways self.old.clients.list.items (Some node.now) (way_of t old.now) (way_of t new.now))) }
         ensures arrived { self.new.clients.arrived ≡ self.old.clients.arrived }
         ensures rest { self.new ≡ record self.old { tree = self.new.tree; clients = self.new.clients } }
-        ensures err { OnErr result (state_of self.new ≡ state_of self.old) }
+        ensures err { OnErr result (unwatched_of self.new ≡ unwatched_of self.old) }
     {
         let replaced = self.tree.node_at(self.alloc, new.names())?;
         let from = self.tree.way_of(self.alloc, old.names())?;
@@ -63,8 +63,8 @@ impl Reference {
         old: &Path,
         new: &Path,
     ) -> Result<Option<Reply>, AllocError>
-        ensures answer { IfOk result (λ answer. Answers (state_of self.old) client (call.Rename old.now new.now) answer (state_of self.new)) }
-        ensures err { OnErr result (state_of self.new ≡ state_of self.old) }
+        ensures answer { IfOk result (λ answer. AnswersBy Mute (unwatched_of self.old) client (call.Rename old.now new.now) answer (unwatched_of self.new)) }
+        ensures err { OnErr result (unwatched_of self.new ≡ unwatched_of self.old) }
     {
         if let Some(errno) = self.rename_refusal(client, old, new)? {
             return Ok(Some(Reply::Refused(errno)));

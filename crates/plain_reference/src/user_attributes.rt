@@ -2,16 +2,16 @@
 ghost use Rattle.std.specs.Prelude.{◌≡◌, IfOk};
 ghost use Rattle.ov_base.specs.declared.call.Call.TheVariants as call;
 ghost use Rattle.plain_model.specs.Runs.{Step};
-ghost use Rattle.plain_reference.specs.States.{state_of, Mute};
+ghost use Rattle.plain_reference.specs.States.{unwatched_of, Mute};
 
 use crate::node::{user_names, value_in};
-use crate::reference::Reference;
+use crate::unwatched::Unwatched;
 use ov_base::{Bytes, Path, Reply};
 use std::alloc::AllocError;
 
-impl Reference {
+impl Unwatched {
     pub(crate) fn list_attributes(&self, client: u32, path: &Path) -> Result<Reply, AllocError>
-        ensures { IfOk result (λ reply. Step Mute (state_of self.now) client (call.ListAttributes path.now) reply (state_of self.now)) }
+        ensures { IfOk result (λ reply. Step Mute (unwatched_of self.now) client (call.ListAttributes path.now) reply (unwatched_of self.now)) }
     {
         if let Some(errno) = self.list_attributes_refusal(client, path)? {
             return Ok(Reply::Refused(errno));
@@ -27,7 +27,7 @@ impl Reference {
         path: &Path,
         name: &Bytes,
     ) -> Result<Reply, AllocError>
-        ensures { IfOk result (λ reply. Step Mute (state_of self.now) client (call.GetAttribute path.now name.now) reply (state_of self.now)) }
+        ensures { IfOk result (λ reply. Step Mute (unwatched_of self.now) client (call.GetAttribute path.now name.now) reply (unwatched_of self.now)) }
     {
         if let Some(errno) = self.get_attribute_refusal(client, path, name)? {
             return Ok(Reply::Refused(errno));

@@ -173,13 +173,22 @@ fn attached(alloc: Global, mount: &mut PlainMount) -> Result<Answer, AllocError>
     if mount.history.refuses_attach() {
         return not_attached(alloc, Errno::ENOSPC);
     }
-    match mount.reference.attach()? {
+    match mount.reference.attach(program_tags(alloc)?)? {
         Some(client) => {
             mount.history.attach();
             Ok(Answer::Lines(format!(in alloc; "client {client}\n")?))
         }
         None => not_attached(alloc, Errno::ENFILE),
     }
+}
+
+// The tags of the program's hooks by slot: every event as it is, those of directories, the others, and events without their name.
+fn program_tags(alloc: Global) -> Result<Vec<u32>, AllocError> {
+    let mut tags = Vec::with_capacity(alloc, 16)?;
+    for slot in 0..16u32 {
+        tags.push(slot.saturating_sub(8) / 2)?;
+    }
+    Ok(tags)
 }
 
 fn not_attached(alloc: Global, errno: Errno) -> Result<Answer, AllocError> {

@@ -1,8 +1,0 @@
-use Rattle.std.proofs.Common.{◌∙◌, refl}
-use Rattle.ov_base.specs.declared.call.Call.TheVariants.{Rmdir}
-use Rattle.plain_reference.specs.States.{state_of}
-use Rattle.plain_reference.proofs.RuleLemmas.{by_path}
-use Rattle.plain_reference.proofs.reference.Reference.rmdir_refusal.Goals as goal
-
-pub returns : goal.returns
-returns c = c.rmdir_line.ensures ∙ by_path (state_of c.args.self.now) c.args.client (Rmdir c.args.path.now) _ _ c.in_ok-look.ensures c.node_found-node.ensures refl refl
