@@ -31,3 +31,10 @@ pub mod RenamedHandles
 pub mod CanMove
 pub mod Renamed
 pub mod RenamedOpen
+pub mod Leading
+pub mod OnePath
+pub mod Sorts
+pub mod Gone
+pub mod Handling
+pub mod OneName
+pub mod NamedPaths

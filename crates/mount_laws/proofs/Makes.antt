@@ -1,5 +1,5 @@
 -- What mkdir makes of the tree, and that the layers which gain the directory show it.
-use Rattle.std.proofs.Common.{◌≡◌, ℕ, suc, true, false, cond, List, [], ◌∷◌, ◌++◌, Option, None, Some, refl, sym, ap, ap₂, subst, ◌∙◌, ◌⊎◌, inl, inr, is_some, arith, length, length-append}
+use Rattle.std.proofs.Common.{◌≡◌, ◌≢◌, ℕ, suc, true, false, cond, List, [], ◌∷◌, ◌++◌, Option, None, Some, refl, sym, ap, ap₂, subst, ◌∙◌, ◌⊎◌, inl, inr, is_some, arith, length, length-append}
 use Rattle.std.specs.FinMap as fin
 use Rattle.std.specs.Cmp.Lexicographic.{slice_cmp}
 use Rattle.std.specs.Ordering.{nat_cmp}
@@ -103,9 +103,20 @@ module _ (t : Tree) (i : ℕ) (kept : IsKept t i) (q : Path) (n : Name) (d : Nod
   below-at m [] = ap (λ o. entry made o m) here-at ∙ ap (λ o. names_of o m) made-new ∙ empty m
   below-at m (k ∷ r) = ap (λ o. entry made o m) (below-at k r)
 
-  before-at : (r : Path) → node_at t (r ++ (n ∷ q)) ≡ None
+  pub before-at : (r : Path) → node_at t (r ++ (n ∷ q)) ≡ None
   before-at [] = ap (λ o. entry t o n) at ∙ free
   before-at (m ∷ r) = ap (λ o. entry t o m) (before-at r)
+
+  -- each other path leads where it led
+  pub stays-at : (y : Path) → y ≢ n ∷ q → node_at made y ≡ node_at t y
+  stays-at y other = elim (place (n ∷ q) y) [
+    | inl b ↦ below b.0 b.1
+    | inr out ↦ outside-at y out
+  ]
+    where
+      below : (r : Path) → y ≡ r ++ (n ∷ q) → node_at made y ≡ node_at t y
+      below [] s = absurd (other s)
+      below (k ∷ r) s = ap (node_at made) s ∙ below-at k r ∙ sym (ap (node_at t) s ∙ before-at (k ∷ r))
 
   -- a path that led to a node leads to it still
   pub still-at : (y : Path) (e : NodeId) → node_at t y ≡ Some e → node_at made y ≡ Some e

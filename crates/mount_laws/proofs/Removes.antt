@@ -172,7 +172,7 @@ counted-some None h = absurd (h refl)
 counted-some (Some x) h = refl
 
 -- what has a name is a directory
-named-folder : (o : Option Node) (n : Name) (e : NodeId) → names_of o n ≡ Some e → is_folder o ≡ true
+pub named-folder : (o : Option Node) (n : Name) (e : NodeId) → names_of o n ≡ Some e → is_folder o ≡ true
 named-folder None n e h = cc
 named-folder (Some (Leaf content a u l)) n e h = cc
 named-folder (Some (Branch a b names c)) n e h = refl

@@ -9,7 +9,7 @@ use Rattle.plain_model.specs.Layers.{Name, Path, Named, Inode, Layer, held, over
 use Rattle.plain_model.specs.Laws.{IsOutside}
 use Rattle.plain_model.specs.Tree.{Node, Branch, Leaf, Own, Untouched, Tree, names_of, entry, node_at, node_of, face, sight_at, SeenLeaf, see_inode, merged, AreLinked, Remounts, IsKept, is_folder, count_of, is_untouched}
 use Rattle.plain_model.specs.Machine.{MountOptions, Handle, State, look, same_found, handle_of, lowest_free}
-use Rattle.plain_model.specs.Changes.{on_way, way_of, lead_way, over_node, change, one_fewer, meta_touched, settled, renamed, re_ways, names_in, tree_after, tables_after}
+use Rattle.plain_model.specs.Changes.{way_of, over_node, meta_touched, settled, renamed, re_ways, names_in, tree_after, tables_after}
 use Rattle.plain_model.proofs.Kept.{at-path, taken-name, law_of_names}
 use Rattle.plain_model.proofs.Looking.{Reached, look-reached}
 use Rattle.plain_model.proofs.Merged.{named-seen}
@@ -27,7 +27,7 @@ use Rattle.mount_laws.proofs.Places.{nothing-below, named-shown, longer}
 use Rattle.mount_laws.proofs.Refusing.{names-none, name-at}
 use Rattle.mount_laws.proofs.Removes.{attributes-named, attributes-fewer, face-fewer, counted-some}
 use Rattle.mount_laws.proofs.RenamedHandles.{ways-keep, ways-none, ways-free}
-use Rattle.mount_laws.proofs.RenamedTree.{is-it, came-from, Places, old_place, new_place, moved, at-old, at-new, bare-after, gone-at, follows-at, kept-fact, face-moved, face-others, other-node, still-there, still-held}
+use Rattle.mount_laws.proofs.RenamedTree.{is-it, came-from, Places, old_place, new_place, moved, at-old, at-new, renamed-is, bare-after, gone-at, follows-at, kept-fact, face-moved, face-others, other-node, still-there, still-held}
 use Rattle.mount_laws.proofs.Renaming.{same-object, law_of_rename}
 use Rattle.mount_laws.proofs.CanMove.{law_of_can_move}
 
@@ -342,18 +342,7 @@ module _
   is-tree w a b =
       ap (λ b. cond b s.tree (settled s.tables (renamed s.options s.tree from to) (node_at s.tree to))) not-same-found
       ∙ ap₂ (λ p q. settled s.tables (renamed s.options s.tree p q) (node_at s.tree q)) a b
-      ∙ (λ i.
-      settled s.tables
-      (lead_way
-      (lead_way (change (meta_touched s.options) (change one_fewer s.tree (led i)) (leads i)) (on_way (w.new_at i) w.new_name) (leads i))
-      (on_way (w.old_at i) w.old_name) None)
-      (led i))
-    where
-      leads : node_at s.tree (old_place s.tree w) ≡ Some w.node
-      leads = at-old s.options s.tree s.tables w
-
-      led : node_at s.tree (new_place s.tree w) ≡ w.taken
-      led = at-new s.options s.tree s.tables w
+      ∙ renamed-is s.options s.tree s.tables w
 
   moved-tree : MovedTree V lowers s from to tree
   unfolding places

@@ -48,7 +48,7 @@ module _ (d : Option NodeId) (old new : Option (NodeId × Name)) where
   held-way (Some None) = ap (λ h. held_in (Some h)) way-none ∙ sym way-none
   held-way (Some (Some h)) = let w = way-kept h in ap (λ h. held_in (Some h)) w.1 ∙ sym w.1
 
-  way-handle : (ks : List Table) (c fd : ℕ) → handle_of (re_ways ks d old new) c fd ≡ re_way d old new (handle_of ks c fd)
+  pub way-handle : (ks : List Table) (c fd : ℕ) → handle_of (re_ways ks d old new) c fd ≡ re_way d old new (handle_of ks c fd)
   way-handle ks c fd =
       ap (λ hs. held_in (slice_get hs fd)) (ways-handles ks c)
       ∙ ap held_in (slice_get-map (re_way d old new) (handles_of ks c) fd)

@@ -8,7 +8,7 @@ use Rattle.plain_model.specs.Layers.{Name, Path}
 use Rattle.plain_model.specs.Laws.{IsOutside}
 use Rattle.plain_model.specs.Tree.{same_id, Node, Tree, names_of, entry, node_at, with_name, lead, face, is_folder}
 use Rattle.plain_model.specs.Machine.{MountOptions, Table}
-use Rattle.plain_model.specs.Changes.{over_node, change, one_fewer, meta_touched, is_named, is_held, settled}
+use Rattle.plain_model.specs.Changes.{on_way, lead_way, over_node, change, one_fewer, meta_touched, renamed, is_named, is_held, settled}
 use Rattle.plain_model.proofs.Flat.{fewer-flat, flat-names, flat-folders, some-same}
 use Rattle.plain_model.proofs.Keeping.{put-here, put-there, put-fact, change-like, lead-folders}
 use Rattle.plain_model.proofs.Paths.{place, ids_tell, outside-parent, parent-outside}
@@ -54,7 +54,7 @@ lead-there : (t : Tree) (d : NodeId) (n : Name) (e : Option NodeId) (x : NodeId)
 lead-there t d n e x h = put-there t d (with_name n e (t d)) x (not-same d x h)
 
 -- trees whose nodes have the same names have the same paths
-same-paths : (t u : Tree) → ((x : NodeId) (k : Name) → names_of (u x) k ≡ names_of (t x) k) → (y : Path) → node_at u y ≡ node_at t y
+pub same-paths : (t u : Tree) → ((x : NodeId) (k : Name) → names_of (u x) k ≡ names_of (t x) k) → (y : Path) → node_at u y ≡ node_at t y
 same-paths t u h [] = refl
 same-paths t u h (k ∷ y) = ap (λ o. entry u o k) (same-paths t u h y) ∙ by (node_at t y)
   where
@@ -159,6 +159,15 @@ module _ (m : MountOptions) (t : Tree) (ks : List Table) (w : Places t) where
 
   pub at-new : node_at t new ≡ w.taken
   at-new = ap (λ z. entry t z w.new_name) w.new_at ∙ w.led_to
+
+  -- this is the tree after a rename
+  pub renamed-is : settled ks (renamed m t old new) (node_at t new) ≡ moved
+  renamed-is = λ i.
+      settled ks
+      (lead_way
+      (lead_way (change (meta_touched m) (change one_fewer t (at-new i)) (at-old i)) (on_way (w.new_at i) w.new_name) (at-old i))
+      (on_way (w.old_at i) w.old_name) None)
+      (at-new i)
 
   -- below the object stands what stands below the old place
   below-moved : (r : Path) → from touched_there (Some w.node) r ≡ node_at t (r ++ old)

@@ -13,3 +13,6 @@ pub mod StayOpen
 pub mod Linking
 pub mod Moving
 pub mod Renaming
+pub mod Nodes
+pub mod Paths
+pub mod Handling

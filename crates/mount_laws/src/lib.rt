@@ -3,6 +3,7 @@
 
 mod handle_laws;
 mod laws;
+pub mod path_laws;
 mod rename_laws;
 
 pub use handle_laws::{

@@ -1,0 +1,5 @@
+use Rattle.mount_laws.proofs.OneName.{law_of_one_name_begun}
+use Rattle.mount_laws.proofs.path_laws.law_of_one_name_begun.Goals as goal
+
+pub returns : goal.returns
+returns c = law_of_one_name_begun

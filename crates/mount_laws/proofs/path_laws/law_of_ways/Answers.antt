@@ -1,0 +1,5 @@
+use Rattle.mount_laws.proofs.Handling.{law_of_ways}
+use Rattle.mount_laws.proofs.path_laws.law_of_ways.Goals as goal
+
+pub returns : goal.returns
+returns c = law_of_ways
