@@ -59,7 +59,7 @@ module _ (U : Layer) (lowers : List Layer) (s : State) (m : IsMountOf U lowers s
       state = law.state ∙ (λ i. record s { tree = same i; tables = freed_tables s c fd })
 
   -- where it has none no path leads to it
-  closes-handle : ClosesHidden U lowers s c fd h
+  pub closes-handle : ClosesHidden U lowers s c fd h
   closes-handle = by (cases_Bool (is_named (s.tree h.node)))
     where
       by : (is_named (s.tree h.node) ≡ true) ⊎ (is_named (s.tree h.node) ≡ false) → ClosesHidden U lowers s c fd h

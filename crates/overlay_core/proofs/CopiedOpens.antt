@@ -33,7 +33,7 @@ use Rattle.overlay_core.specs.declared.clients.Clients.{Clients}
 use Rattle.overlay_core.specs.declared.mount.Mount.{Mount}
 use Rattle.overlay_core.specs.Attaching.{ChangesClient}
 use Rattle.overlay_core.specs.Files.{file_at}
-use Rattle.overlay_core.specs.Living.{SetsFile}
+use Rattle.overlay_core.specs.Living.{KeepsFiles, SetsFile}
 use Rattle.overlay_core.specs.Opening.{OpensFile}
 use Rattle.overlay_core.specs.States.{IsStateOf, Serves}
 use Rattle.overlay_core.proofs.Carrying.{state-on}
@@ -151,6 +151,10 @@ module _ (m : Mount) (s : State) (st : IsStateOf m s) (c : ℕ) (clients : Clien
   unheld : held (the_upper m) p ≡ None
   unheld = free-inode (the_upper m).inodes (held (the_upper m) p) (unless (cuts (the_upper m) p) (shows 1 (the_lowers m) (below (the_upper m) p))) place.layer place.key (Some there.inode) there.shown lower
 
+  -- an inode that was there has another number
+  other-number : (j : ℕ) → is_some ((the_upper m).inodes j) ≡ true → leaf.number ≢ j
+  other-number j some is = false≢true (sym (ap (λ o. is_some (option_and_then inode_of o)) (ap (get m.layers.upper) (sym is) ∙ leaf.vacant)) ∙ some)
+
   -- a live file is another inode, which keeps its names and its attributes
   other-file : (e : NodeId) (j : ℕ) → IsLive (the_upper m) s.tree e j → AltersNamed (the_upper m) V p a j
   other-file e j live = record {
@@ -163,13 +167,26 @@ module _ (m : Mount) (s : State) (st : IsStateOf m s) (c : ℕ) (clients : Clien
   }
     where
       apart : leaf.number ≢ j
-      apart is = false≢true (sym (ap (λ o. is_some (option_and_then inode_of o)) (ap (get m.layers.upper) (sym is) ∙ leaf.vacant)) ∙ ap is_some live.inode)
+      apart = other-number j (ap is_some live.inode)
 
       not-now : held V p ≡ Some (Named j) → ⊥
       not-now h = apart (let z : Some (Named leaf.number) ≡ Some (Named j) = sym leaf.held_there ∙ h in cc)
 
       not-before : held (the_upper m) p ≡ Some (Named j) → ⊥
       not-before h = let z : None ≡ Some (Named j) = sym unheld ∙ h in cc
+
+  -- and each path that names a file names the same one still
+  pub copied-files : KeepsFiles m.layers new
+  copied-files q j f = record {
+    inode = f.inode;
+    bytes = f.bytes;
+    named = (other-names m.layers new p leaf.others q away j).1 f.named;
+    stored = leaf.objects.inodes j (λ is. other-number j (ap is_some f.stored) (let z : Some leaf.number ≡ Some j = is in cc)) ∙ f.stored;
+    file = f.file;
+  }
+    where
+      away : q ≢ p
+      away e = let z : None ≡ Some (Named j) = sym unheld ∙ ap (held (the_upper m)) (sym e) ∙ f.named in cc
 
   -- the mount stands for the state in which the file is the upper's own
   copied-state : IsStateOf (record m { layers = new; clients = clients }) (record s { tree = t })

@@ -20,6 +20,7 @@ use Rattle.overlay_core.specs.declared.clients.Clients.{Clients}
 use Rattle.overlay_core.specs.Living.{StaysHeld}
 use Rattle.overlay_core.specs.Renaming.{RenamesHeld}
 use Rattle.overlay_core.proofs.Lasting.{rename-held}
+use Rattle.overlay_core.proofs.Named.{moves-files, named-live, same-files}
 
 module _ (a b c : Layers) (p : Path) (held_same : SameObjects (layer_of b.upper) (layer_of c.upper)) (same : ShowsSame b c) where
   others : KeepsOthers a b p → KeepsOthers a c p
@@ -56,13 +57,18 @@ renames-then : (b c : Layers) → StaysMount b c → (s : State) (client : ℕ) 
 renames-then b c mounts s client p q r = search rules
 
 -- what moved, moved
-pub moves-then : (clients : Clients) (a b c : Layers) (redirects : Bool) (p q : Path) (directory : Bool) (released : Option ℕ) → Moves a b p q directory released → (is_one (layer_of a.upper) p q ≡ false → ShowsNoName (layers_of a) q) → (is_one (layer_of a.upper) p q ≡ false → RenameSteps a b redirects p q) → StaysMount b c → StaysHeld clients b c → RenamesHeld clients a c redirects p q
-moves-then clients a b c redirects p q directory released moves bare steps mounts held = record {
+pub moves-then : (clients : Clients) (a b c : Layers) (redirects : Bool) (p q : Path) (directory : Bool) (released : Option ℕ) → Moves a b p q directory released → (is_one (layer_of a.upper) p q ≡ false → ShowsNoName (layers_of a) q) → (is_one (layer_of a.upper) p q ≡ false → RenameSteps a b redirects p q) → StaysMount b c → StaysHeld clients b c → SameObjects (layer_of b.upper) (layer_of c.upper) → ShowsSame b c → RenamesHeld clients a c redirects p q
+moves-then clients a b c redirects p q directory released moves bare steps mounts held objects same = record {
   apart = moves.apart;
   bare = bare moves.apart;
   steps = λ s is option client. renames-then b c mounts s client p q (steps moves.apart s is option client);
   live = λ s is option client d k some on live.
       held (after s client (call.Rename p q)).tree d k some (rename-held clients a b redirects p q moves.over (steps moves.apart) s is option client d k some on live);
+  named = λ s is option client d k y live at.
+      let step : Renames (layer_of b.upper) (lowers_of b) s client p q = steps moves.apart s is option client in
+      named-live (layer_of c.upper) (lowers_of c) (after s client (call.Rename p q)) (renames-then b c mounts s client p q step).mounts d k y at
+      (same-files b c objects same.sights y k
+      (moves-files (layer_of a.upper) (layer_of b.upper) (lowers_of b) s client p q step d k y (moves.over.links is.layers k (ap is_some live.inode)) live at));
 }
 
 -- an inode as a layer has it

@@ -29,6 +29,7 @@ pub mod Altering
 pub mod Reading
 pub mod Coming
 pub mod Leaving
+pub mod Named
 pub mod Freed
 pub mod Makings
 pub mod CopiedOpens

@@ -22,7 +22,7 @@ use Rattle.open_handles.specs.Opened as places
 use Rattle.open_handles.specs.Opened.{NoneBelow}
 use Rattle.overlay_core.specs.declared.clients.Clients.{Clients}
 use Rattle.overlay_core.specs.declared.mount.Mount.{Mount}
-use Rattle.overlay_core.specs.Living.{StaysLive}
+use Rattle.overlay_core.specs.Living.{KeepsNamed, StaysLive}
 use Rattle.overlay_core.specs.Removing.{HasAttributes, IsOpenNowhere}
 use Rattle.overlay_core.specs.Renaming.{RenamesHeld, RenamesOpen, SamePlaces}
 use Rattle.overlay_core.specs.States.{AreTables, HasStateOf, IsHandle, IsOpenAs, IsStateOf, Serves, StaysState}
@@ -31,6 +31,7 @@ use Rattle.overlay_core.proofs.Carrying.{AreCounted, CarriesFiles, files-held, s
 use Rattle.overlay_core.proofs.Changing.{AreHeld, folder-has, none-below, open-there, refused}
 use Rattle.overlay_core.proofs.Directories.{shown-directory}
 use Rattle.overlay_core.proofs.Lasting.{rename-leaves}
+use Rattle.overlay_core.proofs.Named.{reads-named}
 use Rattle.overlay_core.proofs.Renames.{handle-moved, one-renamed, open-renamed, opened-same, tables-renamed}
 use Rattle.overlay_core.proofs.Stating.{the_layers, the_lowers, the_upper, Alike, keep-same}
 
@@ -111,6 +112,13 @@ module _ (m : Mount) (s : State) (st : IsStateOf m s) where
       where
         law : RenamesSame s c p q
         law = law_of_same_rename (the_upper m) (the_lowers m) s st.layers c p q false state-fine one
+
+    -- nor does it leave a live file another
+    pub rename-same-named :
+        is_one (the_upper m) p q ≡ true → (new : Layers) → new ≡ m.layers → KeepsNamed s c m.layers new (call.Rename p q)
+    rename-same-named one new same =
+        reads-named m.layers new s c (call.Rename p q) same
+        (ap (λ (x : State). x.tree) (law_of_same_rename (the_upper m) (the_lowers m) s st.layers c p q false state-fine one).state)
 
     -- what p shows moves to q
     module _

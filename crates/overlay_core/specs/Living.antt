@@ -1,10 +1,11 @@
 -- What changes of the layers leave of open files: those of the upper stay live (POSIX.1-2017, unlink() and close(): a file without a name
 -- is there until its last descriptor is closed).
 use Rattle.std.specs.Prelude.{◌≡◌, ℕ, ◌<◌, true, Some, List}
+use Rattle.ov_base.specs.declared.bytes.Content.TheVariants as content
 use Rattle.ov_base.specs.declared.call.Call.{Call}
 use Rattle.ov_base.specs.declared.node_id.NodeId.{NodeId}
-use Rattle.plain_model.specs.Layers.{Path, Named, Inode, held}
-use Rattle.plain_model.specs.Tree.{Tree, IsKept}
+use Rattle.plain_model.specs.Layers.{Path, Named, Inode, Layer, held}
+use Rattle.plain_model.specs.Tree.{Tree, IsKept, node_at}
 use Rattle.plain_model.specs.Machine.{State}
 use Rattle.plain_model.specs.Changes.{is_held, after}
 use Rattle.layer_tree.specs.Tree.{layer_of, SameObjects}
@@ -43,6 +44,24 @@ KeepsHeldFrom s c clients old new call =
 abbrev pub KeepsHeld : Clients → Layers → Layers → Call → Type 0
 KeepsHeld clients old new call =
     (s : State) → IsMountOf (layer_of old.upper) (lowers_of old) s → (c : ℕ) → KeepsHeldFrom s c clients old new call
+
+-- each live file to which a path still leads after the call is live then, by the same key
+abbrev pub KeepsNamed : State → ℕ → Layers → Layers → Call → Type 0
+KeepsNamed s c old new call =
+    (d : NodeId) (k : ℕ) (q : Path) → IsLive (layer_of old.upper) s.tree d k → node_at (after s c call).tree q ≡ Some d →
+    IsLive (layer_of new.upper) (after s c call).tree d k
+
+-- a path names a file of the upper, the one of this key
+pub record NamesFile (U : Layer) (p : Path) (k : ℕ) : Type 0 where
+  pub inode : Inode
+  pub bytes : List ℕ
+  pub named : held U p ≡ Some (Named k)
+  pub stored : U.inodes k ≡ Some inode
+  pub file : inode.content ≡ content.File bytes
+
+-- each path that names a file of the upper names the same one still
+abbrev pub KeepsFiles : Layers → Layers → Type 0
+KeepsFiles old new = (p : Path) (k : ℕ) → NamesFile (layer_of old.upper) p k → NamesFile (layer_of new.upper) p k
 
 -- the call leaves each file of the tree a file
 abbrev pub KeepsLeaves : Call → Type 0

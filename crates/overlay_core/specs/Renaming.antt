@@ -16,7 +16,7 @@ use Rattle.rename_redirect.specs.Renaming.{RenameSteps}
 use Rattle.open_handles.specs.Opened.{SameHandles}
 use Rattle.open_handles.specs.Renames.{Moves}
 use Rattle.overlay_core.specs.declared.clients.Clients.{Clients}
-use Rattle.overlay_core.specs.Living.{KeepsHeldFrom}
+use Rattle.overlay_core.specs.Living.{KeepsHeldFrom, KeepsNamed}
 
 -- the same clients are attached with what they have open, and each open directory stands where it stood
 pub record SamePlaces (old new : Clients) : Type 0 where
@@ -37,8 +37,8 @@ RefusesRenames l redirects p q e =
     (s : State) → IsMountOf (layer_of l.upper) (lowers_of l) s → s.options.redirects ≡ redirects →
     (c : ℕ) → refusal s c (call.Rename p q) ≡ Some e
 
--- What p shows moves to q, in which no name was shown: every state with this option goes on so by rename, and what handles hold of the
--- upper's files stays live.
+-- What p shows moves to q, in which no name was shown: every state with this option goes on so by rename, and of the upper's files what
+-- handles hold stays live, and what has a name then.
 pub record RenamesHeld (clients : Clients) (old new : Layers) (redirects : Bool) (p q : Path) : Type 0 where
   pub apart : is_one (layer_of old.upper) p q ≡ false
   pub bare : ShowsNoName (layers_of old) q
@@ -46,6 +46,9 @@ pub record RenamesHeld (clients : Clients) (old new : Layers) (redirects : Bool)
   pub live :
       (s : State) → IsMountOf (layer_of old.upper) (lowers_of old) s → s.options.redirects ≡ redirects → (c : ℕ) →
       KeepsHeldFrom s c clients old new (call.Rename p q)
+  pub named :
+      (s : State) → IsMountOf (layer_of old.upper) (lowers_of old) s → s.options.redirects ≡ redirects → (c : ℕ) →
+      KeepsNamed s c old new (call.Rename p q)
 
 -- the object moved, or both paths were one object and nothing changed
 abbrev pub MovesOrStays : Bool → Clients → Layers → Layers → Bool → Path → Path → Type 0

@@ -1,8 +1,9 @@
 // The calls on attributes, by the plain machine.
-ghost use Rattle.std.specs.Prelude.{◌≡◌, ℕ, IfOk, OnErr};
+ghost use Rattle.std.specs.Prelude.{◌≡◌, ℕ, None, IfOk, OnErr};
 ghost use Rattle.plain_model.specs.Machine.{State};
 ghost use Rattle.plain_model.specs.Refusals.{refusal};
 ghost use Rattle.copy_up.specs.Showing.{StaysThin};
+ghost use Rattle.overlay_core.specs.Living.{KeepsNamed, StaysLive};
 ghost use Rattle.overlay_core.specs.States.{IsStateOf, Serves, StaysState};
 
 use crate::attributes::{chmod, chown};
@@ -19,6 +20,8 @@ impl Mount {
         ensures refused { IfOk result (λ reply. (errno : Errno) → reply ≡ Reply.Refused errno → self.new.layers ≡ self.old.layers) }
         ensures lowers { self.new.layers.lowers ≡ self.old.layers.lowers }
         ensures thin { StaysThin self.old.layers self.new.layers }
+        ensures named { IfOk result (λ reply. (s : State) → IsStateOf self.old s → (c : ℕ) → refusal s c (Call.Chmod path.now mode) ≡ None → KeepsNamed s c self.old.layers self.new.layers (Call.Chmod path.now mode)) }
+        ensures stays_live { OnErr result (StaysLive self.old.layers self.new.layers) }
     {
         match chmod(&mut self.layers, path, mode)? {
             Ok(()) => Ok(Reply::Done),
@@ -33,6 +36,8 @@ impl Mount {
         ensures refused { IfOk result (λ reply. (errno : Errno) → reply ≡ Reply.Refused errno → self.new.layers ≡ self.old.layers) }
         ensures lowers { self.new.layers.lowers ≡ self.old.layers.lowers }
         ensures thin { StaysThin self.old.layers self.new.layers }
+        ensures named { IfOk result (λ reply. (s : State) → IsStateOf self.old s → (c : ℕ) → refusal s c (Call.Chown path.now uid gid) ≡ None → KeepsNamed s c self.old.layers self.new.layers (Call.Chown path.now uid gid)) }
+        ensures stays_live { OnErr result (StaysLive self.old.layers self.new.layers) }
     {
         match chown(&mut self.layers, path, uid, gid)? {
             Ok(()) => Ok(Reply::Done),
@@ -52,6 +57,8 @@ impl Mount {
         ensures refused { IfOk result (λ reply. (errno : Errno) → reply ≡ Reply.Refused errno → self.new.layers ≡ self.old.layers) }
         ensures lowers { self.new.layers.lowers ≡ self.old.layers.lowers }
         ensures thin { StaysThin self.old.layers self.new.layers }
+        ensures named { IfOk result (λ reply. (s : State) → IsStateOf self.old s → (c : ℕ) → refusal s c (Call.SetAttribute path.now name.now value.now) ≡ None → KeepsNamed s c self.old.layers self.new.layers (Call.SetAttribute path.now name.now value.now)) }
+        ensures stays_live { OnErr result (StaysLive self.old.layers self.new.layers) }
     {
         match set_attribute(&mut self.layers, path, name, value)? {
             Ok(()) => Ok(Reply::Done),
@@ -70,6 +77,8 @@ impl Mount {
         ensures refused { IfOk result (λ reply. (errno : Errno) → reply ≡ Reply.Refused errno → self.new.layers ≡ self.old.layers) }
         ensures lowers { self.new.layers.lowers ≡ self.old.layers.lowers }
         ensures thin { StaysThin self.old.layers self.new.layers }
+        ensures named { IfOk result (λ reply. (s : State) → IsStateOf self.old s → (c : ℕ) → refusal s c (Call.DeleteAttribute path.now name.now) ≡ None → KeepsNamed s c self.old.layers self.new.layers (Call.DeleteAttribute path.now name.now)) }
+        ensures stays_live { OnErr result (StaysLive self.old.layers self.new.layers) }
     {
         match delete_attribute(&mut self.layers, path, name)? {
             Ok(()) => Ok(Reply::Done),

@@ -4,7 +4,7 @@ ghost use Rattle.plain_model.specs.Changes.{sized};
 ghost use Rattle.layer_tree.specs.Tree.{bytes_at, written};
 ghost use Rattle.copy_up.specs.Showing.{StaysLayers, StaysMount, StaysThin};
 ghost use Rattle.open_handles.specs.declared.open_file.FileSource.TheVariants as sources;
-ghost use Rattle.overlay_core.specs.Living.{SetsFile, StaysLive};
+ghost use Rattle.overlay_core.specs.Living.{KeepsFiles, SetsFile, StaysLive};
 
 use merged_lookup::Layers;
 use open_handles::FileSource;
@@ -20,6 +20,7 @@ pub(crate) fn write_file(
 ) -> Result<(), AllocError>
     requires { start + length bytes.now < 2 ^ 64 }
     ensures sets { OnOk result ((k : ℕ) (old : List ℕ) → source ≡ sources.Upper k → bytes_at layers.old.upper k ≡ Some old → SetsFile layers.old layers.new k (written old start bytes.now)) }
+    ensures files { KeepsFiles layers.old layers.new }
     ensures lowers { layers.new.lowers ≡ layers.old.lowers }
     ensures keeps { StaysLayers layers.old layers.new }
     ensures thin { StaysThin layers.old layers.new }
@@ -44,6 +45,7 @@ pub(crate) fn resize_file(
 ) -> Result<(), AllocError>
     ensures sets { OnOk result ((k : ℕ) (old : List ℕ) → source ≡ sources.Upper k → bytes_at layers.old.upper k ≡ Some old → SetsFile layers.old layers.new k (sized old size)) }
     ensures empties { size ≡ 0 → IsOk result }
+    ensures files { KeepsFiles layers.old layers.new }
     ensures lowers { layers.new.lowers ≡ layers.old.lowers }
     ensures keeps { StaysLayers layers.old layers.new }
     ensures thin { StaysThin layers.old layers.new }

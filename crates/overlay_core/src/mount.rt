@@ -51,7 +51,7 @@ impl Mount {
     ghost use Rattle.open_handles.specs.Renames.{IsSettled};
     ghost use Rattle.mount_laws.specs.Removals.{rmdir_fault};
     ghost use Rattle.overlay_core.specs.Opening.{list_fault};
-    ghost use Rattle.overlay_core.specs.Living.{KeepsPaths};
+    ghost use Rattle.overlay_core.specs.Living.{KeepsNamed, KeepsPaths, StaysLive};
     ghost use Rattle.overlay_core.specs.Leaving.{ClosesEach};
     ghost use Rattle.overlay_core.specs.Rules.{Nothing};
     ghost use Rattle.overlay_core.specs.Offers.{is_offered};
@@ -156,6 +156,8 @@ impl Mount {
         ensures refused { IfOk result (λ reply. (errno : Errno) → reply ≡ Reply.Refused errno → self.new.layers ≡ self.old.layers) }
         ensures lowers { self.new.layers.lowers ≡ self.old.layers.lowers }
         ensures thin { StaysThin self.old.layers self.new.layers }
+        ensures named { IfOk result (λ reply. is_offered call.now ≡ true → (s : State) → IsStateOf self.old s → refusal s client call.now ≡ None → KeepsNamed s client self.old.layers self.new.layers call.now) }
+        ensures stays_live { OnErr result (StaysLive self.old.layers self.new.layers) }
     {
         match call {
             Call::Stat { path } => Ok(self.stat(path)),
@@ -214,6 +216,8 @@ impl Mount {
         ensures refused { IfOk result (λ reply. (errno : Errno) → reply ≡ Reply.Refused errno → self.new.layers ≡ self.old.layers) }
         ensures lowers { self.new.layers.lowers ≡ self.old.layers.lowers }
         ensures thin { StaysThin self.old.layers self.new.layers }
+        ensures named { IfOk result (λ reply. (s : State) → IsStateOf self.old s → (c : ℕ) → refusal s c (Call.Mkdir path.now mode) ≡ None → KeepsNamed s c self.old.layers self.new.layers (Call.Mkdir path.now mode)) }
+        ensures stays_live { OnErr result (StaysLive self.old.layers self.new.layers) }
     {
         let mode = match Mode::parse(mode) {
             Ok(mode) => mode,
@@ -232,6 +236,8 @@ impl Mount {
         ensures refused { IfOk result (λ reply. (errno : Errno) → reply ≡ Reply.Refused errno → self.new.layers ≡ self.old.layers) }
         ensures lowers { self.new.layers.lowers ≡ self.old.layers.lowers }
         ensures thin { StaysThin self.old.layers self.new.layers }
+        ensures named { IfOk result (λ reply. (s : State) → IsStateOf self.old s → (c : ℕ) → refusal s c (Call.Symlink target.now path.now) ≡ None → KeepsNamed s c self.old.layers self.new.layers (Call.Symlink target.now path.now)) }
+        ensures stays_live { OnErr result (StaysLive self.old.layers self.new.layers) }
     {
         let target = match LinkTarget::parse(target.clone()?) {
             Ok(target) => target,
@@ -250,6 +256,8 @@ impl Mount {
         ensures refused { IfOk result (λ reply. (errno : Errno) → reply ≡ Reply.Refused errno → self.new.layers ≡ self.old.layers) }
         ensures lowers { self.new.layers.lowers ≡ self.old.layers.lowers }
         ensures thin { StaysThin self.old.layers self.new.layers }
+        ensures named { IfOk result (λ reply. (s : State) → IsStateOf self.old s → (c : ℕ) → refusal s c (Call.Hardlink old.now new.now) ≡ None → KeepsNamed s c self.old.layers self.new.layers (Call.Hardlink old.now new.now)) }
+        ensures stays_live { OnErr result (StaysLive self.old.layers self.new.layers) }
     {
         match link(&mut self.layers, old, new)? {
             Ok(()) => Ok(Reply::Done),
@@ -264,6 +272,8 @@ impl Mount {
         ensures refused { IfOk result (λ reply. (errno : Errno) → reply ≡ Reply.Refused errno → self.new.layers ≡ self.old.layers) }
         ensures lowers { self.new.layers.lowers ≡ self.old.layers.lowers }
         ensures thin { StaysThin self.old.layers self.new.layers }
+        ensures named { IfOk result (λ reply. (s : State) → IsStateOf self.old s → (c : ℕ) → refusal s c (Call.Unlink path.now) ≡ None → KeepsNamed s c self.old.layers self.new.layers (Call.Unlink path.now)) }
+        ensures stays_live { OnErr result (StaysLive self.old.layers self.new.layers) }
     {
         self.clients.lawful();
         match unlink_and_free(&mut self.layers, &self.clients, path)? {
@@ -280,6 +290,8 @@ impl Mount {
         ensures refused { IfOk result (λ reply. (errno : Errno) → reply ≡ Reply.Refused errno → self.new.layers ≡ self.old.layers) }
         ensures lowers { self.new.layers.lowers ≡ self.old.layers.lowers }
         ensures thin { StaysThin self.old.layers self.new.layers }
+        ensures named { IfOk result (λ reply. (s : State) → IsStateOf self.old s → (c : ℕ) → refusal s c (Call.Rmdir path.now) ≡ None → KeepsNamed s c self.old.layers self.new.layers (Call.Rmdir path.now)) }
+        ensures stays_live { OnErr result (StaysLive self.old.layers self.new.layers) }
     {
         self.clients.lawful();
         let attributes = self.attributes_left(path)?;
@@ -303,6 +315,8 @@ impl Mount {
         ensures refused { IfOk result (λ reply. (errno : Errno) → reply ≡ Reply.Refused errno → self.new.layers ≡ self.old.layers) }
         ensures lowers { self.new.layers.lowers ≡ self.old.layers.lowers }
         ensures thin { StaysThin self.old.layers self.new.layers }
+        ensures named { IfOk result (λ reply. (s : State) → IsStateOf self.old s → (c : ℕ) → refusal s c (Call.Rename old.now new.now) ≡ None → KeepsNamed s c self.old.layers self.new.layers (Call.Rename old.now new.now)) }
+        ensures stays_live { OnErr result (StaysLive self.old.layers self.new.layers) }
     {
         let replaced = self.attributes_left(new)?;
         self.clients.prepare_rename(old, new)?;
@@ -407,6 +421,7 @@ impl Mount {
         ensures paths { KeepsPaths self.old.layers self.new.layers }
         ensures refused { (errno : Errno) → result ≡ Reply.Refused errno → self.new.layers ≡ self.old.layers }
         ensures thin { StaysThin self.old.layers self.new.layers }
+        ensures named { (s : State) → IsStateOf self.old s → refusal s client (Call.Close descriptor) ≡ None → KeepsNamed s client self.old.layers self.new.layers (Call.Close descriptor) }
     {
         let closed = upper_key(self.clients.file(client, descriptor));
         self.clients.lawful();

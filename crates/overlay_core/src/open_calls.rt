@@ -16,6 +16,7 @@ ghost use Rattle.copy_up.specs.Leaves.{CopiesLeaf};
 ghost use Rattle.copy_up.specs.Showing.{GainsParents, StaysLayers, StaysMount, StaysThin};
 ghost use Rattle.overlay_core.specs.Attaching.{KeepsAttached};
 ghost use Rattle.overlay_core.specs.Keeping.{KeepsLayers};
+ghost use Rattle.overlay_core.specs.Living.{KeepsNamed, StaysLive};
 ghost use Rattle.overlay_core.specs.Opening as opening;
 ghost use Rattle.overlay_core.specs.States.{HasStateOf, IsStateOf, Serves, StaysState};
 
@@ -48,6 +49,8 @@ impl Mount {
         ensures refused { IfOk result (λ reply. (errno : Errno) → reply ≡ Reply.Refused errno → self.new.layers ≡ self.old.layers) }
         ensures lowers { self.new.layers.lowers ≡ self.old.layers.lowers }
         ensures thin { StaysThin self.old.layers self.new.layers }
+        ensures named { IfOk result (λ reply. (s : State) → IsStateOf self.old s → refusal s client (Call.Open path.now flags mode) ≡ None → KeepsNamed s client self.old.layers self.new.layers (Call.Open path.now flags mode)) }
+        ensures stays_live { OnErr result (StaysLive self.old.layers self.new.layers) }
     {
         let mode = match accepted(flags, mode) {
             Ok(mode) => mode,
@@ -89,6 +92,8 @@ impl Mount {
         ensures refused { IfOk result (λ reply. (errno : Errno) → reply ≡ Reply.Refused errno → self.new.layers ≡ self.old.layers) }
         ensures lowers { self.new.layers.lowers ≡ self.old.layers.lowers }
         ensures thin { StaysThin self.old.layers self.new.layers }
+        ensures named { IfOk result (λ reply. (s : State) → IsStateOf self.old s → refusal s client (Call.Open path.now flags mode) ≡ None → KeepsNamed s client self.old.layers self.new.layers (Call.Open path.now flags mode)) }
+        ensures stays_live { OnErr result (StaysLive self.old.layers self.new.layers) }
     {
         let Topmost::Inode(place) = top else {
             return match self.clients.open(client, path)? {
@@ -131,6 +136,8 @@ impl Mount {
         ensures refused { IfOk result (λ reply. (errno : Errno) → reply ≡ Reply.Refused errno → self.new.layers ≡ self.old.layers) }
         ensures lowers { self.new.layers.lowers ≡ self.old.layers.lowers }
         ensures thin { StaysThin self.old.layers self.new.layers }
+        ensures named { IfOk result (λ reply. (s : State) → IsStateOf self.old s → refusal s client (Call.Open path.now flags mode) ≡ None → KeepsNamed s client self.old.layers self.new.layers (Call.Open path.now flags mode)) }
+        ensures stays_live { OnErr result (StaysLive self.old.layers self.new.layers) }
     {
         if let Err(errno) = self.clients.reserve_file(client)? {
             return Ok(Reply::Refused(errno));
@@ -164,6 +171,8 @@ impl Mount {
         ensures refused { IfOk result (λ reply. (errno : Errno) → reply ≡ Reply.Refused errno → self.new.layers ≡ self.old.layers) }
         ensures lowers { self.new.layers.lowers ≡ self.old.layers.lowers }
         ensures thin { StaysThin self.old.layers self.new.layers }
+        ensures named { IfOk result (λ reply. (s : State) → IsStateOf self.old s → refusal s client (Call.Open path.now flags mode) ≡ None → KeepsNamed s client self.old.layers self.new.layers (Call.Open path.now flags mode)) }
+        ensures stays_live { OnErr result (StaysLive self.old.layers self.new.layers) }
     {
         if let Err(errno) = self.clients.reserve_file(client)? {
             return Ok(Reply::Refused(errno));

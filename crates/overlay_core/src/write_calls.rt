@@ -4,6 +4,7 @@ ghost use Rattle.plain_model.specs.Machine.{State};
 ghost use Rattle.plain_model.specs.Refusals.{refusal};
 ghost use Rattle.copy_up.specs.Showing.{StaysThin};
 ghost use Rattle.overlay_core.specs.Attaching.{KeepsAttached, file_by, opened_by};
+ghost use Rattle.overlay_core.specs.Living.{KeepsNamed, StaysLive};
 ghost use Rattle.overlay_core.specs.Opening.{write_fault, truncate_fault, written_key};
 ghost use Rattle.overlay_core.specs.States.{IsStateOf, Serves, StaysState};
 
@@ -31,6 +32,8 @@ impl Mount {
         ensures refused { IfOk result (λ reply. (errno : Errno) → reply ≡ Reply.Refused errno → self.new.layers ≡ self.old.layers) }
         ensures lowers { self.new.layers.lowers ≡ self.old.layers.lowers }
         ensures thin { StaysThin self.old.layers self.new.layers }
+        ensures named { IfOk result (λ reply. (s : State) → IsStateOf self.old s → refusal s client (Call.Write descriptor bytes.now) ≡ None → KeepsNamed s client self.old.layers self.new.layers (Call.Write descriptor bytes.now)) }
+        ensures stays_live { OnErr result (StaysLive self.old.layers self.new.layers) }
     {
         let bytes = bytes.as_slice();
         let file = match self.file_to_write(client, descriptor, bytes.len()) {
@@ -86,6 +89,8 @@ impl Mount {
         ensures refused { IfOk result (λ reply. (errno : Errno) → reply ≡ Reply.Refused errno → self.new.layers ≡ self.old.layers) }
         ensures lowers { self.new.layers.lowers ≡ self.old.layers.lowers }
         ensures thin { StaysThin self.old.layers self.new.layers }
+        ensures named { IfOk result (λ reply. (s : State) → IsStateOf self.old s → refusal s client (Call.Truncate descriptor size) ≡ None → KeepsNamed s client self.old.layers self.new.layers (Call.Truncate descriptor size)) }
+        ensures stays_live { OnErr result (StaysLive self.old.layers self.new.layers) }
     {
         let file = match self.file_to_truncate(client, descriptor, size) {
             Ok(file) => file,

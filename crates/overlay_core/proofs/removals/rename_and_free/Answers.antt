@@ -8,7 +8,7 @@ returns-in-Ok-Directory-clause-does c =
     let bare = rw c.in-Ok-Directory.is at c.in_ok-rename.ensures.bare in
     let steps = rw c.in-Ok-Directory.is at c.in_ok-rename.ensures.steps in
     moves-then c.args.clients.now c.args.layers.now c.rename.new.layers c.free_released.new.layers c.args.redirects c.args.old.now c.args.new.now
-    true _ does bare steps c.free_released.ensures.mounts c.free_released.ensures.live
+    true _ does bare steps c.free_released.ensures.mounts c.free_released.ensures.live c.free_released.ensures.held c.free_released.ensures.same
 
 pub returns-in-Ok-Directory-clause-keeps : goal.returns-in-Ok-Directory-clause-keeps
 returns-in-Ok-Directory-clause-keeps c = λ h. c.free_released.ensures.keeps (c.rename.ensures.keeps h)
@@ -19,7 +19,7 @@ returns-in-Ok-Inode-clause-does c =
     let bare = rw c.in-Ok-Inode.is at c.in_ok-rename.ensures.bare in
     let steps = rw c.in-Ok-Inode.is at c.in_ok-rename.ensures.steps in
     moves-then c.args.clients.now c.args.layers.now c.rename.new.layers c.free_released-in-Ok-Inode.new.layers c.args.redirects c.args.old.now c.args.new.now
-    false _ does bare steps c.free_released-in-Ok-Inode.ensures.mounts c.free_released-in-Ok-Inode.ensures.live
+    false _ does bare steps c.free_released-in-Ok-Inode.ensures.mounts c.free_released-in-Ok-Inode.ensures.live c.free_released-in-Ok-Inode.ensures.held c.free_released-in-Ok-Inode.ensures.same
 
 pub returns-in-Ok-Inode-clause-keeps : goal.returns-in-Ok-Inode-clause-keeps
 returns-in-Ok-Inode-clause-keeps c = λ h. c.free_released-in-Ok-Inode.ensures.keeps (c.rename.ensures.keeps h)

@@ -6,6 +6,7 @@ use Rattle.merged_lookup.specs.Merged.{lowers_of}
 use Rattle.overlay_core.proofs.Parsed.{mode-fault}
 use Rattle.overlay_core.proofs.Changing.{mkdir-done, no-memory, refused}
 use Rattle.overlay_core.proofs.Lasting.{mkdir-live, mkdir-leaves, parents-live}
+use Rattle.overlay_core.proofs.Named.{keeps-named, refused-named}
 use Rattle.overlay_core.proofs.mount.Mount.mkdir.Goals as goal
 
 pub returns-in-Err-clause-serves : goal.returns-in-Err-clause-serves
@@ -35,3 +36,16 @@ pub returns-in_err-mkdir-clause-err : goal.returns-in_err-mkdir-clause-err
 returns-in_err-mkdir-clause-err c =
     let parents = c.in_err-mkdir.ensures.parents in
     no-memory c.from_residual.result c.args.self.now c.mkdir.new.layers c.in_err-mkdir.ensures.mounts parents.lowers (parents-live c.args.self.now.layers c.mkdir.new.layers c.args.path.now parents)
+
+pub returns-in-Err-clause-named : goal.returns-in-Err-clause-named
+returns-in-Err-clause-named c = λ s st client fine. refused-named c.args.self.now.layers s client (call.Mkdir c.args.path.now c.args.mode) c.in-Err.errno (c.args.self.now) refl (returns-in-Err-clause-serves c s st client) fine
+
+pub returns-in-Ok-2-clause-named : goal.returns-in-Ok-2-clause-named
+returns-in-Ok-2-clause-named c = λ s st client fine.
+    let same = rw c.in-Ok.is at c.parse.ensures.same in
+    let made = rw (c.in-Ok-2.is, same) at c.in_ok-mkdir.ensures.made in
+    let steps = rw (c.in-Ok-2.is, same) at c.in_ok-mkdir.ensures.steps in
+    keeps-named c.args.self.now.layers c.mkdir.new.layers (call.Mkdir c.args.path.now c.args.mode) (mkdir-live c.args.self.now.layers c.mkdir.new.layers c.args.path.now c.args.mode c.mkdir.ensures.keeps made steps) s st.layers client
+
+pub returns-in-Err-2-clause-named : goal.returns-in-Err-2-clause-named
+returns-in-Err-2-clause-named c = λ s st client fine. refused-named c.args.self.now.layers s client (call.Mkdir c.args.path.now c.args.mode) c.in-Err-2.errno (record c.args.self.now { layers = c.mkdir.new.layers }) refl (returns-in-Err-2-clause-serves c s st client) fine

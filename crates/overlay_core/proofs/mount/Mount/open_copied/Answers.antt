@@ -1,11 +1,16 @@
-use Rattle.std.proofs.Common.{rules, Ok, ap, sym, ◌∙◌, subst}
+use Rattle.std.proofs.Common.{rules, Ok, refl, ap, sym, ◌∙◌, subst, is_some}
 use Rattle.open_handles.specs.declared.open_file.OpenFile.{OpenFile}
 use Rattle.overlay_core.specs.declared.mount.Mount.{Mount}
 use Rattle.overlay_core.specs.Files.{HasFileRoom, file_at}
 use Rattle.overlay_core.specs.Opening.{OpensFile}
 use Rattle.overlay_core.proofs.Answering.{on-err}
 use Rattle.overlay_core.proofs.Makings.{none-holds, reserved-state, reserve-full, wanted-state}
-use Rattle.overlay_core.proofs.CopiedOpens.{vacant, copied-kept, copied-emptied}
+use Rattle.overlay_core.proofs.CopiedOpens.{vacant, copied-files, copied-kept, copied-emptied}
+use Rattle.ov_base.specs.declared.call.Call.TheVariants as call
+use Rattle.ov_base.specs.declared.reply.Reply.TheVariants as reply
+use Rattle.overlay_core.specs.Living.{KeepsFiles}
+use Rattle.overlay_core.proofs.Named.{open-paths, refused-named, stays-named}
+use Rattle.overlay_core.proofs.Stating.{the_lowers, the_upper}
 use Rattle.overlay_core.proofs.mount.Mount.open_copied.Goals as goal
 use Rattle.overlay_core.proofs.mount.Mount.open_copied.Goals.{then-flags+in_ok-resize_file, else-flags}
 
@@ -51,3 +56,17 @@ returns-clause-serves c = λ s st.
           c.open_reserved.result c.open_reserved.new.self (subst (λ (x : Mount). OpensFile x.clients c.open_reserved.new.self c.args.client (file_at (record { layer = 0; key = c.in_ok-key.key }) c.args.flags) (Ok (Ok c.open_reserved.result))) w.self-is opens)
           w.if-flags.false)
     ]
+
+pub returns-in-Err-clause-named : goal.returns-in-Err-clause-named
+returns-in-Err-clause-named c = λ s st fine. refused-named c.args.self.now.layers s c.args.client (call.Open c.args.path.now c.args.flags c.args.mode) c.in-Err.errno (record c.args.self.now { clients = c.reserve_file.new.self }) refl (returns-in-Err-clause-serves c s st) fine
+
+pub returns-clause-named : goal.returns-clause-named
+returns-clause-named c = λ s st fine.
+    let copied = copied-files c.args.self.now s st c.args.client c.reserve_file.new.self c.in_ok-errno.ensures.same c.args.path.now c.args.flags c.args.mode c.requires.allowed c.requires.writes c.args.place c.requires.shown c.requires.lower c.bring_up.new.layers c.in_ok-key.key c.in_ok-key.ensures.copied in
+    let files : KeepsFiles c.args.self.now.layers c.if-flags.self.layers = elim c.if-flags.branch [
+      | then-flags+in_ok-resize_file w ↦ rw w.self-is (λ q j f. w.resize_file.ensures.files q j (copied q j f))
+      | else-flags w ↦ rw w.self-is copied
+    ] in
+    stays-named c.args.self.now.layers (record c.if-flags.self { clients = c.open_reserved.new.self }) s c.args.client (call.Open c.args.path.now c.args.flags c.args.mode) (reply.Descriptor c.open_reserved.result) (returns-clause-serves c s st) fine
+    (open-paths (the_upper c.args.self.now) (the_lowers c.args.self.now) s st.layers c.args.client c.args.path.now c.args.flags c.args.mode fine (ap is_some c.requires.shown.shown))
+    files

@@ -1,10 +1,12 @@
-use Rattle.std.proofs.Common.{IfSome, sym, subst}
+use Rattle.std.proofs.Common.{IfSome, refl, sym, subst}
+use Rattle.ov_base.specs.declared.call.Call.TheVariants as call
 use Rattle.merged_lookup.specs.Merged.{layers_of}
 use Rattle.overlay_core.specs.Removing.{HasAttributes}
 use Rattle.overlay_core.specs.States.{IsStateOf}
 use Rattle.overlay_core.proofs.Answering.{on-err}
-use Rattle.overlay_core.proofs.Renaming.{bare-below, outside, rename-done, rename-refused, rename-same, rename-wanted, replaced-copied, same-state, same-then, thin-on, to-path}
+use Rattle.overlay_core.proofs.Renaming.{bare-below, outside, rename-done, rename-refused, rename-same, rename-same-named, rename-wanted, replaced-copied, same-state, same-then, thin-on, to-path}
 use Rattle.overlay_core.proofs.Stating.{the_lowers, the_upper}
+use Rattle.overlay_core.proofs.Named.{refused-named}
 use Rattle.overlay_core.proofs.mount.Mount.rename.Goals as goal
 
 pub returns-in_err-prepare_rename-clause-err : goal.returns-in_err-prepare_rename-clause-err
@@ -76,3 +78,17 @@ returns-in-Ok-Ok-true-clause-thin c = thin-on c.args.self.now c.rename_and_free.
 
 pub returns-in-Err-clause-thin : goal.returns-in-Err-clause-thin
 returns-in-Err-clause-thin c = thin-on c.args.self.now c.rename_and_free.new.layers c.requires c.rename_and_free.ensures.thin
+
+pub returns-in-Ok-Ok-true-clause-named : goal.returns-in-Ok-Ok-true-clause-named
+returns-in-Ok-Ok-true-clause-named c = λ s st client fine.
+    let moved = rw (c.in-Ok-Ok-true.field-0-is, c.in-Ok-Ok-true.field-0-0-test) at c.in-Ok-Ok-true.ensures.does in
+    moved.named s st.layers st.redirects client
+
+pub returns-in-Ok-Ok-false-clause-named : goal.returns-in-Ok-Ok-false-clause-named
+returns-in-Ok-Ok-false-clause-named c = λ s st client fine.
+    let allowed = rw c.in-Ok-Ok-false.field-0-is at c.in-Ok-Ok-false.ensures.allowed in
+    let does = rw (c.in-Ok-Ok-false.field-0-is, c.in-Ok-Ok-false.field-0-0-test) at c.in-Ok-Ok-false.ensures.does in
+    rename-same-named c.args.self.now s st client c.args.old.now c.args.new.now allowed does.0 c.rename_and_free.new.layers does.1
+
+pub returns-in-Ok-Err-clause-named : goal.returns-in-Ok-Err-clause-named
+returns-in-Ok-Err-clause-named c = λ s st client fine. refused-named c.args.self.now.layers s client (call.Rename c.args.old.now c.args.new.now) c.in-Ok-Err.errno (record c.args.self.now { layers = c.rename_and_free.new.layers; clients = c.cancel_rename-in-Ok-Err.new.self }) refl (returns-in-Ok-Err-clause-serves c s st client) fine
