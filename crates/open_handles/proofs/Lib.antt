@@ -12,3 +12,9 @@ pub mod Holding
 pub mod Exchanging
 pub mod Renaming
 pub mod Numbering
+pub mod TrackedClients
+pub mod TrackedUses
+pub mod TrackedWays
+pub mod Tracking
+pub mod TrackedRenames
+pub mod TrackedLeaving

@@ -8,3 +8,5 @@ pub mod Holding
 pub mod FileHolders
 pub mod Places
 pub mod Numbers
+pub mod TrackedHandles
+pub mod Tracked

@@ -1,5 +1,5 @@
 // The numbers by which watches tell of objects; each stays with its object, wherever that moves.
-ghost use Rattle.std.specs.Prelude.{◌≡◌, ◌≢◌, ℕ, ◌+◌, ◌-◌, ◌<◌, ◌≤◌, ◌↔◌, Some, None, IsSome, IsOk, IfSome, IfNone, OnOk, OnErr};
+ghost use Rattle.std.specs.Prelude.{◌≡◌, ◌≢◌, ℕ, ◌+◌, ◌-◌, ◌<◌, ◌≤◌, ◌↔◌, Some, None, IsTrue, IsSome, IsOk, IfSome, IfNone, OnOk, OnErr};
 ghost use Rattle.std.specs.HashMap.{spare};
 ghost use Rattle.open_handles.specs.declared.numbers.ObjectPlace.{ObjectPlace};
 ghost use Rattle.open_handles.specs.declared.numbers.ObjectPlace.TheVariants.{Nowhere};
@@ -119,41 +119,49 @@ impl NumberedObjects {
         number
     }
 
-    /// Counts one holder more. It fails only where as many hold the object as can be counted, and changes nothing then.
-    pub fn hold(&mut self, number: u64) -> Result<(), AllocError>
+    /// Whether a number is left for one more object.
+    pub fn has_next(&self) -> bool
+        ensures { IsTrue result ↔ self.now.next < NUMBER_MAX }
+    {
+        self.next < u64::MAX
+    }
+
+    /// Counts so many holders more. It fails only where they can't be counted, and changes nothing then.
+    pub fn hold(&mut self, number: u64, count: usize) -> Result<(), AllocError>
         requires { IsSome (place_of self.old number) }
-        ensures ok { OnOk result (SetsNumber self.old self.new number (place_of self.old number) (holders_of self.old number + 1)) }
-        ensures countable { OnOk result (holders_of self.old number < HOLDERS_MAX) }
+        ensures ok { OnOk result (SetsNumber self.old self.new number (place_of self.old number) (holders_of self.old number + count)) }
+        ensures countable { OnOk result (holders_of self.old number + count ≤ HOLDERS_MAX) }
         ensures err { OnErr result (SameNumbers self.old self.new) }
-        ensures succeeds { holders_of self.old number < HOLDERS_MAX → IsOk result }
+        ensures succeeds { holders_of self.old number + count ≤ HOLDERS_MAX → IsOk result }
+        ensures nothing { count ≡ 0 → IsOk result }
         ensures next { self.new.next ≡ self.old.next }
         ensures number_room { number_room self.old ≤ number_room self.new }
         ensures place_room { place_room self.old ≤ place_room self.new }
     {
         if let Some(object) = self.objects.get_mut(&number) {
-            if object.holders == usize::MAX {
+            let Some(holders) = holders_with(object.holders, count) else {
                 return Err(AllocError);
-            }
-            object.holders += 1;
+            };
+            object.holders = holders;
         }
         Ok(())
     }
 
-    /// Counts one holder less. Where that was the last one, the number is forgotten, and the object's place is given back. It takes no
+    /// Counts so many holders less. Where none is left, the number is forgotten, and the object's place is given back. It takes no
     /// memory.
-    pub fn release(&mut self, number: u64) -> Option<ObjectPlace>
-        requires { IsSome (place_of self.old number) }
-        ensures last { holders_of self.old number ≡ 1 → result ≡ place_of self.old number }
-        ensures forgets { holders_of self.old number ≡ 1 → SetsNumber self.old self.new number None 0 }
-        ensures not_last { 1 < holders_of self.old number → result ≡ None }
-        ensures counts { 1 < holders_of self.old number → SetsNumber self.old self.new number (place_of self.old number) (holders_of self.old number - 1) }
+    pub fn release(&mut self, number: u64, count: usize) -> Option<ObjectPlace>
+        requires { count ≤ holders_of self.old number }
+        ensures last { holders_of self.old number ≡ count → result ≡ place_of self.old number }
+        ensures forgets { holders_of self.old number ≡ count → SetsNumber self.old self.new number None 0 }
+        ensures not_last { count < holders_of self.old number → result ≡ None }
+        ensures counts { count < holders_of self.old number → SetsNumber self.old self.new number (place_of self.old number) (holders_of self.old number - count) }
         ensures next { self.new.next ≡ self.old.next }
         ensures number_room { number_room self.old ≤ number_room self.new }
         ensures place_room { place_room self.old ≤ place_room self.new }
     {
         let object = self.objects.get_mut(&number)?;
-        if object.holders > 1 {
-            object.holders -= 1;
+        if object.holders > count {
+            object.holders -= count;
             return None;
         }
         let place = object.place;
@@ -173,6 +181,7 @@ impl NumberedObjects {
         ensures next { self.new.next ≡ self.old.next }
         ensures number_room { number_room self.old ≤ number_room self.new }
         ensures place_room { place_room self.old ≤ place_room self.new + 1 }
+        ensures place_room_kept { place ≡ Nowhere → place_room self.old ≤ place_room self.new }
     {
         if let Some(object) = self.objects.get_mut(&number) {
             let from = object.place;
@@ -180,6 +189,16 @@ impl NumberedObjects {
             relist(&mut self.placed, number, from, place);
         }
     }
+}
+
+// So many holders and so many more; none where they can't be counted.
+fn holders_with(held: usize, count: usize) -> Option<usize>
+    ensures sum { IfSome result (λ sum. sum ≡ held + count) }
+    ensures countable { IfSome result (λ sum. sum ≤ HOLDERS_MAX) }
+    ensures uncountable { IfNone result (HOLDERS_MAX < held + count) }
+    ensures nothing { IfNone result (0 < count) }
+{
+    held.checked_add(count)
 }
 
 // Lists a number at a place in place of another. What is nowhere is not listed.
@@ -192,6 +211,7 @@ fn relist(
     requires { to ≢ Nowhere → 0 < spare placed.old }
     ensures relists { Relists placed.old placed.new number from to }
     ensures room { spare placed.old ≤ spare placed.new + 1 }
+    ensures room_kept { to ≡ Nowhere → spare placed.old ≤ spare placed.new }
 {
     let _ = placed.swap_remove(&from);
     if to != ObjectPlace::Nowhere {

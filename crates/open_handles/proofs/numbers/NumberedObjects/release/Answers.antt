@@ -4,8 +4,8 @@ use Rattle.std.specs.Option.{option_copied_mut}
 use Rattle.open_handles.proofs.Numbering.{recounted, forgotten}
 use Rattle.open_handles.proofs.numbers.NumberedObjects.release.Goals as goal
 
-pub invariant_of-self-then-object-gt1 : goal.invariant_of-self-then-object-gt1
-invariant_of-self-then-object-gt1 c =
+pub invariant_of-self-then-object-count : goal.invariant_of-self-then-object-count
+invariant_of-self-then-object-count c =
     let object = c.in_ok-object.object.now in
     let at : get nat_eq c.self.inside.objects c.args.number ≡ Some object =
     sym c.get_mut.ensures.value ∙ ap option_copied_mut c.in_ok-object.was in
