@@ -1,0 +1,170 @@
+-- What is told where a file's name or a directory goes, and where what is tracked is then.
+use Rattle.std.proofs.Common.{◌≡◌, ◌≢◌, ℕ, ◌+◌, true, List, ◌++◌, None, Some, refl, sym, ap, subst, subst₂, ◌∙◌, inl, inr, is_some}
+use Rattle.std.proofs.lemmas.Bool.{cases_Bool, false≢true}
+use Rattle.ov_base.specs.declared.call.Call.{Call}
+use Rattle.ov_base.specs.declared.call.Call.TheVariants.{Unlink, Rmdir}
+use Rattle.ov_base.specs.declared.node_id.NodeId.{NodeId}
+use Rattle.plain_model.specs.Layers.{Path, Layer, same_path}
+use Rattle.plain_model.specs.Tree.{Tree, node_at}
+use Rattle.plain_model.specs.Watching.{ATTRIB, DELETE, ISDIR, Rule, Subject}
+use Rattle.plain_model.specs.Machine.{State, handle_of}
+use Rattle.plain_model.specs.Changes.{way_of, after, tree_after, tables_after, instances_after}
+use Rattle.plain_model.specs.Settling as settling
+use Rattle.plain_model.specs.Subjects as told
+use Rattle.plain_model.specs.Subjects.{subjects}
+use Rattle.plain_model.proofs.Paths.{paths_tell}
+use Rattle.mount_laws.specs.Looks.{IsHidden}
+use Rattle.mount_laws.specs.Nodes.{touched_by, loses, names_lost}
+use Rattle.mount_laws.specs.Paths.{LeadsNoMore}
+use Rattle.mount_laws.proofs.Gone.{law_of_gone}
+use Rattle.mount_laws.proofs.Leading.{law_of_paths}
+use Rattle.mount_laws.proofs.OnePath.{law_of_one_path}
+use Rattle.open_handles.specs.Tracked.{Spot, At, Upper, Nowhere, spot_of}
+use Rattle.open_handles.specs.TrackedHandles.{clients_of, tracked_by}
+use Rattle.notice_laws.specs.declared.object.Object.{Object}
+use Rattle.notice_laws.specs.declared.object.Object.TheVariants as object
+use Rattle.notice_laws.specs.Notified.{Notified, AreKnown, IsAt, IsSlotOn, Tracks, Passes}
+use Rattle.notice_laws.specs.Objects.{IsObject, LawOfNumbers, LawOfWayNumbers}
+use Rattle.notice_laws.specs.Telling.{of_number, in_way, of_end, TellAlike, LawOfTold, Follows, LawOfTelling}
+use Rattle.notice_laws.specs.Steps.{is_last_name, IsSpotOf, Loses, LawOfUnlinked, LawOfRemoved}
+use Rattle.notice_laws.specs.Places.{LawOfAlone, LawOfNowhere, LawOfLost, LawOfLastName, LawOfKnownSlots, LawOfHeldObjects}
+use Rattle.notice_laws.proofs.NamesLost.{AreTold, HasOtherPath, spot-something, other-path, spot-node, loser-end}
+use Rattle.notice_laws.proofs.ShownParents.{unlink-shown, rmdir-shown, rmdir-directory}
+
+-- the path p, where o stood, leads nowhere after a call, and that alone became of paths
+module _ (law_of_numbers : LawOfNumbers) (law_of_alone : LawOfAlone) (law_of_nowhere : LawOfNowhere) (law_of_lost : LawOfLost) (law_of_last_name : LawOfLastName) (U V : Layer) (lowers : List Layer) (s : State) (c : ℕ) (call : Call) (passes : Passes U V lowers s c call) (p : Path) (o : Object) (is : IsObject U lowers p o) (leads : LeadsNoMore s.tree (tree_after s c call) p) where
+  -- a node that had no other path is hidden then
+  hidden : (d : NodeId) → ((q : Path) → node_at s.tree q ≡ Some d → q ≡ p) → IsHidden (tree_after s c call) d
+  hidden d alone q here = elim (cases_Bool (same_path q p)) [
+    | inl y ↦ (let z : None ≡ Some d = sym leads.gone ∙ ap (node_at (tree_after s c call)) (sym ((paths_tell q p).0 y)) ∙ here in cc)
+    | inr n ↦ (let other : q ≢ p = λ e. false≢true (sym n ∙ (paths_tell q p).1 e) in other (alone q (sym (leads.others q other) ∙ here)))
+  ]
+
+  module _ (old : Notified) (k : Tracks U s old) (loser : loses s c call ≡ node_at s.tree p) (one : names_lost call ≡ 1) (n : ℕ) (was : Spot) (there : spot_of old.objects n ≡ Some was) where
+    -- the node whose last name goes is nowhere
+    lost-place : is_last_name o ≡ true → IsSpotOf p o was → IsAt V (tree_after s c call) Nowhere (k.bearers n)
+    lost-place last spot =
+        let at = spot-node law_of_numbers U lowers s passes.before old k p o is n was spot there in
+        let names = (law_of_last_name U lowers s passes.before passes.one p o (k.bearers n) (spot-something p o was spot) is at).one last in
+        law_of_lost U V lowers s c call passes (k.bearers n) (loser ∙ at) one names.0 (hidden (k.bearers n) names.1)
+
+    -- and each other is where it was
+    kept-place : touched_by s call ≡ None → HasOtherPath s.tree p was (k.bearers n) → IsAt U s.tree was (k.bearers n) → IsAt V (tree_after s c call) was (k.bearers n)
+    kept-place touched = by was
+      where
+        by : (was : Spot) → HasOtherPath s.tree p was (k.bearers n) → IsAt U s.tree was (k.bearers n) → IsAt V (tree_after s c call) was (k.bearers n)
+        by (At q) other here =
+            law_of_alone U V lowers s c call passes (k.bearers n) q q here.0 here.1
+            (λ low same. let z : None ≡ Some (k.bearers n) = sym touched ∙ same in cc) (leads.others q other ∙ here.0)
+        by (Upper key) other here =
+            let now = leads.others other.0 other.1 ∙ other.2 in
+            (passes.named (k.bearers n) key other.0 here.0 now, other.0, now)
+        by Nowhere other here = law_of_nowhere U V lowers s c call passes (k.bearers n) here (λ i. k.borne.given n i (ap is_some there))
+
+    pub dropped-place : touched_by s call ≡ None → (spot : Spot) → Loses p o was spot → IsAt V (tree_after s c call) spot (k.bearers n)
+    dropped-place touched spot (inl lost) = subst (λ x. IsAt V (tree_after s c call) x (k.bearers n)) (sym lost.2) (lost-place lost.0 lost.1)
+    dropped-place touched spot (inr kept) =
+        let here = k.borne.places n was there in
+        subst (λ x. IsAt V (tree_after s c call) x (k.bearers n)) (sym kept.1)
+        (kept-place touched (other-path law_of_last_name U lowers s passes.before passes.one p o is was kept.0 (k.bearers n) here) here)
+
+-- What is left to show where a name of o at p goes: that it is told alike.
+module _ (law_of_numbers : LawOfNumbers) (law_of_alone : LawOfAlone) (law_of_nowhere : LawOfNowhere) (law_of_lost : LawOfLost) (law_of_last_name : LawOfLastName) (law_of_known_slots : LawOfKnownSlots) (U V : Layer) (lowers : List Layer) (s : State) (c : ℕ) (call : Call) (passes : Passes U V lowers s c call) (p : Path) (o : Object) (is : IsObject U lowers p o) (leads : LeadsNoMore s.tree (tree_after s c call) p) where
+  -- a call that takes p's name, and does no more
+  record Drops : Type 0 where
+    pub loser : loses s c call ≡ node_at s.tree p
+    pub one : names_lost call ≡ 1
+    pub touched : touched_by s call ≡ None
+    pub tables : tables_after s c call ≡ s.tables
+    pub instances : instances_after s c call ≡ s.instances
+    pub renames : (after s c call).renames ≡ s.renames
+
+  dropped-follows :
+      Drops → (old new : Notified) → (k : Tracks U s old) → AreKnown new → new.handles ≡ old.handles → new.renames ≡ old.renames →
+      (ss : List Subject) → AreTold U s old k ss (subjects s c call) →
+      Follows V s c call old new k.bearers ss (Loses p o)
+  dropped-follows drops old new k known handles renames ss alike = record {
+    told = alike;
+    places = λ n was spot there loses here.
+        dropped-place law_of_numbers law_of_alone law_of_nowhere law_of_lost law_of_last_name U V lowers s c call passes p o is leads
+        old k drops.loser drops.one n was there drops.touched spot loses;
+    slots = λ i fd. law_of_known_slots old new k.bearers known i fd (handle_of (tables_after s c call) i fd)
+        (subst₂ (λ ks ts. IsSlotOn old.objects k.bearers (tracked_by ks i fd) (handle_of ts i fd)) (sym handles) (sym drops.tables) (k.slots i fd));
+    clients = ap clients_of handles ∙ k.clients ∙ ap settling.clients_of (sym drops.tables);
+    instances = drops.instances;
+    renames = renames ∙ k.renames ∙ sym drops.renames;
+  }
+
+-- a file's name goes
+pub law_of_unlinked :
+    (shows : Rule) → LawOfNumbers → LawOfWayNumbers → LawOfTold → LawOfTelling shows → LawOfAlone → LawOfNowhere → LawOfLost →
+    LawOfLastName → LawOfKnownSlots → LawOfHeldObjects → LawOfUnlinked shows
+law_of_unlinked shows law_of_numbers law_of_way_numbers law_of_told law_of_telling law_of_alone law_of_nowhere law_of_lost law_of_last_name law_of_known_slots law_of_held_objects U V lowers s c p passes o is old new k known step =
+    law_of_telling U V lowers s c (Unlink p) passes old new k known
+    (in_way step.way DELETE 0 ++ of_number step.number ATTRIB ++ of_end step.ended) (Loses p o) step.tells
+    (dropped-follows law_of_numbers law_of_alone law_of_nowhere law_of_lost law_of_last_name law_of_known_slots U V lowers s c (Unlink p) passes p o is
+    (law_of_paths s c (Unlink p) passes.before.kept (law_of_one_path U lowers s passes.before).directories passes.allowed)
+    (record { loser = refl; one = refl; touched = refl; tables = refl; instances = refl; renames = refl })
+    old new k known step.handles step.renames (in_way step.way DELETE 0 ++ of_number step.number ATTRIB ++ of_end step.ended)
+    (tell.parts (in_way step.way DELETE 0 ++ of_number step.number ATTRIB) (of_end step.ended)
+    (told.by_way (way_of s.tree p) DELETE 0 ++ told.of_node (node_at s.tree p) ATTRIB) (told.gone u (node_at s.tree p))
+    (tell.parts (in_way step.way DELETE 0) (of_number step.number ATTRIB) (told.by_way (way_of s.tree p) DELETE 0)
+    (told.of_node (node_at s.tree p) ATTRIB) way node)
+    end))
+  where
+    u : Tree
+    u = tree_after s c (Unlink p)
+
+    tell : TellAlike old.objects k.bearers old.instances s.instances
+    tell = law_of_told U s old.objects k.bearers old.instances s.instances k.borne k.heard
+
+    way : AreTold U s old k (in_way step.way DELETE 0) (told.by_way (way_of s.tree p) DELETE 0)
+    way =
+        tell.way step.way (way_of s.tree p) DELETE 0
+        (law_of_way_numbers U lowers s passes.before old.objects k.bearers k.borne p step.way
+        (unlink-shown U lowers s passes.before c p passes.allowed) step.entered)
+
+    node : AreTold U s old k (of_number step.number ATTRIB) (told.of_node (node_at s.tree p) ATTRIB)
+    node =
+        tell.node step.number (node_at s.tree p) ATTRIB
+        (law_of_numbers U lowers s passes.before old.objects k.bearers k.borne p o step.number is step.found)
+
+    end : AreTold U s old k (of_end step.ended) (told.gone u (node_at s.tree p))
+    end =
+        loser-end law_of_numbers law_of_told law_of_last_name law_of_held_objects U lowers s passes.before passes.one passes.apart old k p o is
+        step.number step.ended step.found step.ends u s.tables (law_of_gone s c (Unlink p)) (λ x. refl)
+
+-- a directory goes
+pub law_of_removed :
+    (shows : Rule) → LawOfNumbers → LawOfWayNumbers → LawOfTold → LawOfTelling shows → LawOfAlone → LawOfNowhere → LawOfLost →
+    LawOfLastName → LawOfKnownSlots → LawOfHeldObjects → LawOfRemoved shows
+law_of_removed shows law_of_numbers law_of_way_numbers law_of_told law_of_telling law_of_alone law_of_nowhere law_of_lost law_of_last_name law_of_known_slots law_of_held_objects U V lowers s c p passes old new k known step =
+    law_of_telling U V lowers s c (Rmdir p) passes old new k known
+    (in_way step.way (DELETE + ISDIR) 0 ++ of_end step.ended) (Loses p object.Directory) step.tells
+    (dropped-follows law_of_numbers law_of_alone law_of_nowhere law_of_lost law_of_last_name law_of_known_slots U V lowers s c (Rmdir p) passes p
+    object.Directory is
+    (law_of_paths s c (Rmdir p) passes.before.kept (law_of_one_path U lowers s passes.before).directories passes.allowed)
+    (record { loser = refl; one = refl; touched = refl; tables = refl; instances = refl; renames = refl })
+    old new k known step.handles step.renames (in_way step.way (DELETE + ISDIR) 0 ++ of_end step.ended)
+    (tell.parts (in_way step.way (DELETE + ISDIR) 0) (of_end step.ended) (told.by_way (way_of s.tree p) (DELETE + ISDIR) 0)
+    (told.gone u (node_at s.tree p)) way end))
+  where
+    u : Tree
+    u = tree_after s c (Rmdir p)
+
+    is : IsObject U lowers p object.Directory
+    is = rmdir-directory U lowers s passes.before c p passes.allowed
+
+    tell : TellAlike old.objects k.bearers old.instances s.instances
+    tell = law_of_told U s old.objects k.bearers old.instances s.instances k.borne k.heard
+
+    way : AreTold U s old k (in_way step.way (DELETE + ISDIR) 0) (told.by_way (way_of s.tree p) (DELETE + ISDIR) 0)
+    way =
+        tell.way step.way (way_of s.tree p) (DELETE + ISDIR) 0
+        (law_of_way_numbers U lowers s passes.before old.objects k.bearers k.borne p step.way
+        (rmdir-shown U lowers s passes.before c p passes.allowed) step.entered)
+
+    end : AreTold U s old k (of_end step.ended) (told.gone u (node_at s.tree p))
+    end =
+        loser-end law_of_numbers law_of_told law_of_last_name law_of_held_objects U lowers s passes.before passes.one passes.apart old k p
+        object.Directory is step.number step.ended step.found step.ends u s.tables (law_of_gone s c (Rmdir p)) (λ x. refl)

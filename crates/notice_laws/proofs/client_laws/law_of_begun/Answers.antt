@@ -1,0 +1,5 @@
+use Rattle.notice_laws.proofs.Clients.{law_of_begun}
+use Rattle.notice_laws.proofs.client_laws.law_of_begun.Goals as goal
+
+pub returns : goal.returns
+returns c = law_of_begun

@@ -1,0 +1,5 @@
+use Rattle.notice_laws.proofs.Fewer.{law_of_fewer_numbers}
+use Rattle.notice_laws.proofs.open_laws.law_of_fewer_numbers.Goals as goal
+
+pub returns : goal.returns
+returns c = law_of_fewer_numbers

@@ -1,0 +1,5 @@
+use Rattle.notice_laws.proofs.Slots.{law_of_same_handles}
+use Rattle.notice_laws.proofs.place_laws.law_of_same_handles.Goals as goal
+
+pub returns : goal.returns
+returns c = law_of_same_handles
