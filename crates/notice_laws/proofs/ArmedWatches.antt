@@ -11,11 +11,13 @@ use Rattle.plain_model.specs.Changes.{armed_on, at_client, after}
 use Rattle.plain_model.specs.Alike.{AreAllAlike, TellsAlike}
 use Rattle.open_handles.specs.TrackedHandles.{clients_of}
 use Rattle.notice_laws.specs.Notified.{Notified, stands_for, Tracks}
-use Rattle.notice_laws.specs.Objects.{Means, LawOfNumbers}
-use Rattle.notice_laws.specs.Telling.{LawOfTelling, Stays}
-use Rattle.notice_laws.specs.Places.{LawOfKnownSlots}
+use Rattle.notice_laws.specs.Objects.{Means}
+use Rattle.notice_laws.specs.Telling.{Stays}
 use Rattle.notice_laws.specs.Clients.{LawOfArmed, LawOfDisarmed, LawOfTaken}
 use Rattle.notice_laws.proofs.FewerObjects.{at-still, fewer-borne, tracks-alike, kept-slots, known-tracks}
+use Rattle.notice_laws.proofs.Numbers.{law_of_numbers}
+use Rattle.notice_laws.proofs.Told.{law_of_telling}
+use Rattle.notice_laws.proofs.Slots.{law_of_known_slots}
 
 -- where nothing is told, nothing is heard
 hears-nothing : (shows : Rule) (es : List Instance) → AllHear shows [] es es
@@ -53,12 +55,12 @@ armed-alike U s k t c slot mask number (Some d) h =
     ((tracks-alike U s k t).changes c).arms (New number) d slot mask (number, refl, h.0, h.1)
 
 -- a slot is armed
-pub law_of_armed : LawOfNumbers → LawOfKnownSlots → (shows : Rule) → LawOfArmed shows
-law_of_armed law_of_numbers law_of_known_slots shows U V lowers s c slot mask p passes o object old new k known armed = record {
+pub law_of_armed : (shows : Rule) → LawOfArmed shows
+law_of_armed shows U V lowers s c slot mask p passes o object old new k known armed = record {
   heard = (after s c (Arm slot p mask)).instances;
   hears = hears-nothing shows (after s c (Arm slot p mask)).instances;
   tracks =
-      known-tracks law_of_known_slots V (after s c (Arm slot p mask)) old new k.bearers known
+      known-tracks V (after s c (Arm slot p mask)) old new k.bearers known
       (fewer-borne U V s.tree s.serial old.objects new.objects k.bearers passes.named armed.objects k.borne)
       (ap clients_of armed.handles ∙ k.clients)
       (kept-slots U s old new k armed.handles)
@@ -69,9 +71,9 @@ law_of_armed law_of_numbers law_of_known_slots shows U V lowers s c slot mask p 
 }
 
 -- a watch is taken away
-pub law_of_disarmed : (shows : Rule) → LawOfTelling shows → LawOfKnownSlots → LawOfDisarmed shows
-law_of_disarmed shows law_of_telling law_of_known_slots U V lowers s c number passes old new k known disarmed =
-    law_of_telling U V lowers s c (Disarm number) passes old new k known (ending ∷ []) Stays disarmed.tells (record {
+pub law_of_disarmed : (shows : Rule) → LawOfDisarmed shows
+law_of_disarmed shows U V lowers s c number passes old new k known disarmed =
+    law_of_telling shows U V lowers s c (Disarm number) passes old new k known (ending ∷ []) Stays disarmed.tells (record {
       told = alike.pair ending ending [] [] (record { aim = (refl, refl); bits = refl; cookie = refl; name = refl }) alike.none;
       places = λ n was spot is stays now.
           at-still U V s.tree passes.named spot (k.bearers n) (k.borne.places n spot (is ∙ ap (λ x. Some x) (sym stays)));

@@ -11,7 +11,6 @@ use Rattle.open_handles.specs.declared.tracked_client.TrackedHandle.{TrackedHand
 use Rattle.open_handles.specs.Tracked.{Tracked}
 use Rattle.open_handles.specs.TrackedHandles.{clients_of, tracked_by}
 use Rattle.notice_laws.specs.Notified.{Bearers, IsSlotOn, stands_for}
-use Rattle.notice_laws.specs.Places.{LawOfKnownSlots}
 use Rattle.notice_laws.specs.Clients.{LawOfBegun, LawOfJoined, LawOfMuted, LawOfDeparted, LawOfAsked}
 use Rattle.notice_laws.proofs.ClientHandles.{joined-handle, left-handle}
 use Rattle.notice_laws.proofs.FewerObjects.{fewer-borne, tracks-alike, kept-slots, known-tracks}
@@ -36,9 +35,9 @@ pub law_of_asked : LawOfAsked
 law_of_asked U s k t c = (tracks-alike U s k t).answers c
 
 -- a client comes
-pub law_of_joined : LawOfKnownSlots → LawOfJoined
-law_of_joined law_of_known_slots U s tags old new k known joins =
-    known-tracks law_of_known_slots U (joined s tags) old new k.bearers known
+pub law_of_joined : LawOfJoined
+law_of_joined U s tags old new k known joins =
+    known-tracks U (joined s tags) old new k.bearers known
     (fewer-borne U U s.tree s.serial old.objects new.objects k.bearers (λ d key q live at. live) joins.objects k.borne)
     (joins.clients ∙ ap (λ cs. cs ++ s.arrived ∷ []) k.clients
     ∙ sym (map-append (λ (x : Table). x.client) s.tables (free_table s.arrived ∷ [])))
@@ -48,9 +47,9 @@ law_of_joined law_of_known_slots U s tags old new k known joins =
     (joins.renames ∙ k.renames)
 
 -- a client's watches go
-pub law_of_muted : LawOfKnownSlots → LawOfMuted
-law_of_muted law_of_known_slots U s c old new k known mutes =
-    known-tracks law_of_known_slots U (without_instance s c) old new k.bearers known
+pub law_of_muted : LawOfMuted
+law_of_muted U s c old new k known mutes =
+    known-tracks U (without_instance s c) old new k.bearers known
     (fewer-borne U U s.tree s.serial old.objects new.objects k.bearers (λ d key q live at. live) mutes.objects k.borne)
     (ap clients_of mutes.handles ∙ k.clients)
     (kept-slots U s old new k mutes.handles)
@@ -66,9 +65,9 @@ bare-slot objects bearers None (Some g) h free = absurd h
 bare-slot objects bearers (Some x) g h free = cc
 
 -- and then its descriptors
-pub law_of_departed : LawOfKnownSlots → LawOfDeparted
-law_of_departed law_of_known_slots U s c old new k known departs =
-    known-tracks law_of_known_slots U (without_table s c) old new k.bearers known
+pub law_of_departed : LawOfDeparted
+law_of_departed U s c old new k known departs =
+    known-tracks U (without_table s c) old new k.bearers known
     (fewer-borne U U s.tree s.serial old.objects new.objects k.bearers (λ d key q live at. live) departs.objects k.borne)
     (departs.clients ∙ ap (λ cs. filter (λ b. not (nat_eq b c)) cs) k.clients ∙ sym (filter-map (λ (x : Table). x.client) c s.tables))
     (λ b fd. subst₂ (IsSlotOn old.objects k.bearers) (sym (departs.slots b fd)) (sym (left-handle s.tables c free b fd)) (k.slots b fd))

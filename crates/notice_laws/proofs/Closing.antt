@@ -1,16 +1,14 @@
--- Where objects that stay are after a call, descriptors that are set on both sides, and what a close tells by numbers, as the machine's.
+-- Descriptors that are set on both sides, and what a close tells by numbers, as the machine does.
 use Rattle.std.proofs.Common.{◌≡◌, ◌≢◌, ◌↔◌, ℕ, ◌<◌, Bool, true, false, not, cond, ◌&&◌, List, [], ◌++◌, Option, None, Some, refl, sym, ap, ap₂, subst, ◌∙◌, ◌⊎◌, inl, inr, nat_eq, length, is_none}
 use Rattle.std.specs.Prelude.{slice_get, nat_lt}
 use Rattle.std.specs.Option.{IsSome, is_some}
 use Rattle.std.specs.List.{IsDistinct}
 use Rattle.std.proofs.lemmas.Option.{slice_get_within}
 use Rattle.std.proofs.lemmas.Bool.{cases_Bool, both_ways, eqb-true, eq-eqb}
-use Rattle.ov_base.specs.declared.call.Call.{Call}
 use Rattle.ov_base.specs.declared.call.Call.TheVariants.{Close}
 use Rattle.ov_base.specs.declared.node_id.NodeId.{NodeId}
-use Rattle.ov_base.specs.declared.node_id.NodeId.TheVariants.{New}
-use Rattle.plain_model.specs.Layers.{Name, Path, Layer}
-use Rattle.plain_model.specs.Tree.{node_at, count_of, is_untouched}
+use Rattle.plain_model.specs.Layers.{Path, Layer}
+use Rattle.plain_model.specs.Tree.{node_at, count_of}
 use Rattle.plain_model.specs.Watching.{DELETE_SELF, IGNORED, Rule}
 use Rattle.plain_model.specs.Machine.{Handle, Table, State, handles_of, held_in, handle_of}
 use Rattle.plain_model.specs.Changes.{is_held, with_handle, tree_after, after, node_of_handle}
@@ -19,36 +17,22 @@ use Rattle.plain_model.specs.Subjects.{subjects}
 use Rattle.plain_model.specs.Alike.{AreToldAlike}
 use Rattle.plain_model.proofs.Kept.{at-path}
 use Rattle.plain_model.proofs.Lasting.{named-count, some-named}
-use Rattle.mount_laws.specs.Nodes.{touched_by}
 use Rattle.mount_laws.proofs.Handling.{law_of_set_handle}
 use Rattle.mount_laws.proofs.Gone.{law_of_gone}
 use Rattle.mount_laws.proofs.Leading.{law_of_paths}
 use Rattle.mount_laws.proofs.OnePath.{law_of_one_path}
 use Rattle.open_handles.specs.declared.tracked_client.TrackedHandle.{TrackedHandle}
-use Rattle.open_handles.specs.declared.tracked_client.Way.{Way}
 use Rattle.open_handles.specs.Tracked.{Tracked, Spot, At, Upper, Nowhere, spot_of}
 use Rattle.open_handles.specs.TrackedHandles.{TrackedTables, IsOn, SetsTracked, tracked_by}
-use Rattle.notice_laws.specs.Notified.{Notified, Bearers, IsAt, IsWay, IsSlotOn, Tracks, Passes, stands_for}
+use Rattle.notice_laws.specs.Notified.{Notified, Bearers, IsAt, IsSlotOn, Tracks, Passes, stands_for}
 use Rattle.notice_laws.specs.Objects.{Means, MeansWay}
-use Rattle.notice_laws.specs.Telling.{TellAlike, LawOfTold, LawOfTelling, Stays, of_number, in_way, of_both, of_end}
+use Rattle.notice_laws.specs.Telling.{TellAlike, Stays, of_number, in_way, of_both, of_end}
 use Rattle.notice_laws.specs.Steps.{LawOfClosed, IsClosedEnd, closing_bits}
-use Rattle.notice_laws.specs.Places.{LawOfAlone, LawOfNowhere}
 use Rattle.notice_laws.proofs.Slots.{with-clients, open-tracked, held-on, law_of_known_slots, law_of_held_objects}
-use Rattle.notice_laws.proofs.Fewer.{some-spot}
-
--- where a tracked object is it stays where each path that leads to its node leads there still, unless it is a lower layer's and touched
-pub spot-stays :
-    LawOfAlone → LawOfNowhere →
-    (U V : Layer) (lowers : List Layer) (s : State) (c : ℕ) (call : Call) → Passes U V lowers s c call →
-    (d : NodeId) → ((i : ℕ) → d ≡ New i → i < s.serial) →
-    ((q : Path) → node_at s.tree q ≡ Some d → node_at (after s c call).tree q ≡ Some d) →
-    (spot : Spot) → ((p : Path) → spot ≡ At p → is_untouched (s.tree d) ≡ true → touched_by s call ≢ Some d) →
-    IsAt U s.tree spot d → IsAt V (after s c call).tree spot d
-spot-stays alone nowhere U V lowers s c call pass d given leads (At p) apart at =
-    alone U V lowers s c call pass d p p at.0 at.1 (apart p refl) (leads p at.0)
-spot-stays alone nowhere U V lowers s c call pass d given leads (Upper key) apart at =
-    (pass.named d key at.1 at.0 (leads at.1 at.2), at.1, leads at.1 at.2)
-spot-stays alone nowhere U V lowers s c call pass d given leads Nowhere apart at = nowhere U V lowers s c call pass d at given
+use Rattle.notice_laws.proofs.Numbers.{some-is}
+use Rattle.notice_laws.proofs.Resuming.{stays-at}
+use Rattle.notice_laws.proofs.Making.{way-means}
+use Rattle.notice_laws.proofs.Told.{law_of_told, law_of_telling}
 
 -- an open descriptor is one of its client's
 open-below : (ks : List Table) (c fd : ℕ) (g : Handle) → handle_of ks c fd ≡ Some g → fd < length (handles_of ks c)
@@ -99,13 +83,7 @@ slot-means objects bearers h (Some g) on = (on.known, on.node)
 pub slot-way : (objects : Tracked) (bearers : Bearers) (h : TrackedHandle) (g : Option Handle) → IsSlotOn objects bearers (Some h) g →
     MeansWay objects bearers h.way (told.way_in g)
 slot-way objects bearers h None on = absurd on
-slot-way objects bearers h (Some g) on = by h.way g.way on.way
-  where
-    by : (v : Option Way) (w : Option (NodeId × Name)) → IsWay objects bearers v w → MeansWay objects bearers v w
-    by None None is = tt
-    by None (Some w) is = absurd is
-    by (Some v) None is = absurd is
-    by (Some v) (Some w) is = is
+slot-way objects bearers h (Some g) on = way-means objects bearers h.way g.way on.way
 
 -- a number means its bearer
 pub means-bearer : (objects : Tracked) (bearers : Bearers) (n : ℕ) (o : Option NodeId) → Means objects bearers (Some n) o →
@@ -163,7 +141,7 @@ module _ (U V : Layer) (lowers : List Layer) (s : State) (c fd : ℕ) (pass : Pa
   -- what is somewhere has a name
   named : spot_of old.objects handle.object ≢ Some Nowhere → nat_lt 0 (count_of (s.tree (t.bearers handle.object))) ≡ true
   named elsewhere =
-      let spot = some-spot (spot_of old.objects handle.object) known in
+      let spot = some-is (spot_of old.objects handle.object) known in
       sym (named-count (s.tree (t.bearers handle.object)))
       ∙ some-named (s.tree (t.bearers handle.object)) (by spot.0 spot.1 (t.borne.places handle.object spot.0 spot.1))
     where
@@ -245,17 +223,18 @@ module _ (U V : Layer) (lowers : List Layer) (s : State) (c fd : ℕ) (pass : Pa
       law_of_paths s c (Close fd) pass.before.kept (law_of_one_path U lowers s pass.before).directories pass.allowed
 
 -- a close is told, and what is kept for watches is the new state's
-pub law_of_closed : LawOfTold → (shows : Rule) → LawOfTelling shows → LawOfAlone → LawOfNowhere → LawOfClosed shows
-law_of_closed tells shows telling alone nowhere U V lowers s c fd pass old new t known closed =
-    telling U V lowers s c (Close fd) pass old new t known
+pub law_of_closed : (shows : Rule) → LawOfClosed shows
+law_of_closed shows U V lowers s c fd pass old new t known closed =
+    law_of_telling shows U V lowers s c (Close fd) pass old new t known
     (of_both closed.handle.way (Some closed.handle.object) (closing_bits s (handle_of s.tables c fd)) ++ of_end closed.ended)
     Stays closed.tells
     (record {
       told = close-told U V lowers s c fd pass old t closed.handle closed.is_open
-          (tells U s old.objects t.bearers old.instances s.instances t.borne t.heard) new.handles closed.sets closed.ended closed.ends;
+          (law_of_told U s old.objects t.bearers old.instances s.instances t.borne t.heard) new.handles
+          closed.sets closed.ended closed.ends;
       places = λ n was spot is same here. subst (λ x. IsAt V (after s c (Close fd)).tree x (t.bearers n)) (sym same)
-          (spot-stays alone nowhere U V lowers s c (Close fd) pass (t.bearers n) (λ i. t.borne.given n i (ap is_some is))
-          (λ q at. close-leads U V lowers s c fd pass old t closed.handle closed.is_open q ∙ at) was (λ p at low touched. cc)
+          (stays-at U V lowers s c (Close fd) pass (t.bearers n) (λ i. t.borne.given n i (ap is_some is))
+          (λ q at. close-leads U V lowers s c fd pass old t closed.handle closed.is_open q ∙ at) was (λ p at here low touched. cc)
           (t.borne.places n was is));
       slots = λ k i. law_of_known_slots old new t.bearers known k i (handle_of (with_handle s.tables c fd None) k i)
           (slots U V lowers s c fd pass old t closed.handle closed.is_open new.handles closed.sets k i);

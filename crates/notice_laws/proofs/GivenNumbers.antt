@@ -15,12 +15,13 @@ use Rattle.open_handles.specs.Tracked.{Tracked, Spot, spot_of, next_of, IsVacant
 use Rattle.notice_laws.specs.declared.object.Object.{Object}
 use Rattle.notice_laws.specs.declared.object.Object.TheVariants as object
 use Rattle.notice_laws.specs.Notified.{Notified, Bearers, IsAt, AreBorne, Tracks}
-use Rattle.notice_laws.specs.Objects.{IsObject, IsNumberOf, Means, LawOfNumbers}
+use Rattle.notice_laws.specs.Objects.{IsObject, IsNumberOf, Means}
 use Rattle.notice_laws.specs.Steps.{IsSpotOf}
 use Rattle.notice_laws.specs.Opens.{LawOfHeldNumber}
-use Rattle.notice_laws.proofs.Fewer.{alike-known}
+use Rattle.notice_laws.proofs.FewerObjects.{alike-known}
 use Rattle.notice_laws.proofs.ObjectNodes.{at-folder, folder-alone, lower-alone}
 use Rattle.notice_laws.proofs.Slots.{AreSameBearers, slot-more}
+use Rattle.notice_laws.proofs.Numbers.{law_of_numbers}
 
 -- the bearers with a node for a number
 abbrev pub with_bearer : Bearers → ℕ → NodeId → Bearers
@@ -128,11 +129,11 @@ module _ (U : Layer) (lowers : List Layer) (s : State) (m : IsMountOf U lowers s
   object-at object.Other spot is file e d at = absurd e
 
   -- and no tracked object's where its spot is vacant
-  object-fresh : LawOfNumbers → (objects : Tracked) (bearers : Bearers) → AreBorne U s.tree s.serial objects bearers →
+  object-fresh : (objects : Tracked) (bearers : Bearers) → AreBorne U s.tree s.serial objects bearers →
       (o : Object) (spot : Spot) → IsObject U lowers p o → IsSpotOf p o spot → IsVacant objects spot →
       (d : NodeId) → node_at s.tree p ≡ Some d → (n : ℕ) → IsSome (spot_of objects n) → bearers n ≢ d
-  object-fresh numbers objects bearers borne o spot is e vacant d at =
-      subst (Means objects bearers None) at (numbers U lowers s m objects bearers borne p o None is (by o e))
+  object-fresh objects bearers borne o spot is e vacant d at =
+      subst (Means objects bearers None) at (law_of_numbers U lowers s m objects bearers borne p o None is (by o e))
     where
       by : (o : Object) → IsSpotOf p o spot → IsNumberOf objects p o None
       by object.Directory e = subst (IsVacant objects) e vacant
@@ -203,8 +204,8 @@ next-unknown objects below = by (spot_of objects (next_of objects)) refl
     by (Some x) is = let past = below (next_of objects) (ap is_some is) in absurd (omega arith)
 
 -- one more may hold what stands at a path, a directory or a file, under its number or under a new one
-pub law_of_held_number : LawOfNumbers → LawOfHeldNumber
-law_of_held_number numbers U lowers s m k t below p o spot is file e objects n holds = by holds.was
+pub law_of_held_number : LawOfHeldNumber
+law_of_held_number U lowers s m k t below p o spot is file e objects n holds = by holds.was
   where
     known : spot_of k.objects n ≡ Some spot → Tracks U s (record k { objects = objects })
     known was = same-spots U s k t objects (λ x. elim (cases_Bool (nat_eq x n)) [
@@ -217,7 +218,7 @@ law_of_held_number numbers U lowers s m k t below p o spot is file e objects n h
         let d = object-node U lowers s m p o spot is e in
         given-spot U s k t objects n spot d.0 (ap (spot_of k.objects) next ∙ next-unknown k.objects below) holds.sets.here
         holds.sets.other_spots (object-at U lowers s m p o spot is file e d.0 d.1) (serial-before s.tree s.serial m.kept p d.0 d.1)
-        (object-fresh U lowers s m p numbers k.objects t.bearers t.borne o spot is e vacant d.0 d.1)
+        (object-fresh U lowers s m p k.objects t.bearers t.borne o spot is e vacant d.0 d.1)
 
     by : ((spot_of k.objects n ≡ Some spot) × (next_of objects ≡ next_of k.objects))
         ⊎ (IsVacant k.objects spot × (n ≡ next_of k.objects) × (next_of objects ≡ next_of k.objects + 1)) →

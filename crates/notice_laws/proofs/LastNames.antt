@@ -7,11 +7,11 @@ use Rattle.ov_base.specs.declared.node_id.NodeId.{NodeId}
 use Rattle.plain_model.specs.Layers.{Path, Named, Inode, Layer, held, below, cuts, Contents, unless, over, shows, is_directory, base, same_path, AreLinks}
 use Rattle.plain_model.specs.Tree.{Node, Branch, Leaf, Own, Untouched, node_at, node_of, face, see, see_inode, merged, is_folder, is_untouched, count_of}
 use Rattle.plain_model.specs.Machine.{State}
-use Rattle.plain_model.proofs.Merged.{seen_dir, see-dir}
 use Rattle.plain_model.proofs.Paths.{paths_tell}
 use Rattle.mount_laws.specs.Looks.{IsMountOf}
 use Rattle.mount_laws.specs.Nodes.{HaveOneName}
 use Rattle.mount_laws.specs.OpenFiles.{IsLive}
+use Rattle.mount_laws.proofs.Opens.{folder-at}
 use Rattle.mount_laws.proofs.OneName.{law_of_one_name}
 use Rattle.mount_laws.proofs.OnePath.{law_of_one_path}
 use Rattle.mount_laws.proofs.OpenFiles.{law_of_live_shown}
@@ -65,12 +65,6 @@ another (x ∷ y ∷ ps) once p a many = elim (cases_Bool (same_path p x)) [
     second : list_any (same_path y) (x ∷ y ∷ ps) ≡ true
     second = later (same_path y x) _ (ap (λ b. b || list_any (same_path y) ps) ((paths_tell y y).1 refl))
 
--- what is seen as a directory is one
-seen-folder : (o : Option Node) → seen_dir (face o) ≡ true → is_folder o ≡ true
-seen-folder None h = h
-seen-folder (Some (Branch a b names c)) h = refl
-seen-folder (Some (Leaf content a u c)) h = h
-
 -- what is seen as a file or link of a lower layer is an untouched one
 seen-untouched : (o : Option Node) (j : ℕ) (i : Inode) → face o ≡ see_inode (suc j) (Some i) → is_untouched o ≡ true
 seen-untouched None j i h = cc
@@ -86,13 +80,12 @@ module _
   looks = ap (λ o. face (node_of s.tree o)) (sym at) ∙ m.shows.sights p
 
   -- it is a directory where one is shown
-  folder-there : is_directory (shows 0 (U ∷ lowers) p) ≡ true → is_folder (s.tree d) ≡ true
-  folder-there shown =
-      seen-folder (s.tree d) (ap seen_dir looks ∙ see-dir (base U lowers p) (shows 0 (U ∷ lowers) p) ∙ shown)
+  pub folder-stands : is_directory (shows 0 (U ∷ lowers) p) ≡ true → is_folder (s.tree d) ≡ true
+  folder-stands shown = ap (λ o. is_folder (node_of s.tree o)) (sym at) ∙ folder-at U lowers s m p ∙ shown
 
   -- it is untouched where a file or link of a lower layer is shown
-  untouched-there : IsLower U lowers p → is_untouched (s.tree d) ≡ true
-  untouched-there o = seen-untouched (s.tree d) o.layer o.inode (looks ∙ ap (see (base U lowers p)) o.shown)
+  pub lower-stands : IsLower U lowers p → is_untouched (s.tree d) ≡ true
+  lower-stands o = seen-untouched (s.tree d) o.layer o.inode (looks ∙ ap (see (base U lowers p)) o.shown)
 
   -- a directory has one name
   folder-names : HaveOneName s.tree → is_folder (s.tree d) ≡ true → HasNames s.tree p object.Directory d
@@ -166,6 +159,6 @@ module _
 pub law_of_last_name : LawOfLastName
 law_of_last_name U lowers s m one p object.Other d not o at = absurd (not refl)
 law_of_last_name U lowers s m one p object.Directory d not o at =
-    folder-names U lowers s m p d at one (folder-there U lowers s m p d at o)
-law_of_last_name U lowers s m one p object.Lower d not o at = untouched-names U lowers s m p d at (untouched-there U lowers s m p d at o)
+    folder-names U lowers s m p d at one (folder-stands U lowers s m p d at o)
+law_of_last_name U lowers s m one p object.Lower d not o at = untouched-names U lowers s m p d at (lower-stands U lowers s m p d at o)
 law_of_last_name U lowers s m one p (object.Upper key last) d not o at = upper-names U lowers s m p d at key last o

@@ -13,7 +13,6 @@ pub mod Resuming
 pub mod Making
 pub mod Lifting
 pub mod Slots
-pub mod Fewer
 pub mod Closing
 pub mod ObjectNodes
 pub mod OpenTold

@@ -1,13 +1,13 @@
--- Changes of attributes and further names are told by numbers as the machine tells them, and a file that was untouched is in the upper then.
-use Rattle.std.proofs.Common.{◌≡◌, ◌≢◌, ℕ, ◌+◌, Bool, true, false, cond, List, ◌∷◌, ◌++◌, Option, None, Some, refl, sym, ap, subst, ◌∙◌, ◌⊎◌, inl, inr, is_some, is_none, nat_lt, length}
+-- Changes of attributes and further names are told by numbers as the machine tells them; a file that was untouched is in the upper then.
+use Rattle.std.proofs.Common.{◌≡◌, ◌≢◌, ℕ, true, List, ◌∷◌, ◌++◌, Option, None, Some, refl, sym, ap, subst, ◌∙◌, ◌⊎◌, inl, inr, is_some, is_none, nat_lt, length}
 use Rattle.std.proofs.lemmas.Bool.{false≢true}
 use Rattle.ov_base.specs.declared.call.Call.{Call}
 use Rattle.ov_base.specs.declared.call.Call.TheVariants.{Chmod, Chown, SetAttribute, DeleteAttribute, Hardlink}
 use Rattle.ov_base.specs.declared.errno.Errno.TheVariants.{EFBIG}
 use Rattle.ov_base.specs.declared.node_id.NodeId.{NodeId}
-use Rattle.plain_model.specs.Layers.{Path, Layer, Shown, Folder, Contents, shows, is_directory, base}
-use Rattle.plain_model.specs.Tree.{Node, Branch, Leaf, Sight, SeenBranch, node_at, node_of, face, see, is_folder, is_untouched}
-use Rattle.plain_model.specs.Watching.{ATTRIB, CREATE, ISDIR, Rule}
+use Rattle.plain_model.specs.Layers.{Path, Layer, Shown, shows, base}
+use Rattle.plain_model.specs.Tree.{node_at, node_of, is_folder, is_untouched}
+use Rattle.plain_model.specs.Watching.{ATTRIB, CREATE, Rule}
 use Rattle.plain_model.specs.Machine.{State, look}
 use Rattle.plain_model.specs.Refusals.{when, there, walked, bad_mode, bad_attribute}
 use Rattle.plain_model.specs.Changes.{way_of, tree_after, after}
@@ -15,10 +15,11 @@ use Rattle.plain_model.specs.Subjects.{marked, by_way, of_node, both, subjects}
 use Rattle.plain_model.specs.Alike.{AreToldAlike}
 use Rattle.plain_model.proofs.Kept.{by-path}
 use Rattle.plain_model.proofs.Looking.{or-first, or-second}
-use Rattle.mount_laws.specs.Looks.{IsMountOf, shows_link}
+use Rattle.mount_laws.specs.Looks.{IsMountOf}
 use Rattle.mount_laws.specs.Nodes.{touched_by}
 use Rattle.mount_laws.specs.Paths.{LeadsSame}
 use Rattle.mount_laws.proofs.Looks.{at-some}
+use Rattle.mount_laws.proofs.Opens.{folder-at}
 use Rattle.mount_laws.proofs.OpenFiles.{law_of_live_shown}
 use Rattle.open_handles.specs.Tracked.{Spot, At, Upper, spot_of}
 use Rattle.notice_laws.specs.declared.object.Object.{Object}
@@ -27,61 +28,21 @@ use Rattle.notice_laws.specs.Notified.{Notified, AreKnown, stands_alone, IsAt, s
 use Rattle.notice_laws.specs.Objects.{IsObject, IsShownIn}
 use Rattle.notice_laws.specs.Telling.{of_number, in_way, of_both, marks}
 use Rattle.notice_laws.specs.Steps.{keeps_handles, Lifts, IsLifted, Altered, LawOfAltered, Linked, LawOfLinked}
-use Rattle.notice_laws.specs.Places.{LawOfAlone, LawOfNowhere, LawOfUpper, LawOfSameHandles, LawOfKnownSlots}
 use Rattle.notice_laws.proofs.Numbers.{looks-as, alone-path, live-apart, link-apart, law_of_numbers, law_of_way_numbers}
-use Rattle.notice_laws.proofs.Resuming.{walked-shown, there-walked, paths-after, also-leads, stays-at, resumes-kept}
+use Rattle.notice_laws.proofs.ShownParents.{walked-shown, there-shown}
+use Rattle.notice_laws.proofs.Resuming.{paths-after, also-leads, stays-at, resumes-kept}
 use Rattle.notice_laws.proofs.Making.{tells-of}
-
--- whether a directory is seen
-abbrev sees_directory : Option Sight → Bool
-sees_directory (Some (SeenBranch a b)) = true
-sees_directory _ = false
-
--- it is where a directory is
-folder-seen : (o : Option Node) → is_folder o ≡ sees_directory (face o)
-folder-seen None = refl
-folder-seen (Some (Branch a b names c)) = refl
-folder-seen (Some (Leaf content a u c)) = refl
-
--- and where one is shown
-directory-seen : (b : Bool) (o : Option Shown) → sees_directory (see b o) ≡ is_directory o
-directory-seen b None = refl
-directory-seen b (Some (Folder i k a)) = refl
-directory-seen b (Some (Contents i k None)) = refl
-directory-seen b (Some (Contents i k (Some inode))) = refl
-
--- what shows nothing, or a link, shows no directory
-no-directory : (o : Option Shown) → (is_none o ≡ true) ⊎ (shows_link o ≡ true) → is_directory o ≡ false
-no-directory None h = refl
-no-directory (Some (Contents i k inode)) h = refl
-no-directory (Some (Folder i k a)) (inl h) = absurd (false≢true h)
-no-directory (Some (Folder i k a)) (inr h) = absurd (false≢true h)
+use Rattle.notice_laws.proofs.ObjectNodes.{folder-touched, marks-alike}
+use Rattle.notice_laws.proofs.LastNames.{law_of_upper}
 
 module _ (U : Layer) (lowers : List Layer) (s : State) (m : IsMountOf U lowers s) (p : Path) where
-  -- a path leads to a directory where one is shown
-  pub folder-shown : is_folder (node_of s.tree (node_at s.tree p)) ≡ is_directory (shows 0 (U ∷ lowers) p)
-  folder-shown =
-      folder-seen (node_of s.tree (node_at s.tree p)) ∙ ap sees_directory (m.shows.sights p)
-      ∙ directory-seen (base U lowers p) (shows 0 (U ∷ lowers) p)
-
-  -- bits are marked alike by what stands at a path
-  pub marks-alike : (o : Object) (bits : ℕ) → IsObject U lowers p o → marks o bits ≡ marked (node_of s.tree (node_at s.tree p)) bits
-  marks-alike object.Directory bits h = sym (ap (λ b. cond b (bits + ISDIR) bits) (folder-shown ∙ h))
-  marks-alike object.Lower bits h = sym (ap (λ b. cond b (bits + ISDIR) bits) (folder-shown ∙ ap is_directory h.shown))
-  marks-alike (object.Upper key last) bits h = sym (ap (λ b. cond b (bits + ISDIR) bits) (folder-shown ∙ ap is_directory h.shown))
-  marks-alike object.Other bits h =
-      sym (ap (λ b. cond b (bits + ISDIR) bits) (folder-shown ∙ no-directory (shows 0 (U ∷ lowers) p) h))
-
   -- an untouched file that stands alone is shown as one of a lower layer
   pub untouched-lower : (o : Object) (d : NodeId) → IsObject U lowers p o → node_at s.tree p ≡ Some d → is_untouched (s.tree d) ≡ true →
       stands_alone (s.tree d) ≡ true → o ≡ object.Lower
   untouched-lower object.Lower d h at low alone = refl
-  untouched-lower object.Directory d h at low alone = absurd (apart (s.tree d) low (ap (λ o. is_folder (node_of s.tree o)) (sym at) ∙ folder-shown ∙ h))
-    where
-      apart : (o : Option Node) → is_untouched o ≡ true → is_folder o ≡ true → ⊥
-      apart None low folder = false≢true low
-      apart (Some (Branch a b names c)) low folder = false≢true low
-      apart (Some (Leaf content a u c)) low folder = false≢true folder
+  untouched-lower object.Directory d h at low alone =
+      let folder = ap (λ o. is_folder (node_of s.tree o)) (sym at) ∙ folder-at U lowers s m p ∙ h in
+      absurd (false≢true (sym (folder-touched (s.tree d) folder) ∙ low))
   untouched-lower (object.Upper key last) d h at low alone =
       absurd (live-apart U lowers s m d key (law_of_live_shown U lowers s m p key h.inode h.bytes d h.shown h.file at) alone)
   untouched-lower object.Other d (inl none) at low alone = absurd (bare (shows 0 (U ∷ lowers) p) none shown)
@@ -104,7 +65,7 @@ lifts-to p object.Directory key was spot h = inr (λ e. absurd (let z : object.D
 lifts-to p (object.Upper k last) key was spot h = inr (λ e. absurd (let z : object.Upper k last ≡ object.Lower = e in cc), h)
 lifts-to p object.Other key was spot h = inr (λ e. absurd (let z : object.Other ≡ object.Lower = e in cc), h)
 
-module _ (alone : LawOfAlone) (nowhere : LawOfNowhere) (upper : LawOfUpper) (U V : Layer) (lowers : List Layer) (s : State) (c : ℕ) (call : Call)
+module _ (U V : Layer) (lowers : List Layer) (s : State) (c : ℕ) (call : Call)
     (passes : Passes U V lowers s c call) (p : Path) (touches : touched_by s call ≡ node_at s.tree p)
     (leads : (d : NodeId) (q : Path) → node_at s.tree q ≡ Some d → node_at (after s c call).tree q ≡ Some d)
     (o : Object) (key : ℕ) (is : IsObject U lowers p o) where
@@ -117,11 +78,11 @@ module _ (alone : LawOfAlone) (nowhere : LawOfNowhere) (upper : LawOfUpper) (U V
         (let here = e ∙ ap Some up.1 in
         let shown = subst (λ x. IsLifted old.objects V lowers p x key) up.0 lifted n here in
         subst (λ x. IsAt V (after s c call).tree x (k.bearers n)) (sym up.2)
-        (upper V lowers (after s c call) passes.now p key shown.0 (k.bearers n) shown.1
+        (law_of_upper V lowers (after s c call) passes.now p key shown.0 (k.bearers n) shown.1
         (leads (k.bearers n) p (k.borne.places n (At p) here).0)))
     | inr stays ↦
         subst (λ x. IsAt V (after s c call).tree x (k.bearers n)) (sym stays.1)
-        (stays-at alone nowhere U V lowers s c call passes (k.bearers n) (λ i. k.borne.given n i (ap is_some e)) (leads (k.bearers n)) was
+        (stays-at U V lowers s c call passes (k.bearers n) (λ i. k.borne.given n i (ap is_some e)) (leads (k.bearers n)) was
         (λ q at here low touched.
         let there = sym touches ∙ touched in
         stays.0 (untouched-lower U lowers s passes.before p o (k.bearers n) is there low here.1)
@@ -130,25 +91,24 @@ module _ (alone : LawOfAlone) (nowhere : LawOfNowhere) (upper : LawOfUpper) (U V
   ]
 
 -- a change of attributes is told by numbers
-module _ (alone : LawOfAlone) (nowhere : LawOfNowhere) (same : LawOfSameHandles) (slots : LawOfKnownSlots) (upper : LawOfUpper) (shows : Rule)
-    (U V : Layer) (lowers : List Layer) (s : State) (c : ℕ) (call : Call) (passes : Passes U V lowers s c call)
+module _ (shows : Rule) (U V : Layer) (lowers : List Layer) (s : State) (c : ℕ) (call : Call) (passes : Passes U V lowers s c call)
     (keeps : keeps_handles call ≡ true) (p : Path) (touches : touched_by s call ≡ node_at s.tree p)
-    (leads : (d : NodeId) (q : Path) → node_at s.tree q ≡ Some d → node_at (after s c call).tree q ≡ Some d)
-    (o : Object) (key : ℕ) (is : IsObject U lowers p o) (old new : Notified) (lifted : IsLifted old.objects V lowers p o key)
-    (k : Tracks U s old) (known : AreKnown new) where
+    (leads : (d : NodeId) (q : Path) → node_at s.tree q ≡ Some d → node_at (after s c call).tree q ≡ Some d) (o : Object) (key : ℕ)
+    (is : IsObject U lowers p o) (old new : Notified) (lifted : IsLifted old.objects V lowers p o key) (k : Tracks U s old)
+    (known : AreKnown new) where
   -- to the directory and to the object
   altered-resumes : there (look s.tree p) ≡ None →
       subjects s c call ≡ both (way_of s.tree p) (node_at s.tree p) (marked (node_of s.tree (node_at s.tree p)) ATTRIB) →
       Altered shows old new p o key → Resumes shows V s c call new
   altered-resumes fine tells altered =
-      resumes-kept shows same slots U V lowers s c call passes keeps old new k known (of_both altered.way altered.number (marks o ATTRIB))
+      resumes-kept shows U V lowers s c call passes keeps old new k known (of_both altered.way altered.number (marks o ATTRIB))
       (Lifts p o key) altered.tells altered.handles altered.renames
       (subst (λ ts. AreToldAlike (stands_for old.objects k.bearers) old.instances s.instances
       (of_both altered.way altered.number (marks o ATTRIB)) ts) (sym tells) told)
-      (lifts-at alone nowhere upper U V lowers s c call passes p touches leads o key is old k lifted)
+      (lifts-at U V lowers s c call passes p touches leads o key is old k lifted)
     where
       shown : IsShownIn U lowers p
-      shown = walked-shown U lowers s passes.before p (there-walked (look s.tree p) fine)
+      shown = there-shown U lowers s passes.before p fine
 
       told : AreToldAlike (stands_for old.objects k.bearers) old.instances s.instances (of_both altered.way altered.number (marks o ATTRIB))
           (both (way_of s.tree p) (node_at s.tree p) (marked (node_of s.tree (node_at s.tree p)) ATTRIB))
@@ -168,7 +128,7 @@ module _ (alone : LawOfAlone) (nowhere : LawOfNowhere) (same : LawOfSameHandles)
       subjects s c call ≡ by_way (way_of s.tree q) CREATE 0 ++ of_node (node_at s.tree p) ATTRIB →
       Linked shows old new p q o key → Resumes shows V s c call new
   linked-resumes q shown tells linked =
-      resumes-kept shows same slots U V lowers s c call passes keeps old new k known (in_way linked.way CREATE 0 ++ of_number linked.number ATTRIB)
+      resumes-kept shows U V lowers s c call passes keeps old new k known (in_way linked.way CREATE 0 ++ of_number linked.number ATTRIB)
       (Lifts p o key) linked.tells linked.handles linked.renames
       (subst (λ ts. AreToldAlike (stands_for old.objects k.bearers) old.instances s.instances
       (in_way linked.way CREATE 0 ++ of_number linked.number ATTRIB) ts) (sym tells)
@@ -178,11 +138,10 @@ module _ (alone : LawOfAlone) (nowhere : LawOfNowhere) (same : LawOfSameHandles)
       (law_of_way_numbers U lowers s passes.before old.objects k.bearers k.borne q linked.way shown linked.entered))
       ((tells-of U s old k).node linked.number (node_at s.tree p) ATTRIB
       (law_of_numbers U lowers s passes.before old.objects k.bearers k.borne p o linked.number is linked.found))))
-      (lifts-at alone nowhere upper U V lowers s c call passes p touches leads o key is old k lifted)
+      (lifts-at U V lowers s c call passes p touches leads o key is old k lifted)
 
 -- a call that changes attributes at a path
-module _ (alone : LawOfAlone) (nowhere : LawOfNowhere) (same : LawOfSameHandles) (slots : LawOfKnownSlots) (upper : LawOfUpper) (shows : Rule)
-    (U V : Layer) (lowers : List Layer) (s : State) (c : ℕ) (p : Path) where
+module _ (shows : Rule) (U V : Layer) (lowers : List Layer) (s : State) (c : ℕ) (p : Path) where
   -- which is p: paths lead where they led
   altered-here : (call : Call) (q : Path) → q ≡ p → touched_by s call ≡ node_at s.tree q → keeps_handles call ≡ true →
       subjects s c call ≡ both (way_of s.tree q) (node_at s.tree q) (marked (node_of s.tree (node_at s.tree q)) ATTRIB) →
@@ -190,36 +149,36 @@ module _ (alone : LawOfAlone) (nowhere : LawOfNowhere) (same : LawOfSameHandles)
       (o : Object) (key : ℕ) → IsObject U lowers p o → (old new : Notified) → IsLifted old.objects V lowers p o key →
       Tracks U s old → AreKnown new → Altered shows old new p o key → Resumes shows V s c call new
   altered-here call q same-path touches keeps tells leads fine passes o key is old new lifted k known altered =
-      altered-resumes alone nowhere same slots upper shows U V lowers s c call passes keeps p (touches ∙ ap (node_at s.tree) same-path)
+      altered-resumes shows U V lowers s c call passes keeps p (touches ∙ ap (node_at s.tree) same-path)
       (λ d x at. leads x ∙ at) o key is old new lifted k known (ap (λ x. there (look s.tree x)) (sym same-path) ∙ fine)
       (tells ∙ ap (λ x. both (way_of s.tree x) (node_at s.tree x) (marked (node_of s.tree (node_at s.tree x)) ATTRIB)) same-path) altered
 
 -- a change of attributes is told to the directory and to the object
-pub law_of_altered : LawOfAlone → LawOfNowhere → LawOfSameHandles → LawOfKnownSlots → LawOfUpper → (shows : Rule) → LawOfAltered shows
-law_of_altered alone nowhere same slots upper shows U V lowers s c p (Chmod q mode) names passes =
-    altered-here alone nowhere same slots upper shows U V lowers s c p (Chmod q mode) q names refl refl refl
+pub law_of_altered : (shows : Rule) → LawOfAltered shows
+law_of_altered shows U V lowers s c p (Chmod q mode) names passes =
+    altered-here shows U V lowers s c p (Chmod q mode) q names refl refl refl
     (paths-after U V lowers s c (Chmod q mode) passes)
     (or-first (there (look s.tree q)) _ (or-second (bad_mode mode) _ (by-path s c (Chmod q mode) passes.allowed))) passes
-law_of_altered alone nowhere same slots upper shows U V lowers s c p (Chown q uid gid) names passes =
-    altered-here alone nowhere same slots upper shows U V lowers s c p (Chown q uid gid) q names refl refl refl
+law_of_altered shows U V lowers s c p (Chown q uid gid) names passes =
+    altered-here shows U V lowers s c p (Chown q uid gid) q names refl refl refl
     (paths-after U V lowers s c (Chown q uid gid) passes)
     (or-first (there (look s.tree q)) _ (by-path s c (Chown q uid gid) passes.allowed)) passes
-law_of_altered alone nowhere same slots upper shows U V lowers s c p (SetAttribute q n v) names passes =
-    altered-here alone nowhere same slots upper shows U V lowers s c p (SetAttribute q n v) q names refl refl refl
+law_of_altered shows U V lowers s c p (SetAttribute q n v) names passes =
+    altered-here shows U V lowers s c p (SetAttribute q n v) q names refl refl refl
     (paths-after U V lowers s c (SetAttribute q n v) passes)
     (or-first (there (look s.tree q)) _ (or-second (when (nat_lt 1024 (length v)) EFBIG) _
     (or-second (bad_attribute n) _ (by-path s c (SetAttribute q n v) passes.allowed)))) passes
-law_of_altered alone nowhere same slots upper shows U V lowers s c p (DeleteAttribute q n) names passes =
-    altered-here alone nowhere same slots upper shows U V lowers s c p (DeleteAttribute q n) q names refl refl refl
+law_of_altered shows U V lowers s c p (DeleteAttribute q n) names passes =
+    altered-here shows U V lowers s c p (DeleteAttribute q n) q names refl refl refl
     (paths-after U V lowers s c (DeleteAttribute q n) passes)
     (or-first (there (look s.tree q)) _ (or-second (bad_attribute n) _ (by-path s c (DeleteAttribute q n) passes.allowed))) passes
-law_of_altered alone nowhere same slots upper shows U V lowers s c p _ names passes = absurd names
+law_of_altered shows U V lowers s c p _ names passes = absurd names
 
 -- a further name is told to its directory, and then to the object
-pub law_of_linked : LawOfAlone → LawOfNowhere → LawOfSameHandles → LawOfKnownSlots → LawOfUpper → (shows : Rule) → LawOfLinked shows
-law_of_linked alone nowhere same slots upper shows U V lowers s c p q passes o key is old new lifted k known linked =
+pub law_of_linked : (shows : Rule) → LawOfLinked shows
+law_of_linked shows U V lowers s c p q passes o key is old new lifted k known linked =
     let leads = paths-after U V lowers s c (Hardlink p q) passes in
-    linked-resumes alone nowhere same slots upper shows U V lowers s c (Hardlink p q) passes refl p refl
+    linked-resumes shows U V lowers s c (Hardlink p q) passes refl p refl
     (also-leads s.tree (tree_after s c (Hardlink p q)) q leads.0 leads.2) o key is old new lifted k known q
     (walked-shown U lowers s passes.before q
     (or-first (walked (look s.tree q)) _ (or-second (there (look s.tree p)) _ (by-path s c (Hardlink p q) passes.allowed)))) refl linked

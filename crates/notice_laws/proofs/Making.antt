@@ -26,10 +26,10 @@ use Rattle.notice_laws.specs.Notified.{Notified, AreKnown, Bearers, IsAt, stands
 use Rattle.notice_laws.specs.Objects.{IsShownIn, MeansWay}
 use Rattle.notice_laws.specs.Telling.{of_number, in_way, of_both, TellAlike, Tells, Stays}
 use Rattle.notice_laws.specs.Steps.{keeps_handles, Made, LawOfMade, LawOfRead}
-use Rattle.notice_laws.specs.Places.{LawOfAlone, LawOfNowhere, LawOfSameHandles, LawOfKnownSlots}
 use Rattle.notice_laws.proofs.Numbers.{law_of_way_numbers}
 use Rattle.notice_laws.proofs.Told.{law_of_told}
-use Rattle.notice_laws.proofs.Resuming.{walked-shown, paths-after, also-leads, stays-at, resumes-kept}
+use Rattle.notice_laws.proofs.ShownParents.{walked-shown}
+use Rattle.notice_laws.proofs.Resuming.{paths-after, also-leads, stays-at, resumes-kept}
 
 -- what the numbers of before mean is told alike
 pub tells-of : (U : Layer) (s : State) (k : Notified) → (t : Tracks U s k) → TellAlike k.objects t.bearers k.instances s.instances
@@ -44,7 +44,8 @@ way-means objects bearers (Some v) None h = absurd h
 way-means objects bearers (Some v) (Some w) h = h
 
 -- what is told of a tracked handle is what is told of the machine's, where that is on no directory
-pub handle-alike : (objects : Tracked) (bearers : Bearers) (s : State) (old : Notified) → TellAlike objects bearers old.instances s.instances →
+pub handle-alike : (objects : Tracked) (bearers : Bearers) (s : State) (old : Notified) →
+    TellAlike objects bearers old.instances s.instances →
     (h : TrackedHandle) (g : Option Handle) (bits : ℕ) → is_folder (handle_node s.tree g) ≡ false → IsSlotOn objects bearers (Some h) g →
     AreToldAlike (stands_for objects bearers) old.instances s.instances (of_both h.way (Some h.object) bits) (by_handle s.tree g bits)
 handle-alike objects bearers s old tell h None bits file on = absurd on
@@ -55,9 +56,8 @@ handle-alike objects bearers s old tell h (Some g) bits file on =
     (tell.way h.way g.way bits 0 (way-means objects bearers h.way g.way on.way))
     (tell.node (Some h.object) (Some g.node) bits (on.known, on.node)))
 
-module _ (alone : LawOfAlone) (nowhere : LawOfNowhere) (same : LawOfSameHandles) (slots : LawOfKnownSlots) (shows : Rule) (U V : Layer)
-    (lowers : List Layer) (s : State) (c : ℕ) (call : Call) (passes : Passes U V lowers s c call) (keeps : keeps_handles call ≡ true)
-    (untouched : touched_by s call ≡ None) where
+module _ (shows : Rule) (U V : Layer) (lowers : List Layer) (s : State) (c : ℕ) (call : Call) (passes : Passes U V lowers s c call)
+    (keeps : keeps_handles call ≡ true) (untouched : touched_by s call ≡ None) where
   -- a call that touches nothing, and after which paths lead where they led, is heard where it is told alike
   pub resumes-stays :
       ((d : NodeId) (q : Path) → node_at s.tree q ≡ Some d → node_at (after s c call).tree q ≡ Some d) →
@@ -65,10 +65,10 @@ module _ (alone : LawOfAlone) (nowhere : LawOfNowhere) (same : LawOfSameHandles)
       new.handles ≡ old.handles → new.renames ≡ old.renames →
       AreToldAlike (stands_for old.objects k.bearers) old.instances s.instances ss (subjects s c call) → Resumes shows V s c call new
   resumes-stays leads old new k known ss tells handles renames told =
-      resumes-kept shows same slots U V lowers s c call passes keeps old new k known ss Stays tells handles renames told
+      resumes-kept shows U V lowers s c call passes keeps old new k known ss Stays tells handles renames told
       (λ n was spot e becomes.
       subst (λ x. IsAt V (after s c call).tree x (k.bearers n)) (sym becomes)
-      (stays-at alone nowhere U V lowers s c call passes (k.bearers n) (λ i. k.borne.given n i (ap is_some e)) (leads (k.bearers n)) was
+      (stays-at U V lowers s c call passes (k.bearers n) (λ i. k.borne.given n i (ap is_some e)) (leads (k.bearers n)) was
       (λ q at here low touched. let z : None ≡ Some (k.bearers n) = sym untouched ∙ touched in cc) (k.borne.places n was e)))
 
   -- so does one that makes a directory or a link
@@ -87,24 +87,25 @@ same-bits : (a b : ℕ) → Some a ≡ Some b → a ≡ b
 same-bits a b h = cc
 
 -- what is made is told by the number of its directory
-pub law_of_made : LawOfAlone → LawOfNowhere → LawOfSameHandles → LawOfKnownSlots → (shows : Rule) → LawOfMade shows
-law_of_made alone nowhere same slots shows U V lowers s c p (Mkdir q mode) bits makes is passes old new k known made =
-    made-resumes alone nowhere same slots shows U V lowers s c (Mkdir q mode) passes refl refl p bits
-    (subst (λ x. LeadsAlso s.tree (tree_after s c (Mkdir q mode)) x (New s.serial)) makes (paths-after U V lowers s c (Mkdir q mode) passes))
+pub law_of_made : (shows : Rule) → LawOfMade shows
+law_of_made shows U V lowers s c p (Mkdir q mode) bits makes is passes old new k known made =
+    made-resumes shows U V lowers s c (Mkdir q mode) passes refl refl p bits
+    (subst (λ x. LeadsAlso s.tree (tree_after s c (Mkdir q mode)) x (New s.serial)) makes
+    (paths-after U V lowers s c (Mkdir q mode) passes))
     (subst (IsShownIn U lowers) makes (walked-shown U lowers s passes.before q
     (or-first (walked (look s.tree q)) _ (or-second (bad_mode mode) _ (by-path s c (Mkdir q mode) passes.allowed)))))
     (λ i. by_way (way_of s.tree (makes i)) (same-bits (CREATE + ISDIR) bits is i) 0) old new k known made
-law_of_made alone nowhere same slots shows U V lowers s c p (Symlink target q) bits makes is passes old new k known made =
-    made-resumes alone nowhere same slots shows U V lowers s c (Symlink target q) passes refl refl p bits
+law_of_made shows U V lowers s c p (Symlink target q) bits makes is passes old new k known made =
+    made-resumes shows U V lowers s c (Symlink target q) passes refl refl p bits
     (subst (λ x. LeadsAlso s.tree (tree_after s c (Symlink target q)) x (New s.serial)) makes
     (paths-after U V lowers s c (Symlink target q) passes))
     (subst (IsShownIn U lowers) makes (walked-shown U lowers s passes.before q
     (or-first (walked (look s.tree q)) _ (symlink-walk s c target q passes.allowed))))
     (λ i. by_way (way_of s.tree (makes i)) (same-bits CREATE bits is i) 0) old new k known made
-law_of_made alone nowhere same slots shows U V lowers s c p _ bits makes is passes old new k known made = absurd makes
+law_of_made shows U V lowers s c p _ bits makes is passes old new k known made = absurd makes
 
--- bytes that are read are some
-some-read : (bytes : List ℕ) → bytes ≢ [] → nat_eq (length bytes) 0 ≡ false
+-- bytes that are not none are some
+pub some-read : (bytes : List ℕ) → bytes ≢ [] → nat_eq (length bytes) 0 ≡ false
 some-read [] h = absurd (h refl)
 some-read (b ∷ bytes) h = elim (cases_Bool (nat_eq (length (b ∷ bytes)) 0)) [
   | inl none ↦ (let z : suc (length bytes) ≡ 0 = eqb-true (length (b ∷ bytes)) 0 none in absurd (omega (arith, z)))
@@ -119,9 +120,9 @@ read-file s c n fd h fine =
     (or-second (when (nat_lt TRANSFER_MAX n) EINVAL) _ (or-second (when (is_none h) EBADF) _ fine)))
 
 -- a read is told to the way in and to the object of its handle
-pub law_of_read : LawOfAlone → LawOfNowhere → LawOfSameHandles → LawOfKnownSlots → (shows : Rule) → LawOfRead shows
-law_of_read alone nowhere same slots shows U V lowers s c fd n passes some old new k known used =
-    resumes-stays alone nowhere same slots shows U V lowers s c (Read fd n) passes refl refl (λ d q at. at) old new k known
+pub law_of_read : (shows : Rule) → LawOfRead shows
+law_of_read shows U V lowers s c fd n passes some old new k known used =
+    resumes-stays shows U V lowers s c (Read fd n) passes refl refl (λ d q at. at) old new k known
     (of_both used.handle.way (Some used.handle.object) ACCESS) used.tells used.handles used.renames
     (subst (λ b. AreToldAlike (stands_for old.objects k.bearers) old.instances s.instances
     (of_both used.handle.way (Some used.handle.object) ACCESS) (cond b [] (by_handle s.tree (handle_of s.tables c fd) ACCESS)))

@@ -22,12 +22,14 @@ use Rattle.open_handles.specs.Tracked.{Spot, At, Upper, Nowhere, spot_of}
 use Rattle.notice_laws.specs.declared.object.Object.{Object}
 use Rattle.notice_laws.specs.declared.object.Object.TheVariants as object
 use Rattle.notice_laws.specs.Notified.{Notified, stands_alone, IsAt, Tracks, Passes}
-use Rattle.notice_laws.specs.Objects.{IsObject, LawOfNumbers}
+use Rattle.notice_laws.specs.Objects.{IsObject}
 use Rattle.notice_laws.specs.Steps.{is_last_name, IsSpotOf}
 use Rattle.notice_laws.specs.Moves as moves
 use Rattle.notice_laws.specs.Moves.{Moves}
-use Rattle.notice_laws.specs.Places.{LawOfAlone, LawOfNowhere, LawOfUpper, LawOfLost, LawOfLastName}
-use Rattle.notice_laws.proofs.NamesLost.{HasOtherPath, spot-something, other-path, spot-node, folder-stands, lower-stands, alone-spot}
+use Rattle.notice_laws.proofs.NamesLost.{HasOtherPath, spot-something, other-path, spot-node, alone-spot}
+use Rattle.notice_laws.proofs.Alone.{law_of_alone}
+use Rattle.notice_laws.proofs.Nowhere.{law_of_nowhere, law_of_lost}
+use Rattle.notice_laws.proofs.LastNames.{law_of_upper, law_of_last_name, folder-stands, lower-stands}
 
 -- what is untouched is no directory
 untouched-file : (o : Option Node) → is_untouched o ≡ true → is_folder o ≡ false
@@ -42,12 +44,16 @@ folder-alone (Some (Branch a b names c)) h = refl
 folder-alone (Some (Leaf content a u c)) h = absurd (false≢true h)
 
 -- where a name leads, there is a directory
-name-node : (t : Tree) (o : Option NodeId) (n : Name) (d : NodeId) → entry t o n ≡ Some d → (x : NodeId) × (o ≡ Some x) × (is_folder (t x) ≡ true)
+name-node :
+    (t : Tree) (o : Option NodeId) (n : Name) (d : NodeId) → entry t o n ≡ Some d →
+    (x : NodeId) × (o ≡ Some x) × (is_folder (t x) ≡ true)
 name-node t None n d h = cc
 name-node t (Some x) n d h = (x, refl, named-folder (t x) n d h)
 
 -- a path below which something is leads to a directory
-above : (t : Tree) (n : Name) (r p : Path) (d : NodeId) → node_at t (n ∷ r ++ p) ≡ Some d → (x : NodeId) × (node_at t p ≡ Some x) × (is_folder (t x) ≡ true)
+above :
+    (t : Tree) (n : Name) (r p : Path) (d : NodeId) → node_at t (n ∷ r ++ p) ≡ Some d →
+    (x : NodeId) × (node_at t p ≡ Some x) × (is_folder (t x) ≡ true)
 above t n [] p d at = name-node t (node_at t p) n d at
 above t n (k ∷ r) p d at = let x = name-node t (node_at t (k ∷ r ++ p)) n d at in above t k r p x.0 x.1
 
@@ -59,7 +65,9 @@ path-spot p (object.Upper key last) h = cc
 path-spot p object.Other h = absurd h
 
 -- something moved from p, where o stood, to q, where e stood
-module _ (law_of_numbers : LawOfNumbers) (law_of_alone : LawOfAlone) (law_of_nowhere : LawOfNowhere) (law_of_upper : LawOfUpper) (law_of_lost : LawOfLost) (law_of_last_name : LawOfLastName) (U V : Layer) (lowers : List Layer) (s : State) (c : ℕ) (p q : Path) (passes : Passes U V lowers s c (Rename p q)) (two : same_found (look s.tree p) (look s.tree q) ≡ false) (o e : Object) (is : IsObject U lowers p o) (was_there : IsObject U lowers q e) where
+module _ (U V : Layer) (lowers : List Layer) (s : State) (c : ℕ) (p q : Path)
+    (passes : Passes U V lowers s c (Rename p q)) (two : same_found (look s.tree p) (look s.tree q) ≡ false)
+    (o e : Object) (is : IsObject U lowers p o) (was_there : IsObject U lowers q e) where
   abbrev t : Tree
   t = s.tree
 
@@ -111,7 +119,9 @@ module _ (law_of_numbers : LawOfNumbers) (law_of_alone : LawOfAlone) (law_of_now
       (leads.follows (r ++ p) (r ++ q) (Goes r refl refl) ∙ here.0)
 
   -- a file of a lower layer is in the upper
-  rises-place : (key : ℕ) (last : Bool) → IsObject V lowers q (object.Upper key last) → (d : NodeId) → IsAt U t (At p) d → IsAt V u (Upper key) d
+  rises-place :
+      (key : ℕ) (last : Bool) → IsObject V lowers q (object.Upper key last) →
+      (d : NodeId) → IsAt U t (At p) d → IsAt V u (Upper key) d
   rises-place key last lifted d here =
       law_of_upper V lowers (after s c (Rename p q)) passes.now q key last d lifted (leads.follows p q (Goes [] refl refl) ∙ here.0)
 
@@ -140,7 +150,7 @@ module _ (law_of_numbers : LawOfNumbers) (law_of_alone : LawOfAlone) (law_of_now
     -- what is replaced, and has no other name, is nowhere
     lost-place : is_last_name e ≡ true → IsSpotOf q e was → IsAt V u Nowhere d
     lost-place last spot =
-        let at = spot-node law_of_numbers U lowers s passes.before old k q e was_there n was spot there in
+        let at = spot-node U lowers s passes.before old k q e was_there n was spot there in
         let names = (law_of_last_name U lowers s passes.before passes.one q e d (spot-something q e was spot) was_there at).one last in
         law_of_lost U V lowers s c (Rename p q) passes d (loses-replaced ∙ at) refl names.0 (hidden d names.1)
 
@@ -151,8 +161,8 @@ module _ (law_of_numbers : LawOfNumbers) (law_of_alone : LawOfAlone) (law_of_now
     rests-place = by was
       where
         by :
-            (was : Spot) → (o ≡ object.Directory → (r : Path) → was ≢ At (r ++ p)) → (o ≡ object.Lower → was ≢ At p) → HasOtherPath t q was d →
-            IsAt U t was d → IsAt V u was d
+            (was : Spot) → (o ≡ object.Directory → (r : Path) → was ≢ At (r ++ p)) → (o ≡ object.Lower → was ≢ At p) →
+            HasOtherPath t q was d → IsAt U t was d → IsAt V u was d
         by (At x) stays low other here =
             let out = outside-old x d here.0 here.1 stays low in
             law_of_alone U V lowers s c (Rename p q) passes d x x here.0 here.1
@@ -161,7 +171,8 @@ module _ (law_of_numbers : LawOfNumbers) (law_of_alone : LawOfAlone) (law_of_now
         by (Upper key) stays low other here =
             let now = goes-on other.0 other.1 d other.2 in
             (passes.named d key now.0 here.0 now.1, now.0, now.1)
-        by Nowhere stays low other here = law_of_nowhere U V lowers s c (Rename p q) passes d here (λ i. k.borne.given n i (ap is_some there))
+        by Nowhere stays low other here =
+            law_of_nowhere U V lowers s c (Rename p q) passes d here (λ i. k.borne.given n i (ap is_some there))
 
     -- so each is at the spot that the move makes of its own
     pub moved-place :
@@ -179,4 +190,4 @@ module _ (law_of_numbers : LawOfNumbers) (law_of_alone : LawOfAlone) (law_of_now
     moved-place key lifted spot (moves.Rests stays low rests to) =
         let here = k.borne.places n was there in
         subst (λ x. IsAt V u x d) (sym to)
-        (rests-place stays low (other-path law_of_last_name U lowers s passes.before passes.one q e was_there was rests d here) here)
+        (rests-place stays low (other-path U lowers s passes.before passes.one q e was_there was rests d here) here)

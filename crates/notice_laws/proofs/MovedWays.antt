@@ -22,14 +22,18 @@ agree false b to from = sym (false_from_ne_true b (λ h. let z : false ≡ true 
 
 module _ (U : Layer) (t : Tree) (i : ℕ) (objects : Tracked) (bearers : Bearers) (borne : AreBorne U t i objects bearers) where
   -- two tracked objects have one number where they are one node
-  same-object : (m n : ℕ) (d e : NodeId) → IsSome (spot_of objects m) → IsSome (spot_of objects n) → bearers m ≡ d → bearers n ≡ e → nat_eq m n ≡ same_id d e
+  same-object :
+      (m n : ℕ) (d e : NodeId) → IsSome (spot_of objects m) → IsSome (spot_of objects n) → bearers m ≡ d → bearers n ≡ e →
+      nat_eq m n ≡ same_id d e
   same-object m n d e first second is_first is_second =
       agree (nat_eq m n) (same_id d e)
       (λ h. (ids_tell d e).1 (sym is_first ∙ ap bearers (eqb-true m n h) ∙ is_second))
       (λ h. eq-eqb m n (borne.one m n first second (is_first ∙ (ids_tell d e).0 h ∙ sym is_second)))
 
   -- two ways are one where the state's are
-  same-ways : (v : Way) (w : Option (NodeId × Name)) → MeansWay objects bearers (Some v) w → (f : Option Way) (y : Option (NodeId × Name)) → IsWay objects bearers f y → is_way f v ≡ same_way y w
+  same-ways :
+      (v : Way) (w : Option (NodeId × Name)) → MeansWay objects bearers (Some v) w → (f : Option Way) (y : Option (NodeId × Name)) →
+      IsWay objects bearers f y → is_way f v ≡ same_way y w
   same-ways v None means f y way = absurd means
   same-ways v (Some w) means None None way = refl
   same-ways v (Some w) means (Some f) (Some y) way =
@@ -40,13 +44,16 @@ module _ (U : Layer) (t : Tree) (i : ℕ) (objects : Tracked) (bearers : Bearers
 
   -- so a handle came by a way by numbers where it did in the state
   came-alike :
-      (n : ℕ) (v : Way) (d : NodeId) (w : Option (NodeId × Name)) → Means objects bearers (Some n) (Some d) → MeansWay objects bearers (Some v) w →
-      (f : TrackedHandle) (y : Handle) → IsOnNode objects bearers f y → came_by n v f ≡ (same_id d y.node && same_way y.way w)
+      (n : ℕ) (v : Way) (d : NodeId) (w : Option (NodeId × Name)) → Means objects bearers (Some n) (Some d) →
+      MeansWay objects bearers (Some v) w → (f : TrackedHandle) (y : Handle) → IsOnNode objects bearers f y →
+      came_by n v f ≡ (same_id d y.node && same_way y.way w)
   came-alike n v d w means means_way f y on =
       ap₂ (λ a b. a && b) (same-object n f.object d y.node means.0 on.known means.1 on.node) (same-ways v w means_way f.way y.way on.way)
 
   -- no handle came by a way whose directory is no tracked object
-  no-way : (w : Option (NodeId × Name)) → MeansWay objects bearers None w → (f : Option Way) (y : Option (NodeId × Name)) → IsWay objects bearers f y → same_way y w ≡ false
+  no-way :
+      (w : Option (NodeId × Name)) → MeansWay objects bearers None w → (f : Option Way) (y : Option (NodeId × Name)) →
+      IsWay objects bearers f y → same_way y w ≡ false
   no-way None means f None way = refl
   no-way None means f (Some y) way = refl
   no-way (Some w) means f None way = refl
@@ -56,13 +63,16 @@ module _ (U : Layer) (t : Tree) (i : ℕ) (objects : Tracked) (bearers : Bearers
       (false_from_ne_true (same_id y.0 w.0) (λ h. means f.directory way.0 (way.1 ∙ (ids_tell y.0 w.0).0 h)))
 
   -- and none is on what is no tracked object
-  no-object : (d : NodeId) → Means objects bearers None (Some d) → (f : TrackedHandle) (y : Handle) → IsOnNode objects bearers f y → same_id d y.node ≡ false
+  no-object :
+      (d : NodeId) → Means objects bearers None (Some d) → (f : TrackedHandle) (y : Handle) → IsOnNode objects bearers f y →
+      same_id d y.node ≡ false
   no-object d means f y on = false_from_ne_true (same_id d y.node) (λ h. means f.object on.known (on.node ∙ sym ((ids_tell d y.node).0 h)))
 
   -- a descriptor that did not come by the old way stays
   stays :
       (d : Option NodeId) (old new : Option (NodeId × Name)) (h : Option TrackedHandle) (g : Option Handle) → IsSlotOn objects bearers h g →
-      ((x : NodeId) (f : TrackedHandle) (y : Handle) → d ≡ Some x → h ≡ Some f → IsOnNode objects bearers f y → same_id x y.node && same_way y.way old ≡ false) →
+      ((x : NodeId) (f : TrackedHandle) (y : Handle) → d ≡ Some x → h ≡ Some f → IsOnNode objects bearers f y →
+      same_id x y.node && same_way y.way old ≡ false) →
       IsSlotOn objects bearers h (re_way d old new g)
   stays None old new h g on differs = on
   stays (Some x) old new h None on differs = on
@@ -100,7 +110,8 @@ module _ (U : Layer) (t : Tree) (i : ℕ) (objects : Tracked) (bearers : Bearers
   moved-slot was now None from to d old new means left entered ways c fd g on =
       subst (λ h. IsSlotOn objects bearers h (re_way d old new g)) (sym (ways c fd))
       (stays d old new (tracked_by was c fd) g on
-      (λ x f y is_node is_open on. and_left (same_id x y.node) (same_way y.way old) (no-object x (subst (Means objects bearers None) is_node means) f y on)))
+      (λ x f y is_node is_open on.
+      and_left (same_id x y.node) (same_way y.way old) (no-object x (subst (Means objects bearers None) is_node means) f y on)))
   moved-slot was now (Some n) None to d old new means left entered ways c fd g on =
       subst (λ h. IsSlotOn objects bearers h (re_way d old new g)) (sym (ways c fd))
       (stays d old new (tracked_by was c fd) g on

@@ -1,12 +1,12 @@
 -- A node that loses a name at a path: what stands there by its spot, which nodes keep another name, and whose end is told.
-use Rattle.std.proofs.Common.{◌≡◌, ◌≢◌, ◌↔◌, ℕ, suc, ◌<◌, Bool, true, false, not, cond, ◌&&◌, List, [], ◌∷◌, ◌++◌, Option, None, Some, IsSome, refl, sym, ap, subst, subst₂, ◌∙◌, ◌⊎◌, inl, inr, nat_lt, is_none, is_some, arith}
+use Rattle.std.proofs.Common.{◌≡◌, ◌≢◌, ◌↔◌, ℕ, ◌<◌, Bool, true, false, not, cond, ◌&&◌, List, [], ◌∷◌, ◌++◌, Option, None, Some, IsSome, refl, sym, ap, subst, subst₂, ◌∙◌, ◌⊎◌, inl, inr, nat_lt, is_none, is_some, arith}
 use Rattle.std.specs.List.{IsDistinct}
 use Rattle.std.proofs.lemmas.Bool.{cases_Bool, false≢true, lt-ltb, and_right, false_from_ne_true}
 use Rattle.std.specs.Prelude.{nat_eq}
 use Rattle.ov_base.specs.declared.bytes.Content.TheVariants.{File, SymbolicLink}
 use Rattle.ov_base.specs.declared.node_id.NodeId.{NodeId}
-use Rattle.plain_model.specs.Layers.{Path, Inode, Layer, same_path, Shown, base, shows}
-use Rattle.plain_model.specs.Tree.{Node, Branch, Leaf, Own, Untouched, Tree, node_at, node_of, face, see, see_inode, count_of, is_folder, is_untouched}
+use Rattle.plain_model.specs.Layers.{Path, Layer, same_path, Shown, shows}
+use Rattle.plain_model.specs.Tree.{Node, Branch, Leaf, Own, Untouched, Tree, node_at, node_of, count_of, is_folder, is_untouched}
 use Rattle.plain_model.specs.Watching.{DELETE_SELF, IGNORED, Subject, Instance}
 use Rattle.plain_model.specs.Machine.{Table, State, is_link}
 use Rattle.plain_model.specs.Changes.{is_held}
@@ -18,7 +18,7 @@ use Rattle.mount_laws.specs.Looks.{IsMountOf}
 use Rattle.mount_laws.specs.Nodes.{HaveOneName, Goes}
 use Rattle.mount_laws.specs.OpenFiles.{IsLive}
 use Rattle.mount_laws.proofs.OpenFiles.{law_of_live_shown, law_of_live_one}
-use Rattle.mount_laws.proofs.Opens.{folder-at, link-at}
+use Rattle.mount_laws.proofs.Opens.{link-at}
 use Rattle.mount_laws.proofs.Looks.{at-some}
 use Rattle.mount_laws.proofs.Removes.{counted-some}
 use Rattle.open_handles.specs.Tracked.{Tracked, Spot, At, Upper, Nowhere, spot_of}
@@ -26,10 +26,15 @@ use Rattle.open_handles.specs.TrackedHandles.{TrackedTables, IsOn}
 use Rattle.notice_laws.specs.declared.object.Object.{Object}
 use Rattle.notice_laws.specs.declared.object.Object.TheVariants as object
 use Rattle.notice_laws.specs.Notified.{Notified, Bearers, stands_alone, IsAt, stands_for, Tracks}
-use Rattle.notice_laws.specs.Objects.{IsUpper, IsLower, IsObject, IsNumberOf, Means, LawOfNumbers}
-use Rattle.notice_laws.specs.Telling.{of_number, of_end, TellAlike, LawOfTold, IsEnd}
+use Rattle.notice_laws.specs.Objects.{IsUpper, IsObject, IsNumberOf, Means}
+use Rattle.notice_laws.specs.Telling.{of_number, of_end, TellAlike, IsEnd}
 use Rattle.notice_laws.specs.Steps.{is_last_name, IsSpotOf}
-use Rattle.notice_laws.specs.Places.{HasNames, LawOfLastName, LawOfHeldObjects}
+use Rattle.notice_laws.specs.Places.{HasNames}
+use Rattle.notice_laws.proofs.Numbers.{law_of_numbers}
+use Rattle.notice_laws.proofs.Told.{law_of_told}
+use Rattle.notice_laws.proofs.LastNames.{law_of_last_name, folder-stands, lower-stands}
+use Rattle.notice_laws.proofs.Slots.{law_of_held_objects}
+use Rattle.notice_laws.proofs.Closing.{means-bearer}
 
 -- a symbolic link is no directory and no file
 link-not-alone : (o : Option Node) → is_link o ≡ true → stands_alone o ≡ false
@@ -39,24 +44,10 @@ link-not-alone (Some (Leaf (File bytes) a u c)) h = absurd (false≢true h)
 link-not-alone (Some (Leaf (SymbolicLink target) a Own c)) h = refl
 link-not-alone (Some (Leaf (SymbolicLink target) a (Untouched k) c)) h = refl
 
--- what is seen as an inode of a lower layer is untouched
-lower-seen : (o : Option Node) (j : ℕ) (i : Inode) → face o ≡ see_inode (suc j) (Some i) → is_untouched o ≡ true
-lower-seen None j i h = cc
-lower-seen (Some (Branch a b names c)) j i h = cc
-lower-seen (Some (Leaf content a Own c)) j i h = cc
-lower-seen (Some (Leaf content a (Untouched k) c)) j i h = refl
-
 -- what stands at p, where the node d is
-module _ (U : Layer) (lowers : List Layer) (s : State) (m : IsMountOf U lowers s) (p : Path) (d : NodeId) (at : node_at s.tree p ≡ Some d) where
-  -- a directory is one, a file or link of a lower layer is untouched, and a file of the upper is live
-  pub folder-stands : IsObject U lowers p object.Directory → is_folder (s.tree d) ≡ true
-  folder-stands o = ap (λ x. is_folder (node_of s.tree x)) (sym at) ∙ folder-at U lowers s m p ∙ o
-
-  pub lower-stands : IsLower U lowers p → is_untouched (s.tree d) ≡ true
-  lower-stands o =
-      lower-seen (s.tree d) o.layer o.inode
-      (ap (λ x. face (node_of s.tree x)) (sym at) ∙ m.shows.sights p ∙ ap (see (base U lowers p)) o.shown)
-
+module _ (U : Layer) (lowers : List Layer) (s : State) (m : IsMountOf U lowers s) (p : Path) (d : NodeId)
+    (at : node_at s.tree p ≡ Some d) where
+  -- a file of the upper is live
   pub upper-stands : (key : ℕ) (last : Bool) → IsUpper U lowers p key last → IsLive U s.tree d key
   upper-stands key last o = law_of_live_shown U lowers s m p key o.inode o.bytes d o.shown o.file at
 
@@ -79,8 +70,8 @@ module _ (U : Layer) (lowers : List Layer) (s : State) (m : IsMountOf U lowers s
 
   -- and a live file there has its key for its spot
   live-spot : (o : Object) → IsObject U lowers p o → (key : ℕ) → IsLive U s.tree d key → IsSpotOf p o (Upper key)
-  live-spot object.Directory o key live = absurd (false≢true (ap is_folder (sym live.node) ∙ folder-stands o))
-  live-spot object.Lower o key live = absurd (false≢true (ap is_untouched (sym live.node) ∙ lower-stands o))
+  live-spot object.Directory o key live = absurd (false≢true (ap is_folder (sym live.node) ∙ folder-stands U lowers s m p d at o))
+  live-spot object.Lower o key live = absurd (false≢true (ap is_untouched (sym live.node) ∙ lower-stands U lowers s m p d at o))
   live-spot (object.Upper k last) o key live =
       ap Upper ((law_of_live_one U s.tree p d d key k at live (upper-stands k last o)).0 refl)
   live-spot object.Other o key live = absurd (false≢true (ap is_link (sym live.node) ∙ other-stands o))
@@ -97,14 +88,14 @@ spot-something p o spot h other = subst (λ o. IsSpotOf p o spot) other h
 
 -- what p leads to that is not the last of its names to go has another path, and so has all else that a path leads to
 pub other-path :
-    LawOfLastName → (U : Layer) (lowers : List Layer) (s : State) → IsMountOf U lowers s → HaveOneName s.tree →
+    (U : Layer) (lowers : List Layer) (s : State) → IsMountOf U lowers s → HaveOneName s.tree →
     (p : Path) (o : Object) → IsObject U lowers p o → (was : Spot) → (is_last_name o ≡ true → IsSpotOf p o was → ⊥) →
     (d : NodeId) → IsAt U s.tree was d → HasOtherPath s.tree p was d
-other-path law_of_last_name U lowers s m one p o is (At q) rests d here = λ same.
+other-path U lowers s m one p o is (At q) rests d here = λ same.
     let at : node_at s.tree p ≡ Some d = ap (node_at s.tree) (sym same) ∙ here.0 in
     let spot = alone-spot U lowers s m p d at o is here.1 in
     rests spot.0 (subst (λ q. IsSpotOf p o (At q)) (sym same) spot.1)
-other-path law_of_last_name U lowers s m one p o is (Upper key) rests d here = elim (cases_Bool (same_path here.1 p)) [
+other-path U lowers s m one p o is (Upper key) rests d here = elim (cases_Bool (same_path here.1 p)) [
   | inr n ↦ (here.1, (λ e. false≢true (sym n ∙ (paths_tell here.1 p).1 e)), here.2)
   | inl y ↦
       (let at : node_at s.tree p ≡ Some d = ap (node_at s.tree) (sym ((paths_tell here.1 p).0 y)) ∙ here.2 in
@@ -113,27 +104,24 @@ other-path law_of_last_name U lowers s m one p o is (Upper key) rests d here = e
       let more = names.more (false_from_ne_true (is_last_name o) (λ last. rests last spot)) in
       (more.1, more.2, more.3))
 ]
-other-path law_of_last_name U lowers s m one p o is Nowhere rests d here = tt
+other-path U lowers s m one p o is Nowhere rests d here = tt
 
 -- a number at the spot of what stands at p is found by it
-spot-number : (objects : Tracked) (p : Path) (o : Object) (n : ℕ) (was : Spot) → IsSpotOf p o was → spot_of objects n ≡ Some was → IsNumberOf objects p o (Some n)
+spot-number :
+    (objects : Tracked) (p : Path) (o : Object) (n : ℕ) (was : Spot) → IsSpotOf p o was → spot_of objects n ≡ Some was →
+    IsNumberOf objects p o (Some n)
 spot-number objects p object.Directory n was spot is = is ∙ ap Some spot
 spot-number objects p object.Lower n was spot is = is ∙ ap Some spot
 spot-number objects p (object.Upper key last) n was spot is = is ∙ ap Some spot
 spot-number objects p object.Other n was spot is = absurd spot
 
--- what a number means is its node
-means-node : (objects : Tracked) (bearers : Bearers) (n : ℕ) (d : Option NodeId) → Means objects bearers (Some n) d → d ≡ Some (bearers n)
-means-node objects bearers n None h = absurd h
-means-node objects bearers n (Some d) h = ap Some (sym h.1)
-
 -- so p leads to the node of the tracked object that has the spot of what stands there
 pub spot-node :
-    LawOfNumbers → (U : Layer) (lowers : List Layer) (s : State) → IsMountOf U lowers s → (k : Notified) → (t : Tracks U s k) →
+    (U : Layer) (lowers : List Layer) (s : State) → IsMountOf U lowers s → (k : Notified) → (t : Tracks U s k) →
     (p : Path) (o : Object) → IsObject U lowers p o → (n : ℕ) (was : Spot) → IsSpotOf p o was → spot_of k.objects n ≡ Some was →
     node_at s.tree p ≡ Some (t.bearers n)
-spot-node law_of_numbers U lowers s m k t p o here n was spot is =
-    means-node k.objects t.bearers n (node_at s.tree p)
+spot-node U lowers s m k t p o here n was spot is =
+    means-bearer k.objects t.bearers n (node_at s.tree p)
     (law_of_numbers U lowers s m k.objects t.bearers t.borne p o (Some n) here (spot-number k.objects p o n was spot is))
 
 -- whether the node of a number is gone: not where it has a name left or a handle, and else it is
@@ -144,11 +132,11 @@ pub record IsGoneWith (handles : TrackedTables) (lost : Bool) (n : ℕ) (is_gone
 
 -- so it is with what loses a name
 pub gone-with :
-    LawOfHeldObjects → (U : Layer) (s : State) (k : Notified) → (t : Tracks U s k) → IsDistinct nat_eq (settling.clients_of s.tables) →
+    (U : Layer) (s : State) (k : Notified) → (t : Tracks U s k) → IsDistinct nat_eq (settling.clients_of s.tables) →
     (p : Path) (o : Object) (n : ℕ) → IsSome (spot_of k.objects n) → HasNames s.tree p o (t.bearers n) →
     (u : Tree) (loser : Option NodeId) (ks : List Table) → Goes s.tree u loser 1 ks → ((x : NodeId) → is_held ks x ≡ is_held s.tables x) →
     loser ≡ Some (t.bearers n) → IsGoneWith k.handles (is_last_name o) n (is_none (u (t.bearers n)))
-gone-with law_of_held_objects U s k t apart p o n known names u loser ks goes same loses = record {
+gone-with U s k t apart p o n known names u loser ks goes same loses = record {
   named = λ more. (let many = (names.more more).0 in told (many-some many) ∙ ap (λ b. not b && not held) (lt-ltb 1 count many));
   held = λ on. by-name on (cases_Bool (is_last_name o));
   free = λ last off.
@@ -197,7 +185,8 @@ module _ (objects : Tracked) (bearers : Bearers) (es fs : List Instance) (tell :
   -- and of one that is, by its number
   told-end : (n : ℕ) (d : NodeId) → Means objects bearers (Some n) (Some d) → TellsEnd (Some n) d true
   told-end n d means =
-      tell.parts (of_number (Some n) DELETE_SELF) (of_number (Some n) IGNORED) (told.of_node (Some d) DELETE_SELF) (told.of_node (Some d) IGNORED)
+      tell.parts (of_number (Some n) DELETE_SELF) (of_number (Some n) IGNORED)
+      (told.of_node (Some d) DELETE_SELF) (told.of_node (Some d) IGNORED)
       (tell.node (Some n) (Some d) DELETE_SELF means) (tell.node (Some n) (Some d) IGNORED means)
 
   -- as it is where a handle is on it or not
@@ -214,8 +203,10 @@ module _ (objects : Tracked) (bearers : Bearers) (es fs : List Instance) (tell :
       Means objects bearers number loser → IsEnd handles lost number ended →
       ((n : ℕ) → number ≡ Some n → loser ≡ Some (bearers n) → IsGoneWith handles lost n (is_none (u (bearers n)))) →
       AreToldAlike (stands_for objects bearers) es fs (of_end ended) (told.gone u loser)
-  end-told handles lost None ended None u means end gone = subst (λ x. AreToldAlike (stands_for objects bearers) es fs (of_end x) []) (sym end) tell.none
-  end-told handles lost None ended (Some d) u means end gone = subst (λ x. TellsEnd x d (is_none (u d))) (sym end) (untold-end d means (is_none (u d)))
+  end-told handles lost None ended None u means end gone =
+      subst (λ x. AreToldAlike (stands_for objects bearers) es fs (of_end x) []) (sym end) tell.none
+  end-told handles lost None ended (Some d) u means end gone =
+      subst (λ x. TellsEnd x d (is_none (u d))) (sym end) (untold-end d means (is_none (u d)))
   end-told handles lost (Some n) ended None u means end gone = absurd means
   end-told handles lost (Some n) ended (Some d) u means end gone =
       number-end handles lost n d ended end means (is_none (u d))
@@ -226,7 +217,8 @@ number-something : (objects : Tracked) (p : Path) (o : Object) (n : ℕ) → IsN
 number-something objects p o n found other = let z : Some n ≡ None = subst (λ o. IsNumberOf objects p o (Some n)) other found in cc
 
 -- a number that means a node is a tracked object's
-means-known : (objects : Tracked) (bearers : Bearers) (n : ℕ) (d : Option NodeId) → Means objects bearers (Some n) d → IsSome (spot_of objects n)
+means-known :
+    (objects : Tracked) (bearers : Bearers) (n : ℕ) (d : Option NodeId) → Means objects bearers (Some n) d → IsSome (spot_of objects n)
 means-known objects bearers n None h = absurd h
 means-known objects bearers n (Some d) h = h.0
 
@@ -236,19 +228,20 @@ AreTold U s k t = AreToldAlike (stands_for k.objects t.bearers) k.instances s.in
 
 -- so the end of what p leads to is told alike, where it loses the name to the tree u
 pub loser-end :
-    LawOfNumbers → LawOfTold → LawOfLastName → LawOfHeldObjects → (U : Layer) (lowers : List Layer) (s : State) → IsMountOf U lowers s →
+    (U : Layer) (lowers : List Layer) (s : State) → IsMountOf U lowers s →
     HaveOneName s.tree → IsDistinct nat_eq (settling.clients_of s.tables) → (k : Notified) → (t : Tracks U s k) →
     (p : Path) (o : Object) → IsObject U lowers p o → (number ended : Option ℕ) → IsNumberOf k.objects p o number →
     IsEnd k.handles (is_last_name o) number ended → (u : Tree) (ks : List Table) → Goes s.tree u (node_at s.tree p) 1 ks →
     ((x : NodeId) → is_held ks x ≡ is_held s.tables x) →
     AreTold U s k t (of_end ended) (told.gone u (node_at s.tree p))
-loser-end law_of_numbers law_of_told law_of_last_name law_of_held_objects U lowers s m one apart k t p o is number ended found ends u ks goes same =
+loser-end U lowers s m one apart k t p o is number ended found ends
+    u ks goes same =
     end-told k.objects t.bearers k.instances s.instances
     (law_of_told U s k.objects t.bearers k.instances s.instances t.borne t.heard)
     k.handles (is_last_name o) number ended (node_at s.tree p) u (means number found) ends
     (λ n is_number at.
     let found_now = subst (IsNumberOf k.objects p o) is_number found in
-    gone-with law_of_held_objects U s k t apart p o n (means-known k.objects t.bearers n (node_at s.tree p) (means (Some n) found_now))
+    gone-with U s k t apart p o n (means-known k.objects t.bearers n (node_at s.tree p) (means (Some n) found_now))
     (law_of_last_name U lowers s m one p o (t.bearers n) (number-something k.objects p o n found_now) is at)
     u (node_at s.tree p) ks goes same at)
   where

@@ -14,6 +14,7 @@ use Rattle.plain_model.specs.Subjects as told
 use Rattle.plain_model.proofs.LookUp.{parent-shown}
 use Rattle.mount_laws.specs.Looks.{IsMountOf, is_link_inode, shows_link}
 use Rattle.mount_laws.proofs.Looks.{at-some}
+use Rattle.mount_laws.proofs.Opens.{folder-at}
 use Rattle.open_handles.specs.declared.tracked_client.Way.{Way}
 use Rattle.open_handles.specs.Tracked.{Tracked}
 use Rattle.notice_laws.specs.declared.object.Object.{Object}
@@ -22,19 +23,6 @@ use Rattle.notice_laws.specs.Notified.{Bearers, IsWay, stands_alone}
 use Rattle.notice_laws.specs.Objects.{IsObject, IsWayTo, MeansWay, IsShownIn}
 use Rattle.notice_laws.specs.Opens.{IsHeldWay}
 use Rattle.notice_laws.specs.Telling.{marks}
-
--- a node is a directory where what it looks like is one
-face-folder : (o : Option Node) (b : Bool) (x : Option Shown) → face o ≡ see b x → is_folder o ≡ is_directory x
-face-folder None b None is = refl
-face-folder None b (Some (Folder j k a)) is = cc
-face-folder None b (Some (Contents j k i)) is = refl
-face-folder (Some (Branch a c names l)) b None is = cc
-face-folder (Some (Branch a c names l)) b (Some (Folder j k x)) is = refl
-face-folder (Some (Branch a c names l)) b (Some (Contents j k None)) is = cc
-face-folder (Some (Branch a c names l)) b (Some (Contents j k (Some i))) is = cc
-face-folder (Some (Leaf content a u l)) b None is = refl
-face-folder (Some (Leaf content a u l)) b (Some (Folder j k x)) is = cc
-face-folder (Some (Leaf content a u l)) b (Some (Contents j k i)) is = refl
 
 -- a directory is no untouched file or link
 pub folder-touched : (o : Option Node) → is_folder o ≡ true → is_untouched o ≡ false
@@ -67,11 +55,26 @@ face-alone (Some (Leaf (SymbolicLink target) a (Untouched n) l)) b j k i is file
     absurd (false≢true (sym file ∙ ap (λ x. is_link_inode (Some (record i { content = x }))) (sym content)))
 
 -- what neither shows nothing nor a link is no directory
-other-folder : (x : Option Shown) → (is_none x ≡ true) ⊎ (shows_link x ≡ true) → is_directory x ≡ false
+pub other-folder : (x : Option Shown) → (is_none x ≡ true) ⊎ (shows_link x ≡ true) → is_directory x ≡ false
 other-folder None h = refl
 other-folder (Some (Contents j k i)) h = refl
 other-folder (Some (Folder j k a)) (inl h) = absurd (false≢true h)
 other-folder (Some (Folder j k a)) (inr h) = absurd (false≢true h)
+
+-- bits are marked with ISDIR alike by what stands at a path and by its node
+pub marks-alike : (U : Layer) (lowers : List Layer) (s : State) → IsMountOf U lowers s → (p : Path) (o : Object) (bits : ℕ) →
+    IsObject U lowers p o → marks o bits ≡ told.marked (node_of s.tree (node_at s.tree p)) bits
+marks-alike U lowers s m p o bits is = by o is
+  where
+    shown : (b : Bool) → is_directory (shows 0 (U ∷ lowers) p) ≡ b →
+        cond b (bits + ISDIR) bits ≡ told.marked (node_of s.tree (node_at s.tree p)) bits
+    shown b h = sym (ap (λ b. cond b (bits + ISDIR) bits) (folder-at U lowers s m p ∙ h))
+
+    by : (o : Object) → IsObject U lowers p o → marks o bits ≡ told.marked (node_of s.tree (node_at s.tree p)) bits
+    by object.Directory is = shown true is
+    by object.Lower is = shown false (ap is_directory is.shown)
+    by (object.Upper key last) is = shown false (ap is_directory is.shown)
+    by object.Other is = shown false (other-folder (shows 0 (U ∷ lowers) p) is)
 
 -- the node at a path
 module _ (U : Layer) (lowers : List Layer) (s : State) (m : IsMountOf U lowers s) (p : Path) (d : NodeId)
@@ -82,20 +85,7 @@ module _ (U : Layer) (lowers : List Layer) (s : State) (m : IsMountOf U lowers s
 
   -- and is a directory where they show one
   pub at-folder : is_folder (s.tree d) ≡ is_directory (shows 0 (U ∷ lowers) p)
-  at-folder = face-folder (s.tree d) (base U lowers p) (shows 0 (U ∷ lowers) p) looks
-
-  -- so it is told with ISDIR alike
-  pub marks-same : (o : Object) (bits : ℕ) → IsObject U lowers p o → marks o bits ≡ told.marked (node_of s.tree (node_at s.tree p)) bits
-  marks-same o bits is = by o is ∙ sym (ap (λ x. told.marked (node_of s.tree x) bits) at)
-    where
-      leaf : is_directory (shows 0 (U ∷ lowers) p) ≡ false → bits ≡ told.marked (s.tree d) bits
-      leaf none = sym (ap (λ b. cond b (bits + ISDIR) bits) (at-folder ∙ none))
-
-      by : (o : Object) → IsObject U lowers p o → marks o bits ≡ told.marked (s.tree d) bits
-      by object.Directory is = sym (ap (λ b. cond b (bits + ISDIR) bits) (at-folder ∙ is))
-      by object.Lower is = leaf (ap is_directory is.shown)
-      by (object.Upper key last) is = leaf (ap is_directory is.shown)
-      by object.Other is = leaf (other-folder (shows 0 (U ∷ lowers) p) is)
+  at-folder = ap (λ x. is_folder (node_of s.tree x)) (sym at) ∙ folder-at U lowers s m p
 
   -- a file of the upper is not a lower layer's
   pub upper-own : (key : ℕ) (last : Bool) → IsObject U lowers p (object.Upper key last) → is_untouched (s.tree d) ≡ false

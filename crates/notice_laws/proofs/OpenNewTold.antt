@@ -25,16 +25,19 @@ use Rattle.open_handles.specs.Tracked.{Spot, Upper, spot_of}
 use Rattle.open_handles.specs.TrackedHandles.{tracked_by}
 use Rattle.notice_laws.specs.declared.object.Object.TheVariants as object
 use Rattle.notice_laws.specs.Notified.{Notified, AreKnown, Bearers, IsAt, IsSlotOn, AreBorne, Tracks, Passes, stands_for}
-use Rattle.notice_laws.specs.Objects.{IsObject, IsShownIn, MeansWay, LawOfWayNumbers}
-use Rattle.notice_laws.specs.Telling.{TellAlike, LawOfTold, in_way}
-use Rattle.notice_laws.specs.Places.{LawOfAlone, LawOfNowhere, LawOfUpper}
+use Rattle.notice_laws.specs.Objects.{IsObject, IsShownIn, MeansWay}
+use Rattle.notice_laws.specs.Telling.{TellAlike, in_way}
 use Rattle.notice_laws.specs.Opens.{OpenedNew, LawOfOpenedNew}
 use Rattle.notice_laws.proofs.Slots.{AreSameBearers, with-clients, slot-now, way-now}
-use Rattle.notice_laws.proofs.Fewer.{some-spot, alike-known, one-to-one}
-use Rattle.notice_laws.proofs.Closing.{spot-stays}
+use Rattle.notice_laws.proofs.Numbers.{some-is}
+use Rattle.notice_laws.proofs.FewerObjects.{alike-known, one-to-one}
+use Rattle.notice_laws.proofs.Resuming.{stays-at}
 use Rattle.notice_laws.proofs.ObjectNodes.{at-folder, held-way, held-on-way}
 use Rattle.notice_laws.proofs.OpenTold.{open-slots, touched-open}
 use Rattle.notice_laws.proofs.GivenNumbers.{with_bearer, with-here, with-same, given-borne}
+use Rattle.notice_laws.proofs.Numbers.{law_of_way_numbers}
+use Rattle.notice_laws.proofs.Told.{law_of_told}
+use Rattle.notice_laws.proofs.LastNames.{law_of_upper}
 
 -- an open that makes its file leads its path to the node that it makes
 leads-made : (x : Option NodeId) (t u : Tree) (p : Path) (i : NodeId) → x ≡ None → LeadsIfMade x t u p i → LeadsAlso t u p i
@@ -100,27 +103,27 @@ module _ (U V : Layer) (lowers : List Layer) (s : State) (c : ℕ) (p : Path) (f
   next = ap (λ x. next_if (is_none x) s.serial) free
 
   -- each tracked object stays where it is
-  stays : LawOfAlone → LawOfNowhere → (n : ℕ) (spot : Spot) → spot_of old.objects n ≡ Some spot →
+  stays : (n : ℕ) (spot : Spot) → spot_of old.objects n ≡ Some spot →
       IsAt V (after s c (Open p flags mode)).tree spot (t.bearers n)
-  stays alone nowhere n spot there =
-      spot-stays alone nowhere U V lowers s c (Open p flags mode) pass (t.bearers n) (λ i. t.borne.given n i (ap is_some there))
+  stays n spot there =
+      stays-at U V lowers s c (Open p flags mode) pass (t.bearers n) (λ i. t.borne.given n i (ap is_some there))
       (λ q at. leads-still q (t.bearers n) at) spot
-      (λ q at low touched.
+      (λ q at here low touched.
       let z : None ≡ Some (t.bearers n) = sym free ∙ (touched-open flags.writes s.tree p (t.bearers n) touched).1 in cc)
       (t.borne.places n spot there)
 
   -- and the new file is where its key is
-  borne : LawOfAlone → LawOfNowhere → LawOfUpper → (key : ℕ) (last : Bool) → IsObject V lowers p (object.Upper key last) →
+  borne : (key : ℕ) (last : Bool) → IsObject V lowers p (object.Upper key last) →
       (new : Notified) (number : ℕ) → spot_of old.objects number ≡ None → spot_of new.objects number ≡ Some (Upper key) →
       ((n : ℕ) (spot : Spot) → n ≢ number → spot_of new.objects n ≡ Some spot → spot_of old.objects n ≡ Some spot) →
       AreBorne V (after s c (Open p flags mode)).tree (after s c (Open p flags mode)).serial new.objects
       (with_bearer t.bearers number (New s.serial))
-  borne alone nowhere upper key last shown new number unknown here others =
+  borne key last shown new number unknown here others =
       given-borne V (after s c (Open p flags mode)).tree old.objects new.objects t.bearers (after s c (Open p flags mode)).serial number
       (New s.serial)
       (record {
         were = λ n other there.
-            (let spot = some-spot (spot_of new.objects n) there in ap is_some (others n spot.0 other spot.1));
+            (let spot = some-is (spot_of new.objects n) there in ap is_some (others n spot.0 other spot.1));
         one = t.borne.one;
         fresh = fresh;
         others = λ n i there is. subst (λ m. i < m) (sym next) (let before = t.borne.given n i there is in omega arith);
@@ -130,8 +133,8 @@ module _ (U V : Layer) (lowers : List Layer) (s : State) (c : ℕ) (p : Path) (f
       let spots : Some (Upper key) ≡ Some spot = sym here ∙ is in
       let same : Upper key ≡ spot = cc in
       subst (λ x. IsAt V (after s c (Open p flags mode)).tree x (New s.serial)) same
-      (upper V lowers (after s c (Open p flags mode)) pass.now p key last (New s.serial) shown leads.here))
-      (λ n spot other is. stays alone nowhere n spot (others n spot other is))
+      (law_of_upper V lowers (after s c (Open p flags mode)) pass.now p key last (New s.serial) shown leads.here))
+      (λ n spot other is. stays n spot (others n spot other is))
 
   -- descriptors are on the same
   made-slots : (shows : Rule) (fd : ℕ) → lowest_free s.tables c ≡ Some fd → (key : ℕ) (new : Notified) → AreKnown new →
@@ -162,16 +165,15 @@ module _ (U V : Layer) (lowers : List Layer) (s : State) (c : ℕ) (p : Path) (f
       same = with-same old.objects t.bearers done.number (New s.serial) done.unknown
 
 -- an open that makes its file is told, and what is kept for watches is the new state's
-pub law_of_opened_new :
-    LawOfWayNumbers → LawOfTold → (shows : Rule) → LawOfAlone → LawOfNowhere → LawOfUpper → LawOfOpenedNew shows
-law_of_opened_new ways tells shows alone nowhere upper U V lowers s c fd p flags mode pass lowest free key last shown old new t known done =
+pub law_of_opened_new : (shows : Rule) → LawOfOpenedNew shows
+law_of_opened_new shows U V lowers s c fd p flags mode pass lowest free key last shown old new t known done =
     record {
       heard = heard.heard;
       hears = heard.hears;
       tracks = record {
         bearers = with_bearer t.bearers done.number (New s.serial);
         borne =
-            borne U V lowers s c p flags mode pass free old t alone nowhere upper key last shown new done.number done.unknown done.here
+            borne U V lowers s c p flags mode pass free old t key last shown new done.number done.unknown done.here
             done.others;
         clients = done.sets.clients ∙ t.clients ∙ sym (with-clients s.tables c _ _);
         slots = made-slots U V lowers s c p flags mode pass free old t shows fd lowest key new known done entered;
@@ -184,7 +186,7 @@ law_of_opened_new ways tells shows alone nowhere upper U V lowers s c fd p flags
   where
     entered : MeansWay old.objects t.bearers done.way (way_of s.tree p)
     entered =
-        ways U lowers s pass.before old.objects t.bearers t.borne p done.way
+        law_of_way_numbers U lowers s pass.before old.objects t.bearers t.borne p done.way
         (directory U V lowers s c p flags mode pass free old t) (held-way old.objects p done.way done.entered)
 
     heard :
@@ -194,4 +196,4 @@ law_of_opened_new ways tells shows alone nowhere upper U V lowers s c fd p flags
         (in_way done.way CREATE 0 ++ in_way done.way OPEN 0) (subjects s c (Open p flags mode))
         (one-to-one old.objects t.bearers t.borne.one) t.heard
         (made-told U V lowers s c p flags mode pass free old t
-        (tells U s old.objects t.bearers old.instances s.instances t.borne t.heard) done.way entered) done.hears
+        (law_of_told U s old.objects t.bearers old.instances s.instances t.borne t.heard) done.way entered) done.hears

@@ -27,14 +27,17 @@ use Rattle.open_handles.specs.TrackedHandles.{TrackedTables, SetsTracked, tracke
 use Rattle.notice_laws.specs.declared.object.Object.{Object}
 use Rattle.notice_laws.specs.declared.object.Object.TheVariants as object
 use Rattle.notice_laws.specs.Notified.{Notified, Bearers, IsAt, IsSlotOn, IsOnNode, Tracks, Passes, stands_for}
-use Rattle.notice_laws.specs.Objects.{IsObject, IsNumberOf, Means, MeansWay, LawOfNumbers, LawOfWayNumbers}
-use Rattle.notice_laws.specs.Telling.{TellAlike, LawOfTold, LawOfTelling, of_number, in_way, of_both, marks}
+use Rattle.notice_laws.specs.Objects.{IsObject, IsNumberOf, Means, MeansWay}
+use Rattle.notice_laws.specs.Telling.{TellAlike, of_number, in_way, of_both, marks}
 use Rattle.notice_laws.specs.Steps.{Lifts, IsLifted}
-use Rattle.notice_laws.specs.Places.{LawOfAlone, LawOfNowhere, LawOfUpper}
 use Rattle.notice_laws.specs.Opens.{opens_to, LawOfOpened}
 use Rattle.notice_laws.proofs.Slots.{with-clients, law_of_known_slots}
-use Rattle.notice_laws.proofs.Closing.{means-bearer, sets-slots, spot-stays}
-use Rattle.notice_laws.proofs.ObjectNodes.{at-folder, folder-touched, marks-same, upper-own, shown-in, held-way, held-on-way}
+use Rattle.notice_laws.proofs.Closing.{means-bearer, sets-slots}
+use Rattle.notice_laws.proofs.Resuming.{stays-at}
+use Rattle.notice_laws.proofs.ObjectNodes.{at-folder, folder-touched, marks-alike, upper-own, shown-in, held-way, held-on-way}
+use Rattle.notice_laws.proofs.Numbers.{law_of_numbers, law_of_way_numbers}
+use Rattle.notice_laws.proofs.Told.{law_of_told, law_of_telling}
+use Rattle.notice_laws.proofs.LastNames.{law_of_upper}
 
 -- descriptors are on the same after an open, where the new one is on what the machine's is, and the others were on the same
 pub open-slots :
@@ -69,12 +72,12 @@ touched-open true t p d is = (refl, is)
 touched-open false t p d is = cc
 
 -- an open, and what is kept for watches before it
-module _ (numbers : LawOfNumbers) (U V : Layer) (lowers : List Layer) (s : State) (c : ℕ) (p : Path) (flags : OpenFlags) (mode : ℕ)
+module _ (U V : Layer) (lowers : List Layer) (s : State) (c : ℕ) (p : Path) (flags : OpenFlags) (mode : ℕ)
     (pass : Passes U V lowers s c (Open p flags mode)) (o : Object) (is : IsObject U lowers p o) (old : Notified) (t : Tracks U s old)
     (number : ℕ) (found : IsNumberOf old.objects p o (Some number)) where
   -- the number is that of the node that the machine opens
   means : Means old.objects t.bearers (Some number) (node_at s.tree p)
-  means = numbers U lowers s pass.before old.objects t.bearers t.borne p o (Some number) is found
+  means = law_of_numbers U lowers s pass.before old.objects t.bearers t.borne p o (Some number) is found
 
   -- which the path leads to
   here : node_at s.tree p ≡ Some (t.bearers number)
@@ -100,7 +103,7 @@ module _ (numbers : LawOfNumbers) (U V : Layer) (lowers : List Layer) (s : State
       (tell.parts (cond flags.truncate (of_both way (Some number) MODIFY) []) (of_both way (Some number) (marks o OPEN)) tz zs
       (emptied flags.truncate)
       (subst (λ bits. IsTold (of_both way (Some number) (marks o OPEN)) (told.both (way_of s.tree p) (node_at s.tree p) bits))
-      (marks-same U lowers s pass.before p (t.bearers number) here o OPEN is) (both (marks o OPEN))))
+      (marks-alike U lowers s pass.before p o OPEN is) (both (marks o OPEN))))
     where
       IsTold : List Subject → List Subject → Type 0
       IsTold xs ys = AreToldAlike (stands_for old.objects t.bearers) old.instances s.instances xs ys
@@ -149,31 +152,31 @@ module _ (numbers : LawOfNumbers) (U V : Layer) (lowers : List Layer) (s : State
       by object.Other is same = let z : Some number ≡ None = subst (λ x. IsNumberOf old.objects p x (Some number)) same found in cc
 
   -- a tracked object that stays where it was is where its node is
-  stays : LawOfAlone → LawOfNowhere → (n : ℕ) (was : Spot) → spot_of old.objects n ≡ Some was →
+  stays : (n : ℕ) (was : Spot) → spot_of old.objects n ≡ Some was →
       ((q : Path) → was ≡ At q → is_untouched (s.tree (t.bearers n)) ≡ true → touched_by s (Open p flags mode) ≢ Some (t.bearers n)) →
       IsAt V (after s c (Open p flags mode)).tree was (t.bearers n)
-  stays alone nowhere n was there apart =
-      spot-stays alone nowhere U V lowers s c (Open p flags mode) pass (t.bearers n) (λ i. t.borne.given n i (ap is_some there))
-      (λ q at. leads q ∙ at) was apart (t.borne.places n was there)
+  stays n was there apart =
+      stays-at U V lowers s c (Open p flags mode) pass (t.bearers n) (λ i. t.borne.given n i (ap is_some there))
+      (λ q at. leads q ∙ at) was (λ q at here. apart q at) (t.borne.places n was there)
 
   -- each tracked object is where its node is
-  places : LawOfAlone → LawOfNowhere → LawOfUpper → (key : ℕ) → (flags.writes ≡ true → IsLifted old.objects V lowers p o key) →
+  places : (key : ℕ) → (flags.writes ≡ true → IsLifted old.objects V lowers p o key) →
       (n : ℕ) (was spot : Spot) → spot_of old.objects n ≡ Some was → opens_to flags.writes p o key was spot →
       IsAt V (after s c (Open p flags mode)).tree spot (t.bearers n)
-  places alone nowhere upper key lifted n was spot there becomes = by flags.writes refl becomes
+  places key lifted n was spot there becomes = by flags.writes refl becomes
     where
       IsThere : Spot → Type 0
       IsThere x = IsAt V (after s c (Open p flags mode)).tree x (t.bearers n)
 
       same : spot ≡ was → (o ≡ object.Lower → was ≢ At p) → IsThere spot
-      same e elsewhere = subst IsThere (sym e) (stays alone nowhere n was there (untouched n was there elsewhere))
+      same e elsewhere = subst IsThere (sym e) (stays n was there (untouched n was there elsewhere))
 
       rises : (o ≡ object.Lower) → was ≡ At p → spot ≡ Upper key → flags.writes ≡ true → IsThere spot
       rises low at e writes =
           let stands = t.borne.places n (At p) (there ∙ ap Some at) in
           let up = subst (λ x. IsLifted old.objects V lowers p x key) low (lifted writes) n (there ∙ ap Some at) in
           subst IsThere (sym e)
-          (upper V lowers (after s c (Open p flags mode)) pass.now p key up.0 (t.bearers n) up.1 (leads p ∙ stands.0))
+          (law_of_upper V lowers (after s c (Open p flags mode)) pass.now p key up.0 (t.bearers n) up.1 (leads p ∙ stands.0))
 
       written : (x : Object) → o ≡ x → flags.writes ≡ true → Lifts p x key was spot → IsThere spot
       written object.Lower low writes (inl (at, e)) = rises low at e writes
@@ -185,23 +188,21 @@ module _ (numbers : LawOfNumbers) (U V : Layer) (lowers : List Layer) (s : State
       by : (b : Bool) → flags.writes ≡ b → opens_to b p o key was spot → IsThere spot
       by true writes e = written o refl writes e
       by false reads e =
-          subst IsThere (sym e) (stays alone nowhere n was there
+          subst IsThere (sym e) (stays n was there
           (λ q at low touched. false≢true (sym reads ∙ (touched-open flags.writes s.tree p (t.bearers n) touched).0)))
 
 -- an open is told, and what is kept for watches is the new state's
-pub law_of_opened :
-    LawOfNumbers → LawOfWayNumbers → LawOfTold → (shows : Rule) → LawOfTelling shows → LawOfAlone → LawOfNowhere → LawOfUpper →
-    LawOfOpened shows
-law_of_opened numbers ways tells shows telling alone nowhere upper U V lowers s c fd p flags mode pass free o key is old new lifted t
+pub law_of_opened : (shows : Rule) → LawOfOpened shows
+law_of_opened shows U V lowers s c fd p flags mode pass free o key is old new lifted t
     known done =
-    telling U V lowers s c (Open p flags mode) pass old new t known
+    law_of_telling shows U V lowers s c (Open p flags mode) pass old new t known
     (cond flags.truncate (of_both done.way (Some done.number) MODIFY) [] ++ of_both done.way (Some done.number) (marks o OPEN))
     (opens_to flags.writes p o key) done.tells
     (record {
-      told = open-told numbers U V lowers s c p flags mode pass o is old t done.number done.found
-          (tells U s old.objects t.bearers old.instances s.instances t.borne t.heard) done.way entered;
+      told = open-told U V lowers s c p flags mode pass o is old t done.number done.found
+          (law_of_told U s old.objects t.bearers old.instances s.instances t.borne t.heard) done.way entered;
       places = λ n was spot there becomes now.
-          places numbers U V lowers s c p flags mode pass o is old t done.number done.found alone nowhere upper key lifted n was
+          places U V lowers s c p flags mode pass o is old t done.number done.found key lifted n was
           spot there becomes;
       slots = λ k i. law_of_known_slots old new t.bearers known k i _ (slots k i);
       clients = done.sets.clients ∙ t.clients ∙ sym (with-clients s.tables c _ _);
@@ -210,11 +211,11 @@ law_of_opened numbers ways tells shows telling alone nowhere upper U V lowers s 
     })
   where
     at : node_at s.tree p ≡ Some (t.bearers done.number)
-    at = here numbers U V lowers s c p flags mode pass o is old t done.number done.found
+    at = here U V lowers s c p flags mode pass o is old t done.number done.found
 
     entered : MeansWay old.objects t.bearers done.way (way_of s.tree p)
     entered =
-        ways U lowers s pass.before old.objects t.bearers t.borne p done.way
+        law_of_way_numbers U lowers s pass.before old.objects t.bearers t.borne p done.way
         (shown-in U lowers s pass.before p (t.bearers done.number) at) (held-way old.objects p done.way done.entered)
 
     slots : (k i : ℕ) → IsSlotOn old.objects t.bearers (tracked_by new.handles k i) (handle_of (tables_after s c (Open p flags mode)) k i)
@@ -222,7 +223,7 @@ law_of_opened numbers ways tells shows telling alone nowhere upper U V lowers s 
         open-slots old.objects t.bearers old.handles new.handles s c fd p flags mode free
         (record { object = done.number; way = done.way }) done.sets
         (record {
-          known = number-known numbers U V lowers s c p flags mode pass o is old t done.number done.found;
+          known = number-known U V lowers s c p flags mode pass o is old t done.number done.found;
           node = sym (ap (λ x. opens x s.serial) at);
           way = held-on-way old.objects t.bearers s p done.way done.entered entered;
         })

@@ -1,61 +1,30 @@
 -- How what is kept for watches goes on after a call that leaves what descriptors are on: by what it tells, and where objects are then.
-use Rattle.std.proofs.Common.{◌≡◌, ◌≢◌, ℕ, ◌<◌, true, false, List, [], ◌∷◌, Option, None, Some, refl, sym, ap, subst, ◌∙◌}
-use Rattle.std.proofs.lemmas.Bool.{false≢true}
+use Rattle.std.proofs.Common.{◌≡◌, ◌≢◌, ℕ, ◌<◌, true, List, None, Some, refl, sym, ap, subst, ◌∙◌}
 use Rattle.ov_base.specs.declared.call.Call.{Call}
-use Rattle.ov_base.specs.declared.call.Call.TheVariants.{Rename, Arm, TakeNotices}
-use Rattle.ov_base.specs.declared.errno.Errno.{Errno}
 use Rattle.ov_base.specs.declared.node_id.NodeId.{NodeId}
 use Rattle.ov_base.specs.declared.node_id.NodeId.TheVariants.{New}
-use Rattle.plain_model.specs.Layers.{Path, Layer, Shown, Folder, Contents, shows, is_directory}
+use Rattle.plain_model.specs.Layers.{Path, Layer}
 use Rattle.plain_model.specs.Tree.{Tree, node_at, is_untouched}
 use Rattle.plain_model.specs.Watching.{Subject, Rule}
-use Rattle.plain_model.specs.Machine.{State, Look, Found, Absent, Fails, look, handle_of}
-use Rattle.plain_model.specs.Refusals.{walked, there}
-use Rattle.plain_model.specs.Changes.{next_if, moves, instances_after, tables_after, tree_after, after}
+use Rattle.plain_model.specs.Machine.{State, handle_of}
+use Rattle.plain_model.specs.Changes.{next_if, tables_after, tree_after, after}
 use Rattle.plain_model.specs.Subjects.{subjects}
 use Rattle.plain_model.specs.Alike.{AreToldAlike}
-use Rattle.mount_laws.specs.Looks.{or_else as first, fault, way_fault, IsMountOf}
 use Rattle.mount_laws.specs.Nodes.{touched_by}
 use Rattle.mount_laws.specs.Paths.{LeadsBy, LeadsAlso}
 use Rattle.mount_laws.proofs.Leading.{law_of_paths}
-use Rattle.mount_laws.proofs.Looks.{to-parents}
 use Rattle.mount_laws.proofs.OnePath.{law_of_one_path}
 use Rattle.open_handles.specs.Tracked.{Spot, At, Upper, Nowhere, spot_of}
 use Rattle.open_handles.specs.TrackedHandles.{clients_of, tracked_by}
 use Rattle.notice_laws.specs.Notified.{Notified, AreKnown, IsAt, stands_for, IsSlotOn, Tracks, Passes, Resumes}
-use Rattle.notice_laws.specs.Objects.{IsShownIn}
 use Rattle.notice_laws.specs.Telling.{Tells}
 use Rattle.notice_laws.specs.Steps.{keeps_handles}
-use Rattle.notice_laws.specs.Places.{KeepsSlots, LawOfAlone, LawOfNowhere, LawOfSameHandles, LawOfKnownSlots}
+use Rattle.notice_laws.specs.Places.{KeepsSlots}
 use Rattle.notice_laws.proofs.Told.{law_of_telling}
-
--- of two faults the second is none where neither is there
-second-none : (a b : Option Errno) → first a b ≡ None → b ≡ None
-second-none None b h = h
-second-none (Some e) b h = let z : Some e ≡ None = h in cc
-
--- what lets a walk go on is a directory
-fault-directory : (o : Option Shown) → fault o ≡ None → is_directory o ≡ true
-fault-directory None h = cc
-fault-directory (Some (Folder i k a)) h = refl
-fault-directory (Some (Contents i k inode)) h = cc
-
--- a path through which a walk goes on shows a directory
-way-directory : (U : Layer) (lowers : List Layer) (p : Path) → way_fault (U ∷ lowers) p ≡ None → is_directory (shows 0 (U ∷ lowers) p) ≡ true
-way-directory U lowers [] h = refl
-way-directory U lowers (n ∷ p) h = fault-directory (shows 0 (U ∷ lowers) (n ∷ p)) (second-none (way_fault (U ∷ lowers) p) _ h)
-
--- the directory of a path whose parents a walk passes is shown
-pub walked-shown : (U : Layer) (lowers : List Layer) (s : State) → IsMountOf U lowers s → (p : Path) → walked (look s.tree p) ≡ None →
-    IsShownIn U lowers p
-walked-shown U lowers s m [] h = tt
-walked-shown U lowers s m (n ∷ p) h = way-directory U lowers p (sym (to-parents U lowers s m (n ∷ p)) ∙ h)
-
--- a walk that finds something passes its parents
-pub there-walked : (l : Look) → there l ≡ None → walked l ≡ None
-there-walked (Found d) h = refl
-there-walked (Absent d) h = refl
-there-walked (Fails e) h = h
+use Rattle.notice_laws.proofs.Staying.{same-instances, moves-nothing}
+use Rattle.notice_laws.proofs.Alone.{law_of_alone}
+use Rattle.notice_laws.proofs.Nowhere.{law_of_nowhere}
+use Rattle.notice_laws.proofs.Slots.{law_of_known_slots, law_of_same_handles}
 
 -- where paths lead after a call of a mount that is not refused
 pub paths-after : (U V : Layer) (lowers : List Layer) (s : State) (c : ℕ) (call : Call) → Passes U V lowers s c call →
@@ -64,33 +33,22 @@ paths-after U V lowers s c call passes =
     law_of_paths s c call passes.before.kept (law_of_one_path U lowers s passes.before).directories passes.allowed
 
 -- where a path leads somewhere that led nowhere, the others lead where they led
-pub also-leads : (t u : Tree) (p : Path) (e : NodeId) → LeadsAlso t u p e → (d : NodeId) (q : Path) → node_at t q ≡ Some d → node_at u q ≡ Some d
+pub also-leads : (t u : Tree) (p : Path) (e : NodeId) → LeadsAlso t u p e →
+    (d : NodeId) (q : Path) → node_at t q ≡ Some d → node_at u q ≡ Some d
 also-leads t u p e also d q at = also.others q (λ same. let z : None ≡ Some d = sym also.was ∙ ap (node_at t) (sym same) ∙ at in cc) ∙ at
 
--- a call that leaves what descriptors are on leaves the instances
-kept-instances : (s : State) (c : ℕ) (call : Call) → keeps_handles call ≡ true → instances_after s c call ≡ s.instances
-kept-instances s c (Arm slot p mask) h = absurd (false≢true h)
-kept-instances s c (TakeNotices n) h = absurd (false≢true h)
-kept-instances s c _ h = refl
-
--- and moves nothing
-kept-unmoved : (s : State) (c : ℕ) (call : Call) → keeps_handles call ≡ true → moves s call ≡ false
-kept-unmoved s c (Rename p q) h = absurd (false≢true h)
-kept-unmoved s c _ h = refl
-
-module _ (alone : LawOfAlone) (nowhere : LawOfNowhere) (U V : Layer) (lowers : List Layer) (s : State) (c : ℕ) (call : Call)
-    (passes : Passes U V lowers s c call) where
+module _ (U V : Layer) (lowers : List Layer) (s : State) (c : ℕ) (call : Call) (passes : Passes U V lowers s c call) where
   -- a tracked object that is where it was is where its node is
   pub stays-at :
       (d : NodeId) → ((i : ℕ) → d ≡ New i → i < s.serial) →
       ((q : Path) → node_at s.tree q ≡ Some d → node_at (after s c call).tree q ≡ Some d) →
       (spot : Spot) → ((q : Path) → spot ≡ At q → IsAt U s.tree (At q) d → is_untouched (s.tree d) ≡ true → touched_by s call ≢ Some d) →
       IsAt U s.tree spot d → IsAt V (after s c call).tree spot d
-  stays-at d given leads (At q) apart h = alone U V lowers s c call passes d q q h.0 h.1 (apart q refl h) (leads q h.0)
+  stays-at d given leads (At q) apart h = law_of_alone U V lowers s c call passes d q q h.0 h.1 (apart q refl h) (leads q h.0)
   stays-at d given leads (Upper key) apart h = let now = leads h.1 h.2 in (passes.named d key h.1 h.0 now, h.1, now)
-  stays-at d given leads Nowhere apart h = nowhere U V lowers s c call passes d h given
+  stays-at d given leads Nowhere apart h = law_of_nowhere U V lowers s c call passes d h given
 
-module _ (shows : Rule) (same : LawOfSameHandles) (slots : LawOfKnownSlots) (U V : Layer) (lowers : List Layer) (s : State) (c : ℕ) (call : Call)
+module _ (shows : Rule) (U V : Layer) (lowers : List Layer) (s : State) (c : ℕ) (call : Call)
     (passes : Passes U V lowers s c call) (keeps : keeps_handles call ≡ true) where
   -- what such a call tells alike is heard alike, and what is kept is the new state's where objects are at their spots
   pub resumes-kept :
@@ -104,13 +62,13 @@ module _ (shows : Rule) (same : LawOfSameHandles) (slots : LawOfKnownSlots) (U V
         told = told;
         places = λ n was spot e becomes now. places n was spot e becomes;
         slots = λ b i.
-            slots old new k.bearers known b i (handle_of (tables_after s c call) b i)
+            law_of_known_slots old new k.bearers known b i (handle_of (tables_after s c call) b i)
             (subst (λ hs. IsSlotOn old.objects k.bearers (tracked_by hs b i) (handle_of (tables_after s c call) b i)) (sym handles)
             (kept.slots old.objects k.bearers (tracked_by old.handles b i) b i (k.slots b i)));
         clients = ap clients_of handles ∙ k.clients ∙ sym kept.clients;
-        instances = kept-instances s c call keeps;
-        renames = renames ∙ k.renames ∙ sym (ap (λ b. next_if b s.renames) (kept-unmoved s c call keeps));
+        instances = same-instances s c call keeps;
+        renames = renames ∙ k.renames ∙ sym (ap (λ b. next_if b s.renames) (moves-nothing s call keeps));
       })
     where
       kept : KeepsSlots s c call
-      kept = same s c call keeps
+      kept = law_of_same_handles s c call keeps

@@ -24,7 +24,8 @@ goes-on (Some (Contents i k inode)) h = cc
 -- where a walk comes to, a directory is shown
 way-shown : (U : Layer) (lowers : List Layer) (p : Path) → way_fault (U ∷ lowers) p ≡ None → is_directory (shows 0 (U ∷ lowers) p) ≡ true
 way-shown U lowers [] h = refl
-way-shown U lowers (n ∷ p) h = goes-on (shows 0 (U ∷ lowers) (n ∷ p)) (second-none (way_fault (U ∷ lowers) p) (fault (shows 0 (U ∷ lowers) (n ∷ p))) h)
+way-shown U lowers (n ∷ p) h =
+    goes-on (shows 0 (U ∷ lowers) (n ∷ p)) (second-none (way_fault (U ∷ lowers) p) (fault (shows 0 (U ∷ lowers) (n ∷ p))) h)
 
 module _ (U : Layer) (lowers : List Layer) (s : State) (m : IsMountOf U lowers s) where
   -- so the directory of a path is, whose parents are walked
@@ -32,11 +33,13 @@ module _ (U : Layer) (lowers : List Layer) (s : State) (m : IsMountOf U lowers s
   walked-shown [] w = tt
   walked-shown (n ∷ p) w = way-shown U lowers p (sym (to-parents U lowers s m (n ∷ p)) ∙ w)
 
+  -- a walk that finds something passes its parents
   there-walked : (l : Look) → there l ≡ None → walked l ≡ None
   there-walked (Fails e) h = h
   there-walked (Absent d) h = refl
   there-walked (Found d) h = refl
 
+  -- so the directory of what is found is shown
   pub there-shown : (p : Path) → there (look s.tree p) ≡ None → IsShownIn U lowers p
   there-shown p h = walked-shown p (there-walked (look s.tree p) h)
 

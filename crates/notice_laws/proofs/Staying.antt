@@ -2,7 +2,7 @@
 use Rattle.std.proofs.Common.{◌≡◌, ℕ, ◌<◌, Bool, true, false, not, cond, List, [], ◌∷◌, Some, refl, sym, ap, subst, ◌∙◌, arith}
 use Rattle.std.proofs.lemmas.Bool.{false≢true}
 use Rattle.ov_base.specs.declared.call.Call.{Call}
-use Rattle.ov_base.specs.declared.call.Call.TheVariants.{Stat, Readlink, Chmod, Chown, SetAttribute, GetAttribute, DeleteAttribute, ListAttributes, Mkdir, Symlink, Open, Unlink, Rmdir, Hardlink, Rename, Read, Write, Seek, Truncate, Fstat, ListNames, Close, Arm, Disarm, TakeNotices}
+use Rattle.ov_base.specs.declared.call.Call.TheVariants.{Rename, Arm, TakeNotices}
 use Rattle.ov_base.specs.declared.node_id.NodeId.{NodeId}
 use Rattle.plain_model.specs.Layers.{Path, Layer}
 use Rattle.plain_model.specs.Tree.{Tree, node_at}
@@ -14,9 +14,10 @@ use Rattle.plain_model.specs.Subjects.{subjects, rename_subjects}
 use Rattle.mount_laws.specs.OpenFiles.{IsLive}
 use Rattle.open_handles.specs.Tracked.{Spot, At, Upper, Nowhere}
 use Rattle.notice_laws.specs.Notified.{Notified, IsAt, IsSlotOn, Tracks, Passes, Resumes}
-use Rattle.notice_laws.specs.Places.{KeepsSlots, LawOfSameHandles}
+use Rattle.notice_laws.specs.Places.{KeepsSlots}
 use Rattle.notice_laws.specs.Steps.{keeps_handles, LawOfStaying, LawOfSilent}
 use Rattle.notice_laws.specs.Moves.{LawOfUnmoved}
+use Rattle.notice_laws.proofs.Slots.{law_of_same_handles}
 
 -- where a tracked object is it is in another upper that keeps its file live, if it is one
 upper-at :
@@ -45,57 +46,12 @@ law_of_staying U V s k live t = record {
 pub same-instances : (s : State) (c : ℕ) (call : Call) → keeps_handles call ≡ true → instances_after s c call ≡ s.instances
 same-instances s c (Arm slot p mask) h = absurd (false≢true h)
 same-instances s c (TakeNotices n) h = absurd (false≢true h)
-same-instances s c (Stat p) h = refl
-same-instances s c (Readlink p) h = refl
-same-instances s c (Chmod p mode) h = refl
-same-instances s c (Chown p uid gid) h = refl
-same-instances s c (SetAttribute p n v) h = refl
-same-instances s c (GetAttribute p n) h = refl
-same-instances s c (DeleteAttribute p n) h = refl
-same-instances s c (ListAttributes p) h = refl
-same-instances s c (Mkdir p mode) h = refl
-same-instances s c (Symlink target p) h = refl
-same-instances s c (Open p f mode) h = refl
-same-instances s c (Unlink p) h = refl
-same-instances s c (Rmdir p) h = refl
-same-instances s c (Hardlink old new) h = refl
-same-instances s c (Rename old new) h = refl
-same-instances s c (Read fd n) h = refl
-same-instances s c (Write fd bytes) h = refl
-same-instances s c (Seek fd offset whence) h = refl
-same-instances s c (Truncate fd size) h = refl
-same-instances s c (Fstat fd) h = refl
-same-instances s c (ListNames fd n) h = refl
-same-instances s c (Close fd) h = refl
-same-instances s c (Disarm number) h = refl
+same-instances s c _ h = refl
 
 -- and they move nothing
 pub moves-nothing : (s : State) (call : Call) → keeps_handles call ≡ true → moves s call ≡ false
 moves-nothing s (Rename old new) h = absurd (false≢true h)
-moves-nothing s (Arm slot p mask) h = refl
-moves-nothing s (TakeNotices n) h = refl
-moves-nothing s (Stat p) h = refl
-moves-nothing s (Readlink p) h = refl
-moves-nothing s (Chmod p mode) h = refl
-moves-nothing s (Chown p uid gid) h = refl
-moves-nothing s (SetAttribute p n v) h = refl
-moves-nothing s (GetAttribute p n) h = refl
-moves-nothing s (DeleteAttribute p n) h = refl
-moves-nothing s (ListAttributes p) h = refl
-moves-nothing s (Mkdir p mode) h = refl
-moves-nothing s (Symlink target p) h = refl
-moves-nothing s (Open p f mode) h = refl
-moves-nothing s (Unlink p) h = refl
-moves-nothing s (Rmdir p) h = refl
-moves-nothing s (Hardlink old new) h = refl
-moves-nothing s (Read fd n) h = refl
-moves-nothing s (Write fd bytes) h = refl
-moves-nothing s (Seek fd offset whence) h = refl
-moves-nothing s (Truncate fd size) h = refl
-moves-nothing s (Fstat fd) h = refl
-moves-nothing s (ListNames fd n) h = refl
-moves-nothing s (Close fd) h = refl
-moves-nothing s (Disarm number) h = refl
+moves-nothing s _ h = refl
 
 -- nothing is heard of nothing
 hears-nothing : (shows : Rule) (es : List Instance) → AllHear shows [] es es
@@ -146,12 +102,12 @@ quiet shows U V lowers s c call is passes k t = record {
         spot at)
 
 -- after a silent call that opens, closes and moves nothing, all stays as it is
-pub law_of_silent : (shows : Rule) → LawOfSameHandles → LawOfSilent shows
-law_of_silent shows same U V lowers s c call keeps silent passes k t =
+pub law_of_silent : (shows : Rule) → LawOfSilent shows
+law_of_silent shows U V lowers s c call keeps silent passes k t =
     quiet shows U V lowers s c call (record {
       tells = silent.tells;
       tree = silent.tree;
-      slots = same s c call keeps;
+      slots = law_of_same_handles s c call keeps;
       instances = same-instances s c call keeps;
       moves = moves-nothing s call keeps;
     }) passes k t

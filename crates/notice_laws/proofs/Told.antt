@@ -1,19 +1,18 @@
 -- What is told by numbers is told alike, and the call's watches are heard alike.
-use Rattle.std.proofs.Common.{◌≡◌, ◌≢◌, ℕ, ◌<◌, Bool, true, false, List, [], ◌∷◌, Option, None, Some, IsSome, refl, sym, ap, subst, ◌∙◌, inl, inr, is_some, ◌||◌, arith}
+use Rattle.std.proofs.Common.{◌≡◌, ◌≢◌, ℕ, false, List, [], ◌∷◌, Option, None, Some, IsSome, refl, sym, ap, subst, ◌∙◌, inl, inr, is_some, ◌||◌}
 use Rattle.std.specs.List.{list_any, AllZip}
 use Rattle.std.proofs.lemmas.Bool.{cases_Bool}
 use Rattle.ov_base.specs.declared.node_id.NodeId.{NodeId}
 use Rattle.ov_base.specs.declared.node_id.NodeId.TheVariants.{New}
-use Rattle.plain_model.specs.Layers.{Name, Layer}
+use Rattle.plain_model.specs.Layers.{Name}
 use Rattle.plain_model.specs.Tree.{same_id}
 use Rattle.plain_model.specs.Watching.{On, Subject, Watch, Instance, Rule, AllHear}
-use Rattle.plain_model.specs.Machine.{State}
-use Rattle.plain_model.specs.Changes.{makes, next_if, after}
+use Rattle.plain_model.specs.Changes.{makes, after}
 use Rattle.plain_model.specs.Subjects as told
 use Rattle.plain_model.specs.Subjects.{subjects}
-use Rattle.plain_model.specs.Alike.{IsOneToOne, AreAlikeWatches, AreAllAlike, AreToldAlike, TellsAlike, HeardAlike, is_watched}
+use Rattle.plain_model.specs.Alike.{AreAlikeWatches, AreAllAlike, AreToldAlike, TellsAlike, HeardAlike, is_watched}
 use Rattle.plain_model.proofs.Alike.{alike-hearing}
-use Rattle.plain_model.proofs.AlikeKept.{alike-kept, alike-now}
+use Rattle.plain_model.proofs.AlikeKept.{alike-kept}
 use Rattle.plain_model.proofs.Paths.{ids_tell}
 use Rattle.open_handles.specs.declared.tracked_client.Way.{Way}
 use Rattle.open_handles.specs.Tracked.{Tracked, spot_of}
@@ -21,14 +20,8 @@ use Rattle.notice_laws.specs.Notified.{Bearers, AreBorne, stands_for}
 use Rattle.notice_laws.specs.Objects.{Means, MeansWay}
 use Rattle.notice_laws.specs.Telling.{of_number, in_way, LawOfTold, LawOfTelling}
 use Rattle.notice_laws.proofs.Numbers.{some-is}
-
--- numbers stand for nodes one to one
-pub one-to-one : (U : Layer) (s : State) (objects : Tracked) (bearers : Bearers) → AreBorne U s.tree s.serial objects bearers →
-    IsOneToOne (stands_for objects bearers)
-one-to-one U s objects bearers borne a b d e x y = (
-  λ same. let z : New x.0 ≡ New y.0 = sym x.1 ∙ same ∙ y.1 in let n : x.0 ≡ y.0 = cc in sym x.3 ∙ ap bearers n ∙ y.3,
-  λ same. x.1 ∙ ap New (borne.one x.0 y.0 x.2 y.2 (x.3 ∙ same ∙ sym y.3)) ∙ sym y.1,
-)
+use Rattle.notice_laws.proofs.FewerObjects.{one-to-one, alike-known}
+use Rattle.notice_laws.proofs.Staying.{still-given}
 
 -- no number stands for the node
 abbrev pub IsUnknown : Tracked → Bearers → NodeId → Type 0
@@ -66,7 +59,8 @@ module _ (objects : Tracked) (bearers : Bearers) (es fs : List Instance) (alike 
   untold-alike : (d : Option NodeId) (bits : ℕ) → Means objects bearers None d →
       AreToldAlike (stands_for objects bearers) es fs [] (told.of_node d bits)
   untold-alike None bits means = tells.none
-  untold-alike (Some d) bits means = tells.state_alone (telling d bits 0 None) [] [] (unheard objects bearers d means es fs alike) tells.none
+  untold-alike (Some d) bits means =
+      tells.state_alone (telling d bits 0 None) [] [] (unheard objects bearers d means es fs alike) tells.none
 
   -- a number tells what its node tells
   node-alike : (r : Option ℕ) (d : Option NodeId) (bits : ℕ) → Means objects bearers r d →
@@ -91,7 +85,7 @@ module _ (objects : Tracked) (bearers : Bearers) (es fs : List Instance) (alike 
 -- what numbers mean is told alike
 pub law_of_told : LawOfTold
 law_of_told U s objects bearers es fs borne alike =
-    let tells = (alike-kept (stands_for objects bearers) es fs (one-to-one U s objects bearers borne) alike).tells in
+    let tells = (alike-kept (stands_for objects bearers) es fs (one-to-one objects bearers borne.one) alike).tells in
     record {
       node = node-alike objects bearers es fs alike tells;
       way = way-alike objects bearers es fs alike tells;
@@ -99,11 +93,6 @@ law_of_told U s objects bearers es fs borne alike =
       none = tells.none;
       parts = tells.parts;
     }
-
--- no call takes a serial back
-serial-kept : (b : Bool) (n i : ℕ) → i < n → i < next_if b n
-serial-kept true n i h = omega (arith, h)
-serial-kept false n i h = h
 
 -- after a telling the call's watches are heard, and what is kept for watches is the new state's
 pub law_of_telling : (shows : Rule) → LawOfTelling shows
@@ -115,14 +104,15 @@ law_of_telling shows U V lowers s c call passes old new k known ss becomes tells
     borne = borne;
     clients = follows.clients;
     slots = follows.slots;
-    heard = alike-now (stands_for old.objects k.bearers) (stands_for new.objects k.bearers) new.instances heard.heard still heard.alike;
+    heard = alike-known old.objects new.objects k.bearers k.bearers (λ n there. refl) new.instances heard.heard
+        (λ n on there. known.watched n on) heard.alike;
     renames = follows.renames;
   };
 }
   where
     heard : HeardAlike shows (stands_for old.objects k.bearers) old.instances s.instances (subjects s c call) new.instances
     heard = alike-hearing shows (stands_for old.objects k.bearers) old.instances s.instances new.instances ss (subjects s c call)
-        (one-to-one U s old.objects k.bearers k.borne) k.heard follows.told tells.hears
+        (one-to-one old.objects k.bearers k.borne.one) k.heard follows.told tells.hears
 
     was : (n : ℕ) → IsSome (spot_of new.objects n) → IsSome (spot_of old.objects n)
     was n some = let spot = some-is (spot_of new.objects n) some in ap is_some (tells.spots n spot.0 spot.1).1
@@ -130,11 +120,6 @@ law_of_telling shows U V lowers s c call passes old new k known ss becomes tells
     borne : AreBorne V (after s c call).tree (after s c call).serial new.objects k.bearers
     borne = record {
       places = λ n spot e. let t = tells.spots n spot e in follows.places n t.0 spot t.1 t.2 e;
-      given = λ n i some e. serial-kept (makes s call) s.serial i (k.borne.given n i (was n some) e);
+      given = λ n i some e. still-given (makes s call) i s.serial (k.borne.given n i (was n some) e);
       one = λ n i some other e. k.borne.one n i (was n some) (was i other) e;
     }
-
-    still : (a d : NodeId) → is_watched new.instances (On a) ≡ true → stands_for old.objects k.bearers a d →
-        stands_for new.objects k.bearers a d
-    still a d watched stood =
-        (stood.0, stood.1, known.watched stood.0 (subst (λ x. is_watched new.instances (On x) ≡ true) stood.1 watched), stood.3)

@@ -1,6 +1,5 @@
 use Rattle.notice_laws.proofs.Staying.{law_of_silent}
-use Rattle.notice_laws.proofs.Slots.{law_of_same_handles}
 use Rattle.notice_laws.proofs.call_laws.law_of_silent.Goals as goal
 
 pub returns : goal.returns
-returns g c = law_of_silent g.A.AnswerRule.shows law_of_same_handles
+returns g c = law_of_silent g.A.AnswerRule.shows

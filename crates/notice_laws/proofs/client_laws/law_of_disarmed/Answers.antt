@@ -1,7 +1,5 @@
 use Rattle.notice_laws.proofs.ArmedWatches.{law_of_disarmed}
-use Rattle.notice_laws.proofs.Told.{law_of_telling}
-use Rattle.notice_laws.proofs.Slots.{law_of_known_slots}
 use Rattle.notice_laws.proofs.client_laws.law_of_disarmed.Goals as goal
 
 pub returns : goal.returns
-returns g c = law_of_disarmed g.A.AnswerRule.shows (law_of_telling g.A.AnswerRule.shows) law_of_known_slots
+returns g c = law_of_disarmed g.A.AnswerRule.shows

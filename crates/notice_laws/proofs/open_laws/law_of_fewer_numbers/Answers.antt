@@ -1,4 +1,4 @@
-use Rattle.notice_laws.proofs.Fewer.{law_of_fewer_numbers}
+use Rattle.notice_laws.proofs.FewerObjects.{law_of_fewer_numbers}
 use Rattle.notice_laws.proofs.open_laws.law_of_fewer_numbers.Goals as goal
 
 pub returns : goal.returns

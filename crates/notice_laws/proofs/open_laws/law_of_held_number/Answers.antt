@@ -1,6 +1,5 @@
 use Rattle.notice_laws.proofs.GivenNumbers.{law_of_held_number}
-use Rattle.notice_laws.proofs.Numbers.{law_of_numbers}
 use Rattle.notice_laws.proofs.open_laws.law_of_held_number.Goals as goal
 
 pub returns : goal.returns
-returns c = law_of_held_number law_of_numbers
+returns c = law_of_held_number
