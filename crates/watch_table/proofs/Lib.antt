@@ -9,3 +9,4 @@ pub mod Numbers
 pub mod Reaching
 pub mod Indexing
 pub mod Fired
+pub mod Counting

@@ -89,8 +89,8 @@ fn tell_watch<F: Callback, R: Rule>(
         return;
     }
     let hook = &hooks[watch.slot() as usize];
-    let name = match subject.name {
-        Some(name) => Some(EventName::of(name)),
+    let name: Option<EventName> = match subject.name {
+        Some(name) => Some(*name),
         None => None,
     };
     let event = Event {

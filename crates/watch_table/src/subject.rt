@@ -1,5 +1,5 @@
 // Whom a change tells.
-use ov_base::Name;
+use ov_base::EventName;
 
 /// The bits of the event that ends a watch.
 pub const IGNORED: u32 = 0x8000;
@@ -17,5 +17,5 @@ pub struct Subject<'a> {
     pub aim: Aim,
     pub bits: u32,
     pub cookie: u32,
-    pub name: Option<&'a Name>,
+    pub name: Option<&'a EventName>,
 }

@@ -1,5 +1,5 @@
 // The watches of all clients.
-ghost use Rattle.std.specs.Prelude.{◌≡◌, ℕ, ◌<◌, ◌≤◌, ◌∷◌, ◌++◌, [], Some, None, All, IsSome, IfOk, IfErr, OnOk, OnErr, ◌↔◌, IfSome, MatchResult, cond, not, nat_eq, filter, map, length, take, drop};
+ghost use Rattle.std.specs.Prelude.{◌≡◌, ℕ, ◌<◌, ◌≤◌, ◌∷◌, ◌++◌, [], Some, None, All, IsSome, IfOk, IfErr, OnOk, OnErr, ◌↔◌, IfSome, MatchResult, cond, not, nat_eq, filter, map, count_by, length, take, drop};
 ghost use Rattle.std.specs.List.{list_any};
 ghost use Rattle.ov_base.specs.declared.node_id.NodeId.TheVariants.{New};
 ghost use Rattle.plain_model.specs.Watching.{AllHear, silent, is_numbered};
@@ -72,6 +72,14 @@ impl<F: Callback, R: Rule> WatchTable<F, R> {
     {
         self.listeners.lawful();
         !self.objects.watchers(object).is_empty()
+    }
+
+    /// How many clients watch the object of a number. It takes one look-up.
+    pub fn watchers(&self, object: u64) -> usize
+        ensures { result ≡ count_by (λ e. is_on object e.watches) self.now }
+    {
+        self.listeners.lawful();
+        self.objects.watchers(object).len()
     }
 
     /// The watches of a client, in the order of their numbers: at most 16.
