@@ -1,5 +1,5 @@
 // The steps on the entries of a mount's open directories. Each keeps them a tree.
-ghost use Rattle.std.specs.Prelude.{◌≡◌, ◌≢◌, ℕ, ◌+◌, ◌-◌, ◌<◌, ◌∷◌, [], Some, None, IsSome, IfOk, OnOk, OnErr, IfSome, IfNone};
+ghost use Rattle.std.specs.Prelude.{◌≡◌, ◌≢◌, ℕ, ◌+◌, ◌-◌, ◌<◌, ◌∷◌, [], Some, None, IsSome, IfOk, OnOk, OnErr, IfSome, IfNone, reverse};
 ghost use Rattle.slab.specs.Slab.{get, slab_len};
 ghost use Rattle.open_handles.specs.declared.dentry.Place.TheVariants as place;
 ghost use Rattle.open_handles.specs.Dentries.{IsTree, StandsAt, Stands, child, place_at, held};
@@ -32,8 +32,17 @@ pub fn find(entries: &Slab<Dentry>, path: &Path) -> Option<usize>
     ensures found { IfSome result (λ k. StandsAt entries.now k path.now) }
     ensures absent { IfNone result ((k : ℕ) → StandsAt entries.now k path.now → ⊥) }
 {
+    find_names(entries, path.names())
+}
+
+/// The entry that stands at the path of names from the root down.
+pub fn find_names(entries: &Slab<Dentry>, names: &[Name]) -> Option<usize>
+    requires { (idle : ℕ) × IsTree entries.now idle }
+    ensures found { IfSome result (λ k. StandsAt entries.now k (reverse names.now)) }
+    ensures absent { IfNone result ((k : ℕ) → StandsAt entries.now k (reverse names.now) → ⊥) }
+{
     let mut directory = ROOT;
-    for name in path.names() {
+    for name in names {
         directory = child_at(entries, directory, name)?;
     }
     Some(directory)

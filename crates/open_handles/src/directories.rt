@@ -1,5 +1,5 @@
 // The directories of a mount that are open.
-ghost use Rattle.std.specs.Prelude.{◌≡◌, ◌≢◌, ℕ, ◌<◌, ◌↔◌, [], Some, None, IsSome, IfOk, IfSome, IfNone, OnOk, OnErr};
+ghost use Rattle.std.specs.Prelude.{◌≡◌, ◌≢◌, ℕ, ◌<◌, ◌↔◌, [], Some, None, IsSome, IfOk, IfSome, IfNone, OnOk, OnErr, reverse};
 ghost use Rattle.std.specs.Option.{option_and_then, option_copied};
 ghost use Rattle.plain_model.specs.Layers as layers;
 ghost use Rattle.plain_model.specs.Laws.{IsOutside};
@@ -8,7 +8,7 @@ ghost use Rattle.open_handles.specs.Renames.{IsSettled, IsOpenWithin, IsReady, M
 
 use crate::dentries::{self, ROOT, prune};
 use crate::dentry::{Dentry, Place};
-use ov_base::{Attributes, Path};
+use ov_base::{Attributes, Name, Path};
 use slab::Slab;
 use std::alloc::{AllocError, Global};
 use std::hash::RandomState;
@@ -70,7 +70,15 @@ impl OpenDirectories {
         ensures found { IfSome result (λ k. opened self.now k ≡ Some (At path.now)) }
         ensures absent { IfNone result ((k : ℕ) → opened self.now k ≢ Some (At path.now)) }
     {
-        let directory = dentries::find(&self.entries, path)?;
+        self.find_names(path.names())
+    }
+
+    /// The number of the directory that is open at the path of names from the root down.
+    pub fn find_names(&self, names: &[Name]) -> Option<usize>
+        ensures found { IfSome result (λ k. opened self.now k ≡ Some (At (reverse names.now))) }
+        ensures absent { IfNone result ((k : ℕ) → opened self.now k ≢ Some (At (reverse names.now))) }
+    {
+        let directory = dentries::find_names(&self.entries, names)?;
         if self.entries[directory].holders == 0 {
             return None;
         }

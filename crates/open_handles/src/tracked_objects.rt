@@ -1,5 +1,5 @@
 // The objects that watches and handles keep in mind, wherever they are.
-ghost use Rattle.std.specs.Prelude.{◌≡◌, ◌≢◌, ℕ, ◌+◌, ◌-◌, ◌<◌, ◌≤◌, ◌↔◌, [], Some, None, IsSome, IsOk, IfOk, IfSome, IfNone, OnOk, OnErr};
+ghost use Rattle.std.specs.Prelude.{◌≡◌, ◌≢◌, ℕ, ◌+◌, ◌-◌, ◌<◌, ◌≤◌, ◌↔◌, [], Some, None, IsSome, IsOk, IfOk, IfSome, IfNone, OnOk, OnErr, reverse, true};
 ghost use Rattle.plain_model.specs.Layers as layers;
 ghost use Rattle.plain_model.specs.Laws.{IsOutside};
 ghost use Rattle.open_handles.specs.declared.numbers.ObjectPlace.TheVariants as places;
@@ -10,7 +10,7 @@ ghost use Rattle.open_handles.specs.Tracked.{Spot, At, Upper, Nowhere, spot_of, 
 
 use crate::directories::OpenDirectories;
 use crate::numbers::{NumberedObjects, ObjectPlace};
-use ov_base::{Attributes, Mode, Path, UserAttributes};
+use ov_base::{Attributes, Mode, Name, Path, UserAttributes};
 use std::alloc::{AllocError, Global};
 use std::hash::RandomState;
 use std::marker::Model;
@@ -65,8 +65,16 @@ impl TrackedObjects {
         ensures found { IfSome result (λ n. spot_of self.now n ≡ Some (At path.now)) }
         ensures absent { IfNone result (IsVacant self.now (At path.now)) }
     {
+        self.number_at_names(path.names())
+    }
+
+    /// The number of what is tracked at the path of names from the root down.
+    pub fn number_at_names(&self, names: &[Name]) -> Option<u64>
+        ensures found { IfSome result (λ n. spot_of self.now n ≡ Some (At (reverse names.now))) }
+        ensures absent { IfNone result (IsVacant self.now (At (reverse names.now))) }
+    {
         self.directories.lawful();
-        let entry = self.directories.find(path)?;
+        let entry = self.directories.find_names(names)?;
         self.numbers.number_at(ObjectPlace::Entry(entry))
     }
 
@@ -76,6 +84,16 @@ impl TrackedObjects {
         ensures absent { IfNone result (IsVacant self.now (Upper key)) }
     {
         self.numbers.number_at(ObjectPlace::Upper(key))
+    }
+
+    /// Whether an object is tracked, and under no path any more.
+    pub fn is_lost(&self, number: u64) -> bool
+        ensures { (result ≡ true) ↔ (spot_of self.now number ≡ Some Nowhere) }
+    {
+        match self.numbers.place(number) {
+            Some(place) => is_nowhere(place),
+            None => false,
+        }
     }
 
     /// Holds what is at a path for one holder more, and gives its number. It fails only for want of memory, of numbers, or where as many
@@ -290,6 +308,17 @@ fn no_attributes(alloc: Global) -> Attributes
         uid: 0,
         gid: 0,
         user: UserAttributes::new(alloc),
+    }
+}
+
+// Whether a place is that of what is under no path.
+fn is_nowhere(place: ObjectPlace) -> bool
+    ensures { (result ≡ true) ↔ (place ≡ places.Nowhere) }
+{
+    match place {
+        ObjectPlace::Entry(_) => false,
+        ObjectPlace::Upper(_) => false,
+        ObjectPlace::Nowhere => true,
     }
 }
 

@@ -1,7 +1,10 @@
-use Rattle.std.proofs.Common.{sym, ◌∙◌}
-use Rattle.open_handles.proofs.Walking.{no_child_stands}
+use Rattle.std.proofs.Common.{ℕ, reverse, ap, subst, ◌∙◌}
+use Rattle.std.specs.Prelude.{IfNone}
+use Rattle.std.proofs.lemmas.List.{reverse-reverse}
+use Rattle.plain_model.specs.Layers.{Path}
+use Rattle.open_handles.specs.Dentries.{StandsAt}
 use Rattle.open_handles.proofs.dentries.find.Goals as goal
 
-pub returns-in_err-directory-clause-absent : goal.returns-in_err-directory-clause-absent
-returns-in_err-directory-clause-absent c =
-    rw c.from_residual.ensures (no_child_stands c.args.entries.now c.requires.0 c.args.path.now c.names-name-items.result.now c.loop-name.name-index c.loop-name.directory c.name-item.result c.requires.1 c.names-name-items.ensures c.loop-name-test.true (sym c.name-item.is) c.loop-name.invariant (sym c.child_at.ensures ∙ c.in_err-directory.was))
+pub returns-clause-absent : goal.returns-clause-absent
+returns-clause-absent c =
+    subst (λ (p : Path). IfNone c.find_names.result ((k : ℕ) → StandsAt c.args.entries.now k p → ⊥)) (ap reverse c.names.ensures ∙ reverse-reverse c.args.path.now) c.find_names.ensures.absent
