@@ -1,0 +1,4 @@
+pub mod Hearing
+pub mod Counting
+pub mod Told
+pub mod Coming

@@ -1,0 +1,70 @@
+// Clients that come and go, and what they read.
+ghost use Rattle.std.specs.Prelude.{◌≡◌, ◌<◌, ◌≤◌, ◌↔◌, ℕ, None, Some, All, IsSome, IfErr, IfOk, OnErr, OnOk, length, map, take, true};
+ghost use Rattle.plain_model.specs.Machine.{instance_of};
+ghost use Rattle.plain_model.specs.Replies.{queue_of};
+ghost use Rattle.open_handles.specs.TrackedHandles.{is_tracked, tracked_by};
+ghost use Rattle.notice_laws.specs.Clients.{Departs, Joins, Takes};
+ghost use Rattle.notifier.specs.Notifying.{IsAsBefore};
+
+use crate::kept::Notifier;
+use ov_base::{Errno, Notices};
+use std::alloc::{AllocError, Global};
+use watch_table::{Callback, HOOKS_MAX, Hook, NotAttached, Rule};
+
+impl<F: Callback, R: Rule> Notifier<F, R> {
+    /// Attaches a client, whose number is above all others, with its hooks, and nothing open. Over 16 hooks are EINVAL, and want of memory
+    /// is ENOMEM; the hooks are handed back, and all is as before.
+    pub fn attach(
+        &mut self,
+        alloc: Global,
+        client: u64,
+        hooks: Vec<Hook<F, R>>,
+    ) -> Result<(), NotAttached<F, R>>
+        requires opens { (c : ℕ) → is_tracked self.old.handles c ≡ true → c < client }
+        requires watches { All (λ e. e.client < client) self.old.instances }
+        ensures joins { IfOk result (λ _. Joins self.old self.new client (map (λ h. h.tag) hooks.items)) }
+        ensures few { OnOk result (length hooks.items ≤ 16) }
+        ensures back { IfErr result (λ fault. fault.hooks ≡ hooks) }
+        ensures many { IfErr result (λ fault. (fault.errno ≡ Errno.EINVAL) ↔ (16 < length hooks.items)) }
+        ensures memory { IfErr result (λ fault. length hooks.items ≤ 16 → fault.errno ≡ Errno.ENOMEM) }
+        ensures same { OnErr result (IsAsBefore self.old self.new) }
+    {
+        if hooks.len() > HOOKS_MAX {
+            return Err(NotAttached {
+                errno: Errno::EINVAL,
+                hooks,
+            });
+        }
+        if self.handles.attach(alloc, client).is_err() {
+            return Err(NotAttached {
+                errno: Errno::ENOMEM,
+                hooks,
+            });
+        }
+        match self.watches.attach(alloc, client, hooks) {
+            Ok(()) => Ok(()),
+            Err(fault) => {
+                self.handles.detach(client);
+                Err(fault)
+            }
+        }
+    }
+
+    /// Detaches a client with nothing open, whose watches were let go. It takes no memory.
+    pub fn depart(&mut self, client: u64)
+        requires { (d : ℕ) → tracked_by self.old.handles client d ≡ None }
+        ensures { Departs self.old self.new client }
+    {
+        self.handles.detach(client);
+    }
+
+    /// Takes out the first unread notices of a client, at most so many. Want of memory leaves them all.
+    pub fn taken(&mut self, alloc: Global, client: u64, count: u32) -> Result<Notices, AllocError>
+        requires { IsSome (instance_of self.old.instances client) }
+        ensures taken { IfOk result (λ notices. notices ≡ take count (queue_of (instance_of self.old.instances client))) }
+        ensures takes { OnOk result (Takes self.old self.new client count) }
+        ensures err { OnErr result (self.new ≡ self.old) }
+    {
+        self.watches.take(alloc, client, count)
+    }
+}

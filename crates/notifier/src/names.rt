@@ -1,0 +1,74 @@
+// What names that come and go tell.
+ghost use Rattle.std.specs.Prelude.{◌≡◌};
+ghost use Rattle.notice_laws.specs.Objects.{IsNumberOf};
+ghost use Rattle.notice_laws.specs.Steps.{Loses, Made, Removed, Unlinked, is_last_name};
+ghost use Rattle.notice_laws.specs.Telling.{IsEnd};
+ghost use Rattle.notifier.specs.Notifying.{Becomes, IsOther};
+
+use crate::bits::{ATTRIB, DELETE, ISDIR};
+use crate::kept::Notifier;
+use notice_laws::Object;
+use ov_base::Path;
+use watch_table::{Callback, Rule};
+
+// Whether what stands at a path has no other name.
+fn is_last_name(object: Object) -> bool
+    ensures { result ≡ is_last_name object }
+{
+    match object {
+        Object::Upper { key: _, last } => last,
+        _ => true,
+    }
+}
+
+impl<F: Callback, R: Rule> Notifier<F, R> {
+    /// Tells that a directory or a link was made at a path, by the bits of that event. It takes no memory.
+    pub fn made(&mut self, path: &Path, bits: u32)
+        requires { IsOther bits }
+        ensures { Made R.shows self.old self.new path.now bits }
+    {
+        let way = self.way_to(path);
+        self.tell_way(way, bits);
+    }
+
+    // Tells that what stands at a path loses this name. It gives its number, and again where the object ends by it.
+    fn lose_name(&mut self, path: &Path, object: Object) -> (Option<u64>, Option<u64>)
+        ensures number { IsNumberOf self.old.objects path.now object result.0 }
+        ensures ended { IsEnd self.old.handles (is_last_name object) result.0 result.1 }
+        ensures lost { Becomes (Loses path.now object) self.old.objects self.new.objects }
+        ensures rest { self.new ≡ record self.old { objects = self.new.objects } }
+    {
+        self.lawful();
+        let number = self.number_of(path, object);
+        let is_last = is_last_name(object);
+        let ended = self.end_of(number, is_last);
+        match number {
+            Some(lost) if is_last => {
+                self.lose(lost);
+                (number, ended)
+            }
+            _ => (number, ended),
+        }
+    }
+
+    /// Tells that a name of a file or link is gone. It takes no memory.
+    pub fn unlinked(&mut self, path: &Path, object: Object)
+        ensures { Unlinked R.shows self.old self.new path.now object }
+    {
+        let way = self.way_to(path);
+        let (number, ended) = self.lose_name(path, object);
+        self.tell_way(way, DELETE);
+        self.tell_number(number, ATTRIB);
+        self.tell_end(ended);
+    }
+
+    /// Tells that a directory is gone. It takes no memory.
+    pub fn removed(&mut self, path: &Path)
+        ensures { Removed R.shows self.old self.new path.now }
+    {
+        let way = self.way_to(path);
+        let (_, ended) = self.lose_name(path, Object::Directory);
+        self.tell_way(way, DELETE + ISDIR);
+        self.tell_end(ended);
+    }
+}
