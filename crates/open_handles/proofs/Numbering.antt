@@ -268,6 +268,10 @@ pub in_ok : {X E : Type 0} (P : Type 0) (r : Result X E) → IsOk r → OnOk r P
 in_ok P (Ok x) ok holds = holds
 in_ok P (Err e) ok holds = absurd (cc)
 
+-- what comes to nowhere from there leaves what is found at places
+unlisted : (t : PlacedNumbers) (number : ℕ) → Relists t t number Nowhere Nowhere
+unlisted t number = record { here = λ some. absurd (some refl); gone = λ some. absurd (some refl); nowhere = λ none. none; others = λ _ _ _. refl }
+
 -- objects are numbered, and their tables become others
 module _ (t : Numbers) (objects : Objects) (placed : PlacedNumbers) (numbered : AreNumbered t) where
   -- they with these tables
@@ -293,6 +297,17 @@ module _ (t : Numbers) (objects : Objects) (placed : PlacedNumbers) (numbered : 
       let new : Numbers = retabled (t.next + 1) in
       let adds = sets t new t.next (Some o) writes in
       moved t new t.next numbered o.holders (Some o.place) adds relists (λ _. vacant) (λ _. omega arith) (λ _. omega arith) (omega arith)
+
+  -- where an object that is nowhere gets the next number, all are still numbered
+  pub added-nowhere : (o : NumberedObject) → o.holders ≡ 1 → o.place ≡ Nowhere → Writes t.objects objects t.next (Some o) → placed ≡ t.placed
+      → AreNumbered (retabled (t.next + 1))
+  added-nowhere o one off writes same =
+      let from : Nowhere ≡ place_or_nowhere (place_of t t.next) = ap place_or_nowhere (sym (fresh t numbered (place_of t t.next) refl)) in
+      let stays : Relists t.placed placed t.next Nowhere Nowhere = subst (λ p. Relists t.placed p t.next Nowhere Nowhere) (sym same) (unlisted t.placed t.next) in
+      let relists = subst (λ p. Relists t.placed placed t.next p Nowhere) from stays in
+      let new : Numbers = retabled (t.next + 1) in
+      let adds = subst (λ p. SetsNumber t new t.next (Some p) o.holders) off (sets t new t.next (Some o) writes) in
+      moved t new t.next numbered o.holders (Some Nowhere) adds relists (λ e. absurd (e refl)) (λ _. omega arith) (λ _. omega arith) (omega arith)
 
   -- an object is in the table
   module _ (number : ℕ) (o : NumberedObject) (at : get nat_eq t.objects number ≡ Some o) where

@@ -48,40 +48,40 @@ pub fn find_names(entries: &Slab<Dentry>, names: &[Name]) -> Option<usize>
     Some(directory)
 }
 
-/// Makes a handle more hold the directory at a path, for which it makes the entries that lack. Want of memory leaves all as it was, and
-/// so does a directory that as many handles hold as can be counted.
+/// Makes a handle more hold the directory at the path of names from the root down, for which it makes the entries that lack. Want of
+/// memory leaves all as it was, and so does a directory that as many handles hold as can be counted.
 pub fn open(
     entries: &mut Slab<Dentry>,
     alloc: Global,
     keys: RandomState,
-    path: &Path,
+    names: &[Name],
 ) -> Result<usize, AllocError>
     requires { IsTree entries.old ROOT }
     ensures tree { IsTree entries.new ROOT }
-    ensures opens { IfOk result (λ k. Opens entries.old entries.new path.now k) }
+    ensures opens { IfOk result (λ k. Opens entries.old entries.new (reverse names.now) k) }
     ensures err { OnErr result (SameHandles entries.old entries.new) }
 {
-    let directory = reach(entries, alloc, keys, path)?;
+    let directory = reach(entries, alloc, keys, names)?;
     hold(entries, directory)?;
     Ok(directory)
 }
 
-/// Gives the entry at a path, for which it makes those that lack, and which may be idle then. What is open stays as it is. Want of memory
-/// leaves no idle entry.
+/// Gives the entry at the path of names from the root down, for which it makes those that lack, and which may be idle then. What is open
+/// stays as it is. Want of memory leaves no idle entry.
 pub fn reach(
     entries: &mut Slab<Dentry>,
     alloc: Global,
     keys: RandomState,
-    path: &Path,
+    names: &[Name],
 ) -> Result<usize, AllocError>
     requires { IsTree entries.old ROOT }
     ensures same { SameHandles entries.old entries.new }
     ensures tree { IfOk result (λ k. IsTree entries.new k) }
-    ensures stands { IfOk result (λ k. StandsAt entries.new k path.now) }
+    ensures stands { IfOk result (λ k. StandsAt entries.new k (reverse names.now)) }
     ensures err { OnErr result (IsTree entries.new ROOT) }
 {
     let mut reached = ROOT;
-    for name in path.names() {
+    for name in names {
         match enter(entries, alloc, keys, reached, name) {
             Ok(below) => reached = below,
             Err(fault) => {

@@ -91,10 +91,18 @@ impl OpenDirectories {
         ensures opens { IfOk result (λ k. Opens self.old self.new path.now k) }
         ensures err { OnErr result (SameHandles self.old self.new) }
     {
+        self.open_names(path.names())
+    }
+
+    /// Opens the directory at the path of names from the root down in the same way.
+    pub fn open_names(&mut self, names: &[Name]) -> Result<usize, AllocError>
+        ensures opens { IfOk result (λ k. Opens self.old self.new (reverse names.now) k) }
+        ensures err { OnErr result (SameHandles self.old self.new) }
+    {
         let alloc = self.alloc;
         let keys = self.keys;
         prune(&mut self.entries, self.pending);
-        dentries::open(&mut self.entries, alloc, keys, path)
+        dentries::open(&mut self.entries, alloc, keys, names)
     }
 
     /// Closes a directory for one handle. Where that was the last one, nothing of the directory is kept.
@@ -130,7 +138,7 @@ impl OpenDirectories {
         let keys = self.keys;
         prune(&mut self.entries, self.pending);
         if dentries::find(&self.entries, old).is_some() {
-            self.pending = dentries::reach(&mut self.entries, alloc, keys, new)?;
+            self.pending = dentries::reach(&mut self.entries, alloc, keys, new.names())?;
         }
         Ok(())
     }

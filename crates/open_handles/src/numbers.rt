@@ -119,6 +119,26 @@ impl NumberedObjects {
         number
     }
 
+    /// Gives the next number to what is nowhere yet, with one holder. It takes no memory.
+    pub fn add_nowhere(&mut self) -> u64
+        requires left { self.old.next < NUMBER_MAX }
+        requires number_room { 0 < number_room self.old }
+        ensures number { result ≡ self.old.next }
+        ensures next { self.new.next ≡ self.old.next + 1 }
+        ensures adds { SetsNumber self.old self.new result (Some Nowhere) 1 }
+        ensures number_room { number_room self.old ≤ number_room self.new + 1 }
+        ensures place_room { place_room self.old ≤ place_room self.new }
+    {
+        let number = self.next;
+        let object = NumberedObject {
+            place: ObjectPlace::Nowhere,
+            holders: 1,
+        };
+        let _ = self.objects.insert(number, object);
+        self.next += 1;
+        number
+    }
+
     /// Whether a number is left for one more object.
     pub fn has_next(&self) -> bool
         ensures { IsTrue result ↔ self.now.next < NUMBER_MAX }

@@ -105,20 +105,31 @@ impl TrackedObjects {
         ensures prepared { (n : ℕ) → spot_of self.old n ≡ Some (At path.now) → KeepsPrepared self.old self.new }
         ensures room { 0 < room self.old → 0 < room self.new }
     {
+        self.hold_at_names(path.names())
+    }
+
+    /// Holds what is at the path of names from the root down in the same way.
+    pub fn hold_at_names(&mut self, names: &[Name]) -> Result<u64, AllocError>
+        ensures holds { IfOk result (λ n. Holds self.old self.new (At (reverse names.now)) n) }
+        ensures err { OnErr result (SameSpots self.old self.new) }
+        ensures succeeds { (n : ℕ) → spot_of self.old n ≡ Some (At (reverse names.now)) → holders_of self.old n < HOLDERS_MAX → IsOk result }
+        ensures prepared { (n : ℕ) → spot_of self.old n ≡ Some (At (reverse names.now)) → KeepsPrepared self.old self.new }
+        ensures room { 0 < room self.old → 0 < room self.new }
+    {
         self.lawful();
-        match self.number_at(path) {
+        match self.number_at_names(names) {
             Some(number) => {
                 self.hold(number, 1)?;
                 Ok(number)
             }
-            None => self.track_at(path),
+            None => self.track_at(names),
         }
     }
 
-    // Gives the next number to what is at a path.
-    fn track_at(&mut self, path: &Path) -> Result<u64, AllocError>
-        requires { IsVacant self.old (At path.now) }
-        ensures holds { IfOk result (λ n. Holds self.old self.new (At path.now) n) }
+    // Gives the next number to what is at the path of names from the root down.
+    fn track_at(&mut self, names: &[Name]) -> Result<u64, AllocError>
+        requires { IsVacant self.old (At (reverse names.now)) }
+        ensures holds { IfOk result (λ n. Holds self.old self.new (At (reverse names.now)) n) }
         ensures err { OnErr result (SameSpots self.old self.new) }
         ensures room { 0 < room self.old → 0 < room self.new }
     {
@@ -128,7 +139,7 @@ impl TrackedObjects {
             return Err(AllocError);
         }
         self.numbers.reserve()?;
-        let entry = self.directories.open(path)?;
+        let entry = self.directories.open_names(names)?;
         Ok(self.numbers.add_reserved(ObjectPlace::Entry(entry)))
     }
 
@@ -165,6 +176,26 @@ impl TrackedObjects {
         }
         self.numbers.reserve()?;
         Ok(self.numbers.add_reserved(ObjectPlace::Upper(key)))
+    }
+
+    /// Gives the next number, with one holder, to what is nowhere yet, and makes room for it to come into the upper. It fails only for
+    /// want of memory or of numbers, and changes nothing then.
+    pub fn hold_new(&mut self) -> Result<u64, AllocError>
+        ensures number { IfOk result (λ n. n ≡ next_of self.old) }
+        ensures unknown { IfOk result (λ n. spot_of self.old n ≡ None) }
+        ensures holds { IfOk result (λ n. SetsSpot self.old self.new n (Some Nowhere) 1) }
+        ensures next { OnOk result (next_of self.new ≡ next_of self.old + 1) }
+        ensures made { OnOk result (0 < room self.new) }
+        ensures err { OnErr result (SameSpots self.old self.new) }
+        ensures prepared { KeepsPrepared self.old self.new }
+        ensures room { room self.old ≤ room self.new }
+    {
+        self.numbers.lawful();
+        if !self.numbers.has_next() {
+            return Err(AllocError);
+        }
+        self.numbers.reserve()?;
+        Ok(self.numbers.add_nowhere())
     }
 
     /// Counts so many holders more. It fails only where they can't be counted, and changes nothing then.

@@ -1,4 +1,4 @@
-use Rattle.std.proofs.Common.{inl}
+use Rattle.std.proofs.Common.{inl, reverse}
 use Rattle.open_handles.specs.Dentries.{ROOT}
 use Rattle.open_handles.proofs.Moving.{tree-same, tree-settled}
 use Rattle.open_handles.proofs.Handles.{same-handles, same-trans, tree-held, opens}
@@ -19,8 +19,8 @@ returns-in_err-hold-clause-err c =
 
 pub returns-clause-tree : goal.returns-clause-tree
 returns-clause-tree c =
-    tree-held c.args.entries.now c.reach.new.entries c.hold.new.entries c.in_ok-directory.directory c.args.path.now c.reach.ensures.same c.in_ok-directory.ensures.tree c.in_ok-directory.ensures.stands c.in_ok-hold.ensures.ok
+    tree-held c.args.entries.now c.reach.new.entries c.hold.new.entries c.in_ok-directory.directory (reverse c.args.names.now) c.reach.ensures.same c.in_ok-directory.ensures.tree c.in_ok-directory.ensures.stands c.in_ok-hold.ensures.ok
 
 pub returns-clause-opens : goal.returns-clause-opens
 returns-clause-opens c =
-    opens c.args.entries.now c.reach.new.entries c.hold.new.entries c.in_ok-directory.directory c.args.path.now c.reach.ensures.same c.in_ok-directory.ensures.tree c.in_ok-directory.ensures.stands c.in_ok-hold.ensures.ok
+    opens c.args.entries.now c.reach.new.entries c.hold.new.entries c.in_ok-directory.directory (reverse c.args.names.now) c.reach.ensures.same c.in_ok-directory.ensures.tree c.in_ok-directory.ensures.stands c.in_ok-hold.ensures.ok

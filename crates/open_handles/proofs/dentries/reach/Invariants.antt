@@ -9,5 +9,5 @@ invariant-loop-name l =
     record {
       tree : IsTree l.entries l.reached;
       same : SameHandles l.fn.entries l.entries;
-      stands : StandsAt l.entries l.reached (reverse (take l.name-index l.name-items));
+      stands : StandsAt l.entries l.reached (reverse (take l.name-index l.names));
     }

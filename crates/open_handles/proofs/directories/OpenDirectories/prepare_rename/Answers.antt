@@ -1,4 +1,5 @@
-use Rattle.std.proofs.Common.{◌≡◌, ℕ, true, false, Option, Some, None, IfSome, IfNone, is_some, sym, subst, ◌∙◌, true≢false}
+use Rattle.std.proofs.Common.{◌≡◌, ℕ, true, false, Option, Some, None, IfSome, IfNone, is_some, reverse, sym, ap, subst, ◌∙◌, true≢false}
+use Rattle.std.proofs.lemmas.List.{reverse-reverse}
 use Rattle.open_handles.specs.Dentries.{Dentries, StandsAt}
 use Rattle.open_handles.specs.Renames.{IsOpenWithin}
 use Rattle.open_handles.proofs.Walking.{on_err}
@@ -32,7 +33,10 @@ pub returns-in_ok-self-inside-clause-none : goal.returns-in_ok-self-inside-claus
 returns-in_ok-self-inside-clause-none c none = absurd (none (opened-within (goal.at.returns-in_ok-self-inside-clause-none c).After-is_some c.if-is_some.true))
 
 pub returns-in_ok-self-inside-clause-ready : goal.returns-in_ok-self-inside-clause-ready
-returns-in_ok-self-inside-clause-ready c = ready-reached c.reach.new.entries c.in_ok-self-inside.field-0 c.args.old.now c.args.new.now c.in_ok-self-inside.ensures.stands c.in_ok-self-inside.ensures.tree
+returns-in_ok-self-inside-clause-ready c =
+    let path = ap reverse c.names.ensures ∙ reverse-reverse c.args.new.now in
+    let stands = subst (StandsAt c.reach.new.entries c.in_ok-self-inside.field-0) path c.in_ok-self-inside.ensures.stands in
+    ready-reached c.reach.new.entries c.in_ok-self-inside.field-0 c.args.old.now c.args.new.now stands c.in_ok-self-inside.ensures.tree
 
 pub returns-else-is_some-clause-ready : goal.returns-else-is_some-clause-ready
 returns-else-is_some-clause-ready c =
