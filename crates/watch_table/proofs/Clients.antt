@@ -59,7 +59,8 @@ place-client c i [] d h = absurd h
 place-client c zero (e ∷ es) d h = h
 place-client c (suc i) (e ∷ es) d h = place-client c i es d h.1
 
-absent-at_client : (c : ℕ) (f : Instance → Instance) (es : List Instance) → IsAbsent c es → at_client c f es ≡ es
+-- a client without an instance changes none
+pub absent-at_client : (c : ℕ) (f : Instance → Instance) (es : List Instance) → IsAbsent c es → at_client c f es ≡ es
 absent-at_client c f [] h = refl
 absent-at_client c f (e ∷ es) h = ap (λ b. cond b (f e) e ∷ at_client c f es) (nat_ne e.client c h.0)
     ∙ ap (λ xs. e ∷ xs) (absent-at_client c f es h.1)

@@ -192,7 +192,7 @@ kept-watches c f es n k same kept = changed-watches c f es n k same ∙ by (nat_
     by false = refl
 
 -- what an instance watches where an object is armed
-armed-on : (slot o mask n : ℕ) (e : Instance) → is_on n (armed_on slot (Some (New o)) mask e).watches ≡ (is_on n e.watches || nat_eq n o)
+pub armed-on : (slot o mask n : ℕ) (e : Instance) → is_on n (armed_on slot (Some (New o)) mask e).watches ≡ (is_on n e.watches || nat_eq n o)
 armed-on slot o mask n e = by (is_some (watch_on e.watches (Some (New o)))) refl
   where
     already : (a b : Bool) → (b ≡ true → a ≡ true) → a ≡ (a || b)

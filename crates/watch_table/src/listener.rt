@@ -1,11 +1,12 @@
 // The inotify instance of one client.
 ghost use Rattle.std.specs.Prelude.{◌≡◌, ◌<◌, ◌≤◌, ◌+◌, ◌^◌, [], Option, None, Some, IfOk, IfErr, OnOk, OnErr, ◌↔◌, All, MatchResult, MatchOption, false, find, option_map, map, flat_map, length, take, drop};
 ghost use Rattle.std.specs.Vec.{vec_capacity};
-ghost use Rattle.std.specs.List.{list_any};
+ghost use Rattle.std.specs.List.{list_any, IsDistinct};
 ghost use Rattle.ov_base.specs.declared.node_id.NodeId.TheVariants.{New};
 ghost use Rattle.ov_base.specs.declared.notice.Notice.{Notice};
 ghost use Rattle.plain_model.specs.Watching as plain;
 ghost use Rattle.plain_model.specs.Watching.{IsEvent, Puts, put_answer, silent};
+ghost use Rattle.plain_model.specs.Tree.{same_id};
 ghost use Rattle.plain_model.specs.Machine.{watch_on};
 ghost use Rattle.plain_model.specs.Refusals.{is_busy};
 ghost use Rattle.plain_model.specs.Changes.{armed_on};
@@ -219,9 +220,10 @@ impl<F: Callback, R: Rule> Listener<F, R> {
         self.client
     }
 
-    // The client's watches.
+    // The client's watches, no two on one object.
     pub(crate) fn watches(&self) -> &[Watch]
-        ensures { result.now ≡ self.now.watches }
+        ensures watches { result.now ≡ self.now.watches }
+        ensures apart { IsDistinct same_id (map (λ w. w.node) result.now) }
     {
         self.watches.as_slice()
     }

@@ -1,12 +1,13 @@
 // The watches of all clients.
-ghost use Rattle.std.specs.Prelude.{◌≡◌, ℕ, ◌<◌, ◌≤◌, ◌∷◌, ◌++◌, [], Some, None, All, IsSome, IfOk, IfErr, OnOk, OnErr, ◌↔◌, IfSome, MatchResult, cond, not, nat_eq, filter, map, count_by, length, take, drop};
-ghost use Rattle.std.specs.List.{list_any};
+ghost use Rattle.std.specs.Prelude.{◌≡◌, ℕ, ◌<◌, ◌≤◌, ◌∷◌, ◌++◌, [], Some, None, All, IsSome, IfOk, IfErr, OnOk, OnErr, ◌↔◌, IfSome, MatchResult, cond, not, nat_eq, filter, map, count_by, length, take, drop, MatchOption, false};
+ghost use Rattle.std.specs.List.{list_any, IsDistinct};
 ghost use Rattle.ov_base.specs.declared.node_id.NodeId.TheVariants.{New};
 ghost use Rattle.plain_model.specs.Watching.{AllHear, silent, is_numbered};
+ghost use Rattle.plain_model.specs.Tree.{same_id};
 ghost use Rattle.plain_model.specs.Machine.{instance_of, hooks_of, watches_of, armed_of, watch_on};
 ghost use Rattle.plain_model.specs.Changes.{at_client, armed_on};
 ghost use Rattle.plain_model.specs.Replies.{queue_of, number_of, next_number};
-ghost use Rattle.watch_table.specs.Clients.{AllHearOne, watches};
+ghost use Rattle.watch_table.specs.Clients.{AllHearOne, AreRising, clients_of, watches, AreOnlyOn};
 ghost use Rattle.watch_table.specs.Listening.{is_on, slot_refusal, arm_refusal};
 ghost use Rattle.watch_table.specs.Subjects.{IsSubject, subject_of, subjects_of};
 ghost use Rattle.watch_table.specs.Watched.{watchers_of};
@@ -66,6 +67,13 @@ impl<F: Callback, R: Rule> WatchTable<F, R> {
         }
     }
 
+    /// What always holds, for those who reason about it; it does nothing.
+    pub fn lawful(&self)
+        ensures { AreRising (clients_of self.now) }
+    {
+        self.listeners.lawful();
+    }
+
     /// Whether a client watches the object of a number. It takes one look-up.
     pub fn is_watched(&self, object: u64) -> bool
         ensures { result ≡ list_any (λ e. is_on object e.watches) self.now }
@@ -82,10 +90,11 @@ impl<F: Callback, R: Rule> WatchTable<F, R> {
         self.objects.watchers(object).len()
     }
 
-    /// The watches of a client, in the order of their numbers: at most 16.
+    /// The watches of a client, in the order of their numbers, no two on one object: at most 16.
     pub fn watches(&self, client: u64) -> &[Watch]
         requires { IsSome (instance_of self.now client) }
-        ensures { result.now ≡ watches_of (instance_of self.now client) }
+        ensures watches { result.now ≡ watches_of (instance_of self.now client) }
+        ensures apart { IsDistinct same_id (map (λ w. w.node) result.now) }
     {
         self.listeners.get(client).watches()
     }
@@ -96,6 +105,13 @@ impl<F: Callback, R: Rule> WatchTable<F, R> {
         ensures { result ≡ list_any (is_numbered number) (watches_of (instance_of self.now client)) }
     {
         self.listeners.get(client).has_watch(number)
+    }
+
+    /// The object of the watch of a number that a client, if it is attached, has.
+    pub fn object_of(&self, client: u64, number: i32) -> Option<u64>
+        ensures { MatchOption result (list_any (is_numbered number) (watches_of (instance_of self.now client)) ≡ false) (λ object. AreOnlyOn number object (watches_of (instance_of self.now client))) }
+    {
+        self.listeners.object_of(client, number)
     }
 
     /// Tells subjects in their order, each to the watches that it reaches. It takes no memory, and a subject that no client watches takes

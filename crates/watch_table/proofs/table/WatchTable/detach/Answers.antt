@@ -12,7 +12,7 @@ invariant_of-self g c =
     let t = c.self.inside.objects in
     let u = c.refresh_all.new.objects in
     let set = subst (λ ws. (n : ℕ) → watchers_of u n ≡ cond (is_on n ws) (filter (watches fs n) (watchers_of t n))
-    (watchers_of t n)) c.watches.ensures c.refresh_all.ensures in
+    (watchers_of t n)) c.watches.ensures.watches c.refresh_all.ensures in
     let gone = c.detach-listener.ensures.gone in
     let instance = c.detach-listener.ensures.instance in
     index-gone es fs t u c.args.client c.detach-listener.result gone instance c.self.invariant set
