@@ -20,16 +20,18 @@ use Rattle.mount_laws.specs.Nodes.{HaveOneName}
 use Rattle.mount_laws.specs.OpenFiles.{IsLive}
 use Rattle.open_handles.specs.declared.tracked_client.TrackedHandle.{TrackedHandle}
 use Rattle.open_handles.specs.declared.tracked_client.Way.{Way}
+use Rattle.notice_laws.specs.declared.pin.Pin.{Pin}
 use Rattle.open_handles.specs.Tracked.{Tracked, Spot, At, Upper, Nowhere, spot_of}
 use Rattle.open_handles.specs.TrackedHandles.{TrackedTables, clients_of, tracked_by}
 
 -- What is kept for watches: the tracked objects, what each handle is on, the instances of the clients, whose watches are on the objects of
--- numbers, and how many renames moved something.
+-- numbers, how many renames moved something, and what a rename that is under way holds.
 pub record Notified : Type 0 where
   pub objects : Tracked
   pub handles : TrackedTables
   pub instances : List Instance
   pub renames : ℕ
+  pub pinned : Option Pin
 
 -- every number that a watch or a handle has is that of a tracked object
 pub record AreKnown (k : Notified) : Type 0 where

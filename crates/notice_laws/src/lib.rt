@@ -6,6 +6,7 @@ mod client_laws;
 mod number_laws;
 mod object;
 mod open_laws;
+mod pin;
 mod place_laws;
 
 pub use call_laws::{
@@ -22,6 +23,7 @@ pub use object::Object;
 pub use open_laws::{
     law_of_closed, law_of_fewer_numbers, law_of_held_number, law_of_opened, law_of_opened_new,
 };
+pub use pin::Pin;
 pub use place_laws::{
     law_of_alone, law_of_held_objects, law_of_known_slots, law_of_last_name, law_of_lost,
     law_of_nowhere, law_of_same_handles, law_of_upper,

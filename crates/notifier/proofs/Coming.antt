@@ -27,3 +27,8 @@ new-client c ks h = elim (cases_Bool (is_tracked ks c)) [ inl t ↦ let below = 
 pub ok-from : {A E P : Type 0} (r : Result A E) (b : Bool) → b ≡ is_err r → b ≡ false → OnOk r P → P
 ok-from (Ok a) b is off h = h
 ok-from (Err e) b is off h = absurd (false≢true (sym off ∙ is))
+
+-- what holds by two things that hold where a result is no refusal
+pub ok-both : {A E P Q S : Type 0} (r : Result A E) → (P → Q → S) → OnOk r P → OnOk r Q → OnOk r S
+ok-both (Ok a) f x y = f x y
+ok-both (Err e) f x y = tt

@@ -12,8 +12,8 @@ use Rattle.open_handles.specs.Tracked.{Tracked, Spot, spot_of, holders_of, spot_
 use Rattle.open_handles.specs.TrackedHandles.{handle_uses, tracked_by, uses, way_uses}
 use Rattle.watch_table.specs.Listening.{is_on}
 use Rattle.notice_laws.specs.Notified.{Notified, AreKnown}
-use Rattle.notifier.specs.Notifying.{AreCounted, watchers}
-use Rattle.notifier.proofs.Hearing.{fewer-watch, others-watch}
+use Rattle.notifier.specs.Notifying.{AreCounted, watchers, pinned_times}
+use Rattle.notifier.proofs.Hearing.{AreSpared, fewer-watch, others-watch}
 
 -- what somebody holds is tracked
 held-some : (t : Tracked) (n : ℕ) → ((spot_of t n ≡ None) ↔ (holders_of t n ≡ 0)) → 0 < holders_of t n → IsSome (spot_of t n)
@@ -74,16 +74,16 @@ ne m n f same = false≢true (sym f ∙ eq-eqb m n same)
 
 -- the holders are counted still, where those let go whose watches ended
 module _ (shows : Rule) (s : Subject) (o : ℕ) (old : Notified) (fs : List Instance) (t : Tracked) (hears : AllHear shows (s ∷ []) old.instances fs) where
-  pub counted-told : s.aim ≡ On (New o) → AreCounted old →
+  pub counted-told : ((n : ℕ) → n ≢ o → AreSpared s n old.instances) → AreCounted old →
       SetsSpot old.objects t o (spot_left (holders_of old.objects o - (watchers old.instances o - watchers fs o)) (spot_of old.objects o))
       (holders_of old.objects o - (watchers old.instances o - watchers fs o)) →
       AreCounted (record old { objects = t; instances = fs })
-  counted-told aim counts sets n = elim (cases_Bool (nat_eq n o)) [
-    | inl q ↦ subst (λ x. holders_of t x ≡ uses old.handles x + watchers fs x) (sym (eqb-true n o q))
+  counted-told spared counts sets n = elim (cases_Bool (nat_eq n o)) [
+    | inl q ↦ subst (λ x. holders_of t x ≡ uses old.handles x + watchers fs x + pinned_times old.pinned x) (sym (eqb-true n o q))
         (let here = sets.held in
         let all = counts o in
         let less = fewer-watch shows s o old.instances fs hears in
         omega arith)
     | inr f ↦ sets.other_holders n (ne n o f) ∙ counts n
-        ∙ ap (λ m. uses old.handles n + m) (sym (others-watch shows s o aim n (ne n o f) old.instances fs hears))
+        ∙ ap (λ m. uses old.handles n + m + pinned_times old.pinned n) (sym (others-watch shows s o n old.instances fs (spared n (ne n o f)) hears))
   ]

@@ -1,14 +1,17 @@
 -- Instances that hear some subjects and then others, and how many watch an object after one.
-use Rattle.std.proofs.Common.{◌≡◌, ◌≢◌, ℕ, ◌+◌, ◌≤◌, Bool, true, false, cond, ◌&&◌, List, [], ◌∷◌, ◌++◌, refl, sym, ap, subst, ◌∙◌, append_assoc, arith}
+use Rattle.std.proofs.Common.{◌≡◌, ◌≢◌, ℕ, ℤ, ◌+◌, ◌≤◌, Bool, true, false, cond, ◌&&◌, List, [], ◌∷◌, ◌++◌, Some, refl, sym, ap, subst, ◌∙◌, append_assoc, arith, eqb-true}
+use Rattle.std.specs.List.{AllByRecursion}
 use Rattle.std.proofs.lemmas.Bool.{false≢true}
 use Rattle.std.proofs.lemmas.List.Sums.{sum_by-cons}
 use Rattle.ov_base.specs.declared.node_id.NodeId.TheVariants.{New}
 use Rattle.ov_base.specs.declared.notice.Notice.{Notice}
 use Rattle.plain_model.specs.Tree.{same_id}
-use Rattle.plain_model.specs.Watching.{Rule, Subject, Instance, On, Puts, Hears, AllHear, asked, passed, all_asked, all_passed}
+use Rattle.plain_model.specs.Watching.{Rule, Subject, Instance, On, Only, Puts, Hears, ends, AllHear, asked, passed, all_asked, all_passed}
+use Rattle.plain_model.specs.Machine.{instance_of, watches_of}
+use Rattle.watch_table.specs.Clients.{AreOnlyOn}
 use Rattle.watch_table.specs.Listening.{is_on}
 use Rattle.watch_table.proofs.Hearing.{Puts-append}
-use Rattle.watch_table.proofs.Reaching.{any-filter, stay, on-stay, off-object}
+use Rattle.watch_table.proofs.Reaching.{any-filter, stay, on-stay, off-object, off-number}
 use Rattle.notifier.specs.Notifying.{watchers}
 
 passed-append : (e : Instance) (ss tz : List Subject) → all_passed e (ss ++ tz) ≡ all_passed (all_passed e ss) tz
@@ -54,7 +57,7 @@ AllHear-append shows ss tz (e ∷ es) (f ∷ fs) (g ∷ gs) h k =
     (Hears-append shows ss tz e f g h.0 k.0, AllHear-append shows ss tz es fs gs h.1 k.1)
 
 -- a client more that watches an object, or not
-one-more : (n : ℕ) (e : Instance) (es : List Instance) → watchers (e ∷ es) n ≡ cond (is_on n e.watches) 1 0 + watchers es n
+pub one-more : (n : ℕ) (e : Instance) (es : List Instance) → watchers (e ∷ es) n ≡ cond (is_on n e.watches) 1 0 + watchers es n
 one-more n e es = sum_by-cons (λ (x : Instance). cond (is_on n x.watches) 1 0) e es
 
 no-more : (a b : Bool) → (a && b) ≡ b → cond b 1 0 ≤ cond a 1 0
@@ -62,6 +65,10 @@ no-more true true h = omega arith
 no-more true false h = omega arith
 no-more false true h = absurd (false≢true h)
 no-more false false h = omega arith
+
+-- no watch of instances on the object of a number ends with a subject
+abbrev pub AreSpared : Subject → ℕ → List Instance → Type 0
+AreSpared s n es = AllByRecursion (λ (e : Instance). AllByRecursion (λ w. same_id (New n) w.node ≡ true → ends e.client s w ≡ false) e.watches) es
 
 module _ (shows : Rule) (s : Subject) (o : ℕ) where
   -- whether an instance is on an object after it heard a subject
@@ -82,15 +89,29 @@ module _ (shows : Rule) (s : Subject) (o : ℕ) where
       let new = one-more o f fs in
       omega arith
 
-  -- and as many watch every object but the one that it is for
-  pub others-watch : s.aim ≡ On (New o) → (n : ℕ) → n ≢ o → (es fs : List Instance) → AllHear shows (s ∷ []) es fs →
-      watchers fs n ≡ watchers es n
-  others-watch aim n ne [] [] h = refl
-  others-watch aim n ne [] (f ∷ fs) h = absurd h
-  others-watch aim n ne (e ∷ es) [] h = absurd h
-  others-watch aim n ne (e ∷ es) (f ∷ fs) h =
+  -- and as many watch an object whose watches all go on
+  pub others-watch : (n : ℕ) (es fs : List Instance) → AreSpared s n es → AllHear shows (s ∷ []) es fs → watchers fs n ≡ watchers es n
+  others-watch n [] [] spared h = refl
+  others-watch n [] (f ∷ fs) spared h = absurd h
+  others-watch n (e ∷ es) [] spared h = absurd h
+  others-watch n (e ∷ es) (f ∷ fs) spared h =
       one-more n f fs
-      ∙ ap (λ b. cond b 1 0 + watchers fs n)
-      (after-one n e f h.0 ∙ on-stay shows s n e.client e.watches (off-object shows s o n e.client e.watches aim ne))
-      ∙ ap (λ m. cond (is_on n e.watches) 1 0 + m) (others-watch aim n ne es fs h.1)
+      ∙ ap (λ b. cond b 1 0 + watchers fs n) (after-one n e f h.0 ∙ on-stay shows s n e.client e.watches spared.0)
+      ∙ ap (λ m. cond (is_on n e.watches) 1 0 + m) (others-watch n es fs spared.1 h.1)
       ∙ sym (one-more n e es)
+
+  -- so do those on every object but the one that the subject is for
+  pub others-spared : s.aim ≡ On (New o) → (n : ℕ) → n ≢ o → (es : List Instance) → AreSpared s n es
+  others-spared aim n ne [] = tt
+  others-spared aim n ne (e ∷ es) = (off-object shows s o n e.client e.watches aim ne, others-spared aim n ne es)
+
+  -- and those on every object but that of the one watch that it is for
+  pub one-spared : (k : ℕ) (number : ℤ) → s.aim ≡ Only k number → (n : ℕ) → n ≢ o → (es fs : List Instance) →
+      AreOnlyOn number o (watches_of (instance_of es k)) →
+      AllByRecursion (λ (f : Instance). instance_of es f.client ≡ Some f) fs → AreSpared s n fs
+  one-spared k number aim n ne es [] one own = tt
+  one-spared k number aim n ne es (f ∷ fs) one own = (
+    off-number shows s k number o n f.client f.watches aim ne
+        (λ q. subst (λ x. AreOnlyOn number o (watches_of x)) (ap (instance_of es) (sym (eqb-true f.client k q)) ∙ own.0) one),
+    one-spared k number aim n ne es fs one own.1,
+  )

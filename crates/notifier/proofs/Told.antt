@@ -1,14 +1,17 @@
 -- What is told one part after another.
-use Rattle.std.proofs.Common.{◌≡◌, ℕ, Bool, true, false, inl, inr, List, [], ◌++◌, Option, Some, refl, subst, ◌∙◌}
+use Rattle.std.proofs.Common.{◌≡◌, ℕ, suc, Bool, true, false, inl, inr, List, [], ◌++◌, Option, Some, refl, subst, subst₂, ◌∙◌}
 use Rattle.std.specs.Prelude.{◌↔◌}
 use Rattle.std.proofs.lemmas.Bool.{false≢true}
-use Rattle.plain_model.specs.Watching.{ATTRIB, Rule, Subject, AllHear}
+use Rattle.ov_base.specs.Cookies.{cookie_of}
+use Rattle.plain_model.specs.Watching.{ATTRIB, MOVED_FROM, MOVED_TO, MOVE_SELF, Rule, Subject, AllHear}
 use Rattle.watch_table.proofs.Hearing.{AllHear-none}
 use Rattle.open_handles.specs.Tracked.{Spot, Nowhere, spot_of}
+use Rattle.open_handles.specs.declared.tracked_client.Way.{Way}
+use Rattle.notice_laws.specs.Moves.{of_move, of_replaced}
 use Rattle.notice_laws.specs.Notified.{Notified}
 use Rattle.notice_laws.specs.Opens.{AreFewer}
 use Rattle.notice_laws.specs.Steps.{IsClosedEnd}
-use Rattle.notice_laws.specs.Telling.{IsEnd, Tells, Stays, marks}
+use Rattle.notice_laws.specs.Telling.{IsEnd, Tells, Stays, in_way, marks, of_end, of_number}
 use Rattle.notice_laws.specs.declared.object.Object.{Object}
 use Rattle.notice_laws.specs.declared.object.Object.TheVariants as object
 use Rattle.open_handles.specs.TrackedHandles.{TrackedTables}
@@ -61,3 +64,21 @@ pub closed-end : (old : Notified) (handles : TrackedTables) (n : ℕ) (lost : Bo
     (lost ≡ true) ↔ (spot_of old.objects n ≡ Some Nowhere) → IsEnd handles lost (Some n) ended → IsClosedEnd old handles n ended
 closed-end old handles n true ended is end = inl (is.0 refl, end)
 closed-end old handles n false ended is end = inr ((λ nowhere. false≢true (is.1 nowhere)), end)
+
+-- what a rename tells, one part after another
+pub moved-told : (shows : Rule) (from to : Option Way) (o e : Object) (left came cookie renames : ℕ) (number replaced ended : Option ℕ)
+    (a b c d f k : Notified) → left ≡ marks o MOVED_FROM → came ≡ marks o MOVED_TO → cookie ≡ cookie_of (suc renames) →
+    IsTold shows a b (in_way from left cookie) → IsTold shows b c (in_way to came cookie) → IsTold shows c d (of_replaced e replaced) →
+    IsTold shows d f (of_number number MOVE_SELF) → IsTold shows f k (of_end ended) →
+    IsTold shows a k (of_move from to o e (cookie_of (suc renames)) number replaced ended)
+moved-told shows from to o e left came cookie renames number replaced ended a b c d f k is_left is_came is_cookie x y z v w =
+    let first = in_way from (marks o MOVED_FROM) (cookie_of (suc renames)) in
+    let second = in_way to (marks o MOVED_TO) (cookie_of (suc renames)) in
+    let third = of_replaced e replaced in
+    let fourth = of_number number MOVE_SELF in
+    let two = told-append shows first second a b c
+    (subst₂ (λ m n. IsTold shows a b (in_way from m n)) is_left is_cookie x)
+    (subst₂ (λ m n. IsTold shows b c (in_way to m n)) is_came is_cookie y) in
+    let three = told-append shows (first ++ second) third a c d two z in
+    let four = told-append shows ((first ++ second) ++ third) fourth a d f three v in
+    told-append shows (((first ++ second) ++ third) ++ fourth) (of_end ended) a f k four w

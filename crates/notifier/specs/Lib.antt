@@ -1,1 +1,4 @@
 pub mod Notifying
+pub mod Arming
+pub mod Opening
+pub mod Moving

@@ -1,5 +1,5 @@
 -- What is counted of what a mount keeps for watches, and what its steps make of it.
-use Rattle.std.specs.Prelude.{◌≡◌, ℕ, ◌+◌, ◌<◌, true, false, List, Some, count_by}
+use Rattle.std.specs.Prelude.{◌≡◌, ℕ, ◌+◌, ◌<◌, true, false, cond, List, Option, None, Some, count_by, nat_eq}
 use Rattle.plain_model.specs.Layers.{Path}
 use Rattle.plain_model.specs.Watching.{MOVES, OTHERS, Instance, Rule, Subject, AllHear, is_one_of}
 use Rattle.open_handles.specs.Tracked.{Tracked, Spot, At, Upper, spot_of, holders_of, room, IsVacant}
@@ -7,6 +7,7 @@ use Rattle.open_handles.specs.TrackedHandles.{clients_of, tracked_by, uses}
 use Rattle.watch_table.specs.Listening.{is_on}
 use Rattle.notice_laws.specs.declared.object.Object.{Object}
 use Rattle.notice_laws.specs.declared.object.Object.TheVariants as object
+use Rattle.notice_laws.specs.declared.pin.Pin.{Pin}
 use Rattle.notice_laws.specs.Notified.{Notified}
 use Rattle.notice_laws.specs.Opens.{AreFewer}
 
@@ -14,9 +15,15 @@ use Rattle.notice_laws.specs.Opens.{AreFewer}
 abbrev pub watchers : List Instance → ℕ → ℕ
 watchers es n = count_by (λ e. is_on n e.watches) es
 
--- HOLDERS COUNTED: an object is held for each handle that uses it, and once for each client that watches it.
+-- how often a rename that is under way holds the object of a number
+abbrev pub pinned_times : Option Pin → ℕ → ℕ
+pinned_times None n = 0
+pinned_times (Some pin) n = cond (nat_eq pin.number n) pin.count 0
+
+-- HOLDERS COUNTED: an object is held for each handle that uses it, once for each client that watches it, and as often as a rename holds it
+-- that is under way.
 abbrev pub AreCounted : Notified → Type 0
-AreCounted k = (n : ℕ) → holders_of k.objects n ≡ uses k.handles n + watchers k.instances n
+AreCounted k = (n : ℕ) → holders_of k.objects n ≡ uses k.handles n + watchers k.instances n + pinned_times k.pinned n
 
 -- bits of an event that is not a rename's
 abbrev pub IsOther : ℕ → Type 0

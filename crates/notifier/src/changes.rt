@@ -28,7 +28,7 @@ impl<F: Callback, R: Rule> Notifier<F, R> {
     }
 
     // Tells that what stands at a path, where it is a file of a lower layer, is in the upper under a key now. It gives its number.
-    fn lift(&mut self, path: &Path, object: Object, key: usize) -> Option<u64>
+    pub(crate) fn lift(&mut self, path: &Path, object: Object, key: usize) -> Option<u64>
         requires room { HasRoom self.old.objects path.now object }
         requires free { IsFree self.old.objects path.now object key }
         ensures number { IsNumberOf self.old.objects path.now object result }

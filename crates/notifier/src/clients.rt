@@ -1,15 +1,33 @@
 // Clients that come and go, and what they read.
-ghost use Rattle.std.specs.Prelude.{◌≡◌, ◌<◌, ◌≤◌, ◌↔◌, ℕ, None, Some, All, IsSome, IfErr, IfOk, OnErr, OnOk, length, map, take, true};
+ghost use Rattle.std.specs.Prelude.{◌≡◌, ◌+◌, ◌<◌, ◌≤◌, ◌↔◌, ℕ, None, Some, All, IsSome, IfErr, IfOk, IfSome, OnErr, OnOk, cond, length, map, take, true};
+ghost use Rattle.std.specs.List.{IsDistinct};
+ghost use Rattle.plain_model.specs.Tree.{same_id};
 ghost use Rattle.plain_model.specs.Machine.{instance_of};
 ghost use Rattle.plain_model.specs.Replies.{queue_of};
+ghost use Rattle.open_handles.specs.Tracked.{holders_of};
 ghost use Rattle.open_handles.specs.TrackedHandles.{is_tracked, tracked_by};
-ghost use Rattle.notice_laws.specs.Clients.{Departs, Joins, Takes};
+ghost use Rattle.watch_table.specs.Listening.{is_on};
+ghost use Rattle.notice_laws.specs.Clients.{Departs, Joins, Mutes, Takes};
+ghost use Rattle.notice_laws.specs.Opens.{AreFewer};
 ghost use Rattle.notifier.specs.Notifying.{IsAsBefore};
 
 use crate::kept::Notifier;
+use open_handles::TrackedObjects;
 use ov_base::{Errno, Notices};
 use std::alloc::{AllocError, Global};
-use watch_table::{Callback, HOOKS_MAX, Hook, NotAttached, Rule};
+use watch_table::{Callback, HOOKS_MAX, Hook, NotAttached, Rule, Watch};
+
+// Lets go what watches held that ended: each one its object.
+fn release_each(objects: &mut TrackedObjects, ended: &[Watch])
+    requires apart { IsDistinct same_id (map (λ w. w.node) ended.now) }
+    requires held { (n : ℕ) → is_on n ended.now ≡ true → 0 < holders_of objects.old n }
+    ensures held { (n : ℕ) → holders_of objects.new n + cond (is_on n ended.now) 1 0 ≡ holders_of objects.old n }
+    ensures fewer { AreFewer objects.old objects.new }
+{
+    for watch in ended {
+        objects.release(watch.object(), 1);
+    }
+}
 
 impl<F: Callback, R: Rule> Notifier<F, R> {
     /// Attaches a client, whose number is above all others, with its hooks, and nothing open. Over 16 hooks are EINVAL, and want of memory
@@ -48,6 +66,17 @@ impl<F: Callback, R: Rule> Notifier<F, R> {
                 Err(fault)
             }
         }
+    }
+
+    /// Ends the watches of a client unheard, and lets go what they held. Its hooks are handed back. It takes no memory.
+    pub fn muted(&mut self, client: u64) -> Vec<Hook<F, R>>
+        requires { IsSome (instance_of self.old.instances client) }
+        ensures mutes { Mutes self.old self.new client }
+        ensures hooks { IfSome (instance_of self.old.instances client) (λ e. map (λ h. h.tag) result.items ≡ e.tags) }
+    {
+        self.watches.lawful();
+        release_each(&mut self.objects, self.watches.watches(client));
+        self.watches.detach(client)
     }
 
     /// Detaches a client with nothing open, whose watches were let go. It takes no memory.

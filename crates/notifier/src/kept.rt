@@ -1,17 +1,18 @@
 // What a mount keeps for watches.
-ghost use Rattle.std.specs.Prelude.{◌≡◌, ℕ, [], ◌∷◌, ◌↔◌, ◌<◌, ◌≢◌, None, Some, IsSome, IfOk, OnOk, option_copied, true};
+ghost use Rattle.std.specs.Prelude.{◌≡◌, ℕ, ◌+◌, [], ◌∷◌, ◌↔◌, ◌<◌, ◌≢◌, None, Some, IsSome, IfOk, OnOk, option_copied, true, ◌≤◌};
 ghost use Rattle.ov_base.specs.declared.node_id.NodeId.TheVariants.{New};
 ghost use Rattle.plain_model.specs.Watching.{IsSubject};
 ghost use Rattle.plain_model.specs.Watching as plain;
 ghost use Rattle.open_handles.specs.Tracked.{Nowhere, Upper, Spot, spot_of, holders_of, next_of, room, IsVacant, SameSpots, SetsSpot};
-ghost use Rattle.open_handles.specs.TrackedHandles.{IsOn, SetsTracked, tracked_by};
+ghost use Rattle.open_handles.specs.TrackedHandles.{IsOn, SetsTracked, slot_uses, tracked_by, uses};
 ghost use Rattle.notice_laws.specs.Notified.{AreKnown};
 ghost use Rattle.notice_laws.specs.Objects.{IsNumberOf, IsWayTo};
 ghost use Rattle.notice_laws.specs.Opens.{AreFewer};
 ghost use Rattle.notice_laws.specs.Telling.{IsEnd};
-ghost use Rattle.notifier.specs.Notifying.{IsTold};
+ghost use Rattle.notifier.specs.Notifying.{AreCounted, IsTold};
+ghost use Rattle.notifier.specs.Opening.{AreHeld};
 
-use notice_laws::Object;
+use notice_laws::{Object, Pin};
 use open_handles::{TrackedHandle, TrackedHandles, TrackedObjects, Way};
 use ov_base::{EventName, Path};
 use std::alloc::{AllocError, Global};
@@ -21,13 +22,14 @@ use watch_table::{Aim, Callback, Rule, Subject, WatchTable};
 
 /// What a mount keeps for watches: the objects that watches and handles pin, as the inodes that a kernel pins for them, what each handle is
 /// on, the watches of the clients, and how many renames moved something. An object is held once for each client that watches it, for each
-/// handle on it, and for each handle that was opened by a way in it.
+/// handle on it, and for each handle that was opened by a way in it; and beforehand for each that a rename leads to a way in it.
 #[derive(Drop)]
 pub struct Notifier<F: Callback, R: Rule> {
     pub(crate) objects: TrackedObjects,
     pub(crate) handles: TrackedHandles,
     pub(crate) watches: WatchTable<F, R>,
-    renames: u64,
+    pub(crate) renames: u64,
+    pub(crate) pinned: Option<Pin>,
 }
 
 impl<F: Callback, R: Rule> Model for Notifier<F, R> {
@@ -41,9 +43,9 @@ impl<F: Callback, R: Rule> Model for Notifier<F, R> {
 
     ghost coded = { Prim.hlevel (codes, tracked_code) };
 
-    ghost view = { λ k. record { objects = k.objects; handles = k.handles; instances = k.watches; renames = k.renames } };
+    ghost view = { λ k. record { objects = k.objects; handles = k.handles; instances = k.watches; renames = k.renames; pinned = k.pinned } };
 
-    ghost invariant = { λ k. AreCounted (record { objects = k.objects; handles = k.handles; instances = k.watches; renames = k.renames }) };
+    ghost invariant = { λ k. AreCounted (record { objects = k.objects; handles = k.handles; instances = k.watches; renames = k.renames; pinned = k.pinned }) };
 }
 
 impl<F: Callback, R: Rule> Notifier<F, R> {
@@ -53,6 +55,7 @@ impl<F: Callback, R: Rule> Notifier<F, R> {
         ensures handles { IfOk result (λ k. k.handles ≡ []) }
         ensures instances { IfOk result (λ k. k.instances ≡ []) }
         ensures renames { IfOk result (λ k. k.renames ≡ 0) }
+        ensures unpinned { IfOk result (λ k. k.pinned ≡ None) }
     {
         let objects = TrackedObjects::new(alloc, keys)?;
         objects.lawful();
@@ -61,12 +64,15 @@ impl<F: Callback, R: Rule> Notifier<F, R> {
             handles: TrackedHandles::new(alloc),
             watches: WatchTable::new(alloc, keys),
             renames: 0,
+            pinned: None,
         })
     }
 
     /// What always holds, for those who reason about it; it does nothing.
     pub fn lawful(&self)
         ensures known { AreKnown self.now }
+        ensures counts { AreCounted self.now }
+        ensures held { AreHeld self.now.objects }
         ensures given { (n : ℕ) → IsSome (spot_of self.now.objects n) → n < next_of self.now.objects }
         ensures one_there { (spot : Spot) (m n : ℕ) → spot ≢ Nowhere → spot_of self.now.objects m ≡ Some spot → spot_of self.now.objects n ≡ Some spot → m ≡ n }
     {
@@ -159,9 +165,11 @@ impl<F: Callback, R: Rule> Notifier<F, R> {
     // Closes a client's descriptor, and lets go what it held.
     pub(crate) fn shut(&mut self, client: u64, descriptor: u32)
         ensures sets { SetsTracked self.old.handles self.new.handles client descriptor None }
+        ensures uses { (n : ℕ) → uses self.new.handles n + slot_uses n (tracked_by self.old.handles client descriptor) ≡ uses self.old.handles n }
         ensures fewer { AreFewer self.old.objects self.new.objects }
         ensures instances { self.new.instances ≡ self.old.instances }
         ensures renames { self.new.renames ≡ self.old.renames }
+        ensures pinned { self.new.pinned ≡ self.old.pinned }
     {
         if let Some(handle) = self.handles.close(client, descriptor) {
             self.objects.release(handle.object, 1);
@@ -175,6 +183,7 @@ impl<F: Callback, R: Rule> Notifier<F, R> {
     pub(crate) fn lose(&mut self, number: u64)
         requires { IsSome (spot_of self.old.objects number) }
         ensures loses { SetsSpot self.old.objects self.new.objects number (Some Nowhere) (holders_of self.old.objects number) }
+        ensures room { room self.old.objects ≤ room self.new.objects }
         ensures rest { self.new ≡ record self.old { objects = self.new.objects } }
     {
         self.objects.lose(number);

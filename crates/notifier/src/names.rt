@@ -1,5 +1,6 @@
 // What names that come and go tell.
-ghost use Rattle.std.specs.Prelude.{◌≡◌};
+ghost use Rattle.std.specs.Prelude.{◌≡◌, ◌≤◌};
+ghost use Rattle.open_handles.specs.Tracked.{room};
 ghost use Rattle.notice_laws.specs.Objects.{IsNumberOf};
 ghost use Rattle.notice_laws.specs.Steps.{Loses, Made, Removed, Unlinked, is_last_name};
 ghost use Rattle.notice_laws.specs.Telling.{IsEnd};
@@ -12,7 +13,7 @@ use ov_base::Path;
 use watch_table::{Callback, Rule};
 
 // Whether what stands at a path has no other name.
-fn is_last_name(object: Object) -> bool
+pub(crate) fn is_last_name(object: Object) -> bool
     ensures { result ≡ is_last_name object }
 {
     match object {
@@ -32,10 +33,11 @@ impl<F: Callback, R: Rule> Notifier<F, R> {
     }
 
     // Tells that what stands at a path loses this name. It gives its number, and again where the object ends by it.
-    fn lose_name(&mut self, path: &Path, object: Object) -> (Option<u64>, Option<u64>)
+    pub(crate) fn lose_name(&mut self, path: &Path, object: Object) -> (Option<u64>, Option<u64>)
         ensures number { IsNumberOf self.old.objects path.now object result.0 }
         ensures ended { IsEnd self.old.handles (is_last_name object) result.0 result.1 }
         ensures lost { Becomes (Loses path.now object) self.old.objects self.new.objects }
+        ensures room { room self.old.objects ≤ room self.new.objects }
         ensures rest { self.new ≡ record self.old { objects = self.new.objects } }
     {
         self.lawful();

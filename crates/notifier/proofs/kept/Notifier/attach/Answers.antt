@@ -18,7 +18,7 @@ returns-in-Err-clause-same g c =
     let ks = inside.handles in
     let opens = subst (λ (k : Notified). (n : ℕ) → is_tracked k.handles n ≡ true → n < c.args.client) (sym c.self.view_is) c.requires.opens in
     let came = ok-from c.attach.result c.is_err.result c.is_err.ensures.value c.if-is_err.false c.attach.ensures.clients in
-    let new : Notified = record { objects = inside.objects; handles = c.detach.new.self; instances = c.attach-2.new.self; renames = inside.renames } in
+    let new : Notified = record { objects = inside.objects; handles = c.detach.new.self; instances = c.attach-2.new.self; renames = inside.renames; pinned = inside.pinned } in
     subst (λ (k : Notified). IsAsBefore k new) c.self.view_is (record {
       objects = refl;
       clients = c.detach.ensures.clients ∙ ap (filter (λ k. not (nat_eq k c.args.client))) came

@@ -7,5 +7,5 @@ pub returns-clause-known : goal.returns-clause-known
 returns-clause-known g c =
     let inside = c.self.inside in
     subst AreKnown c.self.view_is
-    (all-known (record { objects = inside.objects; handles = inside.handles; instances = inside.watches; renames = inside.renames })
+    (all-known (record { objects = inside.objects; handles = inside.handles; instances = inside.watches; renames = inside.renames; pinned = inside.pinned })
     c.self.invariant c.lawful.ensures.counted c.lawful-2.ensures.used)

@@ -4,7 +4,7 @@ use Rattle.ov_base.specs.declared.node_id.NodeId.TheVariants.{New}
 use Rattle.plain_model.specs.Watching.{On, Subject}
 use Rattle.open_handles.specs.Tracked.{SetsSpot, holders_of, spot_left, spot_of}
 use Rattle.notifier.specs.Notifying.{watchers}
-use Rattle.notifier.proofs.Hearing.{fewer-watch}
+use Rattle.notifier.proofs.Hearing.{fewer-watch, others-spared}
 use Rattle.notifier.proofs.Counting.{counted-told}
 use Rattle.notifier.proofs.kept.Notifier.tell.Goals as goal
 
@@ -25,5 +25,5 @@ invariant_of-self g c =
     let sets = subst (λ (m : ℕ). SetsSpot inside.objects c.release.new.self o (spot_left (held - m) (spot_of inside.objects o)) (held - m))
     ended c.release.ensures.releases in
     counted-told g.R.Rule.shows s o
-    (record { objects = inside.objects; handles = inside.handles; instances = inside.watches; renames = inside.renames })
-    c.fire.new.self c.release.new.self c.fire.ensures refl c.self.invariant sets
+    (record { objects = inside.objects; handles = inside.handles; instances = inside.watches; renames = inside.renames; pinned = inside.pinned })
+    c.fire.new.self c.release.new.self c.fire.ensures (λ n ne. others-spared g.R.Rule.shows s o refl n ne inside.watches) c.self.invariant sets

@@ -1,0 +1,209 @@
+-- How many watch an object that one client armed, and what was held for it.
+use Rattle.std.proofs.Common.{◌≡◌, ◌≢◌, ℕ, ◌+◌, ◌-◌, ◌≤◌, ◌<◌, Bool, true, false, cond, ◌||◌, ◌⊎◌, inl, inr, List, [], ◌∷◌, Option, None, Some, IsSome, Result, Ok, Err, refl, sym, ap, subst, ◌∙◌, arith, nat_eq, eqb-true, eq-eqb}
+use Rattle.std.specs.Prelude.{◌↔◌, IfOk, IfErr, OnOk, OnErr}
+use Rattle.std.proofs.lemmas.Bool.{false≢true, cases_Bool}
+use Rattle.ov_base.specs.declared.node_id.NodeId.TheVariants.{New}
+use Rattle.std.specs.declared.alloc.AllocError.{AllocError}
+use Rattle.ov_base.specs.declared.errno.Errno.{Errno}
+use Rattle.plain_model.specs.Layers.{Path}
+use Rattle.plain_model.specs.Watching.{Instance}
+use Rattle.plain_model.specs.Changes.{armed_on, at_client}
+use Rattle.open_handles.specs.Tracked.{Tracked, Spot, spot_of, holders_of, next_of, spot_left, SetsSpot, Holds}
+use Rattle.watch_table.specs.Clients.{AreRising, clients_of}
+use Rattle.watch_table.specs.Listening.{is_on}
+use Rattle.watch_table.proofs.Clients.{IsAbsent, above-absent, absent-at_client, nat_ne}
+use Rattle.watch_table.proofs.Indexing.{armed-on}
+use Rattle.notice_laws.specs.Notified.{Notified}
+use Rattle.notice_laws.specs.declared.object.Object.{Object}
+use Rattle.notice_laws.specs.declared.object.Object.TheVariants as object
+use Rattle.notice_laws.specs.Objects.{IsNumberOf}
+use Rattle.notice_laws.specs.Opens.{AreFewer}
+use Rattle.notice_laws.specs.Steps.{IsSpotOf}
+use Rattle.notifier.specs.Arming.{ArmsAt, HoldsAt, IsArmRefused, refusal_of, watch_of}
+use Rattle.notifier.specs.Notifying.{AreCounted, watchers}
+use Rattle.notifier.proofs.Hearing.{one-more}
+
+-- at most one client more watches the object of a number, and as many each other
+pub record WatchesMore (es fs : List Instance) (o : ℕ) : Type 0 where
+  pub least : watchers es o ≤ watchers fs o
+  pub most : watchers fs o ≤ watchers es o + 1
+  pub others : (n : ℕ) → n ≢ o → watchers fs n ≡ watchers es n
+
+pub none-more : (es : List Instance) (o : ℕ) → WatchesMore es es o
+none-more es o = record { least = omega arith; most = omega arith; others = λ n ne. refl }
+
+module _ (c slot o mask : ℕ) where
+  -- an instance where the object is armed
+  abbrev pub arms : Instance → Instance
+  arms = armed_on slot (Some (New o)) mask
+
+  -- as many watch every other object as before
+  others-armed : (n : ℕ) → n ≢ o → (es : List Instance) → watchers (at_client c arms es) n ≡ watchers es n
+  others-armed n ne [] = refl
+  others-armed n ne (e ∷ es) =
+      one-more n (cond (nat_eq e.client c) (arms e) e) (at_client c arms es)
+      ∙ ap (λ b. cond b 1 0 + watchers (at_client c arms es) n) (here (nat_eq e.client c))
+      ∙ ap (λ m. cond (is_on n e.watches) 1 0 + m) (others-armed n ne es)
+      ∙ sym (one-more n e es)
+    where
+      or-false : (b : Bool) → (b || false) ≡ b
+      or-false true = refl
+      or-false false = refl
+
+      here : (b : Bool) → is_on n (cond b (arms e) e).watches ≡ is_on n e.watches
+      here true = armed-on slot o mask n e ∙ ap (λ b. is_on n e.watches || b) (nat_ne n o ne) ∙ or-false (is_on n e.watches)
+      here false = refl
+
+  one-step : (a b : Bool) (m : ℕ) → (a ≡ true → b ≡ true) → (cond a 1 0 + m ≤ cond b 1 0 + m) × (cond b 1 0 + m ≤ cond a 1 0 + m + 1)
+  one-step true true m h = (omega arith, omega arith)
+  one-step true false m h = absurd (false≢true (h refl))
+  one-step false true m h = (omega arith, omega arith)
+  one-step false false m h = (omega arith, omega arith)
+
+  -- and at most one more watches this one
+  one-armed : (es : List Instance) → AreRising (clients_of es) →
+      (watchers es o ≤ watchers (at_client c arms es) o) × (watchers (at_client c arms es) o ≤ watchers es o + 1)
+  one-armed [] rising = (omega arith, omega arith)
+  one-armed (e ∷ es) rising = elim (cases_Bool (nat_eq e.client c)) [
+    | inl q ↦
+        let absent = subst (λ k. IsAbsent k es) (eqb-true e.client c q) (above-absent e.client es rising.0) in
+        let same : at_client c arms (e ∷ es) ≡ arms e ∷ es =
+        ap (λ b. cond b (arms e) e ∷ at_client c arms es) q ∙ ap (λ xs. arms e ∷ xs) (absent-at_client c arms es absent) in
+        let new : watchers (at_client c arms (e ∷ es)) o ≡ cond (is_on o (arms e).watches) 1 0 + watchers es o =
+        ap (λ xs. watchers xs o) same ∙ one-more o (arms e) es in
+        let old = one-more o e es in
+        let step = one-step (is_on o e.watches) (is_on o (arms e).watches) (watchers es o)
+        (λ on. armed-on slot o mask o e ∙ ap (λ b. b || nat_eq o o) on) in
+        let least = step.0 in
+        let most = step.1 in
+        (omega arith, omega arith)
+    | inr f ↦
+        let new : watchers (at_client c arms (e ∷ es)) o ≡ cond (is_on o e.watches) 1 0 + watchers (at_client c arms es) o =
+        ap (λ b. watchers (cond b (arms e) e ∷ at_client c arms es) o) f ∙ one-more o e (at_client c arms es) in
+        let old = one-more o e es in
+        let rest = one-armed es rising.1 in
+        let least = rest.0 in
+        let most = rest.1 in
+        (omega arith, omega arith)
+  ]
+
+  pub more-armed : (es fs : List Instance) → AreRising (clients_of es) → (fs ≡ at_client c arms es) ⊎ (fs ≡ es) → WatchesMore es fs o
+  more-armed es fs rising (inl is) =
+      let both = one-armed es rising in
+      subst (λ xs. WatchesMore es xs o) (sym is)
+      (record { least = both.0; most = both.1; others = λ n ne. others-armed n ne es })
+  more-armed es fs rising (inr is) = subst (λ xs. WatchesMore es xs o) (sym is) (none-more es o)
+
+-- an arm was done, or left all
+pub outcome-of : {A E F D L : Type 0} (r : Result (Result A E) F) → IfOk r (λ outcome. OnOk outcome D) → IfOk r (λ outcome. OnErr outcome L) →
+    OnErr r L → D ⊎ L
+outcome-of (Ok (Ok a)) done left err = inl done
+outcome-of (Ok (Err e)) done left err = inr left
+outcome-of (Err f) done left err = inr err
+
+ne : (m n : ℕ) → nat_eq m n ≡ false → m ≢ n
+ne m n f same = false≢true (sym f ∙ eq-eqb m n same)
+
+-- what one holder more has of an object of which some let go
+module _ (old held new : Tracked) (spot : Spot) (o less : ℕ) (holds : Holds old held spot o)
+    (lets : SetsSpot held new o (spot_left (holders_of held o - less) (spot_of held o)) (holders_of held o - less)) where
+  -- no more is tracked
+  pub lets-fewer : AreFewer held new
+  lets-fewer n at is = elim (cases_Bool (nat_eq n o)) [
+    | inl q ↦ subst (λ k. spot_of held k ≡ Some at) (sym (eqb-true n o q))
+        (left (nat_eq (holders_of held o - less) 0) (sym lets.here ∙ subst (λ k. spot_of new k ≡ Some at) (eqb-true n o q) is))
+    | inr f ↦ sym (lets.other_spots n (ne n o f)) ∙ is
+  ]
+    where
+      left : (b : Bool) → cond b None (spot_of held o) ≡ Some at → spot_of held o ≡ Some at
+      left true h = cc
+      left false h = h
+
+  -- the holders are counted, where as many let go as don't watch it now
+  pub counted-armed : (uses : ℕ → ℕ) (es fs : List Instance) → ((n : ℕ) → holders_of old n ≡ uses n + watchers es n) → WatchesMore es fs o →
+      less ≡ 1 - (watchers fs o - watchers es o) → (n : ℕ) → holders_of new n ≡ uses n + watchers fs n
+  counted-armed uses es fs counts more is n = elim (cases_Bool (nat_eq n o)) [
+    | inl q ↦ subst (λ k. holders_of new k ≡ uses k + watchers fs k) (sym (eqb-true n o q))
+        (let here = lets.held in
+        let before = holds.sets.held in
+        let all = counts o in
+        let least = more.least in
+        let most = more.most in
+        omega arith)
+    | inr f ↦ lets.other_holders n (ne n o f) ∙ holds.sets.other_holders n (ne n o f) ∙ counts n
+        ∙ ap (λ m. uses n + m) (sym (more.others n (ne n o f)))
+  ]
+
+  -- where just that holder lets go, each object is where it was
+  pub lets-alike : ((n : ℕ) → (spot_of old n ≡ None) ↔ (holders_of old n ≡ 0)) → ((n : ℕ) → IsSome (spot_of old n) → n < next_of old) →
+      less ≡ 1 → (n : ℕ) → spot_of new n ≡ spot_of old n
+  lets-alike counted given one n = elim (cases_Bool (nat_eq n o)) [
+    | inl q ↦ subst (λ k. spot_of new k ≡ spot_of old k) (sym (eqb-true n o q)) (lets.here ∙ here)
+    | inr f ↦ lets.other_spots n (ne n o f) ∙ holds.sets.other_spots n (ne n o f)
+  ]
+    where
+      left : holders_of held o - less ≡ holders_of old o
+      left = let before = holds.sets.held in omega arith
+
+      back : (r : Option Spot) → ((r ≡ None) ↔ (holders_of old o ≡ 0)) → (r ≡ Some spot) ⊎ (r ≡ None) → spot_left (holders_of old o) (Some spot) ≡ r
+      back r is (inl at) =
+          ap (λ b. cond b None (Some spot)) (nat_ne (holders_of old o) 0 (λ zero. some (sym at ∙ is.1 zero))) ∙ sym at
+        where
+          some : Some spot ≡ None → ⊥
+          some h = cc
+      back r is (inr none) = ap (λ b. cond b None (Some spot)) (eq-eqb (holders_of old o) 0 (is.0 none)) ∙ sym none
+
+      unknown : (r : Option Spot) → (IsSome r → o < next_of old) → o ≡ next_of old → r ≡ None
+      unknown None h e = refl
+      unknown (Some at) h e = let below = h refl in absurd (omega arith)
+
+      was : (spot_of old o ≡ Some spot) ⊎ (spot_of old o ≡ None)
+      was = elim holds.was [ inl a ↦ inl a.0 | inr b ↦ inr (unknown (spot_of old o) (given o) b.1) ]
+
+      here : spot_left (holders_of held o - less) (spot_of held o) ≡ spot_of old o
+      here =
+          ap (λ m. spot_left m (spot_of held o)) left ∙ ap (spot_left (holders_of old o)) holds.sets.here
+          ∙ back (spot_of old o) (counted o) was
+
+-- the number of what is held at its spot
+number-at : (objects : Tracked) (p : Path) (o : Object) (spot : Spot) (n : ℕ) → IsSpotOf p o spot → spot_of objects n ≡ Some spot →
+    IsNumberOf objects p o (Some n)
+number-at objects p object.Directory spot n is at = at ∙ ap Some is
+number-at objects p object.Lower spot n is at = at ∙ ap Some is
+number-at objects p (object.Upper key last) spot n is at = at ∙ ap Some is
+number-at objects p object.Other spot n is at = absurd is
+
+-- a slot is armed on what is held
+pub arms-at : (old new : Notified) (held : Tracked) (c slot mask number : ℕ) (p : Path) (o : Object) → HoldsAt old.objects held p o number →
+    AreFewer held new.objects → new.handles ≡ old.handles → new.renames ≡ old.renames → (r : Result (Result ℕ Errno) AllocError) →
+    IfOk r (λ outcome. IfOk outcome (λ n. n ≡ watch_of old c number)) →
+    IfOk r (λ outcome. OnOk outcome (new.instances ≡ at_client c (armed_on slot (Some (New number)) mask) old.instances)) →
+    IfOk r (λ outcome. OnOk outcome (refusal_of old c slot number ≡ None)) → IfOk r (λ outcome. IfOk outcome (ArmsAt old new c slot mask p o))
+arms-at old new held c slot mask number p o at fewer handles renames (Ok (Ok n)) given armed allowed = record {
+  held = held;
+  arms = record {
+    number = number;
+    found = number-at held p o at.spot number at.stands at.holds.sets.here;
+    instances = armed;
+    objects = fewer;
+    handles = handles;
+    renames = renames;
+  };
+  holds = at;
+  allowed = allowed;
+  given = given;
+}
+arms-at old new held c slot mask number p o at fewer handles renames (Ok (Err e)) given armed allowed = tt
+arms-at old new held c slot mask number p o at fewer handles renames (Err f) given armed allowed = tt
+
+-- or refused
+pub refused-at : (old : Notified) (held : Tracked) (c slot number : ℕ) (p : Path) (o : Object) → HoldsAt old.objects held p o number →
+    (r : Result (Result ℕ Errno) AllocError) → IfOk r (λ outcome. IfErr outcome (λ e. refusal_of old c slot number ≡ Some e)) →
+    IfOk r (λ outcome. IfErr outcome (IsArmRefused old c slot p o))
+refused-at old held c slot number p o at (Ok (Ok n)) refused = tt
+refused-at old held c slot number p o at (Ok (Err e)) refused = record { held = held; number = number; holds = at; refused = refused }
+refused-at old held c slot number p o at (Err f) refused = tt
+
+-- of three numbers the last two may change places
+pub last-first : (a b c : ℕ) → a + b + c ≡ a + c + b
+last-first a b c = omega arith

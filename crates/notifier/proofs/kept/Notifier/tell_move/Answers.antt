@@ -1,0 +1,11 @@
+use Rattle.std.proofs.Common.{subst, sym}
+use Rattle.notice_laws.specs.Telling.{in_way}
+use Rattle.notifier.specs.Notifying.{IsTold}
+use Rattle.notifier.proofs.Told.{told-none}
+use Rattle.notifier.proofs.kept.Notifier.tell_move.Goals as goal
+
+pub returns-in_default : goal.returns-in_default
+returns-in_default g c =
+    let shows = g.R.Rule.shows in
+    let self = c.args.self.now in
+    subst (λ r. IsTold shows self self (in_way r c.args.bits c.args.cookie)) (sym c.in_default.is) (told-none shows self)

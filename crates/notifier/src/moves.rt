@@ -1,0 +1,254 @@
+// What renames hold beforehand, lead along and tell.
+ghost use Rattle.std.specs.Prelude.{◌≡◌, ◌≢◌, ℕ, suc, ◌+◌, ◌*◌, ◌<◌, ◌^◌, [], None, Some, IfOk, OnOk, length, reverse, true};
+ghost use Rattle.ov_base.specs.Cookies as cookies;
+ghost use Rattle.plain_model.specs.Watching.{MOVES, is_one_of};
+ghost use Rattle.open_handles.specs.Tracked.{IsPrepared, SameSpots, Spot, spot_of};
+ghost use Rattle.open_handles.specs.TrackedHandles.{clients_of};
+ghost use Rattle.notice_laws.specs.declared.object.Object.TheVariants as objects;
+ghost use Rattle.notice_laws.specs.Moves.{Moved, Moves, ReWays, of_replaced};
+ghost use Rattle.notice_laws.specs.Opens.{AreFewer};
+ghost use Rattle.notice_laws.specs.Telling.{in_way};
+ghost use Rattle.notifier.specs.Notifying.{Becomes, HasRoom, IsFree, IsTold};
+ghost use Rattle.notifier.specs.Moving.{IsPin, IsPinOf, IsPinned, IsPlaceFor, IsReady, MayHold, MayHoldAt, led_by};
+
+use crate::bits::{ATTRIB, MOVE_SELF, MOVED_FROM, MOVED_TO};
+use crate::kept::Notifier;
+use crate::names::is_last_name;
+use crate::telling::marks;
+use notice_laws::{Object, Pin};
+use open_handles::Way;
+use ov_base::{Name, Path, cookie_of};
+use std::alloc::{AllocError, Global};
+use watch_table::{Callback, Rule};
+
+// The path to which these names lead from the root down.
+fn path_to(alloc: Global, names: &[Name]) -> Result<Path, AllocError>
+    ensures { IfOk result (λ path. path ≡ reverse names.now) }
+{
+    let mut path = Path::root(alloc);
+    for name in names {
+        path.push(name.clone()?)?;
+    }
+    Ok(path)
+}
+
+// What a rename leads handles by: the number of what moves, and the ways to its old path and to its new one.
+#[derive(Clone, Copy)]
+struct Course {
+    number: Option<u64>,
+    from: Option<Way>,
+    to: Option<Way>,
+}
+
+impl<F: Callback, R: Rule> Notifier<F, R> {
+    /// Takes the memory that a rename of what stands at the old path to the new one needs, whose directory is there. Nothing that is shown
+    /// changes by it: the new directory may be held, which `cancel_move` lets go, also where memory ran out.
+    pub fn prepare_move(
+        &mut self,
+        alloc: Global,
+        old: &Path,
+        new: &Path,
+        object: Object,
+    ) -> Result<(), AllocError>
+        requires clients { 64 * length (clients_of self.old.handles) < 2 ^ 64 }
+        requires unpinned { self.old.pinned ≡ None }
+        requires below { new.now ≢ [] }
+        ensures held { MayHold self.old.objects self.new.objects new.now }
+        ensures rest { self.new ≡ record self.old { objects = self.new.objects; pinned = self.new.pinned } }
+        ensures ready { OnOk result (IsReady self.new old.now new.now object) }
+    {
+        if self.renames == u64::MAX {
+            return Err(AllocError);
+        }
+        self.pin_ways(alloc, old, new, object)?;
+        self.prepare_spots(old, new, object)
+    }
+
+    // Takes the memory for what is tracked to go along with a rename.
+    fn prepare_spots(&mut self, old: &Path, new: &Path, object: Object) -> Result<(), AllocError>
+        ensures same { SameSpots self.old.objects self.new.objects }
+        ensures rest { self.new ≡ record self.old { objects = self.new.objects } }
+        ensures room { OnOk result (HasRoom self.new.objects old.now object) }
+        ensures prepared { OnOk result (object ≡ objects.Directory → IsPrepared self.new.objects old.now new.now) }
+    {
+        match object {
+            Object::Directory => self.objects.prepare_rename(old, new),
+            _ => self.prepare_lift(old, object),
+        }
+    }
+
+    // Holds the new directory once for each handle on what moves that came by the old way.
+    fn pin_ways(
+        &mut self,
+        alloc: Global,
+        old: &Path,
+        new: &Path,
+        object: Object,
+    ) -> Result<(), AllocError>
+        requires clients { 64 * length (clients_of self.old.handles) < 2 ^ 64 }
+        requires unpinned { self.old.pinned ≡ None }
+        requires below { new.now ≢ [] }
+        ensures held { MayHold self.old.objects self.new.objects new.now }
+        ensures rest { self.new ≡ record self.old { objects = self.new.objects; pinned = self.new.pinned } }
+        ensures pinned { OnOk result (IsPinned self.new old.now new.now object) }
+    {
+        let number = self.number_of(old, object);
+        let from = self.way_to(old);
+        let count = self.count_by(number, from);
+        if count == 0 {
+            return Ok(());
+        }
+        match new.split_last() {
+            Some((_, parents)) => {
+                let directory = path_to(alloc, parents)?;
+                let pinned = self.pin(&directory, count);
+                self.lawful();
+                pinned
+            }
+            None => Ok(()),
+        }
+    }
+
+    // How many handles are on the object of a number by exactly this way.
+    fn count_by(&self, number: Option<u64>, way: Option<Way>) -> usize
+        requires { 64 * length (clients_of self.now.handles) < 2 ^ 64 }
+        ensures { result ≡ led_by self.now.handles number way }
+    {
+        match (number, way) {
+            (Some(number), Some(way)) => self.handles.count_by(number, &way),
+            _ => 0,
+        }
+    }
+
+    // Holds what is at a path so often, for a rename that is under way.
+    fn pin(&mut self, directory: &Path, count: usize) -> Result<(), AllocError>
+        requires unpinned { self.old.pinned ≡ None }
+        requires some { 0 < count }
+        ensures held { MayHoldAt self.old.objects self.new.objects directory.now }
+        ensures rest { self.new ≡ record self.old { objects = self.new.objects; pinned = self.new.pinned } }
+        ensures pinned { OnOk result (IsPinOf self.new directory.now count) }
+        ensures kept { (n : ℕ) (spot : Spot) → spot_of self.old.objects n ≡ Some spot → spot_of self.new.objects n ≡ Some spot }
+    {
+        self.lawful();
+        let number = self.objects.hold_at(directory)?;
+        let more = self.objects.hold(number, count - 1);
+        let count = if more.is_ok() { count } else { 1 };
+        self.pinned = Some(Pin { number, count });
+        more
+    }
+
+    /// Gives up a rename that was prepared, and lets go what it held. It takes no memory.
+    pub fn cancel_move(&mut self)
+        ensures fewer { AreFewer self.old.objects self.new.objects }
+        ensures unpinned { self.new.pinned ≡ None }
+        ensures rest { self.new ≡ record self.old { objects = self.new.objects; pinned = None } }
+    {
+        if let Some(pin) = self.pinned {
+            self.objects.release(pin.number, pin.count);
+        }
+        self.pinned = None;
+        self.objects.cancel_rename();
+    }
+
+    // Leads what is tracked along with a rename: a directory with all below it, a file of a lower layer into the upper. What is replaced
+    // loses a name.
+    fn move_numbers(&mut self, old: &Path, new: &Path, object: Object, replaced: Object, key: usize)
+        requires ready { IsReady self.old old.now new.now object }
+        requires free { IsFree self.old.objects old.now object key }
+        requires place { object ≡ objects.Directory → IsPlaceFor self.old old.now new.now replaced }
+        ensures moves { Becomes (Moves old.now new.now object replaced key) self.old.objects self.new.objects }
+        ensures rest { self.new ≡ record self.old { objects = self.new.objects } }
+    {
+        match object {
+            Object::Directory => self.objects.rename(old, new),
+            _ => {
+                let _ = self.lose_name(new, replaced);
+                let _ = self.lift(old, object, key);
+            }
+        }
+    }
+
+    // Leads the handles on what moves that came by the old way to the new one, whose directory was held for them. The old directory is let
+    // go as often.
+    fn lead_ways(&mut self, course: &Course)
+        requires { IsPin course.now.to (led_by self.old.handles course.now.number course.now.from) self.old.pinned }
+        ensures ways { ReWays self.old.handles self.new.handles course.now.number course.now.from course.now.to }
+        ensures clients { clients_of self.new.handles ≡ clients_of self.old.handles }
+        ensures fewer { AreFewer self.old.objects self.new.objects }
+        ensures instances { self.new.instances ≡ self.old.instances }
+        ensures renames { self.new.renames ≡ self.old.renames }
+    {
+        let Some(number) = course.number else {
+            return;
+        };
+        let Some(from) = &course.from else {
+            return;
+        };
+        let Some(to) = course.to else {
+            return;
+        };
+        self.handles.re_way(number, from, to);
+        if let Some(pin) = self.pinned {
+            self.objects.release(from.directory, pin.count);
+            self.pinned = None;
+        }
+    }
+
+    // Counts a rename that moves something, and gives its cookie.
+    fn count_rename(&mut self) -> u32
+        requires { self.old.renames + 1 < 2 ^ 64 }
+        ensures cookie { result ≡ cookies.cookie_of (suc self.old.renames) }
+        ensures rest { self.new ≡ record self.old { renames = suc self.old.renames } }
+    {
+        self.renames += 1;
+        cookie_of(self.renames)
+    }
+
+    // Tells the directory of a way that a name moved out of it or into it.
+    fn tell_move(&mut self, way: &Option<Way>, bits: u32, cookie: u32)
+        requires bits { is_one_of MOVES bits ≡ true }
+        requires cookie { cookie ≢ 0 }
+        ensures { IsTold R.shows self.old self.new (in_way way.now bits cookie) }
+    {
+        if let Some(way) = way {
+            self.tell(way.directory, bits, cookie, Some(&way.name));
+        }
+    }
+
+    // Tells what was replaced that it has a name less, where it is no directory.
+    fn tell_replaced(&mut self, replaced: Object, number: Option<u64>)
+        ensures { IsTold R.shows self.old self.new (of_replaced replaced number) }
+    {
+        match replaced {
+            Object::Directory => (),
+            _ => self.tell_number(number, ATTRIB),
+        }
+    }
+
+    /// Tells that what stood at the old path moved to the new one, where something else was replaced, or nothing; a file of a lower layer
+    /// is in the upper under a key by that. It takes no memory, which `prepare_move` took.
+    pub fn moved(&mut self, old: &Path, new: &Path, object: Object, replaced: Object, key: usize)
+        requires ready { IsReady self.old old.now new.now object }
+        requires free { IsFree self.old.objects old.now object key }
+        requires place { object ≡ objects.Directory → IsPlaceFor self.old old.now new.now replaced }
+        ensures { Moved R.shows self.old self.new old.now new.now object replaced key }
+    {
+        self.lawful();
+        let course = Course {
+            number: self.number_of(old, object),
+            from: self.way_to(old),
+            to: self.way_to(new),
+        };
+        let present = self.number_of(new, replaced);
+        let is_last = is_last_name(replaced);
+        let ended = self.end_of(present, is_last);
+        self.move_numbers(old, new, object, replaced, key);
+        self.lead_ways(&course);
+        let cookie = self.count_rename();
+        self.tell_move(&course.from, marks(object, MOVED_FROM), cookie);
+        self.tell_move(&course.to, marks(object, MOVED_TO), cookie);
+        self.tell_replaced(replaced, present);
+        self.tell_number(course.number, MOVE_SELF);
+        self.tell_end(ended);
+    }
+}

@@ -1,0 +1,99 @@
+// Watches that are armed and taken away.
+ghost use Rattle.std.specs.Prelude.{◌≡◌, ◌≢◌, None, Some, IsSome, IfErr, IfOk, IfSome, MatchResult, OnErr, true};
+ghost use Rattle.std.specs.List.{list_any};
+ghost use Rattle.plain_model.specs.Machine.{hooks_of, instance_of, watches_of};
+ghost use Rattle.plain_model.specs.Watching.{is_numbered};
+ghost use Rattle.open_handles.specs.Tracked.{SameSpots};
+ghost use Rattle.notice_laws.specs.Clients.{Disarmed};
+ghost use Rattle.notifier.specs.Arming.{ArmsAt, HoldsAt, IsArmRefused, IsLeft};
+ghost use Rattle.watch_table.specs.Listening.{slot_refusal};
+
+use crate::kept::Notifier;
+use notice_laws::Object;
+use open_handles::TrackedObjects;
+use ov_base::{Errno, Path};
+use std::alloc::{AllocError, Global};
+use watch_table::{Aim, Callback, IGNORED, Rule, Subject};
+
+// Holds what stands at a path for one holder more, and gives its number. It fails only for want of memory, of numbers, or where as many
+// hold it as can be counted, and changes nothing then.
+fn hold(objects: &mut TrackedObjects, path: &Path, object: Object) -> Result<u64, AllocError>
+    requires { object ≢ Object.Other }
+    ensures holds { IfOk result (HoldsAt objects.old objects.new path.now object) }
+    ensures err { OnErr result (SameSpots objects.old objects.new) }
+{
+    match object {
+        Object::Directory => objects.hold_at(path),
+        Object::Lower => objects.hold_at(path),
+        Object::Upper { key, last: _ } => objects.hold_key(key),
+        Object::Other => unreachable!(),
+    }
+}
+
+impl<F: Callback, R: Rule> Notifier<F, R> {
+    /// Whether a slot of a client has a hook, and the mask an event and no bit that no arm takes; else it is EINVAL.
+    pub fn may_arm(&self, client: u64, slot: u32, mask: u32) -> Result<(), Errno>
+        requires { IsSome (instance_of self.now.instances client) }
+        ensures { MatchResult result (λ _. slot_refusal (hooks_of (instance_of self.now.instances client)) slot mask ≡ None) (λ e. slot_refusal (hooks_of (instance_of self.now.instances client)) slot mask ≡ Some e) }
+    {
+        self.watches.may_arm(client, slot, mask)
+    }
+
+    /// Whether a client has a watch of this number.
+    pub fn has_watch(&self, client: u64, watch: i32) -> bool
+        requires { IsSome (instance_of self.now.instances client) }
+        ensures { result ≡ list_any (is_numbered watch) (watches_of (instance_of self.now.instances client)) }
+    {
+        self.watches.has_watch(client, watch)
+    }
+
+    /// Arms what stands at a path, a directory or a file, for a client through a slot, and gives the watch's number. A slot that is armed on
+    /// another object, or an object that is armed through another slot, is EBUSY; a new watch where all numbers were given is ENOSPC.
+    /// A refusal and want of memory leave what is tracked and watched.
+    pub fn armed(
+        &mut self,
+        alloc: Global,
+        client: u64,
+        slot: u32,
+        path: &Path,
+        object: Object,
+        mask: u32,
+    ) -> Result<Result<u32, Errno>, AllocError>
+        requires attached { IsSome (instance_of self.old.instances client) }
+        requires slot { slot_refusal (hooks_of (instance_of self.old.instances client)) slot mask ≡ None }
+        requires stands { object ≢ Object.Other }
+        ensures armed { IfOk result (λ outcome. IfOk outcome (ArmsAt self.old self.new client slot mask path.now object)) }
+        ensures refused { IfOk result (λ outcome. IfErr outcome (IsArmRefused self.old client slot path.now object)) }
+        ensures same { IfOk result (λ outcome. OnErr outcome (IsLeft self.old self.new)) }
+        ensures err { OnErr result (IsLeft self.old self.new) }
+    {
+        self.objects.lawful();
+        self.watches.lawful();
+        let number = hold(&mut self.objects, path, object)?;
+        let before = self.watches.watchers(number);
+        let outcome = self.watches.arm(alloc, client, slot, number, mask);
+        let more = self.watches.watchers(number) - before;
+        self.objects.release(number, 1 - more);
+        outcome
+    }
+
+    /// Takes a watch of a client away, which is told so, and lets go what it held. It takes no memory.
+    pub fn disarmed(&mut self, client: u64, watch: i32)
+        requires { list_any (is_numbered watch) (watches_of (instance_of self.old.instances client)) ≡ true }
+        ensures { Disarmed R.shows self.old self.new client watch }
+    {
+        self.watches.lawful();
+        if let Some(object) = self.watches.object_of(client, watch) {
+            let before = self.watches.watchers(object);
+            let subject = Subject {
+                aim: Aim::Only(client, watch),
+                bits: IGNORED,
+                cookie: 0,
+                name: None,
+            };
+            self.watches.fire(&[subject]);
+            let ended = before - self.watches.watchers(object);
+            self.objects.release(object, ended);
+        }
+    }
+}
