@@ -10,12 +10,14 @@ use Rattle.std.proofs.lemmas.Cmp.{nat_eq_equiv}
 use Rattle.std.proofs.lemmas.Map.Keys.{IsDistinct-cons}
 use Rattle.std.proofs.lemmas.Map.Steps.{length-le_from_keys}
 use Rattle.ov_base.specs.declared.errno.Errno.{Errno}
-use Rattle.ov_base.specs.declared.errno.Errno.TheVariants.{ENFILE, ENOSPC}
+use Rattle.ov_base.specs.declared.errno.Errno.TheVariants.{EINVAL, ENFILE, ENOSPC}
 use Rattle.ov_base.specs.declared.options.Options.{Options}
 use Rattle.overlay_core.specs.Attaching.{Attaches, Detaches, KeepsAttached, is_attached}
 use Rattle.overlay_core.specs.Jobs.{finished_after}
 use Rattle.overlay_core.specs.Mounting.{mount_fault}
 use Rattle.overlay_core.specs.declared.mounted.Core.{Core}
+use Rattle.watch_table.specs.declared.hook.Callback.{Ghosts as Callback}
+use Rattle.watch_table.specs.declared.hook.Rule.{Ghosts as Rule}
 use Rattle.overlay_core.specs.declared.mounted.MountFault.TheVariants.{NoLower, TooManyLowers, BadHistory}
 use Rattle.overlay_core.specs.declared.mounted.Turn.{Turn}
 use Rattle.overlay_core.specs.declared.mounted.Turn.TheVariants.{More, Done, NoMemory}
@@ -57,15 +59,15 @@ most_but_one m n x ks once found =
     by q has (inr e) = rw (ne_eqb q n e) (entry_there m q (found q has e))
 
 -- clients that are attached are at most as many as the map has
-most : (m : Core) (clients : List ℕ) → AreAttached m clients → length clients ≤ btree_map_len m.mount.clients.attached
+most : {F G : Type 0} {asks : Callback F} {rule : Rule G} (m : Core F G asks rule) (clients : List ℕ) → AreAttached m clients → length clients ≤ btree_map_len m.mount.clients.attached
 most m clients are = most_found m.mount.clients.attached clients are.once are.attached
 
 -- after an attach they are at most one more
-most_with : (old new : Core) (n : ℕ) → Attaches old.mount.clients new.mount.clients n → (clients : List ℕ) → AreAttached new clients → length clients ≤ btree_map_len old.mount.clients.attached + 1
+most_with : {F G : Type 0} {asks : Callback F} {rule : Rule G} (old new : Core F G asks rule) (n : ℕ) → Attaches old.mount.clients new.mount.clients n → (clients : List ℕ) → AreAttached new clients → length clients ≤ btree_map_len old.mount.clients.attached + 1
 most_with old new n a clients are = most_but_one old.mount.clients.attached n a.descriptors clients are.once (λ q has e. ap any (sym (a.others q e)) ∙ are.attached q has)
 
 -- a client that is detached was attached beside those that are attached still
-with_detached : (old new : Core) (n : ℕ) → is_attached old.mount.clients n ≡ true → Detaches old.mount.clients new.mount.clients n → (clients : List ℕ) → AreAttached new clients → AreAttached old (n ∷ clients)
+with_detached : {F G : Type 0} {asks : Callback F} {rule : Rule G} (old new : Core F G asks rule) (n : ℕ) → is_attached old.mount.clients n ≡ true → Detaches old.mount.clients new.mount.clients n → (clients : List ℕ) → AreAttached new clients → AreAttached old (n ∷ clients)
 with_detached old new n was d clients are = record {
   once = IsDistinct-cons nat_eq n clients (all_apart n clients (lacks (cases_Bool (list_any (nat_eq n) clients)))) are.once;
   attached = λ q has. by q has (cases_eq q n);
@@ -85,7 +87,7 @@ one_more More n k e = omega (arith, e)
 one_more (Done reply) n k e = omega (arith, e)
 one_more NoMemory n k e = omega (arith, e)
 
-module _ (old new : Core) (same : new.options ≡ old.options) where
+module _ {F G : Type 0} {asks : Callback F} {rule : Rule G} (old new : Core F G asks rule) (same : new.options ≡ old.options) where
   -- clients that are attached after a call were attached before
   were : KeepsAttached old.mount.clients new.mount.clients → (clients : List ℕ) → AreAttached new clients → AreAttached old clients
   were kept clients are = record { once = are.once; attached = λ n has. sym (kept.attached n) ∙ are.attached n has }
@@ -127,13 +129,14 @@ none_said : (o : Option Errno) → ((errno : Errno) → o ≡ Some errno → ⊥
 none_said None not = refl
 none_said (Some errno) not = absurd (not errno refl)
 
-two_left : (few_clients few_places : Bool) → cond few_clients (cond few_places (Some ENOSPC) None) (Some ENFILE) ≡ None → few_places ≡ false
-two_left true true e = cc
-two_left true false e = refl
-two_left false few_places e = cc
+two_left : (many_hooks few_clients few_places : Bool) → cond many_hooks (Some EINVAL) (cond few_clients (cond few_places (Some ENOSPC) None) (Some ENFILE)) ≡ None → few_places ≡ false
+two_left true few_clients few_places e = cc
+two_left false true true e = cc
+two_left false true false e = refl
+two_left false false few_places e = cc
 
-pub two_places : (m : Core) (said : Option Errno) → said ≡ attach_refusal m → ((errno : Errno) → said ≡ Some errno → ⊥) → 2 ≤ room m
-two_places m said is not = ltb-false (room m) 2 (two_left (nat_lt (btree_map_len m.mount.clients.attached) 64) (nat_lt (room m) 2) (sym is ∙ none_said said not))
+pub two_places : {F G : Type 0} {asks : Callback F} {rule : Rule G} (m : Core F G asks rule) (hooks : ℕ) (said : Option Errno) → said ≡ attach_refusal m hooks → ((errno : Errno) → said ≡ Some errno → ⊥) → 2 ≤ room m
+two_places m hooks said is not = ltb-false (room m) 2 (two_left (nat_lt 16 hooks) (nat_lt (btree_map_len m.mount.clients.attached) 64) (nat_lt (room m) 2) (sym is ∙ none_said said not))
 
 -- the history of layers that are a mount isn't too long
 not_long : (none many short long : Bool) → cond none (Some NoLower) (cond many (Some TooManyLowers) (cond (short || long) (Some BadHistory) None)) ≡ None → long ≡ false
@@ -147,7 +150,7 @@ pub bounded : (lowers : ℕ) (o : Options) → mount_fault lowers o ≡ None →
 bounded lowers o e = ltb-false 1000000 o.history (not_long (nat_eq lowers 0) (nat_lt 16 lowers) (nat_lt o.history 2) (nat_lt 1000000 o.history) e)
 
 -- a new mount has a place for each detach
-pub first_places : (m : Core) → m.options.history ≤ 1000000 → m.finished ≡ 0 → ((n : ℕ) → is_attached m.mount.clients n ≢ true) → HasPlaces m
+pub first_places : {F G : Type 0} {asks : Callback F} {rule : Rule G} (m : Core F G asks rule) → m.options.history ≤ 1000000 → m.finished ≡ 0 → ((n : ℕ) → is_attached m.mount.clients n ≢ true) → HasPlaces m
 first_places m short none nobody = (short, fits)
   where
     fits : (clients : List ℕ) → AreAttached m clients → m.finished + length clients ≤ m.options.history
@@ -155,7 +158,7 @@ first_places m short none nobody = (short, fits)
     fits (n ∷ clients) are = absurd (nobody n (are.attached n (ap (λ b. b || list_any (nat_eq n) clients) (nat_eq_equiv.refl n))))
 
 -- where there is a place for each detach, the number of deeds fits
-pub few : (m : Core) → HasPlaces m → m.finished + 1 < 2 ^ 63
+pub few : {F G : Type 0} {asks : Callback F} {rule : Rule G} (m : Core F G asks rule) → HasPlaces m → m.finished + 1 < 2 ^ 63
 unfolding IsDistinct
 few m h =
     let fits = h.1 [] (record { once = tt; attached = λ n has. absurd (false≢true has) }) in

@@ -1,6 +1,6 @@
 -- Clients come on both sides.
-use Rattle.std.proofs.Common.{◌≡◌, ◌≢◌, ℕ, zero, suc, Bool, false, cond, ◌||◌, List, [], ◌∷◌, ◌++◌, Option, None, Some, Result, Ok, Err, refl, sym, ap, ◌∙◌, subst, is_some, length, replicate, slice_get, nat_eq, add-one, arith}
-use Rattle.overlay_core.proofs.Words.{AllocError, AreLayers, Descriptors, DESCRIPTORS_MAX, eq-eqb, Errno, File, Handle, handle_of, handles_of, held_in, IfOk, Layer, layer_of, layers_of, list_any, lowers_of, nat_cmp, ne_eqb, OnErr, OpenFile, option_and_then, State, Table, Tree}
+use Rattle.std.proofs.Common.{◌≡◌, ◌≢◌, ℕ, zero, suc, Bool, false, cond, ◌||◌, List, [], ◌∷◌, ◌++◌, Option, None, Some, Result, Ok, Err, refl, sym, ap, ◌∙◌, subst, is_some, length, replicate, slice_get, nat_eq, add-one, arith, ◌⊎◌, inl, inr}
+use Rattle.overlay_core.proofs.Words.{AllocError, AreLayers, cases_eq, Descriptors, DESCRIPTORS_MAX, eq-eqb, Errno, File, Handle, handle_of, handles_of, held_in, IfOk, Layer, layer_of, layers_of, list_any, lowers_of, nat_cmp, ne_eqb, OnErr, OpenFile, option_and_then, State, Table, Tree}
 use Rattle.std.proofs.Math.Bool.{or-false, or-true}
 use Rattle.std.proofs.lemmas.Bool.{or_parts}
 use Rattle.std.proofs.lemmas.List.Folds.{list_any-append}
@@ -14,7 +14,7 @@ use Rattle.mount_laws.proofs.Looks.{law_of_beginning}
 use Rattle.overlay_core.specs.declared.clients.Clients.{Clients}
 use Rattle.open_handles.specs.declared.handle.Handle as handles
 use Rattle.overlay_core.specs.declared.mount.Mount.{Mount}
-use Rattle.overlay_core.specs.Attaching.{Attaches, IsSame, KeepsPlaces, opened_by}
+use Rattle.overlay_core.specs.Attaching.{Attaches, IsSame, KeepsAttached, KeepsPlaces, TakesBack, opened_by}
 use Rattle.open_handles.specs.Descriptors.{opened}
 use Rattle.overlay_core.specs.Files.{AreOne}
 use Rattle.overlay_core.specs.States.{IsOpenAs, AreTables, AreUnwatched, IsStateOf}
@@ -104,6 +104,40 @@ begins m none next t a merge = record {
   where
     opens-nothing : (b d : ℕ) (f : OpenFile) → opened_by m.clients b d ≡ Some (File f) → ⊥
     opens-nothing b d f e = grind arith
+
+-- a client that came and was taken back leaves each client what it had
+back-gets : (old mid new : Clients) (n : ℕ) → Attaches old mid n → TakesBack mid new n → (b : ℕ) → get nat_cmp new.attached b ≡ get nat_cmp old.attached b
+back-gets old mid new n came back b = by (cases_eq b n)
+  where
+    by : (b ≡ n) ⊎ (b ≡ n → ⊥) → get nat_cmp new.attached b ≡ get nat_cmp old.attached b
+    by (inl e) = ap (get nat_cmp new.attached) e ∙ back.gone ∙ sym (ap (get nat_cmp old.attached) e ∙ came.fresh)
+    by (inr off) = back.others b off ∙ came.others b off
+
+-- and the same clients are attached
+pub back-attached : (old mid new : Clients) (n : ℕ) → Attaches old mid n → TakesBack mid new n → KeepsAttached old new
+back-attached old mid new n came back = record {
+  attached = λ b. ap (λ (o : Option Descriptors). is_some o) (back-gets old mid new n came back b);
+  next = back.next ∙ came.next;
+}
+
+-- the same clients are attached where nothing changed
+pub same-attached : (old new : Clients) → IsSame old new → KeepsAttached old new
+same-attached old new h = record { attached = λ b. ap (λ (o : Option Descriptors). is_some o) (same b); next = h.next }
+  where
+    same : (b : ℕ) → get nat_cmp new.attached b ≡ get nat_cmp old.attached b
+    same b = rw h.attached refl
+
+-- the mount stands for the state for which it stood
+pub back-same : (m : Mount) (s : State) (st : IsStateOf m s) (mid new : Clients) (n : ℕ) → Attaches m.clients mid n → TakesBack mid new n → IsStateOf (record m { clients = new }) s
+back-same m s st mid new n came back =
+    let gets = back-gets m.clients mid new n came back in
+    keep-same m s st new
+    (record {
+      attached = λ b. ap (λ (o : Option Descriptors). is_some o) (gets b);
+      opened = λ b d. ap (open_in d) (gets b);
+      places = places-same m.clients new (back.places ∙ came.places);
+      next = back.next ∙ came.next;
+    })
 
 module _ (m : Mount) (s : State) (st : IsStateOf m s) (new : Clients) where
   -- nothing changed

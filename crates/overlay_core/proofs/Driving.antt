@@ -6,6 +6,7 @@ use Rattle.std.proofs.Math.Bool.{or-false}
 use Rattle.std.proofs.lemmas.List.Folds.{list_any-append}
 use Rattle.std.proofs.lemmas.Option.{same_Some, slice_get-map, slice_get_within}
 use Rattle.std.proofs.lemmas.List.{take_more}
+use Rattle.plain_model.specs.Watching.{Instance, Rule}
 use Rattle.plain_model.specs.Runs.{Called, Entry, Does, Run}
 use Rattle.overlay_core.specs.declared.clients.Clients.{Clients}
 use Rattle.overlay_core.specs.declared.job.Job.{Job}
@@ -17,7 +18,6 @@ use Rattle.overlay_core.specs.Attaching.{KeepsAttached, is_attached}
 use Rattle.overlay_core.specs.Drives.{call_of, calls_of, AreOffered, AreEntries, Drives, Answers, one_if_open, one_if_answered, open_count, answered, replies_to, PassesOver}
 use Rattle.overlay_core.specs.Jobs.{AnswersBy}
 use Rattle.overlay_core.specs.Offers.{is_offered}
-use Rattle.overlay_core.specs.Rules.{Nothing}
 use Rattle.overlay_core.proofs.Serving.{get-set, get-others}
 
 -- one more entry, and one more deed of a run
@@ -27,23 +27,23 @@ entries-more calls [] (x ∷ es) i r e call h at is = absurd h
 entries-more calls (x ∷ rs) [] i r e call h at is = absurd h
 entries-more calls (x ∷ rs) (y ∷ es) i r e call h at is = (h.0, h.1, h.2, entries-more calls rs es i r e call h.3 at is)
 
-run-more : (s : State) (es : List Entry) (t u : State) (e : Entry) → Run Nothing s es t → Does Nothing t e.client e.deed u → Run Nothing s (es ++ e ∷ []) u
-run-more s [] t u e h does = (u, subst (λ (x : State). Does Nothing x e.client e.deed u) h does, refl)
-run-more s (x ∷ es) t u e h does = (h.0, h.1, run-more h.0 es t u e h.2 does)
+run-more : (shows : Rule) (s : State) (es : List Entry) (t u : State) (e : Entry) → Run shows s es t → Does shows t e.client e.deed u → Run shows s (es ++ e ∷ []) u
+run-more shows s [] t u e h does = (u, subst (λ (x : State). Does shows x e.client e.deed u) h does, refl)
+run-more shows s (x ∷ es) t u e h does = (h.0, h.1, run-more shows h.0 es t u e h.2 does)
 
-pub drives-none : (calls : List (ℕ × Call)) (m : Mount) (rs : List (ℕ × Reply)) → rs ≡ [] → Drives calls m rs m
-drives-none calls m rs none s a = ([], subst (λ l. AreEntries calls l []) (sym none) tt, (s, refl, a))
+pub drives-none : (shows : Rule) (calls : List (ℕ × Call)) (m : Mount) (es : List Instance) (rs : List (ℕ × Reply)) → rs ≡ [] → Drives shows calls m es rs m es
+drives-none shows calls m es rs none s a = ([], subst (λ l. AreEntries calls l []) (sym none) tt, (s, refl, a))
 
-pub drives-more : (calls : List (ℕ × Call)) (l m n : Mount) (rs : List (ℕ × Reply)) (i : ℕ) (r : Reply) → AreOffered calls → Drives calls l rs m → Answers calls m i r n → Drives calls l (rs ++ (i, r) ∷ []) n
-drives-more calls l m n rs i r offered d a s h =
+pub drives-more : (shows : Rule) (calls : List (ℕ × Call)) (l m n : Mount) (es fs gs : List Instance) (rs : List (ℕ × Reply)) (i : ℕ) (r : Reply) → AreOffered calls → Drives shows calls l es rs m fs → Answers shows calls m fs i r n gs → Drives shows calls l es (rs ++ (i, r) ∷ []) n gs
+drives-more shows calls l m n es fs gs rs i r offered d a s h =
     let x = d s h in
-    let goes : Goes m a.0 (Called a.1 r) n = a.3 (offered i a.0 a.1 a.2) in
+    let goes : Goes shows m fs a.0 (Called a.1 r) n gs = a.3 (offered i a.0 a.1 a.2) in
     let y = goes x.2.0 x.2.2 in
     let e : Entry = record { client = a.0; number = 0; deed = Called a.1 r } in
-    (x.0 ++ e ∷ [], entries-more calls rs x.0 i r e a.1 x.1 a.2 refl, (y.0, run-more s x.0 x.2.0 y.0 e x.2.1 y.1, y.2))
+    (x.0 ++ e ∷ [], entries-more calls rs x.0 i r e a.1 x.1 a.2 refl, (y.0, run-more shows s x.0 x.2.0 y.0 e x.2.1 y.1, y.2))
 
-pub drives-stay : (calls : List (ℕ × Call)) (l m n : Mount) (rs : List (ℕ × Reply)) → Drives calls l rs m → Stays m n → Drives calls l rs n
-drives-stay calls l m n rs d h s a = let x = d s a in (x.0, x.1, (x.2.0, x.2.1, h x.2.0 x.2.2))
+pub drives-stay : (shows : Rule) (calls : List (ℕ × Call)) (l m n : Mount) (es fs gs : List Instance) (rs : List (ℕ × Reply)) → Drives shows calls l es rs m fs → Stays m fs n gs → Drives shows calls l es rs n gs
+drives-stay shows calls l m n es fs gs rs d h s a = let x = d s a in (x.0, x.1, (x.2.0, x.2.1, h x.2.0 x.2.2))
 
 at-most : (x : Standing) (n m : ℕ) → n ≤ m → one_if_open x + n ≤ suc m
 at-most x n m h = grind arith
@@ -114,8 +114,8 @@ pub keeps-on : (a b c : Clients) → KeepsAttached a b → KeepsAttached b c →
 keeps-on a b c h g = record { attached = λ n. g.attached n ∙ h.attached n; next = g.next ∙ h.next }
 
 -- a call that is offered is a step of the machine
-pub goes-offered : (old : Mount) (job : Job) (new : Mount) (r : Reply) → AnswersBy (is_offered job.call) old job new r → is_offered job.call ≡ true → Goes old job.client (Called job.call r) new
-goes-offered old job new r h is = subst (λ b. AnswersBy b old job new r) is h
+pub goes-offered : (shows : Rule) (old : Mount) (es : List Instance) (job : Job) (new : Mount) (fs : List Instance) (r : Reply) → AnswersBy shows (is_offered job.call) old es job new fs r → is_offered job.call ≡ true → Goes shows old es job.client (Called job.call r) new fs
+goes-offered shows old es job new fs r h is = subst (λ b. AnswersBy shows b old es job new fs r) is h
 
 -- a job that counts as over is not open
 pub not-open : (j : Job) → one_if_open j.standing ≡ 0 → j.standing ≡ Open → ⊥

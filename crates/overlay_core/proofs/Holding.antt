@@ -1,5 +1,5 @@
 -- As many handles hold a directory or a file as its count says, after one client's descriptors changed.
-use Rattle.std.proofs.Common.{arith, ◌≡◌, ◌≢◌, ℕ, ◌+◌, ◌<◌, ◌≤◌, true, false, cond, List, [], ◌∷◌, Option, None, Some, IsSome, Result, Ok, Err, IsOk, OnOk, refl, sym, ap, ◌∙◌, inl, inr, is_some, nat_eq, option_map}
+use Rattle.std.proofs.Common.{arith, ◌≡◌, ◌≢◌, ℕ, ◌+◌, ◌<◌, ◌≤◌, true, false, cond, List, [], ◌∷◌, Option, None, Some, IsSome, Result, Ok, Err, IsOk, OnOk, refl, sym, ap, ◌∙◌, inl, inr, is_some, nat_eq, option_map, suc, add-one, zero-add}
 use Rattle.overlay_core.proofs.Words.{AllocError, cases_eq, ChangesSlot, Dentries, Descriptors, Directory, Errno, File, file_holders, FileSource, GivesNames, Location, Name, nat_cmp, ne_eqb, OpenDirectory, OpenFile, option_and_then, Path, SetsSlot, with_listing, with_place}
 use Rattle.std.specs.BTreeMap.{get}
 use Rattle.std.specs.Result.{IsErr}
@@ -88,6 +88,25 @@ counts-gone old c g gone others none = record {
         by : (o : Option Descriptors) → ((d : ℕ) → option_and_then (λ (x : Descriptors). opened x.slots.items d) o ≡ None) → count o ≡ 0
         by None free_all = bare
         by (Some x) free_all = free x free_all
+
+-- the client that came last goes, which has nothing open, and its number is the next one again
+pub counts-back : (old : Clients) (c : ℕ) (g : ℕ → Option Descriptors) → old.next ≡ c + 1 → g c ≡ None → ((m : ℕ) → m ≢ c → g m ≡ get nat_cmp old.attached m) → ((d : ℕ) → opened_by old c d ≡ None) →
+    record {
+      rising : (n : ℕ) → is_some (g n) ≡ true → n < c;
+      held : (k : ℕ) → holders old.directories k ≡ handles_below g c k;
+      held_files : (k : ℕ) → file_holders old.files k ≡ files_below g c k;
+    }
+counts-back old c g last gone others none =
+    let all = counts-gone old c g gone others none in
+    let next : old.next ≡ suc c = last ∙ add-one c in
+    record {
+      rising = λ n there. elim (cases_eq n c) [
+        | inl e ↦ let no : false ≡ true = sym (ap (λ (o : Option Descriptors). is_some o) (ap g e ∙ gone)) ∙ there in absurd (cc)
+        | inr off ↦ let below = all.rising n there in omega arith
+      ];
+      held = λ k. all.held k ∙ ap (λ n. handles_below g n k) next ∙ ap (λ (o : Option Descriptors). handles_by o k + handles_below g c k) gone ∙ zero-add (handles_below g c k);
+      held_files = λ k. all.held_files k ∙ ap (λ n. files_below g n k) next ∙ ap (λ (o : Option Descriptors). files_by o k + files_below g c k) gone ∙ zero-add (files_below g c k);
+    }
 
 module _ (old : Clients) (c : ℕ) (before : Descriptors) (g : ℕ → Option Descriptors) (after : Descriptors) (b : Becomes old c before g after) where
   inside : c < old.next

@@ -8,7 +8,7 @@ use mathlib.Core.Logic.{∥∥₁_elim}
 use mathlib.Core.HLevel.{⊥_prop}
 use Rattle.ov_base.specs.declared.call.Call.TheVariants.{Close}
 use Rattle.ov_base.specs.declared.errno.Errno.TheVariants.{EBADF}
-use Rattle.plain_model.specs.Watching.{Rule, Subject, Instance, AllHear, Puts, all_asked, all_passed}
+use Rattle.plain_model.specs.Watching.{Rule}
 use Rattle.plain_model.specs.Subjects.{subjects}
 use Rattle.plain_model.specs.Runs.{Answered, Step, Closes, Leaves, without_instance, without_table}
 use Rattle.plain_model.proofs.Looking.{refusal-reading}
@@ -24,41 +24,16 @@ use Rattle.overlay_core.specs.States.{IsSlot, IsOpenAs, AreTables, AreUnwatched,
 use Rattle.overlay_core.proofs.Coming.{of, open_in, fewer-but, tables-but}
 use Rattle.overlay_core.proofs.Serving.{handles-set, get-others, one-fewer}
 use Rattle.overlay_core.proofs.Stating.{with-tables}
-
--- fewer instances without watches
-unwatched-filter : (f : Instance → Bool) (es : List Instance) → AreUnwatched es → AreUnwatched (filter f es)
-unwatched-filter f [] a = tt
-unwatched-filter f (e ∷ es) a = grind (arith, unwatched-filter f es)
-
--- an instance without watches stays as it is whatever is told
-passed-none : (ss : List Subject) (e : Instance) → e.watches ≡ [] → all_passed e ss ≡ e
-passed-none [] e h = refl
-passed-none (s ∷ ss) e h = grind (arith, passed-none ss)
-
--- and it asks nothing
-asked-none : (ss : List Subject) (e : Instance) → e.watches ≡ [] → all_asked e ss ≡ []
-asked-none [] e h = refl
-asked-none (s ∷ ss) e h = grind (arith, asked-none ss)
-
--- so each of them hears whatever is told, and stays as it is
-pub all-hear : (shows : Rule) (ss : List Subject) (es : List Instance) → AreUnwatched es → AllHear shows ss es es
-all-hear shows ss [] w = tt
-all-hear shows ss (e ∷ es) w = (
-  record {
-    watches = ap (λ (z : Instance). record z { queue = e.queue }) (sym (passed-none ss e w.0));
-    queue = subst (λ z. Puts shows z e.queue e.queue) (sym (asked-none ss e w.0)) refl;
-  },
-  all-hear shows ss es w.1,
-)
+use Rattle.overlay_core.proofs.Unwatched.{all-hear, unwatched-filter}
 
 -- a call that is answered is one that the machine takes, and nobody hears of it
-taken : (s : State) (c : ℕ) (k : Call) (r : Reply) (new : Mount) → Serves None s c k r new → Answered None Nothing s c k r (after s c k)
-taken s c k r new h = record { answer = h.0; state = refl; heard = all-hear Nothing (subjects s c k) (after s c k).instances h.1.unwatched }
+taken : (shows : Rule) (s : State) (c : ℕ) (k : Call) (r : Reply) (new : Mount) → Serves None s c k r new → Answered None shows s c k r (after s c k)
+taken shows s c k r new h = record { answer = h.0; state = refl; heard = all-hear shows (subjects s c k) (after s c k).instances h.1.unwatched }
 
--- a call that is answered as by the machine is a step of it
-pub step-by : (s : State) (c : ℕ) (k : Call) (r : Reply) (new : Mount) (o : Option Errno) → Serves o s c k r new → (t : State) × Answered o Nothing s c k r t × IsStateOf new t
-step-by s c k r new (Some e) h = (s, (h.0, refl), h.1)
-step-by s c k r new None h = (after s c k, taken s c k r new h, h.1)
+-- a call that is answered as by the machine is a step of it by every rule, and where it arms and takes nothing the instances stay
+pub step-by : (shows : Rule) (s : State) (c : ℕ) (k : Call) (r : Reply) (new : Mount) (o : Option Errno) → (after s c k).instances ≡ s.instances → Serves o s c k r new → (t : State) × Answered o shows s c k r t × IsStateOf new t × (t.instances ≡ s.instances)
+step-by shows s c k r new (Some e) silent h = (s, (h.0, refl), h.1, refl)
+step-by shows s c k r new None silent h = (after s c k, taken shows s c k r new h, h.1, silent)
 
 -- a descriptor that is closed is free
 closed-none : (hs : List (Option Handle)) (i : ℕ) → held_in (slice_get (slice_set hs i None) i) ≡ None
@@ -138,7 +113,7 @@ module _ (s : State) (m new : Mount) (c i : ℕ) (b : ClosesBelow s c i m) (with
   }
     where
       step : Step Nothing b.last c (Close i) r (after b.last c (Close i))
-      step = subst (λ o. Answered o Nothing b.last c (Close i) r (after b.last c (Close i))) (sym (unrefused b.last c i h (leads (Some h) some))) (taken b.last c (Close i) r new served)
+      step = subst (λ o. Answered o Nothing b.last c (Close i) r (after b.last c (Close i))) (sym (unrefused b.last c i h (leads (Some h) some))) (taken Nothing b.last c (Close i) r new served)
 
       others : (d : ℕ) → d ≢ i → handle_of (with_handle b.last.tables c i None) c d ≡ handle_of b.last.tables c d
       others d n = ap (λ z. held_in (slice_get z d)) (handles-set b.last.tables c i None) ∙ ap held_in (get-others (handles_of b.last.tables c) i d None n)

@@ -28,6 +28,7 @@ pub mod Parsed
 pub mod Altering
 pub mod Reading
 pub mod Coming
+pub mod Unwatched
 pub mod Leaving
 pub mod Named
 pub mod Freed

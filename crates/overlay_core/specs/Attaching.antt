@@ -1,8 +1,10 @@
 -- How clients come and go.
-use Rattle.std.specs.Prelude.{◌≡◌, ◌≢◌, ◌≤◌, ℕ, ◌+◌, Bool, List, [], Option, Some, None, is_some, true}
+use Rattle.std.specs.Prelude.{◌≡◌, ◌≢◌, ◌≤◌, ℕ, ◌+◌, Bool, List, [], Option, Some, None, is_some, nat_lt, cond, true}
 use Rattle.std.specs.Option.{option_and_then}
 use Rattle.std.specs.BTreeMap.{get, btree_map_len}
 use Rattle.std.specs.Ordering.{nat_cmp}
+use Rattle.ov_base.specs.declared.errno.Errno.{Errno}
+use Rattle.ov_base.specs.declared.errno.Errno.TheVariants.{EINVAL, ENFILE}
 use Rattle.overlay_core.specs.declared.clients.Clients.{Clients}
 use Rattle.plain_model.specs.Layers.{Path}
 use Rattle.open_handles.specs.declared.descriptors.Descriptors.{Descriptors}
@@ -49,6 +51,13 @@ pub record Attaches (old new : Clients) (n : ℕ) : Type 0 where
   pub places : new.directories ≡ old.directories
   pub rises : new.next ≡ n + 1
 
+-- the client that came last was taken back, and every other client stays as it is
+pub record TakesBack (old new : Clients) (n : ℕ) : Type 0 where
+  pub gone : get nat_cmp new.attached n ≡ None
+  pub others : (m : ℕ) → m ≢ n → get nat_cmp new.attached m ≡ get nat_cmp old.attached m
+  pub places : new.directories ≡ old.directories
+  pub next : new.next ≡ n
+
 -- the client isn't attached any more, and every other client stays as it is
 pub record Detaches (old new : Clients) (n : ℕ) : Type 0 where
   pub gone : get nat_cmp new.attached n ≡ None
@@ -60,6 +69,10 @@ pub record KeepsOthers (old new : Clients) (n : ℕ) : Type 0 where
   pub attached : is_some (get nat_cmp old.attached n) ≡ true → is_some (get nat_cmp new.attached n) ≡ true
   pub others : (m : ℕ) → m ≢ n → get nat_cmp new.attached m ≡ get nat_cmp old.attached m
   pub next : new.next ≡ old.next
+
+-- why a client with so many hooks can't be attached where so many are, the first of two faults
+abbrev pub attach_refusal : ℕ → ℕ → Option Errno
+attach_refusal hooks attached = cond (nat_lt 16 hooks) (Some EINVAL) (cond (nat_lt attached 64) None (Some ENFILE))
 
 -- 64 clients are attached
 abbrev pub HasNoRoom : Clients → Type 0

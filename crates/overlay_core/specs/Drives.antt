@@ -2,6 +2,7 @@
 use Rattle.std.specs.Prelude.{◌≡◌, ℕ, ◌+◌, Bool, true, false, List, [], ◌∷◌, nat_eq, cond, map, Option, Some, None, slice_get}
 use Rattle.ov_base.specs.declared.call.Call.{Call}
 use Rattle.ov_base.specs.declared.reply.Reply.{Reply}
+use Rattle.plain_model.specs.Watching.{Instance, Rule}
 use Rattle.plain_model.specs.Machine.{State}
 use Rattle.plain_model.specs.Runs.{Called, Entry, Run}
 use Rattle.overlay_core.specs.declared.clients.Clients.{Clients}
@@ -12,7 +13,6 @@ use Rattle.overlay_core.specs.declared.mount.Mount.{Mount}
 use Rattle.overlay_core.specs.Agreement.{Agrees, Goes}
 use Rattle.overlay_core.specs.Attaching.{is_attached}
 use Rattle.overlay_core.specs.Offers.{is_offered}
-use Rattle.overlay_core.specs.Rules.{Nothing}
 
 abbrev pub call_of : Job → ℕ × Call
 call_of j = (j.client, j.call)
@@ -32,13 +32,14 @@ AreEntries calls [] (e ∷ es) = ⊥
 AreEntries calls (r ∷ rs) [] = ⊥
 
 -- THE REPLIES, in the order of finishing, are those of a run of the plain machine
-abbrev pub Drives : List (ℕ × Call) → Mount → List (ℕ × Reply) → Mount → Type 0
-Drives calls old replies new =
-    (s : State) → Agrees old s → (es : List Entry) × AreEntries calls replies es × ((t : State) × Run Nothing s es t × Agrees new t)
+abbrev pub Drives : Rule → List (ℕ × Call) → Mount → List Instance → List (ℕ × Reply) → Mount → List Instance → Type 0
+Drives shows calls old heard replies new left =
+    (s : State) → Agrees old heard s → (es : List Entry) × AreEntries calls replies es × ((t : State) × Run shows s es t × Agrees new left t)
 
 -- one job's step, where it finishes the job's call
-abbrev pub Answers : List (ℕ × Call) → Mount → ℕ → Reply → Mount → Type 0
-Answers calls old index reply new = (client : ℕ) × (call : Call) × (slice_get calls index ≡ Some (client, call)) × (is_offered call ≡ true → Goes old client (Called call reply) new)
+abbrev pub Answers : Rule → List (ℕ × Call) → Mount → List Instance → ℕ → Reply → Mount → List Instance → Type 0
+Answers shows calls old es index reply new fs =
+    (client : ℕ) × (call : Call) × (slice_get calls index ≡ Some (client, call)) × (is_offered call ≡ true → Goes shows old es client (Called call reply) new fs)
 
 abbrev pub one_if_open : Standing → ℕ
 one_if_open Open = 1

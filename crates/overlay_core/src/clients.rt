@@ -34,7 +34,7 @@ pub struct Clients {
 }
 
 impl Clients {
-    ghost use Rattle.overlay_core.specs.Attaching.{HasNoRoom, Attaches, Detaches, IsSame, ChangesClient, KeepsPlaces, opened_by, directory_by, file_by, located, path_of};
+    ghost use Rattle.overlay_core.specs.Attaching.{HasNoRoom, Attaches, Detaches, TakesBack, IsSame, ChangesClient, KeepsPlaces, opened_by, directory_by, file_by, located, path_of};
     ghost use Rattle.open_handles.specs.declared.open_file.FileSource.TheVariants as sources;
     ghost use Rattle.overlay_core.specs.Files.{HasFile, HasFileRoom, HasAllOpen};
     ghost use Rattle.overlay_core.specs.Opening.{OpensAt, OpensFile};
@@ -82,6 +82,16 @@ impl Clients {
         self.attached.insert(number, Descriptors::new(alloc))?;
         self.next = number + 1;
         Ok(Ok(number))
+    }
+
+    /// Takes back the attach of the client that came last and has nothing open: its number is the next one again.
+    pub fn take_back(&mut self, number: u64)
+        requires last { self.old.next ≡ number + 1 }
+        requires none { (d : ℕ) → opened_by self.old number d ≡ None }
+        ensures { TakesBack self.old self.new number }
+    {
+        let _ = self.attached.remove(&number);
+        self.next = number;
     }
 
     /// Detaches a client that has nothing open.

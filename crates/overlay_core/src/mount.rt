@@ -45,7 +45,7 @@ impl Mount {
     ghost use Rattle.plain_model.specs.Runs.{joined, Leaves};
     ghost use Rattle.plain_model.specs.Refusals.{refusal};
     ghost use Rattle.overlay_core.specs.Attaching as attaching;
-    ghost use Rattle.overlay_core.specs.Attaching.{HasNoRoom, Attaches, Detaches, IsSame, KeepsAttached, KeepsOthers, opened_by, directory_by};
+    ghost use Rattle.overlay_core.specs.Attaching.{HasNoRoom, Attaches, Detaches, TakesBack, IsSame, KeepsAttached, KeepsOthers, opened_by, directory_by};
     ghost use Rattle.overlay_core.specs.States.{HasStateOf, IsStateOf, Serves, StaysState, Pages};
     ghost use Rattle.overlay_core.specs.Removing.{IsOpenNowhere, HasAttributes};
     ghost use Rattle.open_handles.specs.Renames.{IsSettled};
@@ -98,9 +98,19 @@ impl Mount {
         ensures err { OnErr result ((s : State) → IsStateOf self.old s → IsStateOf self.new s) }
         ensures clients { IfOk result (λ attaching. IfOk attaching (Attaches self.old.clients self.new.clients)) }
         ensures no_memory { OnErr result (IsSame self.old.clients self.new.clients) }
-        ensures layers { self.new.layers ≡ self.old.layers }
+        ensures only { self.new ≡ record self.old { clients = self.new.clients } }
     {
         self.clients.attach(self.alloc)
+    }
+
+    /// Takes back the attach of the client that came last and has nothing open.
+    pub(crate) fn take_back(&mut self, client: u64)
+        requires last { self.old.clients.next ≡ client + 1 }
+        requires none { (d : ℕ) → opened_by self.old.clients client d ≡ None }
+        ensures clients { TakesBack self.old.clients self.new.clients client }
+        ensures only { self.new ≡ record self.old { clients = self.new.clients } }
+    {
+        self.clients.take_back(client);
     }
 
     /// Whether a client of this number is attached.

@@ -1,13 +1,14 @@
 // The core of a mount: what is done to it, each deed one of the plain machine.
-ghost use Rattle.std.specs.Prelude.{◌≡◌, ◌≢◌, ◌+◌, ◌-◌, ◌<◌, ◌≤◌, ◌^◌, ℕ, true, [], ◌∷◌, map, Some, None, All, IfOk, IfErr, OnOk, OnErr, nat_lt, vec_len};
+ghost use Rattle.std.specs.Prelude.{◌≡◌, ◌≢◌, ◌+◌, ◌-◌, ◌<◌, ◌≤◌, ◌^◌, ℕ, true, ◌∷◌, map, Some, None, All, IfOk, IfErr, IfSome, OnOk, OnErr, length, nat_lt, unwrap_or, vec_len};
 ghost use Rattle.std.specs.BTreeMap.{btree_map_len};
 ghost use Rattle.plain_model.specs.Layers.{AreLayers};
 ghost use Rattle.plain_model.specs.Limits.{IsWithinLimits};
 ghost use Rattle.plain_model.specs.Runs.{Attached, Detached};
+ghost use Rattle.plain_model.specs.Machine.{instance_of};
 ghost use Rattle.layer_tree.specs.Tree.{layer_of};
 ghost use Rattle.overlay_core.specs.Agreement.{BeginsUntil, BeginsWith, Goes, HasState, Stays};
 ghost use Rattle.overlay_core.specs.Attaching as attaching;
-ghost use Rattle.overlay_core.specs.Attaching.{HasNoRoom, Attaches, Detaches, KeepsAttached};
+ghost use Rattle.overlay_core.specs.Attaching.{attach_refusal, Attaches, Detaches, KeepsAttached};
 ghost use Rattle.overlay_core.specs.Keeping.{KeepsLayers, takes_no_memory};
 ghost use Rattle.overlay_core.specs.Living.{KeepsPaths};
 ghost use Rattle.overlay_core.specs.Mounting.{machine_options, mount_fault, places_left};
@@ -22,6 +23,7 @@ use merged_lookup::Layers;
 use ov_base::{Call, Errno, Options, Reply};
 use std::alloc::{AllocError, Global};
 use std::hash::RandomState;
+use watch_table::{Callback, HOOKS_MAX, Hook, NotAttached, Rule, WatchTable};
 
 /// The most lower layers of a mount.
 const LOWERS_MAX: usize = 16;
@@ -55,28 +57,29 @@ pub enum Turn {
     NoMemory,
 }
 
-/// A mount and its clients. Its type keeps that some state of the plain machine agrees with it, and that one that begins with the merge
-/// of its layers does as long as nothing was done.
+/// A mount, its clients and the hooks with which they came. Its type keeps that some state of the plain machine agrees with it, and that
+/// one that begins with the merge of its layers does as long as nothing was done.
 #[derive(Drop)]
-pub struct Core {
+pub struct Core<F: Callback, R: Rule> {
     mount: Mount,
+    watches: WatchTable<F, R>,
     options: Options,
     finished: u64,
-    ghost agrees: { ∥ HasState mount ∥₁ },
-    ghost begins: { ∥ BeginsUntil finished (machine_options options) mount ∥₁ },
+    ghost agrees: { ∥ HasState mount watches ∥₁ },
+    ghost begins: { ∥ BeginsUntil finished (machine_options options) mount watches ∥₁ },
     ghost given: { mount.clients.next ≤ finished },
 }
 
-impl Core {
-    /// Mounts lower layers, the nearest first, under an upper. The names of open directories are hashed with these keys. A fault needs no
-    /// memory and hands the layers back.
+impl<F: Callback, R: Rule> Core<F, R> {
+    /// Mounts lower layers, the nearest first, under an upper. The names of open directories and the numbers of watched objects are hashed
+    /// with these keys. A fault needs no memory and hands the layers back.
     pub fn mount(
         alloc: Global,
         keys: RandomState,
         upper: Layer,
         lowers: Vec<Layer>,
         options: Options,
-    ) -> Result<Result<Core, Unmounted>, AllocError>
+    ) -> Result<Result<Core<F, R>, Unmounted>, AllocError>
         requires layers { AreLayers (layer_of upper ∷ map layer_of lowers.items) }
         requires limits { All IsWithinLimits (layer_of upper ∷ map layer_of lowers.items) }
         ensures fault { IfOk result (λ mounting. IfErr mounting (λ unmounted. mount_fault (vec_len lowers) options ≡ Some unmounted.fault)) }
@@ -87,7 +90,7 @@ impl Core {
         ensures options { IfOk result (λ mounting. IfOk mounting (λ core. core.options ≡ options)) }
         ensures finished { IfOk result (λ mounting. IfOk mounting (λ core. core.finished ≡ 0)) }
         ensures nobody { IfOk result (λ mounting. IfOk mounting (λ core. (n : ℕ) → attaching.is_attached core.mount.clients n ≢ true)) }
-        ensures begins { IfOk result (λ mounting. IfOk mounting (λ core. BeginsWith core.mount.layers (machine_options options) core.mount)) }
+        ensures begins { IfOk result (λ mounting. IfOk mounting (λ core. BeginsWith core.mount.layers (machine_options options) core.mount core.watches)) }
     {
         if let Some(fault) = fault_of(lowers.len(), options) {
             return Ok(Err(Unmounted {
@@ -99,39 +102,59 @@ impl Core {
         let mount = Mount::new(alloc, keys, Layers::new(upper, lowers), options.redirects)?;
         Ok(Ok(Core {
             mount,
+            watches: WatchTable::new(alloc, keys),
             options,
             finished: 0,
         }))
     }
 
-    /// Attaches a client, which has all descriptors free, and gives its number: they start at 0, rise and aren't used again. Where 64 are
-    /// attached it is ENFILE.
-    pub fn attach(&mut self) -> Result<Result<u64, Errno>, AllocError>
+    /// Attaches a client with its hooks, which has all descriptors free, and gives its number: they start at 0, rise and aren't used again.
+    /// Over 16 hooks are EINVAL, where 64 are attached it is ENFILE, and want of memory is ENOMEM. The hooks are handed back then.
+    pub fn attach(&mut self, hooks: Vec<Hook<F, R>>) -> Result<u64, NotAttached<F, R>>
         requires { self.old.finished + 1 < 2 ^ 63 }
-        ensures attached { IfOk result (λ attaching. IfOk attaching (λ n. Goes self.old.mount n (Attached []) self.new.mount)) }
-        ensures refusal { IfOk result (λ attaching. IfErr attaching (λ errno. (errno ≡ Errno.ENFILE) × HasNoRoom self.old.mount.clients × (self.new ≡ self.old))) }
-        ensures room { IfOk result (λ attaching. OnOk attaching (btree_map_len self.old.mount.clients.attached < 64)) }
-        ensures no_memory { OnErr result (Stays self.old.mount self.new.mount × KeepsAttached self.old.mount.clients self.new.mount.clients × (self.new.finished ≡ self.old.finished)) }
-        ensures clients { IfOk result (λ attaching. IfOk attaching (Attaches self.old.mount.clients self.new.mount.clients)) }
-        ensures finished { IfOk result (λ attaching. OnOk attaching (self.new.finished ≡ self.old.finished + 1)) }
+        ensures attached { IfOk result (λ n. Goes R.shows self.old.mount self.old.watches n (Attached (map (λ h. h.tag) hooks.items)) self.new.mount self.new.watches) }
+        ensures room { OnOk result (attach_refusal (length hooks.items) (btree_map_len self.old.mount.clients.attached) ≡ None) }
+        ensures refusal { IfErr result (λ fault. fault.errno ≡ unwrap_or (attach_refusal (length hooks.items) (btree_map_len self.old.mount.clients.attached)) Errno.ENOMEM) }
+        ensures back { IfErr result (λ fault. fault.hooks ≡ hooks) }
+        ensures refused { OnErr result (attach_refusal (length hooks.items) (btree_map_len self.old.mount.clients.attached) ≢ None → self.new ≡ self.old) }
+        ensures stays { OnErr result (Stays self.old.mount self.old.watches self.new.mount self.new.watches × KeepsAttached self.old.mount.clients self.new.mount.clients × (self.new.finished ≡ self.old.finished)) }
+        ensures clients { IfOk result (Attaches self.old.mount.clients self.new.mount.clients) }
+        ensures finished { OnOk result (self.new.finished ≡ self.old.finished + 1) }
         ensures layers { self.new.mount.layers ≡ self.old.mount.layers }
         ensures options { self.new.options ≡ self.old.options }
     {
-        match self.mount.attach()? {
-            Ok(client) => {
-                self.finished += 1;
-                Ok(Ok(client))
+        if let Some(errno) = refusal_of(hooks.len(), self.mount.clients_attached()) {
+            return Err(NotAttached { errno, hooks });
+        }
+        let client = match self.mount.attach() {
+            Ok(Ok(client)) => client,
+            Ok(Err(_)) => unreachable!(),
+            Err(AllocError) => {
+                return Err(NotAttached {
+                    errno: Errno::ENOMEM,
+                    hooks,
+                });
             }
-            Err(errno) => Ok(Err(errno)),
+        };
+        match self.watches.attach(self.mount.alloc, client, hooks) {
+            Ok(()) => {
+                self.finished += 1;
+                Ok(client)
+            }
+            Err(fault) => {
+                self.mount.take_back(client);
+                Err(fault)
+            }
         }
     }
 
-    /// Detaches a client, which closes its descriptors in rising order: a file without a name goes with its
-    /// last handle.
-    pub fn detach(&mut self, client: u64)
+    /// Detaches a client, which closes its descriptors in rising order: a file without a name goes with its last handle. Its hooks are
+    /// handed back.
+    pub fn detach(&mut self, client: u64) -> Vec<Hook<F, R>>
         requires attached { attaching.is_attached self.old.mount.clients client ≡ true }
         requires bound { self.old.finished + 1 < 2 ^ 63 }
-        ensures detached { Goes self.old.mount client Detached self.new.mount }
+        ensures detached { Goes R.shows self.old.mount self.old.watches client Detached self.new.mount self.new.watches }
+        ensures hooks { IfSome (instance_of self.old.watches client) (λ e. map (λ h. h.tag) result.items ≡ e.tags) }
         ensures clients { Detaches self.old.mount.clients self.new.mount.clients client }
         ensures finished { self.new.finished ≡ self.old.finished + 1 }
         ensures layers { KeepsPaths self.old.mount.layers self.new.mount.layers }
@@ -139,6 +162,7 @@ impl Core {
     {
         self.mount.detach(client);
         self.finished += 1;
+        self.watches.detach(client)
     }
 
     /// Whether a client of this number is attached.
@@ -155,7 +179,7 @@ impl Core {
         requires attached { attaching.is_attached self.old.mount.clients job.old.client ≡ true }
         requires bound { self.old.finished + 1 < 2 ^ 63 }
         ensures job { (job.new.client ≡ job.old.client) × (job.new.call ≡ job.old.call) }
-        ensures turn { TurnsTo self.old.mount job.old self.new.mount job.new result }
+        ensures turn { TurnsTo R.shows self.old.mount self.old.watches job.old self.new.mount self.new.watches job.new result }
         ensures at_once { result ≢ Turn.More }
         ensures memory { takes_no_memory job.old.call ≡ true → result ≢ Turn.NoMemory }
         ensures finished { self.new.finished ≡ finished_after result self.old.finished }
@@ -225,6 +249,19 @@ impl Core {
     {
         self.mount.clients_attached() < CLIENTS_MAX as u64
     }
+}
+
+// Why a client with so many hooks can't be attached where so many are.
+fn refusal_of(hooks: usize, attached: u64) -> Option<Errno>
+    ensures { result ≡ attach_refusal hooks attached }
+{
+    if hooks > HOOKS_MAX {
+        return Some(Errno::EINVAL);
+    }
+    if attached >= CLIENTS_MAX as u64 {
+        return Some(Errno::ENFILE);
+    }
+    None
 }
 
 // Why so many lower layers and these options are no mount's.

@@ -10,17 +10,18 @@ use crate::job::{Job, Standing};
 use crate::mounted::{Core, Turn};
 use ov_base::Reply;
 use std::alloc::{AllocError, Global};
+use watch_table::{Callback, Rule};
 
 /// Gives jobs steps in the order of a schedule, and answers the replies, each with its job's index, in the order of finishing. An index
 /// past the end, of a job that is over or of a client that isn't attached is skipped. Want of memory for the replies changes nothing.
-pub fn drive(
+pub fn drive<F: Callback, R: Rule>(
     alloc: Global,
-    core: &mut Core,
+    core: &mut Core<F, R>,
     jobs: &mut [Job],
     schedule: &[usize],
 ) -> Result<Vec<(usize, Reply)>, AllocError>
     requires { core.old.finished + length schedule.now < 2 ^ 63 }
-    ensures run { IfOk result (λ replies. AreOffered (calls_of jobs.old) → Drives (calls_of jobs.old) core.old.mount replies.items core.new.mount) }
+    ensures run { IfOk result (λ replies. AreOffered (calls_of jobs.old) → Drives R.shows (calls_of jobs.old) core.old.mount core.old.watches replies.items core.new.mount core.new.watches) }
     ensures calls { calls_of jobs.new ≡ calls_of jobs.old }
     ensures once { IfOk result (λ replies. (i : ℕ) → answered jobs.new i ≡ answered jobs.old i + replies_to i replies.items) }
     ensures passed { OnOk result ((i : ℕ) → PassesOver core.old.mount.clients (slice_get jobs.old i) (slice_get jobs.new i) (list_any (λ x. nat_eq x i) schedule.now)) }
@@ -41,11 +42,11 @@ pub fn drive(
 }
 
 // One step of the job of this index, and the reply where it finishes.
-fn one(core: &mut Core, jobs: &mut [Job], index: usize) -> Option<Reply>
+fn one<F: Callback, R: Rule>(core: &mut Core<F, R>, jobs: &mut [Job], index: usize) -> Option<Reply>
     requires { core.old.finished + 1 < 2 ^ 63 }
     ensures calls { calls_of jobs.new ≡ calls_of jobs.old }
-    ensures answers { IfSome result (λ reply. Answers (calls_of jobs.old) core.old.mount index reply core.new.mount) }
-    ensures stays { result ≡ None → Stays core.old.mount core.new.mount }
+    ensures answers { IfSome result (λ reply. Answers R.shows (calls_of jobs.old) core.old.mount core.old.watches index reply core.new.mount core.new.watches) }
+    ensures stays { result ≡ None → Stays core.old.mount core.old.watches core.new.mount core.new.watches }
     ensures room { open_count jobs.new + count_some result ≤ open_count jobs.old }
     ensures once { (i : ℕ) → answered jobs.new i ≡ answered jobs.old i + one_if_some result index i }
     ensures passed { (i : ℕ) → PassesOver core.old.mount.clients (slice_get jobs.old i) (slice_get jobs.new i) (nat_eq index i) }

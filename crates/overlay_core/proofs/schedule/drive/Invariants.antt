@@ -7,8 +7,8 @@ use Rattle.overlay_core.specs.Drives.{calls_of, AreOffered, Drives, open_count, 
 use Rattle.overlay_core.proofs.schedule.drive.Given as goal
 
 abbrev pub invariant-loop-index : goal.invariant-loop-index
-invariant-loop-index l = record {
-  run : AreOffered (calls_of l.fn.jobs) → Drives (calls_of l.fn.jobs) l.fn.core.mount l.replies.items l.core.mount;
+invariant-loop-index g l = record {
+  run : AreOffered (calls_of l.fn.jobs) → Drives g.R.Rule.shows (calls_of l.fn.jobs) l.fn.core.mount l.fn.core.watches l.replies.items l.core.mount l.core.watches;
   calls : calls_of l.jobs ≡ calls_of l.fn.jobs;
   once : (i : ℕ) → answered l.jobs i ≡ answered l.fn.jobs i + replies_to i l.replies.items;
   passed : (i : ℕ) → PassesOver l.fn.core.mount.clients (slice_get l.fn.jobs i) (slice_get l.jobs i) (list_any (λ x. nat_eq x i) (take l.index-index l.schedule));

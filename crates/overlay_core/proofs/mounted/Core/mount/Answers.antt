@@ -7,14 +7,14 @@ use Rattle.overlay_core.proofs.Agreeing.{begins-with, has-state}
 use Rattle.overlay_core.proofs.mounted.Core.mount.Goals as goal
 
 pub invariant_of-result : goal.invariant_of-result
-invariant_of-result c =
+invariant_of-result g c =
     let are : AreLayers (layers_of c.new.result) = rw (c.new.ensures.upper, c.new.ensures.lowers) c.requires.layers in
-    let begins = begins-with c.in_ok-mount.mount c.new.result c.args.options c.in_ok-mount.ensures.layers are c.in_ok-mount.ensures.begins in
+    let begins = begins-with c.in_ok-mount.mount c.new-3.result c.new.result c.args.options c.in_ok-mount.ensures.layers are c.in_ok-mount.ensures.begins c.new-3.ensures in
     record {
-      agrees = merely (has-state c.in_ok-mount.mount c.new.result (machine_options c.args.options) c.in_ok-mount.ensures.layers are begins);
+      agrees = merely (has-state c.in_ok-mount.mount c.new-3.result c.new.result (machine_options c.args.options) c.in_ok-mount.ensures.layers are begins);
       begins = merely (λ none. begins);
       given = omega (arith, c.in_ok-mount.ensures.first);
     }
 
 pub returns-clause-begins : goal.returns-clause-begins
-returns-clause-begins c = begins-with c.in_ok-mount.mount c.new.result c.args.options c.in_ok-mount.ensures.layers (rw (c.new.ensures.upper, c.new.ensures.lowers) c.requires.layers) c.in_ok-mount.ensures.begins
+returns-clause-begins g c = begins-with c.in_ok-mount.mount c.new-3.result c.new.result c.args.options c.in_ok-mount.ensures.layers (rw (c.new.ensures.upper, c.new.ensures.lowers) c.requires.layers) c.in_ok-mount.ensures.begins c.new-3.ensures
