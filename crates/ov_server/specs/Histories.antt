@@ -5,7 +5,7 @@ use Rattle.std.specs.List.{IsDistinct, list_any}
 use Rattle.ov_base.specs.declared.call.Call.{Call}
 use Rattle.ov_base.specs.declared.errno.Errno.{Errno}
 use Rattle.ov_base.specs.declared.errno.Errno.TheVariants.{EINVAL, ENFILE, ENOMEM, ENOSPC}
-use Rattle.overlay_core.specs.Attaching.{is_attached}
+use Rattle.mount_calls.specs.Attaching.{is_attached}
 use Rattle.overlay_core.specs.Mounting.{places_left}
 use Rattle.overlay_core.specs.declared.mounted.Core.{Core}
 use Rattle.watch_table.specs.declared.hook.Callback.{Ghosts as Callback}
@@ -15,12 +15,12 @@ use Rattle.ov_server.specs.declared.answers.Answer.TheVariants.{Attached, NotAtt
 
 -- the places that the history has left, beside one for the detach of each attached client
 abbrev pub room : {F G : Type 0} {asks : Callback F} {rule : Rule G} → Core F G asks rule → ℕ
-room m = places_left m.options m.finished (btree_map_len m.mount.clients.attached)
+room m = places_left m.options m.finished (btree_map_len m.watched.mount.clients.attached)
 
 -- these clients are attached, and none is named twice
 pub record AreAttached {F G : Type 0} {asks : Callback F} {rule : Rule G} (m : Core F G asks rule) (clients : List ℕ) : Type 0 where
   pub once : IsDistinct nat_eq clients
-  pub attached : (n : ℕ) → list_any (nat_eq n) clients ≡ true → is_attached m.mount.clients n ≡ true
+  pub attached : (n : ℕ) → list_any (nat_eq n) clients ≡ true → is_attached m.watched.mount.clients n ≡ true
 
 -- THE HISTORY HAS A PLACE FOR EACH DETACH: what was finished and the clients that are attached are together at most as many as it is long
 abbrev pub HasPlaces : {F G : Type 0} {asks : Callback F} {rule : Rule G} → Core F G asks rule → Type 0
@@ -31,7 +31,7 @@ HasPlaces m =
 abbrev pub attach_refusal : {F G : Type 0} {asks : Callback F} {rule : Rule G} → Core F G asks rule → ℕ → Option Errno
 attach_refusal m hooks =
     cond (nat_lt 16 hooks) (Some EINVAL)
-    (cond (nat_lt (btree_map_len m.mount.clients.attached) 64) (cond (nat_lt (room m) 2) (Some ENOSPC) None) (Some ENFILE))
+    (cond (nat_lt (btree_map_len m.watched.mount.clients.attached) 64) (cond (nat_lt (room m) 2) (Some ENOSPC) None) (Some ENFILE))
 
 -- an attach gives the next number, or is refused, or memory runs out
 abbrev pub AnswersAttach : Option Errno → ℕ → Answer → Type 0

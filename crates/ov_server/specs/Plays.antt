@@ -23,12 +23,12 @@ use Rattle.ov_server.specs.Scripts.{IsBadLine, script_lines}
 
 -- how many layers a mount has
 abbrev pub layers_in : {F G : Type 0} {asks : Callback F} {rule : Rule G} → Core F G asks rule → ℕ
-layers_in m = length (trees m.mount.layers)
+layers_in m = length (trees m.watched.mount.layers)
 
 -- the clients of a mount are those of a roster, and its next number is the same
 pub record IsRosterOf {F G : Type 0} {asks : Callback F} {rule : Rule G} (m : Core F G asks rule) (r : Roster) : Type 0 where
-  pub attached : (client : ℕ) → is_attached r client ≡ is_some (get nat_cmp m.mount.clients.attached client)
-  pub next : m.mount.clients.next ≡ r.next
+  pub attached : (client : ℕ) → is_attached r client ≡ is_some (get nat_cmp m.watched.mount.clients.attached client)
+  pub next : m.watched.mount.clients.next ≡ r.next
 
 -- at the beginning nobody is attached
 abbrev pub BeginsOn : {F G : Type 0} {asks : Callback F} {rule : Rule G} → Core F G asks rule → Type 0
@@ -36,8 +36,8 @@ BeginsOn m = IsRosterOf m nobody
 
 -- a call leaves who is attached, and how many layers there are
 pub record KeepsClients {F G : Type 0} {asks : Callback F} {rule : Rule G} (old new : Core F G asks rule) : Type 0 where
-  pub attached : (client : ℕ) → is_some (get nat_cmp new.mount.clients.attached client) ≡ is_some (get nat_cmp old.mount.clients.attached client)
-  pub next : new.mount.clients.next ≡ old.mount.clients.next
+  pub attached : (client : ℕ) → is_some (get nat_cmp new.watched.mount.clients.attached client) ≡ is_some (get nat_cmp old.watched.mount.clients.attached client)
+  pub next : new.watched.mount.clients.next ≡ old.watched.mount.clients.next
   pub layers : layers_in new ≡ layers_in old
 
 -- a command was played: it is good, and the mount goes on as it says

@@ -1,6 +1,6 @@
 // One line of a script on a mount.
 ghost use Rattle.std.specs.Prelude.{◌≡◌, ◌+◌, ◌<◌, ◌≤◌, true, Some, None, Ok, IfErr, IfOk, OnErr, OnOk, length};
-ghost use Rattle.overlay_core.specs.Attaching.{is_attached};
+ghost use Rattle.mount_calls.specs.Attaching.{is_attached};
 ghost use Rattle.ov_script.specs.declared.script.Command.TheVariants as asked;
 ghost use Rattle.ov_script.specs.Commands.{call_of};
 ghost use Rattle.ov_server.specs.Histories as histories;
@@ -132,7 +132,7 @@ fn attached<F: Callback + Copy, H: Rule>(
     ensures places { HasPlaces core.new }
     ensures counted { core.new.finished ≤ core.old.finished + 1 }
     ensures plays { PlaysCommand core.old asked.Attach core.new }
-    ensures answer { AnswersAttach (histories.attach_refusal core.old (length hooks.now)) core.old.mount.clients.next result }
+    ensures answer { AnswersAttach (histories.attach_refusal core.old (length hooks.now)) core.old.watched.mount.clients.next result }
     ensures refused { (errno : Errno) → histories.attach_refusal core.old (length hooks.now) ≡ Some errno → core.new ≡ core.old }
 {
     if let Some(errno) = attach_refusal(core, hooks.len()) {
@@ -226,7 +226,7 @@ fn call_answer<F: Callback, H: Rule>(
     client: u32,
     text: &CallText<'_>,
 ) -> Answer
-    requires attached { is_attached core.old.mount.clients client ≡ true }
+    requires attached { is_attached core.old.watched.mount.clients client ≡ true }
     requires places { HasPlaces core.old }
     ensures places { HasPlaces core.new }
     ensures counted { core.new.finished ≤ core.old.finished + 1 }
@@ -246,7 +246,7 @@ fn call_answer<F: Callback, H: Rule>(
 
 // The answer to a call, which is not taken where the history has no place left.
 fn answer_in_room<F: Callback, H: Rule>(core: &mut Core<F, H>, client: u32, call: Call) -> Answer
-    requires attached { is_attached core.old.mount.clients client ≡ true }
+    requires attached { is_attached core.old.watched.mount.clients client ≡ true }
     requires places { HasPlaces core.old }
     ensures places { HasPlaces core.new }
     ensures counted { core.new.finished ≤ core.old.finished + 1 }
@@ -265,7 +265,7 @@ fn answer_in_room<F: Callback, H: Rule>(core: &mut Core<F, H>, client: u32, call
 
 // The answer to a call for which there is a place. It is made in one step.
 fn made<F: Callback, H: Rule>(core: &mut Core<F, H>, client: u32, call: Call) -> Answer
-    requires attached { is_attached core.old.mount.clients client ≡ true }
+    requires attached { is_attached core.old.watched.mount.clients client ≡ true }
     requires places { HasPlaces core.old }
     requires room { 0 < room core.old }
     ensures places { HasPlaces core.new }
