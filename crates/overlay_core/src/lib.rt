@@ -3,9 +3,15 @@
 
 mod attribute_notices;
 mod client_notices;
+mod job;
+mod mounted;
 mod name_notices;
+mod schedule;
 mod use_notices;
 mod watch_calls;
 mod watched;
 
+pub use job::{Job, Standing};
+pub use mounted::{Core, MountFault, Turn, Unmounted};
+pub use schedule::drive;
 pub use watched::Watched;

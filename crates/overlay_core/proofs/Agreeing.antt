@@ -1,0 +1,65 @@
+-- What clients do to a mount leaves some state that agrees, and a mount begins with the merges of its layers as long as nothing was done.
+use Rattle.std.proofs.Common.{arith, ◌≡◌, ℕ, ◌+◌, ◌<◌, ◌≤◌, List, ap, sym, subst}
+use Rattle.std.proofs.lemmas.Grind.{merely}
+use mathlib.Core.Logic.{∥∥₁_map}
+use Rattle.plain_model.specs.Layers.{AreLayers, Layer}
+use Rattle.plain_model.specs.Tree.{Tree}
+use Rattle.plain_model.specs.Watching.{Rule}
+use Rattle.plain_model.specs.Machine.{MountOptions, opening}
+use Rattle.plain_model.specs.Merging.{IsMerge, merge_tree}
+use Rattle.plain_model.specs.Runs.{Deed}
+use Rattle.plain_model.proofs.Merged.{law_of_paths}
+use Rattle.plain_model.proofs.Opened.{law_of_merge}
+use Rattle.layer_tree.specs.Tree.{layer_of}
+use Rattle.merged_lookup.specs.declared.layers.Layers.{Layers}
+use Rattle.merged_lookup.specs.Merged.{layers_of, lowers_of}
+use Rattle.notice_laws.specs.Notified.{Notified}
+use Rattle.mount_calls.specs.declared.mount.Mount.{Mount}
+use Rattle.overlay_core.specs.Watching.{BeginsUntil, BeginsWith, Goes, HasState, Stays}
+
+-- layers have a merge, so some state agrees with their mount
+pub has-state : (m : Mount) (k : Notified) (layers : Layers) (options : MountOptions) → m.layers ≡ layers → AreLayers (layers_of layers) → BeginsWith m.layers options m k → HasState m k
+has-state m k layers options same are begins =
+    let U : Layer = layer_of layers.upper in
+    let lowers : List Layer = lowers_of layers in
+    let paths = law_of_paths (layers_of layers) are in
+    let t : Tree = merge_tree paths.0 U lowers in
+    let merge : IsMerge U lowers t = law_of_merge U lowers are paths.0 paths.1 in
+    (opening t options, begins t (subst (λ (l : Layers). IsMerge (layer_of l.upper) (lowers_of l) t) (sym same) merge))
+
+-- what a client does leaves some state
+pub goes-on : (shows : Rule) (old new : Mount) (k l : Notified) (c : ℕ) (deed : Deed) → ∥ HasState old k ∥₁ → Goes shows old k c deed new l → ∥ HasState new l ∥₁
+goes-on shows old new k l c deed has goes = ∥∥₁_map has (λ x. let after = goes x.0 x.1 in (after.0, after.2))
+
+-- and so does what leaves each state
+pub stays-on : (old new : Mount) (k l : Notified) → ∥ HasState old k ∥₁ → Stays old k new l → ∥ HasState new l ∥₁
+stays-on old new k l has stays = ∥∥₁_map has (λ x. (x.0, stays x.0 x.1))
+
+-- as long as nothing is finished and the layers are the same, the mount begins as before
+pub begins-on : (finished : ℕ) (options : MountOptions) (old new : Mount) (k l : Notified) → ∥ BeginsUntil finished options old k ∥₁ → new.layers ≡ old.layers → Stays old k new l → ∥ BeginsUntil finished options new l ∥₁
+begins-on finished options old new k l has same stays =
+    ∥∥₁_map has (λ begins none t merge. stays (opening t options) (begins none t (subst (λ (z : Layers). IsMerge (layer_of z.upper) (lowers_of z) t) same merge)))
+
+-- where something was finished, nothing is told of the beginning
+pub has-begun : (finished : ℕ) (options : MountOptions) (m : Mount) (k : Notified) → 0 < finished → ∥ BeginsUntil finished options m k ∥₁
+has-begun finished options m k some = merely (λ none. absurd (omega (arith, none, some)))
+
+-- the next client's number is at most how many deeds were finished, after one that leaves it
+pub given-more : (n m finished : ℕ) → n ≤ finished → m ≡ n → m ≤ finished + 1
+given-more n m finished given same = omega arith
+
+-- and after an attach
+pub given-next : (n m client finished : ℕ) → n ≤ finished → client ≡ n → m ≡ client + 1 → m ≤ finished + 1
+given-next n m client finished given is next = omega arith
+
+-- and where nothing was finished
+pub given-same : (n m finished : ℕ) → n ≤ finished → m ≡ n → m ≤ finished
+given-same n m finished given same = omega arith
+
+-- a deed was finished where one more is
+pub some-more : (finished : ℕ) → 0 < finished + 1
+some-more finished = omega arith
+
+-- and where a client is attached
+pub some-finished : (client next finished : ℕ) → client < next → next ≤ finished → 0 < finished
+some-finished client next finished below given = omega arith

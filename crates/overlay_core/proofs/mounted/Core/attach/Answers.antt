@@ -1,0 +1,27 @@
+use Rattle.std.proofs.Common.{◌+◌, map}
+use Rattle.plain_model.specs.Runs.{Attached}
+use Rattle.overlay_core.specs.Mounting.{machine_options}
+use Rattle.overlay_core.proofs.Agreeing.{begins-on, given-next, given-same, goes-on, has-begun, some-more, stays-on}
+use Rattle.overlay_core.proofs.mounted.Core.attach.Goals as goal
+
+pub invariant_of-self : goal.invariant_of-self
+invariant_of-self g c =
+    let old = c.args.self.now.watched in
+    let new = c.attach.new.self in
+    record {
+      agrees = stays-on old.mount new.mount old.notifier new.notifier c.args.self.now.agrees c.in_err-client.ensures.stays;
+      begins = begins-on c.args.self.now.finished (machine_options c.args.self.now.options) old.mount new.mount old.notifier new.notifier c.args.self.now.begins c.attach.ensures.layers c.in_err-client.ensures.stays;
+      given = given-same old.mount.clients.next new.mount.clients.next c.args.self.now.finished c.args.self.now.given c.in_err-client.ensures.kept.next;
+    }
+
+pub invariant_of-self-2 : goal.invariant_of-self-2
+invariant_of-self-2 g c =
+    let old = c.args.self.now.watched in
+    let new = c.attach.new.self in
+    let tags = map (λ h. h.tag) c.args.hooks.items in
+    let came = c.in_ok-client.ensures.clients in
+    record {
+      agrees = goes-on g.R.Rule.shows old.mount new.mount old.notifier new.notifier c.in_ok-client.client (Attached tags) c.args.self.now.agrees c.in_ok-client.ensures.attached;
+      begins = has-begun (c.args.self.now.finished + 1) (machine_options c.args.self.now.options) new.mount new.notifier (some-more c.args.self.now.finished);
+      given = given-next old.mount.clients.next new.mount.clients.next c.in_ok-client.client c.args.self.now.finished c.args.self.now.given came.next came.rises;
+    }

@@ -1,0 +1,15 @@
+use Rattle.std.proofs.Common.{◌+◌}
+use Rattle.plain_model.specs.Runs.{Detached}
+use Rattle.overlay_core.specs.Mounting.{machine_options}
+use Rattle.overlay_core.proofs.Agreeing.{given-more, goes-on, has-begun, some-more}
+use Rattle.overlay_core.proofs.mounted.Core.detach.Goals as goal
+
+pub invariant_of-self : goal.invariant_of-self
+invariant_of-self g c =
+    let old = c.args.self.now.watched in
+    let new = c.detach.new.self in
+    record {
+      agrees = goes-on g.R.Rule.shows old.mount new.mount old.notifier new.notifier c.args.client Detached c.args.self.now.agrees c.detach.ensures.detached;
+      begins = has-begun (c.args.self.now.finished + 1) (machine_options c.args.self.now.options) new.mount new.notifier (some-more c.args.self.now.finished);
+      given = given-more old.mount.clients.next new.mount.clients.next c.args.self.now.finished c.args.self.now.given c.detach.ensures.clients.next;
+    }

@@ -1,0 +1,18 @@
+use Rattle.std.proofs.Common.{arith}
+use Rattle.std.proofs.lemmas.Grind.{merely}
+use Rattle.plain_model.specs.Layers.{AreLayers}
+use Rattle.merged_lookup.specs.Merged.{layers_of}
+use Rattle.overlay_core.specs.Mounting.{machine_options}
+use Rattle.overlay_core.proofs.Agreeing.{has-state}
+use Rattle.overlay_core.proofs.mounted.Core.mount.Goals as goal
+
+pub invariant_of-result : goal.invariant_of-result
+invariant_of-result g c =
+    let w = c.in_ok-watched.watched in
+    let are : AreLayers (layers_of c.new.result) = rw (c.new.ensures.upper, c.new.ensures.lowers) c.requires.layers in
+    let begins = c.in_ok-watched.ensures.begins in
+    record {
+      agrees = merely (has-state w.mount w.notifier c.new.result (machine_options c.args.options) c.in_ok-watched.ensures.layers are begins);
+      begins = merely (λ none. begins);
+      given = omega (arith, c.in_ok-watched.ensures.first);
+    }

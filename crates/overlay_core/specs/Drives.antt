@@ -1,0 +1,81 @@
+-- What a schedule of steps leaves.
+use Rattle.std.specs.Prelude.{◌≡◌, ℕ, ◌+◌, Bool, true, false, List, [], ◌∷◌, nat_eq, cond, map, Option, Some, None, slice_get}
+use Rattle.ov_base.specs.declared.call.Call.{Call}
+use Rattle.ov_base.specs.declared.reply.Reply.{Reply}
+use Rattle.plain_model.specs.Watching.{Rule}
+use Rattle.plain_model.specs.Machine.{State}
+use Rattle.plain_model.specs.Runs.{Called, Entry, Run}
+use Rattle.notice_laws.specs.Notified.{Notified}
+use Rattle.mount_calls.specs.declared.clients.Clients.{Clients}
+use Rattle.overlay_core.specs.declared.job.Job.{Job}
+use Rattle.overlay_core.specs.declared.job.Standing.{Standing}
+use Rattle.overlay_core.specs.declared.job.Standing.TheVariants.{Open, Answered, GivenUp}
+use Rattle.mount_calls.specs.declared.mount.Mount.{Mount}
+use Rattle.overlay_core.specs.Watching.{Agrees, Goes}
+use Rattle.mount_calls.specs.Attaching.{is_attached}
+
+abbrev pub call_of : Job → ℕ × Call
+call_of j = (j.client, j.call)
+
+abbrev pub calls_of : List Job → List (ℕ × Call)
+calls_of jobs = map call_of jobs
+
+-- the entries of a history that these replies are: each its job's client's, for its job's call
+abbrev pub AreEntries : List (ℕ × Call) → List (ℕ × Reply) → List Entry → Type 0
+AreEntries calls [] [] = Unit {0}
+AreEntries calls (r ∷ rs) (e ∷ es) = (call : Call) × (slice_get calls r.0 ≡ Some (e.client, call)) × (e.deed ≡ Called call r.1) × AreEntries calls rs es
+AreEntries calls [] (e ∷ es) = ⊥
+AreEntries calls (r ∷ rs) [] = ⊥
+
+-- THE REPLIES, in the order of finishing, are those of a run of the plain machine, and what the clients are told is what the run tells
+abbrev pub Drives : Rule → List (ℕ × Call) → Mount → Notified → List (ℕ × Reply) → Mount → Notified → Type 0
+Drives shows calls old k replies new l =
+    (s : State) → Agrees old k s → (es : List Entry) × AreEntries calls replies es × ((t : State) × Run shows s es t × Agrees new l t)
+
+-- one job's step, where it finishes the job's call
+abbrev pub Answers : Rule → List (ℕ × Call) → Mount → Notified → ℕ → Reply → Mount → Notified → Type 0
+Answers shows calls old k index reply new l =
+    (client : ℕ) × (call : Call) × (slice_get calls index ≡ Some (client, call)) × Goes shows old k client (Called call reply) new l
+
+abbrev pub one_if_open : Standing → ℕ
+one_if_open Open = 1
+one_if_open Answered = 0
+one_if_open GivenUp = 0
+
+abbrev pub one_if_answered : Standing → ℕ
+one_if_answered Open = 0
+one_if_answered Answered = 1
+one_if_answered GivenUp = 0
+
+-- how many jobs are open
+abbrev pub open_count : List Job → ℕ
+open_count [] = 0
+open_count (j ∷ js) = one_if_open j.standing + open_count js
+
+abbrev pub answered_of : Option Job → ℕ
+answered_of (Some j) = one_if_answered j.standing
+answered_of None = 0
+
+-- 1 where the job of this index is answered
+abbrev pub answered : List Job → ℕ → ℕ
+answered jobs i = answered_of (slice_get jobs i)
+
+-- how many replies the job of this index has
+abbrev pub replies_to : ℕ → List (ℕ × Reply) → ℕ
+replies_to i [] = 0
+replies_to i (r ∷ rs) = cond (nat_eq r.0 i) 1 0 + replies_to i rs
+
+abbrev pub one_if_some : Option Reply → ℕ → ℕ → ℕ
+one_if_some (Some r) index i = cond (nat_eq index i) 1 0
+one_if_some None index i = 0
+
+abbrev pub count_some : Option Reply → ℕ
+count_some (Some r) = 1
+count_some None = 0
+
+-- a job that is open in the end was open, and where the schedule asks for it, its client isn't attached
+abbrev pub PassesOver : Clients → Option Job → Option Job → Bool → Type 0
+PassesOver clients (Some old) (Some new) asked = (new.client ≡ old.client) × (new.standing ≡ Open → (old.standing ≡ Open) × (asked ≡ true → is_attached clients old.client ≡ false))
+PassesOver clients None None asked = Unit {0}
+PassesOver clients (Some old) None asked = ⊥
+PassesOver clients None (Some new) asked = ⊥
