@@ -65,7 +65,7 @@ any-back : (c : ℕ) (xs : List ℕ) → list_any (λ x. nat_eq c x) xs ≡ true
 any-back c [] h = h
 any-back c (x ∷ xs) h = grind (arith, any-back c xs)
 
-any-forth : (c : ℕ) (xs : List ℕ) → list_any (λ x. nat_eq x c) xs ≡ true → list_any (λ x. nat_eq c x) xs ≡ true
+pub any-forth : (c : ℕ) (xs : List ℕ) → list_any (λ x. nat_eq x c) xs ≡ true → list_any (λ x. nat_eq c x) xs ≡ true
 any-forth c [] h = h
 any-forth c (x ∷ xs) h = grind (arith, any-forth c xs)
 

@@ -115,7 +115,7 @@ slot-open alike a None x is at = absurd (cc)
 slot-open alike a (Some b) None is at = absurd is
 
 -- what is free for the mount is free in the state, and the other way
-slot-free : (alike : handles.Handle → Handle → Type 0) (o : Option handles.Handle) (x : Option Handle) → IsSlot alike o x → o ≡ None → x ≡ None
+pub slot-free : (alike : handles.Handle → Handle → Type 0) (o : Option handles.Handle) (x : Option Handle) → IsSlot alike o x → o ≡ None → x ≡ None
 slot-free alike None None is at = refl
 slot-free alike None (Some h) is at = absurd is
 slot-free alike (Some a) x is at = absurd (cc)
@@ -131,7 +131,7 @@ open-tracked t bearers (Some r) h is = refl
 open-tracked t bearers None h is = absurd is
 
 -- and what is free in the state is free for its watches
-free-tracked : (t : Tracked) (bearers : Bearers) (r : Option TrackedHandle) (x : Option Handle) → IsSlotOn t bearers r x → x ≡ None → r ≡ None
+pub free-tracked : (t : Tracked) (bearers : Bearers) (r : Option TrackedHandle) (x : Option Handle) → IsSlotOn t bearers r x → x ≡ None → r ≡ None
 free-tracked t bearers None x is at = refl
 free-tracked t bearers (Some r) (Some h) is at = absurd (cc)
 free-tracked t bearers (Some r) None is at = absurd is

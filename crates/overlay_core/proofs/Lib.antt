@@ -6,5 +6,5 @@ pub mod Performing
 pub mod Names
 pub mod Lifted
 pub mod WatchCalls
-pub mod Agreeing
-pub mod Driving
+pub mod ArmCalls
+pub mod Arming

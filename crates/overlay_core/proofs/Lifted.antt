@@ -42,7 +42,7 @@ more-file m (Branch a b names c) = refl
 more-file m (Leaf (File bytes) a u c) = refl
 more-file m (Leaf (SymbolicLink target) a u c) = refl
 
-named-file : (n : Name) (e : Option NodeId) (o : Option Node) → is_file (with_name n e o) ≡ is_file o
+pub named-file : (n : Name) (e : Option NodeId) (o : Option Node) → is_file (with_name n e o) ≡ is_file o
 named-file n e None = refl
 named-file n e (Some (Branch a b names c)) = refl
 named-file n e (Some (Leaf (File bytes) a u c)) = refl
@@ -83,7 +83,7 @@ linked-leads U V lowers s c p q passes =
     also-leads s.tree (tree_after s c (Hardlink p q)) q leads.0 leads.2
 
 -- what is a file that is touched is shown as one of the upper
-own-shown : (V : Layer) (lowers : List Layer) (p : Path) (b : Bool) (o : Option Node) (x : Option Shown) → shows 0 (V ∷ lowers) p ≡ x → is_file o ≡ true → is_untouched o ≡ false → face o ≡ see b x → (key : ℕ) × (last : Bool) × IsObject V lowers p (object.Upper key last)
+pub own-shown : (V : Layer) (lowers : List Layer) (p : Path) (b : Bool) (o : Option Node) (x : Option Shown) → shows 0 (V ∷ lowers) p ≡ x → is_file o ≡ true → is_untouched o ≡ false → face o ≡ see b x → (key : ℕ) × (last : Bool) × IsObject V lowers p (object.Upper key last)
 own-shown V lowers p b (Some (Leaf (File bytes) a Own l)) (Some (Contents zero k (Some i))) is file own seen =
     (k, nat_eq i.links 1, record { inode = i; bytes = bytes; shown = is; file = cc; names = refl })
 own-shown V lowers p b (Some (Leaf (File bytes) a Own l)) (Some (Contents (suc j) k (Some i))) is file own seen = cc
@@ -96,7 +96,7 @@ own-shown V lowers p b (Some (Branch a r names l)) x is file own seen = absurd (
 own-shown V lowers p b None x is file own seen = absurd (false≢true file)
 
 -- what stands alone and isn't shown as a directory is a file
-alone-file : (o : Option Node) (b : Bool) (j k : ℕ) (i : Inode) → stands_alone o ≡ true → face o ≡ see b (Some (Contents j k (Some i))) → is_file o ≡ true
+pub alone-file : (o : Option Node) (b : Bool) (j k : ℕ) (i : Inode) → stands_alone o ≡ true → face o ≡ see b (Some (Contents j k (Some i))) → is_file o ≡ true
 alone-file None b j k i alone seen = absurd (false≢true alone)
 alone-file (Some (Branch a r names l)) b j k i alone seen = cc
 alone-file (Some (Leaf (File bytes) a u l)) b j k i alone seen = refl

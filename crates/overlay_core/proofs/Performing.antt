@@ -70,7 +70,7 @@ module _ (old : Notified) (objects : Tracked) (same : SameSpots old.objects obje
   known-spot n h = ap is_some (same.spots n) ∙ h
 
   -- what is kept with room for more is known still
-  known-room : AreKnown (record old { objects = objects })
+  pub known-room : AreKnown (record old { objects = objects })
   known-room = record {
     watched = λ n h. known-spot n (known.watched n h);
     opened = λ c fd (h : TrackedHandle) is. known-spot h.object (known.opened c fd h is);

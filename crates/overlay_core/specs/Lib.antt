@@ -1,6 +1,4 @@
-pub mod Watching
 pub mod Silence
+pub mod Watching
 pub mod Leaving
-pub mod Mounting
-pub mod Jobs
-pub mod Drives
+pub mod PathFaults

@@ -1,17 +1,12 @@
 //! The core: a mount with the clients on it and their watches, whose calls are steps of the plain machine.
 #![tactic(auto)]
 
+mod arm_calls;
 mod attribute_notices;
 mod client_notices;
-mod job;
-mod mounted;
 mod name_notices;
-mod schedule;
 mod use_notices;
 mod watch_calls;
 mod watched;
 
-pub use job::{Job, Standing};
-pub use mounted::{Core, MountFault, Turn, Unmounted};
-pub use schedule::drive;
 pub use watched::Watched;

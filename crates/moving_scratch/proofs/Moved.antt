@@ -1,0 +1,135 @@
+-- Where what is tracked is after a rename.
+use Rattle.std.proofs.Common.{◌≡◌, ◌≢◌, ℕ, [], ◌∷◌, ◌++◌, Option, None, Some, refl, sym, ap, subst, ◌∙◌, inl, inr}
+use Rattle.std.specs.Prelude.{◌⊎◌}
+use Rattle.plain_model.specs.Layers.{Path}
+use Rattle.plain_model.specs.Laws.{IsOutside}
+use Rattle.plain_model.proofs.Paths.{place}
+use Rattle.open_handles.specs.Tracked.{Tracked, Spot, At, Upper, Nowhere, IsVacant, MovesSpots, NoneBelow, SameSpots, spot_of}
+use Rattle.notice_laws.specs.declared.object.Object.{Object}
+use Rattle.notice_laws.specs.declared.object.Object.TheVariants as object
+use Rattle.notice_laws.specs.Moves.{Moves, Goes, Rises, Lost, Rests}
+use Rattle.notice_laws.specs.Steps.{IsSpotOf, Lifts, Loses, is_last_name}
+use Rattle.moving_scratch.specs.Notifying.{Becomes, IsFree}
+use Rattle.moving_scratch.specs.Moving.{IsFreeFor, MayHold}
+
+-- what loses a name was where it is, or is nowhere
+lost-there : (q : Path) (e : Object) (old mid : Tracked) → Becomes (Loses q e) old mid → (n : ℕ) (spot : Spot) → spot ≢ Nowhere →
+    spot_of mid n ≡ Some spot → spot_of old n ≡ Some spot
+lost-there q e old mid lost n spot there is =
+    let was = lost n spot is in
+    elim was.2 [
+      | inl gone ↦ absurd (there gone.2)
+      | inr same ↦ was.1 ∙ ap Some (sym same.1)
+    ]
+
+-- so a key is free then that was another's at most if that is nowhere now
+pub free-then : (q : Path) (e : Object) (old mid : Tracked) → Becomes (Loses q e) old mid → (p : Path) (o : Object) (key : ℕ) →
+    IsFreeFor old p q o e key → IsFree mid p o key
+free-then q e old mid lost p object.Lower key free = λ n at m up.
+    let was = lost m (Upper key) up in
+    elim was.2 [
+      | inl gone ↦ (let z : Upper key ≡ Nowhere = gone.2 in cc)
+      | inr same ↦
+          (let here = free n (lost-there q e old mid lost n (At p) (λ x. cc) at) m (was.1 ∙ ap Some (sym same.1)) in
+          same.0 here.0 (subst (IsSpotOf q e) same.1 here.1))
+    ]
+free-then q e old mid lost p object.Directory key free = free
+free-then q e old mid lost p (object.Upper k last) key free = free
+free-then q e old mid lost p object.Other key free = free
+
+-- a file moves: what is replaced loses a name, and a file of a lower layer is in the upper
+file-spot : (p q : Path) (o e : Object) (key : ℕ) (was mid spot : Spot) → o ≢ object.Directory → Loses q e was mid → Lifts p o key mid spot →
+    Moves p q o e key was spot
+file-spot p q object.Directory e key was mid spot file lost lifts = absurd (file refl)
+file-spot p q object.Lower e key was mid spot file (inl gone) (inl up) = absurd (let z : Nowhere ≡ At p = sym gone.2 ∙ up.0 in cc)
+file-spot p q object.Lower e key was mid spot file (inl gone) (inr same) = Lost gone.0 gone.1 (same.1 ∙ gone.2)
+file-spot p q object.Lower e key was mid spot file (inr there) (inl up) = Rises refl (sym there.1 ∙ up.0) up.1
+file-spot p q object.Lower e key was mid spot file (inr there) (inr same) =
+    Rests (λ x. cc) (λ x y. same.0 (there.1 ∙ y)) there.0 (same.1 ∙ there.1)
+file-spot p q (object.Upper k last) e key was mid spot file (inl gone) same = Lost gone.0 gone.1 (same ∙ gone.2)
+file-spot p q (object.Upper k last) e key was mid spot file (inr there) same = Rests (λ x. cc) (λ x. cc) there.0 (same ∙ there.1)
+file-spot p q object.Other e key was mid spot file (inl gone) same = Lost gone.0 gone.1 (same ∙ gone.2)
+file-spot p q object.Other e key was mid spot file (inr there) same = Rests (λ x. cc) (λ x. cc) there.0 (same ∙ there.1)
+
+pub file-spots : (p q : Path) (o e : Object) (key : ℕ) (old mid new : Tracked) → o ≢ object.Directory → Becomes (Loses q e) old mid →
+    Becomes (Lifts p o key) mid new → Becomes (Moves p q o e key) old new
+file-spots p q o e key old mid new file lost lifts n spot is =
+    let between = lifts n spot is in
+    let was = lost n between.0 between.1 in
+    (was.0, was.1, file-spot p q o e key was.0 between.0 spot file was.2 between.2)
+
+-- A DIRECTORY MOVES with what is below it, and a directory is replaced, or nothing
+module _ (old new : Tracked) (p q : Path) (e : Object) (key : ℕ) (moves : MovesSpots old new p q) (below : NoneBelow old q)
+    (replaced : (e ≡ object.Directory) ⊎ ((e ≡ object.Other) × IsVacant old (At q))) where
+  abbrev To : Spot → Spot → Type 0
+  To = Moves p q object.Directory e key
+
+  -- only what is at the new place is replaced
+  spot-replaced : (was : Spot) → IsSpotOf q e was → was ≡ At q
+  spot-replaced was there = elim replaced [
+    | inl d ↦ subst (λ x. IsSpotOf q x was) d there
+    | inr none ↦ absurd (subst (λ x. IsSpotOf q x was) none.0 there)
+  ]
+
+  -- what is at neither place stays
+  stays : (n : ℕ) (was spot : Spot) → spot_of old n ≡ Some was → spot_of new n ≡ Some spot → ((r : Path) → was ≢ At (r ++ p)) → was ≢ At q →
+      To was spot
+  stays n was spot at is off away =
+      let same : spot_of new n ≡ spot_of old n
+      = moves.outside n (λ r x. off r (inside (sym at ∙ x))) (λ x. away (inside (sym at ∙ x))) in
+      Rests (λ _. off) (λ x. cc) (λ last there. away (spot-replaced was there)) (inside (sym is ∙ same ∙ at))
+    where
+      inside : {a b : Spot} → Some a ≡ Some b → a ≡ b
+      inside h = cc
+
+  -- what is at the new place is nowhere then
+  goes-nowhere : (n : ℕ) (spot : Spot) → spot_of old n ≡ Some (At q) → spot_of new n ≡ Some spot → To (At q) spot
+  goes-nowhere n spot at is = elim replaced [
+    | inl d ↦ (let gone : Some spot ≡ Some Nowhere = sym is ∙ moves.replaced n at in
+        Lost (ap is_last_name d) (subst (λ x. IsSpotOf q x (At q)) (sym d) refl) cc)
+    | inr none ↦ absurd (none.1 n at)
+  ]
+
+  at-path : (n : ℕ) (x : Path) (spot : Spot) → spot_of old n ≡ Some (At x) → spot_of new n ≡ Some spot → To (At x) spot
+  at-path n x spot at is = elim (place p x) [
+    | inl b ↦ (let along : Some spot ≡ Some (At (b.0 ++ q)) = sym is ∙ moves.inside n b.0 (at ∙ ap (λ y. Some (At y)) b.1) in
+        Goes b.0 refl (ap At b.1) cc)
+    | inr out ↦ elim (place q x) [
+      | inl b ↦ at-new b.0 b.1 out
+      | inr off ↦ stays n (At x) spot at is (λ r same. out r (path same)) (λ same. off [] (path same))
+    ]
+  ]
+    where
+      path : {a b : Path} → At a ≡ At b → a ≡ b
+      path h = cc
+
+      at-new : (r : Path) → x ≡ r ++ q → IsOutside p x → To (At x) spot
+      at-new [] same out = subst (λ y. To (At y) spot) (sym same) (goes-nowhere n spot (at ∙ ap (λ y. Some (At y)) same) is)
+      at-new (k ∷ r) same out = absurd (below n k r (at ∙ ap (λ y. Some (At y)) same))
+
+  directory-spot : (n : ℕ) (was spot : Spot) → spot_of old n ≡ Some was → spot_of new n ≡ Some spot → To was spot
+  directory-spot n (At x) spot at is = at-path n x spot at is
+  directory-spot n (Upper k) spot at is = stays n (Upper k) spot at is (λ r x. cc) (λ x. cc)
+  directory-spot n Nowhere spot at is = stays n Nowhere spot at is (λ r x. cc) (λ x. cc)
+
+  pub directory-spots : Becomes To old new
+  directory-spots n spot is = by (spot_of old n) refl
+    where
+      by : (r : Option Spot) → spot_of old n ≡ r → (was : Spot) × (spot_of old n ≡ Some was) × To was spot
+      by (Some was) at = (was, at, directory-spot n was spot at is)
+      by None at =
+          let none : spot_of new n ≡ spot_of old n
+          = moves.outside n (λ r x. let z : None ≡ Some (At (r ++ p)) = sym at ∙ x in cc) (λ x. let z : None ≡ Some (At q) = sym at ∙ x in cc) in
+          let z : Some spot ≡ None = sym is ∙ none ∙ at in
+          cc
+
+-- WHERE SPOTS STAY what may be held is held still
+pub held-same : (a b c : Tracked) (q : Path) → MayHold a b q → SameSpots b c → MayHold a c q
+held-same a b c [] few same = λ n spot is. few n spot (sym (same.spots n) ∙ is)
+held-same a b c (k ∷ q) (inl few) same = inl (λ n spot is. few n spot (sym (same.spots n) ∙ is))
+held-same a b c (k ∷ q) (inr more) same = inr (record {
+  held = more.held;
+  number = more.number;
+  holds = more.holds;
+  fewer = λ n spot is. more.fewer n spot (sym (same.spots n) ∙ is);
+})

@@ -1,0 +1,2 @@
+pub mod Notifying
+pub mod Moving

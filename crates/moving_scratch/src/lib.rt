@@ -1,0 +1,5 @@
+//! Scratch.
+#![tactic(auto)]
+
+/// Nothing.
+pub fn nothing() {}
