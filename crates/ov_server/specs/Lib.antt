@@ -5,6 +5,5 @@ pub mod Faults
 pub mod Histories
 pub mod Objects
 pub mod Plays
-pub mod ProgramHooks
 pub mod Rosters
 pub mod Scripts

@@ -6,7 +6,7 @@ ghost use Rattle.ov_server.specs.Objects.{path_text, object_line, whiteout_line,
 use layer_tree::{Marks, Node};
 use ov_base::{Content, Name, Redirect};
 use ov_script::{Escaped, StatWords};
-use mount_calls::status_of;
+use overlay_core::status_of;
 use std::fmt;
 
 /// The text of the path of these names from the root.

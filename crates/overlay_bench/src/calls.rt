@@ -1,8 +1,9 @@
 // Loads of whole calls, of a client on a mount.
 use crate::loads::since;
 use crate::manifests::{ManifestText, child};
-use crate::mounts::{BenchCore, made, mounted, path_of, path_to};
+use crate::mounts::{made, mounted, path_of, path_to};
 use ov_base::{Bytes, Call, Errno, OpenFlags, Reply};
+use overlay_core::Core;
 use std::alloc::{AllocError, Global};
 use std::hash::RandomState;
 use std::io;
@@ -61,7 +62,7 @@ fn stats(alloc: Global, series: Series<'_>, first: u32) -> Result<Vec<Call>, All
 }
 
 // How many of the calls were answered by a status or, for a name that isn't there, ENOENT.
-fn make_all(core: &mut BenchCore, client: u64, calls: Vec<Call>) -> Result<u32, AllocError> {
+fn make_all(core: &mut Core, client: u64, calls: Vec<Call>) -> Result<u32, AllocError> {
     let mut done = 0u32;
     for call in calls {
         match made(core, client, call)? {
@@ -140,7 +141,7 @@ fn opening(alloc: Global, directory: &str) -> Result<Call, AllocError> {
 }
 
 // Whether a directory could be opened, listed and closed.
-fn list(core: &mut BenchCore, client: u64, open: Call) -> Result<bool, AllocError> {
+fn list(core: &mut Core, client: u64, open: Call) -> Result<bool, AllocError> {
     let Reply::Descriptor(descriptor) = made(core, client, open)? else {
         return Ok(false);
     };
@@ -149,7 +150,7 @@ fn list(core: &mut BenchCore, client: u64, open: Call) -> Result<bool, AllocErro
 }
 
 // Reads names until there are none.
-fn read_names(core: &mut BenchCore, client: u64, descriptor: u32) -> Result<(), AllocError> {
+fn read_names(core: &mut Core, client: u64, descriptor: u32) -> Result<(), AllocError> {
     for _ in 0..u32::MAX {
         let page = Call::ListNames {
             descriptor,
@@ -222,7 +223,7 @@ fn making(alloc: Global, text: &str, kind: Kind) -> Result<Vec<Call>, AllocError
 }
 
 // How many times something was removed.
-fn remove_all(core: &mut BenchCore, client: u64, calls: Vec<Call>) -> Result<u32, AllocError> {
+fn remove_all(core: &mut Core, client: u64, calls: Vec<Call>) -> Result<u32, AllocError> {
     let mut done = 0u32;
     for call in calls {
         let removes = matches!(&call, Call::Unlink { .. } | Call::Rmdir { .. });

@@ -1,8 +1,9 @@
 // Names that collide under a hash of fixed keys, and others.
 use crate::loads::since;
-use crate::mounts::{BenchCore, made, mounted};
+use crate::mounts::{made, mounted};
 use crate::trees::bare;
 use ov_base::{Call, Path, Reply};
+use overlay_core::Core;
 use std::alloc::{AllocError, Global};
 use std::hash::RandomState;
 use std::io;
@@ -65,7 +66,7 @@ pub fn measure_directory<C: Clock>(
     Ok((since(clock, start)?, done))
 }
 
-fn make_all(core: &mut BenchCore, client: u64, calls: Vec<Call>) -> Result<u32, AllocError> {
+fn make_all(core: &mut Core, client: u64, calls: Vec<Call>) -> Result<u32, AllocError> {
     let mut done = 0u32;
     for call in calls {
         if matches!(made(core, client, call)?, Reply::Done) {

@@ -1,9 +1,10 @@
 // Loads of calls on files, of a client on a mount.
 use crate::loads::since;
 use crate::manifests::{ManifestText, nested};
-use crate::mounts::{BenchCore, made, mounted, path_to};
+use crate::mounts::{made, mounted, path_to};
 use crate::trees::{BLOCK, DIRECTORIES, FILES, copied, copied_again, served, wide};
 use ov_base::{Bytes, Call, OpenFlags, Path, Reply};
+use overlay_core::Core;
 use std::alloc::{AllocError, Global};
 use std::hash::RandomState;
 use std::io;
@@ -259,12 +260,7 @@ fn writing(alloc: Global) -> Result<Call, AllocError> {
 }
 
 // How many operations were done, of which each call was answered as it should be.
-fn do_all(
-    core: &mut BenchCore,
-    client: u64,
-    deed: Deed,
-    calls: Vec<Call>,
-) -> Result<u32, AllocError> {
+fn do_all(core: &mut Core, client: u64, deed: Deed, calls: Vec<Call>) -> Result<u32, AllocError> {
     let mut done = 0u32;
     let mut fine = true;
     for call in calls {

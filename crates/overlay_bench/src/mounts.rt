@@ -1,54 +1,34 @@
-// Mounts of the layers that manifests spell, whose clients come without hooks.
-ghost use Rattle.std.specs.Prelude.{◌≡◌, None};
-
+// Mounts of the layers that manifests spell.
 use crate::manifests::{ManifestText, child};
-use ov_base::{Call, Event, Notice, Path, Reply};
+use ov_base::{Call, Path, Reply};
 use ov_wire::manifest_of;
 use overlay_core::{Core, Job, Turn};
 use std::alloc::{AllocError, Global};
 use std::hash::RandomState;
-use watch_table::{AnyAnswer, Callback};
 
 /// More attaches, calls and detaches than are ever measured.
 const DEEDS_MAX: u64 = 1 << 62;
-
-/// A callback that answers nothing.
-#[derive(Clone, Copy)]
-pub struct Silence;
-
-impl Callback for Silence {
-    ghost may = { λ c event. Unit {0} };
-
-    ghost gives = { λ c event answer. answer ≡ None };
-
-    fn answer(&self, _event: &Event) -> Option<Notice> {
-        None
-    }
-}
-
-/// A core whose clients have callbacks that answer nothing.
-pub type BenchCore = Core<Silence, AnyAnswer>;
 
 /// The mount of a manifest with a client, whose number follows; what is no mount is answered as want of memory is.
 pub fn mounted(
     alloc: Global,
     keys: RandomState,
     manifest: &ManifestText,
-) -> Result<(BenchCore, u64), AllocError> {
+) -> Result<(Core, u64), AllocError> {
     let Ok((upper, lowers, options)) = manifest_of(alloc, keys, manifest.as_bytes()) else {
         return Err(AllocError);
     };
-    let Ok(mut core) = BenchCore::mount(alloc, keys, upper, lowers, options)? else {
+    let Ok(mut core) = Core::mount(alloc, keys, upper, lowers, options)? else {
         return Err(AllocError);
     };
-    match core.attach(Vec::new(alloc)) {
+    match core.attach()? {
         Ok(client) => Ok((core, client)),
         Err(_) => Err(AllocError),
     }
 }
 
 /// The reply to a call of a client; that it isn't attached, or was too often, is answered as want of memory is.
-pub fn made(core: &mut BenchCore, client: u64, call: Call) -> Result<Reply, AllocError> {
+pub fn made(core: &mut Core, client: u64, call: Call) -> Result<Reply, AllocError> {
     if core.finished() >= DEEDS_MAX || !core.is_attached(client) {
         return Err(AllocError);
     }

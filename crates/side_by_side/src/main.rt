@@ -16,7 +16,6 @@ mod opening;
 mod plain_layer;
 mod playing;
 mod random_calls;
-mod random_watches;
 mod rows;
 mod told_entries;
 mod told_layers;
@@ -49,12 +48,6 @@ const FILES: [&str; 16] = [
     "files.rows",
 ];
 
-/// Whether the engine offers the calls on watches, so that rows and scripts make them.
-const OFFERS_WATCHES: bool = false;
-
-/// The rows of these calls.
-const WATCHES: &str = "watches.rows";
-
 /// The manifests over which generated scripts are played, and how many layers each has.
 const MANIFESTS: [(&str, u32); 3] = [
     ("two_layers.toml", 2),
@@ -67,9 +60,6 @@ fn main(rt: HostRuntime) -> io::Result<()> {
     let mut count = 0u64;
     for file in FILES {
         count = count.saturating_add(play_file(&rt, keys, file)?);
-    }
-    if OFFERS_WATCHES {
-        count = count.saturating_add(play_file(&rt, keys, WATCHES)?);
     }
     println!(rt; "{count} rows agree")?;
     for manifest in MANIFESTS {

@@ -1,6 +1,5 @@
 // Mounts of manifests, their clients, and the replies to their calls.
 use ov_base::{Call, Reply};
-use ov_server::{ByTag, ProgramRule, hooks_by_slot};
 use ov_wire::manifest_of;
 use overlay_core::{Core, Job, Turn};
 use std::alloc::Global;
@@ -10,11 +9,8 @@ use std::test::Fail;
 /// More attaches, calls and detaches than a test makes.
 const DEEDS_MAX: u64 = 1 << 32;
 
-/// A core whose clients come with the program's hooks.
-pub type ProgramCore = Core<ByTag, ProgramRule>;
-
 // A mount of a manifest.
-pub fn mounted(alloc: Global, keys: RandomState, manifest: &str) -> Result<ProgramCore, Fail> {
+pub fn mounted(alloc: Global, keys: RandomState, manifest: &str) -> Result<Core, Fail> {
     let (upper, lowers, options) = manifest_of(alloc, keys, manifest.as_bytes())?;
     match Core::mount(alloc, keys, upper, lowers, options)? {
         Ok(core) => Ok(core),
@@ -23,27 +19,27 @@ pub fn mounted(alloc: Global, keys: RandomState, manifest: &str) -> Result<Progr
 }
 
 // Attaches a client.
-pub fn attached(alloc: Global, core: &mut ProgramCore) -> Result<u64, Fail> {
+pub fn attached(core: &mut Core) -> Result<u64, Fail> {
     if core.finished() >= DEEDS_MAX {
         return Err(Fail::from("too many deeds"));
     }
-    match core.attach(hooks_by_slot(alloc)?) {
+    match core.attach()? {
         Ok(client) => Ok(client),
         Err(_) => Err(Fail::from("no client")),
     }
 }
 
 // Detaches a client.
-pub fn detach(core: &mut ProgramCore, client: u64) -> Result<(), Fail> {
+pub fn detach(core: &mut Core, client: u64) -> Result<(), Fail> {
     if core.finished() >= DEEDS_MAX || !core.is_attached(client) {
         return Err(Fail::from("not attached"));
     }
-    let _ = core.detach(client);
+    core.detach(client);
     Ok(())
 }
 
 // The reply to a call of a client.
-pub fn reply(core: &mut ProgramCore, client: u64, call: Call) -> Result<Reply, Fail> {
+pub fn reply(core: &mut Core, client: u64, call: Call) -> Result<Reply, Fail> {
     if core.finished() >= DEEDS_MAX || !core.is_attached(client) {
         return Err(Fail::from("not attached"));
     }

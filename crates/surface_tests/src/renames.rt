@@ -1,7 +1,8 @@
 // Files and directories get other places, and what is open goes along.
-use crate::cores::{ProgramCore, attached, mounted, reply};
+use crate::cores::{attached, mounted, reply};
 use crate::fixtures::path;
 use ov_base::{Call, Errno, OpenFlags, Reply};
+use overlay_core::Core;
 use std::alloc::Global;
 use std::hash::RandomState;
 use std::process::Abort;
@@ -24,7 +25,7 @@ layer = [{}, {entry = [{path = '/d', kind = 'dir'}]}]";
 fn rename(
     rt: &impl Abort,
     alloc: Global,
-    core: &mut ProgramCore,
+    core: &mut Core,
     client: u64,
     old: &str,
     new: &str,
@@ -40,7 +41,7 @@ fn rename(
 fn is_shown(
     rt: &impl Abort,
     alloc: Global,
-    core: &mut ProgramCore,
+    core: &mut Core,
     client: u64,
     text: &str,
 ) -> Result<bool, Fail> {
@@ -58,7 +59,7 @@ fn is_shown(
 fn open(
     rt: &impl Abort,
     alloc: Global,
-    core: &mut ProgramCore,
+    core: &mut Core,
     client: u64,
     text: &str,
 ) -> Result<u32, Fail> {
@@ -84,12 +85,7 @@ fn open(
 }
 
 // Whether a descriptor reads these bytes.
-fn reads(
-    core: &mut ProgramCore,
-    client: u64,
-    descriptor: u32,
-    wanted: &[u8],
-) -> Result<bool, Fail> {
+fn reads(core: &mut Core, client: u64, descriptor: u32, wanted: &[u8]) -> Result<bool, Fail> {
     let call = Call::Read {
         descriptor,
         count: 64,
@@ -99,12 +95,7 @@ fn reads(
 }
 
 // Whether a descriptor lists this name alone.
-fn lists(
-    core: &mut ProgramCore,
-    client: u64,
-    descriptor: u32,
-    wanted: &[u8],
-) -> Result<bool, Fail> {
+fn lists(core: &mut Core, client: u64, descriptor: u32, wanted: &[u8]) -> Result<bool, Fail> {
     let call = Call::ListNames {
         descriptor,
         count: 64,
@@ -119,7 +110,7 @@ fn lists(
 fn renames_files_and_directories(rt: HostRuntime) -> Result<(), Fail> {
     let alloc = rt.alloc();
     let mut core = mounted(alloc, RandomState::new(&rt)?, MERGED)?;
-    let client = attached(alloc, &mut core)?;
+    let client = attached(&mut core)?;
     for (old, new, bytes) in [
         ("/upper", "/u", b"above".as_slice()),
         ("/lower", "/l", b"beneath".as_slice()),
@@ -145,7 +136,7 @@ fn renames_files_and_directories(rt: HostRuntime) -> Result<(), Fail> {
 fn descriptors_go_along(rt: HostRuntime) -> Result<(), Fail> {
     let alloc = rt.alloc();
     let mut core = mounted(alloc, RandomState::new(&rt)?, MERGED)?;
-    let client = attached(alloc, &mut core)?;
+    let client = attached(&mut core)?;
     let file = open(&rt, alloc, &mut core, client, "/d/f")?;
     let directory = open(&rt, alloc, &mut core, client, "/d")?;
     let renamed = rename(&rt, alloc, &mut core, client, "/d", "/e")?;
@@ -159,7 +150,7 @@ fn descriptors_go_along(rt: HostRuntime) -> Result<(), Fail> {
 fn a_directory_of_a_lower_layer_stays_without_redirects(rt: HostRuntime) -> Result<(), Fail> {
     let alloc = rt.alloc();
     let mut core = mounted(alloc, RandomState::new(&rt)?, WITHOUT_REDIRECTS)?;
-    let client = attached(alloc, &mut core)?;
+    let client = attached(&mut core)?;
     let renamed = rename(&rt, alloc, &mut core, client, "/d", "/e")?;
     assert!(rt; matches!(&renamed, Reply::Refused(Errno::EXDEV)));
     assert!(rt; is_shown(&rt, alloc, &mut core, client, "/d")?);

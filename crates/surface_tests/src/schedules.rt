@@ -1,17 +1,15 @@
 // Jobs that are stepped by a schedule, and a mount that is refused.
-use crate::cores::ProgramCore;
 use crate::fixtures::path;
 use ov_base::{Call, Errno, Options, Reply};
-use ov_server::hooks_by_slot;
 use ov_wire::manifest_of;
-use overlay_core::{Job, MountFault, drive};
+use overlay_core::{Core, Job, MountFault, drive};
 use std::hash::RandomState;
 use std::test::Fail;
 
 const DIRECTORY: &str = "layer = [{}, {entry = [{path = '/d', kind = 'dir'}]}]";
 
 // Gives up what is left of jobs, the last one first.
-fn drop_all(core: &mut ProgramCore, jobs: Vec<Job>) {
+fn drop_all(core: &mut Core, jobs: Vec<Job>) {
     let mut jobs = jobs;
     'jobs: while let Some(job) = jobs.pop() {
         let _ = core.drop_job(job);
@@ -24,10 +22,10 @@ fn answers_jobs_in_the_order_of_finishing(rt: HostRuntime) -> Result<(), Fail> {
     let alloc = rt.alloc();
     let keys = RandomState::new(&rt)?;
     let (upper, lowers, options) = manifest_of(alloc, keys, DIRECTORY.as_bytes())?;
-    let Ok(mut core) = ProgramCore::mount(alloc, keys, upper, lowers, options)? else {
+    let Ok(mut core) = Core::mount(alloc, keys, upper, lowers, options)? else {
         return Err(Fail::from("no mount"));
     };
-    let Ok(client) = core.attach(hooks_by_slot(alloc)?) else {
+    let Ok(client) = core.attach()? else {
         return Err(Fail::from("no client"));
     };
     let made = path(&rt, alloc, "/d/x");
@@ -59,7 +57,7 @@ fn refuses_a_history_of_one(rt: HostRuntime) -> Result<(), Fail> {
         history: 1,
         ..options
     };
-    match ProgramCore::mount(alloc, keys, upper, lowers, options)? {
+    match Core::mount(alloc, keys, upper, lowers, options)? {
         Ok(_) => Err(Fail::from("a mount")),
         Err(unmounted) => {
             assert!(rt; unmounted.fault == MountFault::BadHistory);

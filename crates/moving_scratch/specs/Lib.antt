@@ -1,2 +1,0 @@
-pub mod Notifying
-pub mod Moving

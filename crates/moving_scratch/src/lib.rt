@@ -1,5 +1,0 @@
-//! Scratch.
-#![tactic(auto)]
-
-/// Nothing.
-pub fn nothing() {}
