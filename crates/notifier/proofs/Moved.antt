@@ -10,7 +10,7 @@ use Rattle.notice_laws.specs.declared.object.Object.TheVariants as object
 use Rattle.notice_laws.specs.Moves.{Moves, Goes, Rises, Lost, Rests}
 use Rattle.notice_laws.specs.Steps.{IsSpotOf, Lifts, Loses, is_last_name}
 use Rattle.notifier.specs.Notifying.{Becomes, IsFree}
-use Rattle.notifier.specs.Moving.{MayHold}
+use Rattle.notifier.specs.Moving.{IsFreeFor, MayHold}
 
 -- what loses a name was where it is, or is nowhere
 lost-there : (q : Path) (e : Object) (old mid : Tracked) → Becomes (Loses q e) old mid → (n : ℕ) (spot : Spot) → spot ≢ Nowhere →
@@ -22,14 +22,20 @@ lost-there q e old mid lost n spot there is =
       | inr same ↦ was.1 ∙ ap Some (sym same.1)
     ]
 
--- so a key is free still
-pub free-still : (q : Path) (e : Object) (old mid : Tracked) → Becomes (Loses q e) old mid → (p : Path) (o : Object) (key : ℕ) →
-    IsFree old p o key → IsFree mid p o key
-free-still q e old mid lost p object.Lower key free = λ n at m up.
-    free n (lost-there q e old mid lost n (At p) (λ x. cc) at) m (lost-there q e old mid lost m (Upper key) (λ x. cc) up)
-free-still q e old mid lost p object.Directory key free = free
-free-still q e old mid lost p (object.Upper k last) key free = free
-free-still q e old mid lost p object.Other key free = free
+-- so a key is free then that was another's at most if that is nowhere now
+pub free-then : (q : Path) (e : Object) (old mid : Tracked) → Becomes (Loses q e) old mid → (p : Path) (o : Object) (key : ℕ) →
+    IsFreeFor old p q o e key → IsFree mid p o key
+free-then q e old mid lost p object.Lower key free = λ n at m up.
+    let was = lost m (Upper key) up in
+    elim was.2 [
+      | inl gone ↦ (let z : Upper key ≡ Nowhere = gone.2 in cc)
+      | inr same ↦
+          (let here = free n (lost-there q e old mid lost n (At p) (λ x. cc) at) m (was.1 ∙ ap Some (sym same.1)) in
+          same.0 here.0 (subst (IsSpotOf q e) same.1 here.1))
+    ]
+free-then q e old mid lost p object.Directory key free = free
+free-then q e old mid lost p (object.Upper k last) key free = free
+free-then q e old mid lost p object.Other key free = free
 
 -- a file moves: what is replaced loses a name, and a file of a lower layer is in the upper
 file-spot : (p q : Path) (o e : Object) (key : ℕ) (was mid spot : Spot) → o ≢ object.Directory → Loses q e was mid → Lifts p o key mid spot →

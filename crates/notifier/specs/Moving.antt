@@ -1,9 +1,9 @@
 -- What a rename holds beforehand, and when it takes no memory.
-use Rattle.std.specs.Prelude.{◌≡◌, ◌≢◌, ◌⊎◌, ℕ, suc, zero, ◌+◌, ◌<◌, ◌^◌, [], ◌∷◌, Option, None, Some}
+use Rattle.std.specs.Prelude.{◌≡◌, ◌≢◌, ◌⊎◌, ℕ, suc, zero, ◌+◌, ◌<◌, ◌^◌, true, [], ◌∷◌, Option, None, Some}
 use Rattle.plain_model.specs.Layers.{Path}
 use Rattle.plain_model.specs.Laws.{IsOutside}
 use Rattle.open_handles.specs.declared.tracked_client.Way.{Way}
-use Rattle.open_handles.specs.Tracked.{Tracked, At, Holds, IsPrepared, IsVacant, NoneBelow, spot_of}
+use Rattle.open_handles.specs.Tracked.{Tracked, At, Holds, IsPrepared, IsVacant, NoneBelow, Upper, spot_of}
 use Rattle.open_handles.specs.TrackedHandles.{TrackedTables, handles_by}
 use Rattle.notice_laws.specs.declared.object.Object.{Object}
 use Rattle.notice_laws.specs.declared.object.Object.TheVariants as object
@@ -11,6 +11,7 @@ use Rattle.notice_laws.specs.declared.pin.Pin.{Pin}
 use Rattle.notice_laws.specs.Notified.{Notified}
 use Rattle.notice_laws.specs.Objects.{IsNumberOf, IsWayTo}
 use Rattle.notice_laws.specs.Opens.{AreFewer}
+use Rattle.notice_laws.specs.Steps.{IsSpotOf, is_last_name}
 use Rattle.notifier.specs.Notifying.{HasRoom}
 
 -- how many handles are on the object of a number by exactly this way
@@ -47,6 +48,15 @@ pub record IsPlaceFor (k : Notified) (p q : Path) (e : Object) : Type 0 where
   pub apart : IsOutside p q
   pub below : NoneBelow k.objects q
   pub replaced : (e ≡ object.Directory) ⊎ ((e ≡ object.Other) × IsVacant k.objects (At q))
+
+-- Nothing is tracked under the key by which a file of a lower layer comes from p to q, but what is replaced there and has no other name.
+abbrev pub IsFreeFor : Tracked → Path → Path → Object → Object → ℕ → Type 0
+IsFreeFor objects p q object.Lower e key =
+    (n : ℕ) → spot_of objects n ≡ Some (At p) → (m : ℕ) → spot_of objects m ≡ Some (Upper key) →
+    (is_last_name e ≡ true) × IsSpotOf q e (Upper key)
+IsFreeFor objects p q object.Directory e key = Unit {0}
+IsFreeFor objects p q (object.Upper k last) e key = Unit {0}
+IsFreeFor objects p q object.Other e key = Unit {0}
 
 -- one may hold what is at a path, and nothing else is tracked that wasn't
 pub record HoldsMore (old new : Tracked) (p : Path) : Type 0 where

@@ -8,8 +8,8 @@ ghost use Rattle.notice_laws.specs.declared.object.Object.TheVariants as objects
 ghost use Rattle.notice_laws.specs.Moves.{Moved, Moves, ReWays, of_replaced};
 ghost use Rattle.notice_laws.specs.Opens.{AreFewer};
 ghost use Rattle.notice_laws.specs.Telling.{in_way};
-ghost use Rattle.notifier.specs.Notifying.{Becomes, HasRoom, IsFree, IsTold};
-ghost use Rattle.notifier.specs.Moving.{IsPin, IsPinOf, IsPinned, IsPlaceFor, IsReady, MayHold, MayHoldAt, led_by};
+ghost use Rattle.notifier.specs.Notifying.{Becomes, HasRoom, IsTold};
+ghost use Rattle.notifier.specs.Moving.{IsFreeFor, IsPin, IsPinOf, IsPinned, IsPlaceFor, IsReady, MayHold, MayHoldAt, led_by};
 
 use crate::bits::{ATTRIB, MOVE_SELF, MOVED_FROM, MOVED_TO};
 use crate::kept::Notifier;
@@ -154,7 +154,7 @@ impl<F: Callback, R: Rule> Notifier<F, R> {
     // loses a name.
     fn move_numbers(&mut self, old: &Path, new: &Path, object: Object, replaced: Object, key: usize)
         requires ready { IsReady self.old old.now new.now object }
-        requires free { IsFree self.old.objects old.now object key }
+        requires free { IsFreeFor self.old.objects old.now new.now object replaced key }
         requires place { object ≡ objects.Directory → IsPlaceFor self.old old.now new.now replaced }
         ensures moves { Becomes (Moves old.now new.now object replaced key) self.old.objects self.new.objects }
         ensures rest { self.new ≡ record self.old { objects = self.new.objects } }
@@ -229,7 +229,7 @@ impl<F: Callback, R: Rule> Notifier<F, R> {
     /// is in the upper under a key by that. It takes no memory, which `prepare_move` took.
     pub fn moved(&mut self, old: &Path, new: &Path, object: Object, replaced: Object, key: usize)
         requires ready { IsReady self.old old.now new.now object }
-        requires free { IsFree self.old.objects old.now object key }
+        requires free { IsFreeFor self.old.objects old.now new.now object replaced key }
         requires place { object ≡ objects.Directory → IsPlaceFor self.old old.now new.now replaced }
         ensures { Moved R.shows self.old self.new old.now new.now object replaced key }
     {

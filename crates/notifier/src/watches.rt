@@ -1,5 +1,5 @@
 // Watches that are armed and taken away.
-ghost use Rattle.std.specs.Prelude.{◌≡◌, ◌≢◌, None, Some, IsSome, IfErr, IfOk, IfSome, MatchResult, OnErr, true};
+ghost use Rattle.std.specs.Prelude.{◌≡◌, ◌≢◌, ◌<◌, ◌^◌, None, Some, IsSome, IfErr, IfOk, IfSome, MatchResult, OnErr, true};
 ghost use Rattle.std.specs.List.{list_any};
 ghost use Rattle.plain_model.specs.Machine.{hooks_of, instance_of, watches_of};
 ghost use Rattle.plain_model.specs.Watching.{is_numbered};
@@ -63,6 +63,7 @@ impl<F: Callback, R: Rule> Notifier<F, R> {
         requires slot { slot_refusal (hooks_of (instance_of self.old.instances client)) slot mask ≡ None }
         requires stands { object ≢ Object.Other }
         ensures armed { IfOk result (λ outcome. IfOk outcome (ArmsAt self.old self.new client slot mask path.now object)) }
+        ensures fits { IfOk result (λ outcome. IfOk outcome (λ n. n < 2 ^ 31)) }
         ensures refused { IfOk result (λ outcome. IfErr outcome (IsArmRefused self.old client slot path.now object)) }
         ensures same { IfOk result (λ outcome. OnErr outcome (IsLeft self.old self.new)) }
         ensures err { OnErr result (IsLeft self.old self.new) }

@@ -55,6 +55,20 @@ number_left ws armed slot d h none = ltb-true armed WATCHES_MAX (by (is_busy ws 
     by false true g = refl
     by false false g = cc
 
+-- the number of the watch on an object is one that was given
+pub number_on-given : (hooks armed : ℕ) (d : NodeId) (ws : List Watch) → All (IsWatch hooks armed) ws → (n : ℕ) →
+    option_map (λ w. w.number) (watch_on ws (Some d)) ≡ Some n → n ≤ armed
+number_on-given hooks armed d [] h n is = absurd (let no : None ≡ Some n = is in cc)
+number_on-given hooks armed d (w ∷ ws) h n is =
+    by (same_id d w.node) (number_on-given hooks armed d ws (All-tail (IsWatch hooks armed) w ws h) n) is
+  where
+    by : (b : Bool) → (option_map (λ v. v.number) (find (λ v. same_id d v.node) ws) ≡ Some n → n ≤ armed) →
+        option_map (λ v. v.number) (cond b (Some w) (find (λ v. same_id d v.node) ws)) ≡ Some n → n ≤ armed
+    by true rest at =
+        let same : w.number ≡ n = cc in
+        subst (λ m. m ≤ armed) same (All-head (IsWatch hooks armed) w ws h).given
+    by false rest at = rest at
+
 -- a watch keeps its slot, its number and its object
 pub rearmed-keeps : {K : Type 0} (key : Watch → K) (d : NodeId) (mask : ℕ) (w : Watch) →
     ((m : ℕ) (o : Bool) → key (record w { mask = m; once = o }) ≡ key w) → key (rearmed d mask w) ≡ key w

@@ -288,6 +288,7 @@ impl<F: Callback, R: Rule> Listener<F, R> {
         requires slot { slot_refusal (length self.old.tags) slot mask ≡ None }
         requires allowed { arm_refusal self.old.watches self.old.armed slot (New object) ≡ None }
         ensures number { result ≡ number_of (watch_on self.old.watches (Some (New object))) (self.old.armed + 1) }
+        ensures fits { result < 2 ^ 31 }
         ensures arms { self.new ≡ armed_on slot (Some (New object)) mask self.old }
     {
         if let Some(number) = number_on(self.watches.as_slice(), object) {

@@ -1,5 +1,5 @@
 // The instances of all clients.
-ghost use Rattle.std.specs.Prelude.{◌≡◌, ◌<◌, ◌≤◌, ◌∷◌, ◌++◌, [], Some, None, All, IsSome, IfOk, IfErr, OnOk, OnErr, ◌↔◌, MatchOption, false, not, nat_eq, filter, map, length, take, drop};
+ghost use Rattle.std.specs.Prelude.{◌≡◌, ◌<◌, ◌≤◌, ◌^◌, ◌∷◌, ◌++◌, [], Some, None, All, IsSome, IfOk, IfErr, OnOk, OnErr, ◌↔◌, MatchOption, false, not, nat_eq, filter, map, length, take, drop};
 ghost use Rattle.std.specs.List.{list_any, IsDistinct};
 ghost use Rattle.ov_base.specs.declared.node_id.NodeId.TheVariants.{New};
 ghost use Rattle.plain_model.specs.Watching.{silent, is_numbered};
@@ -172,6 +172,7 @@ impl<F: Callback, R: Rule> Listeners<F, R> {
         requires slot { slot_refusal (hooks_of (instance_of self.old client)) slot mask ≡ None }
         requires allowed { arm_refusal (watches_of (instance_of self.old client)) (armed_of (instance_of self.old client)) slot (New object) ≡ None }
         ensures number { result ≡ number_of (watch_on (watches_of (instance_of self.old client)) (Some (New object))) (next_number (instance_of self.old client)) }
+        ensures fits { result < 2 ^ 31 }
         ensures arms { self.new ≡ at_client client (armed_on slot (Some (New object)) mask) self.old }
     {
         let i = self.place_of(client);

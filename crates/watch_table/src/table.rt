@@ -1,5 +1,5 @@
 // The watches of all clients.
-ghost use Rattle.std.specs.Prelude.{◌≡◌, ℕ, ◌<◌, ◌≤◌, ◌∷◌, ◌++◌, [], Some, None, All, IsSome, IfOk, IfErr, OnOk, OnErr, ◌↔◌, IfSome, MatchResult, cond, not, nat_eq, filter, map, count_by, length, take, drop, MatchOption, false};
+ghost use Rattle.std.specs.Prelude.{◌≡◌, ℕ, ◌<◌, ◌≤◌, ◌^◌, ◌∷◌, ◌++◌, [], Some, None, All, IsSome, IfOk, IfErr, OnOk, OnErr, ◌↔◌, IfSome, MatchResult, cond, not, nat_eq, filter, map, count_by, length, take, drop, MatchOption, false};
 ghost use Rattle.std.specs.List.{list_any, IsDistinct};
 ghost use Rattle.ov_base.specs.declared.node_id.NodeId.TheVariants.{New};
 ghost use Rattle.plain_model.specs.Watching.{AllHear, silent, is_numbered};
@@ -215,6 +215,7 @@ impl<F: Callback, R: Rule> WatchTable<F, R> {
         requires attached { IsSome (instance_of self.old client) }
         requires slot { slot_refusal (hooks_of (instance_of self.old client)) slot mask ≡ None }
         ensures armed { IfOk result (λ outcome. IfOk outcome (λ n. n ≡ number_of (watch_on (watches_of (instance_of self.old client)) (Some (New object))) (next_number (instance_of self.old client)))) }
+        ensures fits { IfOk result (λ outcome. IfOk outcome (λ n. n < 2 ^ 31)) }
         ensures arms { IfOk result (λ outcome. OnOk outcome (self.new ≡ at_client client (armed_on slot (Some (New object)) mask) self.old)) }
         ensures refused { IfOk result (λ outcome. IfErr outcome (λ e. arm_refusal (watches_of (instance_of self.old client)) (armed_of (instance_of self.old client)) slot (New object) ≡ Some e)) }
         ensures allowed { IfOk result (λ outcome. OnOk outcome (arm_refusal (watches_of (instance_of self.old client)) (armed_of (instance_of self.old client)) slot (New object) ≡ None)) }

@@ -1,9 +1,9 @@
-use Rattle.std.proofs.Common.{◌≡◌, arith, sym, ap, subst, ◌∙◌, length, map, ◌++◌, ◌∷◌, [], ◌+◌, refl, false}
+use Rattle.std.proofs.Common.{◌≡◌, ◌≤◌, arith, sym, ap, subst, ◌∙◌, length, map, ◌++◌, ◌∷◌, [], ◌+◌, refl, false}
 use Rattle.std.proofs.lemmas.List.{length-map}
 use Rattle.ov_base.specs.declared.node_id.NodeId.TheVariants.{New}
 use Rattle.plain_model.specs.Watching.{Watch, Instance}
 use Rattle.watch_table.specs.Listening.{IsInstance, rearmed}
-use Rattle.watch_table.proofs.Arming.{rearmed-IsInstance, arms-IsInstance, room-left, written-over}
+use Rattle.watch_table.proofs.Arming.{number_on-given, rearmed-IsInstance, arms-IsInstance, room-left, written-over}
 use Rattle.watch_table.proofs.listener.Listener.arm.Goals as goal
 
 pub invariant_of-self : goal.invariant_of-self
@@ -48,3 +48,11 @@ invariant_of-self-2 g c =
     let none = rw c.as_slice.ensures.value at (sym c.number_on.ensures ∙ c.in_default.is) in
     let more = subst with (sym c.new.ensures) (arms-IsInstance e _ c.args.mask c.self.invariant.0 slot allowed refl none) in
     (rw c.push_reserved.ensures.items more, rw c.push_reserved.ensures.capacity c.self.invariant.1)
+
+pub returns-in-Some-clause-fits : goal.returns-in-Some-clause-fits
+returns-in-Some-clause-fits g c =
+    let e = c.self.invariant.0 in
+    let at = rw c.as_slice.ensures.value at (sym c.number_on.ensures ∙ c.in-Some.is) in
+    let given = number_on-given _ c.self.inside.armed (New c.args.object) c.self.inside.watches.items e.watches c.in-Some.number at in
+    let few : c.self.inside.armed ≤ 2147483647 = e.few in
+    omega (arith, given, few)
