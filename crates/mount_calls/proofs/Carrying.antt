@@ -1,0 +1,62 @@
+-- Open files through changes of the layers and of the tree.
+use Rattle.std.proofs.Common.{◌≡◌, ◌↔◌, ℕ, ◌<◌, true, List, Some, arith}
+use Rattle.mount_calls.proofs.Words.{after, Call, Dentries, Directory, File, file_holders, Handle, handle_of, IsLive, IsMountOf, Layer, layer_of, Layers, lowers_of, OpenDirectory, OpenFile, State, Table, Tree, Upper}
+use Rattle.mount_laws.proofs.Handles.{held-by}
+use Rattle.open_handles.specs.declared.handle.Handle as handles
+use Rattle.mount_calls.specs.declared.clients.Clients.{Clients}
+use Rattle.mount_calls.specs.declared.mount.Mount.{Mount}
+use Rattle.mount_calls.specs.Attaching.{opened_by}
+use Rattle.mount_calls.specs.Files.{is_leaf, IsFile, HasFile}
+use Rattle.mount_calls.specs.Living.{StaysLive, KeepsLive, KeepsHeldFrom, KeepsLeaves, KeepsHeldLeaves}
+use Rattle.mount_calls.specs.States.{IsHandle, IsOpenAs, AreTables, IsStateOf}
+
+module _ (U V : Layer) (lowers : List Layer) (t u : Tree) where
+  -- a handle is on the open file still where that stays live, and the node a file
+  pub file-on : (f : OpenFile) (h : Handle) → IsFile U lowers t f h → ((k : ℕ) → f.source ≡ Upper k → IsLive U t h.node k → IsLive V u h.node k) → (is_leaf (t h.node) ≡ true → is_leaf (u h.node) ≡ true) → IsFile V lowers u f h
+  file-on f h is live leaf = grind arith
+
+  -- and what a descriptor leads to is what it was
+  pub open-on : (ds es : Dentries) (o : handles.Handle) (h : Handle) → ((d : OpenDirectory) → o ≡ Directory d → IsHandle t ds d h → IsHandle u es d h) → ((f : OpenFile) → o ≡ File f → IsFile U lowers t f h → IsFile V lowers u f h) → IsOpenAs U lowers t ds o h → IsOpenAs V lowers u es o h
+  open-on ds es o h directory file is = grind arith
+
+-- the files of the upper that clients have open are those that handles hold
+abbrev pub AreCounted : Clients → Type 0
+AreCounted clients = (k : ℕ) → HasFile clients k ↔ 0 < file_holders clients.files k
+
+-- each open file of the upper stays live, and each node on which a handle is open stays a file
+pub record CarriesFiles (U V : Layer) (t u : Tree) (clients : Clients) (ks : List Table) : Type 0 where
+  pub live : (c fd : ℕ) (f : OpenFile) (h : Handle) (k : ℕ) → opened_by clients c fd ≡ Some (File f) → handle_of ks c fd ≡ Some h → f.source ≡ Upper k → IsLive U t h.node k → IsLive V u h.node k
+  pub leaves : (c fd : ℕ) (h : Handle) → handle_of ks c fd ≡ Some h → is_leaf (t h.node) ≡ true → is_leaf (u h.node) ≡ true
+
+module _ (old new : Layers) where
+  abbrev U : Layer
+  U = layer_of old.upper
+
+  abbrev V : Layer
+  V = layer_of new.upper
+
+  -- tables over other layers and another tree, where the lower layers are the same
+  pub tables-on : (t u : Tree) (clients : Clients) (ks : List Table) → new.lowers ≡ old.lowers → AreTables (IsOpenAs U (lowers_of old) t clients.directories) clients ks → (es : Dentries) → ((c fd : ℕ) (o : OpenDirectory) (h : Handle) → handle_of ks c fd ≡ Some h → IsHandle t clients.directories o h → IsHandle u es o h) → CarriesFiles U V t u clients ks → AreTables (IsOpenAs V (lowers_of new) u es) clients ks
+  tables-on t u clients ks lowers tables es directories files = grind arith
+
+  -- other layers in which live files stay live
+  pub files-stay : (t : Tree) (clients : Clients) (ks : List Table) → StaysLive old new → CarriesFiles U V t t clients ks
+  files-stay t clients ks stays = record { live = λ c fd f h k at on key. stays t h.node k; leaves = λ c fd h on leaf. leaf }
+
+  module _ (s : State) (mounts : IsMountOf U (lowers_of old) s) (c : ℕ) (k : Call) (clients : Clients) where
+    -- a call through which live files stay live, and files files
+    pub files-kept : KeepsLive old new k → KeepsLeaves k → CarriesFiles U V s.tree (after s c k).tree clients s.tables
+    files-kept live leaves = grind arith
+
+    -- a call through which those stay so that a handle holds
+    pub files-held : KeepsHeldFrom s c clients old new k → KeepsHeldLeaves k → AreCounted clients → CarriesFiles U V s.tree (after s c k).tree clients s.tables
+    files-held live leaves counted = grind (arith, held-by)
+
+module _ (m : Mount) (s : State) (st : IsStateOf m s) (new : Layers) (low : new.lowers ≡ m.layers.lowers) where
+  -- other layers and another tree, in which what is open is what it was
+  pub state-on : (t : Tree) (serial : ℕ) → IsMountOf (layer_of new.upper) (lowers_of new) (record s { tree = t; serial = serial }) → ((o : OpenDirectory) (h : Handle) → IsHandle s.tree m.clients.directories o h → IsHandle t m.clients.directories o h) → CarriesFiles (layer_of m.layers.upper) (layer_of new.upper) s.tree t m.clients s.tables → IsStateOf (record m { layers = new }) (record s { tree = t; serial = serial })
+  state-on t serial mounts directories files = grind arith
+
+  -- other layers of the same mount, in which live files stay live
+  pub state-stays : IsMountOf (layer_of new.upper) (lowers_of new) s → StaysLive m.layers new → IsStateOf (record m { layers = new }) s
+  state-stays mounts live = state-on s.tree s.serial mounts (λ o h is. is) (files-stay m.layers new s.tree m.clients s.tables live)

@@ -1,0 +1,91 @@
+-- What a removal leaves once what lost its last name is freed.
+use Rattle.std.proofs.Common.{◌≡◌, ◌≢◌, ℕ, Bool, false, Option, List, ◌∷◌, ◌++◌, Some, sym, ap, ◌∙◌, subst, is_some, rules, arith}
+use Rattle.mount_calls.proofs.Words.{after, AreLayers, Call, Inode, inode_of, layer_of, Layers, layers_of, lowers_of, option_and_then, option_map, Path, Removes, State, StaysLayers, StaysMount}
+use Rattle.plain_model.specs.Tree.{merged}
+use Rattle.mount_laws.specs.Removals.{Loses, ShowsNoName}
+use Rattle.slab.specs.Slab.{get}
+use Rattle.layer_tree.specs.Table.{entry_in, object_key}
+use Rattle.layer_tree.specs.Tree.{table_of, seen, inode_at, child, IsUnmarked, IsTree, SameObjects}
+use Rattle.layer_tree.specs.Tree.{Tree as LayerTree}
+use Rattle.layer_tree.specs.Nameless.{IsNameless}
+use Rattle.layer_tree.specs.declared.node.Inode.{Inode as StoredInode}
+use Rattle.layer_tree.specs.declared.node.Node.TheVariants as node
+use Rattle.copy_up.specs.Showing.{ShowsSame, KeepsPath, KeepsOthers}
+use Rattle.copy_up.proofs.Keeping.{lowers-same}
+use Rattle.make_remove.specs.Removing.{TakesName}
+use Rattle.mount_laws.specs.Renaming.{is_one, Renames}
+use Rattle.ov_base.specs.declared.call.Call.TheVariants as call
+use Rattle.rename_redirect.specs.Renaming.{Moves, RenameSteps}
+use Rattle.mount_calls.specs.declared.clients.Clients.{Clients}
+use Rattle.mount_calls.specs.Living.{StaysHeld}
+use Rattle.mount_calls.specs.Renaming.{RenamesHeld}
+use Rattle.mount_calls.proofs.Lasting.{rename-held}
+use Rattle.mount_calls.proofs.Named.{moves-files, named-live, same-files}
+
+module _ (a b c : Layers) (p : Path) (held_same : SameObjects (layer_of b.upper) (layer_of c.upper)) (same : ShowsSame b c) where
+  others : KeepsOthers a b p → KeepsOthers a c p
+  others k = record { lowers = same.lowers ∙ k.lowers; paths = λ x out. by x (k.paths x out); bare = k.bare; below = λ n r. held_same (n ∷ r ++ p) ∙ k.below n r }
+    where
+      by : (x : Path) → KeepsPath a b p x → KeepsPath a c p x
+      by x is = grind arith
+
+  -- the name is taken
+  pub takes-then : StaysLayers b c → TakesName a b p → TakesName a c p
+  takes-then keeps t = record { lowers = same.lowers ∙ t.lowers; left = held_same p ∙ t.left; loses = loses; others = others t.others }
+    where
+      sights : (x : Path) → merged (layer_of c.upper) (lowers_of a) x ≡ merged (layer_of b.upper) (lowers_of a) x
+      sights x = grind arith
+
+      loses : AreLayers (layers_of a) → Loses (layer_of a.upper) (layer_of c.upper) (lowers_of a) p
+      loses h =
+          let l : Loses (layer_of a.upper) (layer_of b.upper) (lowers_of a) p = t.loses h in
+          let kept : AreLayers (layers_of c) = keeps (l.layers.0, subst AreLayers (sym (lowers-same a b t.lowers)) l.layers.1) in
+          record {
+            layers = (kept.0, l.layers.1);
+            gone = sights p ∙ l.gone;
+            linked = λ q ne both. sights q ∙ l.linked q ne both;
+            others = λ q ne apart. sights q ∙ l.others q ne apart;
+            names = λ q k. (λ n. (l.names q k).0 (sym (held_same q) ∙ n), λ n. held_same q ∙ (l.names q k).1 n);
+          }
+
+-- the step is the machine's
+pub removes-then : (b c : Layers) → StaysMount b c → (s : State) (client : ℕ) (p : Path) (removal : Call) → Removes (layer_of b.upper) (lowers_of b) s client p removal → Removes (layer_of c.upper) (lowers_of c) s client p removal
+removes-then b c mounts s client p removal r = search rules
+
+-- so it is with rename
+renames-then : (b c : Layers) → StaysMount b c → (s : State) (client : ℕ) (p q : Path) → Renames (layer_of b.upper) (lowers_of b) s client p q → Renames (layer_of c.upper) (lowers_of c) s client p q
+renames-then b c mounts s client p q r = search rules
+
+-- what moved, moved
+pub moves-then : (clients : Clients) (a b c : Layers) (redirects : Bool) (p q : Path) (directory : Bool) (released : Option ℕ) → Moves a b p q directory released → (is_one (layer_of a.upper) p q ≡ false → ShowsNoName (layers_of a) q) → (is_one (layer_of a.upper) p q ≡ false → RenameSteps a b redirects p q) → StaysMount b c → StaysHeld clients b c → SameObjects (layer_of b.upper) (layer_of c.upper) → ShowsSame b c → RenamesHeld clients a c redirects p q
+moves-then clients a b c redirects p q directory released moves bare steps mounts held objects same = record {
+  apart = moves.apart;
+  bare = bare moves.apart;
+  steps = λ s is option client. renames-then b c mounts s client p q (steps moves.apart s is option client);
+  live = λ s is option client d k some on live.
+      held (after s client (call.Rename p q)).tree d k some (rename-held clients a b redirects p q moves.over (steps moves.apart) s is option client d k some on live);
+  named = λ s is option client d k y live at.
+      let step : Renames (layer_of b.upper) (lowers_of b) s client p q = steps moves.apart s is option client in
+      named-live (layer_of c.upper) (lowers_of c) (after s client (call.Rename p q)) (renames-then b c mounts s client p q step).mounts d k y at
+      (same-files b c objects same.sights y k
+      (moves-files (layer_of a.upper) (layer_of b.upper) (lowers_of b) s client p q step d k y (moves.over.links is.layers k (ap is_some live.inode)) live at));
+}
+
+-- an inode as a layer has it
+abbrev inode_as : StoredInode → Inode
+inode_as x = record { content = x.content; attributes = x.attributes; links = x.links }
+
+-- an inode without links has no name, and nothing stands in it
+pub unlinked : (t : LayerTree) (k : ℕ) (x : StoredInode) → IsTree t → ((key : ℕ) (i : Inode) → inode_at t key ≡ Some i → i.links ≡ 0 → (dir : ℕ) (name : List ℕ) → child t dir name ≢ Some key) → get t k ≡ Some (node.Inode x) → x.links ≡ 0 → IsNameless t k × ((i : Inode) → inode_at t k ≡ Some i → i.links ≡ 0)
+unlinked t k x tree unnamed is none = (
+  record {
+    present = ap is_some is;
+    not_root = λ e. subst IsUnmarked (ap (option_map (seen 0)) (ap (get t) (sym e) ∙ is)) tree.root;
+    unnamed = unnamed k _ here none;
+    bare = λ name. ap (λ o. option_and_then object_key (option_and_then (λ table. entry_in table name) (option_and_then table_of o))) is;
+  },
+  λ i e. (let z : Some (inode_as x) ≡ Some i = sym here ∙ e in let l : (inode_as x).links ≡ i.links = cc in sym l ∙ none),
+)
+  where
+    here : inode_at t k ≡ Some (inode_as x)
+    here = ap (option_and_then inode_of) is

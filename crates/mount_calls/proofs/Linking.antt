@@ -1,0 +1,60 @@
+-- What readlink answers.
+use Rattle.std.proofs.Common.{◌≡◌, ℕ, Bool, true, false, not, List, Option, None, Some, Result, refl, sym, ap, ◌∙◌, ◌⊎◌, inl, inr, arith}
+use Rattle.mount_calls.proofs.Words.{AllocError, EINVAL, Errno, IfOk, inode_of, layer_of, Layers, layers_of, lowers_of, node_in, option_and_then, or_else, Path, Place, refusal, Reply, Shown, shows, shows_link, ShowsInode, State, trees, when}
+use Rattle.ov_base.specs.declared.call.Call.TheVariants as call
+use Rattle.ov_base.specs.declared.reply.Reply.TheVariants as reply
+use Rattle.merged_lookup.specs.Merged.{walk_fault}
+use Rattle.merged_lookup.proofs.Looking.{inode-shown}
+use Rattle.mount_laws.specs.Leaves.{Reads, inode_target, shown_target}
+use Rattle.mount_laws.proofs.Refusing.{law_of_readlink}
+use Rattle.mount_calls.specs.declared.mount.Mount.{Mount}
+use Rattle.mount_calls.specs.Status.{target_reply, link_reply, readlink_reply}
+use Rattle.mount_calls.specs.States.{IsStateOf, Serves}
+use Rattle.mount_calls.proofs.Answering.{serve-refused, serve-done}
+use Rattle.mount_calls.proofs.Stating.{the_layers}
+
+-- the reply to readlink of a file or symbolic link that is shown
+pub link-inode : (l : Layers) (p : Path) (d : Place) → walk_fault (layers_of l) p ≡ None → ShowsInode l p d → target_reply (inode_target (option_and_then inode_of (node_in (trees l) d))) ≡ readlink_reply (layers_of l) p
+link-inode l p d none i =
+    let same : option_and_then inode_of (node_in (trees l) d) ≡ i.inode = inode-shown 0 (trees l) (trees l) refl p d.layer d.key i.inode i.shown in
+    ap (λ z. target_reply (inode_target z)) same
+    ∙ sym (ap (λ w. link_reply w (shown_target (shows 0 (layers_of l) p))) none ∙ ap (λ o. target_reply (shown_target o)) i.shown)
+
+-- a call that may want memory answers the same reply told otherwise
+pub answers-as : (result : Result Reply AllocError) (a b : Reply) → a ≡ b → IfOk result (λ r. r ≡ a) → IfOk result (λ r. r ≡ b)
+answers-as result a b e h = grind arith
+
+-- and so what holds of that reply
+pub serves-as : (result : Result Reply AllocError) (a : Reply) (P : Reply → Type 0) → ((r : Reply) → r ≡ a → P r) → IfOk result (λ r. r ≡ a) → IfOk result P
+serves-as result a P f h = grind arith
+
+-- a symbolic link is shown with its target, and nothing else has one
+abbrev pub Tells : Option Shown → Type 0
+Tells o = ((shown_target o ≡ None) × (shows_link o ≡ false)) ⊎ ((target : List ℕ) × (shown_target o ≡ Some target) × (shows_link o ≡ true))
+
+-- each of what is shown is one of these
+tells : (o : Option Shown) → Tells o
+tells o = grind arith
+
+module _ (m : Mount) (s : State) (st : IsStateOf m s) (c : ℕ) (p : Path) where
+  law : Reads (the_layers m) s c p
+  law = law_of_readlink (layer_of m.layers.upper) (lowers_of m.layers) s st.layers c p
+
+  -- readlink is refused where the walk is, or what is shown is no symbolic link
+  is-refused : (w : Option Errno) (b : Bool) → walk_fault (the_layers m) p ≡ w → shows_link (shows 0 (the_layers m) p) ≡ b → refusal s c (call.Readlink p) ≡ or_else w (when (not b) EINVAL)
+  is-refused w b e f = law.refused ∙ ap (λ z. or_else z (when (not (shows_link (shows 0 (the_layers m) p))) EINVAL)) e ∙ ap (λ z. or_else w (when (not z) EINVAL)) f
+
+  serves : (r : Reply) (w : Option Errno) → walk_fault (the_layers m) p ≡ w → r ≡ link_reply w (shown_target (shows 0 (the_layers m) p)) → Serves (refusal s c (call.Readlink p)) s c (call.Readlink p) r m
+  serves r (Some e) h is = rw is (serve-refused _ s c (call.Readlink p) e m (is-refused (Some e) _ h refl) st)
+  serves r None h is = by (tells (shows 0 (the_layers m) p))
+    where
+      by : Tells (shows 0 (the_layers m) p) → Serves (refusal s c (call.Readlink p)) s c (call.Readlink p) r m
+      by (inl t) =
+          let same : r ≡ reply.Refused EINVAL = is ∙ ap target_reply t.0 in
+          rw same (serve-refused _ s c (call.Readlink p) EINVAL m (is-refused None false h t.1) st)
+      by (inr t) =
+          let same : r ≡ reply.Target t.0 = is ∙ ap target_reply t.1 in
+          serve-done _ s c (call.Readlink p) r m (is-refused None true h t.2) (same ∙ sym (law.answer t.0 t.1)) st
+
+  pub readlink-serves : (r : Reply) → r ≡ readlink_reply (the_layers m) p → Serves (refusal s c (call.Readlink p)) s c (call.Readlink p) r m
+  readlink-serves r is = serves r (walk_fault (the_layers m) p) refl is

@@ -1,0 +1,162 @@
+-- Opens that make a file: the states that the mount stands for on the way.
+use Rattle.std.proofs.Common.{arith, ◌≡◌, ◌↔◌, ℕ, zero, suc, cond, List, [], None, Some, Ok, Err, refl, sym, ap, ◌∙◌, subst, is_none}
+use Rattle.mount_calls.proofs.Words.{after, Call, change, Descriptors, Directory, Errno, File, file_holders, fresh, Handle, IsLive, IsMountOf, Layer, layer_of, Layers, layers_of, Leaf, live_handle, lowers_of, lowest_free, made_way, New, NodeId, OpenFile, OpenFlags, opening_fault, Own, Path, refusal, shows, State, StaysMount, Tree, Upper, way_of, with_handle}
+use mathlib.Core.Logic.{∥∥₁_elim}
+use mathlib.Core.HLevel.{⊥_prop}
+use Rattle.slab.specs.Slab.{get}
+use Rattle.ov_base.specs.declared.bytes.Content.TheVariants as content
+use Rattle.ov_base.specs.declared.call.Call.TheVariants as call
+use Rattle.ov_base.specs.declared.errno.Errno.TheVariants.{EMFILE}
+use Rattle.ov_base.specs.declared.reply.Reply.TheVariants as reply
+use Rattle.plain_model.specs.Changes.{opened}
+use Rattle.mount_laws.specs.Leaves.{GainsLeaf, MakesFile}
+use Rattle.mount_laws.specs.Opening.{OpensMaking}
+use Rattle.mount_laws.proofs.OpenFiles.{one-number, law_of_live_made}
+use Rattle.mount_laws.proofs.Opening.{law_of_opened_making}
+use Rattle.copy_up.specs.Showing.{GainsParents}
+use Rattle.copy_up.proofs.Keeping.{lowers-same}
+use Rattle.make_remove.specs.Making.{new_attributes}
+use Rattle.make_remove.specs.Leaves.{MakesLeaf, CreateSteps}
+use Rattle.open_handles.specs.declared.handle.Handle as handles
+use Rattle.open_handles.specs.Listings.{Opens}
+use Rattle.mount_calls.specs.declared.clients.Clients.{Clients}
+use Rattle.mount_calls.specs.declared.mount.Mount.{Mount}
+use Rattle.mount_calls.specs.Attaching.{ChangesClient}
+use Rattle.mount_calls.specs.Files.{HasFile, HasAllOpen, IsOpenOn, file_at}
+use Rattle.mount_calls.specs.Opening.{OpensFile}
+use Rattle.mount_calls.specs.States.{HasStateOf, IsStateOf, Serves}
+use Rattle.mount_calls.proofs.Carrying.{AreCounted, files-kept, state-on, state-stays}
+use Rattle.mount_calls.proofs.Changing.{handle-beside}
+use Rattle.mount_calls.proofs.Lasting.{create-live, open-leaves, parents-live}
+use Rattle.mount_calls.proofs.Openings.{open-full, free-there, state-open, open-served, unfaulted}
+use Rattle.mount_calls.proofs.Stating.{the_lowers, the_upper, keep-state}
+
+-- room that is made where all descriptors are open is an open that is refused
+pub full-opens : (old new : Clients) (c : ℕ) (h : handles.Handle) (e : Errno) → ChangesClient old new c (λ x y. y ≡ x) → (e ≡ EMFILE) × HasAllOpen old c → ChangesClient old new c (λ x y. Opens x y h (Ok (Err e)))
+full-opens old new c h e same full =
+    let two : Some same.before ≡ Some full.1.descriptors = sym same.was ∙ full.1.attached in
+    let before : same.before ≡ full.1.descriptors = cc in
+    record {
+      before = full.1.descriptors;
+      was = full.1.attached;
+      after = same.after;
+      is = same.is;
+      changes = record { lowest = tt; opens = tt; full = (full.0, full.1.full); refused = same.changes ∙ ap (λ (x : Descriptors). x.slots.items) before; err = tt };
+      others = same.others;
+      places = same.places;
+      next = same.next;
+    }
+
+-- no client has a file open under whose key nothing stands
+not-open : (m : Mount) (s : State) → IsStateOf m s → (k : ℕ) → get m.layers.upper k ≡ None → HasFile m.clients k → ⊥
+not-open m s st k vacant has = grind arith
+
+-- so no handle holds it, where room is made
+pub none-holds : (m : Mount) (c : ℕ) (clients : Clients) → ChangesClient m.clients clients c (λ x y. y ≡ x) → ∥ HasStateOf m ∥₁ → AreCounted clients → (key : ℕ) → ((s : State) → IsStateOf m s → get m.layers.upper key ≡ None) → (k : ℕ) → Upper key ≡ Upper k → file_holders clients.files k ≡ 0
+none-holds m c clients same state counted key vacant k is = by (file_holders clients.files k) refl
+  where
+    -- a client would have it open
+    open-no : HasFile clients k → ⊥
+    open-no has =
+        let keyed : key ≡ k = cc in
+        ∥∥₁_elim state ⊥_prop (λ x. not-open (record m { clients = clients }) x.0 (keep-state m x.0 x.1 c clients same) k (ap (get m.layers.upper) (sym keyed) ∙ vacant x.0 x.1) has)
+
+    by : (n : ℕ) → file_holders clients.files k ≡ n → n ≡ 0
+    by zero e = refl
+    by (suc n) e = absurd (open-no ((counted k).1 (rw e (omega arith))))
+
+module _ (m : Mount) (s : State) (st : IsStateOf m s) (c : ℕ) (clients : Clients) (same : ChangesClient m.clients clients c (λ x y. y ≡ x)) where
+  -- the mount in which room is made
+  abbrev reserved : Mount
+  reserved = record m { clients = clients }
+
+  -- stands for the state still
+  pub reserved-state : IsStateOf reserved s
+  reserved-state = keep-state m s st c clients same
+
+  -- an open for which there is no room is refused
+  pub reserve-full : (p : Path) (f : OpenFlags) (mode : ℕ) → opening_fault (layers_of m.layers) p f mode (Some 0) ≡ None → (e : Errno) → (e ≡ EMFILE) × HasAllOpen m.clients c → Serves (refusal s c (call.Open p f mode)) s c (call.Open p f mode) (reply.Refused e) reserved
+  reserve-full p f mode fine e full =
+      let h : handles.Handle = Directory (record { directory = 0; listing = None }) in
+      open-full m s st c p f mode fine h clients e (full-opens m.clients clients c h e same full)
+
+  -- and one that then wants memory leaves the state
+  pub wanted-state : (new : Layers) (p : Path) → StaysMount m.layers new → GainsParents m.layers new p → IsStateOf (record m { layers = new; clients = clients }) s
+  wanted-state new p mounts parents = state-stays reserved s reserved-state new parents.lowers (mounts s st.layers) (parents-live m.layers new p parents)
+
+  -- an open that makes its file
+  module _ (p : Path) (f : OpenFlags) (mode : ℕ) (fine : opening_fault (layers_of m.layers) p f mode (Some 0) ≡ None) (absent : shows 0 (layers_of m.layers) p ≡ None)
+      (new : Layers) (key : ℕ) (leaf : MakesLeaf m.layers new p (content.File []) (new_attributes mode)) (number : leaf.number ≡ key) (steps : CreateSteps m.layers new p mode)
+      (d : ℕ) (last : Clients) (ch : OpensFile clients last c (file_at (record { layer = 0; key = key }) f) (Ok (Ok d))) where
+    abbrev V : Layer
+    V = layer_of new.upper
+
+    abbrev asked : Call
+    asked = call.Open p f mode
+
+    abbrev file : OpenFile
+    file = file_at (record { layer = 0; key = key }) f
+
+    abbrev u : Tree
+    u = (after s c asked).tree
+
+    -- the machine finds the same descriptor
+    free : lowest_free s.tables c ≡ Some d
+    free = free-there reserved s reserved-state c (File file) d last ch
+
+    -- the machine makes a file
+    law : OpensMaking s c p f mode
+    law = law_of_opened_making (the_upper m) (the_lowers m) s st.layers c p f mode (unfaulted m s st c p f mode fine d free) absent
+
+    -- which is the one that the upper gains
+    steps-there : MakesFile V (lowers_of new) s c p f mode
+    steps-there = steps s st.layers c f
+
+    -- its handle
+    abbrev made : Handle
+    made = live_handle f (New s.serial) (way_of s.tree p)
+
+    -- the mount of the state in which it is made
+    made-mounts : IsMountOf V (lowers_of new) (record s { tree = u; serial = suc s.serial })
+    made-mounts =
+        let x = subst (IsMountOf V (lowers_of new)) law.state steps-there.mounts in
+        record { layers = x.layers; shows = x.shows; kept = x.kept; writable = x.writable }
+
+    -- the machine's tree
+    tree-made : u ≡ made_way s.tree s.serial (way_of s.tree p) (Leaf (content.File []) (fresh mode) Own 1)
+    tree-made = ap (λ o. cond (is_none o) (made_way s.tree s.serial (way_of s.tree p) (Leaf (content.File []) (fresh mode) Own 1)) (change (opened f) s.tree o)) law.absent
+
+    -- what was open is what it was
+    made-state : IsStateOf (record m { layers = new; clients = clients }) (record s { tree = u; serial = suc s.serial })
+    made-state =
+        state-on reserved s reserved-state new leaf.lowers u (suc s.serial) made-mounts
+        (handle-beside reserved s reserved-state new c asked p _ tree-made steps-there.stays steps-there.hidden)
+        (files-kept m.layers new s st.layers c asked clients (create-live m.layers new p mode leaf steps f) (open-leaves p f mode))
+
+    -- the new file is live
+    made-live : IsLive V u (New s.serial) key
+    made-live =
+        let g : GainsLeaf (the_upper m) V (the_lowers m) p (content.File []) (fresh mode) = leaf.gains st.layers.layers in
+        let x = subst (λ (Ls : List Layer). MakesFile V Ls s c p f mode) (lowers-same m.layers new leaf.lowers) steps-there in
+        subst (IsLive V u (New s.serial)) (sym (one-number V p leaf.number g.number leaf.held_there g.here) ∙ number) (law_of_live_made (the_upper m) V (the_lowers m) s c p f mode g x)
+
+    -- no open file is on its node or under its key
+    made-fresh : (j : ℕ) (e : NodeId) → IsOpenOn clients s.tables j e → (New s.serial ≡ e) ↔ (key ≡ j)
+    made-fresh j e y = grind arith
+
+    -- the mount stands for the state in which the file is open
+    opened-state : IsStateOf (record m { layers = new; clients = last }) (record s { tree = u; serial = suc s.serial; tables = with_handle s.tables c d (Some made) })
+    opened-state =
+        state-open (record m { layers = new; clients = clients }) (record s { tree = u; serial = suc s.serial }) made-state c (File file) d last ch made
+        (record { source = (made-live, refl); reads = refl; writes = refl; append = refl; place = refl; unlisted = refl })
+        (λ g k j e same_file of y.
+        let files : file ≡ g = cc in
+        let keys : Upper key ≡ Upper k = ap (λ (z : OpenFile). z.source) files ∙ of in
+        let keyed : key ≡ k = cc in
+        subst (λ z. (New s.serial ≡ e) ↔ (z ≡ j)) keyed (made-fresh j e y))
+
+    -- and answers as the machine
+    pub open-made : Serves (refusal s c asked) s c asked (reply.Descriptor d) (record m { layers = new; clients = last })
+    open-made =
+        open-served m s st c p f mode fine d law.descriptor free law.free law.answer (λ z. record s { tree = u; serial = suc s.serial; tables = with_handle s.tables c z (Some made) }) law.state
+        (record m { layers = new; clients = last }) opened-state

@@ -1,0 +1,295 @@
+-- Opens: what they are refused for, and that what is opened for reading is as the machine opens it.
+use Rattle.std.proofs.Common.{arith, ◌≡◌, ◌↔◌, ℕ, zero, suc, ◌<◌, Bool, true, false, not, cond, ◌&&◌, ◌||◌, List, [], ◌∷◌, Option, None, Some, Ok, Err, map, refl, sym, ap, ◌∙◌, subst, ◌⊎◌, inl, inr, is_none, is_some}
+use Rattle.std.proofs.Common.{rules}
+use Rattle.mount_calls.proofs.Words.{after, AllocError, At, Attributes, bad_flags, base, Call, Content, Contents, DESCRIPTORS_MAX, Directory, EINVAL, Errno, face, File, Folder, Handle, Inode, inode_of, is_directory, Layer, layer_of, Layers, layers_of, Leaf, Lower, lowest_free, ne_eqb, Node, node_at, node_in, node_of, NodeId, OpenFile, OpenFlags, opening_fault, option_and_then, or_else, parents_fault, Path, Place, refusal, reply_of, see, SetsSlot, Shown, shows, shows_link, ShowsInode, State, Table, trees, Upper, way_of, when, with_handle}
+use Rattle.ov_base.specs.declared.bytes.Content.TheVariants as content
+use Rattle.ov_base.specs.declared.call.Call.TheVariants as call
+use Rattle.ov_base.specs.declared.errno.Errno.TheVariants.{ELOOP, ENOTDIR, EMFILE}
+use Rattle.ov_base.specs.declared.reply.Reply.TheVariants as reply
+use Rattle.plain_model.specs.Tree.{Origin, SeenLeaf}
+use Rattle.plain_model.specs.Machine.{Live}
+use Rattle.plain_model.specs.Refusals.{bad_mode}
+use Rattle.plain_model.specs.Changes.{new_handle, view_of}
+use Rattle.plain_model.proofs.Looking.{when-not}
+use Rattle.layer_tree.specs.Tree.{Tree}
+use Rattle.merged_lookup.proofs.Looking.{inode_in, inode-shown}
+use Rattle.mount_laws.specs.Looks.{is_link_inode}
+use Rattle.mount_laws.specs.Opening.{shown_fault, inode_view, shown_view, OpensReading}
+use Rattle.mount_laws.proofs.Looks.{is_present, present}
+use Rattle.mount_laws.proofs.Links.{first-none, second-none}
+use Rattle.mount_laws.proofs.Opening.{law_of_open_refusal, law_of_opened_for_reading}
+use Rattle.mount_laws.proofs.OpenFiles.{law_of_live_shown}
+use Rattle.open_handles.specs.declared.handle.Handle as handles
+use Rattle.open_handles.specs.Listings.{Opens}
+use Rattle.mount_calls.specs.declared.clients.Clients.{Clients}
+use Rattle.mount_calls.specs.declared.mount.Mount.{Mount}
+use Rattle.mount_calls.specs.Attaching.{ChangesClient}
+use Rattle.mount_calls.specs.Files.{lower_inode, is_leaf, IsFrozen, IsOf, IsOpenOn, AreOne, source_at, file_at}
+use Rattle.mount_calls.specs.Opening.{inode_refusal, OpensAt, OpensFile}
+use Rattle.mount_calls.specs.States.{IsLeft, AreTables, IsStateOf, Serves}
+use Rattle.mount_calls.proofs.Answering.{serve-refused, serve-done}
+use Rattle.mount_calls.proofs.Slots.{changes-as, opened-after}
+use Rattle.mount_calls.proofs.Serving.{handle-set, room-of, placed, open-at, free-lowest, free-none, tables-set}
+use Rattle.mount_calls.proofs.Stating.{the_layers, the_lowers, the_upper, Alike, with-tables, keep-state}
+
+-- why a file or symbolic link isn't opened for reading is told by the node at its place
+pub inode-refused : (l : Layers) (p : Path) (d : Place) (f : OpenFlags) (b : Bool) → ShowsInode l p d → is_link_inode (option_and_then inode_of (node_in (trees l) d)) ≡ b → inode_refusal f (shows 0 (layers_of l) p) ≡ or_else (when b ELOOP) (when f.directory ENOTDIR)
+inode-refused l p d f b i link =
+    let same : option_and_then inode_of (node_in (trees l) d) ≡ i.inode = inode-shown 0 (trees l) (trees l) refl p d.layer d.key i.inode i.shown in
+    ap (inode_refusal f) i.shown ∙ ap (λ z. or_else (when z ELOOP) (when f.directory ENOTDIR)) (ap is_link_inode (sym same) ∙ link)
+
+-- the last of the refusals, told apart from the others
+faults-last : (a b w d r : Option Errno) → or_else a (or_else b (or_else w (or_else d r))) ≡ or_else (or_else a (or_else b (or_else w (or_else d None)))) r
+faults-last a b w d r = grind arith
+
+-- the descriptors are asked for last
+table-last : (Ls : List Layer) (p : Path) (f : OpenFlags) (mode : ℕ) (free : Option ℕ) → opening_fault Ls p f mode free ≡ or_else (opening_fault Ls p f mode (Some 0)) (when (is_none free) EMFILE)
+table-last Ls p f mode free = faults-last (when (bad_flags f) EINVAL) (bad_mode mode) (parents_fault Ls p) (shown_fault f (shows 0 Ls p)) (when (is_none free) EMFILE)
+
+-- a fault of the flags or of the mode comes first
+pub flags-first : (Ls : List Layer) (p : Path) (f : OpenFlags) (mode : ℕ) (e : Errno) → or_else (when (bad_flags f) EINVAL) (bad_mode mode) ≡ Some e → opening_fault Ls p f mode (Some 0) ≡ Some e
+flags-first Ls p f mode e h = search rules
+
+-- then one of the parents
+pub parents-next : (Ls : List Layer) (p : Path) (f : OpenFlags) (mode : ℕ) (e : Errno) → bad_flags f ≡ false → bad_mode mode ≡ None → parents_fault Ls p ≡ Some e → opening_fault Ls p f mode (Some 0) ≡ Some e
+parents-next Ls p f mode e flags bits way = λ i. or_else (when (flags i) EINVAL) (or_else (bits i) (or_else (way i) (or_else (shown_fault f (shows 0 Ls p)) None)))
+
+-- then one of what is shown
+pub shown-next : (Ls : List Layer) (p : Path) (f : OpenFlags) (mode : ℕ) → bad_flags f ≡ false → bad_mode mode ≡ None → parents_fault Ls p ≡ None → opening_fault Ls p f mode (Some 0) ≡ shown_fault f (shows 0 Ls p)
+shown-next Ls p f mode flags bits way = grind arith
+
+-- flags that go together and ask not to write ask to read
+reads-flag : (r w u x y z : Bool) → w ≡ false → (not r && not w || u || x || y || z) ≡ false → r ≡ true
+reads-flag r w u x y z unwritten fine = grind arith
+
+-- a directory that is opened isn't to be written
+no-write : (f : OpenFlags) (j k : ℕ) (a : Attributes) → shown_fault f (Some (Folder j k a)) ≡ None → f.writes ≡ false
+no-write f j k a fine = grind arith
+
+-- what is opened is no symbolic link
+no-link : (f : OpenFlags) (o : Option Shown) → shown_fault f o ≡ None → shows_link o ≡ false
+no-link f o fine = grind arith
+
+-- a file that is shown
+pub record IsShownFile (o : Option Shown) (j k : ℕ) : Type 0 where
+  pub inode : Inode
+  pub bytes : List ℕ
+  pub content : inode.content ≡ content.File bytes
+  pub shown : o ≡ Some (Contents j k (Some inode))
+
+-- what is shown and no directory and no symbolic link is a file
+shown-file : (o : Option Shown) (j k : ℕ) (x : Option Inode) → o ≡ Some (Contents j k x) → is_present o ≡ true → shows_link o ≡ false → IsShownFile o j k
+shown-file o j k x is there link = grind arith
+
+-- the inode of a lower layer is the one at its place
+lower-in : (u : Tree) (ts : List Tree) (j k : ℕ) → lower_inode (map layer_of ts) (suc j) k ≡ inode_in (u ∷ ts) (suc j) k
+lower-in u [] j k = refl
+lower-in u (t ∷ ts) zero k = refl
+lower-in u (t ∷ ts) (suc j) k = lower-in t ts j k
+
+-- what stands in a lower layer is told apart from what stands in the upper
+source-below : (j k : ℕ) → source_at (record { layer = suc j; key = k }) ≡ Lower (suc j) k
+source-below j k = ap (λ b. cond b (Upper k) (Lower (suc j) k)) (ne_eqb (suc j) 0 (λ e. absurd (omega arith)))
+
+-- a node that is seen as a file or link is one
+pub leaf-seen : (o : Option Node) (content : Content) (a : Attributes) (u : Origin) (l : ℕ) → face o ≡ Some (SeenLeaf content a u l) → (n : ℕ) × (o ≡ Some (Leaf content a u n))
+leaf-seen o content a u l h = grind arith
+
+-- a handle leads to the upper's file of this key, on this node
+record LeadsTo (o : handles.Handle) (x : Handle) (k : ℕ) (d : NodeId) : Type 0 where
+  pub file : OpenFile
+  pub opened : o ≡ File file
+  pub key : file.source ≡ Upper k
+  pub at : x.node ≡ d
+
+-- one descriptor is set to a handle, on both sides
+module _ (old new : Clients) (ks : List Table) (P : handles.Handle → Handle → Type 0) (a : AreTables P old ks) (c fd : ℕ) (o : handles.Handle) (x : Handle) (h : ChangesClient old new c (λ b y. SetsSlot b y fd (Some o))) (inside : fd < DESCRIPTORS_MAX) where
+  -- a handle on a file of the upper was open before, or is the one that is set
+  abbrev Led : handles.Handle → Handle → Type 0
+  Led p g = (f : OpenFile) (k : ℕ) → p ≡ File f → f.source ≡ Upper k → IsOpenOn old ks k g.node ⊎ LeadsTo o x k g.node
+
+  -- each handle is such a one
+  all-led : AreTables Led new (with_handle ks c fd (Some x))
+  all-led =
+      tables-set P old ks a new Led c fd (Some o) (Some x) h inside
+      (λ b d p g now was on is f k e key. inl (record { client = b; descriptor = d; file = f; handle = g; opened = was ∙ ap Some e; key = key; on = on; at = refl }))
+      (λ f k e key. inr (record { file = f; opened = e; key = key; at = refl }))
+
+  -- so is what a descriptor leads to
+  led : (k : ℕ) (d : NodeId) → IsOpenOn new (with_handle ks c fd (Some x)) k d → IsOpenOn old ks k d ⊎ LeadsTo o x k d
+  led k d y = grind (arith, open-at, all-led)
+
+  -- files and nodes are one still, where the file of that handle is one with those that were open
+  pub one-more : AreOne old ks → ((f : OpenFile) (k j : ℕ) (e : NodeId) → o ≡ File f → f.source ≡ Upper k → IsOpenOn old ks j e → (x.node ≡ e) ↔ (k ≡ j)) → AreOne new (with_handle ks c fd (Some x))
+  one-more one fresh k j d e y z = by (led k d y) (led j e z)
+    where
+      by : IsOpenOn old ks k d ⊎ LeadsTo o x k d → IsOpenOn old ks j e ⊎ LeadsTo o x j e → (d ≡ e) ↔ (k ≡ j)
+      by (inl u) (inl v) = one k j d e u v
+      by (inr u) (inl v) =
+          let same = fresh u.file k j e u.opened u.key v in
+          (λ i. same.0 (u.at ∙ i), λ i. sym u.at ∙ same.1 i)
+      by (inl u) (inr v) =
+          let same = fresh v.file j k d v.opened v.key u in
+          (λ i. sym (same.0 (v.at ∙ sym i)), λ i. sym (same.1 (sym i)) ∙ v.at)
+      by (inr u) (inr v) =
+          let file : u.file ≡ v.file = cc (u.opened, v.opened) in
+          let key : Upper k ≡ Upper j = sym u.key ∙ ap (λ (f : OpenFile). f.source) file ∙ v.key in
+          (λ i. cc, λ i. sym u.at ∙ v.at)
+
+module _ (m : Mount) (s : State) (st : IsStateOf m s) (c : ℕ) where
+  abbrev alike : handles.Handle → Handle → Type 0
+  alike = Alike m.layers s m.clients
+
+  -- an open that wanted memory
+  pub open-wanted : (h : handles.Handle) (new : Clients) (e : AllocError) → ChangesClient m.clients new c (λ x y. Opens x y h (Err e)) → IsStateOf (record m { clients = new }) s
+  open-wanted h new e ch = keep-state m s st c new (changes-as m.clients new c _ _ (λ x y g. g.err) ch)
+
+  -- an open file at a path is one with it exactly where it is one inode
+  pub fresh-one : (p : Path) (file : OpenFile) (x : Handle) → node_at s.tree p ≡ Some x.node → IsOf (the_upper m) (the_lowers m) s.tree file.source x → (g : OpenFile) (k j : ℕ) (e : NodeId) → File file ≡ File g → g.source ≡ Upper k → IsOpenOn m.clients s.tables j e → (x.node ≡ e) ↔ (k ≡ j)
+  fresh-one p file x at of g k j e same key y = grind arith
+
+  -- a descriptor that is opened on both sides, alike
+  module _ (h : handles.Handle) (d : ℕ) (new : Clients) (ch : ChangesClient m.clients new c (λ x y. Opens x y h (Ok (Ok d)))) where
+    -- the machine finds the same descriptor
+    pub free-there : lowest_free s.tables c ≡ Some d
+    free-there = free-lowest alike m.clients s.tables st.tables c d ch.before ch.was ch.changes.lowest
+
+    -- on both sides it leads to its file
+    pub open-leads : (file : OpenFile) (made : Handle) (k : ℕ) → h ≡ File file → file.source ≡ Upper k → IsOpenOn new (with_handle s.tables c d (Some made)) k made.node
+    open-leads file made k is key = record {
+      client = c;
+      descriptor = d;
+      file = file;
+      handle = made;
+      opened = opened-after m.clients new c d h (changes-as m.clients new c _ _ (λ x y g. g.opens) ch) ∙ ap Some is;
+      key = key;
+      on = handle-set s.tables c d (Some made) (rw (room-of alike m.clients s.tables st.tables c (ap is_some ch.was)) ch.changes.lowest.in_range);
+      at = refl;
+    }
+
+    -- the mount stands for the state in which it is open
+    pub state-open : (made : Handle) → Alike m.layers s new h made → ((g : OpenFile) (k j : ℕ) (e : NodeId) → h ≡ File g → g.source ≡ Upper k → IsOpenOn m.clients s.tables j e → (made.node ≡ e) ↔ (k ≡ j)) → IsStateOf (record m { clients = new }) (record s { tables = with_handle s.tables c d (Some made) })
+    state-open made is fresh =
+        let sets : ChangesClient m.clients new c (λ x y. SetsSlot x y d (Some h)) = changes-as m.clients new c _ _ (λ x y g. g.opens) ch in
+        with-tables m s st (record m { clients = new }) (with_handle s.tables c d (Some made)) refl refl ch.next
+        (tables-set alike m.clients s.tables st.tables new (Alike m.layers s new) c d (Some h) (Some made) sets ch.changes.lowest.in_range
+        (λ b i o g now was on like. placed (the_upper m) (the_lowers m) s.tree m.clients.directories new.directories o g (λ x l q at. ch.places b i x l (now ∙ ap Some q) at) like)
+        is)
+        (one-more m.clients new s.tables alike st.tables c d h made sets ch.changes.lowest.in_range st.one fresh)
+
+  module _ (p : Path) (f : OpenFlags) (mode : ℕ) where
+    abbrev asked : Call
+    asked = call.Open p f mode
+
+    -- an open is refused as the layers say, and last for want of a descriptor
+    refused : refusal s c asked ≡ or_else (opening_fault (the_layers m) p f mode (Some 0)) (when (is_none (lowest_free s.tables c)) EMFILE)
+    refused = law_of_open_refusal (the_upper m) (the_lowers m) s st.layers c p f mode ∙ table-last (the_layers m) p f mode (lowest_free s.tables c)
+
+    -- an open that is refused by what the layers show
+    pub open-fault : (e : Errno) → opening_fault (the_layers m) p f mode (Some 0) ≡ Some e → Serves (refusal s c asked) s c asked (reply.Refused e) m
+    open-fault e h = serve-refused _ s c asked e m (refused ∙ ap (λ z. or_else z (when (is_none (lowest_free s.tables c)) EMFILE)) h) st
+
+    module _ (fine : opening_fault (the_layers m) p f mode (Some 0) ≡ None) where
+      -- it is refused for want of a descriptor alone
+      table-alone : refusal s c asked ≡ when (is_none (lowest_free s.tables c)) EMFILE
+      table-alone = refused ∙ ap (λ z. or_else z (when (is_none (lowest_free s.tables c)) EMFILE)) fine
+
+      -- an open where all descriptors are open
+      pub open-full : (h : handles.Handle) (new : Clients) (e : Errno) → ChangesClient m.clients new c (λ x y. Opens x y h (Ok (Err e))) → Serves (refusal s c asked) s c asked (reply.Refused e) (record m { clients = new })
+      open-full h new e ch =
+          subst (λ z. Serves (refusal s c asked) s c asked (reply.Refused z) (record m { clients = new })) (sym ch.changes.full.0)
+          (serve-refused _ s c asked EMFILE (record m { clients = new })
+          (table-alone ∙ ap (λ z. when (is_none z) EMFILE) (free-none alike m.clients s.tables st.tables c ch.before ch.was ch.changes.full.1))
+          (keep-state m s st c new (changes-as m.clients new c _ _ (λ x y g. g.refused) ch)))
+
+      -- where a descriptor is free nothing refuses it
+      unrefused : (d : ℕ) → lowest_free s.tables c ≡ Some d → refusal s c asked ≡ None
+      unrefused d free = table-alone ∙ ap (λ z. when (is_none z) EMFILE) free
+
+      -- nor by what the layers show
+      pub unfaulted : (d : ℕ) → lowest_free s.tables c ≡ Some d → opening_fault (the_layers m) p f mode (lowest_free s.tables c) ≡ None
+      unfaulted d free = sym (law_of_open_refusal (the_upper m) (the_lowers m) s st.layers c p f mode) ∙ unrefused d free
+
+      -- an open is served where the mount stands for the state with the descriptor that the machine finds too
+      pub open-served : (d x : ℕ) → lowest_free s.tables c ≡ Some d → lowest_free s.tables c ≡ Some x → reply_of s c asked ≡ reply.Descriptor x → (next : ℕ → State) → after s c asked ≡ next x → (new : Mount) → IsStateOf new (next d) → Serves (refusal s c asked) s c asked (reply.Descriptor d) new
+      open-served d x free found answer next state new stands = grind (arith, serve-done, unrefused)
+
+      module _ (w : f.writes ≡ false) (there : is_some (shows 0 (the_layers m) p) ≡ true) (h : handles.Handle) (d : ℕ) (new : Clients) (ch : ChangesClient m.clients new c (λ x y. Opens x y h (Ok (Ok d)))) where
+        -- the machine finds the same descriptor
+        free : lowest_free s.tables c ≡ Some d
+        free = free-there h d new ch
+
+        -- the machine opens it
+        law : OpensReading (the_layers m) s c p f mode
+        law = law_of_opened_for_reading (the_upper m) (the_lowers m) s st.layers c p f mode (unfaulted d free) there w
+
+        -- its new handle
+        abbrev made : Handle
+        made = new_handle f law.node (way_of s.tree p) (s.tree law.node)
+
+        -- what is opened is as the machine opens it
+        open-done : Alike m.layers s new h made → ((g : OpenFile) (k j : ℕ) (e : NodeId) → h ≡ File g → g.source ≡ Upper k → IsOpenOn m.clients s.tables j e → (law.node ≡ e) ↔ (k ≡ j)) → Serves (refusal s c asked) s c asked (reply.Descriptor d) (record m { clients = new })
+        open-done is fresh = open-served d law.descriptor free law.free law.answer (λ z. record s { tables = with_handle s.tables c z (Some made) }) law.state (record m { clients = new }) (state-open h d new ch made is fresh)
+
+      -- the flags ask to read
+      reads : f.writes ≡ false → f.reads ≡ true
+      reads w = reads-flag f.reads f.writes f.unknown (f.exclusive && not f.create) (f.truncate && not f.writes) (f.directory && f.create) w (when-not (bad_flags f) EINVAL (first-none (when (bad_flags f) EINVAL) _ fine))
+
+      -- what is shown is no fault
+      shown-fine : shown_fault f (shows 0 (the_layers m) p) ≡ None
+      shown-fine = first-none (shown_fault f (shows 0 (the_layers m) p)) _ (second-none (parents_fault (the_layers m) p) _ (second-none (bad_mode mode) _ (second-none (when (bad_flags f) EINVAL) _ fine)))
+
+      -- an open of a directory
+      pub open-directory : (j k : ℕ) (a : Attributes) → shows 0 (the_layers m) p ≡ Some (Folder j k a) → (d : ℕ) (new : Clients) → OpensAt m.clients new c p (Ok (Ok d)) → Serves (refusal s c asked) s c asked (reply.Descriptor d) (record m { clients = new })
+      open-directory j k a shown d new opens =
+          let w : f.writes ≡ false = no-write f j k a (ap (shown_fault f) (sym shown) ∙ shown-fine) in
+          let there : is_some (shows 0 (the_layers m) p) ≡ true = ap is_some shown in
+          let ch = opens.changes in
+          let o : OpensReading (the_layers m) s c p f mode = law w there (Directory opens.handle) d new ch in
+          let view : view_of f (s.tree o.node) ≡ Live = o.view ∙ ap shown_view shown in
+          open-done w there (Directory opens.handle) d new ch
+          (record {
+            location = At p;
+            located = opens.stands;
+            stands = o.at;
+            directory = o.folder ∙ ap is_directory shown;
+            access = λ i. record (new_handle f o.node (way_of s.tree p) (s.tree o.node)) { reads = reads w i; writes = w i; view = view i };
+            left = subst (λ z. IsLeft z None 0) (sym opens.fresh) refl;
+          })
+          (λ g k j e is key y. cc)
+
+      -- what is shown as a file is one
+      pub file-there : (d : Place) → ShowsInode m.layers p d → IsShownFile (shows 0 (the_layers m) p) d.layer d.key
+      file-there d i = shown-file (shows 0 (the_layers m) p) d.layer d.key i.inode i.shown (present 0 (the_layers m) st.layers.layers p) (no-link f (shows 0 (the_layers m) p) shown-fine)
+
+      -- the machine's handle on a file of a lower layer sees it as it is now
+      frozen : (j k : ℕ) → IsShownFile (shows 0 (the_layers m) p) (suc j) k → f.writes ≡ false → (o : OpensReading (the_layers m) s c p f mode) → IsFrozen (the_lowers m) s.tree (suc j) k (new_handle f o.node (way_of s.tree p) (s.tree o.node))
+      frozen j k file w o =
+          let i : Inode = file.inode in
+          let below : inode_in (trees m.layers) (suc j) k ≡ Some i = inode-shown 0 (trees m.layers) (trees m.layers) refl p (suc j) k (Some i) file.shown in
+          let seen : face (s.tree o.node) ≡ see (base (the_upper m) (the_lowers m) p) (shows 0 (the_layers m) p) = sym (ap (λ z. face (node_of s.tree z)) o.at) ∙ st.layers.shows.sights p in
+          record {
+            bytes = file.bytes;
+            attributes = i.attributes;
+            links = i.links;
+            inode = lower-in m.layers.upper m.layers.lowers.items j k ∙ below ∙ ap (λ z. Some (record i { content = z })) file.content;
+            view = o.view ∙ ap shown_view file.shown ∙ ap (λ z. inode_view (suc j) (Some (record i { content = z }))) file.content;
+            file = ap is_leaf (leaf-seen (s.tree o.node) i.content i.attributes _ i.links (seen ∙ ap (see (base (the_upper m) (the_lowers m) p)) file.shown)).1;
+            reads_alone = w;
+          }
+
+      -- the handle that the machine makes for a file is of its inode
+      of-shown : (j k : ℕ) → IsShownFile (shows 0 (the_layers m) p) j k → f.writes ≡ false → (o : OpensReading (the_layers m) s c p f mode) → IsOf (the_upper m) (the_lowers m) s.tree (source_at (record { layer = j; key = k })) (new_handle f o.node (way_of s.tree p) (s.tree o.node))
+      of-shown zero k file w o = (law_of_live_shown (the_upper m) (the_lowers m) s st.layers p k file.inode file.bytes o.node file.shown file.content o.at, o.view ∙ ap shown_view file.shown)
+      of-shown (suc j) k file w o = subst (λ z. IsOf (the_upper m) (the_lowers m) s.tree z (new_handle f o.node (way_of s.tree p) (s.tree o.node))) (sym (source-below j k)) (frozen j k file w o)
+
+      -- an open of a file
+      pub open-file : (place : Place) → ShowsInode m.layers p place → f.writes ≡ false → (d : ℕ) (new : Clients) → OpensFile m.clients new c (file_at place f) (Ok (Ok d)) → Serves (refusal s c asked) s c asked (reply.Descriptor d) (record m { clients = new })
+      open-file place i w d new ch =
+          let file : IsShownFile (shows 0 (the_layers m) p) place.layer place.key = file-there place i in
+          let there : is_some (shows 0 (the_layers m) p) ≡ true = ap is_some file.shown in
+          let o : OpensReading (the_layers m) s c p f mode = law w there (File (file_at place f)) d new ch in
+          let of : IsOf (the_upper m) (the_lowers m) s.tree (source_at place) (new_handle f o.node (way_of s.tree p) (s.tree o.node)) = of-shown place.layer place.key file w o in
+          open-done w there (File (file_at place f)) d new ch
+          (record { source = of; reads = refl; writes = refl; append = refl; place = refl; unlisted = refl })
+          (fresh-one p (file_at place f) (new_handle f o.node (way_of s.tree p) (s.tree o.node)) o.at of)

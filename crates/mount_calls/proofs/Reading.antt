@@ -1,0 +1,40 @@
+-- What the calls that read user attributes answer.
+use Rattle.std.proofs.Common.{◌≡◌, ℕ, true, List, None, Some, Result, IfOk, sym, ap, ◌∙◌, map, arith}
+use Rattle.mount_calls.proofs.Words.{AllocError, Call, Errno, layer_of, lowers_of, Path, refusal, Reply, shows, State}
+use Rattle.ov_base.specs.declared.call.Call.TheVariants as call
+use Rattle.ov_base.specs.declared.reply.Reply.TheVariants as reply
+use Rattle.plain_model.specs.Machine.{value_of}
+use Rattle.mount_laws.specs.Attributes.{shown_user, chown_fault, get_fault, GetsAttribute, ListsAttributes}
+use Rattle.mount_laws.proofs.Attributes.{law_of_get_attribute, law_of_list_attributes}
+use Rattle.mount_calls.specs.declared.mount.Mount.{Mount}
+use Rattle.mount_calls.specs.Offers.{is_offered}
+use Rattle.mount_calls.specs.States.{IsStateOf, Serves}
+use Rattle.mount_calls.proofs.Answering.{serve-refused, serve-done}
+use Rattle.mount_calls.proofs.Stating.{the_layers}
+
+-- a call that serves, told of a call that is offered
+pub serves-offered : (old new : Mount) (r : Result Reply AllocError) (client : ℕ) (given k : Call) → given ≡ k → IfOk r (λ reply. (s : State) → IsStateOf old s → (c : ℕ) → Serves (refusal s c k) s c k reply new) → IfOk r (λ reply. is_offered given ≡ true → (s : State) → IsStateOf old s → Serves (refusal s client given) s client given reply new)
+serves-offered old new r client given k is h = grind arith
+
+module _ (m : Mount) (s : State) (st : IsStateOf m s) (c : ℕ) (p : Path) where
+  gets : (n : List ℕ) → GetsAttribute (the_layers m) s c p n
+  gets = law_of_get_attribute (layer_of m.layers.upper) (lowers_of m.layers) s st.layers c p
+
+  lists : ListsAttributes (the_layers m) s c p
+  lists = law_of_list_attributes (layer_of m.layers.upper) (lowers_of m.layers) s st.layers c p
+
+  -- a get of a user attribute that is set
+  pub get-done : (n value : List ℕ) → get_fault (the_layers m) p n ≡ None → value_of (shown_user (shows 0 (the_layers m) p)) n ≡ Some value → Serves (refusal s c (call.GetAttribute p n)) s c (call.GetAttribute p n) (reply.Value value) m
+  get-done n value ok is = serve-done _ s c _ _ m ((gets n).refused ∙ ok) (sym ((gets n).answer value is)) st
+
+  -- and its refusal
+  pub get-refused : (n : List ℕ) (e : Errno) → get_fault (the_layers m) p n ≡ Some e → Serves (refusal s c (call.GetAttribute p n)) s c (call.GetAttribute p n) (reply.Refused e) m
+  get-refused n e h = serve-refused _ s c _ e m ((gets n).refused ∙ h) st
+
+  -- a list of the user attributes
+  pub list-attributes-done : (names : List (List ℕ)) → chown_fault (the_layers m) p ≡ None → names ≡ map (λ x. x.0) (shown_user (shows 0 (the_layers m) p)) → Serves (refusal s c (call.ListAttributes p)) s c (call.ListAttributes p) (reply.AttributeNames names) m
+  list-attributes-done names ok is = serve-done _ s c _ _ m (lists.refused ∙ ok) (ap reply.AttributeNames is ∙ sym lists.answer) st
+
+  -- and its refusal
+  pub list-attributes-refused : (e : Errno) → chown_fault (the_layers m) p ≡ Some e → Serves (refusal s c (call.ListAttributes p)) s c (call.ListAttributes p) (reply.Refused e) m
+  list-attributes-refused e h = serve-refused _ s c _ e m (lists.refused ∙ h) st

@@ -1,0 +1,58 @@
+-- A mount stands for the state still where an open file gets other bytes.
+use Rattle.std.proofs.Common.{◌≡◌, ◌↔◌, ℕ, true, List, ◌∷◌, refl, sym, subst, ◌⊎◌, arith}
+use Rattle.mount_calls.proofs.Words.{AreLayers, cases_eq, Dentries, Handle, IsLive, IsMountOf, Layer, layer_of, Layers, lowers_of, NodeId, OpenDirectory, rewritten, State, StaysLayers, Tree}
+use Rattle.mount_laws.specs.OpenFiles.{Rewrites}
+use Rattle.mount_laws.proofs.Written.{law_of_written}
+use Rattle.copy_up.proofs.Keeping.{lowers-same}
+use Rattle.mount_calls.specs.declared.mount.Mount.{Mount}
+use Rattle.mount_calls.specs.Files.{is_leaf, IsOpenOn}
+use Rattle.mount_calls.specs.Living.{SetsFile}
+use Rattle.mount_calls.specs.States.{IsHandle, IsStateOf}
+use Rattle.mount_calls.proofs.Carrying.{state-on}
+use Rattle.mount_calls.proofs.Slots.{open-live}
+
+-- a tree in which a file of the upper has other bytes
+module _ (U V : Layer) (lowers : List Layer) (s : State) (d : NodeId) (k : ℕ) (bytes : List ℕ) (r : Rewrites U V lowers s d k bytes) where
+  abbrev t : Tree
+  t = rewritten s.tree d bytes
+
+  -- what is a file stays one
+  leaf-still : (e : NodeId) → is_leaf (s.tree e) ≡ true → is_leaf (t e) ≡ true
+  leaf-still e leaf = grind arith
+
+  -- a live file stays so that is the one that is written exactly where its node is
+  live-still : (e : NodeId) (j : ℕ) → (d ≡ e) ↔ (k ≡ j) → IsLive U s.tree e j → IsLive V t e j
+  live-still e j one live = by (cases_eq k j)
+    where
+      by : (k ≡ j) ⊎ (k ≡ j → ⊥) → IsLive V t e j
+      by is = grind arith
+
+  -- an open directory isn't the file that is written
+  directory-still : (ds : Dentries) (o : OpenDirectory) (h : Handle) → IsHandle s.tree ds o h → IsHandle t ds o h
+  directory-still ds o h is = grind arith
+
+-- a file of the upper that is open gets other bytes on both sides
+pub state-rewritten : (m : Mount) (s : State) → IsStateOf m s → (new : Layers) (k : ℕ) (d : NodeId) (bytes : List ℕ) → IsOpenOn m.clients s.tables k d → StaysLayers m.layers new → SetsFile m.layers new k bytes → IsStateOf (record m { layers = new }) (record s { tree = rewritten s.tree d bytes })
+state-rewritten m s st new k d bytes on keeps sets =
+    state-on m s st new sets.lowers (rewritten s.tree d bytes) s.serial
+    (subst (λ z. IsMountOf V z (record s { tree = rewritten s.tree d bytes })) (sym low) rewrites.mounts)
+    (directory-still U V lowers s d k bytes rewrites m.clients.directories)
+    (record {
+      live = λ c fd f h j at is key. live-still U V lowers s d k bytes rewrites h.node j (st.one k j d h.node on (record { client = c; descriptor = fd; file = f; handle = h; opened = at; key = key; on = is; at = refl }));
+      leaves = λ c fd h is. leaf-still U V lowers s d k bytes rewrites h.node;
+    })
+  where
+    U : Layer
+    U = layer_of m.layers.upper
+
+    V : Layer
+    V = layer_of new.upper
+
+    lowers : List Layer
+    lowers = lowers_of m.layers
+
+    low : lowers_of new ≡ lowers
+    low = lowers-same m.layers new sets.lowers
+
+    rewrites : Rewrites U V lowers s d k bytes
+    rewrites = law_of_written U V lowers s st.layers (subst (λ z. AreLayers (V ∷ z)) low (keeps st.layers.layers)) d k bytes (open-live m s st k d on) sets.writes

@@ -1,0 +1,260 @@
+-- Writes and truncations of open files.
+use Rattle.std.proofs.Common.{arith, ◌≡◌, ◌≢◌, ℕ, ◌+◌, ◌-◌, true, false, min, not, ◌&&◌, List, [], ◌∷◌, Option, None, Some, Result, Ok, Err, refl, sym, ap, ◌∙◌, subst, is_none, is_some, length, nat_eq, nat_lt}
+use Rattle.mount_calls.proofs.Words.{AllocError, bytes_at, change, ChangesSlot, eqb-true, Errno, false≢true, File, file_bytes, Handle, handle_of, Inode, IsLive, Layer, layer_of, Layers, Leaf, lowers_of, Node, NodeId, OnErr, OpenFile, option_and_then, or_else, over_node, Own, put, refusal, Reply, rewritten, sized, State, StaysLayers, StaysMount, Tree, Upper, when, with_bytes, with_handle, with_place}
+use Rattle.std.proofs.lemmas.List.{length-take, nil_from_length}
+use Rattle.ov_base.specs.declared.bytes.Content.TheVariants as content
+use Rattle.ov_base.specs.declared.call.Call.TheVariants as call
+use Rattle.ov_base.specs.declared.errno.Errno.TheVariants as errno
+use Rattle.ov_base.specs.declared.reply.Reply.TheVariants as reply
+use Rattle.plain_model.specs.Layers.{IsLayer}
+use Rattle.plain_model.specs.Tree.{IsThin}
+use Rattle.plain_model.specs.Machine.{bytes_of_node}
+use Rattle.plain_model.specs.Refusals.{FILE_MAX, TRANSFER_MAX}
+use Rattle.plain_model.specs.Changes.{fitting, wrote}
+use Rattle.plain_model.proofs.Uppers.{agree-where, under-agree}
+use Rattle.layer_tree.specs.Tree.{SameObjects, SameTree, written}
+use Rattle.layer_tree.specs.Tree.{Tree as LayerTree}
+use Rattle.mount_laws.specs.Descriptors.{TruncatesFile, WritesFile, resized, write_start}
+use Rattle.mount_laws.proofs.Descriptors.{law_of_directory_handle, law_of_truncate, law_of_unopened, law_of_write}
+use Rattle.copy_up.specs.Showing.{StaysThin}
+use Rattle.copy_up.proofs.Keeping.{lowers-same, mounts-alike}
+use Rattle.open_handles.specs.Places.{IsWritePlace, count_fitting}
+use Rattle.mount_calls.specs.declared.clients.Clients.{Clients}
+use Rattle.mount_calls.specs.declared.mount.Mount.{Mount}
+use Rattle.mount_calls.specs.Attaching.{file_by, opened_by, ChangesClient}
+use Rattle.mount_calls.specs.Files.{IsFile, IsOpenOn, bytes_of_inode, source_inode}
+use Rattle.mount_calls.specs.Living.{SetsFile}
+use Rattle.mount_calls.specs.Opening.{truncate_fault, write_fault, written_key}
+use Rattle.mount_calls.specs.States.{IsStateOf, Serves}
+use Rattle.mount_calls.proofs.Answering.{serve-done, serve-refused}
+use Rattle.mount_calls.proofs.Rewritten.{state-rewritten}
+use Rattle.mount_calls.proofs.Slots.{file-open, by-opened, place-moved}
+use Rattle.mount_calls.proofs.Stating.{the_lowers, the_upper}
+
+-- where every path holds what it held, no whiteout is needless that was needed
+thin-held : (old new : Layers) → new.lowers ≡ old.lowers → SameObjects (layer_of old.upper) (layer_of new.upper) → StaysThin old new
+thin-held old new low same thin =
+    subst (IsThin V) (sym (lowers-same old new low))
+    (λ n p is. ap is_some (under-agree U V (lowers_of old) n p (agree-where U V (λ q. Unit {0}) (λ name q h. tt) (λ q h. same q) p tt)) ∙ thin n p (sym (same (n ∷ p)) ∙ is))
+  where
+    U : Layer
+    U = layer_of old.upper
+
+    V : Layer
+    V = layer_of new.upper
+
+-- a write to the upper that leaves what each path holds leaves it thin, and where it wants memory, the mount of each state
+pub upper-written : (l : Layers) (u new : LayerTree) (r : Result (Unit {0}) AllocError) → l.upper ≡ u → SameObjects (layer_of u) (layer_of new) → (IsLayer (layer_of u) → IsLayer (layer_of new)) → OnErr r (SameTree u new) → StaysThin l (record l { upper = new }) × OnErr r (StaysMount l (record l { upper = new }))
+upper-written l u new r is objects keeps same = (thin-held l (record l { upper = new }) refl held, by r same)
+  where
+    held : SameObjects (layer_of l.upper) (layer_of new)
+    held = subst (λ (z : LayerTree). SameObjects (layer_of z) (layer_of new)) (sym is) objects
+
+    by : (x : Result (Unit {0}) AllocError) → OnErr x (SameTree u new) → OnErr x (StaysMount l (record l { upper = new }))
+    by (Ok x) tree = tt
+    by (Err e) tree =
+        mounts-alike l (record l { upper = new }) refl held (λ p k h. tree.inodes k ∙ sym (ap (λ (z : LayerTree). (layer_of z).inodes k) is))
+        (subst (λ (z : LayerTree). IsLayer (layer_of z) → IsLayer (layer_of new)) (sym is) keeps)
+
+-- a handle on an open file writes where that has a key to write to
+not-writing : (U : Layer) (lowers : List Layer) (t : Tree) (f : OpenFile) (h : Handle) → IsFile U lowers t f h → not h.writes ≡ is_none (written_key f)
+not-writing U lowers t f h x = grind arith
+
+-- the last of three refusals, where none of the first two is there
+last-of : (a b x : Option Errno) → or_else a b ≡ None → or_else a (or_else b x) ≡ x
+last-of a b x h = grind arith
+
+-- a write that is refused nothing is of a file to write to
+unrefused-write : (f : OpenFile) (count : ℕ) → write_fault (Some (File f)) count ≡ None → is_none (written_key f) ≡ false
+unrefused-write f count h = grind arith
+
+-- and so is a truncation
+unrefused-truncation : (f : OpenFile) (size : ℕ) → truncate_fault (Some (File f)) size ≡ None → is_none (written_key f) ≡ false
+unrefused-truncation f size h = grind arith
+
+-- why a write of so many bytes is refused at its place: none of them fits
+abbrev room_fault : ℕ → ℕ → Option Errno
+room_fault n start = when (nat_lt 0 n && not (nat_lt start FILE_MAX)) errno.EFBIG
+
+-- so is a count of those that fit
+unfitting : (n start : ℕ) (e : Errno) → count_fitting start n ≡ Err e → room_fault n start ≡ Some e
+unfitting n start e h = grind arith
+
+-- or they are as many as there is room for
+fits : (n start count : ℕ) → count_fitting start n ≡ Ok count → (room_fault n start ≡ None) × (count ≡ min (FILE_MAX - start) n)
+fits n start count h = grind arith
+
+-- bytes that aren't none
+some-there : (bytes : List ℕ) → nat_eq (length bytes) 0 ≡ false → bytes ≢ []
+some-there bytes h e = false≢true (sym h ∙ ap (λ z. nat_eq (length z) 0) e)
+
+-- of nothing, nothing fits
+none-fits : (start : ℕ) → length (fitting start []) ≡ 0
+none-fits start = grind arith
+
+-- a change of a file is that of its bytes
+change-bytes : (t : Tree) (d : NodeId) (f : Node → Node) (x : Node) (bytes : List ℕ) → t d ≡ Some x → f x ≡ with_bytes bytes x → change f t (Some d) ≡ rewritten t d bytes
+change-bytes t d f x bytes is same = ap (put t d) (ap (over_node f) is ∙ ap Some same ∙ sym (ap (over_node (with_bytes bytes)) is))
+
+-- what a descriptor leads to that writes to a file of the upper
+record IsWriting (m : Mount) (s : State) (c d : ℕ) (f : OpenFile) (h : Handle) : Type 0 where
+  opened : opened_by m.clients c d ≡ Some (File f)
+  on : handle_of s.tables c d ≡ Some h
+  file : IsFile (layer_of m.layers.upper) (lowers_of m.layers) s.tree f h
+  key : ℕ
+  source : f.source ≡ Upper key
+  live : IsLive (layer_of m.layers.upper) s.tree h.node key
+
+module _ (m : Mount) (s : State) (st : IsStateOf m s) (c d : ℕ) where
+  -- a file that has a key to write to is of the upper, and live
+  writing : (f : OpenFile) → opened_by m.clients c d ≡ Some (File f) → is_none (written_key f) ≡ false → (h : Handle) × IsWriting m s c d f h
+  writing f e some = grind arith
+
+  -- by it the file is open on its node
+  open-on : (f : OpenFile) (h : Handle) (w : IsWriting m s c d f h) → IsOpenOn m.clients s.tables w.key h.node
+  open-on f h w = record { client = c; descriptor = d; file = f; handle = h; opened = w.opened; key = w.source; on = w.on; at = refl }
+
+  -- the upper has these bytes of it
+  bytes-there : (f : OpenFile) (h : Handle) (w : IsWriting m s c d f h) → bytes_at m.layers.upper w.key ≡ Some w.live.bytes
+  bytes-there f h w = ap (option_and_then (λ (i : Inode). file_bytes i.content)) w.live.inode
+
+  module _ (size : ℕ) where
+    -- the truncation is answered so, by a mount that becomes this
+    abbrev Truncates : Reply → Mount → Type 0
+    Truncates r new = Serves (refusal s c (call.Truncate d size)) s c (call.Truncate d size) r new
+
+    -- why a truncation is refused
+    truncate-refusal : refusal s c (call.Truncate d size) ≡ truncate_fault (opened_by m.clients c d) size
+    truncate-refusal =
+        by-opened m s st c d (λ o. refusal s c (call.Truncate d size) ≡ truncate_fault o size)
+        (λ none. (law_of_unopened s c d none).sizing size)
+        (λ f h on is. (law_of_truncate s c d h on).refused size ∙ ap (λ b. or_else (when b errno.EINVAL) (when (nat_lt FILE_MAX size) errno.EFBIG)) (not-writing (the_upper m) (the_lowers m) s.tree f h is))
+        (λ o h on is. (law_of_directory_handle s c d h on is.directory).sizing (ap (λ (z : Handle). z.writes) is.access) size)
+
+    -- it is refused so
+    pub truncate-refused : (e : Errno) → truncate_fault (opened_by m.clients c d) size ≡ Some e → Truncates (reply.Refused e) m
+    truncate-refused e h = serve-refused _ s c _ e m (truncate-refusal ∙ h) st
+
+    -- else the file gets the size
+    pub truncate-done : (f : OpenFile) → file_by m.clients c d ≡ Some f → truncate_fault (opened_by m.clients c d) size ≡ None → (new : Layers) → StaysLayers m.layers new → ((k : ℕ) (old : List ℕ) → f.source ≡ Upper k → bytes_at m.layers.upper k ≡ Some old → SetsFile m.layers new k (sized old size)) → Truncates reply.Done (record m { layers = new })
+    truncate-done f is good new keeps sets =
+        serve-done _ s c _ _ (record m { layers = new }) (truncate-refusal ∙ good) (sym (law.answer size))
+        (subst (IsStateOf (record m { layers = new })) (ap (λ (t : Tree). record s { tree = t }) (sym same) ∙ sym (law.state size))
+        (state-rewritten m s st new w.key h.node bytes (open-on f h w) keeps (sets w.key w.live.bytes w.source (bytes-there f h w))))
+      where
+        opens : opened_by m.clients c d ≡ Some (File f)
+        opens = file-open (opened_by m.clients c d) f is
+
+        found : (h : Handle) × IsWriting m s c d f h
+        found = writing f opens (unrefused-truncation f size (sym (ap (λ o. truncate_fault o size) opens) ∙ good))
+
+        h : Handle
+        h = found.0
+
+        w : IsWriting m s c d f h
+        w = found.1
+
+        law : TruncatesFile s c d h
+        law = law_of_truncate s c d h w.on
+
+        bytes : List ℕ
+        bytes = sized w.live.bytes size
+
+        -- the machine makes the same tree
+        same : change (resized size) s.tree (Some h.node) ≡ rewritten s.tree h.node bytes
+        same = change-bytes s.tree h.node (resized size) (Leaf (content.File w.live.bytes) w.live.attributes Own w.live.links) bytes w.live.node refl
+
+  module _ (bytes : List ℕ) where
+    -- the write is answered so, by a mount that becomes this
+    abbrev Writes : Reply → Mount → Type 0
+    Writes r new = Serves (refusal s c (call.Write d bytes)) s c (call.Write d bytes) r new
+
+    -- why a write by a handle on an open file is refused: for its count, for want of access, or for its place
+    faults : (f : OpenFile) (h : Handle) → handle_of s.tables c d ≡ Some h → IsFile (the_upper m) (the_lowers m) s.tree f h → refusal s c (call.Write d bytes) ≡ or_else (when (nat_lt TRANSFER_MAX (length bytes)) errno.EINVAL) (or_else (when (is_none (written_key f)) errno.EBADF) (room_fault (length bytes) (write_start s h)))
+    faults f h on file = grind arith
+
+    -- a write is refused so before its place is asked for
+    pub write-refused : (e : Errno) → write_fault (opened_by m.clients c d) (length bytes) ≡ Some e → Writes (reply.Refused e) m
+    write-refused e fault = grind arith
+
+    -- one that isn't
+    module _ (f : OpenFile) (is : file_by m.clients c d ≡ Some f) (good : write_fault (opened_by m.clients c d) (length bytes) ≡ None) where
+      -- is of an open file
+      opens : opened_by m.clients c d ≡ Some (File f)
+      opens = file-open (opened_by m.clients c d) f is
+
+      -- on which it is refused nothing
+      good-file : write_fault (Some (File f)) (length bytes) ≡ None
+      good-file = sym (ap (λ o. write_fault o (length bytes)) opens) ∙ good
+
+      -- that is written to by this handle
+      found : (h : Handle) × IsWriting m s c d f h
+      found = writing f opens (unrefused-write f (length bytes) good-file)
+
+      abbrev h : Handle
+      h = found.0
+
+      w : IsWriting m s c d f h
+      w = found.1
+
+      -- as the machine writes
+      law : WritesFile s c d h
+      law = law_of_write s c d h w.on
+
+      -- so it is refused only for its place
+      write-refusal : refusal s c (call.Write d bytes) ≡ room_fault (length bytes) (write_start s h)
+      write-refusal = faults f h w.on w.file ∙ last-of (when (nat_lt TRANSFER_MAX (length bytes)) errno.EINVAL) (when (is_none (written_key f)) errno.EBADF) (room_fault (length bytes) (write_start s h)) good-file
+
+      -- a write of nothing changes nothing
+      pub write-nothing : nat_eq (length bytes) 0 ≡ true → Writes (reply.Written 0) m
+      write-nothing empty = grind (arith, nil_from_length, eqb-true, serve-done, write-refusal, none-fits)
+
+      -- where a write begins in a file of these bytes
+      module _ (held : List ℕ) (reads : (i : Inode) → source_inode (the_upper m) (the_lowers m) f.source ≡ Some i → held ≡ bytes_of_inode i) (start : ℕ) (begins : IsWritePlace f (length held) start) where
+        -- the machine's begins there too
+        begin : start ≡ write_start s h
+        begin =
+            let inode : source_inode (the_upper m) (the_lowers m) f.source ≡ Some (record { content = content.File w.live.bytes; attributes = w.live.attributes; links = w.live.links }) = ap (source_inode (the_upper m) (the_lowers m)) w.source ∙ w.live.inode in
+            begins s.tree h w.file.append w.file.place (ap (λ o. length (bytes_of_node o)) w.live.node ∙ sym (ap length (reads _ inode)))
+
+        -- so the place is refused alike
+        placed-refusal : refusal s c (call.Write d bytes) ≡ room_fault (length bytes) start
+        placed-refusal = write-refusal ∙ ap (room_fault (length bytes)) (sym begin)
+
+        -- where no byte fits the write is refused
+        pub write-unfitting : (e : Errno) → count_fitting start (length bytes) ≡ Err e → Writes (reply.Refused e) m
+        write-unfitting e none = serve-refused _ s c _ e m (placed-refusal ∙ unfitting (length bytes) start e none) st
+
+        -- else what fits is written, and the handle's place is after it
+        pub write-done : nat_eq (length bytes) 0 ≡ false → (count : ℕ) → count_fitting start (length bytes) ≡ Ok count → (given : List ℕ) → given ≡ fitting start bytes → (new : Layers) → StaysLayers m.layers new → ((k : ℕ) (old : List ℕ) → f.source ≡ Upper k → bytes_at m.layers.upper k ≡ Some old → SetsFile m.layers new k (written old start given)) → (clients : Clients) → ChangesClient m.clients clients c (λ x y. ChangesSlot x y d (with_place (start + count))) → Writes (reply.Written count) (record m { layers = new; clients = clients })
+        write-done full count fit given fitted new keeps sets clients moves =
+            serve-done _ s c _ _ (record m { layers = new; clients = clients })
+            (placed-refusal ∙ (fits (length bytes) start count fit).0)
+            (ap reply.Written counted ∙ sym (law.answer bytes))
+            (subst (IsStateOf (record m { layers = new; clients = clients })) (steps ∙ sym (law.state bytes (some-there bytes full)))
+            (place-moved (record m { layers = new }) (record s { tree = rewritten s.tree h.node now }) made c d h w.on f opens (start + count) clients moves))
+          where
+            now : List ℕ
+            now = written w.live.bytes start (fitting start bytes)
+
+            -- the upper has the bytes
+            sets_now : SetsFile m.layers new w.key now
+            sets_now = subst (λ z. SetsFile m.layers new w.key (written w.live.bytes start z)) fitted (sets w.key w.live.bytes w.source (bytes-there f h w))
+
+            -- the state before the place moves
+            made : IsStateOf (record m { layers = new }) (record s { tree = rewritten s.tree h.node now })
+            made = state-rewritten m s st new w.key h.node now (open-on f h w) keeps sets_now
+
+            -- the machine writes as many
+            counted : count ≡ length (fitting (write_start s h) bytes)
+            counted = (fits (length bytes) start count fit).1 ∙ sym (length-take (FILE_MAX - start) bytes) ∙ ap (λ z. length (fitting z bytes)) begin
+
+            -- and makes the same tree
+            tree : rewritten s.tree h.node now ≡ change (wrote (write_start s h) bytes) s.tree (Some h.node)
+            tree =
+                let leaf : Node = Leaf (content.File w.live.bytes) w.live.attributes Own w.live.links in
+                sym (change-bytes s.tree h.node (wrote start bytes) leaf now w.live.node refl) ∙ ap (λ z. change (wrote z bytes) s.tree (Some h.node)) begin
+
+            -- so its state is the same
+            steps : record s { tree = rewritten s.tree h.node now; tables = with_handle s.tables c d (Some (record h { place = start + count })) } ≡ record s { tree = change (wrote (write_start s h) bytes) s.tree (Some h.node); tables = with_handle s.tables c d (Some (record h { place = write_start s h + length (fitting (write_start s h) bytes) })) }
+            steps = λ i. record s { tree = tree i; tables = with_handle s.tables c d (Some (record h { place = begin i + counted i })) }

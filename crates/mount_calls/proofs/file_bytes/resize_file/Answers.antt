@@ -1,0 +1,17 @@
+use Rattle.std.proofs.Common.{IsSome, rules, sym}
+use Rattle.layer_tree.specs.Tree.{bytes_at}
+use Rattle.plain_model.specs.Changes.{sized}
+use Rattle.mount_calls.proofs.Named.{written-files}
+use Rattle.mount_calls.proofs.Writings.{upper-written}
+use Rattle.mount_calls.proofs.file_bytes.resize_file.Goals as goal
+
+pub returns-clause-thin : goal.returns-clause-thin
+returns-clause-thin c = (upper-written c.args.layers.now _ c.resize.new.self c.resize.result (sym c.upper_mut.ensures.value) c.resize.ensures.objects_held c.resize.ensures.keeps c.resize.ensures.err).0
+
+pub returns-clause-mounts : goal.returns-clause-mounts
+returns-clause-mounts c = (upper-written c.args.layers.now _ c.resize.new.self c.resize.result (sym c.upper_mut.ensures.value) c.resize.ensures.objects_held c.resize.ensures.keeps c.resize.ensures.err).1
+
+pub returns-clause-files : goal.returns-clause-files
+returns-clause-files c =
+    let there : IsSome (bytes_at c.upper_mut.result.now c.in-Upper.key) = search rules in
+    written-files c.upper_mut.result.now c.resize.new.self c.in-Upper.key (λ old. sized old c.args.size) there c.resize.ensures.objects_held c.args.layers.now (sym c.upper_mut.ensures.value) c.resize.result c.resize.ensures.sets c.resize.ensures.err

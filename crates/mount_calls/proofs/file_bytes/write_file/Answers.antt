@@ -1,0 +1,16 @@
+use Rattle.std.proofs.Common.{IsSome, rules, sym}
+use Rattle.layer_tree.specs.Tree.{bytes_at, written}
+use Rattle.mount_calls.proofs.Named.{written-files}
+use Rattle.mount_calls.proofs.Writings.{upper-written}
+use Rattle.mount_calls.proofs.file_bytes.write_file.Goals as goal
+
+pub returns-clause-thin : goal.returns-clause-thin
+returns-clause-thin c = (upper-written c.args.layers.now _ c.write.new.self c.write.result (sym c.upper_mut.ensures.value) c.write.ensures.objects_held c.write.ensures.keeps c.write.ensures.err).0
+
+pub returns-clause-mounts : goal.returns-clause-mounts
+returns-clause-mounts c = (upper-written c.args.layers.now _ c.write.new.self c.write.result (sym c.upper_mut.ensures.value) c.write.ensures.objects_held c.write.ensures.keeps c.write.ensures.err).1
+
+pub returns-clause-files : goal.returns-clause-files
+returns-clause-files c =
+    let there : IsSome (bytes_at c.upper_mut.result.now c.in-Upper.key) = search rules in
+    written-files c.upper_mut.result.now c.write.new.self c.in-Upper.key (λ old. written old c.args.start c.args.bytes.now) there c.write.ensures.objects_held c.args.layers.now (sym c.upper_mut.ensures.value) c.write.result c.write.ensures.sets c.write.ensures.err

@@ -1,0 +1,12 @@
+use Rattle.std.proofs.Common.{◌≡◌, ℕ, ◌<◌, suc, zero, List, ◌∷◌, Some, arith}
+use Rattle.plain_model.specs.Layers.{Contents, Inode, Layer, Path, shows}
+use Rattle.notice_laws.specs.Objects.{IsLower}
+use Rattle.mount_calls.proofs.object.object_in.Goals as goal
+
+-- what stands under the upper is a lower layer's
+is-lower : (U : Layer) (lowers : List Layer) (p : Path) (layer key : ℕ) (i : Inode) → 0 < layer → shows 0 (U ∷ lowers) p ≡ Some (Contents layer key (Some i)) → IsLower U lowers p
+is-lower U lowers p zero key i h shown = absurd (omega arith)
+is-lower U lowers p (suc j) key i h shown = record { layer = j; key = key; inode = i; shown = shown }
+
+pub returns-then-place-gt0 : goal.returns-then-place-gt0
+returns-then-place-gt0 c = λ p at. is-lower _ _ p _ _ _ c.if-place-gt0.true (c.inode_at-inode.ensures p at)

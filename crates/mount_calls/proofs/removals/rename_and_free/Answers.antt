@@ -1,0 +1,31 @@
+use Rattle.std.proofs.Common.{true, false}
+use Rattle.mount_calls.proofs.Freed.{moves-then}
+use Rattle.mount_calls.proofs.removals.rename_and_free.Goals as goal
+
+pub returns-in-Ok-Directory-clause-does : goal.returns-in-Ok-Directory-clause-does
+returns-in-Ok-Directory-clause-does c =
+    let does = rw (c.in-Ok-Directory.is, c.in-Ok-Directory.field-0-is) at c.in_ok-rename.ensures.does in
+    let bare = rw c.in-Ok-Directory.is at c.in_ok-rename.ensures.bare in
+    let steps = rw c.in-Ok-Directory.is at c.in_ok-rename.ensures.steps in
+    moves-then c.args.clients.now c.args.layers.now c.rename.new.layers c.free_released.new.layers c.args.redirects c.args.old.now c.args.new.now
+    true _ does bare steps c.free_released.ensures.mounts c.free_released.ensures.live c.free_released.ensures.held c.free_released.ensures.same
+
+pub returns-in-Ok-Directory-clause-keeps : goal.returns-in-Ok-Directory-clause-keeps
+returns-in-Ok-Directory-clause-keeps c = λ h. c.free_released.ensures.keeps (c.rename.ensures.keeps h)
+
+pub returns-in-Ok-Inode-clause-does : goal.returns-in-Ok-Inode-clause-does
+returns-in-Ok-Inode-clause-does c =
+    let does = rw (c.in-Ok-Inode.is, c.in-Ok-Inode.field-0-is) at c.in_ok-rename.ensures.does in
+    let bare = rw c.in-Ok-Inode.is at c.in_ok-rename.ensures.bare in
+    let steps = rw c.in-Ok-Inode.is at c.in_ok-rename.ensures.steps in
+    moves-then c.args.clients.now c.args.layers.now c.rename.new.layers c.free_released-in-Ok-Inode.new.layers c.args.redirects c.args.old.now c.args.new.now
+    false _ does bare steps c.free_released-in-Ok-Inode.ensures.mounts c.free_released-in-Ok-Inode.ensures.live c.free_released-in-Ok-Inode.ensures.held c.free_released-in-Ok-Inode.ensures.same
+
+pub returns-in-Ok-Inode-clause-keeps : goal.returns-in-Ok-Inode-clause-keeps
+returns-in-Ok-Inode-clause-keeps c = λ h. c.free_released-in-Ok-Inode.ensures.keeps (c.rename.ensures.keeps h)
+
+pub returns-in-Ok-Directory-clause-thin : goal.returns-in-Ok-Directory-clause-thin
+returns-in-Ok-Directory-clause-thin c = λ are h. c.free_released.ensures.thin (c.rename.ensures.thin are h)
+
+pub returns-in-Ok-Inode-clause-thin : goal.returns-in-Ok-Inode-clause-thin
+returns-in-Ok-Inode-clause-thin c = λ are h. c.free_released-in-Ok-Inode.ensures.thin (c.rename.ensures.thin are h)

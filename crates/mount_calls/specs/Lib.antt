@@ -1,0 +1,12 @@
+pub mod Status
+pub mod Attaching
+pub mod Files
+pub mod Held
+pub mod Offers
+pub mod Keeping
+pub mod Opening
+pub mod States
+pub mod Removing
+pub mod Altering
+pub mod Living
+pub mod Renaming

@@ -1,0 +1,63 @@
+-- What renames leave of what is open (POSIX.1-2017, rename(): a directory or file that is open stays so, also where it is replaced).
+use Rattle.std.specs.Prelude.{◌≡◌, ℕ, Bool, true, false, Option, Some, Result, Ok, Err}
+use Rattle.ov_base.specs.declared.attributes.Attributes.{Attributes}
+use Rattle.ov_base.specs.declared.call.Call.TheVariants as call
+use Rattle.ov_base.specs.declared.errno.Errno.{Errno}
+use Rattle.ov_base.specs.declared.reply.Reply.{Reply}
+use Rattle.ov_base.specs.declared.reply.Reply.TheVariants.{Done, Refused}
+use Rattle.plain_model.specs.Layers.{Path}
+use Rattle.plain_model.specs.Machine.{State}
+use Rattle.plain_model.specs.Refusals.{refusal}
+use Rattle.layer_tree.specs.Tree.{layer_of}
+use Rattle.merged_lookup.specs.declared.layers.Layers.{Layers}
+use Rattle.merged_lookup.specs.Merged.{layers_of, lowers_of}
+use Rattle.mount_laws.specs.Looks.{IsMountOf}
+use Rattle.mount_laws.specs.Removals.{ShowsNoName}
+use Rattle.mount_laws.specs.Renaming.{is_one}
+use Rattle.rename_redirect.specs.Renaming.{RenameSteps}
+use Rattle.open_handles.specs.Opened.{SameHandles}
+use Rattle.open_handles.specs.Renames.{Moves}
+use Rattle.mount_calls.specs.declared.clients.Clients.{Clients}
+use Rattle.mount_calls.specs.Living.{KeepsHeldFrom, KeepsNamed}
+
+-- the same clients are attached with what they have open, and each open directory stands where it stood
+pub record SamePlaces (old new : Clients) : Type 0 where
+  pub attached : new.attached ≡ old.attached
+  pub places : SameHandles old.directories new.directories
+  pub next : new.next ≡ old.next
+
+-- What was open at the one path or below it is open under the other now. The directory that was open at that other path is a removed one,
+-- with the attributes of the one that was replaced. Nothing else changes.
+pub record RenamesOpen (old new : Clients) (p q : Path) (replaced : Option Attributes) : Type 0 where
+  pub attached : new.attached ≡ old.attached
+  pub places : Moves old.directories new.directories p q replaced
+  pub next : new.next ≡ old.next
+
+-- rename is refused so in every state with this option whose mount has these layers
+abbrev pub RefusesRenames : Layers → Bool → Path → Path → Errno → Type 0
+RefusesRenames l redirects p q e =
+    (s : State) → IsMountOf (layer_of l.upper) (lowers_of l) s → s.options.redirects ≡ redirects →
+    (c : ℕ) → refusal s c (call.Rename p q) ≡ Some e
+
+-- What p shows moves to q, in which no name was shown: every state with this option goes on so by rename, and of the upper's files what
+-- handles hold stays live, and what has a name then.
+pub record RenamesHeld (clients : Clients) (old new : Layers) (redirects : Bool) (p q : Path) : Type 0 where
+  pub apart : is_one (layer_of old.upper) p q ≡ false
+  pub bare : ShowsNoName (layers_of old) q
+  pub steps : RenameSteps old new redirects p q
+  pub live :
+      (s : State) → IsMountOf (layer_of old.upper) (lowers_of old) s → s.options.redirects ≡ redirects → (c : ℕ) →
+      KeepsHeldFrom s c clients old new (call.Rename p q)
+  pub named :
+      (s : State) → IsMountOf (layer_of old.upper) (lowers_of old) s → s.options.redirects ≡ redirects → (c : ℕ) →
+      KeepsNamed s c old new (call.Rename p q)
+
+-- the object moved, or both paths were one object and nothing changed
+abbrev pub MovesOrStays : Bool → Clients → Layers → Layers → Bool → Path → Path → Type 0
+MovesOrStays true clients old new redirects p q = RenamesHeld clients old new redirects p q
+MovesOrStays false clients old new redirects p q = (is_one (layer_of old.upper) p q ≡ true) × (new ≡ old)
+
+-- how a rename is answered that moved something, that had nothing to move, or that was refused
+abbrev pub rename_reply : Result Bool Errno → Reply
+rename_reply (Ok moved) = Done
+rename_reply (Err errno) = Refused errno

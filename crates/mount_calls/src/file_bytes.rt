@@ -1,0 +1,62 @@
+// Changing the bytes of files of the upper (POSIX.1-2017, write() and ftruncate()).
+ghost use Rattle.std.specs.Prelude.{◌≡◌, ◌+◌, ◌<◌, ◌^◌, ℕ, List, Some, IsOk, OnOk, OnErr, length};
+ghost use Rattle.plain_model.specs.Changes.{sized};
+ghost use Rattle.layer_tree.specs.Tree.{bytes_at, written};
+ghost use Rattle.copy_up.specs.Showing.{StaysLayers, StaysMount, StaysThin};
+ghost use Rattle.open_handles.specs.declared.open_file.FileSource.TheVariants as sources;
+ghost use Rattle.mount_calls.specs.Living.{KeepsFiles, SetsFile, StaysLive};
+
+use merged_lookup::Layers;
+use open_handles::FileSource;
+use std::alloc::AllocError;
+
+/// Lays bytes over those of an open file of the upper from a place on, with zero bytes between the file's end and that place. Want of
+/// memory changes nothing.
+pub(crate) fn write_file(
+    layers: &mut Layers,
+    source: FileSource,
+    start: usize,
+    bytes: &[u8],
+) -> Result<(), AllocError>
+    requires { start + length bytes.now < 2 ^ 64 }
+    ensures sets { OnOk result ((k : ℕ) (old : List ℕ) → source ≡ sources.Upper k → bytes_at layers.old.upper k ≡ Some old → SetsFile layers.old layers.new k (written old start bytes.now)) }
+    ensures files { KeepsFiles layers.old layers.new }
+    ensures lowers { layers.new.lowers ≡ layers.old.lowers }
+    ensures keeps { StaysLayers layers.old layers.new }
+    ensures thin { StaysThin layers.old layers.new }
+    ensures mounts { OnErr result (StaysMount layers.old layers.new) }
+    ensures stays { OnErr result (StaysLive layers.old layers.new) }
+{
+    let FileSource::Upper(key) = source else {
+        return Ok(());
+    };
+    if layers.upper().read(key).is_none() {
+        return Ok(());
+    }
+    layers.upper_mut().write(key, start, bytes)
+}
+
+/// Cuts an open file of the upper to a length, or fills it with zero bytes up to it. Want of memory changes nothing, and a cut to nothing
+/// never wants any.
+pub(crate) fn resize_file(
+    layers: &mut Layers,
+    source: FileSource,
+    size: usize,
+) -> Result<(), AllocError>
+    ensures sets { OnOk result ((k : ℕ) (old : List ℕ) → source ≡ sources.Upper k → bytes_at layers.old.upper k ≡ Some old → SetsFile layers.old layers.new k (sized old size)) }
+    ensures empties { size ≡ 0 → IsOk result }
+    ensures files { KeepsFiles layers.old layers.new }
+    ensures lowers { layers.new.lowers ≡ layers.old.lowers }
+    ensures keeps { StaysLayers layers.old layers.new }
+    ensures thin { StaysThin layers.old layers.new }
+    ensures mounts { OnErr result (StaysMount layers.old layers.new) }
+    ensures stays { OnErr result (StaysLive layers.old layers.new) }
+{
+    let FileSource::Upper(key) = source else {
+        return Ok(());
+    };
+    if layers.upper().read(key).is_none() {
+        return Ok(());
+    }
+    layers.upper_mut().resize(key, size)
+}

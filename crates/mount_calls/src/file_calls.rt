@@ -1,0 +1,180 @@
+// The calls on open files, and `lseek` and `fstat` on directories, by the plain machine (POSIX.1-2017, read(), lseek() and fstat()).
+ghost use Rattle.std.specs.Prelude.{◌≡◌, None, Some, Ok, IfOk, IfErr, OnErr, IsSome, option_copied};
+ghost use Rattle.ov_base.specs.declared.attributes.Attributes.{Attributes as DirectoryAttributes};
+ghost use Rattle.plain_model.specs.Machine.{State};
+ghost use Rattle.plain_model.specs.Refusals.{refusal};
+ghost use Rattle.mount_calls.specs.Attaching.{KeepsAttached, directory_by, file_by, opened_by};
+ghost use Rattle.open_handles.specs.declared.open_file.OpenFile.{OpenFile as OpenedFile};
+ghost use Rattle.mount_calls.specs.Opening as opening;
+ghost use Rattle.mount_calls.specs.Opening.{read_fault, seek_fault};
+ghost use Rattle.mount_calls.specs.Status.{stat_with};
+ghost use Rattle.mount_calls.specs.States.{IsStateOf, Serves, StaysState};
+
+use crate::files::{bytes_in, status_in};
+use crate::mount::Mount;
+use crate::status::{status_at, status_with};
+use open_handles::{FileSource, Handle, OpenFile, read_at, sought};
+use ov_base::{Attributes, Bytes, Call, Errno, ObjectKind, Reply, Stat};
+use std::alloc::AllocError;
+
+/// The most bytes of one read or write.
+const TRANSFER_MAX: u32 = 65_536;
+
+impl Mount {
+    /// Reads the next bytes of an open file, at most so many.
+    pub(crate) fn read(
+        &mut self,
+        client: u64,
+        descriptor: u32,
+        count: u32,
+    ) -> Result<Reply, AllocError>
+        ensures serves { IfOk result (λ reply. (s : State) → IsStateOf self.old s → Serves (refusal s client (Call.Read descriptor count)) s client (Call.Read descriptor count) reply self.new) }
+        ensures err { OnErr result (StaysState self.old self.new) }
+        ensures clients { KeepsAttached self.old.clients self.new.clients }
+        ensures layers { self.new.layers ≡ self.old.layers }
+    {
+        let file = match self.file_to_read(client, descriptor, count) {
+            Ok(file) => file,
+            Err(errno) => return Ok(Reply::Refused(errno)),
+        };
+        let bytes = read_at(
+            bytes_in(&self.layers, file.source),
+            file.place,
+            count as usize,
+        );
+        let end = file.place + bytes.len() as u64;
+        let copy = Bytes::from_slice(self.alloc, bytes)?;
+        self.clients.move_to(client, descriptor, end);
+        Ok(Reply::Read(copy))
+    }
+
+    // The open file that so many bytes are to be read of.
+    fn file_to_read(&self, client: u64, descriptor: u32, count: u32) -> Result<OpenFile, Errno>
+        ensures file { IfOk result (λ f. (file_by self.now.clients client descriptor ≡ Some f) × (read_fault (opened_by self.now.clients client descriptor) count ≡ None)) }
+        ensures refused { IfErr result (λ e. read_fault (opened_by self.now.clients client descriptor) count ≡ Some e) }
+    {
+        let Some(handle) = self.clients.opened(client, descriptor) else {
+            return Err(Errno::EBADF);
+        };
+        if count > TRANSFER_MAX {
+            return Err(Errno::EINVAL);
+        }
+        match handle {
+            Handle::Directory(_) => Err(Errno::EISDIR),
+            Handle::File(file) if !file.reads => Err(Errno::EBADF),
+            Handle::File(file) => Ok(*file),
+        }
+    }
+
+    /// Moves the place of an open file, or goes back to the start of an open directory.
+    pub(crate) fn seek(&mut self, client: u64, descriptor: u32, offset: i64, whence: u8) -> Reply
+        ensures serves { (s : State) → IsStateOf self.old s → Serves (refusal s client (Call.Seek descriptor offset whence)) s client (Call.Seek descriptor offset whence) result self.new }
+        ensures clients { KeepsAttached self.old.clients self.new.clients }
+        ensures layers { self.new.layers ≡ self.old.layers }
+    {
+        if let Some(errno) = self.seek_refusal(client, descriptor, offset, whence) {
+            return Reply::Refused(errno);
+        }
+        match self.clients.file(client, descriptor) {
+            Some(file) => self.seek_in(client, descriptor, file, offset, whence),
+            None => {
+                self.clients.rewind(client, descriptor);
+                Reply::Place(0)
+            }
+        }
+    }
+
+    // Why a seek is refused that is told by what is open alone: nothing is open, or it isn't to the start of a directory.
+    fn seek_refusal(&self, client: u64, descriptor: u32, offset: i64, whence: u8) -> Option<Errno>
+        ensures { result ≡ seek_fault (opened_by self.now.clients client descriptor) offset whence }
+    {
+        match self.clients.opened(client, descriptor) {
+            None => Some(Errno::EBADF),
+            Some(Handle::File(_)) => None,
+            Some(Handle::Directory(_)) => {
+                if offset != 0 || whence != 0 {
+                    return Some(Errno::EINVAL);
+                }
+                None
+            }
+        }
+    }
+
+    // Moves the place of an open file.
+    fn seek_in(
+        &mut self,
+        client: u64,
+        descriptor: u32,
+        file: OpenFile,
+        offset: i64,
+        whence: u8,
+    ) -> Reply
+        requires { file_by self.old.clients client descriptor ≡ Some file }
+        ensures serves { (s : State) → IsStateOf self.old s → Serves (refusal s client (Call.Seek descriptor offset whence)) s client (Call.Seek descriptor offset whence) result self.new }
+        ensures clients { KeepsAttached self.old.clients self.new.clients }
+        ensures layers { self.new.layers ≡ self.old.layers }
+    {
+        let size = bytes_in(&self.layers, file.source).len();
+        match place_sought(file, size, offset, whence) {
+            Ok(place) => {
+                self.clients.move_to(client, descriptor, place);
+                Reply::Place(place)
+            }
+            Err(errno) => Reply::Refused(errno),
+        }
+    }
+
+    /// What stat(2) shows of what a client has open.
+    pub(crate) fn fstat(&self, client: u64, descriptor: u32) -> Result<Reply, AllocError>
+        ensures { IfOk result (λ reply. (s : State) → IsStateOf self.now s → Serves (refusal s client (Call.Fstat descriptor)) s client (Call.Fstat descriptor) reply self.now) }
+    {
+        match self.clients.opened(client, descriptor) {
+            None => Ok(Reply::Refused(Errno::EBADF)),
+            Some(Handle::File(file)) => Ok(self.file_status(client, descriptor, file.source)),
+            Some(Handle::Directory(_)) => self.directory_status(client, descriptor),
+        }
+    }
+
+    // What stat(2) shows of an open file.
+    fn file_status(&self, client: u64, descriptor: u32, source: FileSource) -> Reply
+        requires { (f : OpenedFile) × (file_by self.now.clients client descriptor ≡ Some f) × (f.source ≡ source) }
+        ensures { (s : State) → IsStateOf self.now s → Serves (refusal s client (Call.Fstat descriptor)) s client (Call.Fstat descriptor) result self.now }
+    {
+        match status_in(&self.layers, source) {
+            Ok(status) => Reply::Status(status),
+            Err(errno) => Reply::Refused(errno),
+        }
+    }
+
+    // What stat(2) shows of an open directory.
+    fn directory_status(&self, client: u64, descriptor: u32) -> Result<Reply, AllocError>
+        requires { IsSome (directory_by self.now.clients client descriptor) }
+        ensures { IfOk result (λ reply. (s : State) → IsStateOf self.now s → Serves (refusal s client (Call.Fstat descriptor)) s client (Call.Fstat descriptor) reply self.now) }
+    {
+        let status = match self.clients.path(self.alloc, client, descriptor)? {
+            Some(path) => status_at(&self.layers, &path),
+            None => removed_status(self.clients.removed(client, descriptor)),
+        };
+        match status {
+            Ok(status) => Ok(Reply::Status(status)),
+            Err(errno) => Ok(Reply::Refused(errno)),
+        }
+    }
+}
+
+// What stat(2) shows of a directory that was removed, by the attributes that it had; nothing is ENOENT.
+fn removed_status(attributes: Option<&Attributes>) -> Result<Stat, Errno>
+    ensures { (a : DirectoryAttributes) → option_copied attributes.entry ≡ Some a → result ≡ Ok (stat_with ObjectKind.Directory a 0 1) }
+{
+    match attributes {
+        Some(attributes) => Ok(status_with(ObjectKind::Directory, attributes, 0, 1)),
+        None => Err(Errno::ENOENT),
+    }
+}
+
+// Where a seek in a file of so many bytes leads.
+fn place_sought(file: OpenFile, size: usize, offset: i64, whence: u8) -> Result<u64, Errno>
+    ensures { result ≡ opening.seek_place file size offset whence }
+{
+    sought(file.seek_base(whence, size)?, offset)
+}

@@ -1,0 +1,22 @@
+//! A mount with the clients on it: its calls on files are those of the plain machine. Nobody is told of them here.
+#![tactic(auto)]
+
+mod attribute_calls;
+mod attributes;
+mod clients;
+mod closing;
+mod file_bytes;
+mod file_calls;
+mod files;
+mod mount;
+mod object;
+mod open_calls;
+mod removals;
+mod rename_calls;
+mod status;
+mod user_attributes;
+mod write_calls;
+
+pub use clients::{CLIENTS_MAX, Clients};
+pub use mount::Mount;
+pub use status::{status_at, status_of};

@@ -1,0 +1,442 @@
+// A mount and the clients on it: what each call does, by the plain machine.
+ghost use Rattle.std.specs.Prelude.{◌≡◌, ◌<◌, ◌+◌, ◌^◌, ℕ, false, List, Some, None, Ok, IsOk, IfOk, IfErr, OnOk, OnErr, IsSome, IsSomeAnd, IfNone, IfSome, is_some, MatchResult, option_copied, true};
+ghost use Rattle.plain_model.specs.Layers.{AreLayers};
+ghost use Rattle.layer_tree.specs.Tree.{layer_of, inode_of};
+ghost use Rattle.merged_lookup.specs.Merged.{layers_of, lowers_of};
+ghost use Rattle.mount_calls.specs.States.{AreNamesIn};
+ghost use Rattle.mount_calls.specs.Files.{upper_of};
+ghost use Rattle.mount_calls.specs.Status.{stat_at, readlink_reply, target_reply};
+ghost use Rattle.std.specs.Option.{option_and_then};
+ghost use Rattle.mount_laws.specs.Leaves.{inode_target};
+
+use crate::clients::Clients;
+use crate::removals::{free_closed, rmdir_and_free, unlink_and_free};
+use crate::status::status_at;
+use dir_listing::{Cursor, names};
+use layer_tree::{Inode, Node};
+use make_remove::{mkdir, symlink};
+use merged_lookup::{Found, Layers, Topmost};
+use open_handles::{FileSource, Handle, OpenFile};
+use ov_base::{Attributes, Bytes, Call, Content, Errno, LinkTarget, Mode, NameList, Path, Reply};
+use rename_redirect::link;
+use std::alloc::{AllocError, Global};
+use std::hash::RandomState;
+
+/// The most names that one `list` gives.
+const LIST_MAX: u32 = 256;
+
+/// The layers of a mount, the clients attached to it, and whether renames of its directories make redirects.
+#[derive(Drop)]
+pub struct Mount {
+    pub(crate) layers: Layers,
+    pub(crate) clients: Clients,
+    pub(crate) redirects: bool,
+    pub(crate) alloc: Global,
+}
+
+impl Mount {
+    ghost use Rattle.std.specs.BTreeMap.{get, btree_map_len};
+    ghost use Rattle.std.specs.Ordering.{nat_cmp};
+    ghost use Rattle.plain_model.specs.Machine as machine;
+    ghost use Rattle.plain_model.specs.Machine.{State};
+    ghost use Rattle.plain_model.specs.Tree.{Tree};
+    ghost use Rattle.plain_model.specs.Merging.{IsMerge};
+    ghost use Rattle.plain_model.specs.Runs as runs;
+    ghost use Rattle.plain_model.specs.Runs.{joined, without_table};
+    ghost use Rattle.plain_model.specs.Refusals.{refusal};
+    ghost use Rattle.mount_calls.specs.Attaching as attaching;
+    ghost use Rattle.mount_calls.specs.Attaching.{HasNoRoom, Attaches, Detaches, TakesBack, IsSame, KeepsAttached, KeepsOthers, opened_by, directory_by};
+    ghost use Rattle.mount_calls.specs.States.{HasStateOf, IsStateOf, Serves, StaysState, Pages};
+    ghost use Rattle.mount_calls.specs.Removing.{IsOpenNowhere, HasAttributes};
+    ghost use Rattle.mount_laws.specs.Removals.{rmdir_fault};
+    ghost use Rattle.mount_calls.specs.Opening.{list_fault};
+    ghost use Rattle.mount_calls.specs.Living.{KeepsNamed, KeepsPaths, StaysLive};
+    ghost use Rattle.mount_calls.specs.Offers.{is_offered};
+    ghost use Rattle.mount_calls.specs.Keeping.{KeepsLayers, takes_no_memory};
+    ghost use Rattle.copy_up.specs.Showing.{StaysThin};
+
+    /// A mount of these layers without a client, whose renames of directories make redirects or not. The names of open directories are
+    /// hashed with these keys.
+    pub fn new(
+        alloc: Global,
+        keys: RandomState,
+        layers: Layers,
+        redirects: bool,
+    ) -> Result<Mount, AllocError>
+        ensures layers { IfOk result (λ mount. mount.layers ≡ layers) }
+        ensures redirects { IfOk result (λ mount. mount.redirects ≡ redirects) }
+        ensures none { IfOk result (λ mount. (n : ℕ) → get nat_cmp mount.clients.attached n ≡ None) }
+        ensures first { IfOk result (λ mount. mount.clients.next ≡ 0) }
+        ensures begins { IfOk result (λ mount. (t : Tree) → AreLayers (layers_of layers) → IsMerge (layer_of layers.upper) (lowers_of layers) t → IsStateOf mount (machine.opening t (record { redirects = redirects; read_only = false }))) }
+    {
+        Ok(Mount {
+            layers,
+            clients: Clients::new(alloc, keys)?,
+            redirects,
+            alloc,
+        })
+    }
+
+    /// Where the mount's memory comes from.
+    pub fn alloc(&self) -> Global
+        ensures { result ≡ self.now.alloc }
+    {
+        self.alloc
+    }
+
+    /// The layers as they are now.
+    pub fn layers(&self) -> &Layers
+        ensures { result.now ≡ self.now.layers }
+    {
+        &self.layers
+    }
+
+    /// Attaches a client and gives its number. Where 64 are attached it is ENFILE.
+    pub fn attach(&mut self) -> Result<Result<u64, Errno>, AllocError>
+        requires { self.old.clients.next + 1 < 2 ^ 64 }
+        ensures attached { IfOk result (λ attaching. IfOk attaching (λ n. (s : State) → IsStateOf self.old s → (tags : List ℕ) → (n ≡ s.arrived) × IsStateOf self.new (joined s tags))) }
+        ensures refusal { IfOk result (λ attaching. IfErr attaching (λ errno. errno ≡ Errno.ENFILE)) }
+        ensures full { IfOk result (λ attaching. OnErr attaching (HasNoRoom self.old.clients)) }
+        ensures room { IfOk result (λ attaching. OnOk attaching (btree_map_len self.old.clients.attached < 64)) }
+        ensures refused { IfOk result (λ attaching. OnErr attaching (self.new ≡ self.old)) }
+        ensures err { OnErr result ((s : State) → IsStateOf self.old s → IsStateOf self.new s) }
+        ensures clients { IfOk result (λ attaching. IfOk attaching (Attaches self.old.clients self.new.clients)) }
+        ensures no_memory { OnErr result (IsSame self.old.clients self.new.clients) }
+        ensures only { self.new ≡ record self.old { clients = self.new.clients } }
+    {
+        self.clients.attach(self.alloc)
+    }
+
+    /// Takes back the attach of the client that came last and has nothing open.
+    pub fn take_back(&mut self, client: u64)
+        requires last { self.old.clients.next ≡ client + 1 }
+        requires none { (d : ℕ) → opened_by self.old.clients client d ≡ None }
+        ensures clients { TakesBack self.old.clients self.new.clients client }
+        ensures only { self.new ≡ record self.old { clients = self.new.clients } }
+    {
+        self.clients.take_back(client);
+    }
+
+    /// Whether a client of this number is attached.
+    pub fn is_attached(&self, client: u64) -> bool
+        ensures there { result ≡ attaching.is_attached self.now.clients client }
+        ensures state { (s : State) → IsStateOf self.now s → result ≡ runs.is_attached s client }
+    {
+        self.clients.get(client).is_some()
+    }
+
+    /// How many clients are attached.
+    pub fn clients_attached(&self) -> u64
+        ensures { result ≡ btree_map_len self.now.clients.attached }
+    {
+        self.clients.len() as u64
+    }
+
+    /// Lets a client go that has nothing open.
+    pub fn depart(&mut self, client: u64)
+        requires { (d : ℕ) → opened_by self.old.clients client d ≡ None }
+        ensures gone { (s : State) → IsStateOf self.old s → IsStateOf self.new (without_table s client) }
+        ensures clients { Detaches self.old.clients self.new.clients client }
+        ensures only { self.new ≡ record self.old { clients = self.new.clients } }
+    {
+        self.clients.detach(client);
+    }
+
+    /// What a client has open under a descriptor.
+    pub fn opened(&self, client: u64, descriptor: u32) -> Option<&Handle>
+        ensures { option_copied result ≡ opened_by self.now.clients client descriptor }
+    {
+        self.clients.opened(client, descriptor)
+    }
+
+    /// Makes a call of a client that is attached. Offered are all calls but those on watches, which are EOPNOTSUPP and change nothing. Want
+    /// of memory leaves all that is shown as it was.
+    pub fn perform(&mut self, client: u64, call: &Call) -> Result<Reply, AllocError>
+        requires there { IsSome (get nat_cmp self.old.clients.attached client) }
+        requires state { ∥ HasStateOf self.old ∥₁ }
+        ensures serves { IfOk result (λ reply. is_offered call.now ≡ true → (s : State) → IsStateOf self.old s → Serves (refusal s client call.now) s client call.now reply self.new) }
+        ensures unoffered { IfOk result (λ reply. is_offered call.now ≡ false → (reply ≡ Reply.Refused Errno.EOPNOTSUPP) × (self.new ≡ self.old)) }
+        ensures err { OnErr result (StaysState self.old self.new) }
+        ensures memory { takes_no_memory call.now ≡ true → IsOk result }
+        ensures clients { KeepsAttached self.old.clients self.new.clients }
+        ensures layers { KeepsLayers call.now self.old.layers self.new.layers }
+        ensures refused { IfOk result (λ reply. (errno : Errno) → reply ≡ Reply.Refused errno → self.new.layers ≡ self.old.layers) }
+        ensures lowers { self.new.layers.lowers ≡ self.old.layers.lowers }
+        ensures thin { StaysThin self.old.layers self.new.layers }
+        ensures named { IfOk result (λ reply. is_offered call.now ≡ true → (s : State) → IsStateOf self.old s → refusal s client call.now ≡ None → KeepsNamed s client self.old.layers self.new.layers call.now) }
+        ensures stays_live { OnErr result (StaysLive self.old.layers self.new.layers) }
+    {
+        match call {
+            Call::Stat { path } => Ok(self.stat(path)),
+            Call::Readlink { path } => self.readlink(path),
+            Call::Chmod { path, mode } => self.chmod(path, *mode),
+            Call::Chown { path, uid, gid } => self.chown(path, *uid, *gid),
+            Call::SetAttribute { path, name, value } => self.set_attribute(path, name, value),
+            Call::GetAttribute { path, name } => self.get_attribute(path, name),
+            Call::DeleteAttribute { path, name } => self.delete_attribute(path, name),
+            Call::ListAttributes { path } => self.list_attributes(path),
+            Call::Mkdir { path, mode } => self.mkdir(path, *mode),
+            Call::Symlink { target, path } => self.symlink(target, path),
+            Call::Unlink { path } => self.unlink(path),
+            Call::Rmdir { path } => self.rmdir(path),
+            Call::Hardlink { old, new } => self.link(old, new),
+            Call::Rename { old, new } => self.rename(old, new),
+            Call::Open { path, flags, mode } => self.open(client, path, *flags, *mode),
+            Call::Read { descriptor, count } => self.read(client, *descriptor, *count),
+            Call::Write { descriptor, bytes } => self.write(client, *descriptor, bytes),
+            Call::Truncate { descriptor, size } => self.truncate(client, *descriptor, *size),
+            Call::Fstat { descriptor } => self.fstat(client, *descriptor),
+            Call::Seek {
+                descriptor,
+                offset,
+                whence,
+            } => Ok(self.seek(client, *descriptor, *offset, *whence)),
+            Call::ListNames { descriptor, count } => self.list(client, *descriptor, *count),
+            Call::Close { descriptor } => Ok(self.close(client, *descriptor)),
+            _ => Ok(Reply::Refused(Errno::EOPNOTSUPP)),
+        }
+    }
+
+    fn stat(&self, path: &Path) -> Reply
+        ensures { (s : State) → IsStateOf self.now s → (c : ℕ) → Serves (refusal s c (Call.Stat path.now)) s c (Call.Stat path.now) result self.now }
+    {
+        match status_at(&self.layers, path) {
+            Ok(status) => Reply::Status(status),
+            Err(errno) => Reply::Refused(errno),
+        }
+    }
+
+    fn readlink(&self, path: &Path) -> Result<Reply, AllocError>
+        ensures { IfOk result (λ reply. (s : State) → IsStateOf self.now s → (c : ℕ) → Serves (refusal s c (Call.Readlink path.now)) s c (Call.Readlink path.now) reply self.now) }
+    {
+        match self.layers.walk_topmost(path) {
+            Ok(Topmost::Inode(place)) => read_link(self.layers.node(place)),
+            Ok(Topmost::Directory(_)) => Ok(Reply::Refused(Errno::EINVAL)),
+            Err(errno) => Ok(Reply::Refused(errno)),
+        }
+    }
+
+    fn mkdir(&mut self, path: &Path, mode: u32) -> Result<Reply, AllocError>
+        ensures serves { IfOk result (λ reply. (s : State) → IsStateOf self.old s → (c : ℕ) → Serves (refusal s c (Call.Mkdir path.now mode)) s c (Call.Mkdir path.now mode) reply self.new) }
+        ensures err { OnErr result (StaysState self.old self.new) }
+        ensures clients { self.new.clients ≡ self.old.clients }
+        ensures refused { IfOk result (λ reply. (errno : Errno) → reply ≡ Reply.Refused errno → self.new.layers ≡ self.old.layers) }
+        ensures lowers { self.new.layers.lowers ≡ self.old.layers.lowers }
+        ensures thin { StaysThin self.old.layers self.new.layers }
+        ensures named { IfOk result (λ reply. (s : State) → IsStateOf self.old s → (c : ℕ) → refusal s c (Call.Mkdir path.now mode) ≡ None → KeepsNamed s c self.old.layers self.new.layers (Call.Mkdir path.now mode)) }
+        ensures stays_live { OnErr result (StaysLive self.old.layers self.new.layers) }
+    {
+        let mode = match Mode::parse(mode) {
+            Ok(mode) => mode,
+            Err(errno) => return Ok(Reply::Refused(errno)),
+        };
+        match mkdir(self.alloc, &mut self.layers, path, mode)? {
+            Ok(()) => Ok(Reply::Done),
+            Err(errno) => Ok(Reply::Refused(errno)),
+        }
+    }
+
+    fn symlink(&mut self, target: &Bytes, path: &Path) -> Result<Reply, AllocError>
+        ensures serves { IfOk result (λ reply. (s : State) → IsStateOf self.old s → (c : ℕ) → Serves (refusal s c (Call.Symlink target.now path.now)) s c (Call.Symlink target.now path.now) reply self.new) }
+        ensures err { OnErr result (StaysState self.old self.new) }
+        ensures clients { self.new.clients ≡ self.old.clients }
+        ensures refused { IfOk result (λ reply. (errno : Errno) → reply ≡ Reply.Refused errno → self.new.layers ≡ self.old.layers) }
+        ensures lowers { self.new.layers.lowers ≡ self.old.layers.lowers }
+        ensures thin { StaysThin self.old.layers self.new.layers }
+        ensures named { IfOk result (λ reply. (s : State) → IsStateOf self.old s → (c : ℕ) → refusal s c (Call.Symlink target.now path.now) ≡ None → KeepsNamed s c self.old.layers self.new.layers (Call.Symlink target.now path.now)) }
+        ensures stays_live { OnErr result (StaysLive self.old.layers self.new.layers) }
+    {
+        let target = match LinkTarget::parse(target.clone()?) {
+            Ok(target) => target,
+            Err(errno) => return Ok(Reply::Refused(errno)),
+        };
+        match symlink(self.alloc, &mut self.layers, target, path)? {
+            Ok(()) => Ok(Reply::Done),
+            Err(errno) => Ok(Reply::Refused(errno)),
+        }
+    }
+
+    fn link(&mut self, old: &Path, new: &Path) -> Result<Reply, AllocError>
+        ensures serves { IfOk result (λ reply. (s : State) → IsStateOf self.old s → (c : ℕ) → Serves (refusal s c (Call.Hardlink old.now new.now)) s c (Call.Hardlink old.now new.now) reply self.new) }
+        ensures err { OnErr result (StaysState self.old self.new) }
+        ensures clients { self.new.clients ≡ self.old.clients }
+        ensures refused { IfOk result (λ reply. (errno : Errno) → reply ≡ Reply.Refused errno → self.new.layers ≡ self.old.layers) }
+        ensures lowers { self.new.layers.lowers ≡ self.old.layers.lowers }
+        ensures thin { StaysThin self.old.layers self.new.layers }
+        ensures named { IfOk result (λ reply. (s : State) → IsStateOf self.old s → (c : ℕ) → refusal s c (Call.Hardlink old.now new.now) ≡ None → KeepsNamed s c self.old.layers self.new.layers (Call.Hardlink old.now new.now)) }
+        ensures stays_live { OnErr result (StaysLive self.old.layers self.new.layers) }
+    {
+        match link(&mut self.layers, old, new)? {
+            Ok(()) => Ok(Reply::Done),
+            Err(errno) => Ok(Reply::Refused(errno)),
+        }
+    }
+
+    fn unlink(&mut self, path: &Path) -> Result<Reply, AllocError>
+        ensures serves { IfOk result (λ reply. (s : State) → IsStateOf self.old s → (c : ℕ) → Serves (refusal s c (Call.Unlink path.now)) s c (Call.Unlink path.now) reply self.new) }
+        ensures err { OnErr result (StaysState self.old self.new) }
+        ensures clients { self.new.clients ≡ self.old.clients }
+        ensures refused { IfOk result (λ reply. (errno : Errno) → reply ≡ Reply.Refused errno → self.new.layers ≡ self.old.layers) }
+        ensures lowers { self.new.layers.lowers ≡ self.old.layers.lowers }
+        ensures thin { StaysThin self.old.layers self.new.layers }
+        ensures named { IfOk result (λ reply. (s : State) → IsStateOf self.old s → (c : ℕ) → refusal s c (Call.Unlink path.now) ≡ None → KeepsNamed s c self.old.layers self.new.layers (Call.Unlink path.now)) }
+        ensures stays_live { OnErr result (StaysLive self.old.layers self.new.layers) }
+    {
+        self.clients.lawful();
+        match unlink_and_free(&mut self.layers, &self.clients, path)? {
+            Ok(()) => Ok(Reply::Done),
+            Err(errno) => Ok(Reply::Refused(errno)),
+        }
+    }
+
+    fn rmdir(&mut self, path: &Path) -> Result<Reply, AllocError>
+        requires { ∥ HasStateOf self.old ∥₁ }
+        ensures serves { IfOk result (λ reply. (s : State) → IsStateOf self.old s → (c : ℕ) → Serves (refusal s c (Call.Rmdir path.now)) s c (Call.Rmdir path.now) reply self.new) }
+        ensures err { OnErr result (StaysState self.old self.new) }
+        ensures clients { KeepsAttached self.old.clients self.new.clients }
+        ensures refused { IfOk result (λ reply. (errno : Errno) → reply ≡ Reply.Refused errno → self.new.layers ≡ self.old.layers) }
+        ensures lowers { self.new.layers.lowers ≡ self.old.layers.lowers }
+        ensures thin { StaysThin self.old.layers self.new.layers }
+        ensures named { IfOk result (λ reply. (s : State) → IsStateOf self.old s → (c : ℕ) → refusal s c (Call.Rmdir path.now) ≡ None → KeepsNamed s c self.old.layers self.new.layers (Call.Rmdir path.now)) }
+        ensures stays_live { OnErr result (StaysLive self.old.layers self.new.layers) }
+    {
+        self.clients.lawful();
+        let attributes = self.attributes_left(path)?;
+        match rmdir_and_free(&mut self.layers, &self.clients, path)? {
+            Ok(()) => {
+                if let Some(attributes) = attributes {
+                    self.clients.remove(path, attributes);
+                }
+                Ok(Reply::Done)
+            }
+            Err(errno) => Ok(Reply::Refused(errno)),
+        }
+    }
+
+    // A copy of the attributes of the directory at a path, where it is open, for the handles that hold it once it is removed.
+    pub(crate) fn attributes_left(&self, path: &Path) -> Result<Option<Attributes>, AllocError>
+        ensures left { IfOk result (λ left. IfSome left (HasAttributes (layers_of self.now.layers) path.now)) }
+        ensures none { IfOk result (λ left. IfNone left (rmdir_fault (layers_of self.now.layers) path.now false ≡ None → IsOpenNowhere self.now.clients path.now)) }
+    {
+        if !self.clients.is_open_at(path) {
+            return Ok(None);
+        }
+        match self.layers.walk_topmost(path) {
+            Ok(Topmost::Directory(place)) => { Ok(Some(self.layers.attributes_at(place).clone()?)) }
+            _ => Ok(None),
+        }
+    }
+
+    fn list(&mut self, client: u64, descriptor: u32, count: u32) -> Result<Reply, AllocError>
+        ensures serves { IfOk result (λ reply. (s : State) → IsStateOf self.old s → Serves (refusal s client (Call.ListNames descriptor count)) s client (Call.ListNames descriptor count) reply self.new) }
+        ensures err { OnErr result (StaysState self.old self.new) }
+        ensures clients { KeepsAttached self.old.clients self.new.clients }
+        ensures layers { self.new.layers ≡ self.old.layers }
+    {
+        if let Some(errno) = self.list_refusal(client, descriptor, count) {
+            return Ok(Reply::Refused(errno));
+        }
+        let names = self.page(client, descriptor, count as usize)?;
+        Ok(Reply::Names(names))
+    }
+
+    // Why a list is refused: nothing is open, or a file, or it asks for no names or too many.
+    fn list_refusal(&self, client: u64, descriptor: u32, count: u32) -> Option<Errno>
+        ensures { result ≡ list_fault (opened_by self.now.clients client descriptor) count }
+    {
+        match self.clients.opened(client, descriptor) {
+            None => Some(Errno::EBADF),
+            Some(Handle::File(_)) => Some(Errno::ENOTDIR),
+            Some(Handle::Directory(_)) => {
+                if count == 0 || count > LIST_MAX {
+                    return Some(Errno::EINVAL);
+                }
+                None
+            }
+        }
+    }
+
+    // Gives the next names of the listing of an open directory, at most so many. The first call makes the listing.
+    fn page(&mut self, client: u64, descriptor: u32, count: usize) -> Result<NameList, AllocError>
+        requires { IsSome (directory_by self.old.clients client descriptor) }
+        ensures pages { IfOk result (λ names. Pages self.old self.new client descriptor count names) }
+        ensures err { OnErr result (StaysState self.old self.new) }
+        ensures clients { KeepsAttached self.old.clients self.new.clients }
+        ensures layers { self.new.layers ≡ self.old.layers }
+    {
+        let directory = self.clients.directory(client, descriptor).unwrap();
+        if directory.listing.is_listed() {
+            return self
+                .clients
+                .next_names(self.alloc, client, descriptor, count);
+        }
+        let path = self.clients.path(self.alloc, client, descriptor)?;
+        let mut listing = listing_of(self.alloc, &self.layers, path)?;
+        let names = listing.next(self.alloc, count)?;
+        self.clients.keep_listing(client, descriptor, listing);
+        Ok(names)
+    }
+
+    /// Closes a descriptor, and frees a file of the upper that has neither a name nor a handle then. A free one is EBADF.
+    pub fn close(&mut self, client: u64, descriptor: u32) -> Reply
+        requires { IsSome (get nat_cmp self.old.clients.attached client) }
+        ensures serves { (s : State) → IsStateOf self.old s → Serves (refusal s client (Call.Close descriptor)) s client (Call.Close descriptor) result self.new }
+        ensures clients { KeepsAttached self.old.clients self.new.clients }
+        ensures others { KeepsOthers self.old.clients self.new.clients client }
+        ensures paths { KeepsPaths self.old.layers self.new.layers }
+        ensures refused { (errno : Errno) → result ≡ Reply.Refused errno → self.new.layers ≡ self.old.layers }
+        ensures thin { StaysThin self.old.layers self.new.layers }
+        ensures named { (s : State) → IsStateOf self.old s → refusal s client (Call.Close descriptor) ≡ None → KeepsNamed s client self.old.layers self.new.layers (Call.Close descriptor) }
+    {
+        let closed = upper_key(self.clients.file(client, descriptor));
+        self.clients.lawful();
+        match self.clients.close(client, descriptor) {
+            Ok(()) => {
+                self.clients.lawful();
+                free_closed(&mut self.layers, &self.clients, closed);
+                Reply::Done
+            }
+            Err(errno) => Reply::Refused(errno),
+        }
+    }
+}
+
+// The key of an open file that is the upper's.
+fn upper_key(file: Option<OpenFile>) -> Option<usize>
+    ensures { result ≡ upper_of file }
+{
+    match file?.source {
+        FileSource::Upper(key) => Some(key),
+        FileSource::Lower { layer: _, key: _ } => None,
+    }
+}
+
+// The reply to readlink of a file or symbolic link: a file is EINVAL.
+fn read_link(node: Option<&Node>) -> Result<Reply, AllocError>
+    ensures { IfOk result (λ reply. reply ≡ target_reply (inode_target (option_and_then inode_of (option_copied node.entry)))) }
+{
+    match node {
+        Some(
+            Node::Inode(
+                Inode {
+                    content: Content::SymbolicLink(target),
+                    ..
+                },
+            ),
+        ) => Ok(Reply::Target(target.as_bytes().clone()?)),
+        _ => Ok(Reply::Refused(Errno::EINVAL)),
+    }
+}
+
+// A listing of the names in the directory at a path now; one that was removed has no path, and no names.
+fn listing_of(alloc: Global, layers: &Layers, path: Option<Path>) -> Result<Cursor, AllocError>
+    ensures { IfOk result (λ listing. IsSomeAnd listing (AreNamesIn (layers_of layers.now) path)) }
+{
+    let Some(path) = path else {
+        return Ok(Cursor::over(Vec::new(alloc)));
+    };
+    match layers.walk(&path) {
+        Ok(Found::Directory(stack)) => Ok(Cursor::over(names(alloc, layers, &stack)?)),
+        _ => Ok(Cursor::over(Vec::new(alloc))),
+    }
+}

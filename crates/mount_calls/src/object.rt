@@ -1,0 +1,61 @@
+// What stands at a path, as far as watches need it.
+ghost use Rattle.std.specs.Prelude.{◌≡◌, ℕ, Bool, List, ◌∷◌, Some};
+ghost use Rattle.plain_model.specs.Layers as held;
+ghost use Rattle.plain_model.specs.Layers.{Layer, Path as Names, shows};
+ghost use Rattle.layer_tree.specs.Tree.{inode_of, layer_of};
+ghost use Rattle.merged_lookup.specs.Merged.{lowers_of, ShowsInode};
+ghost use Rattle.notice_laws.specs.Objects.{IsObject};
+
+use crate::mount::Mount;
+use layer_tree::{Inode, Node};
+use merged_lookup::{Layers, Place, Topmost};
+use notice_laws::Object;
+use ov_base::{Content, Path};
+
+impl Mount {
+    /// What stands at a path; where a walk to it is refused, nothing that is tracked.
+    pub fn object_at(&self, path: &Path) -> Object
+        ensures { IsObject (layer_of self.now.layers.upper) (lowers_of self.now.layers) path.now result }
+    {
+        match self.layers.walk_topmost(path) {
+            Ok(Topmost::Directory(_)) => Object::Directory,
+            Ok(Topmost::Inode(place)) => object_in(&self.layers, place),
+            Err(_) => Object::Other,
+        }
+    }
+
+    /// The key of the file of the upper that stands at a path, and 0 where none does.
+    pub fn key_at(&self, path: &Path) -> usize
+        ensures { (key : ℕ) (last : Bool) → IsObject (layer_of self.now.layers.upper) (lowers_of self.now.layers) path.now (Object.Upper key last) → result ≡ key }
+    {
+        match self.object_at(path) {
+            Object::Upper { key, last: _ } => key,
+            _ => 0,
+        }
+    }
+}
+
+// The file or link that is shown at a place.
+fn object_in(layers: &Layers, place: Place) -> Object
+    requires { (p : Names) × ShowsInode layers.now p place }
+    ensures { (p : Names) → ShowsInode layers.now p place → IsObject (layer_of layers.now.upper) (lowers_of layers.now) p result }
+{
+    let inode = layers.inode_at(place);
+    if place.layer > 0 {
+        return Object::Lower;
+    }
+    upper_object(place.key, inode)
+}
+
+// An inode of the upper under a key: a link isn't tracked.
+fn upper_object(key: usize, inode: &Inode) -> Object
+    ensures { (U : Layer) (lowers : List Layer) (p : Names) → shows 0 (U ∷ lowers) p ≡ Some (held.Contents 0 key (inode_of (Node.Inode inode.now))) → IsObject U lowers p result }
+{
+    match inode.content {
+        Content::File(_) => Object::Upper {
+            key,
+            last: inode.links == 1,
+        },
+        Content::SymbolicLink(_) => Object::Other,
+    }
+}

@@ -1,0 +1,292 @@
+// `open`, by the plain machine (POSIX.1-2017, open(), as Linux's namei.c asks for its errors).
+ghost use Rattle.std.specs.Prelude.{◌≡◌, ◌<◌, true, false, ℕ, None, Some, IfOk, IfErr, OnOk, OnErr, IsSome};
+ghost use Rattle.std.specs.BTreeMap.{get};
+ghost use Rattle.std.specs.Ordering.{nat_cmp};
+ghost use Rattle.ov_base.specs.declared.errno.Errno.TheVariants.{EINVAL};
+ghost use Rattle.plain_model.specs.Layers.{Path as Names, Inode as HeldInode, Contents, shows};
+ghost use Rattle.plain_model.specs.Machine.{State};
+ghost use Rattle.plain_model.specs.Refusals as refusals;
+ghost use Rattle.plain_model.specs.Refusals.{refusal, when};
+ghost use Rattle.merged_lookup.specs.declared.found.Topmost.TheVariants as topmost;
+ghost use Rattle.merged_lookup.specs.declared.stack.Place.{Place as ShownPlace};
+ghost use Rattle.merged_lookup.specs.Merged.{layers_of, parent, parents_fault, IsStackOf, IsTopmost, ShowsInode};
+ghost use Rattle.mount_laws.specs.Looks.{or_else};
+ghost use Rattle.mount_laws.specs.Opening.{opening_fault, shown_fault};
+ghost use Rattle.copy_up.specs.Leaves.{CopiesLeaf};
+ghost use Rattle.copy_up.specs.Showing.{GainsParents, StaysLayers, StaysMount, StaysThin};
+ghost use Rattle.mount_calls.specs.Attaching.{KeepsAttached};
+ghost use Rattle.mount_calls.specs.Keeping.{KeepsLayers};
+ghost use Rattle.mount_calls.specs.Living.{KeepsNamed, StaysLive};
+ghost use Rattle.mount_calls.specs.Opening as opening;
+ghost use Rattle.mount_calls.specs.States.{HasStateOf, IsStateOf, Serves, StaysState};
+
+use crate::file_bytes::resize_file;
+use crate::files::file_at;
+use crate::mount::Mount;
+use copy_up::all_at_once;
+use layer_tree::{Inode, Node};
+use make_remove::create;
+use merged_lookup::{Layers, Place, Stack, Topmost};
+use ov_base::{Call, Content, Errno, Mode, OpenFlags, Path, Reply};
+use std::alloc::AllocError;
+
+impl Mount {
+    /// Opens what a path shows, or a file that is made where it shows nothing, under the lowest free descriptor of a client; a symbolic
+    /// link isn't followed. A file of a lower layer that is opened for writing is copied up first (overlayfs.rst, "Non-directories").
+    pub(crate) fn open(
+        &mut self,
+        client: u64,
+        path: &Path,
+        flags: OpenFlags,
+        mode: u32,
+    ) -> Result<Reply, AllocError>
+        requires attached { IsSome (get nat_cmp self.old.clients.attached client) }
+        requires state { ∥ HasStateOf self.old ∥₁ }
+        ensures serves { IfOk result (λ reply. (s : State) → IsStateOf self.old s → Serves (refusal s client (Call.Open path.now flags mode)) s client (Call.Open path.now flags mode) reply self.new) }
+        ensures err { OnErr result (StaysState self.old self.new) }
+        ensures clients { KeepsAttached self.old.clients self.new.clients }
+        ensures layers { KeepsLayers (Call.Open path.now flags mode) self.old.layers self.new.layers }
+        ensures refused { IfOk result (λ reply. (errno : Errno) → reply ≡ Reply.Refused errno → self.new.layers ≡ self.old.layers) }
+        ensures lowers { self.new.layers.lowers ≡ self.old.layers.lowers }
+        ensures thin { StaysThin self.old.layers self.new.layers }
+        ensures named { IfOk result (λ reply. (s : State) → IsStateOf self.old s → refusal s client (Call.Open path.now flags mode) ≡ None → KeepsNamed s client self.old.layers self.new.layers (Call.Open path.now flags mode)) }
+        ensures stays_live { OnErr result (StaysLive self.old.layers self.new.layers) }
+    {
+        let mode = match accepted(flags, mode) {
+            Ok(mode) => mode,
+            Err(errno) => return Ok(Reply::Refused(errno)),
+        };
+        let (directory, top) = match shown_at(&self.layers, path) {
+            Ok(shown) => shown,
+            Err(errno) => return Ok(Reply::Refused(errno)),
+        };
+        if let Some(errno) = shown_refusal(&self.layers, top, flags) {
+            return Ok(Reply::Refused(errno));
+        }
+        match top {
+            None => self.open_made(client, path, flags, mode, directory),
+            Some(Topmost::Inode(place)) if flags.writes && place.layer > 0 => {
+                self.open_copied(client, path, flags, mode, directory, place)
+            }
+            Some(top) => self.open_shown(client, path, flags, mode, top),
+        }
+    }
+
+    // Opens what is shown, where nothing is copied up; a file is emptied where that is asked for.
+    fn open_shown(
+        &mut self,
+        client: u64,
+        path: &Path,
+        flags: OpenFlags,
+        mode: Mode,
+        top: Topmost,
+    ) -> Result<Reply, AllocError>
+        requires attached { IsSome (get nat_cmp self.old.clients.attached client) }
+        requires allowed { opening_fault (layers_of self.old.layers) path.now flags mode (Some 0) ≡ None }
+        requires shown { IsTopmost self.old.layers path.now (Some top) }
+        requires own { flags.writes ≡ true → (d : ShownPlace) → top ≡ topmost.Inode d → d.layer ≡ 0 }
+        ensures serves { IfOk result (λ reply. (s : State) → IsStateOf self.old s → Serves (refusal s client (Call.Open path.now flags mode)) s client (Call.Open path.now flags mode) reply self.new) }
+        ensures err { OnErr result (StaysState self.old self.new) }
+        ensures clients { KeepsAttached self.old.clients self.new.clients }
+        ensures layers { flags.truncate ≡ false → self.new.layers ≡ self.old.layers }
+        ensures refused { IfOk result (λ reply. (errno : Errno) → reply ≡ Reply.Refused errno → self.new.layers ≡ self.old.layers) }
+        ensures lowers { self.new.layers.lowers ≡ self.old.layers.lowers }
+        ensures thin { StaysThin self.old.layers self.new.layers }
+        ensures named { IfOk result (λ reply. (s : State) → IsStateOf self.old s → refusal s client (Call.Open path.now flags mode) ≡ None → KeepsNamed s client self.old.layers self.new.layers (Call.Open path.now flags mode)) }
+        ensures stays_live { OnErr result (StaysLive self.old.layers self.new.layers) }
+    {
+        let Topmost::Inode(place) = top else {
+            return match self.clients.open(client, path)? {
+                Ok(descriptor) => Ok(Reply::Descriptor(descriptor)),
+                Err(errno) => Ok(Reply::Refused(errno)),
+            };
+        };
+        let file = file_at(place, flags);
+        match self.clients.open_file(client, file)? {
+            Ok(descriptor) => {
+                if flags.truncate {
+                    resize_file(&mut self.layers, file.source, 0)?;
+                }
+                Ok(Reply::Descriptor(descriptor))
+            }
+            Err(errno) => Ok(Reply::Refused(errno)),
+        }
+    }
+
+    // Opens a file of a lower layer for writing, for which it is copied up.
+    fn open_copied(
+        &mut self,
+        client: u64,
+        path: &Path,
+        flags: OpenFlags,
+        mode: Mode,
+        directory: Stack,
+        place: Place,
+    ) -> Result<Reply, AllocError>
+        requires attached { IsSome (get nat_cmp self.old.clients.attached client) }
+        requires state { ∥ HasStateOf self.old ∥₁ }
+        requires allowed { opening_fault (layers_of self.old.layers) path.now flags mode (Some 0) ≡ None }
+        requires directory { IsStackOf self.old.layers (parent path.now) directory }
+        requires shown { IsTopmost self.old.layers path.now (Some (topmost.Inode place)) }
+        requires writes { flags.writes ≡ true }
+        requires lower { 0 < place.layer }
+        ensures serves { IfOk result (λ reply. (s : State) → IsStateOf self.old s → Serves (refusal s client (Call.Open path.now flags mode)) s client (Call.Open path.now flags mode) reply self.new) }
+        ensures err { OnErr result (StaysState self.old self.new) }
+        ensures clients { KeepsAttached self.old.clients self.new.clients }
+        ensures refused { IfOk result (λ reply. (errno : Errno) → reply ≡ Reply.Refused errno → self.new.layers ≡ self.old.layers) }
+        ensures lowers { self.new.layers.lowers ≡ self.old.layers.lowers }
+        ensures thin { StaysThin self.old.layers self.new.layers }
+        ensures named { IfOk result (λ reply. (s : State) → IsStateOf self.old s → refusal s client (Call.Open path.now flags mode) ≡ None → KeepsNamed s client self.old.layers self.new.layers (Call.Open path.now flags mode)) }
+        ensures stays_live { OnErr result (StaysLive self.old.layers self.new.layers) }
+    {
+        if let Err(errno) = self.clients.reserve_file(client)? {
+            return Ok(Reply::Refused(errno));
+        }
+        self.clients.lawful();
+        let key = bring_up(&mut self.layers, path, directory, place)?;
+        let file = file_at(Place { layer: 0, key }, flags);
+        if flags.truncate {
+            resize_file(&mut self.layers, file.source, 0)?;
+        }
+        Ok(Reply::Descriptor(self.clients.open_reserved(client, file)))
+    }
+
+    // Opens a file that is made.
+    fn open_made(
+        &mut self,
+        client: u64,
+        path: &Path,
+        flags: OpenFlags,
+        mode: Mode,
+        directory: Stack,
+    ) -> Result<Reply, AllocError>
+        requires attached { IsSome (get nat_cmp self.old.clients.attached client) }
+        requires state { ∥ HasStateOf self.old ∥₁ }
+        requires allowed { opening_fault (layers_of self.old.layers) path.now flags mode (Some 0) ≡ None }
+        requires directory { IsStackOf self.old.layers (parent path.now) directory }
+        requires absent { shows 0 (layers_of self.old.layers) path.now ≡ None }
+        ensures serves { IfOk result (λ reply. (s : State) → IsStateOf self.old s → Serves (refusal s client (Call.Open path.now flags mode)) s client (Call.Open path.now flags mode) reply self.new) }
+        ensures err { OnErr result (StaysState self.old self.new) }
+        ensures clients { KeepsAttached self.old.clients self.new.clients }
+        ensures refused { IfOk result (λ reply. (errno : Errno) → reply ≡ Reply.Refused errno → self.new.layers ≡ self.old.layers) }
+        ensures lowers { self.new.layers.lowers ≡ self.old.layers.lowers }
+        ensures thin { StaysThin self.old.layers self.new.layers }
+        ensures named { IfOk result (λ reply. (s : State) → IsStateOf self.old s → refusal s client (Call.Open path.now flags mode) ≡ None → KeepsNamed s client self.old.layers self.new.layers (Call.Open path.now flags mode)) }
+        ensures stays_live { OnErr result (StaysLive self.old.layers self.new.layers) }
+    {
+        if let Err(errno) = self.clients.reserve_file(client)? {
+            return Ok(Reply::Refused(errno));
+        }
+        self.clients.lawful();
+        let key = create(self.alloc, &mut self.layers, directory, path, mode)?;
+        let file = file_at(Place { layer: 0, key }, flags);
+        Ok(Reply::Descriptor(self.clients.open_reserved(client, file)))
+    }
+}
+
+// The mode that an open asks for, where its flags go together: a mode of more than twelve bits is EINVAL too.
+fn accepted(flags: OpenFlags, mode: u32) -> Result<Mode, Errno>
+    ensures told { IfErr result (λ e. or_else (when (refusals.bad_flags flags) EINVAL) (refusals.bad_mode mode) ≡ Some e) }
+    ensures same { IfOk result (λ m. (m ≡ mode) × (refusals.bad_flags flags ≡ false) × (refusals.bad_mode mode ≡ None)) }
+{
+    if bad_flags(flags) {
+        return Err(Errno::EINVAL);
+    }
+    Mode::parse(mode)
+}
+
+// Whether flags don't go together: neither reading nor writing, an unknown one, O_EXCL without O_CREAT, O_TRUNC without writing, and
+// O_DIRECTORY with O_CREAT.
+fn bad_flags(flags: OpenFlags) -> bool
+    ensures { result ≡ refusals.bad_flags flags }
+{
+    let no_access = !flags.reads && !flags.writes;
+    let alone = flags.exclusive && !flags.create || flags.truncate && !flags.writes;
+    no_access || flags.unknown || alone || flags.directory && flags.create
+}
+
+// The merged directory in which a path's last name stands, and the topmost object that the path shows, if it shows any.
+fn shown_at(layers: &Layers, path: &Path) -> Result<(Stack, Option<Topmost>), Errno>
+    ensures refused { IfErr result (λ e. parents_fault (layers_of layers.now) path.now ≡ Some e) }
+    ensures way { OnOk result (parents_fault (layers_of layers.now) path.now ≡ None) }
+    ensures directory { IfOk result (λ shown. IsStackOf layers.now (parent path.now) shown.0) }
+    ensures top { IfOk result (λ shown. IsTopmost layers.now path.now shown.1) }
+{
+    match layers.parent_of(path)? {
+        None => {
+            let root = layers.root();
+            let top = root.top();
+            Ok((root, Some(Topmost::Directory(top))))
+        }
+        Some(parent) => {
+            let top = layers.topmost(&parent.stack, parent.name);
+            Ok((parent.stack, top))
+        }
+    }
+}
+
+// Why what is shown isn't opened, or nothing isn't made: as open(2) asks, in its order.
+fn shown_refusal(layers: &Layers, top: Option<Topmost>, flags: OpenFlags) -> Option<Errno>
+    requires { (p : Names) × IsTopmost layers.now p top }
+    ensures { (p : Names) → IsTopmost layers.now p top → result ≡ shown_fault flags (shows 0 (layers_of layers.now) p) }
+{
+    let Some(top) = top else {
+        return if flags.create {
+            None
+        } else {
+            Some(Errno::ENOENT)
+        };
+    };
+    if flags.create && flags.exclusive {
+        return Some(Errno::EEXIST);
+    }
+    match top {
+        Topmost::Directory(_) if flags.writes || flags.create => Some(Errno::EISDIR),
+        Topmost::Directory(_) => None,
+        Topmost::Inode(place) => inode_refusal(layers, place, flags),
+    }
+}
+
+// Why a file or symbolic link that is shown isn't opened: a symbolic link is ELOOP, and a file ENOTDIR where a directory is asked for.
+fn inode_refusal(layers: &Layers, place: Place, flags: OpenFlags) -> Option<Errno>
+    requires { (p : Names) × ShowsInode layers.now p place }
+    ensures { (p : Names) → ShowsInode layers.now p place → result ≡ opening.inode_refusal flags (shows 0 (layers_of layers.now) p) }
+{
+    match layers.node(place) {
+        Some(
+            Node::Inode(
+                Inode {
+                    content: Content::SymbolicLink(_),
+                    ..
+                },
+            ),
+        ) => Some(Errno::ELOOP),
+        _ if flags.directory => Some(Errno::ENOTDIR),
+        _ => None,
+    }
+}
+
+// Copies a file that a lower layer shows at a path into the upper, with its attributes, and gives its key.
+fn bring_up(
+    layers: &mut Layers,
+    path: &Path,
+    directory: Stack,
+    place: Place,
+) -> Result<usize, AllocError>
+    requires way { parents_fault (layers_of layers.old) path.now ≡ None }
+    requires directory { IsStackOf layers.old (parent path.now) directory }
+    requires shown { ShowsInode layers.old path.now place }
+    requires lower { 0 < place.layer }
+    ensures copied { IfOk result (λ key. (i : HeldInode) → shows 0 (layers_of layers.old) path.now ≡ Some (Contents place.layer place.key (Some i)) → (leaf : CopiesLeaf layers.old layers.new path.now i.content i.attributes) × (leaf.number ≡ key)) }
+    ensures mounts { OnErr result (StaysMount layers.old layers.new) }
+    ensures parents { OnErr result (GainsParents layers.old layers.new path.now) }
+    ensures lowers { layers.new.lowers ≡ layers.old.lowers }
+    ensures keeps { StaysLayers layers.old layers.new }
+    ensures thin { StaysThin layers.old layers.new }
+{
+    let Some((name, parents)) = path.split_last() else {
+        unreachable!()
+    };
+    let attributes = layers.inode_at(place).attributes.clone()?;
+    all_at_once(layers, directory, parents, name, place, attributes)
+}

@@ -1,0 +1,157 @@
+// `unlink`, `rmdir` and `rename`, where what loses its last name is freed at once, unless a handle holds it, and what closing frees.
+ghost use Rattle.std.specs.Prelude.{◌≡◌, ◌<◌, ℕ, Bool, true, false, Some, None, IfOk, IfErr, OnOk, OnErr};
+ghost use Rattle.ov_base.specs.declared.call.Call.TheVariants as call;
+ghost use Rattle.plain_model.specs.Machine.{State};
+ghost use Rattle.plain_model.specs.Refusals.{refusal};
+ghost use Rattle.mount_laws.specs.Looks.{IsMountOf};
+ghost use Rattle.mount_laws.specs.Removals.{unlink_fault, rmdir_fault, ShowsNoName, Removes};
+ghost use Rattle.dir_listing.specs.Shown.{TellsNames};
+ghost use Rattle.layer_tree.specs.Tree.{layer_of, SameObjects};
+ghost use Rattle.layer_tree.specs.Nameless.{IsNameless};
+ghost use Rattle.merged_lookup.specs.Merged.{layers_of, lowers_of};
+ghost use Rattle.copy_up.specs.Showing.{ShowsSame, StaysLayers, StaysMount, StaysThin};
+ghost use Rattle.make_remove.specs.Removing.{TakesName};
+ghost use Rattle.plain_model.specs.Layers.{AreLayers, Inode as HeldInode};
+ghost use Rattle.mount_calls.specs.Living.{FreesClosed, KeepsHeld, StaysHeld, StaysLive};
+ghost use Rattle.mount_calls.specs.Renaming.{MovesOrStays, RefusesRenames};
+ghost use Rattle.mount_laws.specs.Renaming.{rename_fault};
+
+use crate::clients::Clients;
+use layer_tree::Node;
+use make_remove::{free, rmdir, unlink};
+use merged_lookup::{Layers, Place};
+use ov_base::{Errno, Path};
+use rename_redirect::{Renamed, rename};
+use std::alloc::{AllocError, Global};
+
+/// `unlink`, which frees the inode whose last name this was, unless a handle holds it.
+pub(crate) fn unlink_and_free(
+    layers: &mut Layers,
+    clients: &Clients,
+    path: &Path,
+) -> Result<Result<(), Errno>, AllocError>
+    ensures refused { IfOk result (λ r. IfErr r (λ e. unlink_fault (layers_of layers.old) path.now ≡ Some e)) }
+    ensures unchanged { IfOk result (λ r. OnErr r (layers.new ≡ layers.old)) }
+    ensures allowed { IfOk result (λ r. OnOk r (unlink_fault (layers_of layers.old) path.now ≡ None)) }
+    ensures takes { IfOk result (λ r. OnOk r (TakesName layers.old layers.new path.now)) }
+    ensures steps { IfOk result (λ r. OnOk r ((s : State) → IsMountOf (layer_of layers.old.upper) (lowers_of layers.old) s → (c : ℕ) → Removes (layer_of layers.new.upper) (lowers_of layers.new) s c path.now (call.Unlink path.now))) }
+    ensures keeps { StaysLayers layers.old layers.new }
+    ensures thin { StaysThin layers.old layers.new }
+    ensures no_memory { OnErr result (ShowsSame layers.old layers.new) }
+    ensures mounts { OnErr result (StaysMount layers.old layers.new) }
+    ensures live { IfOk result (λ r. OnOk r (KeepsHeld clients.now layers.old layers.new (call.Unlink path.now))) }
+    ensures stays { OnErr result (StaysLive layers.old layers.new) }
+{
+    match unlink(layers, path)? {
+        Ok(key) => {
+            free_released(layers, clients, key);
+            Ok(Ok(()))
+        }
+        Err(errno) => Ok(Err(errno)),
+    }
+}
+
+/// `rmdir`, which frees the upper's directory.
+pub(crate) fn rmdir_and_free(
+    layers: &mut Layers,
+    clients: &Clients,
+    path: &Path,
+) -> Result<Result<(), Errno>, AllocError>
+    ensures refused { IfOk result (λ r. IfErr r (λ e. (full : Bool) → TellsNames (layers_of layers.old) path.now full → rmdir_fault (layers_of layers.old) path.now full ≡ Some e)) }
+    ensures refuses { IfOk result (λ r. IfErr r (λ e. (s : State) → IsMountOf (layer_of layers.old.upper) (lowers_of layers.old) s → (c : ℕ) → refusal s c (call.Rmdir path.now) ≡ Some e)) }
+    ensures unchanged { IfOk result (λ r. OnErr r (layers.new ≡ layers.old)) }
+    ensures allowed { IfOk result (λ r. OnOk r (rmdir_fault (layers_of layers.old) path.now false ≡ None)) }
+    ensures bare { IfOk result (λ r. OnOk r (ShowsNoName (layers_of layers.old) path.now)) }
+    ensures takes { IfOk result (λ r. OnOk r (TakesName layers.old layers.new path.now)) }
+    ensures steps { IfOk result (λ r. OnOk r ((s : State) → IsMountOf (layer_of layers.old.upper) (lowers_of layers.old) s → (c : ℕ) → Removes (layer_of layers.new.upper) (lowers_of layers.new) s c path.now (call.Rmdir path.now))) }
+    ensures keeps { StaysLayers layers.old layers.new }
+    ensures thin { StaysThin layers.old layers.new }
+    ensures no_memory { OnErr result (ShowsSame layers.old layers.new) }
+    ensures mounts { OnErr result (StaysMount layers.old layers.new) }
+    ensures live { IfOk result (λ r. OnOk r (KeepsHeld clients.now layers.old layers.new (call.Rmdir path.now))) }
+    ensures stays { OnErr result (StaysLive layers.old layers.new) }
+{
+    match rmdir(layers, path)? {
+        Ok(key) => {
+            free_released(layers, clients, key);
+            Ok(Ok(()))
+        }
+        Err(errno) => Ok(Err(errno)),
+    }
+}
+
+/// `rename`, which frees what lost its last name by it, unless a handle holds it. It tells whether anything moved: nothing does where both
+/// paths are one object.
+pub(crate) fn rename_and_free(
+    alloc: Global,
+    layers: &mut Layers,
+    clients: &Clients,
+    old: &Path,
+    new: &Path,
+    redirects: bool,
+) -> Result<Result<bool, Errno>, AllocError>
+    ensures refuses { IfOk result (λ r. IfErr r (RefusesRenames layers.old redirects old.now new.now)) }
+    ensures unchanged { IfOk result (λ r. OnErr r (layers.new ≡ layers.old)) }
+    ensures allowed { IfOk result (λ r. OnOk r (rename_fault (layer_of layers.old.upper) (lowers_of layers.old) redirects old.now new.now false ≡ None)) }
+    ensures does { IfOk result (λ r. IfOk r (λ moved. MovesOrStays moved clients.now layers.old layers.new redirects old.now new.now)) }
+    ensures lowers { layers.new.lowers ≡ layers.old.lowers }
+    ensures keeps { StaysLayers layers.old layers.new }
+    ensures thin { AreLayers (layers_of layers.old) → StaysThin layers.old layers.new }
+    ensures no_memory { OnErr result (ShowsSame layers.old layers.new) }
+    ensures mounts { OnErr result (StaysMount layers.old layers.new) }
+    ensures stays { OnErr result (StaysLive layers.old layers.new) }
+{
+    match rename(alloc, layers, old, new, redirects)? {
+        Ok(Renamed::Unchanged) => Ok(Ok(false)),
+        Ok(Renamed::Directory(released)) => {
+            free_released(layers, clients, released);
+            Ok(Ok(true))
+        }
+        Ok(Renamed::Inode(released)) => {
+            free_released(layers, clients, released);
+            Ok(Ok(true))
+        }
+        Err(errno) => Ok(Err(errno)),
+    }
+}
+
+// Frees what lost its last name, if anything did, unless a handle holds it.
+fn free_released(layers: &mut Layers, clients: &Clients, released: Option<usize>)
+    requires { (key : ℕ) → released ≡ Some key → IsNameless layers.old.upper key }
+    ensures held { SameObjects (layer_of layers.old.upper) (layer_of layers.new.upper) }
+    ensures same { ShowsSame layers.old layers.new }
+    ensures keeps { StaysLayers layers.old layers.new }
+    ensures mounts { StaysMount layers.old layers.new }
+    ensures thin { StaysThin layers.old layers.new }
+    ensures live { StaysHeld clients.now layers.old layers.new }
+{
+    if let Some(key) = released {
+        if !clients.holds_file(key) {
+            free(layers, key);
+        }
+    }
+}
+
+/// Frees a file of the upper that was closed, where no handle holds it any more and no name leads to it.
+pub(crate) fn free_closed(layers: &mut Layers, clients: &Clients, closed: Option<usize>)
+    ensures freed { (key : ℕ) → closed ≡ Some key → FreesClosed clients.now layers.old layers.new key }
+    ensures none { closed ≡ None → layers.new ≡ layers.old }
+{
+    if let Some(key) = closed {
+        if !clients.holds_file(key) && is_unlinked(layers, key) {
+            free(layers, key);
+        }
+    }
+}
+
+// Whether an inode of the upper has no name.
+fn is_unlinked(layers: &Layers, key: usize) -> bool
+    ensures unlinked { result ≡ true → IsNameless layers.now.upper key × ((i : HeldInode) → (layer_of layers.now.upper).inodes key ≡ Some i → i.links ≡ 0) }
+    ensures linked { result ≡ false → (i : HeldInode) → (layer_of layers.now.upper).inodes key ≡ Some i → 0 < i.links }
+{
+    layers.lawful();
+    match layers.node(Place { layer: 0, key }) {
+        Some(Node::Inode(inode)) => inode.links == 0,
+        _ => false,
+    }
+}
