@@ -1,24 +1,23 @@
 -- Runs grow at their end, and what a change of one job makes of counts.
-use Rattle.std.proofs.Common.{arith, ◌≡◌, ℕ, suc, zero, ◌+◌, ◌<◌, ◌≤◌, Bool, true, false, ◌||◌, List, [], ◌∷◌, ◌++◌, length, get_or, cond, Option, Some, refl, sym, ap, subst, ◌∙◌, slice_get, nat_eq, take, option_map}
-use Rattle.overlay_core.proofs.Words.{Call, cases_eq, eq-eqb, list_any, ne_eqb, Reply, State}
+use Rattle.std.proofs.Common.{arith, ◌≡◌, ℕ, suc, zero, ◌+◌, ◌<◌, ◌≤◌, Bool, false, ◌||◌, List, [], ◌∷◌, ◌++◌, length, get_or, cond, Option, Some, refl, sym, ap, subst, ◌∙◌, slice_get, nat_eq, take, option_map}
+use Rattle.mount_calls.proofs.Words.{Call, cases_eq, eq-eqb, list_any, ne_eqb, Reply, State}
 use Rattle.std.proofs.Math.ListN.{set}
 use Rattle.std.proofs.Math.Bool.{or-false}
 use Rattle.std.proofs.lemmas.List.Folds.{list_any-append}
 use Rattle.std.proofs.lemmas.Option.{same_Some, slice_get-map, slice_get_within}
 use Rattle.std.proofs.lemmas.List.{take_more}
+use Rattle.plain_model.specs.Watching.{Rule}
 use Rattle.plain_model.specs.Runs.{Called, Entry, Does, Run}
-use Rattle.overlay_core.specs.declared.clients.Clients.{Clients}
+use Rattle.mount_calls.specs.declared.clients.Clients.{Clients}
 use Rattle.overlay_core.specs.declared.job.Job.{Job}
 use Rattle.overlay_core.specs.declared.job.Standing.{Standing}
 use Rattle.overlay_core.specs.declared.job.Standing.TheVariants.{Open, Answered, GivenUp}
-use Rattle.overlay_core.specs.declared.mount.Mount.{Mount}
-use Rattle.overlay_core.specs.Agreement.{Stays, Goes}
-use Rattle.overlay_core.specs.Attaching.{KeepsAttached, is_attached}
-use Rattle.overlay_core.specs.Drives.{call_of, calls_of, AreOffered, AreEntries, Drives, Answers, one_if_open, one_if_answered, open_count, answered, replies_to, PassesOver}
-use Rattle.overlay_core.specs.Jobs.{AnswersBy}
-use Rattle.overlay_core.specs.Offers.{is_offered}
-use Rattle.overlay_core.specs.Rules.{Nothing}
-use Rattle.overlay_core.proofs.Serving.{get-set, get-others}
+use Rattle.mount_calls.specs.declared.mount.Mount.{Mount}
+use Rattle.notice_laws.specs.Notified.{Notified}
+use Rattle.overlay_core.specs.Watching.{Stays}
+use Rattle.mount_calls.specs.Attaching.{KeepsAttached, is_attached}
+use Rattle.overlay_core.specs.Drives.{call_of, calls_of, AreEntries, Drives, Answers, one_if_open, one_if_answered, open_count, answered, replies_to, PassesOver}
+use Rattle.mount_calls.proofs.Serving.{get-set, get-others}
 
 -- one more entry, and one more deed of a run
 entries-more : (calls : List (ℕ × Call)) (rs : List (ℕ × Reply)) (es : List Entry) (i : ℕ) (r : Reply) (e : Entry) (call : Call) → AreEntries calls rs es → slice_get calls i ≡ Some (e.client, call) → e.deed ≡ Called call r → AreEntries calls (rs ++ (i, r) ∷ []) (es ++ e ∷ [])
@@ -27,23 +26,22 @@ entries-more calls [] (x ∷ es) i r e call h at is = absurd h
 entries-more calls (x ∷ rs) [] i r e call h at is = absurd h
 entries-more calls (x ∷ rs) (y ∷ es) i r e call h at is = (h.0, h.1, h.2, entries-more calls rs es i r e call h.3 at is)
 
-run-more : (s : State) (es : List Entry) (t u : State) (e : Entry) → Run Nothing s es t → Does Nothing t e.client e.deed u → Run Nothing s (es ++ e ∷ []) u
-run-more s [] t u e h does = (u, subst (λ (x : State). Does Nothing x e.client e.deed u) h does, refl)
-run-more s (x ∷ es) t u e h does = (h.0, h.1, run-more h.0 es t u e h.2 does)
+run-more : (shows : Rule) (s : State) (es : List Entry) (t u : State) (e : Entry) → Run shows s es t → Does shows t e.client e.deed u → Run shows s (es ++ e ∷ []) u
+run-more shows s [] t u e h does = (u, subst (λ (x : State). Does shows x e.client e.deed u) h does, refl)
+run-more shows s (x ∷ es) t u e h does = (h.0, h.1, run-more shows h.0 es t u e h.2 does)
 
-pub drives-none : (calls : List (ℕ × Call)) (m : Mount) (rs : List (ℕ × Reply)) → rs ≡ [] → Drives calls m rs m
-drives-none calls m rs none s a = ([], subst (λ l. AreEntries calls l []) (sym none) tt, (s, refl, a))
+pub drives-none : (shows : Rule) (calls : List (ℕ × Call)) (m : Mount) (k : Notified) (rs : List (ℕ × Reply)) → rs ≡ [] → Drives shows calls m k rs m k
+drives-none shows calls m k rs none s a = ([], subst (λ l. AreEntries calls l []) (sym none) tt, (s, refl, a))
 
-pub drives-more : (calls : List (ℕ × Call)) (l m n : Mount) (rs : List (ℕ × Reply)) (i : ℕ) (r : Reply) → AreOffered calls → Drives calls l rs m → Answers calls m i r n → Drives calls l (rs ++ (i, r) ∷ []) n
-drives-more calls l m n rs i r offered d a s h =
+pub drives-more : (shows : Rule) (calls : List (ℕ × Call)) (l m n : Mount) (i j k : Notified) (rs : List (ℕ × Reply)) (at : ℕ) (r : Reply) → Drives shows calls l i rs m j → Answers shows calls m j at r n k → Drives shows calls l i (rs ++ (at, r) ∷ []) n k
+drives-more shows calls l m n i j k rs at r d a s h =
     let x = d s h in
-    let goes : Goes m a.0 (Called a.1 r) n = a.3 (offered i a.0 a.1 a.2) in
-    let y = goes x.2.0 x.2.2 in
+    let y = a.3 x.2.0 x.2.2 in
     let e : Entry = record { client = a.0; number = 0; deed = Called a.1 r } in
-    (x.0 ++ e ∷ [], entries-more calls rs x.0 i r e a.1 x.1 a.2 refl, (y.0, run-more s x.0 x.2.0 y.0 e x.2.1 y.1, y.2))
+    (x.0 ++ e ∷ [], entries-more calls rs x.0 at r e a.1 x.1 a.2 refl, (y.0, run-more shows s x.0 x.2.0 y.0 e x.2.1 y.1, y.2))
 
-pub drives-stay : (calls : List (ℕ × Call)) (l m n : Mount) (rs : List (ℕ × Reply)) → Drives calls l rs m → Stays m n → Drives calls l rs n
-drives-stay calls l m n rs d h s a = let x = d s a in (x.0, x.1, (x.2.0, x.2.1, h x.2.0 x.2.2))
+pub drives-stay : (shows : Rule) (calls : List (ℕ × Call)) (l m n : Mount) (i j k : Notified) (rs : List (ℕ × Reply)) → Drives shows calls l i rs m j → Stays m j n k → Drives shows calls l i rs n k
+drives-stay shows calls l m n i j k rs d h s a = let x = d s a in (x.0, x.1, (x.2.0, x.2.1, h x.2.0 x.2.2))
 
 at-most : (x : Standing) (n m : ℕ) → n ≤ m → one_if_open x + n ≤ suc m
 at-most x n m h = grind arith
@@ -112,10 +110,6 @@ passes-more clients between a b c schedule at i same within h g =
 -- the same clients are attached after two changes
 pub keeps-on : (a b c : Clients) → KeepsAttached a b → KeepsAttached b c → KeepsAttached a c
 keeps-on a b c h g = record { attached = λ n. g.attached n ∙ h.attached n; next = g.next ∙ h.next }
-
--- a call that is offered is a step of the machine
-pub goes-offered : (old : Mount) (job : Job) (new : Mount) (r : Reply) → AnswersBy (is_offered job.call) old job new r → is_offered job.call ≡ true → Goes old job.client (Called job.call r) new
-goes-offered old job new r h is = subst (λ b. AnswersBy b old job new r) is h
 
 -- a job that counts as over is not open
 pub not-open : (j : Job) → one_if_open j.standing ≡ 0 → j.standing ≡ Open → ⊥

@@ -1,64 +1,267 @@
--- Clients go on both sides: each descriptor is closed, the lowest first, and then the client's table goes.
-use Rattle.std.proofs.Common.{arith, ◌≡◌, ◌≢◌, ℕ, zero, suc, ◌+◌, ◌<◌, ◌≤◌, Bool, false, not, List, [], ◌∷◌, ◌++◌, Option, None, Some, refl, sym, ap, ◌∙◌, subst, ◌⊎◌, inl, inr, is_none, length, filter, slice_get, slice_set, nat_eq, get_or, take}
-use Rattle.overlay_core.proofs.Words.{after, Call, cases_eq, Errno, Handle, handle_of, handles_of, held_in, Layer, layer_of, Layers, list_any, lowers_of, refusal, Reply, State, Table, Tree, when, with_handle}
-use Rattle.std.proofs.lemmas.Bool.{cases_lt}
-use Rattle.std.proofs.lemmas.List.{take_more, take_all, length-take-le}
-use Rattle.std.proofs.lemmas.Option.{slice_get-get_or, slice_get_past}
-use mathlib.Core.Logic.{∥∥₁_elim}
+-- Closes of a client, also while it goes, on both sides.
+use Rattle.std.proofs.Common.{◌≡◌, ◌≢◌, ℕ, zero, suc, ◌+◌, ◌<◌, ◌≤◌, true, false, cond, List, [], ◌∷◌, ◌++◌, Option, None, Some, IsSome, slice_get, slice_set, get_or, take, refl, sym, ap, ◌∙◌, subst, is_none, nat_eq, length, option_map, arith, ◌⊎◌, inl, inr}
+use mathlib.Core.Logic.{∥∥₁_elim, ∥∥₁_map}
 use mathlib.Core.HLevel.{⊥_prop}
+use Rattle.std.specs.List.{IsDistinct, list_any}
+use Rattle.std.proofs.lemmas.Bool.{false≢true, cases_lt}
+use Rattle.std.proofs.lemmas.List.{length-map, length-take-le, take_all, take_more}
+use Rattle.std.proofs.lemmas.Option.{slice_get-get_or, slice_get_past}
+use Rattle.mount_calls.proofs.Words.{cases_eq}
 use Rattle.ov_base.specs.declared.call.Call.TheVariants.{Close}
+use Rattle.ov_base.specs.declared.errno.Errno.{Errno}
 use Rattle.ov_base.specs.declared.errno.Errno.TheVariants.{EBADF}
-use Rattle.plain_model.specs.Watching.{Rule, Subject, Instance, AllHear, Puts, all_asked, all_passed}
-use Rattle.plain_model.specs.Subjects.{subjects}
-use Rattle.plain_model.specs.Runs.{Answered, Step, Closes, Leaves, without_instance, without_table}
+use Rattle.ov_base.specs.declared.reply.Reply.{Reply}
+use Rattle.ov_base.specs.declared.reply.Reply.TheVariants.{Refused}
+use Rattle.plain_model.specs.Layers.{Layer}
+use Rattle.plain_model.specs.Tree.{Branch, Leaf, Node, Tree, is_folder}
+use Rattle.plain_model.specs.Watching.{ISDIR, Instance, Rule}
+use Rattle.plain_model.specs.Machine.{Handle, State, Table, handle_of, handles_of, held_in}
+use Rattle.plain_model.specs.Refusals.{refusal, when}
+use Rattle.plain_model.specs.Changes.{after, with_handle}
+use Rattle.plain_model.specs.Subjects.{closes}
+use Rattle.plain_model.specs.Settling.{IsSettled, clients_of}
+use Rattle.plain_model.specs.Runs.{Answered, Called, Closes, Detached, Does, Step, without_instance, without_table}
+use Rattle.plain_model.proofs.Clients.{attached-is, hearers_of}
+use Rattle.plain_model.proofs.Held.{with-handles}
 use Rattle.plain_model.proofs.Looking.{refusal-reading}
+use Rattle.plain_model.proofs.Settled.{Settles, does-settles, step-settles}
+use Rattle.merged_lookup.specs.declared.layers.Layers.{Layers}
+use Rattle.merged_lookup.specs.Merged.{lowers_of}
 use Rattle.mount_laws.proofs.Lists.{law_of_bad_descriptors}
+use Rattle.mount_laws.proofs.OneName.{law_of_one_name_kept}
 use Rattle.open_handles.specs.declared.handle.Handle as handles
-use Rattle.overlay_core.specs.declared.clients.Clients.{Clients}
-use Rattle.overlay_core.specs.declared.mount.Mount.{Mount}
-use Rattle.overlay_core.specs.Attaching.{Detaches, KeepsOthers, KeepsPlaces, opened_by}
-use Rattle.overlay_core.specs.Leaving.{ClosesEach}
-use Rattle.overlay_core.specs.Living.{KeepsPaths}
-use Rattle.overlay_core.specs.Rules.{Nothing}
-use Rattle.overlay_core.specs.States.{IsSlot, IsOpenAs, AreTables, AreUnwatched, HasStateOf, IsStateOf, Serves}
-use Rattle.overlay_core.proofs.Coming.{of, open_in, fewer-but, tables-but}
-use Rattle.overlay_core.proofs.Serving.{handles-set, get-others, one-fewer}
-use Rattle.overlay_core.proofs.Stating.{with-tables}
+use Rattle.open_handles.specs.declared.handle.Handle.TheVariants.{Directory, File}
+use Rattle.open_handles.specs.declared.open_file.FileSource.{FileSource}
+use Rattle.open_handles.specs.declared.open_file.FileSource.TheVariants.{Upper, Lower}
+use Rattle.open_handles.specs.declared.tracked_client.TrackedHandle.{TrackedHandle}
+use Rattle.open_handles.specs.Dentries.{Dentries}
+use Rattle.open_handles.specs.Tracked.{Tracked}
+use Rattle.open_handles.specs.TrackedHandles.{tracked_by}
+use Rattle.notice_laws.specs.Notified.{AreKnown, Bearers, IsSlotOn, Notified, Passes, Resumes}
+use Rattle.notice_laws.specs.Steps.{Closed, closing_bits}
+use Rattle.notice_laws.specs.Clients.{Departs, Mutes}
+use Rattle.notice_laws.proofs.Clients.{law_of_departed, law_of_muted}
+use Rattle.notice_laws.proofs.Closing.{law_of_closed}
+use Rattle.mount_calls.specs.declared.mount.Mount.{Mount}
+use Rattle.mount_calls.specs.declared.clients.Clients.{Clients}
+use Rattle.mount_calls.specs.Attaching.{KeepsOthers, is_attached, opened_by}
+use Rattle.mount_calls.specs.Files.{IsOf, is_leaf}
+use Rattle.mount_calls.specs.Living.{KeepsNamed, KeepsPaths}
+use Rattle.mount_calls.proofs.Serving.{get-others}
+use Rattle.mount_calls.specs.States.{IsOpenAs, IsSlot, IsStateOf, Serves}
+use Rattle.overlay_core.specs.Leaving.{ClosesEach, Follows, IsFollowed, Shuts, closing}
+use Rattle.overlay_core.specs.Watching.{Agrees, Goes, HasState}
+use Rattle.overlay_core.proofs.Watching.{lowers-same, tracks-same, upper_of, with-instances}
 
--- fewer instances without watches
-unwatched-filter : (f : Instance → Bool) (es : List Instance) → AreUnwatched es → AreUnwatched (filter f es)
-unwatched-filter f [] a = tt
-unwatched-filter f (e ∷ es) a = grind (arith, unwatched-filter f es)
+-- what agrees, agrees but for its instances
+pub follows : (m : Mount) (k : Notified) (s : State) → Agrees m k s → Follows m k s
+follows m k s a = record { stands = a.stands; settled = (s.instances, a.settled); one = a.one; tracks = a.tracks }
 
--- an instance without watches stays as it is whatever is told
-passed-none : (ss : List Subject) (e : Instance) → e.watches ≡ [] → all_passed e ss ≡ e
-passed-none [] e h = refl
-passed-none (s ∷ ss) e h = grind (arith, passed-none ss)
+pub followed : (m : Mount) (k : Notified) → ∥ HasState m k ∥₁ → ∥ IsFollowed m k ∥₁
+followed m k has = ∥∥₁_map has (λ x. (x.0, follows m k x.0 x.1))
 
--- and it asks nothing
-asked-none : (ss : List Subject) (e : Instance) → e.watches ≡ [] → all_asked e ss ≡ []
-asked-none [] e h = refl
-asked-none (s ∷ ss) e h = grind (arith, asked-none ss)
+-- a state that would be settled with other instances keeps what a settled one keeps, and the other way
+opens : (s : State) (es : List Instance) → IsSettled (record s { instances = es }) →
+    Settles s (clients_of s.tables) (hearers_of s.instances)
+opens s es x = record {
+  lasts = λ d. record { named = x.named d; there = x.there d };
+  clients = refl;
+  hearers = refl;
+  apart = x.apart;
+  before = λ c h. x.before c (attached-is c s.tables ∙ h);
+  full = x.full;
+  few = let e = length-map s.tables (λ (k : Table). k.client) in let f = x.few in omega arith;
+}
 
--- so each of them hears whatever is told, and stays as it is
-pub all-hear : (shows : Rule) (ss : List Subject) (es : List Instance) → AreUnwatched es → AllHear shows ss es es
-all-hear shows ss [] w = tt
-all-hear shows ss (e ∷ es) w = (
-  record {
-    watches = ap (λ (z : Instance). record z { queue = e.queue }) (sym (passed-none ss e w.0));
-    queue = subst (λ z. Puts shows z e.queue e.queue) (sym (asked-none ss e w.0)) refl;
-  },
-  all-hear shows ss es w.1,
-)
+shuts : (s : State) (es : List Instance) (cs hs : List ℕ) → hearers_of es ≡ cs → Settles s cs hs → IsSettled (record s { instances = es })
+shuts s es cs hs heard x = record {
+  named = λ d. (x.lasts d).named;
+  there = λ d. (x.lasts d).there;
+  apart = subst (IsDistinct nat_eq) (sym x.clients) x.apart;
+  before = λ c h. x.before c (ap (list_any (λ y. nat_eq y c)) (sym x.clients) ∙ sym (attached-is c s.tables) ∙ h);
+  full = x.full;
+  heard = heard ∙ sym x.clients;
+  few = let e = length-map s.tables (λ (k : Table). k.client) in let f = x.few in let g = ap length x.clients in omega arith;
+}
 
--- a call that is answered is one that the machine takes, and nobody hears of it
-taken : (s : State) (c : ℕ) (k : Call) (r : Reply) (new : Mount) → Serves None s c k r new → Answered None Nothing s c k r (after s c k)
-taken s c k r new h = record { answer = h.0; state = refl; heard = all-hear Nothing (subjects s c k) (after s c k).instances h.1.unwatched }
+-- no file or link is a directory
+leaf-file : (o : Option Node) → is_leaf o ≡ true → is_folder o ≡ false
+leaf-file None h = refl
+leaf-file (Some (Branch a b names c)) h = absurd (false≢true h)
+leaf-file (Some (Leaf content a u l)) h = refl
 
--- a call that is answered as by the machine is a step of it
-pub step-by : (s : State) (c : ℕ) (k : Call) (r : Reply) (new : Mount) (o : Option Errno) → Serves o s c k r new → (t : State) × Answered o Nothing s c k r t × IsStateOf new t
-step-by s c k r new (Some e) h = (s, (h.0, refl), h.1)
-step-by s c k r new None h = (after s c k, taken s c k r new h, h.1)
+-- nor is what an open file is of
+file-file : (U : Layer) (lowers : List Layer) (t : Tree) (f : FileSource) (h : Handle) → IsOf U lowers t f h → is_folder (t h.node) ≡ false
+file-file U lowers t (Upper k) h is = ap is_folder is.0.node
+file-file U lowers t (Lower layer k) h is = leaf-file (t h.node) is.file
+
+-- an open handle tells its close as the machine's
+pub closing-same : (U : Layer) (lowers : List Layer) (s : State) (directories : Dentries) (o : handles.Handle) (h : Handle) →
+    IsOpenAs U lowers s.tree directories o h → closing_bits s (Some h) ≡ closing o
+closing-same U lowers s directories (Directory o) h is =
+    ap (λ b. cond b (closes (Some h) + ISDIR) (closes (Some h))) is.directory
+    ∙ ap (λ (x : Handle). closes (Some x) + ISDIR) is.access
+closing-same U lowers s directories (File f) h is =
+    ap (λ b. cond b (closes (Some h) + ISDIR) (closes (Some h))) (file-file U lowers s.tree f.source h is.source)
+    ∙ ap (λ b. cond b 8 16) is.writes
+
+-- what is open for the mount is open in the state
+slot-open : (alike : handles.Handle → Handle → Type 0) (a : handles.Handle) (o : Option handles.Handle) (x : Option Handle) → IsSlot alike o x →
+    o ≡ Some a → (h : Handle) × (x ≡ Some h) × alike a h
+slot-open alike a (Some b) (Some h) is at = (h, refl, subst (λ c. alike c h) (cc) is)
+slot-open alike a None x is at = absurd (cc)
+slot-open alike a (Some b) None is at = absurd is
+
+-- what is free for the mount is free in the state, and the other way
+pub slot-free : (alike : handles.Handle → Handle → Type 0) (o : Option handles.Handle) (x : Option Handle) → IsSlot alike o x → o ≡ None → x ≡ None
+slot-free alike None None is at = refl
+slot-free alike None (Some h) is at = absurd is
+slot-free alike (Some a) x is at = absurd (cc)
+
+free-slot : (alike : handles.Handle → Handle → Type 0) (o : Option handles.Handle) (x : Option Handle) → IsSlot alike o x → x ≡ None → o ≡ None
+free-slot alike None x is at = refl
+free-slot alike (Some a) (Some h) is at = absurd (cc)
+free-slot alike (Some a) None is at = absurd is
+
+-- what is open in the state is open for its watches
+open-tracked : (t : Tracked) (bearers : Bearers) (r : Option TrackedHandle) (h : Handle) → IsSlotOn t bearers r (Some h) → IsSome r
+open-tracked t bearers (Some r) h is = refl
+open-tracked t bearers None h is = absurd is
+
+-- and what is free in the state is free for its watches
+pub free-tracked : (t : Tracked) (bearers : Bearers) (r : Option TrackedHandle) (x : Option Handle) → IsSlotOn t bearers r x → x ≡ None → r ≡ None
+free-tracked t bearers None x is at = refl
+free-tracked t bearers (Some r) (Some h) is at = absurd (cc)
+free-tracked t bearers (Some r) None is at = absurd is
+
+-- so what is open for the mount is open for its watches
+pub tracked-open : (m : Mount) (k : Notified) (c d : ℕ) (o : handles.Handle) → ∥ IsFollowed m k ∥₁ → opened_by m.clients c d ≡ Some o →
+    IsSome (tracked_by k.handles c d)
+tracked-open m k c d o has at = by (tracked_by k.handles c d) refl
+  where
+    there : (x : IsFollowed m k) → IsSome (tracked_by k.handles c d)
+    there x =
+        let h = slot-open _ o (opened_by m.clients c d) (handle_of x.0.tables c d) (x.1.stands.tables.slots c d) at in
+        open-tracked k.objects x.1.tracks.bearers (tracked_by k.handles c d) h.0
+        (subst (IsSlotOn k.objects x.1.tracks.bearers (tracked_by k.handles c d)) h.1 (x.1.tracks.slots c d))
+
+    by : (r : Option TrackedHandle) → tracked_by k.handles c d ≡ r → IsSome r
+    by (Some r) is = refl
+    by None is = absurd (∥∥₁_elim has ⊥_prop (λ x. let no = subst IsSome is (there x) in false≢true no))
+
+-- a descriptor that isn't open is refused, and nothing happens
+pub shuts-free : (shows : Rule) (old new : Mount) (k : Notified) (c d : ℕ) (r : Reply) → opened_by old.clients c d ≡ None →
+    ((s : State) → IsStateOf old s → Serves (refusal s c (Close d)) s c (Close d) r new) →
+    ((e : Errno) → r ≡ Refused e → new.layers ≡ old.layers) → Shuts shows old k c d r new k
+shuts-free shows old new k c d r none serves same s a =
+    let free = slot-free _ (opened_by old.clients c d) (handle_of s.tables c d) (a.stands.tables.slots c d) none in
+    let bad = (law_of_bad_descriptors s c d free).closing in
+    let served : Serves (Some EBADF) s c (Close d) r new = subst (λ o. Serves o s c (Close d) r new) bad (serves s a.stands) in
+    let step : Step shows s c (Close d) r s = subst (λ x. Answered x shows s c (Close d) r s) (sym bad) (served.0, refl) in
+    (s, step, record { stands = served.1; settled = a.settled; one = a.one; tracks = tracks-same old new s k (same EBADF served.0) a.tracks })
+
+module _ (shows : Rule) (old new : Mount) (from to : Notified) (c d : ℕ) (r : Reply) (o : handles.Handle) (is_open : opened_by old.clients c d ≡ Some o) (serves : (s : State) → IsStateOf old s → Serves (refusal s c (Close d)) s c (Close d) r new) (lowers : new.layers.lowers ≡ old.layers.lowers) (named : (s : State) → IsStateOf old s → refusal s c (Close d) ≡ None → KeepsNamed s c old.layers new.layers (Close d)) (known : AreKnown to) (closed : Closed shows from to c d (closing o)) where
+  -- an open descriptor is closed, and that is told
+  pub shuts-open : Shuts shows old from c d r new to
+  shuts-open s a =
+      let h = slot-open _ o (opened_by old.clients c d) (handle_of s.tables c d) (a.stands.tables.slots c d) is_open in
+      let fine : refusal s c (Close d) ≡ None = refusal-reading s c (Close d) refl ∙ ap (λ (x : Option Handle). when (is_none x) EBADF) h.1 in
+      let served : Serves None s c (Close d) r new = subst (λ x. Serves x s c (Close d) r new) fine (serves s a.stands) in
+      let pass : Passes (upper_of old) (upper_of new) (lowers_of old.layers) s c (Close d) = record {
+        before = a.stands.layers;
+        now = lowers-same (upper_of new) (after s c (Close d)) old.layers new.layers lowers served.1.layers;
+        apart = a.settled.1.apart;
+        there = a.settled.1.there;
+        one = a.one;
+        allowed = fine;
+        named = named s a.stands fine;
+      } in
+      let bits : closing_bits s (handle_of s.tables c d) ≡ closing o =
+      ap (closing_bits s) h.1 ∙ closing-same (upper_of old) (lowers_of old.layers) s old.clients.directories o h.0 h.2 in
+      let on : Resumes shows (upper_of new) s c (Close d) to =
+      law_of_closed shows (upper_of old) (upper_of new) (lowers_of old.layers) s c d pass from to a.tracks known
+      (subst (Closed shows from to c d) (sym bits) closed) in
+      let t : State = record (after s c (Close d)) { instances = on.heard } in
+      let taken : Answered None shows s c (Close d) r t = record { answer = served.0; state = refl; heard = on.hears } in
+      let step : Step shows s c (Close d) r t = subst (λ x. Answered x shows s c (Close d) r t) (sym fine) taken in
+      let es = a.settled.0 in
+      let cs = clients_of s.tables in
+      let hs = hearers_of s.instances in
+      let settles : Settles t cs hs = step-settles shows s c (Close d) r t cs hs step a.stands.layers.kept (opens s es a.settled.1) in (
+        t,
+        step,
+        record {
+          stands = with-instances new (after s c (Close d)) on.heard served.1;
+          settled = (es, shuts t es cs hs a.settled.1.heard settles);
+          one = law_of_one_name_kept s c (Close d) a.one;
+          tracks = on.tracks;
+        },
+      )
+
+-- in a state that agrees a close is what a client does
+pub goes-shut : (shows : Rule) (old new : Mount) (from to : Notified) (c d : ℕ) (r : Reply) → is_attached old.clients c ≡ true →
+    Shuts shows old from c d r new to → Goes shows old from c (Called (Close d) r) new to
+goes-shut shows old new from to c d r there shut s a =
+    let on = shut s (follows old from s a) in
+    let does : Does shows s c (Called (Close d) r) on.0 = (a.stands.tables.attached c ∙ there, on.1) in (
+      on.0,
+      does,
+      record {
+        stands = on.2.stands;
+        settled = does-settles shows s c (Called (Close d) r) on.0 does a.stands.layers.kept a.settled;
+        one = on.2.one;
+        tracks = on.2.tracks;
+      },
+    )
+
+-- what has bits is open, and these are its own
+pub closing-from : (o : Option handles.Handle) (bits : ℕ) → option_map closing o ≡ Some bits → (h : handles.Handle) × (o ≡ Some h) × (closing h ≡ bits)
+closing-from (Some h) bits is = (h, refl, cc)
+closing-from None bits is = absurd (cc)
+
+-- and what has none isn't
+pub closing-none : (o : Option handles.Handle) → option_map closing o ≡ None → o ≡ None
+closing-none (Some h) is = absurd (cc)
+closing-none None is = refl
+
+-- a client whose watches ended unheard is followed without its instance
+pub muted-follows : (m : Mount) (k l : Notified) (s : State) (c : ℕ) → Agrees m k s → Mutes k l c → AreKnown l → Follows m l (without_instance s c)
+muted-follows m k l s c a mutes known = record {
+  stands = with-instances m s (without_instance s c).instances a.stands;
+  settled = (s.instances, a.settled);
+  one = a.one;
+  tracks = law_of_muted (upper_of m) s c k l a.tracks known mutes;
+}
+
+pub muted-followed : (m : Mount) (k l : Notified) (c : ℕ) → ∥ HasState m k ∥₁ → Mutes k l c → AreKnown l → ∥ IsFollowed m l ∥₁
+muted-followed m k l c has mutes known = ∥∥₁_map has (λ x. (without_instance x.0 c, muted-follows m k l x.0 c x.1 mutes known))
+
+-- a client's descriptors below one are closed, the lowest first, and the others lead where they led
+pub record ClosesBelow (shows : Rule) (s : State) (c i : ℕ) (new : Mount) (l : Notified) : Type 0 where
+  pub last : State
+  pub closes : Closes shows s c 0 (take i (handles_of s.tables c)) last
+  pub follows : Follows new l last
+  pub free : (d : ℕ) → d < i → handle_of last.tables c d ≡ None
+  pub rest : (d : ℕ) → i ≤ d → handle_of last.tables c d ≡ handle_of s.tables c d
+
+-- none is closed yet
+pub closes-none : (shows : Rule) (m : Mount) (k : Notified) (s : State) (c : ℕ) → Follows m k s → ClosesBelow shows s c 0 m k
+closes-none shows m k s c f = record {
+  last = s;
+  closes = refl;
+  follows = f;
+  free = λ d below. absurd (omega arith);
+  rest = λ d above. refl;
+}
+
+-- one handle more is closed
+closes-more : (shows : Rule) (s : State) (c j : ℕ) (hs : List (Option Handle)) (x : Option Handle) (t u : State) (i : ℕ) → i ≡ j + length hs →
+    Closes shows s c j hs t → Closes shows t c i (x ∷ []) u → Closes shows s c j (hs ++ x ∷ []) u
+closes-more shows s c j [] x t u i at h more =
+    let here : i ≡ j = omega arith in
+    subst (λ z. Closes shows z c j (x ∷ []) u) h (subst (λ k. Closes shows t c k (x ∷ []) u) here more)
+closes-more shows s c j (None ∷ hs) x t u i at h more = closes-more shows s c (suc j) hs x t u i (omega arith) h more
+closes-more shows s c j (Some y ∷ hs) x t u i at h more = (h.0, h.1, h.2, closes-more shows h.1 c (suc j) hs x t u i (omega arith) h.3 more)
 
 -- a descriptor that is closed is free
 closed-none : (hs : List (Option Handle)) (i : ℕ) → held_in (slice_get (slice_set hs i None) i) ≡ None
@@ -66,35 +269,7 @@ closed-none [] i = refl
 closed-none (h ∷ hs) zero = refl
 closed-none (h ∷ hs) (suc i) = closed-none hs i
 
--- a slot without a handle is not open
-slot-free : (P : handles.Handle → Handle → Type 0) (a : Option handles.Handle) (x : Option Handle) → IsSlot P a x → x ≡ None → a ≡ None
-slot-free P a x s e = grind arith
-
--- an open descriptor can be closed
-unrefused : (s : State) (c i : ℕ) (h : Handle) → handle_of s.tables c i ≡ Some h → refusal s c (Close i) ≡ None
-unrefused s c i h on = refusal-reading s c (Close i) refl ∙ ap (λ (x : Option Handle). when (is_none x) EBADF) on
-
--- one handle more is closed
-closes-more : (s : State) (c j : ℕ) (hs : List (Option Handle)) (x : Option Handle) (t u : State) (i : ℕ) → i ≡ j + length hs → Closes Nothing s c j hs t → Closes Nothing t c i (x ∷ []) u → Closes Nothing s c j (hs ++ x ∷ []) u
-closes-more s c j [] x t u i at h more =
-    let here : i ≡ j = omega arith in
-    subst (λ z. Closes Nothing z c j (x ∷ []) u) h (subst (λ k. Closes Nothing t c k (x ∷ []) u) here more)
-closes-more s c j (None ∷ hs) x t u i at h more = closes-more s c (suc j) hs x t u i (omega arith) h more
-closes-more s c j (Some y ∷ hs) x t u i at h more = (h.0, h.1, h.2, closes-more h.1 c (suc j) hs x t u i (omega arith) h.3 more)
-
--- a client's descriptors below one are closed, the lowest first, and the others lead where they led
-pub record ClosesBelow (s : State) (c i : ℕ) (new : Mount) : Type 0 where
-  pub last : State
-  pub closes : Closes Nothing (without_instance s c) c 0 (take i (handles_of s.tables c)) last
-  pub stands : IsStateOf new last
-  pub free : (d : ℕ) → d < i → handle_of last.tables c d ≡ None
-  pub rest : (d : ℕ) → i ≤ d → handle_of last.tables c d ≡ handle_of s.tables c d
-
--- none is closed, and nobody watches for the client
-pub closes-none : (m : Mount) (s : State) (c : ℕ) → IsStateOf m s → ClosesBelow s c 0 m
-closes-none m s c st = grind (arith, unwatched-filter)
-
-module _ (s : State) (m new : Mount) (c i : ℕ) (b : ClosesBelow s c i m) (within : i < length (handles_of s.tables c)) where
+module _ (shows : Rule) (s : State) (m new : Mount) (k l : Notified) (c i : ℕ) (b : ClosesBelow shows s c i m k) (within : i < length (handles_of s.tables c)) where
   -- the client's descriptors as they were
   abbrev slots : List (Option Handle)
   slots = handles_of s.tables c
@@ -108,17 +283,17 @@ module _ (s : State) (m new : Mount) (c i : ℕ) (b : ClosesBelow s c i m) (with
   leads x is = b.rest i (omega arith) ∙ ap held_in (slice_get-get_or slots i None within) ∙ ap (λ z. held_in (Some z)) is
 
   -- the descriptor's step comes last
-  closed-to : (last : State) → Closes Nothing b.last c i (slot ∷ []) last → Closes Nothing (without_instance s c) c 0 (take (i + 1) slots) last
+  closed-to : (last : State) → Closes shows b.last c i (slot ∷ []) last → Closes shows s c 0 (take (i + 1) slots) last
   closed-to last step =
-      subst (λ hs. Closes Nothing (without_instance s c) c 0 hs last) (sym (take_more slots i None within))
-      (closes-more (without_instance s c) c 0 (take i slots) slot b.last last i (omega (arith, length-take-le i slots (omega arith))) b.closes step)
+      subst (λ hs. Closes shows s c 0 hs last) (sym (take_more slots i None within))
+      (closes-more shows s c 0 (take i slots) slot b.last last i (omega (arith, length-take-le i slots (omega arith))) b.closes step)
 
   -- a descriptor that is free makes no step
-  stays-free : slot ≡ None → IsStateOf new b.last → ClosesBelow s c (i + 1) new
-  stays-free none st = record {
+  stays-free : slot ≡ None → Follows new l b.last → ClosesBelow shows s c (i + 1) new l
+  stays-free none f = record {
     last = b.last;
-    closes = closed-to b.last (subst (λ x. Closes Nothing b.last c i (x ∷ []) b.last) (sym none) refl);
-    stands = st;
+    closes = closed-to b.last (subst (λ x. Closes shows b.last c i (x ∷ []) b.last) (sym none) refl);
+    follows = f;
     free = λ d below. free d (cases_eq d i) below;
     rest = λ d above. b.rest d (omega arith);
   }
@@ -128,84 +303,111 @@ module _ (s : State) (m new : Mount) (c i : ℕ) (b : ClosesBelow s c i m) (with
       free d (inr n) below = b.free d (omega arith)
 
   -- an open one is closed
-  is-closed : (h : Handle) (r : Reply) → slot ≡ Some h → Serves None b.last c (Close i) r new → ClosesBelow s c (i + 1) new
-  is-closed h r some served = record {
-    last = after b.last c (Close i);
-    closes = closed-to (after b.last c (Close i)) (subst (λ x. Closes Nothing b.last c i (x ∷ []) (after b.last c (Close i))) (sym some) (r, after b.last c (Close i), step, refl));
-    stands = served.1;
+  is-closed : (h : Handle) (r : Reply) (t : State) → slot ≡ Some h → Step shows b.last c (Close i) r t → Follows new l t → ClosesBelow shows s c (i + 1) new l
+  is-closed h r t some step f = record {
+    last = t;
+    closes = closed-to t (subst (λ x. Closes shows b.last c i (x ∷ []) t) (sym some) (r, t, step, refl));
+    follows = f;
     free = λ d below. free d (cases_eq d i) below;
     rest = λ d above. others d (λ e. absurd (omega arith)) ∙ b.rest d (omega arith);
   }
     where
-      step : Step Nothing b.last c (Close i) r (after b.last c (Close i))
-      step = subst (λ o. Answered o Nothing b.last c (Close i) r (after b.last c (Close i))) (sym (unrefused b.last c i h (leads (Some h) some))) (taken b.last c (Close i) r new served)
+      fine : refusal b.last c (Close i) ≡ None
+      fine = refusal-reading b.last c (Close i) refl ∙ ap (λ (x : Option Handle). when (is_none x) EBADF) (leads (Some h) some)
 
-      others : (d : ℕ) → d ≢ i → handle_of (with_handle b.last.tables c i None) c d ≡ handle_of b.last.tables c d
-      others d n = ap (λ z. held_in (slice_get z d)) (handles-set b.last.tables c i None) ∙ ap held_in (get-others (handles_of b.last.tables c) i d None n)
+      taken : Answered None shows b.last c (Close i) r t
+      taken = subst (λ o. Answered o shows b.last c (Close i) r t) fine step
 
-      free : (d : ℕ) → (d ≡ i) ⊎ (d ≡ i → ⊥) → d < i + 1 → handle_of (with_handle b.last.tables c i None) c d ≡ None
-      free d is below = grind (arith, handles-set, closed-none, others)
+      tables : t.tables ≡ with_handle b.last.tables c i None
+      tables = ap (λ (z : State). z.tables) taken.state
+
+      set : handles_of t.tables c ≡ slice_set (handles_of b.last.tables c) i None
+      set = ap (λ ks. handles_of ks c) tables ∙ with-handles b.last.tables c i None
+
+      others : (d : ℕ) → d ≢ i → handle_of t.tables c d ≡ handle_of b.last.tables c d
+      others d n = ap (λ z. held_in (slice_get z d)) set ∙ ap held_in (get-others (handles_of b.last.tables c) i d None n)
+
+      free : (d : ℕ) → (d ≡ i) ⊎ (d ≡ i → ⊥) → d < i + 1 → handle_of t.tables c d ≡ None
+      free d (inl e) below =
+          ap (λ z. handle_of t.tables c z) e ∙ ap (λ z. held_in (slice_get z i)) set ∙ closed-none (handles_of b.last.tables c) i
+      free d (inr n) below = others d n ∙ b.free d (omega arith)
 
   -- one descriptor more is closed
-  pub closes-next : (r : Reply) → Serves (refusal b.last c (Close i)) b.last c (Close i) r new → ClosesBelow s c (i + 1) new
-  closes-next r served = by slot refl
+  pub closes-next : (r : Reply) → Shuts shows m k c i r new l → ClosesBelow shows s c (i + 1) new l
+  closes-next r shut = by slot refl (shut b.last b.follows)
     where
-      by : (x : Option Handle) → slot ≡ x → ClosesBelow s c (i + 1) new
-      by None none =
-          let refused : Serves (Some EBADF) b.last c (Close i) r new = subst (λ o. Serves o b.last c (Close i) r new) (law_of_bad_descriptors b.last c i (leads None none)).closing served in
-          stays-free none refused.1
-      by (Some h) some = is-closed h r some (subst (λ o. Serves o b.last c (Close i) r new) (unrefused b.last c i h (leads (Some h) some)) served)
+      by : (x : Option Handle) → slot ≡ x → (t : State) × Step shows b.last c (Close i) r t × Follows new l t → ClosesBelow shows s c (i + 1) new l
+      by None none on =
+          let bad : Answered (Some EBADF) shows b.last c (Close i) r on.0 =
+          subst (λ o. Answered o shows b.last c (Close i) r on.0) (law_of_bad_descriptors b.last c i (leads None none)).closing on.1 in
+          stays-free none (subst (Follows new l) bad.1 on.2)
+      by (Some h) some on = is-closed h r on.0 some on.1 on.2
 
 -- all are closed
-pub closes-each : (s : State) (new : Mount) (c i : ℕ) → length (handles_of s.tables c) ≤ i → ClosesBelow s c i new → ClosesEach s c new
-closes-each s new c i all b = grind (arith, take_all, slot-free, cases_lt, slice_get_past)
-
--- the tables but a client's
-abbrev without : ℕ → List Table → List Table
-without n ks = filter (λ (k : Table). not (nat_eq k.client n)) ks
-
--- without its table a client has no descriptors
-handles-gone : (ks : List Table) (n : ℕ) → handles_of (without n ks) n ≡ []
-handles-gone [] n = refl
-handles-gone (k ∷ ks) n = grind (arith, handles-gone ks n)
-
--- and the others have theirs
-handles-kept : (ks : List Table) (n b : ℕ) → b ≢ n → handles_of (without n ks) b ≡ handles_of ks b
-handles-kept [] n b h = refl
-handles-kept (k ∷ ks) n b h = grind (arith, handles-kept ks n b h)
-
--- it is not attached
-any-gone : (ks : List Table) (n : ℕ) → list_any (of n) (without n ks) ≡ false
-any-gone [] n = refl
-any-gone (k ∷ ks) n = grind (arith, any-gone ks n)
-
--- and the others are as they were
-any-kept : (ks : List Table) (n b : ℕ) → b ≢ n → list_any (of b) (without n ks) ≡ list_any (of b) ks
-any-kept [] n b h = refl
-any-kept (k ∷ ks) n b h = grind (arith, any-kept ks n b h)
-
--- without a client that goes the tables are those of the others
-go : (U : Layer) (lowers : List Layer) (t : Tree) (clients new : Clients) (ks : List Table) (n : ℕ) → AreTables (IsOpenAs U lowers t clients.directories) clients ks → Detaches clients new n → KeepsPlaces clients new → AreTables (IsOpenAs U lowers t new.directories) new (without n ks)
-go U lowers t clients new ks n a h places = grind (arith, tables-but, handles-kept, any-kept, any-gone, handles-gone)
-
--- the mount stands for the state without a client that is gone
-gone : (m : Mount) (s : State) (new : Clients) (n : ℕ) → IsStateOf m s → Detaches m.clients new n → KeepsPlaces m.clients new → IsStateOf (record m { clients = new }) (without_table s n)
-gone m s new n st h places =
-    with-tables m s st (record m { clients = new }) (without n s.tables) refl refl h.next
-    (go (layer_of m.layers.upper) (lowers_of m.layers) s.tree m.clients new s.tables n st.tables h places)
-    (one-fewer m.clients new s.tables (without n s.tables) (fewer-but m.clients new s.tables (without n s.tables) n h.others (handles-kept s.tables n) (λ d. ap (open_in d) h.gone)) st.one)
-
--- a client whose descriptors are closed leaves
-pub leaves : (s : State) (m : Mount) (new : Clients) (n : ℕ) → ClosesEach s n m → Detaches m.clients new n → KeepsPlaces m.clients new → (t : State) × Leaves Nothing s n t × IsStateOf (record m { clients = new }) t
-leaves s m new n c h places = (without_table c.last n, (c.last, c.closes, refl), gone m c.last new n c.stands h places)
-
--- and it has nothing open
-pub none-open : (m new : Mount) (c : ℕ) → ∥ HasStateOf m ∥₁ → ((s : State) → IsStateOf m s → ClosesEach s c new) → (d : ℕ) → opened_by new.clients c d ≡ None
-none-open m new c state closes d = by (opened_by new.clients c d) refl
+pub closes-each : (shows : Rule) (s : State) (new : Mount) (l : Notified) (c i : ℕ) → length (handles_of s.tables c) ≤ i →
+    ClosesBelow shows s c i new l → ClosesEach shows s c new l
+closes-each shows s new l c i all b = record {
+  last = b.last;
+  closes = subst (λ hs. Closes shows s c 0 hs b.last) (take_all i (handles_of s.tables c) all) b.closes;
+  follows = b.follows;
+  none = λ d. free-slot _ (opened_by new.clients c d) (handle_of b.last.tables c d) (b.follows.stands.tables.slots c d) (free d (cases_lt d i));
+}
   where
-    by : (o : Option handles.Handle) → opened_by new.clients c d ≡ o → opened_by new.clients c d ≡ None
-    by None is = is
-    by (Some h) is = absurd (∥∥₁_elim state ⊥_prop (λ x. let no : Some h ≡ None = sym is ∙ (closes x.0 x.1).none d in cc))
+    free : (d : ℕ) → (d < i) ⊎ (i ≤ d) → handle_of b.last.tables c d ≡ None
+    free d (inl below) = b.free d below
+    free d (inr above) = b.rest d above ∙ ap held_in (slice_get_past (handles_of s.tables c) d (omega arith))
+
+-- a client has 64 descriptors
+pub slots-of : (m : Mount) (k : Notified) (s : State) (c : ℕ) → is_attached m.clients c ≡ true → Follows m k s → length (handles_of s.tables c) ≡ 64
+slots-of m k s c there f = f.stands.tables.room c ∙ ap (λ b. cond b 64 0) there
+
+-- some state follows where descriptors were closed
+pub below-followed : (shows : Rule) (old new : Mount) (k l : Notified) (c i : ℕ) → ∥ IsFollowed old k ∥₁ →
+    ((s : State) → Follows old k s → ClosesBelow shows s c i new l) → ∥ IsFollowed new l ∥₁
+below-followed shows old new k l c i has closes = ∥∥₁_map has (λ x. let b = closes x.0 x.1 in (b.last, b.follows))
+
+module _ (shows : Rule) (old new : Mount) (k l : Notified) (c : ℕ) (has : ∥ IsFollowed old k ∥₁) (closes : (s : State) → Follows old k s → ClosesEach shows s c new l) where
+  -- and the client has nothing open
+  pub none-open : (d : ℕ) → opened_by new.clients c d ≡ None
+  none-open d = by (opened_by new.clients c d) refl
+    where
+      by : (o : Option handles.Handle) → opened_by new.clients c d ≡ o → opened_by new.clients c d ≡ None
+      by None is = is
+      by (Some h) is = absurd (∥∥₁_elim has ⊥_prop (λ x. let no : Some h ≡ None = sym is ∙ (closes x.0 x.1).none d in cc))
+
+  -- nor for its watches
+  pub none-tracked : (d : ℕ) → tracked_by l.handles c d ≡ None
+  none-tracked d = by (tracked_by l.handles c d) refl
+    where
+      one : (x : IsFollowed old k) → tracked_by l.handles c d ≡ None
+      one x =
+          let each = closes x.0 x.1 in
+          let f = each.follows in
+          free-tracked l.objects f.tracks.bearers (tracked_by l.handles c d) (handle_of each.last.tables c d) (f.tracks.slots c d)
+          (slot-free _ (opened_by new.clients c d) (handle_of each.last.tables c d) (f.stands.tables.slots c d) (each.none d))
+
+      by : (o : Option TrackedHandle) → tracked_by l.handles c d ≡ o → tracked_by l.handles c d ≡ None
+      by None is = is
+      by (Some h) is = absurd (∥∥₁_elim has ⊥_prop (λ x. let no : Some h ≡ None = sym is ∙ one x in cc))
+
+-- A CLIENT GOES: its watches first, then its handles, and at last its descriptors
+pub goes-detached : (shows : Rule) (old mid new : Mount) (from muted shut to : Notified) (c : ℕ) → is_attached old.clients c ≡ true →
+    Mutes from muted c → AreKnown muted → ((s : State) → Follows old muted s → ClosesEach shows s c mid shut) →
+    ((s : State) → IsStateOf mid s → IsStateOf new (without_table s c)) → new.layers ≡ mid.layers →
+    Departs shut to c → AreKnown to → Goes shows old from c Detached new to
+goes-detached shows old mid new from muted shut to c there mutes known closes gone same departs known_to s a =
+    let each = closes (without_instance s c) (muted-follows old from muted s c a mutes known) in
+    let t : State = without_table each.last c in
+    let does : Does shows s c Detached t = (a.stands.tables.attached c ∙ there, (each.last, each.closes, refl)) in (
+      t,
+      does,
+      record {
+        stands = gone each.last each.follows.stands;
+        settled = does-settles shows s c Detached t does a.stands.layers.kept a.settled;
+        one = each.follows.one;
+        tracks = tracks-same mid new t to same (law_of_departed (upper_of mid) each.last c shut to each.follows.tracks known_to departs);
+      },
+    )
 
 -- the other clients stay as they are where nothing changes
 pub others-same : (clients : Clients) (n : ℕ) → KeepsOthers clients clients n
@@ -213,7 +415,11 @@ others-same clients n = record { attached = λ is. is; others = λ m other. refl
 
 -- and through two changes
 pub others-on : (old between new : Clients) (n : ℕ) → KeepsOthers old between n → KeepsOthers between new n → KeepsOthers old new n
-others-on old between new n h g = record { attached = λ is. g.attached (h.attached is); others = λ m other. g.others m other ∙ h.others m other; next = g.next ∙ h.next }
+others-on old between new n h g = record {
+  attached = λ is. g.attached (h.attached is);
+  others = λ m other. g.others m other ∙ h.others m other;
+  next = g.next ∙ h.next;
+}
 
 -- paths hold what they held where nothing changes
 pub paths-same : (l : Layers) → KeepsPaths l l

@@ -2,27 +2,23 @@
 use Rattle.std.specs.Prelude.{◌≡◌, ℕ, ◌+◌, Bool, true, false, List, [], ◌∷◌, nat_eq, cond, map, Option, Some, None, slice_get}
 use Rattle.ov_base.specs.declared.call.Call.{Call}
 use Rattle.ov_base.specs.declared.reply.Reply.{Reply}
+use Rattle.plain_model.specs.Watching.{Rule}
 use Rattle.plain_model.specs.Machine.{State}
 use Rattle.plain_model.specs.Runs.{Called, Entry, Run}
-use Rattle.overlay_core.specs.declared.clients.Clients.{Clients}
+use Rattle.notice_laws.specs.Notified.{Notified}
+use Rattle.mount_calls.specs.declared.clients.Clients.{Clients}
 use Rattle.overlay_core.specs.declared.job.Job.{Job}
 use Rattle.overlay_core.specs.declared.job.Standing.{Standing}
 use Rattle.overlay_core.specs.declared.job.Standing.TheVariants.{Open, Answered, GivenUp}
-use Rattle.overlay_core.specs.declared.mount.Mount.{Mount}
-use Rattle.overlay_core.specs.Agreement.{Agrees, Goes}
-use Rattle.overlay_core.specs.Attaching.{is_attached}
-use Rattle.overlay_core.specs.Offers.{is_offered}
-use Rattle.overlay_core.specs.Rules.{Nothing}
+use Rattle.mount_calls.specs.declared.mount.Mount.{Mount}
+use Rattle.overlay_core.specs.Watching.{Agrees, Goes}
+use Rattle.mount_calls.specs.Attaching.{is_attached}
 
 abbrev pub call_of : Job → ℕ × Call
 call_of j = (j.client, j.call)
 
 abbrev pub calls_of : List Job → List (ℕ × Call)
 calls_of jobs = map call_of jobs
-
--- each call is offered
-abbrev pub AreOffered : List (ℕ × Call) → Type 0
-AreOffered calls = (i client : ℕ) (call : Call) → slice_get calls i ≡ Some (client, call) → is_offered call ≡ true
 
 -- the entries of a history that these replies are: each its job's client's, for its job's call
 abbrev pub AreEntries : List (ℕ × Call) → List (ℕ × Reply) → List Entry → Type 0
@@ -31,14 +27,15 @@ AreEntries calls (r ∷ rs) (e ∷ es) = (call : Call) × (slice_get calls r.0 �
 AreEntries calls [] (e ∷ es) = ⊥
 AreEntries calls (r ∷ rs) [] = ⊥
 
--- THE REPLIES, in the order of finishing, are those of a run of the plain machine
-abbrev pub Drives : List (ℕ × Call) → Mount → List (ℕ × Reply) → Mount → Type 0
-Drives calls old replies new =
-    (s : State) → Agrees old s → (es : List Entry) × AreEntries calls replies es × ((t : State) × Run Nothing s es t × Agrees new t)
+-- THE REPLIES, in the order of finishing, are those of a run of the plain machine, and what the clients are told is what the run tells
+abbrev pub Drives : Rule → List (ℕ × Call) → Mount → Notified → List (ℕ × Reply) → Mount → Notified → Type 0
+Drives shows calls old k replies new l =
+    (s : State) → Agrees old k s → (es : List Entry) × AreEntries calls replies es × ((t : State) × Run shows s es t × Agrees new l t)
 
 -- one job's step, where it finishes the job's call
-abbrev pub Answers : List (ℕ × Call) → Mount → ℕ → Reply → Mount → Type 0
-Answers calls old index reply new = (client : ℕ) × (call : Call) × (slice_get calls index ≡ Some (client, call)) × (is_offered call ≡ true → Goes old client (Called call reply) new)
+abbrev pub Answers : Rule → List (ℕ × Call) → Mount → Notified → ℕ → Reply → Mount → Notified → Type 0
+Answers shows calls old k index reply new l =
+    (client : ℕ) × (call : Call) × (slice_get calls index ≡ Some (client, call)) × Goes shows old k client (Called call reply) new l
 
 abbrev pub one_if_open : Standing → ℕ
 one_if_open Open = 1

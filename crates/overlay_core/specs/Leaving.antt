@@ -1,15 +1,44 @@
--- What a client that leaves does before it is gone.
-use Rattle.std.specs.Prelude.{◌≡◌, ℕ, None}
+-- What agrees with a mount while a client goes, whose watches ended first, and by what bits its closes are told.
+use Rattle.std.specs.Prelude.{◌≡◌, ℕ, ◌+◌, cond, List, None}
+use Rattle.ov_base.specs.declared.call.Call.TheVariants.{Close}
+use Rattle.ov_base.specs.declared.reply.Reply.{Reply}
+use Rattle.plain_model.specs.Watching.{CLOSE_NOWRITE, CLOSE_WRITE, ISDIR, Instance, Rule}
 use Rattle.plain_model.specs.Machine.{State, handles_of}
-use Rattle.plain_model.specs.Runs.{Closes, without_instance}
-use Rattle.overlay_core.specs.declared.mount.Mount.{Mount}
-use Rattle.overlay_core.specs.Attaching.{opened_by}
-use Rattle.overlay_core.specs.Rules.{Nothing}
-use Rattle.overlay_core.specs.States.{IsStateOf}
+use Rattle.plain_model.specs.Settling.{IsSettled}
+use Rattle.plain_model.specs.Runs.{Closes, Step}
+use Rattle.layer_tree.specs.Tree.{layer_of}
+use Rattle.mount_laws.specs.Nodes.{HaveOneName}
+use Rattle.open_handles.specs.declared.handle.Handle as handles
+use Rattle.open_handles.specs.declared.handle.Handle.TheVariants.{Directory, File}
+use Rattle.notice_laws.specs.Notified.{Notified, Tracks}
+use Rattle.mount_calls.specs.declared.mount.Mount.{Mount}
+use Rattle.mount_calls.specs.Attaching.{opened_by}
+use Rattle.mount_calls.specs.States.{IsStateOf}
 
--- without its watches the client closes each handle that it has, the lowest descriptor first, and has none then
-pub record ClosesEach (s : State) (client : ℕ) (new : Mount) : Type 0 where
+-- by what bits the close of an open handle is told
+abbrev pub closing : handles.Handle → ℕ
+closing (Directory o) = CLOSE_NOWRITE + ISDIR
+closing (File f) = cond f.writes CLOSE_WRITE CLOSE_NOWRITE
+
+-- A state agrees but for its instances: with some in their place it is one that runs lead to.
+pub record Follows (m : Mount) (k : Notified) (s : State) : Type 0 where
+  pub stands : IsStateOf m s
+  pub settled : (es : List Instance) × IsSettled (record s { instances = es })
+  pub one : HaveOneName s.tree
+  pub tracks : Tracks (layer_of m.layers.upper) s k
+
+-- some state agrees so
+abbrev pub IsFollowed : Mount → Notified → Type 0
+IsFollowed m k = (s : State) × Follows m k s
+
+-- from each state that agrees so, the close of a client's descriptor leads to one that does
+abbrev pub Shuts : Rule → Mount → Notified → ℕ → ℕ → Reply → Mount → Notified → Type 0
+Shuts shows old k client d reply new l =
+    (s : State) → Follows old k s → (t : State) × Step shows s client (Close d) reply t × Follows new l t
+
+-- a client closes each handle that it has, the lowest descriptor first, and has none then
+pub record ClosesEach (shows : Rule) (s : State) (client : ℕ) (new : Mount) (l : Notified) : Type 0 where
   pub last : State
-  pub closes : Closes Nothing (without_instance s client) client 0 (handles_of s.tables client) last
-  pub stands : IsStateOf new last
+  pub closes : Closes shows s client 0 (handles_of s.tables client) last
+  pub follows : Follows new l last
   pub none : (d : ℕ) → opened_by new.clients client d ≡ None

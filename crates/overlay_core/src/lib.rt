@@ -1,25 +1,21 @@
-//! The core: a mount with the clients on it, whose calls are steps of the plain machine.
+//! The core: a mount with the clients on it and their watches, whose calls are steps of the plain machine.
 #![tactic(auto)]
 
-mod attribute_calls;
-mod attributes;
-mod clients;
-mod closing;
-mod file_bytes;
-mod file_calls;
-mod files;
+mod arm_calls;
+mod attribute_notices;
+mod client_notices;
 mod job;
-mod mount;
 mod mounted;
-mod open_calls;
-mod removals;
+mod move_notices;
+mod name_notices;
+mod open_notices;
+mod perform;
 mod schedule;
-mod status;
-mod user_attributes;
-mod write_calls;
+mod use_notices;
+mod watch_calls;
+mod watched;
 
 pub use job::{Job, Standing};
-pub use mount::Mount;
 pub use mounted::{Core, MountFault, Turn, Unmounted};
 pub use schedule::drive;
-pub use status::{status_at, status_of};
+pub use watched::Watched;

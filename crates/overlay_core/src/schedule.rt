@@ -2,32 +2,33 @@
 ghost use Rattle.std.specs.Prelude.{◌≡◌, ◌+◌, ◌<◌, ◌≤◌, ◌^◌, ℕ, None, IfOk, IfSome, OnErr, OnOk, slice_get, length, nat_eq};
 ghost use Rattle.std.specs.List.{list_any};
 ghost use Rattle.copy_up.specs.Showing.{StaysThin};
-ghost use Rattle.overlay_core.specs.Agreement.{Stays};
-ghost use Rattle.overlay_core.specs.Attaching.{KeepsAttached};
-ghost use Rattle.overlay_core.specs.Drives.{calls_of, AreOffered, Drives, Answers, PassesOver, answered, replies_to, one_if_some, open_count, count_some};
+ghost use Rattle.overlay_core.specs.Watching.{Stays};
+ghost use Rattle.mount_calls.specs.Attaching.{KeepsAttached};
+ghost use Rattle.overlay_core.specs.Drives.{calls_of, Drives, Answers, PassesOver, answered, replies_to, one_if_some, open_count, count_some};
 
 use crate::job::{Job, Standing};
 use crate::mounted::{Core, Turn};
 use ov_base::Reply;
 use std::alloc::{AllocError, Global};
+use watch_table::{Callback, Rule};
 
 /// Gives jobs steps in the order of a schedule, and answers the replies, each with its job's index, in the order of finishing. An index
 /// past the end, of a job that is over or of a client that isn't attached is skipped. Want of memory for the replies changes nothing.
-pub fn drive(
+pub fn drive<F: Callback, R: Rule>(
     alloc: Global,
-    core: &mut Core,
+    core: &mut Core<F, R>,
     jobs: &mut [Job],
     schedule: &[usize],
 ) -> Result<Vec<(usize, Reply)>, AllocError>
     requires { core.old.finished + length schedule.now < 2 ^ 63 }
-    ensures run { IfOk result (λ replies. AreOffered (calls_of jobs.old) → Drives (calls_of jobs.old) core.old.mount replies.items core.new.mount) }
+    ensures run { IfOk result (λ replies. Drives R.shows (calls_of jobs.old) core.old.watched.mount core.old.watched.notifier replies.items core.new.watched.mount core.new.watched.notifier) }
     ensures calls { calls_of jobs.new ≡ calls_of jobs.old }
     ensures once { IfOk result (λ replies. (i : ℕ) → answered jobs.new i ≡ answered jobs.old i + replies_to i replies.items) }
-    ensures passed { OnOk result ((i : ℕ) → PassesOver core.old.mount.clients (slice_get jobs.old i) (slice_get jobs.new i) (list_any (λ x. nat_eq x i) schedule.now)) }
+    ensures passed { OnOk result ((i : ℕ) → PassesOver core.old.watched.mount.clients (slice_get jobs.old i) (slice_get jobs.new i) (list_any (λ x. nat_eq x i) schedule.now)) }
     ensures finished { IfOk result (λ replies. core.new.finished ≡ core.old.finished + length replies.items) }
-    ensures clients { KeepsAttached core.old.mount.clients core.new.mount.clients }
-    ensures lowers { core.new.mount.layers.lowers ≡ core.old.mount.layers.lowers }
-    ensures thin { StaysThin core.old.mount.layers core.new.mount.layers }
+    ensures clients { KeepsAttached core.old.watched.mount.clients core.new.watched.mount.clients }
+    ensures lowers { core.new.watched.mount.layers.lowers ≡ core.old.watched.mount.layers.lowers }
+    ensures thin { StaysThin core.old.watched.mount.layers core.new.watched.mount.layers }
     ensures err { OnErr result ((core.new ≡ core.old) × (jobs.new ≡ jobs.old)) }
 {
     let mut replies = Vec::with_capacity(alloc, jobs.len())?;
@@ -41,18 +42,18 @@ pub fn drive(
 }
 
 // One step of the job of this index, and the reply where it finishes.
-fn one(core: &mut Core, jobs: &mut [Job], index: usize) -> Option<Reply>
+fn one<F: Callback, R: Rule>(core: &mut Core<F, R>, jobs: &mut [Job], index: usize) -> Option<Reply>
     requires { core.old.finished + 1 < 2 ^ 63 }
     ensures calls { calls_of jobs.new ≡ calls_of jobs.old }
-    ensures answers { IfSome result (λ reply. Answers (calls_of jobs.old) core.old.mount index reply core.new.mount) }
-    ensures stays { result ≡ None → Stays core.old.mount core.new.mount }
+    ensures answers { IfSome result (λ reply. Answers R.shows (calls_of jobs.old) core.old.watched.mount core.old.watched.notifier index reply core.new.watched.mount core.new.watched.notifier) }
+    ensures stays { result ≡ None → Stays core.old.watched.mount core.old.watched.notifier core.new.watched.mount core.new.watched.notifier }
     ensures room { open_count jobs.new + count_some result ≤ open_count jobs.old }
     ensures once { (i : ℕ) → answered jobs.new i ≡ answered jobs.old i + one_if_some result index i }
-    ensures passed { (i : ℕ) → PassesOver core.old.mount.clients (slice_get jobs.old i) (slice_get jobs.new i) (nat_eq index i) }
+    ensures passed { (i : ℕ) → PassesOver core.old.watched.mount.clients (slice_get jobs.old i) (slice_get jobs.new i) (nat_eq index i) }
     ensures finished { core.new.finished ≡ core.old.finished + count_some result }
-    ensures clients { KeepsAttached core.old.mount.clients core.new.mount.clients }
-    ensures lowers { core.new.mount.layers.lowers ≡ core.old.mount.layers.lowers }
-    ensures thin { StaysThin core.old.mount.layers core.new.mount.layers }
+    ensures clients { KeepsAttached core.old.watched.mount.clients core.new.watched.mount.clients }
+    ensures lowers { core.new.watched.mount.layers.lowers ≡ core.old.watched.mount.layers.lowers }
+    ensures thin { StaysThin core.old.watched.mount.layers core.new.watched.mount.layers }
 {
     if index >= jobs.len() {
         return None;

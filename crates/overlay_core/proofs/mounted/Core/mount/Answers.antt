@@ -1,20 +1,20 @@
-use Rattle.std.proofs.Common.{arith}
+use Rattle.std.proofs.Common.{arith, subst, sym}
 use Rattle.std.proofs.lemmas.Grind.{merely}
 use Rattle.plain_model.specs.Layers.{AreLayers}
+use Rattle.merged_lookup.specs.declared.layers.Layers.{Layers}
 use Rattle.merged_lookup.specs.Merged.{layers_of}
 use Rattle.overlay_core.specs.Mounting.{machine_options}
-use Rattle.overlay_core.proofs.Agreeing.{begins-with, has-state}
+use Rattle.overlay_core.specs.Watching.{BeginsWith}
+use Rattle.overlay_core.proofs.Agreeing.{has-state}
 use Rattle.overlay_core.proofs.mounted.Core.mount.Goals as goal
 
 pub invariant_of-result : goal.invariant_of-result
-invariant_of-result c =
+invariant_of-result g c =
+    let w = c.in_ok-watched.watched in
     let are : AreLayers (layers_of c.new.result) = rw (c.new.ensures.upper, c.new.ensures.lowers) c.requires.layers in
-    let begins = begins-with c.in_ok-mount.mount c.new.result c.args.options c.in_ok-mount.ensures.layers are c.in_ok-mount.ensures.begins in
+    let begins : BeginsWith w.mount.layers (machine_options c.args.options) w.mount w.notifier = subst (λ (l : Layers). BeginsWith l (machine_options c.args.options) w.mount w.notifier) (sym c.in_ok-watched.ensures.layers) c.in_ok-watched.ensures.begins in
     record {
-      agrees = merely (has-state c.in_ok-mount.mount c.new.result (machine_options c.args.options) c.in_ok-mount.ensures.layers are begins);
+      agrees = merely (has-state w.mount w.notifier c.new.result (machine_options c.args.options) c.in_ok-watched.ensures.layers are begins);
       begins = merely (λ none. begins);
-      given = omega (arith, c.in_ok-mount.ensures.first);
+      given = omega (arith, c.in_ok-watched.ensures.first);
     }
-
-pub returns-clause-begins : goal.returns-clause-begins
-returns-clause-begins c = begins-with c.in_ok-mount.mount c.new.result c.args.options c.in_ok-mount.ensures.layers (rw (c.new.ensures.upper, c.new.ensures.lowers) c.requires.layers) c.in_ok-mount.ensures.begins

@@ -1,0 +1,224 @@
+-- A watch is armed by the number under which what stands at its path is held, or refused.
+use Rattle.std.proofs.Common.{◌≡◌, ◌≢◌, ℕ, ◌<◌, pos, Bool, true, false, not, ◌&&◌, inl, inr, List, ◌∷◌, Option, None, Some, IsSome, is_none, nat_lt, refl, sym, ap, ◌∙◌, subst}
+use Rattle.ov_base.specs.declared.call.Call.TheVariants.{Arm}
+use Rattle.ov_base.specs.declared.errno.Errno.{Errno}
+use Rattle.ov_base.specs.declared.errno.Errno.TheVariants.{EBUSY, ELOOP, ENOENT, ENOSPC}
+use Rattle.ov_base.specs.declared.node_id.NodeId.{NodeId}
+use Rattle.ov_base.specs.declared.node_id.NodeId.TheVariants.{New}
+use Rattle.ov_base.specs.declared.reply.Reply.TheVariants.{Refused, Watch}
+use Rattle.plain_model.specs.Layers.{Layer, Path, Shown, shows}
+use Rattle.plain_model.specs.Tree.{node_at}
+use Rattle.plain_model.specs.Alike.{AnswersAlike}
+use Rattle.plain_model.specs.Watching.{Rule}
+use Rattle.plain_model.specs.Machine.{State, armed_of, hooks_of, instance_of, watch_on, watches_of}
+use Rattle.plain_model.specs.Refusals.{◌or_else◌, WATCHES_MAX, is_busy, refusal, when}
+use Rattle.plain_model.specs.Changes.{after}
+use Rattle.plain_model.specs.Replies.{next_number, number_of}
+use Rattle.plain_model.specs.Runs.{Called}
+use Rattle.merged_lookup.specs.Merged.{layers_of, lowers_of}
+use Rattle.mount_laws.specs.Attributes.{chown_fault}
+use Rattle.mount_laws.specs.Looks.{IsMountOf, absent, or_else as first, parents_fault, shows_link, walk_fault}
+use Rattle.mount_laws.proofs.Looks.{found-at}
+use Rattle.open_handles.specs.Tracked.{Spot, Tracked, next_of, spot_of}
+use Rattle.notice_laws.specs.declared.object.Object.{Object}
+use Rattle.notice_laws.specs.declared.object.Object.TheVariants as object
+use Rattle.notice_laws.specs.Notified.{AreKnown, Notified, Tracks, stands_for}
+use Rattle.notice_laws.specs.Objects.{IsNumberOf, IsObject, Means}
+use Rattle.notice_laws.specs.Steps.{IsSpotOf}
+use Rattle.notice_laws.proofs.ArmedWatches.{law_of_armed}
+use Rattle.notice_laws.proofs.Clients.{law_of_asked}
+use Rattle.notice_laws.proofs.FewerObjects.{law_of_fewer_numbers}
+use Rattle.notice_laws.proofs.GivenNumbers.{law_of_held_number}
+use Rattle.notice_laws.proofs.Numbers.{law_of_numbers}
+use Rattle.notifier.specs.Arming.{ArmsAt, HoldsAt, IsArmRefused, IsLeft, refusal_of, watch_of}
+use Rattle.watch_table.specs.Listening.{slot_refusal}
+use Rattle.mount_calls.specs.declared.mount.Mount.{Mount}
+use Rattle.mount_calls.specs.Attaching.{is_attached}
+use Rattle.mount_calls.specs.States.{Serves}
+use Rattle.overlay_core.specs.PathFaults.{arm_fault}
+use Rattle.overlay_core.specs.Watching.{Agrees, Goes, Stays}
+use Rattle.overlay_core.proofs.ArmCalls.{arm-refusal, node_refusal}
+use Rattle.overlay_core.proofs.WatchCalls.{goes-refused}
+use Rattle.overlay_core.proofs.Watching.{goes-agreed, passes, upper_of, with-instances}
+
+-- of two that refuse nothing neither does
+first-none : (a b : Option Errno) → first a b ≡ None → (a ≡ None) × (b ≡ None)
+first-none None b h = (refl, h)
+first-none (Some e) b h = absurd (let no : Some e ≡ None = h in cc)
+
+-- a refusal that doesn't come wasn't called for
+none-when : (b : Bool) (e : Errno) → when b e ≡ None → b ≡ false
+none-when true e h = absurd (let no : Some e ≡ None = h in cc)
+none-when false e h = refl
+
+-- where the path refuses nothing it shows no link
+pub no-link : (Ls : List Layer) (p : Path) (mask : ℕ) → arm_fault Ls p mask ≡ None → shows_link (shows 0 Ls p) ≡ false
+no-link Ls p mask h =
+    let chown = (first-none (chown_fault Ls p) _ h).0 in
+    none-when (shows_link (shows 0 Ls p)) ELOOP (first-none (walk_fault Ls p) _ chown).1
+
+-- and something stands there that is tracked
+pub is-tracked : (U : Layer) (lowers : List Layer) (p : Path) (mask : ℕ) (o : Object) → arm_fault (U ∷ lowers) p mask ≡ None → IsObject U lowers p o →
+    o ≢ object.Other
+is-tracked U lowers p mask o h is other = elim (subst (IsObject U lowers p) other is) [
+  | inl none ↦ shown (shows 0 (U ∷ lowers) p) (first-none (parents_fault (U ∷ lowers) p) _ walk).1 none
+  | inr link ↦ (let no : true ≡ false = sym link ∙ no-link (U ∷ lowers) p mask h in cc)
+]
+  where
+    walk : walk_fault (U ∷ lowers) p ≡ None
+    walk = (first-none (walk_fault (U ∷ lowers) p) _ (first-none (chown_fault (U ∷ lowers) p) _ h).0).0
+
+    shown : (x : Option Shown) → absent x ≡ None → is_none x ≡ true → ⊥
+    shown None h none = let no : Some ENOENT ≡ None = h in cc
+    shown (Some x) h none = let no : false ≡ true = none in cc
+
+-- the number of what is tracked at its spot
+number-held : (objects : Tracked) (p : Path) (o : Object) (spot : Spot) (n : ℕ) → IsSpotOf p o spot → spot_of objects n ≡ Some spot →
+    IsNumberOf objects p o (Some n)
+number-held objects p object.Directory spot n is at = at ∙ ap Some is
+number-held objects p object.Lower spot n is at = at ∙ ap Some is
+number-held objects p (object.Upper key last) spot n is at = at ∙ ap Some is
+number-held objects p object.Other spot n is at = absurd is
+
+module _ (U : Layer) (lowers : List Layer) (s : State) (m : IsMountOf U lowers s) (k : Notified) (t : Tracks U s k)
+    (below : (n : ℕ) → IsSome (spot_of k.objects n) → n < next_of k.objects)
+    (p : Path) (o : Object) (is : IsObject U lowers p o) (file : shows_link (shows 0 (U ∷ lowers) p) ≡ false)
+    (held : Tracked) (number : ℕ) (at : HoldsAt k.objects held p o number) where
+  -- what is held is tracked
+  pub tracks-held : Tracks U s (record k { objects = held })
+  tracks-held = law_of_held_number U lowers s m k t below p o at.spot is file at.stands held number at.holds
+
+  -- its number means the node that stands there
+  means-held : Means held tracks-held.bearers (Some number) (node_at s.tree p)
+  means-held =
+      law_of_numbers U lowers s m held tracks-held.bearers tracks-held.borne p o (Some number) is
+      (number-held held p o at.spot number at.stands at.holds.sets.here)
+
+  -- a client's instance answers with it as the state's does
+  asked-held : (c : ℕ) → AnswersAlike (stands_for held tracks-held.bearers) (instance_of k.instances c) (instance_of s.instances c)
+  asked-held c = law_of_asked U s (record k { objects = held }) tracks-held c
+
+  -- an arm of it is refused as one of the node is
+  pub held-refusal : (c slot : ℕ) → node_refusal s c slot p ≡ refusal_of k c slot number
+  held-refusal c slot = ap of (found-at s.tree p) ∙ by (node_at s.tree p) means-held
+    where
+      of : Option NodeId → Option Errno
+      of d =
+          when (is_busy (watches_of (instance_of s.instances c)) slot d) EBUSY
+          or_else when (is_none (watch_on (watches_of (instance_of s.instances c)) d) && not (nat_lt (armed_of (instance_of s.instances c)) WATCHES_MAX)) ENOSPC
+
+      by : (d : Option NodeId) → Means held tracks-held.bearers (Some number) d → of d ≡ refusal_of k c slot number
+      by None h = absurd h
+      by (Some d) h =
+          let a = asked-held c in
+          let one : stands_for held tracks-held.bearers (New number) d = (number, refl, h.0, h.1) in
+          ap (λ b. when b EBUSY or_else when (is_none (watch_on (watches_of (instance_of s.instances c)) (Some d)) && not (nat_lt (armed_of (instance_of s.instances c)) WATCHES_MAX)) ENOSPC)
+          (sym (a.busy (New number) d slot one))
+          ∙ ap (λ b. when (is_busy (watches_of (instance_of k.instances c)) slot (Some (New number))) EBUSY or_else when (b && not (nat_lt (armed_of (instance_of s.instances c)) WATCHES_MAX)) ENOSPC)
+          (sym (a.free (New number) d one))
+          ∙ ap (λ n. when (is_busy (watches_of (instance_of k.instances c)) slot (Some (New number))) EBUSY or_else when (is_none (watch_on (watches_of (instance_of k.instances c)) (Some (New number))) && not (nat_lt n WATCHES_MAX)) ENOSPC)
+          (sym a.armed)
+
+  -- and gives the same watch
+  pub held-number : (c : ℕ) → watch_of k c number ≡ number_of (watch_on (watches_of (instance_of s.instances c)) (node_at s.tree p)) (next_number (instance_of s.instances c))
+  held-number c = by (node_at s.tree p) means-held
+    where
+      by : (d : Option NodeId) → Means held tracks-held.bearers (Some number) d →
+          watch_of k c number ≡ number_of (watch_on (watches_of (instance_of s.instances c)) d) (next_number (instance_of s.instances c))
+      by None h = absurd h
+      by (Some d) h =
+          let a = asked-held c in
+          ap (λ n. number_of (watch_on (watches_of (instance_of k.instances c)) (Some (New number))) n) a.next
+          ∙ a.number (New number) d (next_number (instance_of s.instances c)) (number, refl, h.0, h.1)
+
+-- the refusal of an arm, by what the mount and its watches say
+refusal-by : (m : Mount) (k : Notified) (s : State) → Agrees m k s → (c slot : ℕ) (p : Path) (mask : ℕ) (x y z : Option Errno) →
+    slot_refusal (hooks_of (instance_of k.instances c)) slot mask ≡ x → arm_fault (layers_of m.layers) p mask ≡ y → node_refusal s c slot p ≡ z →
+    refusal s c (Arm slot p mask) ≡ first x (first y z)
+refusal-by m k s a c slot p mask x y z slots fault node =
+    arm-refusal (upper_of m) (lowers_of m.layers) s a.stands.layers c slot p mask
+    ∙ ap (λ h. first (slot_refusal h slot mask) (first (arm_fault (layers_of m.layers) p mask) (node_refusal s c slot p)))
+    (sym (law_of_asked (upper_of m) s k a.tracks c).hooks)
+    ∙ ap (λ b. first b (first (arm_fault (layers_of m.layers) p mask) (node_refusal s c slot p))) slots
+    ∙ ap (λ b. first x (first b (node_refusal s c slot p))) fault
+    ∙ ap (λ b. first x (first y b)) node
+
+-- AN ARM IS REFUSED for its slot or its mask
+pub slot-refused : (shows : Rule) (m : Mount) (k : Notified) (c slot : ℕ) (p : Path) (mask : ℕ) (e : Errno) → is_attached m.clients c ≡ true →
+    slot_refusal (hooks_of (instance_of k.instances c)) slot mask ≡ Some e → Goes shows m k c (Called (Arm slot p mask) (Refused e)) m k
+slot-refused shows m k c slot p mask e there slots =
+    goes-refused shows m k c (Arm slot p mask) e there (λ s a. refusal-by m k s a c slot p mask (Some e) _ _ slots refl refl)
+
+-- for its path
+pub path-refused : (shows : Rule) (m : Mount) (k : Notified) (c slot : ℕ) (p : Path) (mask : ℕ) (e : Errno) → is_attached m.clients c ≡ true →
+    slot_refusal (hooks_of (instance_of k.instances c)) slot mask ≡ None → arm_fault (layers_of m.layers) p mask ≡ Some e →
+    Goes shows m k c (Called (Arm slot p mask) (Refused e)) m k
+path-refused shows m k c slot p mask e there slots fault =
+    goes-refused shows m k c (Arm slot p mask) e there (λ s a. refusal-by m k s a c slot p mask None (Some e) _ slots fault refl)
+
+-- what leaves each object where it was leaves what is tracked
+pub left-tracks : (U : Layer) (s : State) (old new : Notified) → IsLeft old new → AreKnown new → Tracks U s old → Tracks U s new
+left-tracks U s old new left known t =
+    subst (Tracks U s) (sym left.rest)
+    (law_of_fewer_numbers U s old t new.objects (λ n spot is. sym (left.spots n) ∙ is) (subst AreKnown left.rest known))
+
+-- so each state that agreed agrees still
+pub left-stays : (m : Mount) (old new : Notified) → IsLeft old new → AreKnown new → Stays m old m new
+left-stays m old new left known s a = record {
+  stands = a.stands;
+  settled = a.settled;
+  one = a.one;
+  tracks = left-tracks (upper_of m) s old new left known a.tracks;
+}
+
+module _ (shows : Rule) (m : Mount) (old new : Notified) (c slot : ℕ) (p : Path) (mask : ℕ) (o : Object)
+    (there : is_attached m.clients c ≡ true)
+    (slots : slot_refusal (hooks_of (instance_of old.instances c)) slot mask ≡ None)
+    (fault : arm_fault (layers_of m.layers) p mask ≡ None)
+    (is : IsObject (upper_of m) (lowers_of m.layers) p o)
+    (below : (n : ℕ) → IsSome (spot_of old.objects n) → n < next_of old.objects)
+    (known : AreKnown new) where
+  -- an arm that passes its path is refused as the object of its number is
+  refusal-held : (s : State) → Agrees m old s → (held : Tracked) (number : ℕ) → HoldsAt old.objects held p o number →
+      refusal s c (Arm slot p mask) ≡ refusal_of old c slot number
+  refusal-held s a held number at =
+      refusal-by m old s a c slot p mask None None (refusal_of old c slot number) slots fault
+      (held-refusal (upper_of m) (lowers_of m.layers) s a.stands.layers old a.tracks below p o is (no-link (layers_of m.layers) p mask fault) held
+      number at c slot)
+
+  -- AN ARM IS REFUSED for what stands at its path
+  pub object-refused : (e : Errno) → IsArmRefused old c slot p o e → IsLeft old new → Goes shows m old c (Called (Arm slot p mask) (Refused e)) m new
+  object-refused e not left =
+      goes-agreed shows c (Arm slot p mask) (Refused e) m m old new there
+      (λ s a. subst (λ x. Serves x s c (Arm slot p mask) (Refused e) m) (sym (refused s a)) (refl, a.stands))
+      (λ s a f same. left-tracks (upper_of m) s old new left known a.tracks)
+      (λ s a fine. absurd (let no : None ≡ Some e = sym fine ∙ refused s a in cc))
+    where
+      refused : (s : State) → Agrees m old s → refusal s c (Arm slot p mask) ≡ Some e
+      refused s a = refusal-held s a not.held not.number not.holds ∙ not.refused
+
+  -- AN ARM GOES
+  pub arm-goes : (n : ℕ) → ArmsAt old new c slot mask p o n → Goes shows m old c (Called (Arm slot p mask) (Watch (pos n))) m new
+  arm-goes n arms =
+      goes-agreed shows c (Arm slot p mask) (Watch (pos n)) m m old new there serves
+      (λ s a e same. absurd (let no : Watch (pos n) ≡ Refused e = same in cc))
+      (λ s a fine. law_of_armed shows (upper_of m) (upper_of m) (lowers_of m.layers) s c slot mask p
+      (passes s c (Arm slot p mask) (Watch (pos n)) m m old refl a fine (serves s a) (λ d key q live at. live)) o is (record old { objects = arms.held })
+      new (tracks s a) known arms.arms)
+    where
+      tracks : (s : State) → Agrees m old s → Tracks (upper_of m) s (record old { objects = arms.held })
+      tracks s a =
+          tracks-held (upper_of m) (lowers_of m.layers) s a.stands.layers old a.tracks below p o is (no-link (layers_of m.layers) p mask fault)
+          arms.held arms.arms.number arms.holds
+
+      answer : (s : State) → Agrees m old s →
+          n ≡ number_of (watch_on (watches_of (instance_of s.instances c)) (node_at s.tree p)) (next_number (instance_of s.instances c))
+      answer s a =
+          arms.given
+          ∙ held-number (upper_of m) (lowers_of m.layers) s a.stands.layers old a.tracks below p o is (no-link (layers_of m.layers) p mask fault)
+          arms.held arms.arms.number arms.holds c
+
+      serves : (s : State) → Agrees m old s → Serves (refusal s c (Arm slot p mask)) s c (Arm slot p mask) (Watch (pos n)) m
+      serves s a =
+          subst (λ x. Serves x s c (Arm slot p mask) (Watch (pos n)) m) (sym (refusal-held s a arms.held arms.arms.number arms.holds ∙ arms.allowed))
+          (ap (λ i. Watch (pos i)) (answer s a), with-instances m s (after s c (Arm slot p mask)).instances a.stands)

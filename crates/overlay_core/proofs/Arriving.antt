@@ -1,0 +1,176 @@
+-- A mount begins, and clients come, on both sides.
+use Rattle.std.proofs.Common.{arith, ◌≡◌, ℕ, suc, ◌<◌, ◌≤◌, Bool, true, false, List, [], ◌∷◌, None, All, refl, sym, ap, ◌∙◌, subst, subst₂, length, nat_eq, get_or, zero, ◌||◌, ◌⊎◌, inl, inr}
+use mathlib.Core.Logic.{∥∥₁_elim}
+use mathlib.Core.HLevel.{⊥_prop}
+use Rattle.std.specs.BTreeMap.{btree_map_len}
+use Rattle.std.specs.List.{IsDistinct, list_any}
+use Rattle.std.specs.Ordering.{eq_by_cmp, nat_cmp}
+use Rattle.std.proofs.lemmas.Bool.{cases_lt, eq-eqb}
+use Rattle.std.proofs.lemmas.Cmp.{eq_by_cmp_equiv, nat_cmp_total}
+use Rattle.std.proofs.Math.Bool.{or-true}
+use Rattle.std.proofs.lemmas.List.{length-map}
+use Rattle.std.proofs.lemmas.List.Elements.{All-from_get_or}
+use Rattle.std.proofs.lemmas.Map.Steps.{length-le_from_keys}
+use Rattle.plain_model.specs.Layers.{AreLayers, Layer}
+use Rattle.plain_model.specs.Tree.{Tree}
+use Rattle.plain_model.specs.Merging.{IsMerge}
+use Rattle.plain_model.specs.Watching.{Instance, Rule, silent}
+use Rattle.plain_model.specs.Machine.{MountOptions, State, Table, handle_of, opening}
+use Rattle.plain_model.specs.Alike.{AreAllAlike, Identities}
+use Rattle.plain_model.specs.Settling as settling
+use Rattle.plain_model.specs.Runs.{Attached, Does, joined}
+use Rattle.plain_model.proofs.Clients.{attached-is, hearers_of}
+use Rattle.plain_model.proofs.Settled.{does-settles, law_of_settled_opening}
+use Rattle.layer_tree.specs.Tree.{layer_of}
+use Rattle.merged_lookup.specs.declared.layers.Layers.{Layers}
+use Rattle.merged_lookup.specs.Merged.{layers_of, lowers_of}
+use Rattle.mount_laws.proofs.OneName.{law_of_one_name_begun}
+use Rattle.open_handles.specs.Tracked.{Tracked, spot_of}
+use Rattle.open_handles.specs.TrackedHandles.{is_tracked}
+use Rattle.notice_laws.specs.Clients.{Joins}
+use Rattle.notice_laws.specs.Notified.{AreBorne, AreKnown, IsSlotOn, Notified, Tracks, stands_for}
+use Rattle.notice_laws.proofs.Clients.{law_of_begun, law_of_joined}
+use Rattle.notifier.specs.Notifying.{IsAsBefore}
+use Rattle.mount_calls.specs.declared.mount.Mount.{Mount}
+use Rattle.mount_calls.specs.Attaching.{Attaches, TakesBack}
+use Rattle.mount_calls.specs.States.{IsStateOf, StaysState}
+use Rattle.mount_calls.proofs.Coming.{back-same}
+use Rattle.overlay_core.specs.Watching.{Agrees, BeginsWith, Goes, HasState, Stays}
+use Rattle.overlay_core.proofs.Watching.{tracks-same, upper_of}
+
+-- a mount of layers begins with each of their merges, where nothing is kept for watches
+pub begins-with : (m : Mount) (k : Notified) (layers : Layers) (redirects : Bool) → m.layers ≡ layers → AreLayers (layers_of layers) →
+    ((t : Tree) → AreLayers (layers_of layers) → IsMerge (layer_of layers.upper) (lowers_of layers) t →
+    IsStateOf m (opening t (record { redirects = redirects; read_only = false }))) →
+    ((n : ℕ) → spot_of k.objects n ≡ None) → k.handles ≡ [] → k.instances ≡ [] → k.renames ≡ 0 →
+    BeginsWith layers (record { redirects = redirects; read_only = false }) m k
+begins-with m k layers redirects same are h none handles instances renames t merge =
+    let options : MountOptions = record { redirects = redirects; read_only = false } in
+    record {
+      stands = h t are merge;
+      settled = law_of_settled_opening (layer_of layers.upper) (lowers_of layers) t options merge;
+      one = law_of_one_name_begun (layer_of layers.upper) (lowers_of layers) t are merge;
+      tracks = law_of_begun (upper_of m) t options k none handles instances renames;
+    }
+
+-- keys are told apart as numbers are
+tied : (x y : ℕ) → eq_by_cmp nat_cmp x y ≡ nat_eq x y
+tied x y = grind arith
+
+same-keys : eq_by_cmp nat_cmp ≡ nat_eq
+same-keys = λ i x y. tied x y i
+
+-- a number that is one of these is so in either order
+any-back : (c : ℕ) (xs : List ℕ) → list_any (λ x. nat_eq c x) xs ≡ true → list_any (λ x. nat_eq x c) xs ≡ true
+any-back c [] h = h
+any-back c (x ∷ xs) h = grind (arith, any-back c xs)
+
+pub any-forth : (c : ℕ) (xs : List ℕ) → list_any (λ x. nat_eq x c) xs ≡ true → list_any (λ x. nat_eq c x) xs ≡ true
+any-forth c [] h = h
+any-forth c (x ∷ xs) h = grind (arith, any-forth c xs)
+
+-- a state has at most as many tables as clients are attached
+few-tables : (m : Mount) (k : Notified) (s : State) → Agrees m k s → length s.tables ≤ btree_map_len m.clients.attached
+few-tables m k s a =
+    let cs = settling.clients_of s.tables in
+    let apart : IsDistinct (eq_by_cmp nat_cmp) cs = subst (λ eq. IsDistinct eq cs) (sym same-keys) a.settled.apart in
+    let each = length-le_from_keys (eq_by_cmp_equiv nat_cmp_total) cs m.clients.attached.entries apart
+    (λ q h. sym (a.stands.tables.attached q) ∙ attached-is q s.tables ∙ any-back q cs (subst (λ eq. list_any (eq q) cs ≡ true) same-keys h)) in
+    subst (λ n. n ≤ btree_map_len m.clients.attached) (length-map s.tables (λ (x : Table). x.client)) each
+
+-- A CLIENT COMES with these hooks
+pub goes-attached : (shows : Rule) (old new : Mount) (from to : Notified) (c : ℕ) (tags : List ℕ) → btree_map_len old.clients.attached < 64 →
+    length tags ≤ 16 → ((s : State) → IsStateOf old s → (ts : List ℕ) → (c ≡ s.arrived) × IsStateOf new (joined s ts)) →
+    new.layers ≡ old.layers → Joins from to c tags → AreKnown to → Goes shows old from c (Attached tags) new to
+goes-attached shows old new from to c tags room short h same joins known s a =
+    let comes = h s a.stands tags in
+    let few = few-tables old from s a in
+    let does : Does shows s c (Attached tags) (joined s tags) = (comes.0, short, omega arith, refl) in (
+      joined s tags,
+      does,
+      record {
+        stands = comes.1;
+        settled = does-settles shows s c (Attached tags) (joined s tags) does a.stands.layers.kept a.settled;
+        one = a.one;
+        tracks = tracks-same old new (joined s tags) to same
+            (law_of_joined (upper_of old) s tags from to a.tracks known (subst (λ n. Joins from to n tags) comes.0 joins));
+      },
+    )
+
+-- where all that is kept for watches is as before, it is tracked as before
+as-before : (U : Layer) (s : State) (k l : Notified) → IsAsBefore k l → Tracks U s k → Tracks U s l
+as-before U s k l h t = record {
+  bearers = t.bearers;
+  borne = subst (λ (o : Tracked). AreBorne U s.tree s.serial o t.bearers) (sym h.objects) t.borne;
+  clients = h.clients ∙ t.clients;
+  slots = λ c fd. subst₂ (λ o r. IsSlotOn o t.bearers r (handle_of s.tables c fd)) (sym h.objects) (sym (h.slots c fd)) (t.slots c fd);
+  heard = subst₂ (λ o es. AreAllAlike (stands_for o t.bearers) es s.instances) (sym h.objects) (sym h.instances) t.heard;
+  renames = h.renames ∙ t.renames;
+}
+
+-- where the mount stands for the same states and has the same layers, each state that agreed agrees still
+pub stays-same : (old new : Mount) (k : Notified) → StaysState old new → new.layers ≡ old.layers → Stays old k new k
+stays-same old new k h same s a =
+    record { stands = h s a.stands; settled = a.settled; one = a.one; tracks = tracks-same old new s k same a.tracks }
+
+-- a client that came and was taken back leaves what there was
+pub taken-back : (old mid new : Mount) (k l : Notified) (c : ℕ) → mid ≡ record old { clients = mid.clients } → new ≡ record mid { clients = new.clients } →
+    Attaches old.clients mid.clients c → TakesBack mid.clients new.clients c → IsAsBefore k l → Stays old k new l
+taken-back old mid new k l c first second came back same s a = record {
+  stands = subst (λ (m : Mount). IsStateOf m s) (sym (second ∙ ap (λ (m : Mount). record m { clients = new.clients }) first))
+      (back-same old s a.stands mid.clients new.clients c came back);
+  settled = a.settled;
+  one = a.one;
+  tracks = tracks-same old new s l (ap (λ (m : Mount). m.layers) second ∙ ap (λ (m : Mount). m.layers) first)
+      (as-before (upper_of old) s k l same a.tracks);
+}
+
+-- each client for whose handles there are places was given its number
+pub tracked-below : (m : Mount) (k : Notified) → ∥ HasState m k ∥₁ → (c : ℕ) → is_tracked k.handles c ≡ true → c < m.clients.next
+tracked-below m k has c there = by (cases_lt c m.clients.next)
+  where
+    given : (x : HasState m k) → c < m.clients.next
+    given x =
+        let among = any-back c (settling.clients_of x.0.tables) (ap (list_any (nat_eq c)) (sym x.1.tracks.clients) ∙ there) in
+        let below = x.1.settled.before c (attached-is c x.0.tables ∙ among) in
+        let next = x.1.stands.arrived in
+        omega arith
+
+    by : (c < m.clients.next) ⊎ (m.clients.next ≤ c) → c < m.clients.next
+    by (inl below) = below
+    by (inr above) = absurd (∥∥₁_elim has ⊥_prop (λ x. let below = given x in omega arith))
+
+-- alike instances are of the same clients
+same-hearers : (of : Identities) (es fs : List Instance) → AreAllAlike of es fs → hearers_of es ≡ hearers_of fs
+same-hearers of [] [] z = refl
+same-hearers of [] (f ∷ fs) z = absurd z
+same-hearers of (e ∷ es) [] z = absurd z
+same-hearers of (e ∷ es) (f ∷ fs) z = ap (λ c. c ∷ hearers_of es) z.0.client ∙ ap (λ cs. f.client ∷ cs) (same-hearers of es fs z.1)
+
+-- who stands among instances is one of their clients
+client-among : (es : List Instance) (e : Instance) (i : ℕ) → i < length es → list_any (λ x. nat_eq x (get_or es i e).client) (hearers_of es) ≡ true
+client-among [] e i h = absurd (omega arith)
+client-among (x ∷ es) e zero h = ap (λ b. b || list_any (λ y. nat_eq y x.client) (hearers_of es)) (eq-eqb x.client x.client refl)
+client-among (x ∷ es) e (suc i) h =
+    ap (λ b. nat_eq x.client (get_or es i e).client || b) (client-among es e i (omega arith)) ∙ or-true (nat_eq x.client (get_or es i e).client)
+
+-- each instance is of a client whose number was given
+pub clients-below : (m : Mount) (k : Notified) → ∥ HasState m k ∥₁ → All (λ e. e.client < m.clients.next) k.instances
+clients-below m k has =
+    All-from_get_or (λ e. e.client < m.clients.next) k.instances (silent 0 [])
+    (λ i within. by i within (cases_lt (get_or k.instances i (silent 0 [])).client m.clients.next))
+  where
+    given : (i : ℕ) → i < length k.instances → (x : HasState m k) → (get_or k.instances i (silent 0 [])).client < m.clients.next
+    given i within x =
+        let c = (get_or k.instances i (silent 0 [])).client in
+        let heard = ap (list_any (λ y. nat_eq y c)) (sym (same-hearers _ k.instances x.0.instances x.1.tracks.heard ∙ x.1.settled.heard))
+        ∙ client-among k.instances (silent 0 []) i within in
+        let below = x.1.settled.before c (attached-is c x.0.tables ∙ heard) in
+        let next = x.1.stands.arrived in
+        omega arith
+
+    by : (i : ℕ) → i < length k.instances →
+        ((get_or k.instances i (silent 0 [])).client < m.clients.next) ⊎ (m.clients.next ≤ (get_or k.instances i (silent 0 [])).client) →
+        (get_or k.instances i (silent 0 [])).client < m.clients.next
+    by i within (inl below) = below
+    by i within (inr above) = absurd (∥∥₁_elim has ⊥_prop (λ x. let below = given i within x in omega arith))

@@ -1,0 +1,168 @@
+-- Opens that are told: of what stands at a path, and of a file that is made there.
+use Rattle.std.proofs.Common.{◌≡◌, ◌≢◌, ℕ, Bool, true, List, None, Some, is_none, map, sym, ap, subst, ◌∙◌}
+use Rattle.std.specs.Option.{unwrap_or}
+use mathlib.Core.Logic.{∥∥₁_elim}
+use mathlib.Core.HLevel.{⊥_prop}
+use Rattle.ov_base.specs.declared.call.Call.{Call}
+use Rattle.ov_base.specs.declared.call.Call.TheVariants.{Open}
+use Rattle.ov_base.specs.declared.call.OpenFlags.{OpenFlags}
+use Rattle.ov_base.specs.declared.errno.Errno.{Errno}
+use Rattle.ov_base.specs.declared.node_id.NodeId.{NodeId}
+use Rattle.ov_base.specs.declared.reply.Reply.{Reply}
+use Rattle.ov_base.specs.declared.reply.Reply.TheVariants.{Descriptor, Refused}
+use Rattle.plain_model.specs.Layers.{Layer, Path}
+use Rattle.plain_model.specs.Tree.{node_at}
+use Rattle.plain_model.specs.Watching.{Rule}
+use Rattle.plain_model.specs.Machine.{DESCRIPTORS_MAX, State, lowest_free}
+use Rattle.plain_model.specs.Refusals.{refusal}
+use Rattle.plain_model.specs.Replies.{reply_of}
+use Rattle.plain_model.specs.Runs.{Called}
+use Rattle.layer_tree.specs.Tree.{layer_of}
+use Rattle.merged_lookup.specs.Merged.{lowers_of}
+use Rattle.open_handles.specs.Tracked.{IsVacant, Upper}
+use Rattle.notice_laws.specs.declared.object.Object.{Object}
+use Rattle.notice_laws.specs.declared.object.Object.TheVariants as object
+use Rattle.notice_laws.specs.Notified.{AreKnown, Notified, Passes, Resumes, Tracks}
+use Rattle.notice_laws.specs.Objects.{IsObject}
+use Rattle.notice_laws.specs.Opens.{Opened, OpenedNew}
+use Rattle.notice_laws.proofs.Numbers.{node-shown}
+use Rattle.notice_laws.proofs.OpenNewTold.{law_of_opened_new}
+use Rattle.notice_laws.proofs.OpenTold.{law_of_opened}
+use Rattle.notifier.specs.Notifying.{IsFree}
+use Rattle.notifier.specs.Opening.{AreGiven, IsBack, IsReady, IsReadyNew}
+use Rattle.mount_calls.specs.declared.mount.Mount.{Mount}
+use Rattle.mount_calls.specs.States.{Serves}
+use Rattle.overlay_core.specs.Opens.{IsLowestFree}
+use Rattle.overlay_core.specs.Watching.{Agrees, Goes, HasState}
+use Rattle.overlay_core.proofs.Lifted.{free-key, free-squashed, lifted-key}
+use Rattle.overlay_core.proofs.Performing.{Performed, passing}
+use Rattle.overlay_core.proofs.Watching.{allowed-by, goes, tracks-same, upper_of}
+use Rattle.overlay_core.proofs.Opens.{back-tracks, lowest-given, object-some, open-absent, open-no-link, open-shown, ready-tracks, way-tracks}
+use Rattle.overlay_core.proofs.OpenedNodes.{held-vacant, new-key, new-vacant, opened-file, opened-leads, opened-touches}
+
+-- A CALL THAT OPENS, as a mount made it
+module _ (rule : Rule) (c : ℕ) (p : Path) (f : OpenFlags) (mode : ℕ) (k : Call) (is : k ≡ Open p f mode) (r : Reply) (old new : Mount)
+    (from : Notified) (done : Performed c k r old new) where
+  abbrev U : Layer
+  U = upper_of old
+
+  abbrev V : Layer
+  V = upper_of new
+
+  abbrev L : List Layer
+  L = lowers_of old.layers
+
+  -- what it passes
+  open-passes : (s : State) → Agrees old from s → refusal s c k ≡ None → Passes U V L s c (Open p f mode)
+  open-passes s a fine = subst (λ j. Passes U V L s c j) is (passing rule c k r old new from done s a fine)
+
+  -- the key that is found is that of before's lower layers
+  found-here : (key : ℕ) → ((j : ℕ) (last : Bool) → IsObject V (lowers_of new.layers) p (object.Upper j last) → key ≡ j) →
+      (j : ℕ) (last : Bool) → IsObject V L p (object.Upper j last) → key ≡ j
+  found-here key found j last at =
+      found j last (subst (λ (x : List Layer). IsObject V x p (object.Upper j last)) (sym (ap (λ x. map layer_of x.items) done.lowers)) at)
+
+  -- refused, and what was prepared taken back
+  pub goes-unopened : (to : Notified) → ((d : ℕ) → r ≢ Descriptor d) → IsBack from to → AreKnown to → Goes rule old from c (Called k r) new to
+  goes-unopened to isnt back known =
+      goes rule c k r old new from to done.there done.serves
+      (λ s a e at. tracks-same old new s to (done.refused e at) (back-tracks U s from to known back a.tracks))
+      (λ s a fine.
+      let answer = (subst (λ o. Serves o s c k r new) fine (done.serves s a.stands)).0 in
+      absurd (isnt (unwrap_or (lowest_free s.tables c) DESCRIPTORS_MAX) (answer ∙ ap (reply_of s c) is)))
+
+  -- OF WHAT STANDS THERE
+  module _ (o : Object) (stands : IsObject U L p o) (something : o ≢ object.Other) (known : AreKnown from) (given : AreGiven from.objects)
+      (ready : Notified) (fd : ℕ) (is_ready : IsReady from ready c fd p o) (key : ℕ)
+      (found : (j : ℕ) (last : Bool) → IsObject V (lowers_of new.layers) p (object.Upper j last) → key ≡ j)
+      (isnt : (e : Errno) → r ≢ Refused e) where
+    -- what is kept with what the open holds
+    abbrev held : Notified
+    held = record from { objects = ready.objects }
+
+    -- it tracks the state
+    held-tracks : (s : State) → Agrees old from s → refusal s c k ≡ None → Tracks U s held
+    held-tracks s a fine =
+        let allowed = subst (λ j. refusal s c j ≡ None) is fine in
+        let m = a.stands.layers in
+        ready-tracks U L s m from a.tracks known given p o stands (open-no-link U L s m c p f mode allowed)
+        (open-shown U L s m c p f mode allowed) ready.objects is_ready.handle is_ready.holds
+
+    -- the node that is opened
+    node-there : (s : State) → Agrees old from s → (d : NodeId) × (node_at s.tree p ≡ Some d)
+    node-there s a = node-shown U L s a.stands.layers p (object-some U L p o stands something)
+
+    -- nothing is tracked under the key by which it comes into the upper
+    pub opened-free : ∥ HasState old from ∥₁ → f.writes ≡ true → IsFree ready.objects p o key
+    opened-free has writes =
+        free-squashed ready.objects p o key has (λ x.
+        let s = x.0 in
+        let a = x.1 in
+        let fine = allowed-by s c k r new (done.serves s a.stands) isnt in
+        let pass = open-passes s a fine in
+        let d = node-there s a in
+        free-key U V L s c (Open p f mode) pass p (opened-touches s p f mode writes) (opened-file s c p f mode (ap is_none d.1))
+        (opened-leads U V L s c p f mode pass d.0 d.1) held (held-tracks s a fine) key (found-here key found) o stands)
+
+    -- told, it goes as the machine's
+    pub goes-opened : (to : Notified) → IsLowestFree old.clients c fd → AreKnown to → Opened rule held to c fd p o key f →
+        Goes rule old from c (Called k r) new to
+    goes-opened to low knows told =
+        goes rule c k r old new from to done.there done.serves (λ s a e at. absurd (isnt e at))
+        (λ s a fine.
+        let pass = open-passes s a fine in
+        let d = node-there s a in
+        let t = held-tracks s a fine in
+        subst (λ j. Resumes rule V s c j to) (sym is)
+        (law_of_opened rule U V L s c fd p f mode pass (lowest-given old s c fd a.stands done.there low) o key stands held to
+        (λ writes.
+        lifted-key U V L s c (Open p f mode) pass p (opened-touches s p f mode writes) (opened-file s c p f mode (ap is_none d.1))
+        (opened-leads U V L s c p f mode pass d.0 d.1) held t key (found-here key found) o stands)
+        t knows told))
+
+  -- OF A FILE THAT IT MAKES
+  module _ (nothing : IsObject U L p object.Other) (known : AreKnown from) (given : AreGiven from.objects)
+      (ready : Notified) (fd : ℕ) (is_ready : IsReadyNew from ready c fd p) (key : ℕ)
+      (found : (j : ℕ) (last : Bool) → IsObject V (lowers_of new.layers) p (object.Upper j last) → key ≡ j)
+      (isnt : (e : Errno) → r ≢ Refused e) where
+    -- what is kept with the way in that the open holds
+    abbrev entered : Notified
+    entered = record from { objects = is_ready.holds.mid }
+
+    -- it tracks the state
+    entered-tracks : (s : State) → Agrees old from s → refusal s c k ≡ None → Tracks U s entered
+    entered-tracks s a fine =
+        let allowed = subst (λ j. refusal s c j ≡ None) is fine in
+        let m = a.stands.layers in
+        way-tracks U L s m from a.tracks known given p (open-shown U L s m c p f mode allowed) is_ready.holds.mid is_ready.handle.way
+        is_ready.holds.way
+
+    -- nothing stands there
+    node-absent : (s : State) → Agrees old from s → refusal s c k ≡ None → node_at s.tree p ≡ None
+    node-absent s a fine = open-absent U L s a.stands.layers c p f mode (subst (λ j. refusal s c j ≡ None) is fine) nothing
+
+    -- nothing is tracked under the key by which the file comes there
+    pub made-vacant : ∥ HasState old from ∥₁ → IsVacant ready.objects (Upper key)
+    made-vacant has n at =
+        ∥∥₁_elim has ⊥_prop (λ x.
+        let s = x.0 in
+        let a = x.1 in
+        let fine = allowed-by s c k r new (done.serves s a.stands) isnt in
+        let pass = open-passes s a fine in
+        let absent = node-absent s a fine in
+        let shown = new-key U V L s c p f mode pass absent key (found-here key found) in
+        held-vacant is_ready.holds.mid ready.objects is_ready.handle.object key is_ready.holds.object
+        (new-vacant U V L s c p f mode pass absent entered (entered-tracks s a fine) key shown.0 shown.1) n at)
+
+    -- told, it goes as the machine's
+    pub goes-made : (to : Notified) → IsLowestFree old.clients c fd → AreKnown to → OpenedNew rule entered to c fd p key →
+        Goes rule old from c (Called k r) new to
+    goes-made to low knows told =
+        goes rule c k r old new from to done.there done.serves (λ s a e at. absurd (isnt e at))
+        (λ s a fine.
+        let pass = open-passes s a fine in
+        let absent = node-absent s a fine in
+        let shown = new-key U V L s c p f mode pass absent key (found-here key found) in
+        subst (λ j. Resumes rule V s c j to) (sym is)
+        (law_of_opened_new rule U V L s c fd p f mode pass (lowest-given old s c fd a.stands done.there low) absent key shown.0 shown.1
+        entered to (entered-tracks s a fine) knows told))

@@ -1,0 +1,94 @@
+-- Calls that a mount makes and that answer that they are done, and what is kept for watches then.
+use Rattle.std.proofs.Common.{◌≡◌, ◌≢◌, ℕ, true, None, IsSome, is_some, sym, ap, subst, ◌∙◌}
+use Rattle.std.specs.Prelude.{OnErr, Result, Ok, Err}
+use mathlib.Core.Logic.{∥∥₁_map}
+use Rattle.ov_base.specs.declared.call.Call.{Call}
+use Rattle.ov_base.specs.declared.errno.Errno.{Errno}
+use Rattle.ov_base.specs.declared.reply.Reply.{Reply}
+use Rattle.ov_base.specs.declared.reply.Reply.TheVariants.{Done, Refused}
+use Rattle.plain_model.specs.Watching.{Rule}
+use Rattle.plain_model.specs.Machine.{State}
+use Rattle.plain_model.specs.Refusals.{refusal}
+use Rattle.plain_model.specs.Replies.{reply_of}
+use Rattle.plain_model.specs.Runs.{Called}
+use Rattle.merged_lookup.specs.Merged.{lowers_of}
+use Rattle.open_handles.specs.declared.tracked_client.TrackedHandle.{TrackedHandle}
+use Rattle.open_handles.specs.declared.tracked_client.Way.{Way}
+use Rattle.open_handles.specs.Tracked.{SameSpots, Tracked, spot_of}
+use Rattle.notice_laws.specs.Notified.{AreKnown, Notified, Passes, Resumes}
+use Rattle.notice_laws.proofs.FewerObjects.{law_of_fewer_numbers}
+use Rattle.mount_calls.specs.declared.mount.Mount.{Mount}
+use Rattle.mount_calls.specs.Attaching.{is_attached}
+use Rattle.mount_calls.specs.Living.{KeepsNamed}
+use Rattle.mount_calls.specs.Offers.{is_offered}
+use Rattle.mount_calls.specs.States.{HasStateOf, IsStateOf, Serves}
+use Rattle.overlay_core.specs.Watching.{Agrees, Goes, HasState}
+use Rattle.overlay_core.proofs.Watching.{goes, passes, tracks-same, upper_of}
+
+-- what a call says that a mount made, and answered so
+pub record Performed (c : ℕ) (k : Call) (r : Reply) (old new : Mount) : Type 0 where
+  pub there : is_attached old.clients c ≡ true
+  pub serves : (s : State) → IsStateOf old s → Serves (refusal s c k) s c k r new
+  pub lowers : new.layers.lowers ≡ old.layers.lowers
+  pub named : (s : State) → IsStateOf old s → refusal s c k ≡ None → KeepsNamed s c old.layers new.layers k
+  pub refused : (e : Errno) → r ≡ Refused e → new.layers ≡ old.layers
+
+-- a mount with watches whose state is one has one that the mount stands for
+pub state-of : (m : Mount) (k : Notified) → ∥ HasState m k ∥₁ → ∥ HasStateOf m ∥₁
+state-of m k state = ∥∥₁_map state (λ x. (x.0, x.1.stands))
+
+-- a call that the machine answers so, and that it does not refuse, is answered so
+pub answered : (s : State) (c : ℕ) (k : Call) (r : Reply) (new : Mount) → refusal s c k ≡ None → Serves (refusal s c k) s c k r new → r ≡ reply_of s c k
+answered s c k r new fine served = (subst (λ o. Serves o s c k r new) fine served).0
+
+module _ (shows : Rule) (c : ℕ) (k : Call) (r : Reply) (old new : Mount) (from : Notified) (done : Performed c k r old new) where
+  -- what such a call passes
+  pub passing : (s : State) → Agrees old from s → refusal s c k ≡ None → Passes (upper_of old) (upper_of new) (lowers_of old.layers) s c k
+  passing s a fine = passes s c k r old new from done.lowers a fine (done.serves s a.stands) (done.named s a.stands fine)
+
+  -- done, it goes by what is told
+  pub goes-done : (to : Notified) → r ≡ Done → ((s : State) → (a : Agrees old from s) → Passes (upper_of old) (upper_of new) (lowers_of old.layers) s c k → Resumes shows (upper_of new) s c k to) → Goes shows old from c (Called k r) new to
+  goes-done to is resumes = goes shows c k r old new from to done.there done.serves (λ s a e not. absurd (let no : Done ≡ Refused e = sym is ∙ not in cc)) (λ s a fine. resumes s a (passing s a fine))
+
+  -- a call that the machine answers that it is done, and that isn't, is refused and leaves all
+  pub goes-refused : ((s : State) → reply_of s c k ≡ Done) → r ≢ Done → Goes shows old from c (Called k r) new from
+  goes-refused answers isnt =
+      goes shows c k r old new from from done.there done.serves (λ s a e is. tracks-same old new s from (done.refused e is) a.tracks)
+      (λ s a fine. absurd (isnt (answered s c k r new fine (done.serves s a.stands) ∙ answers s)))
+
+-- a call that is always refused leaves what is tracked
+pub goes-never : (rule : Rule) (c : ℕ) (k : Call) (r : Reply) (old new : Mount) (from : Notified) → Performed c k r old new →
+    ((s : State) → Agrees old from s → refusal s c k ≢ None) → Goes rule old from c (Called k r) new from
+goes-never rule c k r old new from done never =
+    goes rule c k r old new from from done.there done.serves (λ s a e at. tracks-same old new s from (done.refused e at) a.tracks)
+    (λ s a fine. absurd (never s a fine))
+
+-- so a call says that it made
+pub performed : (c : ℕ) (k : Call) (r : Reply) (old new : Mount) → is_offered k ≡ true → is_attached old.clients c ≡ true → (is_offered k ≡ true → (s : State) → IsStateOf old s → Serves (refusal s c k) s c k r new) → new.layers.lowers ≡ old.layers.lowers → (is_offered k ≡ true → (s : State) → IsStateOf old s → refusal s c k ≡ None → KeepsNamed s c old.layers new.layers k) → ((e : Errno) → r ≡ Refused e → new.layers ≡ old.layers) → Performed c k r old new
+performed c k r old new offered there serves lowers named refused = record { there = there; serves = serves offered; lowers = lowers; named = named offered; refused = refused }
+
+-- what holds where a call wanted memory
+pub on-err : {A E : Type 0} (r : Result A E) (P : Type 0) → P → OnErr r P
+on-err (Ok a) P p = tt
+on-err (Err e) P p = p
+
+module _ (old : Notified) (objects : Tracked) (same : SameSpots old.objects objects) (known : AreKnown old) where
+  known-spot : (n : ℕ) → IsSome (spot_of old.objects n) → IsSome (spot_of objects n)
+  known-spot n h = ap is_some (same.spots n) ∙ h
+
+  -- what is kept with room for more is known still
+  pub known-room : AreKnown (record old { objects = objects })
+  known-room = record {
+    watched = λ n h. known-spot n (known.watched n h);
+    opened = λ c fd (h : TrackedHandle) is. known-spot h.object (known.opened c fd h is);
+    ways = λ c fd (h : TrackedHandle) (w : Way) is way. known-spot w.directory (known.ways c fd h w is way);
+  }
+
+  -- and agrees with what it agreed with
+  pub agrees-room : (m : Mount) (s : State) → Agrees m old s → Agrees m (record old { objects = objects }) s
+  agrees-room m s a = record {
+    stands = a.stands;
+    settled = a.settled;
+    one = a.one;
+    tracks = law_of_fewer_numbers (upper_of m) s old a.tracks objects (λ n spot is. sym (same.spots n) ∙ is) known-room;
+  }

@@ -1,0 +1,195 @@
+-- Renames of a mount: what is kept for watches agrees with each state where one is told, where nothing moved, and where one is given up.
+use Rattle.std.proofs.Common.{◌≡◌, ◌≢◌, ◌*◌, ◌<◌, ◌≤◌, ◌^◌, ◌⊎◌, inl, inr, ℕ, Bool, true, false, not, List, [], Option, None, Some, is_some, refl, sym, ap, subst, ◌∙◌, length, map, arith}
+use Rattle.std.specs.Prelude.{IfOk, MatchOption, OnErr, Result, Ok, Err}
+use Rattle.std.proofs.lemmas.Bool.{cases_lt, false≢true}
+use mathlib.Core.Logic.{∥∥₁_elim}
+use mathlib.Core.HLevel.{⊥_prop}
+use Rattle.ov_base.specs.declared.call.Call.{Call}
+use Rattle.ov_base.specs.declared.call.Call.TheVariants.{Rename}
+use Rattle.ov_base.specs.declared.errno.Errno.{Errno}
+use Rattle.ov_base.specs.declared.reply.Reply.{Reply}
+use Rattle.ov_base.specs.declared.reply.Reply.TheVariants.{Done, Refused}
+use Rattle.plain_model.specs.Layers.{Layer, Path}
+use Rattle.plain_model.specs.Watching.{Rule}
+use Rattle.plain_model.specs.Machine.{State, look, same_found}
+use Rattle.plain_model.specs.Refusals.{refusal}
+use Rattle.plain_model.specs.Runs.{Called}
+use Rattle.layer_tree.specs.Tree.{layer_of}
+use Rattle.merged_lookup.specs.Merged.{lowers_of}
+use Rattle.mount_laws.specs.Renaming.{is_one}
+use Rattle.open_handles.specs.TrackedHandles.{clients_of}
+use Rattle.notice_laws.specs.declared.object.Object.{Object}
+use Rattle.notice_laws.specs.declared.object.Object.TheVariants as object
+use Rattle.notice_laws.specs.Moves.{Moved}
+use Rattle.notice_laws.specs.Notified.{AreKnown, Notified, Passes, Tracks}
+use Rattle.notice_laws.specs.Objects.{IsObject}
+use Rattle.notice_laws.proofs.Moved.{law_of_moved}
+use Rattle.notice_laws.proofs.ShownParents.{new-shown}
+use Rattle.notice_laws.proofs.Staying.{law_of_unmoved}
+use Rattle.notifier.specs.Moving.{IsFreeFor, IsPlaceFor}
+use Rattle.mount_calls.specs.declared.mount.Mount.{Mount}
+use Rattle.mount_calls.specs.Attaching.{is_attached}
+use Rattle.mount_calls.specs.Living.{KeepsNamed, StaysLive}
+use Rattle.mount_calls.specs.Offers.{is_offered}
+use Rattle.mount_calls.specs.Renaming.{rename_reply}
+use Rattle.mount_calls.specs.States.{IsStateOf, Serves, StaysState}
+use Rattle.overlay_core.specs.Watching.{Agrees, Goes, HasState, Stays}
+use Rattle.overlay_core.proofs.MovesFree.{found-one, is-bare, key-free, key-squashed, lifted-found, place-squashed, root-refused}
+use Rattle.overlay_core.proofs.MovesHeld.{IsGivenUp, IsHeldFor, back-tracks, few-clients, ready-tracks}
+use Rattle.overlay_core.proofs.Performing.{Performed, goes-done, goes-never, goes-refused, passing, performed}
+use Rattle.overlay_core.proofs.Watching.{allowed-by, goes, stays, upper_of}
+
+-- what a mount says of a rename that it made
+pub renamed-so : (c : ℕ) (p q : Path) (outcome : Result Bool Errno) (old new : Mount) → is_attached old.clients c ≡ true →
+    ((s : State) → IsStateOf old s → (d : ℕ) → Serves (refusal s d (Rename p q)) s d (Rename p q) (rename_reply outcome) new) →
+    new.layers.lowers ≡ old.layers.lowers →
+    ((s : State) → IsStateOf old s → (d : ℕ) → refusal s d (Rename p q) ≡ None → KeepsNamed s d old.layers new.layers (Rename p q)) →
+    OnErr outcome (new.layers ≡ old.layers) → Performed c (Rename p q) (rename_reply outcome) old new
+renamed-so c p q outcome old new there serves lowers named refused = record {
+  there = there;
+  serves = λ s st. serves s st c;
+  lowers = lowers;
+  named = λ s st fine. named s st c fine;
+  refused = λ e is. by outcome refused e is;
+}
+  where
+    by : (x : Result Bool Errno) → OnErr x (new.layers ≡ old.layers) → (e : Errno) → rename_reply x ≡ Refused e → new.layers ≡ old.layers
+    by (Ok b) h e is = absurd (let no : Done ≡ Refused e = is in cc)
+    by (Err f) h e is = h
+
+-- a call that is a rename goes as that
+pub as-called : (rule : Rule) (c : ℕ) (k : Call) (p q : Path) (r x : Reply) (old new : Mount) (from to : Notified) → k ≡ Rename p q → r ≡ x →
+    Goes rule old from c (Called (Rename p q) r) new to → Goes rule old from c (Called k x) new to
+as-called rule c k p q r x old new from to call is goes =
+    subst (λ j. Goes rule old from c (Called j x) new to) (sym call) (subst (λ y. Goes rule old from c (Called (Rename p q) y) new to) is goes)
+
+-- whether something moved is told by whether both paths are one object
+pub moved-told : (x : Result Bool Errno) (b d o : Bool) → x ≡ Ok b → b ≡ d → IfOk x (λ m. o ≡ not m) → o ≡ not d
+moved-told x b d o is same h = subst (λ e. o ≡ not e) same (subst (λ y. IfOk y (λ m. o ≡ not m)) is h)
+
+-- a path without a last name is the root
+pub split-empty : {A : Type 0} (q : Path) (P : A → Type 0) (o : Option A) → is_some o ≡ false → MatchOption o (q ≡ []) P → q ≡ []
+split-empty q P None none h = h
+split-empty q P (Some x) none h = absurd (false≢true (sym none))
+
+-- a call that is always refused leaves what is tracked, where memory doesn't run out
+pub never-done : {E : Type 0} (rule : Rule) (c : ℕ) (k : Call) (x : Result Reply E) (old new : Mount) (from : Notified) → is_offered k ≡ true →
+    is_attached old.clients c ≡ true →
+    IfOk x (λ r. is_offered k ≡ true → (s : State) → IsStateOf old s → Serves (refusal s c k) s c k r new) →
+    new.layers.lowers ≡ old.layers.lowers →
+    IfOk x (λ r. is_offered k ≡ true → (s : State) → IsStateOf old s → refusal s c k ≡ None → KeepsNamed s c old.layers new.layers k) →
+    IfOk x (λ r. (e : Errno) → r ≡ Refused e → new.layers ≡ old.layers) → ((s : State) → Agrees old from s → refusal s c k ≢ None) →
+    IfOk x (λ r. Goes rule old from c (Called k r) new from)
+never-done rule c k (Ok r) old new from offered there serves lowers named refused never =
+    goes-never rule c k r old new from (performed c k r old new offered there serves lowers named refused) never
+never-done rule c k (Err e) old new from offered there serves lowers named refused never = tt
+
+-- and where it does, each state that agreed agrees still
+pub stays-wanted : {A E : Type 0} (x : Result A E) (old new : Mount) (from : Notified) → OnErr x (StaysState old new) →
+    OnErr x (StaysLive old.layers new.layers) → OnErr x (Stays old from new from)
+stays-wanted (Ok a) old new from state live = tt
+stays-wanted (Err e) old new from state live = stays old new from from state live (λ s t. t)
+
+-- each client's handles can be counted
+pub clients-counted : (m : Mount) (from mid : Notified) → mid.handles ≡ from.handles → ∥ HasState m from ∥₁ →
+    64 * length (clients_of mid.handles) < 2 ^ 64
+clients-counted m from mid same has = by (cases_lt (64 * length (clients_of mid.handles)) (2 ^ 64))
+  where
+    one : (x : HasState m from) → 64 * length (clients_of mid.handles) < 2 ^ 64
+    one x =
+        few-clients x.0 x.1.settled (length (clients_of mid.handles)) (ap (λ ks. length (clients_of ks)) same ∙ ap length x.1.tracks.clients)
+
+    by : (64 * length (clients_of mid.handles) < 2 ^ 64) ⊎ (2 ^ 64 ≤ 64 * length (clients_of mid.handles)) →
+        64 * length (clients_of mid.handles) < 2 ^ 64
+    by (inl below) = below
+    by (inr above) = absurd (∥∥₁_elim has ⊥_prop (λ x. let below = one x in omega arith))
+
+-- a rename onto the root is always refused
+pub never-root : (m : Mount) (k : Notified) (c : ℕ) (p q : Path) → q ≡ [] → (s : State) → Agrees m k s → refusal s c (Rename p q) ≢ None
+never-root m k c p q is s a fine = root-refused s c p (subst (λ x. refusal s c (Rename p x) ≡ None) is fine)
+
+-- GIVEN UP, a rename leaves what agreed
+pub back-agrees : (m : Mount) (s : State) (from mid ready to : Notified) (q : Path) → IsHeldFor from mid ready q → IsGivenUp ready to →
+    Agrees m from s → Agrees m to s
+back-agrees m s from mid ready to q h g a = record {
+  stands = a.stands;
+  settled = a.settled;
+  one = a.one;
+  tracks = back-tracks (upper_of m) s from mid ready q h a.tracks to g;
+}
+
+-- also where the mount wanted memory
+pub stays-given-up : (old new : Mount) (from mid ready to : Notified) (q : Path) → IsHeldFor from mid ready q → IsGivenUp ready to →
+    StaysState old new → StaysLive old.layers new.layers → Stays old from new to
+stays-given-up old new from mid ready to q h g state live =
+    stays old new from to state live (λ s t. back-tracks (upper_of old) s from mid ready q h t to g)
+
+-- A RENAME, as a mount made it
+module _ (rule : Rule) (c : ℕ) (p q : Path) (r : Reply) (old new : Mount) (from mid ready : Notified) (h : IsHeldFor from mid ready q)
+    (done : Performed c (Rename p q) r old new) where
+  abbrev U : Layer
+  U = upper_of old
+
+  abbrev V : Layer
+  V = upper_of new
+
+  abbrev L : List Layer
+  L = lowers_of old.layers
+
+  -- refused
+  pub goes-given-up : (e : Errno) → r ≡ Refused e → (to : Notified) → IsGivenUp ready to → Goes rule old from c (Called (Rename p q) r) new to
+  goes-given-up e is to g = λ s a.
+      goes-refused rule c (Rename p q) r old new to done (λ s. refl) (λ ends. let z : Refused e ≡ Done = sym is ∙ ends in cc) s
+      (back-agrees old s from mid ready to q h g a)
+
+  -- onto the same object
+  pub goes-same : r ≡ Done → is_one U p q ≡ true → (to : Notified) → IsGivenUp ready to → Goes rule old from c (Called (Rename p q) r) new to
+  goes-same is one to g = λ s a.
+      goes-done rule c (Rename p q) r old new to done to is
+      (λ s a pass. law_of_unmoved rule U V L s c p q pass (found-one U L s pass.before c p q pass.allowed true one) to a.tracks) s
+      (back-agrees old s from mid ready to q h g a)
+
+  -- THAT MOVES SOMETHING
+  module _ (is : r ≡ Done) (moves : is_one U p q ≡ false) (known : AreKnown ready) (o e : Object) (stands : IsObject U L p o)
+      (replaced : IsObject U L q e) (key : ℕ)
+      (found : (j : ℕ) (last : Bool) → IsObject V (lowers_of new.layers) q (object.Upper j last) → key ≡ j) where
+    isnt : (x : Errno) → r ≢ Refused x
+    isnt x refused = let z : Done ≡ Refused x = sym is ∙ refused in cc
+
+    -- the key that is found is that of before's lower layers
+    found-here : (j : ℕ) (last : Bool) → IsObject V L q (object.Upper j last) → key ≡ j
+    found-here j last at =
+        found j last (subst (λ (x : List Layer). IsObject V x q (object.Upper j last)) (sym (ap (λ x. map layer_of x.items) done.lowers)) at)
+
+    -- what it passes
+    moving-passes : (s : State) → Agrees old from s → Passes U V L s c (Rename p q)
+    moving-passes s a =
+        passing rule c (Rename p q) r old new from done s a (allowed-by s c (Rename p q) r new (done.serves s a.stands) isnt)
+
+    two : (s : State) → Agrees old from s → same_found (look s.tree p) (look s.tree q) ≡ false
+    two s a = let pass = moving-passes s a in found-one U L s pass.before c p q pass.allowed false moves
+
+    -- what is prepared tracks the state
+    tracked : (s : State) → Agrees old from s → Tracks U s ready
+    tracked s a =
+        let pass = moving-passes s a in
+        ready-tracks U s from mid ready q h a.tracks L pass.before (new-shown U L s pass.before c p q pass.allowed) known
+
+    pub moving-free : ∥ HasState old from ∥₁ → IsFreeFor ready.objects p q o e key
+    moving-free has =
+        key-squashed ready.objects p q o e key has
+        (λ x. key-free U V L x.0 c p q (moving-passes x.0 x.1) (two x.0 x.1) ready (tracked x.0 x.1) o e stands replaced key found-here)
+
+    pub moving-place : ∥ HasState old from ∥₁ → q ≢ [] → o ≡ object.Directory → IsPlaceFor ready p q e
+    moving-place has not folder =
+        place-squashed U L ready p q e not replaced has
+        (λ x. is-bare U V L x.0 c p q (moving-passes x.0 x.1) (two x.0 x.1) ready (tracked x.0 x.1) (subst (IsObject U L p) folder stands))
+
+    -- told, it goes as the machine's
+    pub goes-moved : (to : Notified) → AreKnown to → Moved rule ready to p q o e key → Goes rule old from c (Called (Rename p q) r) new to
+    goes-moved to knows told =
+        goes rule c (Rename p q) r old new from to done.there done.serves (λ s a x at. absurd (isnt x at))
+        (λ s a fine.
+        law_of_moved rule U V L s c p q (moving-passes s a) (two s a) o e key stands replaced ready to
+        (lifted-found U V L s c p q (moving-passes s a) (two s a) ready (tracked s a) o e stands replaced key found-here)
+        (tracked s a) knows told)

@@ -1,0 +1,257 @@
+-- Calls that tell nothing, and uses of open files that are told: each goes as the machine's call.
+use Rattle.std.proofs.Common.{◌≡◌, ◌≢◌, ℕ, ◌∷◌, Bool, true, false, cond, not, List, [], length, nat_eq, Option, None, Some, IsSome, is_none, refl, sym, ap, subst, ◌∙◌, suc, arith, eqb-true}
+use Rattle.std.specs.Prelude.{IfOk, Result, Ok, Err}
+use Rattle.std.proofs.lemmas.Bool.{false≢true}
+use mathlib.Core.Logic.{∥∥₁_elim}
+use mathlib.Core.Bool.{Bool-set}
+use Rattle.ov_base.specs.declared.call.Call.{Call}
+use Rattle.ov_base.specs.declared.call.Call.TheVariants as call
+use Rattle.ov_base.specs.declared.errno.Errno.{Errno}
+use Rattle.ov_base.specs.declared.errno.Errno.TheVariants.{EBADF, EINVAL}
+use Rattle.ov_base.specs.declared.reply.Reply.{Reply}
+use Rattle.ov_base.specs.declared.reply.Reply.TheVariants as reply
+use Rattle.plain_model.specs.Tree.{is_folder}
+use Rattle.plain_model.specs.Watching.{ACCESS, MODIFY, Rule}
+use Rattle.plain_model.specs.Machine.{Handle, State, handle_of, handle_node}
+use Rattle.plain_model.specs.Refusals.{can_write, refusal, when, writable_refusal}
+use Rattle.plain_model.specs.Changes.{read_bytes}
+use Rattle.plain_model.specs.Replies.{reply_of}
+use Rattle.plain_model.specs.Runs.{Called}
+use Rattle.plain_model.specs.Subjects.{by_handle}
+use Rattle.plain_model.proofs.Looking.{or-first, or-second, when-not}
+use Rattle.layer_tree.specs.Tree.{layer_of}
+use Rattle.merged_lookup.specs.Merged.{lowers_of}
+use Rattle.open_handles.specs.declared.handle.Handle as handles
+use Rattle.open_handles.specs.declared.handle.Handle.TheVariants.{Directory, File}
+use Rattle.open_handles.specs.declared.tracked_client.TrackedHandle.{TrackedHandle}
+use Rattle.open_handles.specs.Tracked.{Tracked}
+use Rattle.open_handles.specs.TrackedHandles.{tracked_by}
+use Rattle.notice_laws.specs.Notified.{AreKnown, Bearers, IsSlotOn, Notified, Passes, Resumes, Tracks}
+use Rattle.notice_laws.specs.Steps.{IsSilent, Used, keeps_handles}
+use Rattle.notice_laws.proofs.Making.{law_of_read}
+use Rattle.notice_laws.proofs.Staying.{law_of_silent}
+use Rattle.notice_laws.proofs.Writing.{law_of_truncated, law_of_written}
+use Rattle.mount_calls.specs.declared.mount.Mount.{Mount}
+use Rattle.mount_calls.specs.Attaching.{is_attached, opened_by}
+use Rattle.mount_calls.specs.Living.{KeepsNamed}
+use Rattle.mount_calls.specs.Offers.{is_offered}
+use Rattle.mount_calls.specs.States.{IsOpenAs, IsSlot, IsStateOf, Serves}
+use Rattle.mount_calls.proofs.FileSight.{file-not-folder}
+use Rattle.overlay_core.specs.Silence.{is_quiet}
+use Rattle.overlay_core.specs.Watching.{Agrees, Goes, HasState}
+use Rattle.overlay_core.proofs.Performing.{Performed, answered, passing, performed}
+use Rattle.overlay_core.proofs.Watching.{allowed-by, goes, tracks-same, upper_of}
+
+module _ (shows : Rule) (c : ℕ) (k : Call) (r : Reply) (old new : Mount) (from : Notified) (done : Performed c k r old new) where
+  -- refused it leaves what is tracked
+  left : (s : State) → Agrees old from s → (e : Errno) → r ≡ reply.Refused e → Tracks (upper_of new) s from
+  left s a e is = tracks-same old new s from (done.refused e is) a.tracks
+
+  -- where it tells nothing, it goes as the machine's
+  pub goes-silent : keeps_handles k ≡ true → ((s : State) → IsStateOf old s → refusal s c k ≡ None → IsSilent s c k) →
+      Goes shows old from c (Called k r) new from
+  goes-silent keeps silent =
+      goes shows c k r old new from from done.there done.serves left
+      (λ s a fine. law_of_silent shows (upper_of old) (upper_of new) (lowers_of old.layers) s c k keeps (silent s a.stands fine)
+      (passing shows c k r old new from done s a fine) from a.tracks)
+
+  -- where it is not refused, it goes by what is told
+  pub goes-told : (to : Notified) → ((e : Errno) → r ≢ reply.Refused e) →
+      ((s : State) → (a : Agrees old from s) → refusal s c k ≡ None →
+      Passes (upper_of old) (upper_of new) (lowers_of old.layers) s c k → Resumes shows (upper_of new) s c k to) →
+      Goes shows old from c (Called k r) new to
+  goes-told to isnt resumes =
+      goes shows c k r old new from to done.there done.serves (λ s a e is. absurd (isnt e is)) (λ s a fine. resumes s a fine (passing shows c k r old new from done s a fine))
+
+  -- where it is not refused, and the machine refuses it where the descriptor is free, the descriptor is tracked
+  pub open-tracked : (fd : ℕ) → ((e : Errno) → r ≢ reply.Refused e) →
+      ((s : State) → refusal s c k ≡ None → is_none (handle_of s.tables c fd) ≡ false) →
+      ∥ HasState old from ∥₁ → IsSome (tracked_by from.handles c fd)
+  open-tracked fd isnt opened state =
+      ∥∥₁_elim state (Bool-set _ _) (λ x. by (tracked_by from.handles c fd) (handle_of x.0.tables c fd) from.objects x.1.tracks.bearers
+      (x.1.tracks.slots c fd) (opened x.0 (allowed-by x.0 c k r new (done.serves x.0 x.1.stands) isnt)))
+    where
+      by : (o : Option TrackedHandle) (h : Option Handle) (objects : Tracked) (bearers : Bearers) → IsSlotOn objects bearers o h →
+          is_none h ≡ false → IsSome o
+      by None None objects bearers on some = absurd (false≢true (sym some))
+      by None (Some h) objects bearers on some = absurd on
+      by (Some o) h objects bearers on some = refl
+
+-- a quiet call tells nothing
+pub quiet-silent : (s : State) (c : ℕ) (k : Call) → is_quiet k ≡ true → IsSilent s c k
+quiet-silent s c (call.Stat p) q = record { tells = refl; tree = refl }
+quiet-silent s c (call.Readlink p) q = record { tells = refl; tree = refl }
+quiet-silent s c (call.GetAttribute p n) q = record { tells = refl; tree = refl }
+quiet-silent s c (call.ListAttributes p) q = record { tells = refl; tree = refl }
+quiet-silent s c (call.Seek d offset whence) q = record { tells = refl; tree = refl }
+quiet-silent s c (call.Fstat d) q = record { tells = refl; tree = refl }
+quiet-silent s c (call.ListNames d n) q = record { tells = refl; tree = refl }
+quiet-silent s c _ q = absurd (false≢true q)
+
+-- it is offered by every mount
+pub quiet-offered : (k : Call) → is_quiet k ≡ true → is_offered k ≡ true
+quiet-offered (call.Stat p) q = refl
+quiet-offered (call.Readlink p) q = refl
+quiet-offered (call.GetAttribute p n) q = refl
+quiet-offered (call.ListAttributes p) q = refl
+quiet-offered (call.Seek d offset whence) q = refl
+quiet-offered (call.Fstat d) q = refl
+quiet-offered (call.ListNames d n) q = refl
+quiet-offered _ q = absurd (false≢true q)
+
+-- it leaves what descriptors are on
+pub quiet-keeps : (k : Call) → is_quiet k ≡ true → keeps_handles k ≡ true
+quiet-keeps (call.Stat p) q = refl
+quiet-keeps (call.Readlink p) q = refl
+quiet-keeps (call.GetAttribute p n) q = refl
+quiet-keeps (call.ListAttributes p) q = refl
+quiet-keeps (call.Seek d offset whence) q = refl
+quiet-keeps (call.Fstat d) q = refl
+quiet-keeps (call.ListNames d n) q = refl
+quiet-keeps _ q = absurd (false≢true q)
+
+-- a handle that may write is on a file
+writer-file : (m : Mount) (s : State) → IsStateOf m s → (c fd : ℕ) → can_write (handle_of s.tables c fd) ≡ true →
+    is_folder (handle_node s.tree (handle_of s.tables c fd)) ≡ false
+writer-file m s st c fd = by (opened_by m.clients c fd) (handle_of s.tables c fd) (st.tables.slots c fd)
+  where
+    by : (o : Option handles.Handle) (h : Option Handle) →
+        IsSlot (IsOpenAs (layer_of m.layers.upper) (lowers_of m.layers) s.tree m.clients.directories) o h →
+        can_write h ≡ true → is_folder (handle_node s.tree h) ≡ false
+    by None None on writes = absurd (false≢true writes)
+    by None (Some h) on writes = absurd on
+    by (Some o) None on writes = absurd on
+    by (Some (Directory o)) (Some h) on writes = absurd (false≢true (sym (ap (λ (g : Handle). g.writes) on.access) ∙ writes))
+    by (Some (File f)) (Some h) on writes = file-not-folder (layer_of m.layers.upper) (lowers_of m.layers) s.tree f h on
+
+-- a bit that isn't off is on
+not-off : (b : Bool) → not b ≡ false → b ≡ true
+not-off true h = refl
+not-off false h = absurd (false≢true (sym h))
+
+-- no length is that of no bytes
+no-bytes : (bytes : List ℕ) → bytes ≡ [] → nat_eq (length bytes) 0 ≡ true
+no-bytes bytes is = ap (λ bs. nat_eq (length bs) 0) is
+
+-- a slice that isn't empty is of some bytes
+pub some-bytes : (xs bytes : List ℕ) → xs ≡ bytes → (b : Bool) → b ≡ nat_eq (length xs) 0 → b ≡ false → bytes ≢ []
+some-bytes xs bytes same b is off none = false≢true (sym off ∙ is ∙ no-bytes xs (same ∙ none))
+
+-- and an empty one of none
+pub none-bytes : (xs bytes : List ℕ) → xs ≡ bytes → (b : Bool) → b ≡ nat_eq (length xs) 0 → b ≡ true → bytes ≡ []
+none-bytes xs bytes same b is on = sym same ∙ by xs (sym is ∙ on)
+  where
+    by : (ys : List ℕ) → nat_eq (length ys) 0 ≡ true → ys ≡ []
+    by [] h = refl
+    by (y ∷ ys) h = let z : suc (length ys) ≡ 0 = eqb-true (length (y ∷ ys)) 0 h in absurd (omega (arith, z))
+
+-- a read that is not refused is by an open descriptor
+pub read-open : (c fd n : ℕ) (s : State) → refusal s c (call.Read fd n) ≡ None → is_none (handle_of s.tables c fd) ≡ false
+read-open c fd n s fine =
+    when-not (is_none (handle_of s.tables c fd)) EBADF
+    (or-first (when (is_none (handle_of s.tables c fd)) EBADF) _ (or-first (writable_refusal s c (call.Read fd n)) _ fine))
+
+-- so is a write
+pub write-open : (c fd : ℕ) (bytes : List ℕ) (s : State) → refusal s c (call.Write fd bytes) ≡ None → is_none (handle_of s.tables c fd) ≡ false
+write-open c fd bytes s fine =
+    when-not (is_none (handle_of s.tables c fd)) EBADF
+    (or-first (when (is_none (handle_of s.tables c fd)) EBADF) _ (or-first (writable_refusal s c (call.Write fd bytes)) _ fine))
+
+-- and a truncation
+pub truncate-open : (c fd n : ℕ) (s : State) → refusal s c (call.Truncate fd n) ≡ None → is_none (handle_of s.tables c fd) ≡ false
+truncate-open c fd n s fine =
+    when-not (is_none (handle_of s.tables c fd)) EBADF
+    (or-first (when (is_none (handle_of s.tables c fd)) EBADF) _ (or-first (writable_refusal s c (call.Truncate fd n)) _ fine))
+
+-- a write that is not refused is by a handle that may write
+write-writes : (c fd : ℕ) (bytes : List ℕ) (s : State) → refusal s c (call.Write fd bytes) ≡ None → can_write (handle_of s.tables c fd) ≡ true
+write-writes c fd bytes s fine =
+    not-off (can_write (handle_of s.tables c fd)) (when-not (not (can_write (handle_of s.tables c fd))) EBADF
+    (or-first (when (not (can_write (handle_of s.tables c fd))) EBADF) _ (or-second (when _ EINVAL) _
+    (or-second (when (is_none (handle_of s.tables c fd)) EBADF) _ (or-first (writable_refusal s c (call.Write fd bytes)) _ fine)))))
+
+-- and so is a truncation
+truncate-writes : (c fd n : ℕ) (s : State) → refusal s c (call.Truncate fd n) ≡ None → can_write (handle_of s.tables c fd) ≡ true
+truncate-writes c fd n s fine =
+    not-off (can_write (handle_of s.tables c fd)) (when-not (not (can_write (handle_of s.tables c fd))) EINVAL
+    (or-first (when (not (can_write (handle_of s.tables c fd))) EINVAL) _
+    (or-second (when (is_none (handle_of s.tables c fd)) EBADF) _ (or-first (writable_refusal s c (call.Truncate fd n)) _ fine))))
+
+-- the bytes of two replies that are one
+pub same-bytes : (xs ys : List ℕ) → reply.Read xs ≡ reply.Read ys → xs ≡ ys
+same-bytes xs ys is = cc
+
+module _ (shows : Rule) (c : ℕ) (k : Call) (r : Reply) (old new : Mount) (from : Notified) (done : Performed c k r old new) (fd : ℕ) where
+  -- a read of some bytes goes by the access that is told
+  pub goes-read : (n : ℕ) → k ≡ call.Read fd n → (bytes : List ℕ) → r ≡ reply.Read bytes → bytes ≢ [] → (to : Notified) → AreKnown to →
+      Used shows from to c fd ACCESS → Goes shows old from c (Called k r) new to
+  goes-read n is bytes answer some to known used =
+      goes-told shows c k r old new from done to (λ e refused. let z : reply.Read bytes ≡ reply.Refused e = sym answer ∙ refused in absurd (cc))
+      (λ s a fine passes.
+      subst (λ j. refusal s c j ≡ None → reply.Read bytes ≡ reply_of s c j → Passes (upper_of old) (upper_of new) (lowers_of old.layers) s c j →
+      Resumes shows (upper_of new) s c j to) (sym is)
+      (λ fine is passes. law_of_read shows (upper_of old) (upper_of new) (lowers_of old.layers) s c fd n passes
+      (λ none. some (same-bytes bytes (read_bytes s.tree (handle_of s.tables c fd) n) is ∙ none)) from to a.tracks known used)
+      fine (sym answer ∙ answered s c k r new fine (done.serves s a.stands)) passes)
+
+  -- a read of no bytes, or a refused one, tells nothing
+  pub goes-unread : (n : ℕ) → k ≡ call.Read fd n → ((bytes : List ℕ) → r ≡ reply.Read bytes → bytes ≡ []) →
+      Goes shows old from c (Called k r) new from
+  goes-unread n is none =
+      goes-silent shows c k r old new from done (ap keeps_handles is)
+      (λ s st fine. subst (λ j. refusal s c j ≡ None → r ≡ reply_of s c j → IsSilent s c j) (sym is)
+      (λ fine at. record {
+        tells = ap (λ b. cond b [] (by_handle s.tree (handle_of s.tables c fd) ACCESS))
+            (no-bytes (read_bytes s.tree (handle_of s.tables c fd) n) (none (read_bytes s.tree (handle_of s.tables c fd) n) at));
+        tree = refl;
+      }) fine (answered s c k r new fine (done.serves s st)))
+
+  -- a write of some bytes goes by the change that is told
+  pub goes-written : (bytes : List ℕ) → k ≡ call.Write fd bytes → (count : ℕ) → r ≡ reply.Written count → bytes ≢ [] → (to : Notified) →
+      AreKnown to → Used shows from to c fd MODIFY → Goes shows old from c (Called k r) new to
+  goes-written bytes is count answer some to known used =
+      goes-told shows c k r old new from done to
+      (λ e refused. let z : reply.Written count ≡ reply.Refused e = sym answer ∙ refused in absurd (cc))
+      (λ s a fine passes.
+      subst (λ j. refusal s c j ≡ None → Passes (upper_of old) (upper_of new) (lowers_of old.layers) s c j → Resumes shows (upper_of new) s c j to)
+      (sym is)
+      (λ fine passes. law_of_written shows (upper_of old) (upper_of new) (lowers_of old.layers) s c fd bytes passes some
+      (writer-file old s a.stands c fd (write-writes c fd bytes s fine)) from to a.tracks known used)
+      fine passes)
+
+  -- a write of no bytes tells nothing
+  pub goes-unwritten : k ≡ call.Write fd [] → Goes shows old from c (Called k r) new from
+  goes-unwritten is =
+      goes-silent shows c k r old new from done (ap keeps_handles is)
+      (λ s st fine. subst (λ j. IsSilent s c j) (sym is) (record { tells = refl; tree = refl }))
+
+  -- a truncation goes by the change that is told
+  pub goes-truncated : (n : ℕ) → k ≡ call.Truncate fd n → r ≡ reply.Done → (to : Notified) → AreKnown to →
+      Used shows from to c fd MODIFY → Goes shows old from c (Called k r) new to
+  goes-truncated n is answer to known used =
+      goes-told shows c k r old new from done to (λ e refused. let z : reply.Done ≡ reply.Refused e = sym answer ∙ refused in absurd (cc))
+      (λ s a fine passes.
+      subst (λ j. refusal s c j ≡ None → Passes (upper_of old) (upper_of new) (lowers_of old.layers) s c j → Resumes shows (upper_of new) s c j to)
+      (sym is)
+      (λ fine passes. law_of_truncated shows (upper_of old) (upper_of new) (lowers_of old.layers) s c fd n passes
+      (writer-file old s a.stands c fd (truncate-writes c fd n s fine)) from to a.tracks known used)
+      fine passes)
+
+  -- what the machine answers otherwise than so is refused, and leaves all
+  pub goes-refused : keeps_handles k ≡ true → ((s : State) → r ≡ reply_of s c k → ⊥) → Goes shows old from c (Called k r) new from
+  goes-refused keeps other =
+      goes-silent shows c k r old new from done keeps
+      (λ s st fine. absurd (other s (answered s c k r new fine (done.serves s st))))
+
+-- so a quiet call goes as the machine's
+pub goes-quiet : {E : Type 0} (shows : Rule) (c : ℕ) (k : Call) (old new : Mount) (from : Notified) (result : Result Reply E) → is_quiet k ≡ true →
+    is_attached old.clients c ≡ true →
+    IfOk result (λ r. is_offered k ≡ true → (s : State) → IsStateOf old s → Serves (refusal s c k) s c k r new) →
+    new.layers.lowers ≡ old.layers.lowers →
+    IfOk result (λ r. is_offered k ≡ true → (s : State) → IsStateOf old s → refusal s c k ≡ None → KeepsNamed s c old.layers new.layers k) →
+    IfOk result (λ r. (e : Errno) → r ≡ reply.Refused e → new.layers ≡ old.layers) →
+    IfOk result (λ r. Goes shows old from c (Called k r) new from)
+goes-quiet shows c k old new from (Ok r) quiet there serves lowers named refused =
+    goes-silent shows c k r old new from (performed c k r old new (quiet-offered k quiet) there serves lowers named refused)
+    (quiet-keeps k quiet) (λ s st fine. quiet-silent s c k quiet)
+goes-quiet shows c k old new from (Err e) quiet there serves lowers named refused = tt

@@ -1,8 +1,0 @@
-use Rattle.overlay_core.proofs.Answering.{stat-ok, stat-err}
-use Rattle.overlay_core.proofs.mount.Mount.stat.Goals as goal
-
-pub returns-in-Ok : goal.returns-in-Ok
-returns-in-Ok c = λ s st client. stat-ok c.args.self.now s st client c.args.path.now c.in-Ok.status c.in-Ok.ensures
-
-pub returns-in-Err : goal.returns-in-Err
-returns-in-Err c = λ s st client. stat-err c.args.self.now s st client c.args.path.now c.in-Err.errno c.in-Err.ensures

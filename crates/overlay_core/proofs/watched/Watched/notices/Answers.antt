@@ -1,0 +1,11 @@
+use Rattle.overlay_core.proofs.Instances.{has-instance}
+use Rattle.overlay_core.proofs.WatchCalls.{taking-goes}
+use Rattle.overlay_core.proofs.watched.Watched.notices.Goals as goal
+
+pub taken-requires : goal.taken-requires
+taken-requires g c = has-instance c.args.self.now.mount c.args.self.now.notifier c.args.client c.requires.state c.requires.there
+
+pub returns-clause-goes : goal.returns-clause-goes
+returns-clause-goes g c =
+    taking-goes g.R.Rule.shows c.args.self.now.mount c.args.self.now.notifier c.taken.new.self c.args.client c.args.count c.in_ok-notices.notices
+    c.requires.there c.if-count-gt-NOTICES_MAX.false c.in_ok-notices.ensures.taken c.in_ok-notices.ensures.takes

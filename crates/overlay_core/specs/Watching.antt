@@ -1,0 +1,55 @@
+-- How a state of the plain machine agrees with a mount and what is kept for its watches, and what a client does to all of them.
+use Rattle.std.specs.Prelude.{◌≡◌, ℕ}
+use Rattle.ov_base.specs.declared.call.Call.{Call}
+use Rattle.plain_model.specs.Tree.{Tree}
+use Rattle.plain_model.specs.Merging.{IsMerge}
+use Rattle.plain_model.specs.Watching.{Rule}
+use Rattle.plain_model.specs.Machine.{MountOptions, State, opening}
+use Rattle.plain_model.specs.Settling.{IsSettled}
+use Rattle.plain_model.specs.Runs.{Deed, Does}
+use Rattle.layer_tree.specs.Tree.{layer_of}
+use Rattle.merged_lookup.specs.declared.layers.Layers.{Layers}
+use Rattle.merged_lookup.specs.Merged.{lowers_of}
+use Rattle.mount_laws.specs.Nodes.{HaveOneName}
+use Rattle.notice_laws.specs.Notified.{Notified, Tracks}
+use Rattle.copy_up.specs.Showing.{StaysThin}
+use Rattle.mount_calls.specs.declared.mount.Mount.{Mount}
+use Rattle.mount_calls.specs.Attaching.{KeepsAttached}
+use Rattle.mount_calls.specs.Keeping.{KeepsLayers}
+use Rattle.mount_calls.specs.States.{IsStateOf}
+
+-- THE AGREEMENT: the mount stands for the state, what is kept for watches is what the state has, and the state is one that runs lead to,
+-- whose directories have one name each
+pub record Agrees (m : Mount) (k : Notified) (s : State) : Type 0 where
+  pub stands : IsStateOf m s
+  pub settled : IsSettled s
+  pub one : HaveOneName s.tree
+  pub tracks : Tracks (layer_of m.layers.upper) s k
+
+-- each state that agreed agrees still
+abbrev pub Stays : Mount → Notified → Mount → Notified → Type 0
+Stays old k new l = (s : State) → Agrees old k s → Agrees new l s
+
+-- from each state that agreed, what the client does by the rule of the callbacks leads to one that agrees
+abbrev pub Goes : Rule → Mount → Notified → ℕ → Deed → Mount → Notified → Type 0
+Goes shows old k client deed new l = (s : State) → Agrees old k s → (t : State) × Does shows s client deed t × Agrees new l t
+
+-- every merge of these layers is a tree with which the mount begins
+abbrev pub BeginsWith : Layers → MountOptions → Mount → Notified → Type 0
+BeginsWith layers options m k =
+    (t : Tree) → IsMerge (layer_of layers.upper) (lowers_of layers) t → Agrees m k (opening t options)
+
+-- some state agrees
+abbrev pub HasState : Mount → Notified → Type 0
+HasState m k = (s : State) × Agrees m k s
+
+-- as long as nothing was finished, the mount begins with every merge of its layers
+abbrev pub BeginsUntil : ℕ → MountOptions → Mount → Notified → Type 0
+BeginsUntil finished options m k = finished ≡ 0 → BeginsWith m.layers options m k
+
+-- what a call leaves alone of a mount: the lower layers, who is attached, and what it keeps of the upper
+pub record Keeps (call : Call) (old new : Mount) : Type 0 where
+  pub clients : KeepsAttached old.clients new.clients
+  pub layers : KeepsLayers call old.layers new.layers
+  pub lowers : new.layers.lowers ≡ old.layers.lowers
+  pub thin : StaysThin old.layers new.layers

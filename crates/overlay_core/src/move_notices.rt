@@ -1,0 +1,69 @@
+// What renames tell: both directories, what is replaced, and what moved.
+ghost use Rattle.std.specs.Prelude.{◌≡◌, true, IfOk, OnErr};
+ghost use Rattle.plain_model.specs.Runs.{Called};
+ghost use Rattle.mount_calls.specs.Attaching.{is_attached};
+ghost use Rattle.overlay_core.specs.Watching.{Goes, HasState, Keeps, Stays};
+
+use crate::watched::Watched;
+use ov_base::{Call, Errno, Path, Reply};
+use std::alloc::AllocError;
+use watch_table::{Callback, Rule};
+
+impl<F: Callback, R: Rule> Watched<F, R> {
+    /// Moves what stands at the old path to the new one, and tells both directories, what was replaced, and what moved. Nothing is told
+    /// where both paths are one object.
+    pub(crate) fn rename(
+        &mut self,
+        client: u64,
+        old: &Path,
+        new: &Path,
+        call: &Call,
+    ) -> Result<Reply, AllocError>
+        requires there { is_attached self.old.mount.clients client ≡ true }
+        requires state { ∥ HasState self.old.mount self.old.notifier ∥₁ }
+        requires call { call.now ≡ Call.Rename old.now new.now }
+        ensures goes { IfOk result (λ reply. Goes R.shows self.old.mount self.old.notifier client (Called call.now reply) self.new.mount self.new.notifier) }
+        ensures err { OnErr result (Stays self.old.mount self.old.notifier self.new.mount self.new.notifier) }
+        ensures kept { Keeps call.now self.old.mount self.new.mount }
+        ensures refused { IfOk result (λ reply. (errno : Errno) → reply ≡ Reply.Refused errno → self.new.mount.layers ≡ self.old.mount.layers) }
+    {
+        if new.split_last().is_none() {
+            return self.mount.perform(client, call);
+        }
+        let object = self.mount.object_at(old);
+        let replaced = self.mount.object_at(new);
+        self.notifier.cancel_move();
+        self.notifier.lawful();
+        let alloc = self.mount.alloc();
+        let prepared = self.notifier.prepare_move(alloc, old, new, object);
+        self.notifier.lawful();
+        if let Err(fault) = prepared {
+            self.notifier.cancel_move();
+            self.notifier.lawful();
+            return Err(fault);
+        }
+        match self.mount.rename_moving(old, new) {
+            Ok(Ok(true)) => {
+                let key = self.mount.key_at(new);
+                self.notifier.moved(old, new, object, replaced, key);
+                self.notifier.lawful();
+                Ok(Reply::Done)
+            }
+            Ok(Ok(false)) => {
+                self.notifier.cancel_move();
+                self.notifier.lawful();
+                Ok(Reply::Done)
+            }
+            Ok(Err(errno)) => {
+                self.notifier.cancel_move();
+                self.notifier.lawful();
+                Ok(Reply::Refused(errno))
+            }
+            Err(fault) => {
+                self.notifier.cancel_move();
+                self.notifier.lawful();
+                Err(fault)
+            }
+        }
+    }
+}

@@ -1,0 +1,164 @@
+// What opens tell: those of what stands at a path, and those that make a file.
+ghost use Rattle.std.specs.Prelude.{◌≡◌, ◌≢◌, ℕ, None, true, IfNone, IfOk, IfSome, OnErr};
+ghost use Rattle.plain_model.specs.Machine.{State};
+ghost use Rattle.plain_model.specs.Refusals.{refusal};
+ghost use Rattle.plain_model.specs.Runs.{Called};
+ghost use Rattle.layer_tree.specs.Tree.{layer_of};
+ghost use Rattle.merged_lookup.specs.Merged.{lowers_of};
+ghost use Rattle.notice_laws.specs.declared.object.Object.TheVariants as stands;
+ghost use Rattle.notice_laws.specs.Objects.{IsObject};
+ghost use Rattle.mount_calls.specs.Attaching.{is_attached};
+ghost use Rattle.mount_calls.specs.Offers.{is_offered};
+ghost use Rattle.overlay_core.specs.Opens.{IsFull, IsLowestFree};
+ghost use Rattle.overlay_core.specs.Watching.{Agrees, Goes, HasState, Keeps, Stays};
+
+use crate::watched::Watched;
+use notice_laws::Object;
+use open_handles::DESCRIPTORS_MAX;
+use ov_base::{Call, Errno, OpenFlags, Path, Reply};
+use std::alloc::AllocError;
+use watch_table::{Callback, Rule};
+
+impl<F: Callback, R: Rule> Watched<F, R> {
+    // The lowest descriptor of a client that isn't open, where one isn't.
+    fn free_descriptor(&self, client: u64) -> Option<u32>
+        ensures free { IfSome result (λ d. IsLowestFree self.now.mount.clients client d) }
+        ensures full { IfNone result (IsFull self.now.mount.clients client) }
+    {
+        for descriptor in 0..DESCRIPTORS_MAX as u32 {
+            if self.mount.opened(client, descriptor).is_none() {
+                return Some(descriptor);
+            }
+        }
+        None
+    }
+
+    // Makes an open that is refused, of which nothing is told.
+    fn open_refused(&mut self, client: u64, call: &Call) -> Result<Reply, AllocError>
+        requires there { is_attached self.old.mount.clients client ≡ true }
+        requires state { ∥ HasState self.old.mount self.old.notifier ∥₁ }
+        requires offered { is_offered call.now ≡ true }
+        requires refused { (s : State) → Agrees self.old.mount self.old.notifier s → refusal s client call.now ≢ None }
+        ensures goes { IfOk result (λ reply. Goes R.shows self.old.mount self.old.notifier client (Called call.now reply) self.new.mount self.new.notifier) }
+        ensures err { OnErr result (Stays self.old.mount self.old.notifier self.new.mount self.new.notifier) }
+        ensures kept { Keeps call.now self.old.mount self.new.mount }
+        ensures refused { IfOk result (λ reply. (errno : Errno) → reply ≡ Reply.Refused errno → self.new.mount.layers ≡ self.old.mount.layers) }
+    {
+        self.mount.perform(client, call)
+    }
+
+    // Opens what stands at a path, under a descriptor that is free, and tells its directory and the object.
+    fn open_there(
+        &mut self,
+        client: u64,
+        descriptor: u32,
+        path: &Path,
+        object: Object,
+        flags: OpenFlags,
+        call: &Call,
+    ) -> Result<Reply, AllocError>
+        requires there { is_attached self.old.mount.clients client ≡ true }
+        requires state { ∥ HasState self.old.mount self.old.notifier ∥₁ }
+        requires call { (mode : ℕ) × (call.now ≡ Call.Open path.now flags mode) }
+        requires free { IsLowestFree self.old.mount.clients client descriptor }
+        requires stands { IsObject (layer_of self.old.mount.layers.upper) (lowers_of self.old.mount.layers) path.now object }
+        requires something { object ≢ stands.Other }
+        ensures goes { IfOk result (λ reply. Goes R.shows self.old.mount self.old.notifier client (Called call.now reply) self.new.mount self.new.notifier) }
+        ensures err { OnErr result (Stays self.old.mount self.old.notifier self.new.mount self.new.notifier) }
+        ensures kept { Keeps call.now self.old.mount self.new.mount }
+        ensures refused { IfOk result (λ reply. (errno : Errno) → reply ≡ Reply.Refused errno → self.new.mount.layers ≡ self.old.mount.layers) }
+    {
+        self.notifier.lawful();
+        let prepared = self.notifier.prepare_open(client, descriptor, path, object);
+        self.notifier.lawful();
+        prepared?;
+        let reply = match self.mount.perform(client, call) {
+            Ok(reply) => reply,
+            Err(fault) => {
+                self.notifier.cancel_open(client, descriptor);
+                self.notifier.lawful();
+                return Err(fault);
+            }
+        };
+        let Reply::Descriptor(_) = reply else {
+            self.notifier.cancel_open(client, descriptor);
+            self.notifier.lawful();
+            return Ok(reply);
+        };
+        let key = self.mount.key_at(path);
+        self.notifier
+            .opened(client, descriptor, path, object, key, flags);
+        self.notifier.lawful();
+        Ok(reply)
+    }
+
+    // Makes a file at a path where nothing stands, opens it under a descriptor that is free, and tells its directory.
+    fn open_new(
+        &mut self,
+        client: u64,
+        descriptor: u32,
+        path: &Path,
+        call: &Call,
+    ) -> Result<Reply, AllocError>
+        requires there { is_attached self.old.mount.clients client ≡ true }
+        requires state { ∥ HasState self.old.mount self.old.notifier ∥₁ }
+        requires call { (flags : OpenFlags) × (mode : ℕ) × (call.now ≡ Call.Open path.now flags mode) }
+        requires free { IsLowestFree self.old.mount.clients client descriptor }
+        requires nothing { IsObject (layer_of self.old.mount.layers.upper) (lowers_of self.old.mount.layers) path.now stands.Other }
+        ensures goes { IfOk result (λ reply. Goes R.shows self.old.mount self.old.notifier client (Called call.now reply) self.new.mount self.new.notifier) }
+        ensures err { OnErr result (Stays self.old.mount self.old.notifier self.new.mount self.new.notifier) }
+        ensures kept { Keeps call.now self.old.mount self.new.mount }
+        ensures refused { IfOk result (λ reply. (errno : Errno) → reply ≡ Reply.Refused errno → self.new.mount.layers ≡ self.old.mount.layers) }
+    {
+        self.notifier.lawful();
+        let prepared = self.notifier.prepare_new(client, descriptor, path);
+        self.notifier.lawful();
+        prepared?;
+        let reply = match self.mount.perform(client, call) {
+            Ok(reply) => reply,
+            Err(fault) => {
+                self.notifier.cancel_open(client, descriptor);
+                self.notifier.lawful();
+                return Err(fault);
+            }
+        };
+        let Reply::Descriptor(_) = reply else {
+            self.notifier.cancel_open(client, descriptor);
+            self.notifier.lawful();
+            return Ok(reply);
+        };
+        let key = self.mount.key_at(path);
+        self.notifier.opened_new(client, descriptor, path, key);
+        self.notifier.lawful();
+        Ok(reply)
+    }
+
+    /// Opens what stands at a path, or makes a file there, and tells its directory and the object.
+    pub(crate) fn open(
+        &mut self,
+        client: u64,
+        path: &Path,
+        flags: OpenFlags,
+        call: &Call,
+    ) -> Result<Reply, AllocError>
+        requires there { is_attached self.old.mount.clients client ≡ true }
+        requires state { ∥ HasState self.old.mount self.old.notifier ∥₁ }
+        requires call { (mode : ℕ) × (call.now ≡ Call.Open path.now flags mode) }
+        ensures goes { IfOk result (λ reply. Goes R.shows self.old.mount self.old.notifier client (Called call.now reply) self.new.mount self.new.notifier) }
+        ensures err { OnErr result (Stays self.old.mount self.old.notifier self.new.mount self.new.notifier) }
+        ensures kept { Keeps call.now self.old.mount self.new.mount }
+        ensures refused { IfOk result (λ reply. (errno : Errno) → reply ≡ Reply.Refused errno → self.new.mount.layers ≡ self.old.mount.layers) }
+    {
+        let Some(descriptor) = self.free_descriptor(client) else {
+            return self.open_refused(client, call);
+        };
+        let object = self.mount.object_at(path);
+        let Object::Other = object else {
+            return self.open_there(client, descriptor, path, object, flags, call);
+        };
+        if flags.create {
+            return self.open_new(client, descriptor, path, call);
+        }
+        self.open_refused(client, call)
+    }
+}
