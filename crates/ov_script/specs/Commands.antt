@@ -8,12 +8,12 @@ use Rattle.ov_base.specs.declared.call.Call.TheVariants as call
 use Rattle.ov_base.specs.declared.errno.Errno.{Errno}
 use Rattle.ov_script.specs.Escapes.{spelled_word}
 use Rattle.ov_script.specs.Flags.{flags_of}
-use Rattle.ov_script.specs.Numbers.{number_of, mode_of, size_of, offset_of}
+use Rattle.ov_script.specs.Numbers.{number_of, mask_of, mode_of, size_of, slot_of, offset_of, watch_of}
 use Rattle.ov_script.specs.Words.{words}
 use Rattle.ov_script.specs.declared.script.Command.{Command}
 use Rattle.ov_script.specs.declared.script.Command.TheVariants.{Attach, Detach, Call as CallOf, Layer, Merge}
 use Rattle.ov_script.specs.declared.script.CallText.{CallText}
-use Rattle.ov_script.specs.declared.script.CallText.TheVariants.{Stat, Readlink, Mkdir, Symlink, Link, Rename, Unlink, Rmdir, Open, Read, Write, Seek, Truncate, Fstat, ListNames, Close}
+use Rattle.ov_script.specs.declared.script.CallText.TheVariants.{Stat, Readlink, Mkdir, Symlink, Link, Rename, Unlink, Rmdir, Open, Read, Write, Seek, Truncate, Fstat, ListNames, Close, Arm, Disarm, TakeNotices}
 use Rattle.ov_script.specs.declared.script.CallText.TheVariants.{Chmod, Chown, SetAttribute, GetAttribute, DeleteAttribute, ListAttributes}
 
 -- what two words come to, if each has its form
@@ -35,12 +35,14 @@ call_of_path name path =
     else (if bytes_eq name (codes "unlink") then Some (Unlink path)
     else (if bytes_eq name (codes "rmdir") then Some (Rmdir path) else None))))
 
--- `close FD`, `fstat FD`, and the calls of one path
+-- `close FD`, `fstat FD`, `disarm WD`, `notices N`, and the calls of one path
 abbrev pub call_of_one : List ℕ → List ℕ → Option CallText
 call_of_one name w =
     if bytes_eq name (codes "close") then option_map Close (number_of 10 w)
     else (if bytes_eq name (codes "fstat") then option_map Fstat (number_of 10 w)
-    else option_and_then (call_of_path name) (spelled_word w))
+    else (if bytes_eq name (codes "disarm") then option_map Disarm (watch_of w)
+    else (if bytes_eq name (codes "notices") then option_map TakeNotices (number_of 10 w)
+    else option_and_then (call_of_path name) (spelled_word w))))
 
 -- `chmod MODE P`, `getattr P NAME`, `delattr P NAME`, `mkdir MODE P`, `symlink TARGET P`, `link OLD NEW`, `rename OLD NEW`, `open FLAGS P`,
 -- whose mode is 0o644
@@ -71,13 +73,19 @@ whence_of w =
     else (if bytes_eq w (codes "cur") then Some 1
     else (if bytes_eq w (codes "end") then Some 2 else None))
 
--- `chown UID GID P`, `setattr P NAME VALUE`, `seek FD OFFSET set|cur|end`, `open FLAGS P MODE`
-abbrev pub call_of_three : List ℕ → List ℕ → List ℕ → List ℕ → Option CallText
-call_of_three name u v w =
+-- `chown UID GID P`, `setattr P NAME VALUE`, `open FLAGS P MODE`, `arm SLOT MASK P`
+abbrev pub path_call_of_three : List ℕ → List ℕ → List ℕ → List ℕ → Option CallText
+path_call_of_three name u v w =
     if bytes_eq name (codes "chown") then all_three Chown (number_of 10 u) (number_of 10 v) (spelled_word w)
     else (if bytes_eq name (codes "setattr") then all_three SetAttribute (spelled_word u) (spelled_word v) (spelled_word w)
-    else (if bytes_eq name (codes "seek") then all_three Seek (number_of 10 u) (offset_of v) (whence_of w)
-    else (if bytes_eq name (codes "open") then all_three Open (flags_of u) (spelled_word v) (mode_of w) else None)))
+    else (if bytes_eq name (codes "open") then all_three Open (flags_of u) (spelled_word v) (mode_of w)
+    else (if bytes_eq name (codes "arm") then all_three Arm (slot_of u) (mask_of v) (spelled_word w) else None)))
+
+-- `seek FD OFFSET set|cur|end`, and the calls of a path and two words more
+abbrev pub call_of_three : List ℕ → List ℕ → List ℕ → List ℕ → Option CallText
+call_of_three name u v w =
+    if bytes_eq name (codes "seek") then all_three Seek (number_of 10 u) (offset_of v) (whence_of w)
+    else path_call_of_three name u v w
 
 -- the call of a name and the words after it
 abbrev pub call_text : List ℕ → List (List ℕ) → Option CallText
@@ -156,3 +164,6 @@ call_of (Fstat descriptor) = Ok (call.Fstat descriptor)
 call_of (Seek descriptor offset whence) = Ok (call.Seek descriptor offset whence)
 call_of (ListNames descriptor count) = Ok (call.ListNames descriptor count)
 call_of (Close descriptor) = Ok (call.Close descriptor)
+call_of (Arm slot mask text) = on_path (λ path. call.Arm slot path mask) (path_of_text text)
+call_of (Disarm watch) = Ok (call.Disarm watch)
+call_of (TakeNotices count) = Ok (call.TakeNotices count)

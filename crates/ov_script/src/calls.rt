@@ -1,6 +1,7 @@
 // The calls that texts ask for.
 ghost use Rattle.std.specs.Prelude.{◌≡◌, IfOk};
 ghost use Rattle.ov_base.specs.Paths.{path_of_text};
+ghost use Rattle.ov_base.specs.declared.call.Call.TheVariants as call;
 ghost use Rattle.ov_script.specs.Commands as commands;
 ghost use Rattle.ov_script.specs.Commands.{path_pair};
 ghost use Rattle.ov_script.specs.declared.script.CallText.TheVariants as text;
@@ -39,37 +40,20 @@ impl CallText<'_> {
             CallText::Rmdir { path } => {
                 Ok(path_of(alloc, path)?.map(|path| Call::Rmdir { path }))
             }
-            CallText::Read { descriptor, count } => Ok(Ok(Call::Read {
-                descriptor: *descriptor,
-                count: *count,
-            })),
-            CallText::Write { descriptor, bytes } => Ok(Ok(Call::Write {
-                descriptor: *descriptor,
-                bytes: bytes_of(alloc, bytes)?,
-            })),
-            CallText::Truncate { descriptor, size } => Ok(Ok(Call::Truncate {
-                descriptor: *descriptor,
-                size: *size,
-            })),
-            CallText::Fstat { descriptor } => Ok(Ok(Call::Fstat {
-                descriptor: *descriptor,
-            })),
+            CallText::Read { descriptor, count } => Ok(Ok(read(*descriptor, *count))),
+            CallText::Write { descriptor, bytes } => write(alloc, *descriptor, bytes),
             CallText::Seek {
                 descriptor,
                 offset,
                 whence,
-            } => Ok(Ok(Call::Seek {
-                descriptor: *descriptor,
-                offset: *offset,
-                whence: *whence,
-            })),
-            CallText::ListNames { descriptor, count } => Ok(Ok(Call::ListNames {
-                descriptor: *descriptor,
-                count: *count,
-            })),
-            CallText::Close { descriptor } => Ok(Ok(Call::Close {
-                descriptor: *descriptor,
-            })),
+            } => Ok(Ok(seek(*descriptor, *offset, *whence))),
+            CallText::Truncate { descriptor, size } => Ok(Ok(truncate(*descriptor, *size))),
+            CallText::Fstat { descriptor } => Ok(Ok(fstat(*descriptor))),
+            CallText::ListNames { descriptor, count } => Ok(Ok(list_names(*descriptor, *count))),
+            CallText::Close { descriptor } => Ok(Ok(close(*descriptor))),
+            CallText::Arm { slot, mask, path } => arm(alloc, *slot, *mask, path),
+            CallText::Disarm { watch } => Ok(Ok(disarm(*watch))),
+            CallText::TakeNotices { count } => Ok(Ok(take_notices(*count))),
         }
     }
 }
@@ -209,4 +193,78 @@ fn open(
     ensures { IfOk result (λ outcome. outcome ≡ commands.call_of (text.Open flags path.now mode)) }
 {
     Ok(path_of(alloc, path)?.map(|path| Call::Open { path, flags, mode }))
+}
+
+fn read(descriptor: u32, count: u32) -> Call
+    ensures { result ≡ call.Read descriptor count }
+{
+    Call::Read { descriptor, count }
+}
+
+fn write(
+    alloc: Global,
+    descriptor: u32,
+    bytes: &EscapedWord<'_>,
+) -> Result<Result<Call, Errno>, AllocError>
+    ensures { IfOk result (λ outcome. outcome ≡ commands.call_of (text.Write descriptor bytes.now)) }
+{
+    let bytes = bytes_of(alloc, bytes)?;
+    Ok(Ok(Call::Write { descriptor, bytes }))
+}
+
+fn seek(descriptor: u32, offset: i64, whence: u8) -> Call
+    ensures { result ≡ call.Seek descriptor offset whence }
+{
+    Call::Seek {
+        descriptor,
+        offset,
+        whence,
+    }
+}
+
+fn truncate(descriptor: u32, size: u64) -> Call
+    ensures { result ≡ call.Truncate descriptor size }
+{
+    Call::Truncate { descriptor, size }
+}
+
+fn fstat(descriptor: u32) -> Call
+    ensures { result ≡ call.Fstat descriptor }
+{
+    Call::Fstat { descriptor }
+}
+
+fn list_names(descriptor: u32, count: u32) -> Call
+    ensures { result ≡ call.ListNames descriptor count }
+{
+    Call::ListNames { descriptor, count }
+}
+
+fn close(descriptor: u32) -> Call
+    ensures { result ≡ call.Close descriptor }
+{
+    Call::Close { descriptor }
+}
+
+fn arm(
+    alloc: Global,
+    slot: u8,
+    mask: u32,
+    path: &EscapedWord<'_>,
+) -> Result<Result<Call, Errno>, AllocError>
+    ensures { IfOk result (λ outcome. outcome ≡ commands.call_of (text.Arm slot mask path.now)) }
+{
+    Ok(path_of(alloc, path)?.map(|path| Call::Arm { slot, path, mask }))
+}
+
+fn disarm(watch: i32) -> Call
+    ensures { result ≡ call.Disarm watch }
+{
+    Call::Disarm { watch }
+}
+
+fn take_notices(count: u32) -> Call
+    ensures { result ≡ call.TakeNotices count }
+{
+    Call::TakeNotices { count }
 }

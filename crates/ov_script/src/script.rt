@@ -8,7 +8,7 @@ ghost use Rattle.ov_script.specs.Words.{words};
 
 use crate::escape::EscapedWord;
 use crate::flags::open_flags;
-use crate::numbers::{decimal, octal_mode, offset, size};
+use crate::numbers::{decimal, mask, octal_mode, offset, size, slot, watch};
 use ov_base::OpenFlags;
 
 /// A line that is no command.
@@ -112,6 +112,17 @@ pub enum CallText<'a> {
     },
     Close {
         descriptor: u32,
+    },
+    Arm {
+        slot: u8,
+        mask: u32,
+        path: EscapedWord<'a>,
+    },
+    Disarm {
+        watch: i32,
+    },
+    TakeNotices {
+        count: u32,
     },
 }
 
@@ -219,6 +230,12 @@ fn call_of_one<'a>(name: &[u8], word: &'a [u8]) -> Option<CallText<'a>>
     } else if name == b"fstat".as_slice() {
         let descriptor = decimal(word)?;
         Some(CallText::Fstat { descriptor })
+    } else if name == b"disarm".as_slice() {
+        let watch = watch(word)?;
+        Some(CallText::Disarm { watch })
+    } else if name == b"notices".as_slice() {
+        let count = decimal(word)?;
+        Some(CallText::TakeNotices { count })
     } else {
         call_of_path(name, word)
     }
@@ -316,6 +333,28 @@ fn call_of_three<'a>(
 ) -> Option<CallText<'a>>
     ensures { result ≡ commands.call_of_three name.now first.now second.now third.now }
 {
+    if name == b"seek".as_slice() {
+        let descriptor = decimal(first)?;
+        let offset = offset(second)?;
+        let whence = whence_of(third)?;
+        Some(CallText::Seek {
+            descriptor,
+            offset,
+            whence,
+        })
+    } else {
+        path_call_of_three(name, first, second, third)
+    }
+}
+
+fn path_call_of_three<'a>(
+    name: &[u8],
+    first: &'a [u8],
+    second: &'a [u8],
+    third: &'a [u8],
+) -> Option<CallText<'a>>
+    ensures { result ≡ commands.path_call_of_three name.now first.now second.now third.now }
+{
     if name == b"chown".as_slice() {
         let uid = decimal(first)?;
         let gid = decimal(second)?;
@@ -326,20 +365,16 @@ fn call_of_three<'a>(
         let name = EscapedWord::parse(second)?;
         let value = EscapedWord::parse(third)?;
         Some(CallText::SetAttribute { path, name, value })
-    } else if name == b"seek".as_slice() {
-        let descriptor = decimal(first)?;
-        let offset = offset(second)?;
-        let whence = whence_of(third)?;
-        Some(CallText::Seek {
-            descriptor,
-            offset,
-            whence,
-        })
     } else if name == b"open".as_slice() {
         let flags = open_flags(first)?;
         let path = EscapedWord::parse(second)?;
         let mode = octal_mode(third)?;
         Some(CallText::Open { flags, path, mode })
+    } else if name == b"arm".as_slice() {
+        let slot = slot(first)?;
+        let mask = mask(second)?;
+        let path = EscapedWord::parse(third)?;
+        Some(CallText::Arm { slot, mask, path })
     } else {
         None
     }

@@ -11,8 +11,10 @@ use Rattle.ov_script.specs.Commands.{command_of}
 use Rattle.ov_script.specs.declared.script.Command.{Command}
 use Rattle.ov_script.specs.declared.script.Command.TheVariants as command
 use Rattle.ov_script.specs.declared.script.CallText.{CallText}
-use Rattle.overlay_core.specs.Attaching.{Attaches, Detaches, KeepsAttached}
+use Rattle.mount_calls.specs.Attaching.{Attaches, Detaches, KeepsAttached}
 use Rattle.overlay_core.specs.declared.mounted.Core.{Core}
+use Rattle.watch_table.specs.declared.hook.Callback.{Ghosts as Callback}
+use Rattle.watch_table.specs.declared.hook.Rule.{Ghosts as Rule}
 use Rattle.ov_server.specs.Plays.{CannotPlay, IsBadOn, IsRosterOf, KeepsClients, PlaysCommand, PlaysLine, layers_in}
 use Rattle.ov_server.specs.Rosters.{CommandLeaves, LineLeaves, Roster, command_in, is_attached, is_skipped, with_next, without}
 
@@ -21,11 +23,11 @@ abbrev there : {A : Type 0} → Option A → Bool
 there o = is_some o
 
 -- the same layers are as many
-same_count : (old new : Core) → new.mount.layers ≡ old.mount.layers → layers_in new ≡ layers_in old
+same_count : {F G : Type 0} {asks : Callback F} {rule : Rule G} (old new : Core F G asks rule) → new.watched.mount.layers ≡ old.watched.mount.layers → layers_in new ≡ layers_in old
 same_count old new e = ap (λ (l : Layers). length (trees l)) e
 
 -- the same lower layers are as many
-lowers_count : (old new : Core) → new.mount.layers.lowers ≡ old.mount.layers.lowers → layers_in new ≡ layers_in old
+lowers_count : {F G : Type 0} {asks : Callback F} {rule : Rule G} (old new : Core F G asks rule) → new.watched.mount.layers.lowers ≡ old.watched.mount.layers.lowers → layers_in new ≡ layers_in old
 lowers_count old new e = rw e refl
 
 -- a number is itself
@@ -39,15 +41,15 @@ eq_self n = by (cases_Bool (nat_eq n n))
 -- ---- attach
 
 -- the next client is attached, beside those before
-attached_next : (old new : Core) (r : Roster) (n : ℕ) → Attaches old.mount.clients new.mount.clients n → IsRosterOf old r → n ≡ r.next → (client : ℕ) → is_attached (with_next r) client ≡ is_some (get nat_cmp new.mount.clients.attached client)
+attached_next : {F G : Type 0} {asks : Callback F} {rule : Rule G} (old new : Core F G asks rule) (r : Roster) (n : ℕ) → Attaches old.watched.mount.clients new.watched.mount.clients n → IsRosterOf old r → n ≡ r.next → (client : ℕ) → is_attached (with_next r) client ≡ is_some (get nat_cmp new.watched.mount.clients.attached client)
 attached_next old new r n a st next client = by (cases_eq client r.next)
   where
-    by : (client ≡ r.next) ⊎ (client ≡ r.next → ⊥) → (nat_eq client r.next || is_attached r client) ≡ is_some (get nat_cmp new.mount.clients.attached client)
+    by : (client ≡ r.next) ⊎ (client ≡ r.next → ⊥) → (nat_eq client r.next || is_attached r client) ≡ is_some (get nat_cmp new.watched.mount.clients.attached client)
     by (inl e) = rw (e, eq_self r.next) (sym (ap there (rw next at a.there)))
     by (inr e) = rw (ne_eqb client r.next e) (st.attached client ∙ sym (ap there (a.others client (λ same. e (same ∙ next)))))
 
 -- an attach gives the next number
-pub attach_plays : (old new : Core) (n : ℕ) → Attaches old.mount.clients new.mount.clients n → new.mount.layers ≡ old.mount.layers → PlaysCommand old command.Attach new
+pub attach_plays : {F G : Type 0} {asks : Callback F} {rule : Rule G} (old new : Core F G asks rule) (n : ℕ) → Attaches old.watched.mount.clients new.watched.mount.clients n → new.watched.mount.layers ≡ old.watched.mount.layers → PlaysCommand old command.Attach new
 attach_plays old new n a layers = record {
   good = λ r st. refl;
   leaves = λ r st. let next : n ≡ r.next = a.next ∙ st.next in (
@@ -64,7 +66,7 @@ attach_plays old new n a layers = record {
 }
 
 -- an attach that is refused leaves who is attached
-pub attach_refused : (old new : Core) → KeepsAttached old.mount.clients new.mount.clients → new.mount.layers ≡ old.mount.layers → PlaysCommand old command.Attach new
+pub attach_refused : {F G : Type 0} {asks : Callback F} {rule : Rule G} (old new : Core F G asks rule) → KeepsAttached old.watched.mount.clients new.watched.mount.clients → new.watched.mount.layers ≡ old.watched.mount.layers → PlaysCommand old command.Attach new
 attach_refused old new h layers = record {
   good = λ r st. refl;
   leaves = λ r st. (r, (inl refl, record { attached = λ client. st.attached client ∙ sym (h.attached client); next = h.next ∙ st.next }));
@@ -74,17 +76,17 @@ attach_refused old new h layers = record {
 -- ---- detach
 
 -- who is attached without a client
-attached_without : (old new : Core) (r : Roster) (n : ℕ) → Detaches old.mount.clients new.mount.clients n → IsRosterOf old r → (client : ℕ) → is_attached (without n r) client ≡ is_some (get nat_cmp new.mount.clients.attached client)
+attached_without : {F G : Type 0} {asks : Callback F} {rule : Rule G} (old new : Core F G asks rule) (r : Roster) (n : ℕ) → Detaches old.watched.mount.clients new.watched.mount.clients n → IsRosterOf old r → (client : ℕ) → is_attached (without n r) client ≡ is_some (get nat_cmp new.watched.mount.clients.attached client)
 attached_without old new r n d st client =
     any-filter_same (nat_eq client) (λ c. not (nat_eq n c)) (not (nat_eq n client)) (λ k e. ap (λ x. not (nat_eq n x)) (sym (eqb-true client k e))) r.attached
     ∙ by (cases_eq n client)
   where
-    by : (n ≡ client) ⊎ (n ≡ client → ⊥) → (not (nat_eq n client) && list_any (nat_eq client) r.attached) ≡ is_some (get nat_cmp new.mount.clients.attached client)
+    by : (n ≡ client) ⊎ (n ≡ client → ⊥) → (not (nat_eq n client) && list_any (nat_eq client) r.attached) ≡ is_some (get nat_cmp new.watched.mount.clients.attached client)
     by (inl e) = rw (← e, eq_self n) (sym (ap there d.gone))
     by (inr e) = rw (ne_eqb n client e) (st.attached client ∙ sym (ap there (d.others client (λ same. e (sym same)))))
 
 -- a client that is attached is detached
-pub detach_plays : (old new : Core) (n : ℕ) → is_some (get nat_cmp old.mount.clients.attached n) ≡ true → Detaches old.mount.clients new.mount.clients n → new.mount.layers.lowers ≡ old.mount.layers.lowers → PlaysCommand old (command.Detach n) new
+pub detach_plays : {F G : Type 0} {asks : Callback F} {rule : Rule G} (old new : Core F G asks rule) (n : ℕ) → is_some (get nat_cmp old.watched.mount.clients.attached n) ≡ true → Detaches old.watched.mount.clients new.watched.mount.clients n → new.watched.mount.layers.lowers ≡ old.watched.mount.layers.lowers → PlaysCommand old (command.Detach n) new
 detach_plays old new n is d layers = record {
   good = λ r st. st.attached n ∙ is;
   leaves = λ r st. (without n r, (refl, record { attached = attached_without old new r n d st; next = d.next ∙ st.next }));
@@ -94,11 +96,11 @@ detach_plays old new n is d layers = record {
 -- ---- calls
 
 -- a step of a job keeps who is attached, and how many layers there are
-pub step_keeps : (old new : Core) → KeepsAttached old.mount.clients new.mount.clients → new.mount.layers.lowers ≡ old.mount.layers.lowers → KeepsClients old new
+pub step_keeps : {F G : Type 0} {asks : Callback F} {rule : Rule G} (old new : Core F G asks rule) → KeepsAttached old.watched.mount.clients new.watched.mount.clients → new.watched.mount.layers.lowers ≡ old.watched.mount.layers.lowers → KeepsClients old new
 step_keeps old new h lowers = record { attached = h.attached; next = h.next; layers = lowers_count old new lowers }
 
 -- what keeps who is attached plays a call of a client that is attached
-pub call_plays : (old new : Core) (n : ℕ) (text : CallText) → is_some (get nat_cmp old.mount.clients.attached n) ≡ true → KeepsClients old new → PlaysCommand old (command.Call n text) new
+pub call_plays : {F G : Type 0} {asks : Callback F} {rule : Rule G} (old new : Core F G asks rule) (n : ℕ) (text : CallText) → is_some (get nat_cmp old.watched.mount.clients.attached n) ≡ true → KeepsClients old new → PlaysCommand old (command.Call n text) new
 call_plays old new n text is h = record {
   good = λ r st. st.attached n ∙ is;
   leaves = λ r st. (r, (refl, record { attached = λ client. st.attached client ∙ sym (h.attached client); next = h.next ∙ st.next }));
@@ -106,13 +108,13 @@ call_plays old new n text is h = record {
 }
 
 -- a client that isn't attached makes no call, and isn't detached
-pub absent : (m : Core) (n : ℕ) → is_some (get nat_cmp m.mount.clients.attached n) ≡ false → (r : Roster) → IsRosterOf m r → is_attached r n ≡ false
+pub absent : {F G : Type 0} {asks : Callback F} {rule : Rule G} (m : Core F G asks rule) (n : ℕ) → is_some (get nat_cmp m.watched.mount.clients.attached n) ≡ false → (r : Roster) → IsRosterOf m r → is_attached r n ≡ false
 absent m n is r st = st.attached n ∙ is
 
 -- ---- lines
 
 -- a line that does nothing
-pub skipped_plays : (m : Core) (text : List ℕ) → is_skipped text ≡ true → PlaysLine m text m
+pub skipped_plays : {F G : Type 0} {asks : Callback F} {rule : Rule G} (m : Core F G asks rule) (text : List ℕ) → is_skipped text ≡ true → PlaysLine m text m
 skipped_plays m text skipped = record {
   good = λ r st. rw skipped refl;
   leaves = λ r st. (r, (subst (λ b. MatchOption (cond b None (command_of text)) (r ≡ r) (λ (c : Command). CommandLeaves r c r)) (sym skipped) refl, st));
@@ -120,7 +122,7 @@ skipped_plays m text skipped = record {
 }
 
 -- the line of a command
-pub line_plays : (old new : Core) (text : List ℕ) (asked : Command) → is_skipped text ≡ false → command_of text ≡ Some asked → PlaysCommand old asked new → PlaysLine old text new
+pub line_plays : {F G : Type 0} {asks : Callback F} {rule : Rule G} (old new : Core F G asks rule) (text : List ℕ) (asked : Command) → is_skipped text ≡ false → command_of text ≡ Some asked → PlaysCommand old asked new → PlaysLine old text new
 line_plays old new text asked skipped is p = record {
   good = λ r st. rw (skipped, is) (p.good r st);
   leaves = λ r st. let q = p.leaves r st in (q.0, (leaves r q.0 q.1.0, q.1.1));
@@ -133,9 +135,9 @@ line_plays old new text asked skipped is p = record {
         subst (λ (o : Option Command). MatchOption o (s ≡ r) (λ c. CommandLeaves r c s)) (sym o) h
 
 -- a line of no command
-pub line_without : (m : Core) (text : List ℕ) → is_skipped text ≡ false → command_of text ≡ None → IsBadOn m text
+pub line_without : {F G : Type 0} {asks : Callback F} {rule : Rule G} (m : Core F G asks rule) (text : List ℕ) → is_skipped text ≡ false → command_of text ≡ None → IsBadOn m text
 line_without m text skipped is r st = rw (skipped, is) refl
 
 -- the line of a command that cannot be played
-pub line_bad : (m : Core) (text : List ℕ) (asked : Command) → is_skipped text ≡ false → command_of text ≡ Some asked → CannotPlay m asked → IsBadOn m text
+pub line_bad : {F G : Type 0} {asks : Callback F} {rule : Rule G} (m : Core F G asks rule) (text : List ℕ) (asked : Command) → is_skipped text ≡ false → command_of text ≡ Some asked → CannotPlay m asked → IsBadOn m text
 line_bad m text asked skipped is cannot r st = rw (skipped, is) (cannot r st)

@@ -5,5 +5,6 @@ pub mod Faults
 pub mod Histories
 pub mod Objects
 pub mod Plays
+pub mod ProgramHooks
 pub mod Rosters
 pub mod Scripts

@@ -8,7 +8,7 @@ use Rattle.ov_base.specs.declared.redirect.Redirect.TheVariants as redirect
 use Rattle.layer_tree.specs.declared.node.Marks.{Marks}
 use Rattle.layer_tree.specs.declared.node.Node.{Node}
 use Rattle.layer_tree.specs.declared.node.Node.TheVariants as node
-use Rattle.overlay_core.specs.Status.{status_of}
+use Rattle.mount_calls.specs.Status.{status_of}
 use Rattle.ov_script.specs.Escapes.{escaped_of}
 use Rattle.ov_script.specs.Lines.{stat_words}
 

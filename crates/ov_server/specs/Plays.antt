@@ -6,6 +6,8 @@ use Rattle.std.specs.Ordering.{nat_cmp}
 use Rattle.merged_lookup.specs.Merged.{trees}
 use Rattle.ov_script.specs.declared.script.Command.{Command}
 use Rattle.overlay_core.specs.declared.mounted.Core.{Core}
+use Rattle.watch_table.specs.declared.hook.Callback.{Ghosts as Callback}
+use Rattle.watch_table.specs.declared.hook.Rule.{Ghosts as Rule}
 use Rattle.ov_server.specs.Devices.{IsToldBy}
 use Rattle.ov_server.specs.Faults.{device_fault}
 use Rattle.ov_server.specs.declared.commands.LineFault.{LineFault}
@@ -20,53 +22,53 @@ use Rattle.ov_server.specs.Rosters.{ArePlayed, CommandLeaves, LineLeaves, Roster
 use Rattle.ov_server.specs.Scripts.{IsBadLine, script_lines}
 
 -- how many layers a mount has
-abbrev pub layers_in : Core → ℕ
-layers_in m = length (trees m.mount.layers)
+abbrev pub layers_in : {F G : Type 0} {asks : Callback F} {rule : Rule G} → Core F G asks rule → ℕ
+layers_in m = length (trees m.watched.mount.layers)
 
 -- the clients of a mount are those of a roster, and its next number is the same
-pub record IsRosterOf (m : Core) (r : Roster) : Type 0 where
-  pub attached : (client : ℕ) → is_attached r client ≡ is_some (get nat_cmp m.mount.clients.attached client)
-  pub next : m.mount.clients.next ≡ r.next
+pub record IsRosterOf {F G : Type 0} {asks : Callback F} {rule : Rule G} (m : Core F G asks rule) (r : Roster) : Type 0 where
+  pub attached : (client : ℕ) → is_attached r client ≡ is_some (get nat_cmp m.watched.mount.clients.attached client)
+  pub next : m.watched.mount.clients.next ≡ r.next
 
 -- at the beginning nobody is attached
-abbrev pub BeginsOn : Core → Type 0
+abbrev pub BeginsOn : {F G : Type 0} {asks : Callback F} {rule : Rule G} → Core F G asks rule → Type 0
 BeginsOn m = IsRosterOf m nobody
 
 -- a call leaves who is attached, and how many layers there are
-pub record KeepsClients (old new : Core) : Type 0 where
-  pub attached : (client : ℕ) → is_some (get nat_cmp new.mount.clients.attached client) ≡ is_some (get nat_cmp old.mount.clients.attached client)
-  pub next : new.mount.clients.next ≡ old.mount.clients.next
+pub record KeepsClients {F G : Type 0} {asks : Callback F} {rule : Rule G} (old new : Core F G asks rule) : Type 0 where
+  pub attached : (client : ℕ) → is_some (get nat_cmp new.watched.mount.clients.attached client) ≡ is_some (get nat_cmp old.watched.mount.clients.attached client)
+  pub next : new.watched.mount.clients.next ≡ old.watched.mount.clients.next
   pub layers : layers_in new ≡ layers_in old
 
 -- a command was played: it is good, and the mount goes on as it says
-pub record PlaysCommand (old : Core) (command : Command) (new : Core) : Type 0 where
+pub record PlaysCommand {F G : Type 0} {asks : Callback F} {rule : Rule G} (old : Core F G asks rule) (command : Command) (new : Core F G asks rule) : Type 0 where
   pub good : (r : Roster) → IsRosterOf old r → is_good_command (layers_in old) r command ≡ true
   pub leaves : (r : Roster) → IsRosterOf old r → (s : Roster) × (CommandLeaves r command s × IsRosterOf new s)
   pub layers : layers_in new ≡ layers_in old
 
 -- the same of a line
-pub record PlaysLine (old : Core) (text : List ℕ) (new : Core) : Type 0 where
+pub record PlaysLine {F G : Type 0} {asks : Callback F} {rule : Rule G} (old : Core F G asks rule) (text : List ℕ) (new : Core F G asks rule) : Type 0 where
   pub good : (r : Roster) → IsRosterOf old r → is_good (layers_in old) r text ≡ true
   pub leaves : (r : Roster) → IsRosterOf old r → (s : Roster) × (LineLeaves r text s × IsRosterOf new s)
   pub layers : layers_in new ≡ layers_in old
 
 -- a command cannot be played on a mount, nor a line
-abbrev pub CannotPlay : Core → Command → Type 0
+abbrev pub CannotPlay : {F G : Type 0} {asks : Callback F} {rule : Rule G} → Core F G asks rule → Command → Type 0
 CannotPlay m command = (r : Roster) → IsRosterOf m r → is_good_command (layers_in m) r command ≡ false
 
-abbrev pub IsBadOn : Core → List ℕ → Type 0
+abbrev pub IsBadOn : {F G : Type 0} {asks : Callback F} {rule : Rule G} → Core F G asks rule → List ℕ → Type 0
 IsBadOn m text = (r : Roster) → IsRosterOf m r → is_good (layers_in m) r text ≡ false
 
 -- how the play of a command, of a line, and of a line with a number ends early
-abbrev pub IsCommandRefusal : Core → Command → LineFault → Type 0
+abbrev pub IsCommandRefusal : {F G : Type 0} {asks : Callback F} {rule : Rule G} → Core F G asks rule → Command → LineFault → Type 0
 IsCommandRefusal m command line.BadCommand = CannotPlay m command
 IsCommandRefusal m command (line.Device fault) = Unit {0}
 
-abbrev pub IsRefusal : Core → List ℕ → LineFault → Type 0
+abbrev pub IsRefusal : {F G : Type 0} {asks : Callback F} {rule : Rule G} → Core F G asks rule → List ℕ → LineFault → Type 0
 IsRefusal m text line.BadCommand = IsBadOn m text
 IsRefusal m text (line.Device fault) = Unit {0}
 
-abbrev pub IsLineFault : Core → List ℕ → ℕ → PlayFault → Type 0
+abbrev pub IsLineFault : {F G : Type 0} {asks : Callback F} {rule : Rule G} → Core F G asks rule → List ℕ → ℕ → PlayFault → Type 0
 IsLineFault m text number (play.BadLine told) = (told ≡ number) × IsBadOn m text
 IsLineFault m text number (play.Device fault) = Unit {0}
 
@@ -116,7 +118,7 @@ IsStreamFault input_failed reads_left output_failed (play.Device Stream) = (inpu
 IsStreamFault input_failed reads_left output_failed _ = Unit {0}
 
 -- The lines of a script that have ended were played, and left this mount. `begun` is what there is of the next one, and `rest` follows.
-pub record IsPlayed (layers : ℕ) (script rest begun : List ℕ) (count : ℕ) (m : Core) : Type 0 where
+pub record IsPlayed {F G : Type 0} {asks : Callback F} {rule : Rule G} (layers : ℕ) (script rest begun : List ℕ) (count : ℕ) (m : Core F G asks rule) : Type 0 where
   pub ended : List (List ℕ)
   pub lines : script_lines script ≡ ended ++ script_lines (begun ++ rest)
   pub counted : length ended ≡ count
@@ -127,11 +129,11 @@ pub record IsPlayed (layers : ℕ) (script rest begun : List ℕ) (count : ℕ) 
   pub unbroken : All (λ b. nat_eq b 10 ≡ false) begun
 
 -- From one place in a script, told by what is begun, the lines before, the mount and what follows, the play goes on to another.
-abbrev pub GoesOn : List ℕ → List ℕ → ℕ → Core → List ℕ → List ℕ → ℕ → Core → Type 0
+abbrev pub GoesOn : {F G : Type 0} {asks : Callback F} {rule : Rule G} → List ℕ → List ℕ → ℕ → Core F G asks rule → List ℕ → List ℕ → ℕ → Core F G asks rule → Type 0
 GoesOn from begun count m to begun_then count_then m_then =
     (layers : ℕ) (script more : List ℕ) → IsPlayed layers script (from ++ more) begun count m → IsPlayed layers script (to ++ more) begun_then count_then m_then
 
 -- from a place in a script the play ends by a fault
-abbrev pub EndsBy : List ℕ → List ℕ → ℕ → Core → PlayFault → Type 0
+abbrev pub EndsBy : {F G : Type 0} {asks : Callback F} {rule : Rule G} → List ℕ → List ℕ → ℕ → Core F G asks rule → PlayFault → Type 0
 EndsBy from begun count m fault =
     (layers : ℕ) (script more : List ℕ) → IsPlayed layers script (from ++ more) begun count m → IsPlayFault layers script fault

@@ -1,6 +1,6 @@
 // One line of a script on a mount.
-ghost use Rattle.std.specs.Prelude.{◌≡◌, ◌+◌, ◌<◌, ◌≤◌, true, Some, None, Ok, IfErr, IfOk, OnErr, OnOk};
-ghost use Rattle.overlay_core.specs.Attaching.{is_attached};
+ghost use Rattle.std.specs.Prelude.{◌≡◌, ◌+◌, ◌<◌, ◌≤◌, true, Some, None, Ok, IfErr, IfOk, OnErr, OnOk, length};
+ghost use Rattle.mount_calls.specs.Attaching.{is_attached};
 ghost use Rattle.ov_script.specs.declared.script.Command.TheVariants as asked;
 ghost use Rattle.ov_script.specs.Commands.{call_of};
 ghost use Rattle.ov_server.specs.Histories as histories;
@@ -18,6 +18,7 @@ use ov_script::{BadCommand, CallText, Command, command_of};
 use overlay_core::{Core, Job, Turn};
 use std::alloc::{AllocError, Global};
 use std::io::Write;
+use watch_table::{Callback, HOOKS_MAX, Hook, Rule};
 
 /// Why a line could not be played.
 #[derive(Drop)]
@@ -26,10 +27,11 @@ pub enum LineFault {
     Device(DeviceFault),
 }
 
-/// Plays a line on a mount and puts its answer out.
-pub fn play_line<W: Write>(
+/// Plays a line on a mount, where each client comes with copies of these hooks, and puts its answer out.
+pub fn play_line<W: Write, F: Callback + Copy, H: Rule>(
     alloc: Global,
-    core: &mut Core,
+    core: &mut Core<F, H>,
+    hooks: &[Hook<F, H>],
     line: &[u8],
     output: &mut Output<W>,
 ) -> Result<(), LineFault>
@@ -43,7 +45,7 @@ pub fn play_line<W: Write>(
     if is_skipped(line) {
         Ok(())
     } else {
-        play_command(alloc, core, command_of(line)?, output)
+        play_command(alloc, core, hooks, command_of(line)?, output)
     }
 }
 
@@ -58,9 +60,10 @@ fn is_skipped(line: &[u8]) -> bool
 }
 
 // Plays a command and puts its answer out.
-fn play_command<W: Write>(
+fn play_command<W: Write, F: Callback + Copy, H: Rule>(
     alloc: Global,
-    core: &mut Core,
+    core: &mut Core<F, H>,
+    hooks: &[Hook<F, H>],
     command: Command<'_>,
     output: &mut Output<W>,
 ) -> Result<(), LineFault>
@@ -72,7 +75,7 @@ fn play_command<W: Write>(
     ensures stream { TellsLine output.old.failed output.new.failed result }
 {
     match command {
-        Command::Attach => put_answer(&attached(core), output),
+        Command::Attach => put_answer(&attached(alloc, core, hooks), output),
         Command::Detach { client } => put_answer(&detached(core, client)?, output),
         Command::Call { client, call } => {
             put_answer(&called(alloc, core, client, &call)?, output)
@@ -91,9 +94,9 @@ fn put_answer<W: Write>(answer: &Answer, output: &mut Output<W>) -> Result<(), L
     Ok(())
 }
 
-fn put_layer<W: Write>(
+fn put_layer<W: Write, F: Callback, H: Rule>(
     alloc: Global,
-    core: &Core,
+    core: &Core<F, H>,
     index: u32,
     output: &mut Output<W>,
 ) -> Result<(), LineFault>
@@ -108,7 +111,11 @@ fn put_layer<W: Write>(
     Ok(())
 }
 
-fn put_merge<W: Write>(alloc: Global, core: &Core, output: &mut Output<W>) -> Result<(), LineFault>
+fn put_merge<W: Write, F: Callback, H: Rule>(
+    alloc: Global,
+    core: &Core<F, H>,
+    output: &mut Output<W>,
+) -> Result<(), LineFault>
     ensures err { IfErr result plays.IsOfDevice }
     ensures stream { TellsLine output.old.failed output.new.failed result }
 {
@@ -116,31 +123,56 @@ fn put_merge<W: Write>(alloc: Global, core: &Core, output: &mut Output<W>) -> Re
     Ok(())
 }
 
-fn attached(core: &mut Core) -> Answer
+fn attached<F: Callback + Copy, H: Rule>(
+    alloc: Global,
+    core: &mut Core<F, H>,
+    hooks: &[Hook<F, H>],
+) -> Answer
     requires { HasPlaces core.old }
     ensures places { HasPlaces core.new }
     ensures counted { core.new.finished ≤ core.old.finished + 1 }
     ensures plays { PlaysCommand core.old asked.Attach core.new }
-    ensures answer { AnswersAttach (histories.attach_refusal core.old) core.old.mount.clients.next result }
-    ensures refused { (errno : Errno) → histories.attach_refusal core.old ≡ Some errno → core.new ≡ core.old }
+    ensures answer { AnswersAttach (histories.attach_refusal core.old (length hooks.now)) core.old.watched.mount.clients.next result }
+    ensures refused { (errno : Errno) → histories.attach_refusal core.old (length hooks.now) ≡ Some errno → core.new ≡ core.old }
 {
-    if let Some(errno) = attach_refusal(core) {
+    if let Some(errno) = attach_refusal(core, hooks.len()) {
         return Answer::NotAttached { errno };
     }
-    match core.attach() {
-        Ok(Ok(client)) => Answer::Attached { client },
-        Ok(Err(_)) => unreachable!(),
-        Err(AllocError) => Answer::NotAttached {
+    let Ok(copies) = copies_of(alloc, hooks) else {
+        return Answer::NotAttached {
+            errno: Errno::ENOMEM,
+        };
+    };
+    match core.attach(copies) {
+        Ok(client) => Answer::Attached { client },
+        Err(_) => Answer::NotAttached {
             errno: Errno::ENOMEM,
         },
     }
 }
 
-// Why no client can be attached: 64 are, or the history has no place for it and one for its detach.
-fn attach_refusal(core: &Core) -> Option<Errno>
-    ensures { result ≡ histories.attach_refusal core.now }
+// Other hooks of the same tags and callbacks.
+fn copies_of<F: Callback + Copy, H: Rule>(
+    alloc: Global,
+    hooks: &[Hook<F, H>],
+) -> Result<Vec<Hook<F, H>>, AllocError>
+    ensures { IfOk result (λ copies. copies.items ≡ hooks.now) }
 {
-    if !core.admits() {
+    let mut copies = Vec::with_capacity(alloc, hooks.len())?;
+    for hook in hooks {
+        copies.push(hook.copied())?;
+    }
+    Ok(copies)
+}
+
+// Why no client with so many hooks can be attached: they are over 16, or 64 clients are attached, or the history has no place for it and
+// one for its detach.
+fn attach_refusal<F: Callback, H: Rule>(core: &Core<F, H>, hooks: usize) -> Option<Errno>
+    ensures { result ≡ histories.attach_refusal core.now hooks }
+{
+    if hooks > HOOKS_MAX {
+        Some(Errno::EINVAL)
+    } else if !core.admits() {
         Some(Errno::ENFILE)
     } else if core.room() < 2 {
         Some(Errno::ENOSPC)
@@ -149,7 +181,10 @@ fn attach_refusal(core: &Core) -> Option<Errno>
     }
 }
 
-fn detached(core: &mut Core, client: u32) -> Result<Answer, BadCommand>
+fn detached<F: Callback + Drop, H: Rule>(
+    core: &mut Core<F, H>,
+    client: u32,
+) -> Result<Answer, BadCommand>
     requires { HasPlaces core.old }
     ensures places { HasPlaces core.new }
     ensures counted { core.new.finished ≤ core.old.finished + 1 }
@@ -159,13 +194,13 @@ fn detached(core: &mut Core, client: u32) -> Result<Answer, BadCommand>
     if !core.is_attached(client as u64) {
         return Err(BadCommand);
     }
-    core.detach(client as u64);
+    let _ = core.detach(client as u64);
     Ok(Answer::Detached { client })
 }
 
-fn called(
+fn called<F: Callback, H: Rule>(
     alloc: Global,
-    core: &mut Core,
+    core: &mut Core<F, H>,
     client: u32,
     text: &CallText<'_>,
 ) -> Result<Answer, BadCommand>
@@ -185,8 +220,13 @@ fn called(
 }
 
 // The answer to a call of a client that is attached.
-fn call_answer(alloc: Global, core: &mut Core, client: u32, text: &CallText<'_>) -> Answer
-    requires attached { is_attached core.old.mount.clients client ≡ true }
+fn call_answer<F: Callback, H: Rule>(
+    alloc: Global,
+    core: &mut Core<F, H>,
+    client: u32,
+    text: &CallText<'_>,
+) -> Answer
+    requires attached { is_attached core.old.watched.mount.clients client ≡ true }
     requires places { HasPlaces core.old }
     ensures places { HasPlaces core.new }
     ensures counted { core.new.finished ≤ core.old.finished + 1 }
@@ -205,8 +245,8 @@ fn call_answer(alloc: Global, core: &mut Core, client: u32, text: &CallText<'_>)
 }
 
 // The answer to a call, which is not taken where the history has no place left.
-fn answer_in_room(core: &mut Core, client: u32, call: Call) -> Answer
-    requires attached { is_attached core.old.mount.clients client ≡ true }
+fn answer_in_room<F: Callback, H: Rule>(core: &mut Core<F, H>, client: u32, call: Call) -> Answer
+    requires attached { is_attached core.old.watched.mount.clients client ≡ true }
     requires places { HasPlaces core.old }
     ensures places { HasPlaces core.new }
     ensures counted { core.new.finished ≤ core.old.finished + 1 }
@@ -224,8 +264,8 @@ fn answer_in_room(core: &mut Core, client: u32, call: Call) -> Answer
 }
 
 // The answer to a call for which there is a place. It is made in one step.
-fn made(core: &mut Core, client: u32, call: Call) -> Answer
-    requires attached { is_attached core.old.mount.clients client ≡ true }
+fn made<F: Callback, H: Rule>(core: &mut Core<F, H>, client: u32, call: Call) -> Answer
+    requires attached { is_attached core.old.watched.mount.clients client ≡ true }
     requires places { HasPlaces core.old }
     requires room { 0 < room core.old }
     ensures places { HasPlaces core.new }

@@ -9,10 +9,12 @@ mod fault;
 mod object_lines;
 mod play;
 mod print_tree;
+mod program_hooks;
 mod show;
 
 pub use arguments::{Invocation, command_line};
 pub use devices::{Input, Output};
 pub use fault::{DeviceFault, Fault};
 pub use play::play_run;
+pub use program_hooks::{ByTag, ProgramRule, hooks_by_slot};
 pub use show::show_run;

@@ -4,9 +4,9 @@ ghost use Rattle.ov_server.specs.Objects as objects;
 ghost use Rattle.ov_server.specs.Objects.{path_text, object_line, whiteout_line, words_after, mark_words, redirect_text, redirect_words};
 
 use layer_tree::{Marks, Node};
+use mount_calls::status_of;
 use ov_base::{Content, Name, Redirect};
 use ov_script::{Escaped, StatWords};
-use overlay_core::status_of;
 use std::fmt;
 
 /// The text of the path of these names from the root.

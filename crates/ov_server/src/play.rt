@@ -14,16 +14,18 @@ use overlay_core::Core;
 use std::alloc::{AllocError, Global};
 use std::hash::RandomState;
 use std::io::{Read, Write};
+use watch_table::{Callback, Hook, Rule};
 
 /// How many bytes one read asks for.
 const PIECE: usize = 65_536;
 
 /// Plays the script that an input gives on the mount of the layers that the bytes of a manifest spell, and puts a line out for each
-/// command. The layers hash names with `keys`.
-pub fn play_run<R: Read, W: Write>(
+/// command. Each client comes with copies of these hooks. The layers hash names with `keys`.
+pub fn play_run<R: Read, W: Write, F: Callback + Copy, H: Rule>(
     alloc: Global,
     keys: RandomState,
     manifest: &[u8],
+    hooks: &[Hook<F, H>],
     input: &mut Input<R>,
     output: &mut Output<W>,
 ) -> Result<(), Fault>
@@ -33,20 +35,44 @@ pub fn play_run<R: Read, W: Write>(
     ensures well { OnOk result ((input.new.failed ≡ input.old.failed) × (output.new.failed ≡ output.old.failed)) }
     ensures manifest { AnswersManifest manifest.now result }
 {
-    let mut script = Script {
-        core: core_of(alloc, keys, manifest)?,
-        pending: Vec::new(alloc),
-        lines: 0,
-        alloc,
-    };
-    let outcome = script.play(input, output);
+    let core = core_of(alloc, keys, manifest)?;
+    let outcome = play_on(alloc, core, hooks, input, output);
     output.flush()?;
     outcome?;
     Ok(())
 }
 
+// Plays the script that an input gives on a mount without a client.
+fn play_on<R: Read, W: Write, F: Callback + Copy, H: Rule>(
+    alloc: Global,
+    core: Core<F, H>,
+    hooks: &[Hook<F, H>],
+    input: &mut Input<R>,
+    output: &mut Output<W>,
+) -> Result<(), PlayFault>
+    requires begins { BeginsOn core }
+    requires places { HasPlaces core }
+    ensures ok { OnOk result (IfSome (R.remaining input.old.reader) (IsGoodScript (layers_in core))) }
+    ensures err { IfErr result (λ fault. IfSome (R.remaining input.old.reader) (λ script. IsPlayFault (layers_in core) script fault)) }
+    ensures stream { IfErr result (plays.IsStreamFault input.new.failed input.new.reads_left output.new.failed) }
+    ensures well { OnOk result ((input.new.failed ≡ input.old.failed) × (output.new.failed ≡ output.old.failed)) }
+{
+    let mut script = Script {
+        core,
+        hooks,
+        pending: Vec::new(alloc),
+        lines: 0,
+        alloc,
+    };
+    script.play(input, output)
+}
+
 // The mount of the layers that the bytes of a manifest spell, without a client.
-fn core_of(alloc: Global, keys: RandomState, manifest: &[u8]) -> Result<Core, Fault>
+fn core_of<F: Callback + Drop, H: Rule>(
+    alloc: Global,
+    keys: RandomState,
+    manifest: &[u8],
+) -> Result<Core<F, H>, Fault>
     ensures manifest { AnswersManifest manifest.now result }
     ensures err { IfErr result IsManifestFault }
     ensures count { IfOk result (λ core. layers_in core ≡ layers_told manifest.now) }
@@ -69,18 +95,19 @@ pub enum PlayFault {
     Device(DeviceFault),
 }
 
-// A script on its way: the mount as the lines before left it, how many they were, and the begun line. Its type keeps that the history of
-// the mount is never longer than it may be.
+// A script on its way: the mount as the lines before left it, the hooks with which clients come, how many the lines were, and the begun
+// line. Its type keeps that the history of the mount is never longer than it may be.
 #[derive(Drop)]
-struct Script {
-    core: Core,
+struct Script<'h, F: Callback, H: Rule> {
+    core: Core<F, H>,
+    hooks: &'h [Hook<F, H>],
     pending: Vec<u8>,
     lines: u64,
     alloc: Global,
     ghost places: { HasPlaces core },
 }
 
-impl Script {
+impl<F: Callback + Copy, H: Rule> Script<'_, F, H> {
     fn play<R: Read, W: Write>(
         &mut self,
         input: &mut Input<R>,
@@ -151,7 +178,13 @@ impl Script {
         ensures lines { self.new.lines ≡ self.old.lines + 1 }
     {
         self.lines += 1;
-        let outcome = play_line(self.alloc, &mut self.core, self.pending.as_slice(), output);
+        let outcome = play_line(
+            self.alloc,
+            &mut self.core,
+            self.hooks,
+            self.pending.as_slice(),
+            output,
+        );
         self.pending.clear();
         match outcome {
             Ok(()) => Ok(()),

@@ -1,7 +1,7 @@
 // Loads of whole calls, of a client on a mount.
 use crate::loads::since;
 use crate::manifests::{ManifestText, child};
-use crate::mounts::{made, mounted, path_of, path_to};
+use crate::mounts::{attached, made, mounted_alone, path_of, path_to};
 use ov_base::{Bytes, Call, Errno, OpenFlags, Reply};
 use overlay_core::Core;
 use std::alloc::{AllocError, Global};
@@ -9,6 +9,7 @@ use std::hash::RandomState;
 use std::io;
 use std::rt::Clock;
 use std::time::Instant;
+use watch_table::{Callback, Hook, Rule};
 
 /// How many calls are made ready at a time.
 const BATCH: u32 = 64;
@@ -27,21 +28,34 @@ pub struct Series<'a> {
 }
 
 /// Looking up names of a series by `stat`, so often.
-pub fn measure_stat<C: Clock>(
+pub fn measure_stat<C: Clock, F: Callback + Copy, R: Rule>(
     clock: &C,
     alloc: Global,
     keys: RandomState,
+    hook: &Hook<F, R>,
     manifest: &ManifestText,
     series: Series<'_>,
     count: u32,
 ) -> io::Result<(u64, u32)> {
-    let (mut core, client) = mounted(alloc, keys, manifest)?;
+    let mut core = mounted_alone(alloc, keys, manifest)?;
+    stat_on(clock, alloc, &mut core, hook, series, count)
+}
+
+fn stat_on<C: Clock, F: Callback + Copy, R: Rule>(
+    clock: &C,
+    alloc: Global,
+    core: &mut Core<F, R>,
+    hook: &Hook<F, R>,
+    series: Series<'_>,
+    count: u32,
+) -> io::Result<(u64, u32)> {
+    let client = attached(alloc, core, hook, 0)?;
     let mut nanos = 0u64;
     let mut done = 0u32;
     for batch in 0..count.div_ceil(BATCH) {
         let calls = stats(alloc, series, batch.saturating_mul(BATCH))?;
         let start = Instant::now(clock)?;
-        done = done.saturating_add(make_all(&mut core, client, calls)?);
+        done = done.saturating_add(make_all(core, client, calls)?);
         nanos = nanos.saturating_add(since(clock, start)?);
     }
     Ok((nanos, done))
@@ -62,7 +76,11 @@ fn stats(alloc: Global, series: Series<'_>, first: u32) -> Result<Vec<Call>, All
 }
 
 // How many of the calls were answered by a status or, for a name that isn't there, ENOENT.
-fn make_all(core: &mut Core, client: u64, calls: Vec<Call>) -> Result<u32, AllocError> {
+fn make_all<F: Callback + Copy, R: Rule>(
+    core: &mut Core<F, R>,
+    client: u64,
+    calls: Vec<Call>,
+) -> Result<u32, AllocError> {
     let mut done = 0u32;
     for call in calls {
         match made(core, client, call)? {
@@ -74,18 +92,31 @@ fn make_all(core: &mut Core, client: u64, calls: Vec<Call>) -> Result<u32, Alloc
 }
 
 /// Removing names of a series by `unlink`, so many, each once.
-pub fn measure_unlink<C: Clock>(
+pub fn measure_unlink<C: Clock, F: Callback + Copy, R: Rule>(
     clock: &C,
     alloc: Global,
     keys: RandomState,
+    hook: &Hook<F, R>,
     manifest: &ManifestText,
     series: Series<'_>,
     count: u32,
 ) -> io::Result<(u64, u32)> {
-    let (mut core, client) = mounted(alloc, keys, manifest)?;
+    let mut core = mounted_alone(alloc, keys, manifest)?;
+    unlink_on(clock, alloc, &mut core, hook, series, count)
+}
+
+fn unlink_on<C: Clock, F: Callback + Copy, R: Rule>(
+    clock: &C,
+    alloc: Global,
+    core: &mut Core<F, R>,
+    hook: &Hook<F, R>,
+    series: Series<'_>,
+    count: u32,
+) -> io::Result<(u64, u32)> {
+    let client = attached(alloc, core, hook, 0)?;
     let calls = unlinks(alloc, series, count.min(series.names))?;
     let start = Instant::now(clock)?;
-    let done = remove_all(&mut core, client, calls)?;
+    let done = remove_all(core, client, calls)?;
     Ok((since(clock, start)?, done))
 }
 
@@ -99,21 +130,34 @@ fn unlinks(alloc: Global, series: Series<'_>, count: u32) -> Result<Vec<Call>, A
 }
 
 /// Opening a directory, listing all its names and closing it, so often.
-pub fn measure_list<C: Clock>(
+pub fn measure_list<C: Clock, F: Callback + Copy, R: Rule>(
     clock: &C,
     alloc: Global,
     keys: RandomState,
+    hook: &Hook<F, R>,
     manifest: &ManifestText,
     directory: &str,
     count: u32,
 ) -> io::Result<(u64, u32)> {
-    let (mut core, client) = mounted(alloc, keys, manifest)?;
+    let mut core = mounted_alone(alloc, keys, manifest)?;
+    list_on(clock, alloc, &mut core, hook, directory, count)
+}
+
+fn list_on<C: Clock, F: Callback + Copy, R: Rule>(
+    clock: &C,
+    alloc: Global,
+    core: &mut Core<F, R>,
+    hook: &Hook<F, R>,
+    directory: &str,
+    count: u32,
+) -> io::Result<(u64, u32)> {
+    let client = attached(alloc, core, hook, 0)?;
     let mut nanos = 0u64;
     let mut done = 0u32;
     for _ in 0..count {
         let open = opening(alloc, directory)?;
         let start = Instant::now(clock)?;
-        if list(&mut core, client, open)? {
+        if list(core, client, open)? {
             done = done.saturating_add(1);
         }
         nanos = nanos.saturating_add(since(clock, start)?);
@@ -141,7 +185,11 @@ fn opening(alloc: Global, directory: &str) -> Result<Call, AllocError> {
 }
 
 // Whether a directory could be opened, listed and closed.
-fn list(core: &mut Core, client: u64, open: Call) -> Result<bool, AllocError> {
+fn list<F: Callback + Copy, R: Rule>(
+    core: &mut Core<F, R>,
+    client: u64,
+    open: Call,
+) -> Result<bool, AllocError> {
     let Reply::Descriptor(descriptor) = made(core, client, open)? else {
         return Ok(false);
     };
@@ -150,7 +198,11 @@ fn list(core: &mut Core, client: u64, open: Call) -> Result<bool, AllocError> {
 }
 
 // Reads names until there are none.
-fn read_names(core: &mut Core, client: u64, descriptor: u32) -> Result<(), AllocError> {
+fn read_names<F: Callback + Copy, R: Rule>(
+    core: &mut Core<F, R>,
+    client: u64,
+    descriptor: u32,
+) -> Result<(), AllocError> {
     for _ in 0..u32::MAX {
         let page = Call::ListNames {
             descriptor,
@@ -179,23 +231,37 @@ pub enum Kind {
 }
 
 /// Making something of this kind at a new name of a directory and removing it again, so often.
-pub fn measure_made<C: Clock>(
+pub fn measure_made<C: Clock, F: Callback + Copy, R: Rule>(
     clock: &C,
     alloc: Global,
     keys: RandomState,
+    hook: &Hook<F, R>,
     manifest: &ManifestText,
     parent: &str,
     kind: Kind,
     count: u32,
 ) -> io::Result<(u64, u32)> {
-    let (mut core, client) = mounted(alloc, keys, manifest)?;
+    let mut core = mounted_alone(alloc, keys, manifest)?;
+    make_on(clock, alloc, &mut core, hook, parent, kind, count)
+}
+
+fn make_on<C: Clock, F: Callback + Copy, R: Rule>(
+    clock: &C,
+    alloc: Global,
+    core: &mut Core<F, R>,
+    hook: &Hook<F, R>,
+    parent: &str,
+    kind: Kind,
+    count: u32,
+) -> io::Result<(u64, u32)> {
+    let client = attached(alloc, core, hook, 0)?;
     let path = child(alloc, parent, "made-", 0)?;
     let mut nanos = 0u64;
     let mut done = 0u32;
     for _ in 0..count.div_ceil(BATCH) {
         let calls = making(alloc, path.as_str(), kind)?;
         let start = Instant::now(clock)?;
-        done = done.saturating_add(remove_all(&mut core, client, calls)?);
+        done = done.saturating_add(remove_all(core, client, calls)?);
         nanos = nanos.saturating_add(since(clock, start)?);
     }
     Ok((nanos, done))
@@ -223,7 +289,11 @@ fn making(alloc: Global, text: &str, kind: Kind) -> Result<Vec<Call>, AllocError
 }
 
 // How many times something was removed.
-fn remove_all(core: &mut Core, client: u64, calls: Vec<Call>) -> Result<u32, AllocError> {
+fn remove_all<F: Callback + Copy, R: Rule>(
+    core: &mut Core<F, R>,
+    client: u64,
+    calls: Vec<Call>,
+) -> Result<u32, AllocError> {
     let mut done = 0u32;
     for call in calls {
         let removes = matches!(&call, Call::Unlink { .. } | Call::Rmdir { .. });

@@ -1,6 +1,6 @@
 // Names that collide under a hash of fixed keys, and others.
 use crate::loads::since;
-use crate::mounts::{made, mounted};
+use crate::mounts::{attached, made, mounted_alone};
 use crate::trees::bare;
 use ov_base::{Call, Path, Reply};
 use overlay_core::Core;
@@ -9,6 +9,7 @@ use std::hash::RandomState;
 use std::io;
 use std::rt::Clock;
 use std::time::Instant;
+use watch_table::{Callback, Hook, Rule};
 
 /// The last bytes of names that collide: the number by which `FoldHasher` multiplies, the lowest byte first. Of 16 bytes it
 /// multiplies the first half by the second half xor that number, so what ends by it is multiplied by 0 and has the hash 0.
@@ -52,21 +53,38 @@ fn path_with(alloc: Global, number: u32, end: &[u8; 8]) -> Result<Path, AllocErr
 }
 
 /// The nanoseconds that so many names took into the root of a mount, each by a call, and how many they were.
-pub fn measure_directory<C: Clock>(
+pub fn measure_directory<C: Clock, F: Callback + Copy, R: Rule>(
     clock: &C,
     alloc: Global,
     keys: RandomState,
+    hook: &Hook<F, R>,
     names: Names,
     count: u32,
 ) -> io::Result<(u64, u32)> {
-    let (mut core, client) = mounted(alloc, keys, &bare(alloc)?)?;
+    let mut core = mounted_alone(alloc, keys, &bare(alloc)?)?;
+    make_names_on(clock, alloc, &mut core, hook, names, count)
+}
+
+fn make_names_on<C: Clock, F: Callback + Copy, R: Rule>(
+    clock: &C,
+    alloc: Global,
+    core: &mut Core<F, R>,
+    hook: &Hook<F, R>,
+    names: Names,
+    count: u32,
+) -> io::Result<(u64, u32)> {
+    let client = attached(alloc, core, hook, 0)?;
     let calls = making(alloc, names, count)?;
     let start = Instant::now(clock)?;
-    let done = make_all(&mut core, client, calls)?;
+    let done = make_all(core, client, calls)?;
     Ok((since(clock, start)?, done))
 }
 
-fn make_all(core: &mut Core, client: u64, calls: Vec<Call>) -> Result<u32, AllocError> {
+fn make_all<F: Callback + Copy, R: Rule>(
+    core: &mut Core<F, R>,
+    client: u64,
+    calls: Vec<Call>,
+) -> Result<u32, AllocError> {
     let mut done = 0u32;
     for call in calls {
         if matches!(made(core, client, call)?, Reply::Done) {

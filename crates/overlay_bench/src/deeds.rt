@@ -1,8 +1,9 @@
 // Loads of calls on files, of a client on a mount.
 use crate::loads::since;
 use crate::manifests::{ManifestText, nested};
-use crate::mounts::{made, mounted, path_to};
+use crate::mounts::{attached, made, mounted_alone, path_to};
 use crate::trees::{BLOCK, DIRECTORIES, FILES, copied, copied_again, served, wide};
+use crate::watchers::watch_elsewhere;
 use ov_base::{Bytes, Call, OpenFlags, Path, Reply};
 use overlay_core::Core;
 use std::alloc::{AllocError, Global};
@@ -10,6 +11,7 @@ use std::hash::RandomState;
 use std::io;
 use std::rt::Clock;
 use std::time::Instant;
+use watch_table::{Callback, Hook, Rule};
 
 /// How many operations are made ready at a time.
 const BATCH: u32 = 64;
@@ -24,6 +26,8 @@ pub enum Deed {
     Read,
     /// Making a file by opening it, closing it and removing it.
     Create,
+    /// The same, while 63 other clients have 16 watches each on other files.
+    CreateWatched,
     /// Opening a file of so many bytes for writing, for which it is copied up, and closing it, each time another one.
     Copy(u32),
     /// The same by another name of one lower file each time, and removing it, so that a copy takes the memory of the one before.
@@ -45,7 +49,7 @@ impl Deed {
     fn ends_by(self, call: &Call) -> bool {
         match self {
             Deed::Read | Deed::Copy(_) => matches!(call, Call::Close { .. }),
-            Deed::Create | Deed::CopyAgain(_) | Deed::Link => {
+            Deed::Create | Deed::CreateWatched | Deed::CopyAgain(_) | Deed::Link => {
                 matches!(call, Call::Unlink { .. })
             }
             Deed::Rename | Deed::RenameDirectory => matches!(call, Call::Rename { .. }),
@@ -57,7 +61,10 @@ impl Deed {
     // The flags by which the file is opened.
     fn flags(self) -> OpenFlags {
         let reads = matches!(&self, Deed::Read);
-        let creates = matches!(&self, Deed::Create | Deed::Link | Deed::Rename);
+        let creates = matches!(
+            &self,
+            Deed::Create | Deed::CreateWatched | Deed::Link | Deed::Rename
+        );
         OpenFlags {
             reads,
             writes: !reads,
@@ -72,25 +79,41 @@ impl Deed {
 }
 
 /// Doing this so often, on a mount of so many lower layers.
-pub fn measure_deeds<C: Clock>(
+pub fn measure_deeds<C: Clock, F: Callback + Copy, R: Rule>(
     clock: &C,
     alloc: Global,
     keys: RandomState,
+    hook: &Hook<F, R>,
     deed: Deed,
     lowers: u32,
     count: u32,
 ) -> io::Result<(u64, u32)> {
     let manifest = layers_for(alloc, deed, lowers, count)?;
-    let (mut core, client) = mounted(alloc, keys, &manifest)?;
+    let mut core = mounted_alone(alloc, keys, &manifest)?;
+    do_on(clock, alloc, &mut core, hook, deed, count)
+}
+
+fn do_on<C: Clock, F: Callback + Copy, R: Rule>(
+    clock: &C,
+    alloc: Global,
+    core: &mut Core<F, R>,
+    hook: &Hook<F, R>,
+    deed: Deed,
+    count: u32,
+) -> io::Result<(u64, u32)> {
+    let client = attached(alloc, core, hook, 0)?;
+    if matches!(deed, Deed::CreateWatched) {
+        watch_elsewhere(alloc, core, hook)?;
+    }
     let calls = before(alloc, deed)?;
-    let _ = do_all(&mut core, client, deed, calls)?;
+    let _ = do_all(core, client, deed, calls)?;
     let mut nanos = 0u64;
     let mut done = 0u32;
     for batch in 0..count.div_ceil(BATCH) {
         let first = batch.saturating_mul(BATCH);
         let calls = operations(alloc, deed, first, count.saturating_sub(first).min(BATCH))?;
         let start = Instant::now(clock)?;
-        done = done.saturating_add(do_all(&mut core, client, deed, calls)?);
+        done = done.saturating_add(do_all(core, client, deed, calls)?);
         nanos = nanos.saturating_add(since(clock, start)?);
     }
     Ok((nanos, done))
@@ -107,8 +130,8 @@ fn layers_for(
         Deed::Copy(size) => copied(alloc, lowers, count, size),
         Deed::CopyAgain(size) => copied_again(alloc, lowers, count, size),
         Deed::RenameDirectory => wide(alloc, lowers, count),
-        Deed::Read | Deed::Create | Deed::Link | Deed::Rename | Deed::SetAttribute | Deed::Write =>
-            served(alloc, lowers),
+        Deed::Read | Deed::Create | Deed::CreateWatched => served(alloc, lowers),
+        Deed::Link | Deed::Rename | Deed::SetAttribute | Deed::Write => served(alloc, lowers),
     }
 }
 
@@ -120,13 +143,19 @@ fn before(alloc: Global, deed: Deed) -> Result<Vec<Call>, AllocError> {
         Deed::Write => calls.push(opening(alloc, deed, 0)?)?,
         Deed::Link | Deed::Rename => opened_in(alloc, &mut calls, deed, 0)?,
         Deed::SetAttribute => operation_in(alloc, &mut calls, deed, 0)?,
-        Deed::Read | Deed::Create | Deed::Copy(_) | Deed::CopyAgain(_) | Deed::RenameDirectory => {}
+        Deed::Read | Deed::Create | Deed::CreateWatched => {}
+        Deed::Copy(_) | Deed::CopyAgain(_) | Deed::RenameDirectory => {}
     }
     Ok(calls)
 }
 
-// The calls of so many operations from this number on.
-fn operations(alloc: Global, deed: Deed, first: u32, count: u32) -> Result<Vec<Call>, AllocError> {
+/// The calls of so many operations from this number on.
+pub fn operations(
+    alloc: Global,
+    deed: Deed,
+    first: u32,
+    count: u32,
+) -> Result<Vec<Call>, AllocError> {
     let mut calls = Vec::new(alloc);
     for number in 0..count {
         operation_in(alloc, &mut calls, deed, first.saturating_add(number))?;
@@ -142,7 +171,7 @@ fn operation_in(
     number: u32,
 ) -> Result<(), AllocError> {
     match deed {
-        Deed::Read | Deed::Create | Deed::Copy(_) | Deed::CopyAgain(_) => {
+        Deed::Read | Deed::Create | Deed::CreateWatched | Deed::Copy(_) | Deed::CopyAgain(_) => {
             opened_in(alloc, calls, deed, number)?;
         }
         Deed::Link => {
@@ -177,7 +206,10 @@ fn opened_in(
         calls.push(Call::Read { descriptor, count })?;
     }
     calls.push(Call::Close { descriptor })?;
-    if matches!(deed, Deed::Create | Deed::CopyAgain(_)) {
+    if matches!(
+        deed,
+        Deed::Create | Deed::CreateWatched | Deed::CopyAgain(_)
+    ) {
         let path = path_for(alloc, deed, number)?;
         calls.push(Call::Unlink { path })?;
     }
@@ -188,7 +220,7 @@ fn opened_in(
 fn path_for(alloc: Global, deed: Deed, number: u32) -> Result<Path, AllocError> {
     let (first, number) = match deed {
         Deed::Read => ("name-", number % FILES),
-        Deed::Create | Deed::Link | Deed::Rename => ("made-", 0),
+        Deed::Create | Deed::CreateWatched | Deed::Link | Deed::Rename => ("made-", 0),
         Deed::RenameDirectory => ("wide-", number),
         Deed::Copy(_) | Deed::CopyAgain(_) => ("copy-", number),
         Deed::SetAttribute | Deed::Write => ("name-", 0),
@@ -259,8 +291,13 @@ fn writing(alloc: Global) -> Result<Call, AllocError> {
     })
 }
 
-// How many operations were done, of which each call was answered as it should be.
-fn do_all(core: &mut Core, client: u64, deed: Deed, calls: Vec<Call>) -> Result<u32, AllocError> {
+/// How many operations were done, of which each call was answered as it should be.
+pub fn do_all<F: Callback + Copy, R: Rule>(
+    core: &mut Core<F, R>,
+    client: u64,
+    deed: Deed,
+    calls: Vec<Call>,
+) -> Result<u32, AllocError> {
     let mut done = 0u32;
     let mut fine = true;
     for call in calls {

@@ -5,11 +5,13 @@ use crate::deeds::{Deed, measure_deeds};
 use crate::manifests::nested;
 use crate::redirects::{DEPTH, Shape, redirected};
 use crate::trees::{DIRECTORIES, FILES, MERGED, OBJECTS, WIDE, deep, served};
+use crate::watchers::measure_notices;
 use std::alloc::Global;
 use std::hash::RandomState;
 use std::io;
 use std::rt::Clock;
 use std::time::Instant;
+use watch_table::{Callback, Hook, Rule};
 
 /// What is measured.
 #[derive(Clone, Copy)]
@@ -20,6 +22,8 @@ pub enum Load {
     Called(Called, u32),
     /// What a client does with files, on a mount of so many lower layers.
     Deed(Deed, u32),
+    /// What so many clients that watch a directory are told, on a mount of so many lower layers.
+    Notices(u32, u32),
     /// `stat` below nested directories with redirects, of the file there or of a name that isn't.
     Redirected(Shape, bool),
 }
@@ -53,6 +57,8 @@ impl Load {
         match word {
             "collide" => Some(Load::Directory(Names::Colliding)),
             "others" => Some(Load::Directory(Names::Others)),
+            "notify_1" => Some(Load::Notices(1, lowers)),
+            "notify_64" => Some(Load::Notices(64, lowers)),
             _ => match (redirect_named(word), deed_named(word)) {
                 (Some(load), _) => Some(load),
                 (None, Some(deed)) => Some(Load::Deed(deed, lowers)),
@@ -81,6 +87,7 @@ fn deed_named(word: &str) -> Option<Deed> {
     match word {
         "open_read" => Some(Deed::Read),
         "create" => Some(Deed::Create),
+        "create_watched" => Some(Deed::CreateWatched),
         "copy_64k" => Some(Deed::Copy(65_536)),
         "copy_1m" => Some(Deed::Copy(1_048_576)),
         "copy_64k_again" => Some(Deed::CopyAgain(65_536)),
@@ -107,28 +114,35 @@ fn redirect_named(word: &str) -> Option<Load> {
 }
 
 /// How many nanoseconds so many operations took, and how many were done.
-pub fn measure<C: Clock>(
+pub fn measure<C: Clock, F: Callback + Copy, R: Rule>(
     clock: &C,
     alloc: Global,
     keys: RandomState,
+    hook: &Hook<F, R>,
     load: Load,
     count: u32,
 ) -> io::Result<(u64, u32)> {
     match load {
-        Load::Directory(names) => measure_directory(clock, alloc, keys, names, count),
-        Load::Called(called, lowers) => measure_call(clock, alloc, keys, called, lowers, count),
-        Load::Deed(deed, lowers) => measure_deeds(clock, alloc, keys, deed, lowers, count),
+        Load::Directory(names) => measure_directory(clock, alloc, keys, hook, names, count),
+        Load::Called(called, lowers) => measure_call(
+            clock, alloc, keys, hook, called, lowers, count,
+        ),
+        Load::Deed(deed, lowers) => measure_deeds(clock, alloc, keys, hook, deed, lowers, count),
+        Load::Notices(watchers, lowers) => {
+            measure_notices(clock, alloc, keys, hook, watchers, lowers, count)
+        }
         Load::Redirected(shape, found) => measure_redirected(
-            clock, alloc, keys, shape, found, count,
+            clock, alloc, keys, hook, shape, found, count,
         ),
     }
 }
 
 // A call of a client on a mount of so many lower layers.
-fn measure_call<C: Clock>(
+fn measure_call<C: Clock, F: Callback + Copy, R: Rule>(
     clock: &C,
     alloc: Global,
     keys: RandomState,
+    hook: &Hook<F, R>,
     called: Called,
     lowers: u32,
     count: u32,
@@ -139,15 +153,15 @@ fn measure_call<C: Clock>(
     };
     let parent = nested(alloc, DIRECTORIES)?;
     let (first, names) = match called {
-        Called::List => return measure_list(clock, alloc, keys, &manifest, MERGED, count),
-        Called::ListWide => return measure_list(clock, alloc, keys, &manifest, WIDE, count),
+        Called::List => return measure_list(clock, alloc, keys, hook, &manifest, MERGED, count),
+        Called::ListWide => return measure_list(clock, alloc, keys, hook, &manifest, WIDE, count),
         Called::Symlink => {
             let (parent, kind) = (parent.as_str(), Kind::SymbolicLink);
-            return measure_made(clock, alloc, keys, &manifest, parent, kind, count);
+            return measure_made(clock, alloc, keys, hook, &manifest, parent, kind, count);
         }
         Called::Mkdir => {
             let (parent, kind) = (parent.as_str(), Kind::Directory);
-            return measure_made(clock, alloc, keys, &manifest, parent, kind, count);
+            return measure_made(clock, alloc, keys, hook, &manifest, parent, kind, count);
         }
         Called::Whiteout => {
             let series = Series {
@@ -155,7 +169,7 @@ fn measure_call<C: Clock>(
                 first: "name-",
                 names: OBJECTS,
             };
-            return measure_unlink(clock, alloc, keys, &manifest, series, count);
+            return measure_unlink(clock, alloc, keys, hook, &manifest, series, count);
         }
         Called::Stat => ("name-", 1),
         Called::StatMany => ("name-", FILES),
@@ -167,14 +181,15 @@ fn measure_call<C: Clock>(
         first,
         names,
     };
-    measure_stat(clock, alloc, keys, &manifest, series, count)
+    measure_stat(clock, alloc, keys, hook, &manifest, series, count)
 }
 
 // `stat` below nested directories with redirects.
-fn measure_redirected<C: Clock>(
+fn measure_redirected<C: Clock, F: Callback + Copy, R: Rule>(
     clock: &C,
     alloc: Global,
     keys: RandomState,
+    hook: &Hook<F, R>,
     shape: Shape,
     found: bool,
     count: u32,
@@ -186,7 +201,7 @@ fn measure_redirected<C: Clock>(
         first: if found { "name-" } else { "none-" },
         names: 1,
     };
-    measure_stat(clock, alloc, keys, &manifest, series, count)
+    measure_stat(clock, alloc, keys, hook, &manifest, series, count)
 }
 
 /// The nanoseconds since a moment.

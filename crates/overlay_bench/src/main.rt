@@ -9,8 +9,10 @@ mod manifests;
 mod mounts;
 mod redirects;
 mod trees;
+mod watchers;
 
 use crate::loads::{Load, measure};
+use crate::mounts::echoing_hook;
 use std::alloc::Global;
 use std::hash::RandomState;
 use std::rt::{Clock, Env};
@@ -19,6 +21,7 @@ use std::{env, io};
 const USAGE: &str = "usage: overlay_bench LOAD COUNT [LOWERS]
 calls of a client over LOWERS lower layers, 16 if not given: stat stat_many absent absent_new list list_10k symlink mkdir whiteout rename rename_directory setattr
 several calls an operation, over as many: open_read (open, read, close) create (open, close, unlink) copy_64k copy_1m (open, close) copy_64k_again copy_1m_again (open, close, unlink) link (link, unlink) write_4k (seek, write)
+create_watched (create, with 1,008 watches of 63 clients elsewhere) notify_1 notify_64 (COUNT files made and removed in a directory that so many clients watch; a notice read is an operation)
 directories made in one, by names that collide under fixed keys and by others: collide others
 stat below redirects in 17 layers: chains chains_absent chains_past chains_past_named chains_single chains_longer";
 
@@ -53,7 +56,7 @@ fn run<R: Env + AllocGlobal + Clock + Print>(rt: &R, keys: RandomState) -> io::R
         return println!(rt; "{USAGE}");
     };
     let alloc: Global = rt.alloc();
-    let (nanos, operations) = measure(rt, alloc, keys, load, count)?;
+    let (nanos, operations) = measure(rt, alloc, keys, &echoing_hook(), load, count)?;
     let each = nanos / u64::from(operations.max(1));
     println!(rt; "{each} ns an operation, {operations} operations")
 }

@@ -1,34 +1,83 @@
-// Mounts of the layers that manifests spell.
+// Mounts of the layers that manifests spell, and their clients.
+
 use crate::manifests::{ManifestText, child};
-use ov_base::{Call, Path, Reply};
+use ov_base::{Call, Event, Notice, Path, Reply};
 use ov_wire::manifest_of;
 use overlay_core::{Core, Job, Turn};
 use std::alloc::{AllocError, Global};
 use std::hash::RandomState;
+use watch_table::{AnyAnswer, Callback, Hook, Rule};
 
 /// More attaches, calls and detaches than are ever measured.
 const DEEDS_MAX: u64 = 1 << 62;
 
-/// The mount of a manifest with a client, whose number follows; what is no mount is answered as want of memory is.
-pub fn mounted(
+/// A callback that answers each event as it is.
+#[derive(Clone, Copy)]
+pub struct Echo;
+
+impl Callback for Echo {
+    ghost use Rattle.plain_model.specs.Watching.{IsEvent};
+
+    ghost may = { λ c event. IsEvent event.now };
+
+    ghost gives = { λ c event answer. Unit {0} };
+
+    fn answer(&self, event: &Event) -> Option<Notice> {
+        Some(Notice {
+            watch: event.watch as i32,
+            mask: event.bits,
+            cookie: event.cookie,
+            name: event.name,
+        })
+    }
+}
+
+/// The hook of each client that watches: its answers may be any.
+pub fn echoing_hook() -> Hook<Echo, AnyAnswer> {
+    Hook::new(0, Echo)
+}
+
+/// The mount of a manifest without a client; what is no mount is answered as want of memory is.
+pub fn mounted_alone<F: Callback + Copy, R: Rule>(
     alloc: Global,
     keys: RandomState,
     manifest: &ManifestText,
-) -> Result<(Core, u64), AllocError> {
+) -> Result<Core<F, R>, AllocError> {
     let Ok((upper, lowers, options)) = manifest_of(alloc, keys, manifest.as_bytes()) else {
         return Err(AllocError);
     };
-    let Ok(mut core) = Core::mount(alloc, keys, upper, lowers, options)? else {
+    match Core::mount(alloc, keys, upper, lowers, options)? {
+        Ok(core) => Ok(core),
+        Err(_) => Err(AllocError),
+    }
+}
+
+/// The number of a client that comes with so many copies of a hook; that it is refused is answered as want of memory is.
+pub fn attached<F: Callback + Copy, R: Rule>(
+    alloc: Global,
+    core: &mut Core<F, R>,
+    hook: &Hook<F, R>,
+    hooks: u32,
+) -> Result<u64, AllocError> {
+    if core.finished() >= DEEDS_MAX {
         return Err(AllocError);
-    };
-    match core.attach()? {
-        Ok(client) => Ok((core, client)),
+    }
+    let mut given = Vec::new(alloc);
+    for _ in 0..hooks {
+        given.push(hook.copied())?;
+    }
+    match core.attach(given) {
+        Ok(client) => Ok(client),
         Err(_) => Err(AllocError),
     }
 }
 
 /// The reply to a call of a client; that it isn't attached, or was too often, is answered as want of memory is.
-pub fn made(core: &mut Core, client: u64, call: Call) -> Result<Reply, AllocError> {
+pub fn made<F: Callback, R: Rule>(
+    core: &mut Core<F, R>,
+    client: u64,
+    call: Call,
+) -> Result<Reply, AllocError> {
     if core.finished() >= DEEDS_MAX || !core.is_attached(client) {
         return Err(AllocError);
     }

@@ -1,7 +1,9 @@
 //! The program: shows the merged tree of a manifest, or plays a script on its mount.
 #![tactic(auto)]
 
-use ov_server::{Fault, Input, Invocation, Output, command_line, play_run, show_run};
+use ov_server::{
+    Fault, Input, Invocation, Output, command_line, hooks_by_slot, play_run, show_run,
+};
 use std::hash::RandomState;
 use std::process::ExitCode;
 use std::{env, fs, io};
@@ -49,12 +51,14 @@ fn show(rt: &HostRuntime, keys: RandomState, manifest: &str) -> Result<(), Fault
 
 fn play(rt: &HostRuntime, keys: RandomState, manifest: &str) -> Result<(), Fault> {
     let manifest = bytes_of(rt, manifest)?;
+    let hooks = hooks_by_slot(rt.alloc())?;
     let mut input = Input::new(rt.reader());
     let mut output = Output::new(rt.alloc(), io::writer(rt));
     play_run(
         rt.alloc(),
         keys,
         manifest.as_slice(),
+        hooks.as_slice(),
         &mut input,
         &mut output,
     )

@@ -1,5 +1,5 @@
 // Runs of the engine over bytes in memory.
-use ov_server::{Fault, Input, Output, play_run, show_run};
+use ov_server::{Fault, Input, Output, hooks_by_slot, play_run, show_run};
 use std::alloc::Global;
 use std::hash::RandomState;
 use std::io;
@@ -42,9 +42,17 @@ fn play(
     script: &[u8],
     text: &mut Vec<u8>,
 ) -> Result<(), Fault> {
+    let hooks = hooks_by_slot(alloc)?;
     let mut input = Input::new(script);
     let mut output = Output::new(alloc, text);
-    play_run(alloc, keys, manifest, &mut input, &mut output)
+    play_run(
+        alloc,
+        keys,
+        manifest,
+        hooks.as_slice(),
+        &mut input,
+        &mut output,
+    )
 }
 
 fn show(

@@ -3,14 +3,17 @@ use crate::dice::Dice;
 use crate::engine::run_of;
 use crate::playing::reference_difference;
 use crate::random_calls::{push_call, push_open_of};
+use crate::random_watches::{push_arm_of, push_watch_call};
 use std::alloc::{AllocError, Global};
 use std::hash::RandomState;
 use std::rt::Files;
 use std::{fs, io};
 
-/// How many scripts are played over a manifest, and how many lines each has: of opens at first, then of any calls, and more after a client
-/// went.
+/// How many scripts are played over a manifest, and how many lines each has: of arms and opens at first, then of any calls, and more after a
+/// client went.
 const SCRIPTS: u64 = 1_000;
+
+const ARMS: u32 = 12;
 
 const OPENS: u32 = 12;
 
@@ -54,27 +57,63 @@ fn script_difference(
     Ok(found)
 }
 
-// Three clients come, open files and make calls, one goes with what it has open, another comes, and there are more calls. Then what stands at
-// some paths is read, and the layers and the whole tree are printed.
+// Three clients come, watch, open files and make calls, one goes with what it has open, another comes, and there are more calls. Then what
+// stands at some paths is read, and the layers and the whole tree are printed.
 fn script_of(alloc: Global, seed: u64, layers: u32) -> Result<String, AllocError> {
     let mut dice = Dice::new(seed);
     let mut script = String::from_str(alloc, "attach\nattach\nattach\n")?;
+    push_arms(&mut dice, &["0", "1", "2"], &mut script)?;
     for _ in 0..OPENS {
         push_open_of(&mut dice, &["0", "1", "2"], &mut script)?;
     }
-    for _ in 0..LINES {
-        push_call(&mut dice, &["0", "1", "2"], &mut script)?;
-    }
+    push_calls(LINES, &mut dice, &["0", "1", "2"], &mut script)?;
+    push_unread(&["1"], &mut script)?;
     script.push_str("1 detach\nattach\n")?;
-    for _ in 0..LINES_MORE {
-        push_call(&mut dice, &["0", "2", "3"], &mut script)?;
-    }
+    push_calls(LINES_MORE, &mut dice, &["0", "2", "3"], &mut script)?;
+    push_unread(&["0", "2", "3"], &mut script)?;
     push_readings(alloc, &mut script)?;
+    push_unread(&["0", "2", "3"], &mut script)?;
     for layer in 0..layers {
         script.push_str(format!(in alloc; "layer {layer}\n")?.as_str())?;
     }
     script.push_str("merge\n")?;
     Ok(script)
+}
+
+fn push_arms(
+    dice: &mut Dice,
+    clients: &[&'static str],
+    script: &mut String,
+) -> Result<(), AllocError> {
+    for _ in 0..ARMS {
+        push_arm_of(dice, clients, script)?;
+    }
+    Ok(())
+}
+
+// Lines of calls of these clients, with some on watches among them.
+fn push_calls(
+    count: u32,
+    dice: &mut Dice,
+    clients: &[&'static str],
+    script: &mut String,
+) -> Result<(), AllocError> {
+    for _ in 0..count {
+        push_call(dice, clients, script)?;
+        if dice.roll(3) == 0 {
+            push_watch_call(dice, clients, script)?;
+        }
+    }
+    Ok(())
+}
+
+// The lines by which clients read all that they haven't read.
+fn push_unread(clients: &[&str], script: &mut String) -> Result<(), AllocError> {
+    for client in clients {
+        script.push_str(client)?;
+        script.push_str(" notices 65\n")?;
+    }
+    Ok(())
 }
 
 // A further client reads the bytes and user attributes of paths of one name and of two.

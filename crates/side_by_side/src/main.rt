@@ -16,6 +16,7 @@ mod opening;
 mod plain_layer;
 mod playing;
 mod random_calls;
+mod random_watches;
 mod rows;
 mod told_entries;
 mod told_layers;
@@ -29,7 +30,7 @@ use std::rt::Files;
 use std::{fs, io};
 
 /// The files of the rows, each on one subject.
-const FILES: [&str; 16] = [
+const FILES: [&str; 17] = [
     "look_up.rows",
     "redirects.rows",
     "listings.rows",
@@ -46,6 +47,7 @@ const FILES: [&str; 16] = [
     "manifest_objects.rows",
     "opens.rows",
     "files.rows",
+    "watches.rows",
 ];
 
 /// The manifests over which generated scripts are played, and how many layers each has.

@@ -20,13 +20,13 @@ const FLAGS: [&str; 20] = [
     "bca", "bct", "wcx", "bcx",
 ];
 
-// Where the mounts begin with files, and in some places with a link or with nothing.
-const FILES: [&str; 11] = [
+/// Where the mounts begin with files, and in some places with a link or with nothing.
+pub const FILES: [&str; 11] = [
     "/a/a", "/a/b/a", "/a/b/b", "/a/b/c", "/a/b/c", "/a/a/a", "/a/a/b", "/b", "/c", "/c/b/c", "/d",
 ];
 
-// Where they begin with directories of one layer or of several, or where directories come to be.
-const DIRECTORIES: [&str; 12] = [
+/// Where they begin with directories of one layer or of several, or where directories come to be.
+pub const DIRECTORIES: [&str; 12] = [
     "/a", "/a", "/a/a", "/a/b", "/a/b", "/a/d", "/b", "/c", "/c/a", "/c/b", "/d", "/d/d",
 ];
 
@@ -119,12 +119,14 @@ pub fn push_call(
     script.push_str("\n")
 }
 
-fn push_word(script: &mut String, word: &str) -> Result<(), AllocError> {
+/// Appends a word and the space before it.
+pub fn push_word(script: &mut String, word: &str) -> Result<(), AllocError> {
     script.push_str(" ")?;
     script.push_str(word)
 }
 
-fn push_one_of(
+/// Appends one of a few words and the space before it.
+pub fn push_one_of(
     dice: &mut Dice,
     words: &[&'static str],
     script: &mut String,
@@ -249,8 +251,8 @@ fn push_attribute_call(dice: &mut Dice, script: &mut String) -> Result<(), Alloc
     Ok(())
 }
 
-// A path of at most three names, of which the first are more often those of directories that a mount begins with.
-fn push_path(dice: &mut Dice, script: &mut String) -> Result<(), AllocError> {
+/// Appends a path of at most three names, of which the first are more often those of directories that a mount begins with.
+pub fn push_path(dice: &mut Dice, script: &mut String) -> Result<(), AllocError> {
     script.push_str(" ")?;
     let parent = match dice.roll(10) {
         0 => return script.push_str("/"),

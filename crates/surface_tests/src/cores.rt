@@ -5,12 +5,17 @@ use overlay_core::{Core, Job, Turn};
 use std::alloc::Global;
 use std::hash::RandomState;
 use std::test::Fail;
+use watch_table::{Callback, Hook, Rule};
 
 /// More attaches, calls and detaches than a test makes.
-const DEEDS_MAX: u64 = 1 << 32;
+pub const DEEDS_MAX: u64 = 1 << 32;
 
 // A mount of a manifest.
-pub fn mounted(alloc: Global, keys: RandomState, manifest: &str) -> Result<Core, Fail> {
+pub fn mounted<F: Callback + Copy, H: Rule>(
+    alloc: Global,
+    keys: RandomState,
+    manifest: &str,
+) -> Result<Core<F, H>, Fail> {
     let (upper, lowers, options) = manifest_of(alloc, keys, manifest.as_bytes())?;
     match Core::mount(alloc, keys, upper, lowers, options)? {
         Ok(core) => Ok(core),
@@ -18,28 +23,35 @@ pub fn mounted(alloc: Global, keys: RandomState, manifest: &str) -> Result<Core,
     }
 }
 
-// Attaches a client.
-pub fn attached(core: &mut Core) -> Result<u64, Fail> {
+// Attaches a client with its hooks.
+pub fn attached<F: Callback + Copy, H: Rule>(
+    core: &mut Core<F, H>,
+    hooks: Vec<Hook<F, H>>,
+) -> Result<u64, Fail> {
     if core.finished() >= DEEDS_MAX {
         return Err(Fail::from("too many deeds"));
     }
-    match core.attach()? {
+    match core.attach(hooks) {
         Ok(client) => Ok(client),
         Err(_) => Err(Fail::from("no client")),
     }
 }
 
 // Detaches a client.
-pub fn detach(core: &mut Core, client: u64) -> Result<(), Fail> {
+pub fn detach<F: Callback + Copy, H: Rule>(core: &mut Core<F, H>, client: u64) -> Result<(), Fail> {
     if core.finished() >= DEEDS_MAX || !core.is_attached(client) {
         return Err(Fail::from("not attached"));
     }
-    core.detach(client);
+    let _ = core.detach(client);
     Ok(())
 }
 
 // The reply to a call of a client.
-pub fn reply(core: &mut Core, client: u64, call: Call) -> Result<Reply, Fail> {
+pub fn reply<F: Callback + Copy, H: Rule>(
+    core: &mut Core<F, H>,
+    client: u64,
+    call: Call,
+) -> Result<Reply, Fail> {
     if core.finished() >= DEEDS_MAX || !core.is_attached(client) {
         return Err(Fail::from("not attached"));
     }

@@ -3,11 +3,13 @@ use crate::cores::{attached, detach, mounted, reply};
 use crate::fixtures::path;
 use merged_lookup::Topmost;
 use ov_base::{Call, OpenFlags, Path, Reply};
+use ov_server::{ByTag, ProgramRule, hooks_by_slot};
 use overlay_core::Core;
 use std::alloc::Global;
 use std::hash::RandomState;
 use std::process::Abort;
 use std::test::Fail;
+use watch_table::{Callback, Hook, Rule};
 
 const DIRECTORY: &str = "history = 1000000
 layer = [{}, {entry = [{path = '/d', kind = 'dir'}]}]";
@@ -15,7 +17,12 @@ layer = [{}, {entry = [{path = '/d', kind = 'dir'}]}]";
 const FILE: &str = "/d/f";
 
 // Makes a file, opens it for writing, and removes its name.
-fn open_nameless(rt: &impl Abort, alloc: Global, core: &mut Core, client: u64) -> Result<(), Fail> {
+fn open_nameless<F: Callback + Copy, H: Rule>(
+    rt: &impl Abort,
+    alloc: Global,
+    core: &mut Core<F, H>,
+    client: u64,
+) -> Result<(), Fail> {
     let opened = reply(core, client, making(path(rt, alloc, FILE)))?;
     assert!(rt; matches!(&opened, Reply::Descriptor(0)));
     let call = Call::Unlink {
@@ -46,7 +53,12 @@ fn making(path: Path) -> Call {
 }
 
 // The key in the upper of a file that is made now.
-fn key_given(rt: &impl Abort, alloc: Global, core: &mut Core, client: u64) -> Result<usize, Fail> {
+fn key_given<F: Callback + Copy, H: Rule>(
+    rt: &impl Abort,
+    alloc: Global,
+    core: &mut Core<F, H>,
+    client: u64,
+) -> Result<usize, Fail> {
     let opened = reply(core, client, making(path(rt, alloc, FILE)))?;
     assert!(rt; matches!(&opened, Reply::Descriptor(0)));
     match core.layers().walk_topmost(&path(rt, alloc, FILE)) {
@@ -58,28 +70,65 @@ fn key_given(rt: &impl Abort, alloc: Global, core: &mut Core, client: u64) -> Re
 // The upper has its root and the directory, and all files had one place.
 #[test]
 fn closed_files_leave_their_places(rt: HostRuntime) -> Result<(), Fail> {
-    let alloc = rt.alloc();
-    let mut core = mounted(alloc, RandomState::new(&rt)?, DIRECTORY)?;
-    let client = attached(&mut core)?;
+    frees_each(
+        &rt,
+        rt.alloc(),
+        RandomState::new(&rt)?,
+        hooks_by_slot(rt.alloc())?,
+    )
+}
+
+fn frees_each<F: Callback + Copy, H: Rule>(
+    rt: &impl Abort,
+    alloc: Global,
+    keys: RandomState,
+    hooks: Vec<Hook<F, H>>,
+) -> Result<(), Fail> {
+    let mut core: Core<F, H> = mounted(alloc, keys, DIRECTORY)?;
+    frees_on(rt, alloc, &mut core, hooks)
+}
+
+fn frees_on<F: Callback + Copy, H: Rule>(
+    rt: &impl Abort,
+    alloc: Global,
+    core: &mut Core<F, H>,
+    hooks: Vec<Hook<F, H>>,
+) -> Result<(), Fail> {
+    let client = attached(core, hooks)?;
     for _ in 0..100_000u32 {
-        open_nameless(&rt, alloc, &mut core, client)?;
-        let closed = reply(&mut core, client, Call::Close { descriptor: 0 })?;
+        open_nameless(rt, alloc, core, client)?;
+        let closed = reply(core, client, Call::Close { descriptor: 0 })?;
         assert!(rt; matches!(&closed, Reply::Done));
     }
-    assert!(rt; key_given(&rt, alloc, &mut core, client)? < 3);
+    assert!(rt; key_given(rt, alloc, core, client)? < 3);
     Ok(())
 }
 
 #[test]
 fn clients_that_detach_leave_places(rt: HostRuntime) -> Result<(), Fail> {
-    let alloc = rt.alloc();
-    let mut core = mounted(alloc, RandomState::new(&rt)?, DIRECTORY)?;
+    frees_with_clients::<_, ByTag, ProgramRule>(&rt, rt.alloc(), RandomState::new(&rt)?)
+}
+
+fn frees_with_clients<A: Abort, F: Callback + Copy, H: Rule>(
+    rt: &A,
+    alloc: Global,
+    keys: RandomState,
+) -> Result<(), Fail> {
+    let mut core: Core<F, H> = mounted(alloc, keys, DIRECTORY)?;
+    frees_clients_on(rt, alloc, &mut core)
+}
+
+fn frees_clients_on<F: Callback + Copy, H: Rule>(
+    rt: &impl Abort,
+    alloc: Global,
+    core: &mut Core<F, H>,
+) -> Result<(), Fail> {
     for _ in 0..1_000u32 {
-        let client = attached(&mut core)?;
-        open_nameless(&rt, alloc, &mut core, client)?;
-        detach(&mut core, client)?;
+        let client = attached(core, Vec::new(alloc))?;
+        open_nameless(rt, alloc, core, client)?;
+        detach(core, client)?;
     }
-    let client = attached(&mut core)?;
-    assert!(rt; key_given(&rt, alloc, &mut core, client)? < 3);
+    let client = attached(core, Vec::new(alloc))?;
+    assert!(rt; key_given(rt, alloc, core, client)? < 3);
     Ok(())
 }

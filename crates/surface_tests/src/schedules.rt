@@ -1,15 +1,20 @@
 // Jobs that are stepped by a schedule, and a mount that is refused.
+use crate::cores::{DEEDS_MAX, attached, mounted};
 use crate::fixtures::path;
 use ov_base::{Call, Errno, Options, Reply};
+use ov_server::{ByTag, ProgramRule, hooks_by_slot};
 use ov_wire::manifest_of;
 use overlay_core::{Core, Job, MountFault, drive};
+use std::alloc::Global;
 use std::hash::RandomState;
+use std::process::Abort;
 use std::test::Fail;
+use watch_table::{Callback, Hook, Rule};
 
 const DIRECTORY: &str = "layer = [{}, {entry = [{path = '/d', kind = 'dir'}]}]";
 
 // Gives up what is left of jobs, the last one first.
-fn drop_all(core: &mut Core, jobs: Vec<Job>) {
+fn drop_all<F: Callback + Copy, H: Rule>(core: &mut Core<F, H>, jobs: Vec<Job>) {
     let mut jobs = jobs;
     'jobs: while let Some(job) = jobs.pop() {
         let _ = core.drop_job(job);
@@ -19,23 +24,42 @@ fn drop_all(core: &mut Core, jobs: Vec<Job>) {
 
 #[test]
 fn answers_jobs_in_the_order_of_finishing(rt: HostRuntime) -> Result<(), Fail> {
-    let alloc = rt.alloc();
-    let keys = RandomState::new(&rt)?;
-    let (upper, lowers, options) = manifest_of(alloc, keys, DIRECTORY.as_bytes())?;
-    let Ok(mut core) = Core::mount(alloc, keys, upper, lowers, options)? else {
-        return Err(Fail::from("no mount"));
-    };
-    let Ok(client) = core.attach()? else {
-        return Err(Fail::from("no client"));
-    };
-    let made = path(&rt, alloc, "/d/x");
-    let looked_up = path(&rt, alloc, "/d/x");
+    answers_in_order(
+        &rt,
+        rt.alloc(),
+        RandomState::new(&rt)?,
+        hooks_by_slot(rt.alloc())?,
+    )
+}
+
+fn answers_in_order<F: Callback + Copy, H: Rule>(
+    rt: &impl Abort,
+    alloc: Global,
+    keys: RandomState,
+    hooks: Vec<Hook<F, H>>,
+) -> Result<(), Fail> {
+    let mut core: Core<F, H> = mounted(alloc, keys, DIRECTORY)?;
+    answers_on(rt, alloc, &mut core, hooks)
+}
+
+fn answers_on<F: Callback + Copy, H: Rule>(
+    rt: &impl Abort,
+    alloc: Global,
+    core: &mut Core<F, H>,
+    hooks: Vec<Hook<F, H>>,
+) -> Result<(), Fail> {
+    let client = attached(core, hooks)?;
+    if core.finished() >= DEEDS_MAX {
+        return Err(Fail::from("too many deeds"));
+    }
+    let made = path(rt, alloc, "/d/x");
+    let looked_up = path(rt, alloc, "/d/x");
     let mode = 0o700;
     let mut jobs = Vec::with_capacity(alloc, 2)?;
     jobs.push_reserved(Job::new(client, Call::Mkdir { path: made, mode }));
     jobs.push_reserved(Job::new(client, Call::Stat { path: looked_up }));
-    let outcome = drive(alloc, &mut core, jobs.as_mut_slice(), &[1, 7, 0, 1]);
-    drop_all(&mut core, jobs);
+    let outcome = drive(alloc, core, jobs.as_mut_slice(), &[1, 7, 0, 1]);
+    drop_all(core, jobs);
     let replies = outcome?;
     let mut indexes = [9, 9];
     for (place, (index, reply)) in replies.as_slice().iter().enumerate() {
@@ -50,14 +74,20 @@ fn answers_jobs_in_the_order_of_finishing(rt: HostRuntime) -> Result<(), Fail> {
 
 #[test]
 fn refuses_a_history_of_one(rt: HostRuntime) -> Result<(), Fail> {
-    let alloc = rt.alloc();
-    let keys = RandomState::new(&rt)?;
+    refuses_histories::<_, ByTag, ProgramRule>(&rt, rt.alloc(), RandomState::new(&rt)?)
+}
+
+fn refuses_histories<A: Abort, F: Callback + Copy, H: Rule>(
+    rt: &A,
+    alloc: Global,
+    keys: RandomState,
+) -> Result<(), Fail> {
     let (upper, lowers, options) = manifest_of(alloc, keys, DIRECTORY.as_bytes())?;
     let options = Options {
         history: 1,
         ..options
     };
-    match Core::mount(alloc, keys, upper, lowers, options)? {
+    match Core::<F, H>::mount(alloc, keys, upper, lowers, options)? {
         Ok(_) => Err(Fail::from("a mount")),
         Err(unmounted) => {
             assert!(rt; unmounted.fault == MountFault::BadHistory);

@@ -1,5 +1,5 @@
 // Streams that fail, in the middle too, or are interrupted.
-use ov_server::{Fault, Input, Output, play_run, show_run};
+use ov_server::{Fault, Input, Output, hooks_by_slot, play_run, show_run};
 use std::alloc::Global;
 use std::hash::RandomState;
 use std::io;
@@ -19,9 +19,17 @@ fn play<R: Read, W: Write>(
     script: &mut R,
     writer: &mut W,
 ) -> Result<(), Fault> {
+    let hooks = hooks_by_slot(alloc)?;
     let mut input = Input::new(script);
     let mut output = Output::new(alloc, writer);
-    play_run(alloc, keys, EMPTY.as_bytes(), &mut input, &mut output)
+    play_run(
+        alloc,
+        keys,
+        EMPTY.as_bytes(),
+        hooks.as_slice(),
+        &mut input,
+        &mut output,
+    )
 }
 
 fn show<W: Write>(alloc: Global, keys: RandomState, writer: &mut W) -> Result<(), Fault> {

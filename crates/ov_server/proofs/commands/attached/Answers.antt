@@ -1,12 +1,29 @@
-use Rattle.ov_server.proofs.Clients.{attach_plays}
-use Rattle.ov_server.proofs.Histories.{attach_places, few, two_places}
+use Rattle.std.proofs.Common.{length}
+use Rattle.ov_server.proofs.Clients.{attach_plays, attach_refused}
+use Rattle.ov_server.proofs.Histories.{attach_places, few, kept_places, two_places}
 use Rattle.ov_server.proofs.commands.attached.Goals as goal
+use Rattle.ov_server.proofs.commands.attached.Goals.{in-Ok-attach, in-Err}
 
 pub attach-requires : goal.attach-requires
-attach-requires c = few c.args.core.now c.requires
+attach-requires g c = few c.args.core.now c.requires
 
-pub returns-in-Ok-Ok-clause-places : goal.returns-in-Ok-Ok-clause-places
-returns-in-Ok-Ok-clause-places c = attach_places c.args.core.now c.attach.new.self c.attach.ensures.options c.in-Ok-Ok.client (rw c.in-Ok-Ok.field-0-is at c.in-Ok-Ok.ensures.clients) (two_places c.args.core.now c.attach_refusal.result c.attach_refusal.ensures c.in_default.not-Some) (rw c.in-Ok-Ok.field-0-is at c.in-Ok-Ok.ensures.finished) c.requires
+pub returns-clause-places : goal.returns-clause-places
+returns-clause-places g c =
+    let old = c.args.core.now in
+    let new = c.attach.new.self in
+    let same = c.attach.ensures.options in
+    let two = two_places old (length c.args.hooks.now) c.attach_refusal.result c.attach_refusal.ensures c.in_default.not-Some in
+    elim c.match-attach.branch [
+      | in-Ok-attach w ↦ attach_places old new same w.in-Ok-attach.client w.in-Ok-attach.ensures.clients two w.in-Ok-attach.ensures.finished c.requires
+      | in-Err w ↦ kept_places old new same w.in-Err.ensures.stays.1 w.in-Err.ensures.stays.2 c.requires
+    ]
 
-pub returns-in-Ok-Ok-clause-plays : goal.returns-in-Ok-Ok-clause-plays
-returns-in-Ok-Ok-clause-plays c = attach_plays c.args.core.now c.attach.new.self c.in-Ok-Ok.client (rw c.in-Ok-Ok.field-0-is at c.in-Ok-Ok.ensures.clients) c.attach.ensures.layers
+pub returns-clause-plays : goal.returns-clause-plays
+returns-clause-plays g c =
+    let old = c.args.core.now in
+    let new = c.attach.new.self in
+    let layers = c.attach.ensures.layers in
+    elim c.match-attach.branch [
+      | in-Ok-attach w ↦ attach_plays old new w.in-Ok-attach.client w.in-Ok-attach.ensures.clients layers
+      | in-Err w ↦ attach_refused old new w.in-Err.ensures.stays.1 layers
+    ]

@@ -1,29 +1,34 @@
 use Rattle.std.proofs.Common.{◌≡◌}
 use Rattle.std.specs.Vec.{vec_len}
 use Rattle.std.proofs.lemmas.Result.{err_from_is_err_and}
-use Rattle.ov_server.proofs.Histories.{bounded, first_places}
+use Rattle.ov_server.proofs.Histories.{begun, bounded, first_places}
 use Rattle.ov_server.proofs.Manifests.{counted, refuses_none, refuses_told}
 use Rattle.ov_server.proofs.play.core_of.Goals as goal
 
 pub returns-in_err-upper-clause-manifest : goal.returns-in_err-upper-clause-manifest
-returns-in_err-upper-clause-manifest c =
+returns-in_err-upper-clause-manifest g c =
     let p = err_from_is_err_and c.from_residual.result c.from_residual.ensures.1 in
     let told = c.in_err-upper.ensures in
     rw (p.1, p.2) (refuses_told _ (Unit {0}) c.args.manifest.now c.in_err-upper.field-0.0 told.not_utf8 told.not_toml told.told)
 
 pub returns-clause-count : goal.returns-clause-count
-returns-clause-count c =
+returns-clause-count g c =
     let told = c.in_ok-upper.ensures in
     let mounted = rw c.in-Ok.is at c.in_ok-core.ensures.layers in
     rw mounted.1 (counted c.args.manifest.now c.in_ok-upper.upper c.in_ok-upper.lowers.items c.in_ok-upper.options told.options told.spelled)
 
 pub returns-clause-manifest : goal.returns-clause-manifest
-returns-clause-manifest c =
+returns-clause-manifest g c =
     let told = c.in_ok-upper.ensures in
     refuses_none c.args.manifest.now c.in-Ok.core c.in_ok-upper.options told.not_utf8 told.not_toml told.options
 
 pub returns-clause-places : goal.returns-clause-places
-returns-clause-places c =
+returns-clause-places g c =
     let options : c.in-Ok.core.options ≡ c.in_ok-upper.options = rw c.in-Ok.is at c.in_ok-core.ensures.options in
     let finished : c.in-Ok.core.finished ≡ 0 = rw c.in-Ok.is at c.in_ok-core.ensures.finished in
     first_places c.in-Ok.core (rw options (bounded (vec_len c.in_ok-upper.lowers) c.in_ok-upper.options (rw c.in-Ok.is at c.in_ok-core.ensures.mounted))) finished (rw c.in-Ok.is at c.in_ok-core.ensures.nobody)
+
+pub returns-clause-begins : goal.returns-clause-begins
+returns-clause-begins g c =
+    let finished : c.in-Ok.core.finished ≡ 0 = rw c.in-Ok.is at c.in_ok-core.ensures.finished in
+    begun c.in-Ok.core finished (rw c.in-Ok.is at c.in_ok-core.ensures.nobody)
