@@ -1,5 +1,6 @@
-//! Tests of what no script reaches: streams that fail, command lines, options, schedules of jobs, places that are freed, and public
-//! functions that no command calls; and of renames, beside what is open. Scripts and manifests with what they come to are rows of `side_by_side`.
+//! Tests of what no script reaches: streams that fail, command lines, options, schedules of jobs, callbacks that are asked, hooks that are
+//! too many, places that are freed, and public functions that no command calls; and of renames, beside what is open. Scripts and manifests
+//! with what they come to are rows of `side_by_side`.
 #![tactic(auto)]
 
 #[cfg(test)]
@@ -12,6 +13,8 @@ mod files;
 mod fixtures;
 #[cfg(test)]
 mod freed_places;
+#[cfg(test)]
+mod hooks;
 #[cfg(test)]
 mod look_ups;
 #[cfg(test)]

@@ -1,0 +1,149 @@
+// What callbacks are asked, what comes of their answers, and hooks that are too many.
+ghost use Rattle.std.specs.Borrow.{Bor};
+ghost use Rattle.ov_base.specs.declared.notice.Event.{Event};
+ghost use Rattle.plain_model.specs.Watching.{IsEvent};
+
+use crate::cores::{DEEDS_MAX, attached, mounted, reply};
+use crate::fixtures::path;
+use ov_base::{Call, Errno, Event, Notice, Reply, cookie_of};
+use overlay_core::Core;
+use std::alloc::Global;
+use std::cell::Cell;
+use std::hash::RandomState;
+use std::process::Abort;
+use std::test::Fail;
+use watch_table::{AnyAnswer, Asked, Callback, Hook};
+
+const EMPTY: &str = "layer = [{}, {}]";
+
+/// The bit that asks for names that come.
+const CREATE: u32 = 0x100;
+
+// How many notices a client has that watches the root by this callback, after two directories are made in it and one is removed.
+fn unread_by<F: Callback + Copy>(
+    rt: &impl Abort,
+    alloc: Global,
+    keys: RandomState,
+    callback: F,
+) -> Result<usize, Fail>
+    requires { (e : Bor Event) → IsEvent e.now → F.may callback e }
+{
+    let mut core: Core<F, AnyAnswer> = mounted(alloc, keys, EMPTY)?;
+    let mut hooks = Vec::new(alloc);
+    hooks.push(Hook::new(0, callback))?;
+    unread_on(rt, alloc, &mut core, hooks)
+}
+
+fn unread_on<F: Callback + Copy>(
+    rt: &impl Abort,
+    alloc: Global,
+    core: &mut Core<F, AnyAnswer>,
+    hooks: Vec<Hook<F, AnyAnswer>>,
+) -> Result<usize, Fail> {
+    let client = attached(core, hooks)?;
+    let root = Call::Arm {
+        slot: 0,
+        path: path(rt, alloc, "/"),
+        mask: CREATE,
+    };
+    let armed = reply(core, client, root)?;
+    assert!(rt; matches!(armed, Reply::Watch(1)));
+    for name in ["/d", "/e"] {
+        let making = Call::Mkdir {
+            path: path(rt, alloc, name),
+            mode: 0o755,
+        };
+        assert!(rt; matches!(reply(core, client, making)?, Reply::Done));
+    }
+    let removing = Call::Rmdir {
+        path: path(rt, alloc, "/d"),
+    };
+    assert!(rt; matches!(reply(core, client, removing)?, Reply::Done));
+    match reply(core, client, Call::TakeNotices { count: 9 })? {
+        Reply::Unread(notices) => Ok(notices.as_slice().len()),
+        _ => Err(Fail::from("another reply")),
+    }
+}
+
+#[test]
+fn a_callback_that_answers_none_leaves_the_queue_empty(rt: HostRuntime) -> Result<(), Fail> {
+    let silent = |_: &Event| -> Option<Notice> { None };
+    let callback = Asked { function: silent };
+    let unread = unread_by(&rt, rt.alloc(), RandomState::new(&rt)?, callback)?;
+    assert_eq!(rt; unread, 0);
+    Ok(())
+}
+
+#[test]
+fn a_callback_is_asked_once_an_event(rt: HostRuntime) -> Result<(), Fail> {
+    let asked = Cell::new(0u32);
+    let counting = |event: &Event| -> Option<Notice> {
+        let times = asked.get().wrapping_add(1);
+        asked.set(times);
+        Some(Notice {
+            watch: 1,
+            mask: event.bits,
+            cookie: times,
+            name: event.name,
+        })
+    };
+    let callback = Asked { function: counting };
+    let unread = unread_by(&rt, rt.alloc(), RandomState::new(&rt)?, callback)?;
+    assert_eq!(rt; asked.get(), 2);
+    assert_eq!(rt; unread, 2);
+    Ok(())
+}
+
+// Attaches a client with 17 hooks.
+fn attach_too_many<F: Callback + Copy>(
+    rt: &impl Abort,
+    alloc: Global,
+    core: &mut Core<F, AnyAnswer>,
+    callback: F,
+) -> Result<(), Fail>
+    requires { (e : Bor Event) → IsEvent e.now → F.may callback e }
+{
+    if core.finished() >= DEEDS_MAX {
+        return Err(Fail::from("too many deeds"));
+    }
+    let mut hooks = Vec::new(alloc);
+    for tag in 0..17u32 {
+        hooks.push(Hook::new(tag, callback))?;
+    }
+    match core.attach(hooks) {
+        Ok(_) => Err(Fail::from("a client with 17 hooks")),
+        Err(refused) => {
+            assert!(rt; refused.errno == Errno::EINVAL);
+            assert_eq!(rt; refused.hooks.len(), 17);
+            assert_eq!(rt; core.finished(), 0);
+            Ok(())
+        }
+    }
+}
+
+fn refuses_hooks<F: Callback + Copy>(
+    rt: &impl Abort,
+    alloc: Global,
+    keys: RandomState,
+    callback: F,
+) -> Result<(), Fail>
+    requires { (e : Bor Event) → IsEvent e.now → F.may callback e }
+{
+    let mut core: Core<F, AnyAnswer> = mounted(alloc, keys, EMPTY)?;
+    attach_too_many(rt, alloc, &mut core, callback)
+}
+
+#[test]
+fn seventeen_hooks_are_handed_back(rt: HostRuntime) -> Result<(), Fail> {
+    let silent = |_: &Event| -> Option<Notice> { None };
+    let callback = Asked { function: silent };
+    refuses_hooks(&rt, rt.alloc(), RandomState::new(&rt)?, callback)
+}
+
+#[test]
+fn cookies_begin_again_at_1(rt: HostRuntime) -> Result<(), Fail> {
+    assert_eq!(rt; cookie_of(1), 1);
+    assert_eq!(rt; cookie_of(4294967295), 4294967295);
+    assert_eq!(rt; cookie_of(4294967296), 1);
+    Ok(())
+}
