@@ -1,4 +1,3 @@
-pub mod Children
 pub mod Dentries
 pub mod Steps
 pub mod Opened

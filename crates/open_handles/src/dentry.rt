@@ -5,10 +5,13 @@ ghost use Rattle.open_handles.specs.declared.dentry.Place.TheVariants as place;
 ghost use Rattle.open_handles.specs.Dentries.{child_in};
 ghost use Rattle.open_handles.specs.Steps.{IsIdle, left_attributes, Lists, SameDentry};
 
-use crate::children::Children;
+use indexmap::IndexMap;
 use ov_base::{Attributes, Name};
 use std::alloc::{AllocError, Global};
 use std::hash::RandomState;
+
+/// The children of an entry by their names. The hash has random keys, against names that are picked to collide.
+pub type Children = IndexMap<Name, usize, RandomState>;
 
 /// Where a directory stands: as the root, under a name in another, or nowhere, with the attributes that it had when it was removed.
 #[derive(Drop)]
@@ -36,7 +39,7 @@ impl Dentry {
         Dentry {
             place,
             holders: 0,
-            children: Children::new(alloc, keys),
+            children: IndexMap::with_hasher(alloc, keys),
         }
     }
 
@@ -73,7 +76,8 @@ impl Dentry {
         ensures ok { OnOk result (Lists self.old self.new name (Some key)) }
         ensures err { OnErr result (SameDentry self.old self.new) }
     {
-        self.children.insert(name, key)
+        self.children.insert(name, key)?;
+        Ok(())
     }
 
     /// Lists another child at a name at which one is listed. It takes no memory.
@@ -81,14 +85,16 @@ impl Dentry {
         requires { IsSome (child_in self.old name.now) }
         ensures { Lists self.old self.new name.now (Some key) }
     {
-        self.children.replace(name, key);
+        if let Some(child) = self.children.get_mut(name) {
+            *child = key;
+        }
     }
 
     /// Takes the child at a name off the list.
     pub fn unlist(&mut self, name: &Name)
         ensures { Lists self.old self.new name.now None }
     {
-        self.children.remove(name);
+        let _ = self.children.swap_remove(name);
     }
 
     /// Counts one handle more. Where as many hold the entry as can be counted, it fails and changes nothing.
