@@ -8,7 +8,7 @@ use Rattle.plain_model.specs.Watching.{Rule, Subject, Instance, On, AllHear}
 use Rattle.plain_model.specs.Alike.{is_watched}
 use Rattle.open_handles.specs.declared.tracked_client.TrackedHandle.{TrackedHandle}
 use Rattle.open_handles.specs.declared.tracked_client.Way.{Way}
-use Rattle.open_handles.specs.Tracked.{Tracked, Spot, spot_of, holders_of, spot_left, SetsSpot}
+use Rattle.open_handles.specs.Tracked.{Tracked, Spot, spot_of, holders_of}
 use Rattle.open_handles.specs.TrackedHandles.{handle_uses, tracked_by, uses, way_uses}
 use Rattle.watch_table.specs.Listening.{is_on}
 use Rattle.notice_laws.specs.Notified.{Notified, AreKnown}
@@ -75,15 +75,14 @@ ne m n f same = false≢true (sym f ∙ eq-eqb m n same)
 -- the holders are counted still, where those let go whose watches ended
 module _ (shows : Rule) (s : Subject) (o : ℕ) (old : Notified) (fs : List Instance) (t : Tracked) (hears : AllHear shows (s ∷ []) old.instances fs) where
   pub counted-told : ((n : ℕ) → n ≢ o → AreSpared s n old.instances) → AreCounted old →
-      SetsSpot old.objects t o (spot_left (holders_of old.objects o - (watchers old.instances o - watchers fs o)) (spot_of old.objects o))
-      (holders_of old.objects o - (watchers old.instances o - watchers fs o)) →
+      holders_of t o ≡ holders_of old.objects o - (watchers old.instances o - watchers fs o) →
+      ((n : ℕ) → n ≢ o → holders_of t n ≡ holders_of old.objects n) →
       AreCounted (record old { objects = t; instances = fs })
-  counted-told spared counts sets n = elim (cases_Bool (nat_eq n o)) [
+  counted-told spared counts here others n = elim (cases_Bool (nat_eq n o)) [
     | inl q ↦ subst (λ x. holders_of t x ≡ uses old.handles x + watchers fs x + pinned_times old.pinned x) (sym (eqb-true n o q))
-        (let here = sets.held in
-        let all = counts o in
+        (let all = counts o in
         let less = fewer-watch shows s o old.instances fs hears in
         omega arith)
-    | inr f ↦ sets.other_holders n (ne n o f) ∙ counts n
+    | inr f ↦ others n (ne n o f) ∙ counts n
         ∙ ap (λ m. uses old.handles n + m + pinned_times old.pinned n) (sym (others-watch shows s o n old.instances fs (spared n (ne n o f)) hears))
   ]

@@ -1,13 +1,10 @@
 -- What a change of one entry means for all of them.
-use Rattle.std.proofs.Common.{◌≡◌, ◌≢◌, ℕ, Bool, true, false, cond, List, [], Option, Some, None, IsSome, is_some, get_or, refl, sym, ap, subst, ◌∙◌, inl, inr, arith, nat_eq}
+use Rattle.std.proofs.Common.{◌≡◌, ℕ, cond, List, [], Option, Some, None, IsSome, is_some, get_or, refl, sym, ap, subst, ◌∙◌, inl, inr, arith, nat_eq}
 use Rattle.std.specs.Prelude.{option_map}
 use Rattle.std.specs.Option.{option_and_then, option_map_or}
 use Rattle.std.specs.Map.{lookup}
 use Rattle.std.specs.Cmp.Lexicographic.{pointwise}
-use Rattle.std.specs.Str.{bytes_eq}
 use Rattle.std.proofs.lemmas.Bool.{cases_eq}
-use Rattle.std.proofs.lemmas.Cmp.{nat_list_eq_equiv}
-use Rattle.std.proofs.lemmas.Slice.Eq.{bytes_eq-Decides}
 use Rattle.std.proofs.lemmas.List.Sums.{sum_by-set}
 use Rattle.slab.specs.Slab.{get, Updates, with_value, slab_len}
 use Rattle.slab.proofs.SlabLemmas.{ContainsKey-within, Updates-with_value}
@@ -17,24 +14,6 @@ use Rattle.open_handles.specs.declared.dentry.Place.{Place}
 use Rattle.open_handles.specs.declared.dentry.Place.TheVariants.{In}
 use Rattle.open_handles.specs.Dentries.{Dentries, place_at, child_in, child}
 use Rattle.open_handles.specs.Steps.{IsIdle, Lists, SameDentry, SameEntries, Relists, Adds, Unlinks, Drops, Displaces, Counts}
-
--- names that differ are told apart
-different : (name other : Name) → other ≢ name → bytes_eq name other ≡ false
-different name other differs = of (bytes_eq name other) refl
-  where
-    of : (b : Bool) → bytes_eq name other ≡ b → b ≡ false
-    of true e = absurd (differs (sym ((bytes_eq-Decides name other).0 e)))
-    of false e = refl
-
--- a table of children after one name was bound anew
-pub lists : (old new : Dentry) (n : Name) (to : Option ℕ) → new.place ≡ old.place → new.holders ≡ old.holders → ((m : Name) → child_in new m ≡ cond (pointwise nat_eq n m) to (child_in old m)) → Lists old new n to
-lists old new n to place holders updates =
-    record {
-      place = place;
-      holders = holders;
-      there = updates n ∙ ap (λ b. cond b to (child_in old n)) (nat_list_eq_equiv.refl n);
-      others = λ m off. updates m ∙ ap (λ b. cond b to (child_in old m)) (different n m off);
-    }
 
 -- a read entry is there
 pub there : (t : Dentries) (k : ℕ) (e : Dentry) → get t k ≡ Some e → IsSome (get t k)

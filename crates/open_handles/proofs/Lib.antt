@@ -2,6 +2,7 @@ pub mod Slots
 pub mod Standing
 pub mod Located
 pub mod Moving
+pub mod Listing
 pub mod Entries
 pub mod Handles
 pub mod Freeing

@@ -1,11 +1,10 @@
 -- The entries of the directories that are open and of their ancestors, as a tree (Linux's dcache).
-use Rattle.std.specs.Prelude.{◌≡◌, ◌≢◌, ◌⊎◌, ℕ, zero, suc, ◌<◌, [], ◌∷◌, Option, Some, None, IsSome, option_map, length, nat_eq}
+use Rattle.std.specs.Prelude.{◌≡◌, ◌≢◌, ◌⊎◌, ℕ, zero, suc, ◌<◌, [], ◌∷◌, Option, Some, None, IsSome, option_map, length}
 use Rattle.std.specs.Option.{option_and_then, option_map_or}
-use Rattle.std.specs.Map.{lookup}
-use Rattle.std.specs.Cmp.Lexicographic.{pointwise}
 use Rattle.slab.specs.Slab.{Slab, get}
 use Rattle.ov_base.specs.declared.attributes.Attributes.{Attributes}
 use Rattle.plain_model.specs.Layers.{Name, Path}
+use Rattle.open_handles.specs.Children.{listed_at}
 use Rattle.open_handles.specs.declared.dentry.Dentry.{Dentry}
 use Rattle.open_handles.specs.declared.dentry.Place.{Place}
 use Rattle.open_handles.specs.declared.dentry.Place.TheVariants.{Root, In, Removed}
@@ -26,7 +25,7 @@ held t k = option_map_or (λ (e : Dentry). e.holders) (get t k) 0
 
 -- the child that an entry has at a name
 abbrev pub child_in : Dentry → Name → Option ℕ
-child_in e n = lookup (pointwise nat_eq n) e.children.entries
+child_in e n = listed_at e.children n
 
 -- the same of the entry of a number
 abbrev pub child : Dentries → ℕ → Name → Option ℕ

@@ -1,3 +1,4 @@
+pub mod Children
 pub mod Dentries
 pub mod Steps
 pub mod Opened

@@ -23,7 +23,7 @@ pub const ROOT: usize = 0;
 fn child_at(entries: &Slab<Dentry>, parent: usize, name: &Name) -> Option<usize>
     ensures { result ≡ child entries.now parent name.now }
 {
-    entries.get(parent)?.children.get(name).copied()
+    entries.get(parent)?.children.get(name)
 }
 
 /// The entry that stands at a path.

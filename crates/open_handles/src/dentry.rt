@@ -5,13 +5,10 @@ ghost use Rattle.open_handles.specs.declared.dentry.Place.TheVariants as place;
 ghost use Rattle.open_handles.specs.Dentries.{child_in};
 ghost use Rattle.open_handles.specs.Steps.{IsIdle, left_attributes, Lists, SameDentry};
 
-use indexmap::IndexMap;
+use crate::children::Children;
 use ov_base::{Attributes, Name};
 use std::alloc::{AllocError, Global};
 use std::hash::RandomState;
-
-/// The children of an entry by their names. The hash has random keys, against names that are picked to collide.
-pub type Children = IndexMap<Name, usize, RandomState>;
 
 /// Where a directory stands: as the root, under a name in another, or nowhere, with the attributes that it had when it was removed.
 #[derive(Drop)]
@@ -39,7 +36,7 @@ impl Dentry {
         Dentry {
             place,
             holders: 0,
-            children: IndexMap::with_hasher(alloc, keys),
+            children: Children::new(alloc, keys),
         }
     }
 
@@ -76,8 +73,7 @@ impl Dentry {
         ensures ok { OnOk result (Lists self.old self.new name (Some key)) }
         ensures err { OnErr result (SameDentry self.old self.new) }
     {
-        self.children.insert(name, key)?;
-        Ok(())
+        self.children.insert(name, key)
     }
 
     /// Lists another child at a name at which one is listed. It takes no memory.
@@ -85,16 +81,14 @@ impl Dentry {
         requires { IsSome (child_in self.old name.now) }
         ensures { Lists self.old self.new name.now (Some key) }
     {
-        if let Some(child) = self.children.get_mut(name) {
-            *child = key;
-        }
+        self.children.replace(name, key);
     }
 
     /// Takes the child at a name off the list.
     pub fn unlist(&mut self, name: &Name)
         ensures { Lists self.old self.new name.now None }
     {
-        let _ = self.children.swap_remove(name);
+        self.children.remove(name);
     }
 
     /// Counts one handle more. Where as many hold the entry as can be counted, it fails and changes nothing.

@@ -2,6 +2,7 @@
 //! an open file where its calls begin, and the objects that are tracked for watches.
 #![tactic(auto)]
 
+mod children;
 mod dentries;
 mod dentry;
 mod descriptors;

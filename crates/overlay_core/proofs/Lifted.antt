@@ -139,27 +139,32 @@ module _ (U V : Layer) (lowers : List Layer) (s : State) (c : ℕ) (call : Call)
 module _ (U V : Layer) (lowers : List Layer) (s : State) (c : ℕ) (call : Call) (passes : Passes U V lowers s c call) (p : Path)
     (touches : touched_by s call ≡ node_at s.tree p) (files : (d : NodeId) → is_file (tree_after s c call d) ≡ is_file (s.tree d))
     (leads : (d : NodeId) (q : Path) → node_at s.tree q ≡ Some d → node_at (after s c call).tree q ≡ Some d)
-    (k : Notified) (t : Tracks U s k) (key : ℕ) (found : (j : ℕ) (last : Bool) → IsObject V lowers p (object.Upper j last) → key ≡ j) where
-  -- the key that is found after the call is that of the file
-  key-shown : (low : IsLower U lowers p) (n : ℕ) → spot_of k.objects n ≡ Some (At p) → (last : Bool) × IsObject V lowers p (object.Upper key last)
-  key-shown low n at =
+    (k : Notified) (t : Tracks U s k) (key : ℕ) where
+  -- the key is that of the file of the upper that stands there after the call
+  abbrev pub IsFound : Type 0
+  IsFound = (j : ℕ) (last : Bool) → IsObject V lowers p (object.Upper j last) → key ≡ j
+
+  -- so what was a lower layer's is shown under it
+  key-shown : IsFound → (low : IsLower U lowers p) (n : ℕ) → spot_of k.objects n ≡ Some (At p) → (last : Bool) × IsObject V lowers p (object.Upper key last)
+  key-shown found low n at =
       let shown = lifted-shown U V lowers s c call passes p touches files leads k t low n at in
       (shown.1, subst (λ x. IsObject V lowers p (object.Upper x shown.1)) (sym (found shown.0 shown.1 shown.2)) shown.2)
 
-  pub lifted-key : (o : Object) → IsObject U lowers p o → IsLifted k.objects V lowers p o key
-  lifted-key object.Lower is = key-shown is
-  lifted-key object.Directory is = tt
-  lifted-key (object.Upper j last) is = tt
-  lifted-key object.Other is = tt
+  -- where it was found only if it was that
+  pub lifted-key : (o : Object) → IsObject U lowers p o → (o ≡ object.Lower → IsFound) → IsLifted k.objects V lowers p o key
+  lifted-key object.Lower is found = key-shown (found refl) is
+  lifted-key object.Directory is found = tt
+  lifted-key (object.Upper j last) is found = tt
+  lifted-key object.Other is found = tt
 
   -- and nothing was tracked under it
-  pub free-key : (o : Object) → IsObject U lowers p o → IsFree k.objects p o key
-  free-key object.Lower is = λ n at.
-      let shown = key-shown is n at in
+  pub free-key : (o : Object) → IsObject U lowers p o → (o ≡ object.Lower → IsFound) → IsFree k.objects p o key
+  free-key object.Lower is found = λ n at.
+      let shown = key-shown (found refl) is n at in
       lifted-free U V lowers s c call passes p touches files leads k t is n at key shown.0 shown.1
-  free-key object.Directory is = tt
-  free-key (object.Upper j last) is = tt
-  free-key object.Other is = tt
+  free-key object.Directory is found = tt
+  free-key (object.Upper j last) is found = tt
+  free-key object.Other is found = tt
 
 -- so it is also where the state isn't told
 pub free-squashed : {A : Type 0} (objects : Tracked) (p : Path) (o : Object) (key : ℕ) → ∥ A ∥₁ → (A → IsFree objects p o key) → IsFree objects p o key

@@ -49,12 +49,13 @@ found-one U lowers s m c p q fine b is = same-object U lowers s m p q (moving-sh
 
 module _ (U V : Layer) (lowers : List Layer) (s : State) (c : ℕ) (p q : Path) (passes : Passes U V lowers s c (Rename p q))
     (two : same_found (look s.tree p) (look s.tree q) ≡ false) (k : Notified) (tracks : Tracks U s k) (o e : Object) (is : IsObject U lowers p o)
-    (was_there : IsObject U lowers q e) (key : ℕ) (found : (j : ℕ) (last : Bool) → IsObject V lowers q (object.Upper j last) → key ≡ j) where
+    (was_there : IsObject U lowers q e) (key : ℕ)
+    (found : o ≡ object.Lower → (j : ℕ) (last : Bool) → IsObject V lowers q (object.Upper j last) → key ≡ j) where
   -- the key that is found after the call is that of the file
   pub lifted-found : (n : ℕ) → o ≡ object.Lower → spot_of k.objects n ≡ Some (At p) → (last : Bool) × IsObject V lowers q (object.Upper key last)
   lifted-found n lower at =
       let shown = lifted-there U V lowers s c p q passes two k tracks (subst (IsObject U lowers p) lower is) n at in
-      (shown.1, subst (λ x. IsObject V lowers q (object.Upper x shown.1)) (sym (found shown.0 shown.1 shown.2)) shown.2)
+      (shown.1, subst (λ x. IsObject V lowers q (object.Upper x shown.1)) (sym (found lower shown.0 shown.1 shown.2)) shown.2)
 
   -- under which nothing was tracked but what is replaced
   pub key-free : (n : ℕ) → o ≡ object.Lower → spot_of k.objects n ≡ Some (At p) → (m : ℕ) → spot_of k.objects m ≡ Some (Upper key) →

@@ -74,7 +74,8 @@ module _ (rule : Rule) (c : ℕ) (p : Path) (f : OpenFlags) (mode : ℕ) (k : Ca
   -- OF WHAT STANDS THERE
   module _ (o : Object) (stands : IsObject U L p o) (something : o ≢ object.Other) (known : AreKnown from) (given : AreGiven from.objects)
       (ready : Notified) (fd : ℕ) (is_ready : IsReady from ready c fd p o) (key : ℕ)
-      (found : (j : ℕ) (last : Bool) → IsObject V (lowers_of new.layers) p (object.Upper j last) → key ≡ j)
+      (found : f.writes ≡ true → o ≡ object.Lower →
+      (j : ℕ) (last : Bool) → IsObject V (lowers_of new.layers) p (object.Upper j last) → key ≡ j)
       (isnt : (e : Errno) → r ≢ Refused e) where
     -- what is kept with what the open holds
     abbrev held : Notified
@@ -102,7 +103,7 @@ module _ (rule : Rule) (c : ℕ) (p : Path) (f : OpenFlags) (mode : ℕ) (k : Ca
         let pass = open-passes s a fine in
         let d = node-there s a in
         free-key U V L s c (Open p f mode) pass p (opened-touches s p f mode writes) (opened-file s c p f mode (ap is_none d.1))
-        (opened-leads U V L s c p f mode pass d.0 d.1) held (held-tracks s a fine) key (found-here key found) o stands)
+        (opened-leads U V L s c p f mode pass d.0 d.1) held (held-tracks s a fine) key o stands (λ lower. found-here key (found writes lower)))
 
     -- told, it goes as the machine's
     pub goes-opened : (to : Notified) → IsLowestFree old.clients c fd → AreKnown to → Opened rule held to c fd p o key f →
@@ -117,7 +118,7 @@ module _ (rule : Rule) (c : ℕ) (p : Path) (f : OpenFlags) (mode : ℕ) (k : Ca
         (law_of_opened rule U V L s c fd p f mode pass (lowest-given old s c fd a.stands done.there low) o key stands held to
         (λ writes.
         lifted-key U V L s c (Open p f mode) pass p (opened-touches s p f mode writes) (opened-file s c p f mode (ap is_none d.1))
-        (opened-leads U V L s c p f mode pass d.0 d.1) held t key (found-here key found) o stands)
+        (opened-leads U V L s c p f mode pass d.0 d.1) held t key o stands (λ lower. found-here key (found writes lower)))
         t knows told))
 
   -- OF A FILE THAT IT MAKES

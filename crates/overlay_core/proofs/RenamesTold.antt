@@ -152,14 +152,14 @@ module _ (rule : Rule) (c : ℕ) (p q : Path) (r : Reply) (old new : Mount) (fro
   -- THAT MOVES SOMETHING
   module _ (is : r ≡ Done) (moves : is_one U p q ≡ false) (known : AreKnown ready) (o e : Object) (stands : IsObject U L p o)
       (replaced : IsObject U L q e) (key : ℕ)
-      (found : (j : ℕ) (last : Bool) → IsObject V (lowers_of new.layers) q (object.Upper j last) → key ≡ j) where
+      (found : o ≡ object.Lower → (j : ℕ) (last : Bool) → IsObject V (lowers_of new.layers) q (object.Upper j last) → key ≡ j) where
     isnt : (x : Errno) → r ≢ Refused x
     isnt x refused = let z : Done ≡ Refused x = sym is ∙ refused in cc
 
     -- the key that is found is that of before's lower layers
-    found-here : (j : ℕ) (last : Bool) → IsObject V L q (object.Upper j last) → key ≡ j
-    found-here j last at =
-        found j last (subst (λ (x : List Layer). IsObject V x q (object.Upper j last)) (sym (ap (λ x. map layer_of x.items) done.lowers)) at)
+    found-here : o ≡ object.Lower → (j : ℕ) (last : Bool) → IsObject V L q (object.Upper j last) → key ≡ j
+    found-here lower j last at =
+        found lower j last (subst (λ (x : List Layer). IsObject V x q (object.Upper j last)) (sym (ap (λ x. map layer_of x.items) done.lowers)) at)
 
     -- what it passes
     moving-passes : (s : State) → Agrees old from s → Passes U V L s c (Rename p q)

@@ -1,16 +1,31 @@
 // What changes of attributes and further names tell; a file of a lower layer comes into the upper by them.
-ghost use Rattle.std.specs.Prelude.{◌≡◌, true, IfOk, OnErr};
+ghost use Rattle.std.specs.Prelude.{◌≡◌, ℕ, Bool, true, IfOk, OnErr};
 ghost use Rattle.plain_model.specs.Runs.{Called};
+ghost use Rattle.layer_tree.specs.Tree.{layer_of};
+ghost use Rattle.merged_lookup.specs.Merged.{lowers_of};
+ghost use Rattle.notice_laws.specs.Objects.{IsObject};
 ghost use Rattle.notice_laws.specs.Steps.{alters};
 ghost use Rattle.mount_calls.specs.Attaching.{is_attached};
 ghost use Rattle.overlay_core.specs.Watching.{Goes, HasState, Keeps, Stays};
 
 use crate::watched::Watched;
+use notice_laws::Object;
 use ov_base::{Call, Errno, Path, Reply};
 use std::alloc::AllocError;
 use watch_table::{Callback, Rule};
 
 impl<F: Callback, R: Rule> Watched<F, R> {
+    /// The key under which a file of a lower layer, which a call brought into the upper, stands at a path now. No other object needs one, and
+    /// for those the path isn't walked.
+    pub(crate) fn key_lifted(&self, path: &Path, object: Object) -> usize
+        ensures { object ≡ Object.Lower → (key : ℕ) (last : Bool) → IsObject (layer_of self.now.mount.layers.upper) (lowers_of self.now.mount.layers) path.now (Object.Upper key last) → result ≡ key }
+    {
+        match object {
+            Object::Lower => self.mount.key_at(path),
+            _ => 0,
+        }
+    }
+
     /// Changes attributes of what stands at a path, and tells its directory and the object.
     pub(crate) fn alter(
         &mut self,
@@ -33,7 +48,7 @@ impl<F: Callback, R: Rule> Watched<F, R> {
         let Reply::Done = reply else {
             return Ok(reply);
         };
-        let key = self.mount.key_at(path);
+        let key = self.key_lifted(path, object);
         self.notifier.altered(path, object, key);
         self.notifier.lawful();
         Ok(Reply::Done)
@@ -62,7 +77,7 @@ impl<F: Callback, R: Rule> Watched<F, R> {
         let Reply::Done = reply else {
             return Ok(reply);
         };
-        let key = self.mount.key_at(old);
+        let key = self.key_lifted(old, object);
         self.notifier.linked(old, new, object, key);
         self.notifier.lawful();
         Ok(Reply::Done)

@@ -44,7 +44,7 @@ impl<F: Callback, R: Rule> Watched<F, R> {
         }
         match self.mount.rename_moving(old, new) {
             Ok(Ok(true)) => {
-                let key = self.mount.key_at(new);
+                let key = self.key_lifted(new, object);
                 self.notifier.moved(old, new, object, replaced, key);
                 self.notifier.lawful();
                 Ok(Reply::Done)

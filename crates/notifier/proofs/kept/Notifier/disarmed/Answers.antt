@@ -34,4 +34,4 @@ invariant_of-self g c =
     counted-told shows s o
     (record { objects = inside.objects; handles = inside.handles; instances = es; renames = inside.renames; pinned = inside.pinned })
     c.fire.new.self c.release.new.self heard
-    (λ n ne. one-spared shows s o c.args.client c.args.watch refl n ne es es one (each-own es c.lawful.ensures)) c.self.invariant sets
+    (λ n ne. one-spared shows s o c.args.client c.args.watch refl n ne es es one (each-own es c.lawful.ensures)) c.self.invariant sets.held sets.other_holders

@@ -48,14 +48,14 @@ altered-requires-clause-free g c =
     let new = c.perform.new.self in
     let mid = c.prepare_lift.new.self in
     let done = performed c.args.client c.args.call.now c.in_ok-reply.reply old new (altering-offered c.args.path.now c.args.call.now c.requires.call) c.requires.there said.serves said.lowers said.named said.refused in
-    free-squashed mid.objects c.args.path.now c.object_at-object.result c.key_at-key.result c.requires.state
+    free-squashed mid.objects c.args.path.now c.object_at-object.result c.key_lifted-key.result c.requires.state
     (λ (x : HasState old c.args.self.now.notifier).
     let s = x.0 in
     let a : Agrees old mid s = subst (λ k. Agrees old k s) (sym c.prepare_lift.ensures.rest) (agrees-room c.args.self.now.notifier mid.objects c.prepare_lift.ensures.same c.lawful.ensures.known old s x.1) in
     let fine = allowed-by s c.args.client c.args.call.now c.in_ok-reply.reply new (done.serves s a.stands) (λ e refused. let z = sym c.in-Done.is ∙ refused in cc) in
     let passes = passing g.R.Rule.shows c.args.client c.args.call.now c.in_ok-reply.reply old new mid done s a fine in
-    free-key (upper_of old) (upper_of new) (lowers_of old.layers) s c.args.client c.args.call.now passes c.args.path.now (altered-touches s c.args.path.now c.args.call.now c.requires.call) (altered-file s c.args.client c.args.path.now c.args.call.now c.requires.call) (altered-leads (upper_of old) (upper_of new) (lowers_of old.layers) s c.args.client c.args.path.now c.args.call.now c.requires.call passes) mid a.tracks c.key_at-key.result
-    (λ j last is. c.key_at-key.ensures j last (subst (λ (x : List Layer). IsObject (upper_of new) x c.args.path.now (object.Upper j last)) (sym (ap (λ x. map layer_of x.items) said.lowers)) is)) c.object_at-object.result c.object_at-object.ensures)
+    free-key (upper_of old) (upper_of new) (lowers_of old.layers) s c.args.client c.args.call.now passes c.args.path.now (altered-touches s c.args.path.now c.args.call.now c.requires.call) (altered-file s c.args.client c.args.path.now c.args.call.now c.requires.call) (altered-leads (upper_of old) (upper_of new) (lowers_of old.layers) s c.args.client c.args.path.now c.args.call.now c.requires.call passes) mid a.tracks c.key_lifted-key.result
+    c.object_at-object.result c.object_at-object.ensures (λ lower j last is. c.key_lifted-key.ensures lower j last (subst (λ (x : List Layer). IsObject (upper_of new) x c.args.path.now (object.Upper j last)) (sym (ap (λ x. map layer_of x.items) said.lowers)) is)))
 
 pub returns-clause-goes : goal.returns-clause-goes
 returns-clause-goes g c = λ s a.
@@ -67,8 +67,8 @@ returns-clause-goes g c = λ s a.
     let done = performed c.args.client c.args.call.now c.in_ok-reply.reply old new (altering-offered c.args.path.now c.args.call.now c.requires.call) c.requires.there said.serves said.lowers said.named said.refused in
     let goes : Goes g.R.Rule.shows old mid c.args.client (Called c.args.call.now c.in_ok-reply.reply) new to =
     goes-done g.R.Rule.shows c.args.client c.args.call.now c.in_ok-reply.reply old new mid done to c.in-Done.is (λ s a passes. law_of_altered g.R.Rule.shows (upper_of old) (upper_of new) (lowers_of old.layers) s c.args.client c.args.path.now c.args.call.now c.requires.call passes
-    c.object_at-object.result c.key_at-key.result c.object_at-object.ensures mid to
-    (lifted-key (upper_of old) (upper_of new) (lowers_of old.layers) s c.args.client c.args.call.now passes c.args.path.now (altered-touches s c.args.path.now c.args.call.now c.requires.call) (altered-file s c.args.client c.args.path.now c.args.call.now c.requires.call) (altered-leads (upper_of old) (upper_of new) (lowers_of old.layers) s c.args.client c.args.path.now c.args.call.now c.requires.call passes) mid a.tracks c.key_at-key.result (λ j last is. c.key_at-key.ensures j last (subst (λ (x : List Layer). IsObject (upper_of new) x c.args.path.now (object.Upper j last)) (sym (ap (λ x. map layer_of x.items) said.lowers)) is)) c.object_at-object.result c.object_at-object.ensures)
+    c.object_at-object.result c.key_lifted-key.result c.object_at-object.ensures mid to
+    (lifted-key (upper_of old) (upper_of new) (lowers_of old.layers) s c.args.client c.args.call.now passes c.args.path.now (altered-touches s c.args.path.now c.args.call.now c.requires.call) (altered-file s c.args.client c.args.path.now c.args.call.now c.requires.call) (altered-leads (upper_of old) (upper_of new) (lowers_of old.layers) s c.args.client c.args.path.now c.args.call.now c.requires.call passes) mid a.tracks c.key_lifted-key.result c.object_at-object.result c.object_at-object.ensures (λ lower j last is. c.key_lifted-key.ensures lower j last (subst (λ (x : List Layer). IsObject (upper_of new) x c.args.path.now (object.Upper j last)) (sym (ap (λ x. map layer_of x.items) said.lowers)) is)))
     a.tracks c.lawful-2.ensures.known c.altered.ensures) in
     subst (λ r. Goes g.R.Rule.shows old mid c.args.client (Called c.args.call.now r) new to) c.in-Done.is goes s
     (subst (λ k. Agrees old k s) (sym c.prepare_lift.ensures.rest) (agrees-room c.args.self.now.notifier mid.objects c.prepare_lift.ensures.same c.lawful.ensures.known old s a))

@@ -56,7 +56,7 @@ moved-requires-clause-free g c =
     (ap rename_reply c.in-Ok-Ok-true.field-0-is)
     (moved-told c.in-Ok-Ok-true.field-0 c.in-Ok-Ok-true.field-0-0 true _ c.in-Ok-Ok-true.field-0-is c.in-Ok-Ok-true.field-0-0-test c.in-Ok-Ok-true.ensures.moves)
     c.lawful-2.ensures.known c.object_at-object.result c.object_at-replaced.result c.object_at-object.ensures c.object_at-replaced.ensures
-    c.key_at-key.result c.key_at-key.ensures c.requires.state
+    c.key_lifted-key.result c.key_lifted-key.ensures c.requires.state
 
 pub moved-requires-clause-place : goal.moved-requires-clause-place
 moved-requires-clause-place g c =
@@ -71,7 +71,7 @@ moved-requires-clause-place g c =
     (ap rename_reply c.in-Ok-Ok-true.field-0-is)
     (moved-told c.in-Ok-Ok-true.field-0 c.in-Ok-Ok-true.field-0-0 true _ c.in-Ok-Ok-true.field-0-is c.in-Ok-Ok-true.field-0-0-test c.in-Ok-Ok-true.ensures.moves)
     c.lawful-2.ensures.known c.object_at-object.result c.object_at-replaced.result c.object_at-object.ensures c.object_at-replaced.ensures
-    c.key_at-key.result c.key_at-key.ensures c.requires.state below
+    c.key_lifted-key.result c.key_lifted-key.ensures c.requires.state below
 
 pub returns-in-Ok-Ok-true-clause-goes : goal.returns-in-Ok-Ok-true-clause-goes
 returns-in-Ok-Ok-true-clause-goes g c =
@@ -87,7 +87,7 @@ returns-in-Ok-Ok-true-clause-goes g c =
     (ap rename_reply c.in-Ok-Ok-true.field-0-is)
     (moved-told c.in-Ok-Ok-true.field-0 c.in-Ok-Ok-true.field-0-0 true _ c.in-Ok-Ok-true.field-0-is c.in-Ok-Ok-true.field-0-0-test c.in-Ok-Ok-true.ensures.moves)
     c.lawful-2.ensures.known c.object_at-object.result c.object_at-replaced.result c.object_at-object.ensures c.object_at-replaced.ensures
-    c.key_at-key.result c.key_at-key.ensures c.moved.new.self c.lawful-in-Ok-Ok-true.ensures.known c.moved.ensures)
+    c.key_lifted-key.result c.key_lifted-key.ensures c.moved.new.self c.lawful-in-Ok-Ok-true.ensures.known c.moved.ensures)
 
 pub returns-in-Ok-Ok-false-clause-goes : goal.returns-in-Ok-Ok-false-clause-goes
 returns-in-Ok-Ok-false-clause-goes g c =

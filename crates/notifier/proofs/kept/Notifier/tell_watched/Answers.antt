@@ -1,0 +1,43 @@
+use Rattle.std.proofs.Common.{◌≡◌, ℕ, ◌-◌, refl, ap, subst, ◌∙◌, arith}
+use Rattle.std.specs.Prelude.{option_copied}
+use Rattle.ov_base.specs.declared.node_id.NodeId.TheVariants.{New}
+use Rattle.plain_model.specs.Watching.{On, Subject}
+use Rattle.open_handles.specs.Tracked.{SetsSpot, holders_of, spot_left, spot_of}
+use Rattle.notifier.specs.Notifying.{watchers}
+use Rattle.notifier.proofs.Hearing.{fewer-watch, others-spared}
+use Rattle.notifier.proofs.Counting.{counted-told}
+use Rattle.notifier.proofs.kept.Notifier.tell_watched.Goals as goal
+
+pub overflow_sub-ended : goal.overflow_sub-ended
+overflow_sub-ended g c =
+    let s : Subject = record { aim = On (New c.args.object); bits = c.args.bits; cookie = c.args.cookie; name = option_copied c.args.name } in
+    let less = fewer-watch g.R.Rule.shows s c.args.object c.self.inside.watches c.fire.new.self c.fire.ensures in
+    omega (arith, less, c.watchers.ensures, c.watchers-before.ensures)
+
+pub invariant_of-self : goal.invariant_of-self
+invariant_of-self g c =
+    let s : Subject = record { aim = On (New c.args.object); bits = c.args.bits; cookie = c.args.cookie; name = option_copied c.args.name } in
+    let inside = c.self.inside in
+    let o = c.args.object in
+    let ended : c.watchers-before.result - c.watchers.result ≡ watchers inside.watches o - watchers c.fire.new.self o =
+    ap (λ (m : ℕ). m - c.watchers.result) c.watchers-before.ensures ∙ ap (λ (m : ℕ). watchers inside.watches o - m) c.watchers.ensures in
+    let held = holders_of inside.objects o in
+    let sets = subst (λ (m : ℕ). SetsSpot inside.objects c.release.new.self o (spot_left (held - m) (spot_of inside.objects o)) (held - m))
+    ended c.release.ensures.releases in
+    counted-told g.R.Rule.shows s o
+    (record { objects = inside.objects; handles = inside.handles; instances = inside.watches; renames = inside.renames; pinned = inside.pinned })
+    c.fire.new.self c.release.new.self c.fire.ensures (λ n ne. others-spared g.R.Rule.shows s o refl n ne inside.watches) c.self.invariant
+    sets.held sets.other_holders
+
+-- no watch ended
+pub invariant_of-self-else-ended-gt0 : goal.invariant_of-self-else-ended-gt0
+invariant_of-self-else-ended-gt0 g c =
+    let s : Subject = record { aim = On (New c.args.object); bits = c.args.bits; cookie = c.args.cookie; name = option_copied c.args.name } in
+    let inside = c.self.inside in
+    let o = c.args.object in
+    let none : watchers inside.watches o - watchers c.fire.new.self o ≡ 0 =
+    omega (arith, c.watchers.ensures, c.watchers-before.ensures) in
+    counted-told g.R.Rule.shows s o
+    (record { objects = inside.objects; handles = inside.handles; instances = inside.watches; renames = inside.renames; pinned = inside.pinned })
+    c.fire.new.self inside.objects c.fire.ensures (λ n ne. others-spared g.R.Rule.shows s o refl n ne inside.watches) c.self.invariant
+    (omega (arith, none)) (λ n ne. refl)
