@@ -10,6 +10,7 @@ abbrev pub takes_no_memory : Call → Bool
 takes_no_memory (call.Stat p) = true
 takes_no_memory (call.Seek d offset whence) = true
 takes_no_memory (call.Close d) = true
+takes_no_memory (call.Disarm watch) = true
 takes_no_memory _ = false
 
 -- What a call leaves of the layers: those that change attributes, bytes and names may change them, a close may free a file without a name,

@@ -402,7 +402,7 @@ impl Mount {
 }
 
 // The key of an open file that is the upper's.
-fn upper_key(file: Option<OpenFile>) -> Option<usize>
+pub(crate) fn upper_key(file: Option<OpenFile>) -> Option<usize>
     ensures { result ≡ upper_of file }
 {
     match file?.source {

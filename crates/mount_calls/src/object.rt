@@ -1,12 +1,14 @@
 // What stands at a path, as far as watches need it.
-ghost use Rattle.std.specs.Prelude.{◌≡◌, ℕ, Bool, List, ◌∷◌, Some};
+ghost use Rattle.std.specs.Prelude.{◌≡◌, ℕ, Bool, List, ◌∷◌, Some, unwrap_or};
 ghost use Rattle.plain_model.specs.Layers as held;
 ghost use Rattle.plain_model.specs.Layers.{Layer, Path as Names, shows};
 ghost use Rattle.layer_tree.specs.Tree.{inode_of, layer_of};
 ghost use Rattle.merged_lookup.specs.Merged.{lowers_of, ShowsInode};
 ghost use Rattle.notice_laws.specs.Objects.{IsObject};
+ghost use Rattle.mount_calls.specs.Attaching.{file_by};
+ghost use Rattle.mount_calls.specs.Files.{upper_of};
 
-use crate::mount::Mount;
+use crate::mount::{Mount, upper_key};
 use layer_tree::{Inode, Node};
 use merged_lookup::{Layers, Place, Topmost};
 use notice_laws::Object;
@@ -32,6 +34,13 @@ impl Mount {
             Object::Upper { key, last: _ } => key,
             _ => 0,
         }
+    }
+
+    /// The key of the file of the upper that a client has open under a descriptor, and 0 where it has none. No path is walked for it.
+    pub fn key_opened(&self, client: u64, descriptor: u32) -> usize
+        ensures { result ≡ unwrap_or (upper_of (file_by self.now.clients client descriptor)) 0 }
+    {
+        upper_key(self.clients.file(client, descriptor)).unwrap_or(0)
     }
 }
 

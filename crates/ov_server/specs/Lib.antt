@@ -3,6 +3,7 @@ pub mod Arguments
 pub mod Devices
 pub mod Faults
 pub mod Histories
+pub mod Deeds
 pub mod Objects
 pub mod Plays
 pub mod ProgramHooks

@@ -1,8 +1,11 @@
 // One line of a script on a mount.
-ghost use Rattle.std.specs.Prelude.{◌≡◌, ◌+◌, ◌<◌, ◌≤◌, true, Some, None, Ok, IfErr, IfOk, OnErr, OnOk, length};
+ghost use Rattle.std.specs.Prelude.{◌≡◌, ◌+◌, ◌<◌, ◌≤◌, true, Some, None, Ok, IfErr, IfOk, OnErr, OnOk, length, map};
 ghost use Rattle.mount_calls.specs.Attaching.{is_attached};
 ghost use Rattle.ov_script.specs.declared.script.Command.TheVariants as asked;
 ghost use Rattle.ov_script.specs.Commands.{call_of};
+ghost use Rattle.overlay_core.specs.Watching.{Goes};
+ghost use Rattle.plain_model.specs.Runs as runs;
+ghost use Rattle.ov_server.specs.Deeds.{AttachGoes, CallGoes, TextGoes};
 ghost use Rattle.ov_server.specs.Histories as histories;
 ghost use Rattle.ov_server.specs.Histories.{AnswersAttach, AnswersCall, HasPlaces, call_refusal, room};
 ghost use Rattle.ov_server.specs.Rosters as rosters;
@@ -134,6 +137,7 @@ fn attached<F: Callback + Copy, H: Rule>(
     ensures plays { PlaysCommand core.old asked.Attach core.new }
     ensures answer { AnswersAttach (histories.attach_refusal core.old (length hooks.now)) core.old.watched.mount.clients.next result }
     ensures refused { (errno : Errno) → histories.attach_refusal core.old (length hooks.now) ≡ Some errno → core.new ≡ core.old }
+    ensures goes { AttachGoes H.shows core.old.watched.mount core.old.watched.notifier (map (λ h. h.tag) hooks.now) core.new.watched.mount core.new.watched.notifier result }
 {
     if let Some(errno) = attach_refusal(core, hooks.len()) {
         return Answer::NotAttached { errno };
@@ -190,6 +194,8 @@ fn detached<F: Callback + Drop, H: Rule>(
     ensures counted { core.new.finished ≤ core.old.finished + 1 }
     ensures ok { OnOk result (PlaysCommand core.old (asked.Detach client) core.new) }
     ensures err { OnErr result (CannotPlay core.old (asked.Detach client)) }
+    ensures goes { OnOk result (Goes H.shows core.old.watched.mount core.old.watched.notifier client runs.Detached core.new.watched.mount core.new.watched.notifier) }
+    ensures refused { OnErr result (core.new ≡ core.old) }
 {
     if !core.is_attached(client as u64) {
         return Err(BadCommand);
@@ -210,6 +216,8 @@ fn called<F: Callback, H: Rule>(
     ensures ok { OnOk result (PlaysCommand core.old (asked.Call client text.now) core.new) }
     ensures err { OnErr result (CannotPlay core.old (asked.Call client text.now)) }
     ensures answer { IfOk result (AnswersCall (call_refusal (room core.old) (call_of text.now)) client) }
+    ensures goes { IfOk result (TextGoes H.shows core.old.watched.mount core.old.watched.notifier client (call_of text.now) core.new.watched.mount core.new.watched.notifier) }
+    ensures refused { OnErr result (core.new ≡ core.old) }
     ensures full { room core.old ≡ 0 → core.new ≡ core.old }
 {
     if core.is_attached(client as u64) {
@@ -232,6 +240,7 @@ fn call_answer<F: Callback, H: Rule>(
     ensures counted { core.new.finished ≤ core.old.finished + 1 }
     ensures keeps { plays.KeepsClients core.old core.new }
     ensures answer { AnswersCall (call_refusal (room core.old) (call_of text.now)) client result }
+    ensures goes { TextGoes H.shows core.old.watched.mount core.old.watched.notifier client (call_of text.now) core.new.watched.mount core.new.watched.notifier result }
     ensures full { room core.old ≡ 0 → core.new ≡ core.old }
 {
     match text.call(alloc) {
@@ -252,6 +261,7 @@ fn answer_in_room<F: Callback, H: Rule>(core: &mut Core<F, H>, client: u32, call
     ensures counted { core.new.finished ≤ core.old.finished + 1 }
     ensures keeps { plays.KeepsClients core.old core.new }
     ensures answer { AnswersCall (call_refusal (room core.old) (Ok call)) client result }
+    ensures goes { CallGoes H.shows core.old.watched.mount core.old.watched.notifier client call core.new.watched.mount core.new.watched.notifier result }
     ensures full { room core.old ≡ 0 → core.new ≡ core.old }
 {
     if core.room() == 0 {
@@ -272,6 +282,7 @@ fn made<F: Callback, H: Rule>(core: &mut Core<F, H>, client: u32, call: Call) ->
     ensures counted { core.new.finished ≤ core.old.finished + 1 }
     ensures keeps { plays.KeepsClients core.old core.new }
     ensures answer { AnswersCall None client result }
+    ensures goes { CallGoes H.shows core.old.watched.mount core.old.watched.notifier client call core.new.watched.mount core.new.watched.notifier result }
 {
     let mut job = Job::new(client as u64, call);
     let turn = core.advance(&mut job);

@@ -1,5 +1,5 @@
 -- A watch is armed by the number under which what stands at its path is held, or refused.
-use Rattle.std.proofs.Common.{◌≡◌, ◌≢◌, ℕ, ◌<◌, pos, Bool, true, false, not, ◌&&◌, inl, inr, List, ◌∷◌, Option, None, Some, IsSome, is_none, nat_lt, refl, sym, ap, ◌∙◌, subst}
+use Rattle.std.proofs.Common.{◌≡◌, ◌≢◌, ℕ, ◌<◌, pos, true, false, not, ◌&&◌, inl, inr, List, ◌∷◌, Option, None, Some, IsSome, is_none, nat_lt, refl, sym, ap, ◌∙◌, subst}
 use Rattle.ov_base.specs.declared.call.Call.TheVariants.{Arm}
 use Rattle.ov_base.specs.declared.errno.Errno.{Errno}
 use Rattle.ov_base.specs.declared.errno.Errno.TheVariants.{EBUSY, ELOOP, ENOENT, ENOSPC}
@@ -15,9 +15,11 @@ use Rattle.plain_model.specs.Refusals.{◌or_else◌, WATCHES_MAX, is_busy, refu
 use Rattle.plain_model.specs.Changes.{after}
 use Rattle.plain_model.specs.Replies.{next_number, number_of}
 use Rattle.plain_model.specs.Runs.{Called}
+use Rattle.plain_model.proofs.Looking.{when-not}
 use Rattle.merged_lookup.specs.Merged.{layers_of, lowers_of}
 use Rattle.mount_laws.specs.Attributes.{chown_fault}
 use Rattle.mount_laws.specs.Looks.{IsMountOf, absent, or_else as first, parents_fault, shows_link, walk_fault}
+use Rattle.mount_laws.proofs.Links.{first-none, second-none}
 use Rattle.mount_laws.proofs.Looks.{found-at}
 use Rattle.open_handles.specs.Tracked.{Spot, Tracked, next_of, spot_of}
 use Rattle.notice_laws.specs.declared.object.Object.{Object}
@@ -41,32 +43,21 @@ use Rattle.overlay_core.proofs.ArmCalls.{arm-refusal, node_refusal}
 use Rattle.overlay_core.proofs.WatchCalls.{goes-refused}
 use Rattle.overlay_core.proofs.Watching.{goes-agreed, passes, upper_of, with-instances}
 
--- of two that refuse nothing neither does
-first-none : (a b : Option Errno) → first a b ≡ None → (a ≡ None) × (b ≡ None)
-first-none None b h = (refl, h)
-first-none (Some e) b h = absurd (let no : Some e ≡ None = h in cc)
-
--- a refusal that doesn't come wasn't called for
-none-when : (b : Bool) (e : Errno) → when b e ≡ None → b ≡ false
-none-when true e h = absurd (let no : Some e ≡ None = h in cc)
-none-when false e h = refl
-
 -- where the path refuses nothing it shows no link
 pub no-link : (Ls : List Layer) (p : Path) (mask : ℕ) → arm_fault Ls p mask ≡ None → shows_link (shows 0 Ls p) ≡ false
 no-link Ls p mask h =
-    let chown = (first-none (chown_fault Ls p) _ h).0 in
-    none-when (shows_link (shows 0 Ls p)) ELOOP (first-none (walk_fault Ls p) _ chown).1
+    when-not (shows_link (shows 0 Ls p)) ELOOP (second-none (walk_fault Ls p) _ (first-none (chown_fault Ls p) _ h))
 
 -- and something stands there that is tracked
 pub is-tracked : (U : Layer) (lowers : List Layer) (p : Path) (mask : ℕ) (o : Object) → arm_fault (U ∷ lowers) p mask ≡ None → IsObject U lowers p o →
     o ≢ object.Other
 is-tracked U lowers p mask o h is other = elim (subst (IsObject U lowers p) other is) [
-  | inl none ↦ shown (shows 0 (U ∷ lowers) p) (first-none (parents_fault (U ∷ lowers) p) _ walk).1 none
+  | inl none ↦ shown (shows 0 (U ∷ lowers) p) (second-none (parents_fault (U ∷ lowers) p) _ walk) none
   | inr link ↦ (let no : true ≡ false = sym link ∙ no-link (U ∷ lowers) p mask h in cc)
 ]
   where
     walk : walk_fault (U ∷ lowers) p ≡ None
-    walk = (first-none (walk_fault (U ∷ lowers) p) _ (first-none (chown_fault (U ∷ lowers) p) _ h).0).0
+    walk = first-none (walk_fault (U ∷ lowers) p) _ (first-none (chown_fault (U ∷ lowers) p) _ h)
 
     shown : (x : Option Shown) → absent x ≡ None → is_none x ≡ true → ⊥
     shown None h none = let no : Some ENOENT ≡ None = h in cc

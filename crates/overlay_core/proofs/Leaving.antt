@@ -13,7 +13,7 @@ use Rattle.ov_base.specs.declared.errno.Errno.TheVariants.{EBADF}
 use Rattle.ov_base.specs.declared.reply.Reply.{Reply}
 use Rattle.ov_base.specs.declared.reply.Reply.TheVariants.{Refused}
 use Rattle.plain_model.specs.Layers.{Layer}
-use Rattle.plain_model.specs.Tree.{Branch, Leaf, Node, Tree, is_folder}
+use Rattle.plain_model.specs.Tree.{Tree, is_folder}
 use Rattle.plain_model.specs.Watching.{ISDIR, Instance, Rule}
 use Rattle.plain_model.specs.Machine.{Handle, State, Table, handle_of, handles_of, held_in}
 use Rattle.plain_model.specs.Refusals.{refusal, when}
@@ -45,9 +45,10 @@ use Rattle.notice_laws.proofs.Closing.{law_of_closed}
 use Rattle.mount_calls.specs.declared.mount.Mount.{Mount}
 use Rattle.mount_calls.specs.declared.clients.Clients.{Clients}
 use Rattle.mount_calls.specs.Attaching.{KeepsOthers, is_attached, opened_by}
-use Rattle.mount_calls.specs.Files.{IsOf, is_leaf}
+use Rattle.mount_calls.specs.Files.{IsOf}
 use Rattle.mount_calls.specs.Living.{KeepsNamed, KeepsPaths}
-use Rattle.mount_calls.proofs.Serving.{get-others}
+use Rattle.mount_calls.proofs.FileSight.{leaf-not-folder}
+use Rattle.mount_calls.proofs.Serving.{get-others, slot-closed, slot-open}
 use Rattle.mount_calls.specs.States.{IsOpenAs, IsSlot, IsStateOf, Serves}
 use Rattle.overlay_core.specs.Leaving.{ClosesEach, Follows, IsFollowed, Shuts, closing}
 use Rattle.overlay_core.specs.Watching.{Agrees, Goes, HasState}
@@ -84,16 +85,10 @@ shuts s es cs hs heard x = record {
   few = let e = length-map s.tables (λ (k : Table). k.client) in let f = x.few in let g = ap length x.clients in omega arith;
 }
 
--- no file or link is a directory
-leaf-file : (o : Option Node) → is_leaf o ≡ true → is_folder o ≡ false
-leaf-file None h = refl
-leaf-file (Some (Branch a b names c)) h = absurd (false≢true h)
-leaf-file (Some (Leaf content a u l)) h = refl
-
--- nor is what an open file is of
+-- what an open file is of is no directory
 file-file : (U : Layer) (lowers : List Layer) (t : Tree) (f : FileSource) (h : Handle) → IsOf U lowers t f h → is_folder (t h.node) ≡ false
 file-file U lowers t (Upper k) h is = ap is_folder is.0.node
-file-file U lowers t (Lower layer k) h is = leaf-file (t h.node) is.file
+file-file U lowers t (Lower layer k) h is = leaf-not-folder (t h.node) is.file
 
 -- an open handle tells its close as the machine's
 pub closing-same : (U : Layer) (lowers : List Layer) (s : State) (directories : Dentries) (o : handles.Handle) (h : Handle) →
@@ -105,19 +100,7 @@ closing-same U lowers s directories (File f) h is =
     ap (λ b. cond b (closes (Some h) + ISDIR) (closes (Some h))) (file-file U lowers s.tree f.source h is.source)
     ∙ ap (λ b. cond b 8 16) is.writes
 
--- what is open for the mount is open in the state
-slot-open : (alike : handles.Handle → Handle → Type 0) (a : handles.Handle) (o : Option handles.Handle) (x : Option Handle) → IsSlot alike o x →
-    o ≡ Some a → (h : Handle) × (x ≡ Some h) × alike a h
-slot-open alike a (Some b) (Some h) is at = (h, refl, subst (λ c. alike c h) (cc) is)
-slot-open alike a None x is at = absurd (cc)
-slot-open alike a (Some b) None is at = absurd is
-
--- what is free for the mount is free in the state, and the other way
-pub slot-free : (alike : handles.Handle → Handle → Type 0) (o : Option handles.Handle) (x : Option Handle) → IsSlot alike o x → o ≡ None → x ≡ None
-slot-free alike None None is at = refl
-slot-free alike None (Some h) is at = absurd is
-slot-free alike (Some a) x is at = absurd (cc)
-
+-- what is free in the state is free for the mount
 free-slot : (alike : handles.Handle → Handle → Type 0) (o : Option handles.Handle) (x : Option Handle) → IsSlot alike o x → x ≡ None → o ≡ None
 free-slot alike None x is at = refl
 free-slot alike (Some a) (Some h) is at = absurd (cc)
@@ -141,7 +124,7 @@ tracked-open m k c d o has at = by (tracked_by k.handles c d) refl
   where
     there : (x : IsFollowed m k) → IsSome (tracked_by k.handles c d)
     there x =
-        let h = slot-open _ o (opened_by m.clients c d) (handle_of x.0.tables c d) (x.1.stands.tables.slots c d) at in
+        let h = slot-open _ (opened_by m.clients c d) (handle_of x.0.tables c d) o (x.1.stands.tables.slots c d) at in
         open-tracked k.objects x.1.tracks.bearers (tracked_by k.handles c d) h.0
         (subst (IsSlotOn k.objects x.1.tracks.bearers (tracked_by k.handles c d)) h.1 (x.1.tracks.slots c d))
 
@@ -154,7 +137,7 @@ pub shuts-free : (shows : Rule) (old new : Mount) (k : Notified) (c d : ℕ) (r 
     ((s : State) → IsStateOf old s → Serves (refusal s c (Close d)) s c (Close d) r new) →
     ((e : Errno) → r ≡ Refused e → new.layers ≡ old.layers) → Shuts shows old k c d r new k
 shuts-free shows old new k c d r none serves same s a =
-    let free = slot-free _ (opened_by old.clients c d) (handle_of s.tables c d) (a.stands.tables.slots c d) none in
+    let free = slot-closed _ (opened_by old.clients c d) (handle_of s.tables c d) (a.stands.tables.slots c d) none in
     let bad = (law_of_bad_descriptors s c d free).closing in
     let served : Serves (Some EBADF) s c (Close d) r new = subst (λ o. Serves o s c (Close d) r new) bad (serves s a.stands) in
     let step : Step shows s c (Close d) r s = subst (λ x. Answered x shows s c (Close d) r s) (sym bad) (served.0, refl) in
@@ -164,7 +147,7 @@ module _ (shows : Rule) (old new : Mount) (from to : Notified) (c d : ℕ) (r : 
   -- an open descriptor is closed, and that is told
   pub shuts-open : Shuts shows old from c d r new to
   shuts-open s a =
-      let h = slot-open _ o (opened_by old.clients c d) (handle_of s.tables c d) (a.stands.tables.slots c d) is_open in
+      let h = slot-open _ (opened_by old.clients c d) (handle_of s.tables c d) o (a.stands.tables.slots c d) is_open in
       let fine : refusal s c (Close d) ≡ None = refusal-reading s c (Close d) refl ∙ ap (λ (x : Option Handle). when (is_none x) EBADF) h.1 in
       let served : Serves None s c (Close d) r new = subst (λ x. Serves x s c (Close d) r new) fine (serves s a.stands) in
       let pass : Passes (upper_of old) (upper_of new) (lowers_of old.layers) s c (Close d) = record {
@@ -384,7 +367,7 @@ module _ (shows : Rule) (old new : Mount) (k l : Notified) (c : ℕ) (has : ∥ 
           let each = closes x.0 x.1 in
           let f = each.follows in
           free-tracked l.objects f.tracks.bearers (tracked_by l.handles c d) (handle_of each.last.tables c d) (f.tracks.slots c d)
-          (slot-free _ (opened_by new.clients c d) (handle_of each.last.tables c d) (f.stands.tables.slots c d) (each.none d))
+          (slot-closed _ (opened_by new.clients c d) (handle_of each.last.tables c d) (f.stands.tables.slots c d) (each.none d))
 
       by : (o : Option TrackedHandle) → tracked_by l.handles c d ≡ o → tracked_by l.handles c d ≡ None
       by None is = is

@@ -1,3 +1,4 @@
+pub mod Shown
 pub mod Watching
 pub mod Performing
 pub mod Instances
@@ -11,6 +12,7 @@ pub mod ArmCalls
 pub mod Arming
 pub mod Opens
 pub mod OpenedNodes
+pub mod OpenedKeys
 pub mod OpensTold
 pub mod Renamed
 pub mod MovesFree

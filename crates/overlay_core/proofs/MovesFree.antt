@@ -1,5 +1,5 @@
 -- What a rename that moves something needs of what is kept for watches, also where the state isn't told: the key and the place are free.
-use Rattle.std.proofs.Common.{◌≡◌, ◌≢◌, ◌∷◌, ◌||◌, ◌⊎◌, inl, inr, ℕ, suc, Bool, true, false, List, [], Option, None, Some, is_none, is_some, refl, sym, ap, subst, ◌∙◌}
+use Rattle.std.proofs.Common.{◌≡◌, ◌≢◌, ◌∷◌, ◌||◌, ◌⊎◌, inl, inr, ℕ, suc, Bool, true, false, List, [], Option, None, Some, is_some, refl, sym, ap, subst, ◌∙◌}
 use Rattle.std.proofs.lemmas.Bool.{false≢true}
 use mathlib.Core.Logic.{∥∥₁_elim}
 use mathlib.Core.HLevel.{⊥_prop}
@@ -22,6 +22,7 @@ use Rattle.notice_laws.specs.Notified.{Notified, Passes, Tracks}
 use Rattle.notice_laws.specs.Objects.{IsObject}
 use Rattle.notice_laws.specs.Steps.{IsSpotOf, is_last_name}
 use Rattle.notifier.specs.Moving.{IsFreeFor, IsPlaceFor}
+use Rattle.overlay_core.proofs.Shown.{none-some}
 use Rattle.overlay_core.proofs.Renamed.{directory-onto, lifted-there, lifted-vacant, loses-spot, moved-apart, nothing-below, nothing-there}
 
 -- a rename onto the root is refused in each state
@@ -104,10 +105,6 @@ link-only None h g = false≢true h
 link-only (Some (Folder l j a)) h g = false≢true h
 link-only (Some (Contents l j i)) h g = false≢true (g refl)
 
-none-shown : (x : Option Shown) → is_none x ≡ true → is_some x ≡ false
-none-shown None h = refl
-none-shown (Some x) h = absurd (false≢true h)
-
 -- THE PLACE of a directory that moves, where some state has it
 pub place-squashed : {A : Type 0} (U : Layer) (lowers : List Layer) (k : Notified) (p q : Path) (e : Object) → q ≢ [] → IsObject U lowers q e →
     ∥ A ∥₁ → (A → IsBare U lowers k p q) → IsPlaceFor k p q e
@@ -122,5 +119,5 @@ place-squashed U lowers k p q e not was_there some f = record {
     by object.Directory is = inl refl
     by object.Lower is = absurd (∥∥₁_elim some ⊥_prop (λ x. file-only (shows 0 (U ∷ lowers) q) (suc is.layer) is.key (Some is.inode) is.shown (f x).onto))
     by (object.Upper key last) is = absurd (∥∥₁_elim some ⊥_prop (λ x. file-only (shows 0 (U ∷ lowers) q) 0 key (Some is.inode) is.shown (f x).onto))
-    by object.Other (inl none) = inr (refl, λ n at. ∥∥₁_elim some ⊥_prop (λ x. (f x).vacant (none-shown (shows 0 (U ∷ lowers) q) none) n at))
+    by object.Other (inl none) = inr (refl, λ n at. ∥∥₁_elim some ⊥_prop (λ x. (f x).vacant (none-some (shows 0 (U ∷ lowers) q) none) n at))
     by object.Other (inr link) = absurd (∥∥₁_elim some ⊥_prop (λ x. link-only (shows 0 (U ∷ lowers) q) link (f x).onto))

@@ -2,12 +2,12 @@
 use Rattle.std.proofs.Common.{◌≡◌, ◌∷◌, ◌+◌, ◌*◌, ◌<◌, ◌^◌, ◌⊎◌, inl, inr, ℕ, List, [], Option, None, Some, IsSome, is_some, true, false, length, nat_eq, refl, sym, ap, subst, ◌∙◌, arith}
 use Rattle.std.proofs.lemmas.Bool.{cases_Bool, false≢true, eqb-true, eq-eqb, both_ways}
 use Rattle.std.proofs.lemmas.List.{length-map}
-use Rattle.plain_model.specs.Layers.{Contents, Folder, Layer, Path, Shown, is_directory, shows}
+use Rattle.plain_model.specs.Layers.{Layer, Path, shows}
 use Rattle.plain_model.specs.Machine.{State, Table}
 use Rattle.plain_model.specs.Settling as settling
 use Rattle.plain_model.specs.Settling.{IsSettled}
 use Rattle.plain_model.specs.Alike.{AreAllAlike}
-use Rattle.mount_laws.specs.Looks.{IsMountOf, shows_link}
+use Rattle.mount_laws.specs.Looks.{IsMountOf}
 use Rattle.open_handles.specs.Tracked.{At, Holds, Spot, Tracked, holders_of, spot_of}
 use Rattle.open_handles.specs.TrackedHandles.{clients_of, uses}
 use Rattle.notice_laws.specs.declared.object.Object.TheVariants as object
@@ -20,6 +20,7 @@ use Rattle.notice_laws.proofs.GivenNumbers.{law_of_held_number}
 use Rattle.notifier.specs.Moving.{MayHold}
 use Rattle.notifier.specs.Notifying.{AreCounted, pinned_times, watchers}
 use Rattle.notifier.specs.Opening.{AreGiven, AreHeld}
+use Rattle.overlay_core.proofs.Shown.{directory-no-link}
 
 -- all is the same, but perhaps for what is tracked and what a rename holds
 pub record IsSameBut (old new : Notified) : Type 0 where
@@ -44,12 +45,6 @@ fewer-tracks U s old new same few known t =
     (ap clients_of same.handles ∙ t.clients) (kept-slots U s old new t same.handles)
     (subst (λ es. AreAllAlike (stands_for old.objects t.bearers) es s.instances) (sym same.instances) t.heard)
     (same.renames ∙ t.renames)
-
--- a directory that is shown is no link
-directory-no-link : (x : Option Shown) → is_directory x ≡ true → shows_link x ≡ false
-directory-no-link None h = refl
-directory-no-link (Some (Folder i k a)) h = refl
-directory-no-link (Some (Contents i k inode)) h = absurd (false≢true h)
 
 -- WHAT A RENAME HOLDS BEFOREHAND leaves what is kept for watches right, where the new directory is shown
 pub held-tracks : (U : Layer) (lowers : List Layer) (s : State) → IsMountOf U lowers s → (old new : Notified) → IsSameBut old new →

@@ -11,7 +11,7 @@ use Rattle.ov_base.specs.declared.node_id.NodeId.TheVariants.{New}
 use Rattle.plain_model.specs.Layers.{Layer, Name, Path, base, shows}
 use Rattle.plain_model.specs.Tree.{Branch, Leaf, Node, Own, Tree, node_at, put}
 use Rattle.plain_model.specs.Machine.{State}
-use Rattle.plain_model.specs.Changes.{after, change, fresh, made_way, opened, touched, tree_after, way_of, with_bytes}
+use Rattle.plain_model.specs.Changes.{after, change, fresh, made_way, opened, opens, touched, tree_after, way_of, with_bytes}
 use Rattle.plain_model.proofs.Flat.{some-same}
 use Rattle.plain_model.proofs.Keeping.{put-here}
 use Rattle.mount_laws.specs.Nodes.{IsMade, touched_by}
@@ -76,6 +76,10 @@ module _ (U V : Layer) (lowers : List Layer) (s : State) (c : ℕ) (p : Path) (f
   leads-made =
       subst (λ x. LeadsIfMade x s.tree (tree_after s c (Open p f mode)) p (New s.serial)) absent
       (paths-after U V lowers s c (Open p f mode) passes)
+
+  -- the path leads to the new node
+  pub new-here : node_at (tree_after s c (Open p f mode)) p ≡ Some (opens (node_at s.tree p) s.serial)
+  new-here = leads-made.here ∙ ap (λ x. Some (opens x s.serial)) (sym absent)
 
   -- the tree after it
   tree-made : tree_after s c (Open p f mode) ≡ made_way s.tree s.serial (way_of s.tree p) (Leaf (File []) (fresh mode) Own 1)

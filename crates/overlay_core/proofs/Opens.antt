@@ -1,6 +1,5 @@
 -- Opens: which descriptor is given, what is refused, and what is kept for watches when one is prepared and taken back.
 use Rattle.std.proofs.Common.{◌≡◌, ◌≢◌, ◌∷◌, ◌&&◌, ◌||◌, ℕ, true, false, not, List, [], Option, None, Some, is_some, is_none, nat_eq, refl, sym, ap, subst, ◌∙◌, inl, inr}
-use Rattle.std.specs.Prelude.{IfOk, OnErr, Result, Ok, Err}
 use Rattle.std.specs.List.{list_any}
 use Rattle.std.specs.BTreeMap.{get}
 use Rattle.std.specs.Ordering.{nat_cmp}
@@ -15,15 +14,12 @@ use Rattle.ov_base.specs.declared.errno.Errno.{Errno}
 use Rattle.ov_base.specs.declared.errno.Errno.TheVariants.{EEXIST, EINVAL, EISDIR, ELOOP, EMFILE, ENOENT, ENOTDIR}
 use Rattle.ov_base.specs.declared.node_id.NodeId.{NodeId}
 use Rattle.ov_base.specs.declared.node_id.NodeId.TheVariants.{New}
-use Rattle.ov_base.specs.declared.reply.Reply.{Reply}
-use Rattle.ov_base.specs.declared.reply.Reply.TheVariants.{Refused}
-use Rattle.plain_model.specs.Layers.{Contents, Folder, Layer, Path, Shown, is_directory, shows}
+use Rattle.plain_model.specs.Layers.{Layer, Path, Shown, is_directory, shows}
 use Rattle.plain_model.specs.Tree.{node_at}
-use Rattle.plain_model.specs.Watching.{On, Rule}
+use Rattle.plain_model.specs.Watching.{On}
 use Rattle.plain_model.specs.Machine.{State, handle_of, lowest_free}
 use Rattle.plain_model.specs.Refusals.{bad_flags, bad_mode, refusal, when}
 use Rattle.plain_model.specs.Settling as settling
-use Rattle.plain_model.specs.Runs.{Called}
 use Rattle.plain_model.specs.Alike.{AreAllAlike, is_watched}
 use Rattle.plain_model.proofs.Clients.{attached-is}
 use Rattle.plain_model.proofs.Looking.{when-not}
@@ -48,16 +44,15 @@ use Rattle.notice_laws.proofs.ShownParents.{walked-shown}
 use Rattle.notifier.specs.Opening.{AreGiven, HoldsBoth, HoldsWay, IsBack}
 use Rattle.mount_calls.specs.declared.mount.Mount.{Mount}
 use Rattle.mount_calls.specs.Attaching.{is_attached, opened_by}
-use Rattle.mount_calls.specs.Living.{KeepsNamed, StaysLive}
-use Rattle.mount_calls.specs.Offers.{is_offered}
-use Rattle.mount_calls.specs.States.{IsStateOf, Serves, StaysState}
-use Rattle.mount_calls.proofs.Serving.{free-lowest, free-none, opened-is}
+use Rattle.mount_calls.specs.States.{IsStateOf}
+use Rattle.mount_calls.proofs.Serving.{free-lowest, free-none, opened-is, slot-closed}
 use Rattle.overlay_core.specs.Opens.{IsFull, IsLowestFree}
-use Rattle.overlay_core.specs.Watching.{Agrees, Goes, HasState, Stays}
+use Rattle.overlay_core.specs.Watching.{Agrees, HasState}
 use Rattle.overlay_core.proofs.Arriving.{any-forth}
-use Rattle.overlay_core.proofs.Leaving.{free-tracked, slot-free}
-use Rattle.overlay_core.proofs.Performing.{goes-never, known-room, performed}
-use Rattle.overlay_core.proofs.Watching.{stays, upper_of}
+use Rattle.overlay_core.proofs.Leaving.{free-tracked}
+use Rattle.overlay_core.proofs.Performing.{known-room}
+use Rattle.overlay_core.proofs.Shown.{directory-no-link, directory-some, none-some}
+use Rattle.overlay_core.proofs.Watching.{upper_of}
 
 -- THE DESCRIPTOR: the lowest that is free for the mount is the lowest that is free for the machine
 pub lowest-given : (m : Mount) (s : State) (c d : ℕ) → IsStateOf m s → is_attached m.clients c ≡ true → IsLowestFree m.clients c d →
@@ -92,17 +87,13 @@ free-watched m k c d has free = by (tracked_by k.handles c d) refl
     one : (x : HasState m k) → tracked_by k.handles c d ≡ None
     one x =
         free-tracked k.objects x.1.tracks.bearers (tracked_by k.handles c d) (handle_of x.0.tables c d) (x.1.tracks.slots c d)
-        (slot-free _ (opened_by m.clients c d) (handle_of x.0.tables c d) (x.1.stands.tables.slots c d) free)
+        (slot-closed _ (opened_by m.clients c d) (handle_of x.0.tables c d) (x.1.stands.tables.slots c d) free)
 
     by : (o : Option TrackedHandle) → tracked_by k.handles c d ≡ o → tracked_by k.handles c d ≡ None
     by None is = is
     by (Some h) is = absurd (∥∥₁_elim has ⊥_prop (λ x. let no : Some h ≡ None = sym is ∙ one x in cc))
 
--- what is none is not there, and what is not there is none
-none-some : (x : Option Shown) → is_none x ≡ true → is_some x ≡ false
-none-some None h = refl
-none-some (Some x) h = absurd (false≢true h)
-
+-- what is not there is none
 some-none : (o : Option NodeId) → is_some o ≡ false → o ≡ None
 some-none None h = refl
 some-none (Some d) h = absurd (false≢true (sym h))
@@ -164,16 +155,6 @@ module _ (U : Layer) (lowers : List Layer) (s : State) (m : IsMountOf U lowers s
       false≢true (sym no ∙ ap (λ b. b && not f.create) none ∙ ap not creates)
   open-creates (inr link) creates = false≢true (sym open-no-link ∙ link)
 
--- what is a directory is shown, and isn't a link
-directory-some : (x : Option Shown) → is_directory x ≡ true → is_some x ≡ true
-directory-some None h = absurd (false≢true h)
-directory-some (Some x) h = refl
-
-directory-no-link : (x : Option Shown) → is_directory x ≡ true → shows_link x ≡ false
-directory-no-link None h = refl
-directory-no-link (Some (Folder i k a)) h = refl
-directory-no-link (Some (Contents i k inode)) h = absurd (false≢true h)
-
 -- what stands at a path, and isn't nothing, is shown
 pub object-some : (U : Layer) (lowers : List Layer) (p : Path) (o : Object) → IsObject U lowers p o → o ≢ object.Other →
     is_some (shows 0 (U ∷ lowers) p) ≡ true
@@ -230,25 +211,7 @@ back-agrees m s from to known back a = record {
   tracks = back-tracks (upper_of m) s from to known back a.tracks;
 }
 
--- a call that is refused in each state goes so, whatever the mount says of it
-pub goes-refused-each : {E : Type 0} (rule : Rule) (c : ℕ) (k : Call) (old new : Mount) (from : Notified) (result : Result Reply E) →
-    is_offered k ≡ true → is_attached old.clients c ≡ true →
-    IfOk result (λ r. is_offered k ≡ true → (s : State) → IsStateOf old s → Serves (refusal s c k) s c k r new) →
-    new.layers.lowers ≡ old.layers.lowers →
-    IfOk result (λ r. is_offered k ≡ true → (s : State) → IsStateOf old s → refusal s c k ≡ None → KeepsNamed s c old.layers new.layers k) →
-    IfOk result (λ r. (e : Errno) → r ≡ Refused e → new.layers ≡ old.layers) →
-    ((s : State) → Agrees old from s → refusal s c k ≢ None) → IfOk result (λ r. Goes rule old from c (Called k r) new from)
-goes-refused-each rule c k old new from (Ok r) offered there serves lowers named refused never =
-    goes-never rule c k r old new from (performed c k r old new offered there serves lowers named refused) never
-goes-refused-each rule c k old new from (Err e) offered there serves lowers named refused never = tt
-
--- and where memory ran out all is as it was
-pub stays-err : {A E : Type 0} (result : Result A E) (old new : Mount) (from : Notified) → OnErr result (StaysState old new) →
-    OnErr result (StaysLive old.layers new.layers) → OnErr result (Stays old from new from)
-stays-err (Ok a) old new from states live = tt
-stays-err (Err e) old new from states live = stays old new from from states live (λ s t. t)
-
--- so is an open where all descriptors are open
+-- an open where all descriptors are open is refused in each state
 pub never-full : (m : Mount) (k : Notified) (c : ℕ) (p : Path) (f : OpenFlags) (mode : ℕ) (call : Call) → call ≡ Open p f mode →
     is_attached m.clients c ≡ true → IsFull m.clients c → (s : State) → Agrees m k s → refusal s c call ≢ None
 never-full m k c p f mode call is there full s a fine =

@@ -11,10 +11,11 @@ use Rattle.ov_base.specs.declared.node_id.NodeId.{NodeId}
 use Rattle.ov_base.specs.declared.reply.Reply.{Reply}
 use Rattle.ov_base.specs.declared.reply.Reply.TheVariants.{Descriptor, Refused}
 use Rattle.plain_model.specs.Layers.{Layer, Path}
-use Rattle.plain_model.specs.Tree.{node_at}
+use Rattle.plain_model.specs.Tree.{node_at, node_of}
 use Rattle.plain_model.specs.Watching.{Rule}
-use Rattle.plain_model.specs.Machine.{DESCRIPTORS_MAX, State, lowest_free}
+use Rattle.plain_model.specs.Machine.{DESCRIPTORS_MAX, Live, State, lowest_free}
 use Rattle.plain_model.specs.Refusals.{refusal}
+use Rattle.plain_model.specs.Changes.{after, opens, view_of}
 use Rattle.plain_model.specs.Replies.{reply_of}
 use Rattle.plain_model.specs.Runs.{Called}
 use Rattle.layer_tree.specs.Tree.{layer_of}
@@ -31,14 +32,17 @@ use Rattle.notice_laws.proofs.OpenTold.{law_of_opened}
 use Rattle.notifier.specs.Notifying.{IsFree}
 use Rattle.notifier.specs.Opening.{AreGiven, IsBack, IsReady, IsReadyNew}
 use Rattle.mount_calls.specs.declared.mount.Mount.{Mount}
-use Rattle.mount_calls.specs.States.{Serves}
+use Rattle.mount_calls.specs.Attaching.{file_by}
+use Rattle.mount_calls.specs.Files.{upper_of as key_of}
+use Rattle.mount_calls.specs.States.{IsStateOf, Serves}
 use Rattle.overlay_core.specs.Opens.{IsLowestFree}
 use Rattle.overlay_core.specs.Watching.{Agrees, Goes, HasState}
 use Rattle.overlay_core.proofs.Lifted.{free-key, free-squashed, lifted-key}
 use Rattle.overlay_core.proofs.Performing.{Performed, passing}
 use Rattle.overlay_core.proofs.Watching.{allowed-by, goes, tracks-same, upper_of}
 use Rattle.overlay_core.proofs.Opens.{back-tracks, lowest-given, object-some, open-absent, open-no-link, open-shown, ready-tracks, way-tracks}
-use Rattle.overlay_core.proofs.OpenedNodes.{held-vacant, new-key, new-vacant, opened-file, opened-leads, opened-touches}
+use Rattle.overlay_core.proofs.OpenedKeys.{opened-key, writes-live}
+use Rattle.overlay_core.proofs.OpenedNodes.{held-vacant, new-here, new-key, new-vacant, opened-file, opened-leads, opened-touches}
 
 -- A CALL THAT OPENS, as a mount made it
 module _ (rule : Rule) (c : ℕ) (p : Path) (f : OpenFlags) (mode : ℕ) (k : Call) (is : k ≡ Open p f mode) (r : Reply) (old new : Mount)
@@ -56,11 +60,17 @@ module _ (rule : Rule) (c : ℕ) (p : Path) (f : OpenFlags) (mode : ℕ) (k : Ca
   open-passes : (s : State) → Agrees old from s → refusal s c k ≡ None → Passes U V L s c (Open p f mode)
   open-passes s a fine = subst (λ j. Passes U V L s c j) is (passing rule c k r old new from done s a fine)
 
-  -- the key that is found is that of before's lower layers
-  found-here : (key : ℕ) → ((j : ℕ) (last : Bool) → IsObject V (lowers_of new.layers) p (object.Upper j last) → key ≡ j) →
+  -- the key of the new handle is that of the file of the upper that stands at the path
+  found-here : (s : State) → (a : Agrees old from s) → refusal s c k ≡ None → (fd : ℕ) → IsLowestFree old.clients c fd →
+      node_at (after s c (Open p f mode)).tree p ≡ Some (opens (node_at s.tree p) s.serial) →
+      view_of f (node_of s.tree (node_at s.tree p)) ≡ Live → (key : ℕ) → key ≡ unwrap_or (key_of (file_by new.clients c fd)) 0 →
       (j : ℕ) (last : Bool) → IsObject V L p (object.Upper j last) → key ≡ j
-  found-here key found j last at =
-      found j last (subst (λ (x : List Layer). IsObject V x p (object.Upper j last)) (sym (ap (λ x. map layer_of x.items) done.lowers)) at)
+  found-here s a fine fd low here sees key found j last at =
+      found
+      ∙ opened-key new s c p f mode fd
+      (subst (λ x. IsStateOf new (after s c x)) is (subst (λ o. Serves o s c k r new) fine (done.serves s a.stands)).1)
+      (lowest-given old s c fd a.stands done.there low) here sees j last
+      (subst (λ (x : List Layer). IsObject V x p (object.Upper j last)) (sym (ap (λ x. map layer_of x.items) done.lowers)) at)
 
   -- refused, and what was prepared taken back
   pub goes-unopened : (to : Notified) → ((d : ℕ) → r ≢ Descriptor d) → IsBack from to → AreKnown to → Goes rule old from c (Called k r) new to
@@ -73,10 +83,8 @@ module _ (rule : Rule) (c : ℕ) (p : Path) (f : OpenFlags) (mode : ℕ) (k : Ca
 
   -- OF WHAT STANDS THERE
   module _ (o : Object) (stands : IsObject U L p o) (something : o ≢ object.Other) (known : AreKnown from) (given : AreGiven from.objects)
-      (ready : Notified) (fd : ℕ) (is_ready : IsReady from ready c fd p o) (key : ℕ)
-      (found : f.writes ≡ true → o ≡ object.Lower →
-      (j : ℕ) (last : Bool) → IsObject V (lowers_of new.layers) p (object.Upper j last) → key ≡ j)
-      (isnt : (e : Errno) → r ≢ Refused e) where
+      (ready : Notified) (fd : ℕ) (is_ready : IsReady from ready c fd p o) (low : IsLowestFree old.clients c fd) (key : ℕ)
+      (found : key ≡ unwrap_or (key_of (file_by new.clients c fd)) 0) (isnt : (e : Errno) → r ≢ Refused e) where
     -- what is kept with what the open holds
     abbrev held : Notified
     held = record from { objects = ready.objects }
@@ -93,6 +101,19 @@ module _ (rule : Rule) (c : ℕ) (p : Path) (f : OpenFlags) (mode : ℕ) (k : Ca
     node-there : (s : State) → Agrees old from s → (d : NodeId) × (node_at s.tree p ≡ Some d)
     node-there s a = node-shown U L s a.stands.layers p (object-some U L p o stands something)
 
+    -- where the path leads after it
+    still-there : (s : State) → (a : Agrees old from s) → refusal s c k ≡ None →
+        node_at (after s c (Open p f mode)).tree p ≡ Some (opens (node_at s.tree p) s.serial)
+    still-there s a fine =
+        let d = node-there s a in
+        opened-leads U V L s c p f mode (open-passes s a fine) d.0 d.1 d.0 p d.1 ∙ ap (λ x. Some (opens x s.serial)) (sym d.1)
+
+    -- so the key of the handle is that of the file
+    found-there : (s : State) → (a : Agrees old from s) → refusal s c k ≡ None → f.writes ≡ true →
+        (j : ℕ) (last : Bool) → IsObject V L p (object.Upper j last) → key ≡ j
+    found-there s a fine writes =
+        found-here s a fine fd low (still-there s a fine) (writes-live f (node_of s.tree (node_at s.tree p)) writes) key found
+
     -- nothing is tracked under the key by which it comes into the upper
     pub opened-free : ∥ HasState old from ∥₁ → f.writes ≡ true → IsFree ready.objects p o key
     opened-free has writes =
@@ -103,12 +124,11 @@ module _ (rule : Rule) (c : ℕ) (p : Path) (f : OpenFlags) (mode : ℕ) (k : Ca
         let pass = open-passes s a fine in
         let d = node-there s a in
         free-key U V L s c (Open p f mode) pass p (opened-touches s p f mode writes) (opened-file s c p f mode (ap is_none d.1))
-        (opened-leads U V L s c p f mode pass d.0 d.1) held (held-tracks s a fine) key o stands (λ lower. found-here key (found writes lower)))
+        (opened-leads U V L s c p f mode pass d.0 d.1) held (held-tracks s a fine) key o stands (λ lower. found-there s a fine writes))
 
     -- told, it goes as the machine's
-    pub goes-opened : (to : Notified) → IsLowestFree old.clients c fd → AreKnown to → Opened rule held to c fd p o key f →
-        Goes rule old from c (Called k r) new to
-    goes-opened to low knows told =
+    pub goes-opened : (to : Notified) → AreKnown to → Opened rule held to c fd p o key f → Goes rule old from c (Called k r) new to
+    goes-opened to knows told =
         goes rule c k r old new from to done.there done.serves (λ s a e at. absurd (isnt e at))
         (λ s a fine.
         let pass = open-passes s a fine in
@@ -118,14 +138,13 @@ module _ (rule : Rule) (c : ℕ) (p : Path) (f : OpenFlags) (mode : ℕ) (k : Ca
         (law_of_opened rule U V L s c fd p f mode pass (lowest-given old s c fd a.stands done.there low) o key stands held to
         (λ writes.
         lifted-key U V L s c (Open p f mode) pass p (opened-touches s p f mode writes) (opened-file s c p f mode (ap is_none d.1))
-        (opened-leads U V L s c p f mode pass d.0 d.1) held t key o stands (λ lower. found-here key (found writes lower)))
+        (opened-leads U V L s c p f mode pass d.0 d.1) held t key o stands (λ lower. found-there s a fine writes))
         t knows told))
 
   -- OF A FILE THAT IT MAKES
   module _ (nothing : IsObject U L p object.Other) (known : AreKnown from) (given : AreGiven from.objects)
-      (ready : Notified) (fd : ℕ) (is_ready : IsReadyNew from ready c fd p) (key : ℕ)
-      (found : (j : ℕ) (last : Bool) → IsObject V (lowers_of new.layers) p (object.Upper j last) → key ≡ j)
-      (isnt : (e : Errno) → r ≢ Refused e) where
+      (ready : Notified) (fd : ℕ) (is_ready : IsReadyNew from ready c fd p) (low : IsLowestFree old.clients c fd) (key : ℕ)
+      (found : key ≡ unwrap_or (key_of (file_by new.clients c fd)) 0) (isnt : (e : Errno) → r ≢ Refused e) where
     -- what is kept with the way in that the open holds
     abbrev entered : Notified
     entered = record from { objects = is_ready.holds.mid }
@@ -142,6 +161,14 @@ module _ (rule : Rule) (c : ℕ) (p : Path) (f : OpenFlags) (mode : ℕ) (k : Ca
     node-absent : (s : State) → Agrees old from s → refusal s c k ≡ None → node_at s.tree p ≡ None
     node-absent s a fine = open-absent U L s a.stands.layers c p f mode (subst (λ j. refusal s c j ≡ None) is fine) nothing
 
+    -- the key of the handle is that of the file
+    found-new : (s : State) → (a : Agrees old from s) → (fine : refusal s c k ≡ None) →
+        (j : ℕ) (last : Bool) → IsObject V L p (object.Upper j last) → key ≡ j
+    found-new s a fine =
+        let absent = node-absent s a fine in
+        found-here s a fine fd low (new-here U V L s c p f mode (open-passes s a fine) absent)
+        (ap (λ x. view_of f (node_of s.tree x)) absent) key found
+
     -- nothing is tracked under the key by which the file comes there
     pub made-vacant : ∥ HasState old from ∥₁ → IsVacant ready.objects (Upper key)
     made-vacant has n at =
@@ -151,19 +178,18 @@ module _ (rule : Rule) (c : ℕ) (p : Path) (f : OpenFlags) (mode : ℕ) (k : Ca
         let fine = allowed-by s c k r new (done.serves s a.stands) isnt in
         let pass = open-passes s a fine in
         let absent = node-absent s a fine in
-        let shown = new-key U V L s c p f mode pass absent key (found-here key found) in
+        let shown = new-key U V L s c p f mode pass absent key (found-new s a fine) in
         held-vacant is_ready.holds.mid ready.objects is_ready.handle.object key is_ready.holds.object
         (new-vacant U V L s c p f mode pass absent entered (entered-tracks s a fine) key shown.0 shown.1) n at)
 
     -- told, it goes as the machine's
-    pub goes-made : (to : Notified) → IsLowestFree old.clients c fd → AreKnown to → OpenedNew rule entered to c fd p key →
-        Goes rule old from c (Called k r) new to
-    goes-made to low knows told =
+    pub goes-made : (to : Notified) → AreKnown to → OpenedNew rule entered to c fd p key → Goes rule old from c (Called k r) new to
+    goes-made to knows told =
         goes rule c k r old new from to done.there done.serves (λ s a e at. absurd (isnt e at))
         (λ s a fine.
         let pass = open-passes s a fine in
         let absent = node-absent s a fine in
-        let shown = new-key U V L s c p f mode pass absent key (found-here key found) in
+        let shown = new-key U V L s c p f mode pass absent key (found-new s a fine) in
         subst (λ j. Resumes rule V s c j to) (sym is)
         (law_of_opened_new rule U V L s c fd p f mode pass (lowest-given old s c fd a.stands done.there low) absent key shown.0 shown.1
         entered to (entered-tracks s a fine) knows told))

@@ -1,6 +1,6 @@
 -- Calls that a mount makes and that answer that they are done, and what is kept for watches then.
 use Rattle.std.proofs.Common.{◌≡◌, ◌≢◌, ℕ, true, None, IsSome, is_some, sym, ap, subst, ◌∙◌}
-use Rattle.std.specs.Prelude.{OnErr, Result, Ok, Err}
+use Rattle.std.specs.Prelude.{IfOk, OnErr, Result, Ok, Err}
 use mathlib.Core.Logic.{∥∥₁_map}
 use Rattle.ov_base.specs.declared.call.Call.{Call}
 use Rattle.ov_base.specs.declared.errno.Errno.{Errno}
@@ -19,11 +19,11 @@ use Rattle.notice_laws.specs.Notified.{AreKnown, Notified, Passes, Resumes}
 use Rattle.notice_laws.proofs.FewerObjects.{law_of_fewer_numbers}
 use Rattle.mount_calls.specs.declared.mount.Mount.{Mount}
 use Rattle.mount_calls.specs.Attaching.{is_attached}
-use Rattle.mount_calls.specs.Living.{KeepsNamed}
+use Rattle.mount_calls.specs.Living.{KeepsNamed, StaysLive}
 use Rattle.mount_calls.specs.Offers.{is_offered}
-use Rattle.mount_calls.specs.States.{HasStateOf, IsStateOf, Serves}
-use Rattle.overlay_core.specs.Watching.{Agrees, Goes, HasState}
-use Rattle.overlay_core.proofs.Watching.{goes, passes, tracks-same, upper_of}
+use Rattle.mount_calls.specs.States.{HasStateOf, IsStateOf, Serves, StaysState}
+use Rattle.overlay_core.specs.Watching.{Agrees, Goes, HasState, Stays}
+use Rattle.overlay_core.proofs.Watching.{goes, passes, stays, tracks-same, upper_of}
 
 -- what a call says that a mount made, and answered so
 pub record Performed (c : ℕ) (k : Call) (r : Reply) (old new : Mount) : Type 0 where
@@ -66,6 +66,24 @@ goes-never rule c k r old new from done never =
 -- so a call says that it made
 pub performed : (c : ℕ) (k : Call) (r : Reply) (old new : Mount) → is_offered k ≡ true → is_attached old.clients c ≡ true → (is_offered k ≡ true → (s : State) → IsStateOf old s → Serves (refusal s c k) s c k r new) → new.layers.lowers ≡ old.layers.lowers → (is_offered k ≡ true → (s : State) → IsStateOf old s → refusal s c k ≡ None → KeepsNamed s c old.layers new.layers k) → ((e : Errno) → r ≡ Refused e → new.layers ≡ old.layers) → Performed c k r old new
 performed c k r old new offered there serves lowers named refused = record { there = there; serves = serves offered; lowers = lowers; named = named offered; refused = refused }
+
+-- a call that is refused in each state goes so, whatever the mount says of it, where memory doesn't run out
+pub goes-refused-each : {E : Type 0} (rule : Rule) (c : ℕ) (k : Call) (old new : Mount) (from : Notified) (result : Result Reply E) →
+    is_offered k ≡ true → is_attached old.clients c ≡ true →
+    IfOk result (λ r. is_offered k ≡ true → (s : State) → IsStateOf old s → Serves (refusal s c k) s c k r new) →
+    new.layers.lowers ≡ old.layers.lowers →
+    IfOk result (λ r. is_offered k ≡ true → (s : State) → IsStateOf old s → refusal s c k ≡ None → KeepsNamed s c old.layers new.layers k) →
+    IfOk result (λ r. (e : Errno) → r ≡ Refused e → new.layers ≡ old.layers) →
+    ((s : State) → Agrees old from s → refusal s c k ≢ None) → IfOk result (λ r. Goes rule old from c (Called k r) new from)
+goes-refused-each rule c k old new from (Ok r) offered there serves lowers named refused never =
+    goes-never rule c k r old new from (performed c k r old new offered there serves lowers named refused) never
+goes-refused-each rule c k old new from (Err e) offered there serves lowers named refused never = tt
+
+-- and where it does, each state that agreed agrees still
+pub stays-err : {A E : Type 0} (result : Result A E) (old new : Mount) (from : Notified) → OnErr result (StaysState old new) →
+    OnErr result (StaysLive old.layers new.layers) → OnErr result (Stays old from new from)
+stays-err (Ok a) old new from states live = tt
+stays-err (Err e) old new from states live = stays old new from from states live (λ s t. t)
 
 -- what holds where a call wanted memory
 pub on-err : {A E : Type 0} (r : Result A E) (P : Type 0) → P → OnErr r P

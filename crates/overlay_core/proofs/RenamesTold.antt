@@ -30,13 +30,12 @@ use Rattle.notifier.specs.Moving.{IsFreeFor, IsPlaceFor}
 use Rattle.mount_calls.specs.declared.mount.Mount.{Mount}
 use Rattle.mount_calls.specs.Attaching.{is_attached}
 use Rattle.mount_calls.specs.Living.{KeepsNamed, StaysLive}
-use Rattle.mount_calls.specs.Offers.{is_offered}
 use Rattle.mount_calls.specs.Renaming.{rename_reply}
 use Rattle.mount_calls.specs.States.{IsStateOf, Serves, StaysState}
 use Rattle.overlay_core.specs.Watching.{Agrees, Goes, HasState, Stays}
 use Rattle.overlay_core.proofs.MovesFree.{found-one, is-bare, key-free, key-squashed, lifted-found, place-squashed, root-refused}
 use Rattle.overlay_core.proofs.MovesHeld.{IsGivenUp, IsHeldFor, back-tracks, few-clients, ready-tracks}
-use Rattle.overlay_core.proofs.Performing.{Performed, goes-done, goes-never, goes-refused, passing, performed}
+use Rattle.overlay_core.proofs.Performing.{Performed, goes-done, goes-refused, passing}
 use Rattle.overlay_core.proofs.Watching.{allowed-by, goes, stays, upper_of}
 
 -- what a mount says of a rename that it made
@@ -71,24 +70,6 @@ moved-told x b d o is same h = subst (λ e. o ≡ not e) same (subst (λ y. IfOk
 pub split-empty : {A : Type 0} (q : Path) (P : A → Type 0) (o : Option A) → is_some o ≡ false → MatchOption o (q ≡ []) P → q ≡ []
 split-empty q P None none h = h
 split-empty q P (Some x) none h = absurd (false≢true (sym none))
-
--- a call that is always refused leaves what is tracked, where memory doesn't run out
-pub never-done : {E : Type 0} (rule : Rule) (c : ℕ) (k : Call) (x : Result Reply E) (old new : Mount) (from : Notified) → is_offered k ≡ true →
-    is_attached old.clients c ≡ true →
-    IfOk x (λ r. is_offered k ≡ true → (s : State) → IsStateOf old s → Serves (refusal s c k) s c k r new) →
-    new.layers.lowers ≡ old.layers.lowers →
-    IfOk x (λ r. is_offered k ≡ true → (s : State) → IsStateOf old s → refusal s c k ≡ None → KeepsNamed s c old.layers new.layers k) →
-    IfOk x (λ r. (e : Errno) → r ≡ Refused e → new.layers ≡ old.layers) → ((s : State) → Agrees old from s → refusal s c k ≢ None) →
-    IfOk x (λ r. Goes rule old from c (Called k r) new from)
-never-done rule c k (Ok r) old new from offered there serves lowers named refused never =
-    goes-never rule c k r old new from (performed c k r old new offered there serves lowers named refused) never
-never-done rule c k (Err e) old new from offered there serves lowers named refused never = tt
-
--- and where it does, each state that agreed agrees still
-pub stays-wanted : {A E : Type 0} (x : Result A E) (old new : Mount) (from : Notified) → OnErr x (StaysState old new) →
-    OnErr x (StaysLive old.layers new.layers) → OnErr x (Stays old from new from)
-stays-wanted (Ok a) old new from state live = tt
-stays-wanted (Err e) old new from state live = stays old new from from state live (λ s t. t)
 
 -- each client's handles can be counted
 pub clients-counted : (m : Mount) (from mid : Notified) → mid.handles ≡ from.handles → ∥ HasState m from ∥₁ →

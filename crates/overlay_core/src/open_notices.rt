@@ -1,5 +1,5 @@
 // What opens tell: those of what stands at a path, and those that make a file.
-ghost use Rattle.std.specs.Prelude.{◌≡◌, ◌≢◌, ℕ, Bool, None, true, IfNone, IfOk, IfSome, OnErr};
+ghost use Rattle.std.specs.Prelude.{◌≡◌, ◌≢◌, ℕ, None, true, IfNone, IfOk, IfSome, OnErr};
 ghost use Rattle.plain_model.specs.Machine.{State};
 ghost use Rattle.plain_model.specs.Refusals.{refusal};
 ghost use Rattle.plain_model.specs.Runs.{Called};
@@ -47,17 +47,6 @@ impl<F: Callback, R: Rule> Watched<F, R> {
         self.mount.perform(client, call)
     }
 
-    // The key under which a file of a lower layer that was opened for writing stands at a path now; no other open needs one.
-    fn key_opened(&self, path: &Path, object: Object, writes: bool) -> usize
-        ensures { writes ≡ true → object ≡ stands.Lower → (key : ℕ) (last : Bool) → IsObject (layer_of self.now.mount.layers.upper) (lowers_of self.now.mount.layers) path.now (stands.Upper key last) → result ≡ key }
-    {
-        if writes {
-            self.key_lifted(path, object)
-        } else {
-            0
-        }
-    }
-
     // Opens what stands at a path, under a descriptor that is free, and tells its directory and the object.
     fn open_there(
         &mut self,
@@ -96,7 +85,7 @@ impl<F: Callback, R: Rule> Watched<F, R> {
             self.notifier.lawful();
             return Ok(reply);
         };
-        let key = self.key_opened(path, object, flags.writes);
+        let key = self.mount.key_opened(client, descriptor);
         self.notifier
             .opened(client, descriptor, path, object, key, flags);
         self.notifier.lawful();
@@ -138,7 +127,7 @@ impl<F: Callback, R: Rule> Watched<F, R> {
             self.notifier.lawful();
             return Ok(reply);
         };
-        let key = self.mount.key_at(path);
+        let key = self.mount.key_opened(client, descriptor);
         self.notifier.opened_new(client, descriptor, path, key);
         self.notifier.lawful();
         Ok(reply)

@@ -1,5 +1,4 @@
 // Command lines, and the texts and statuses of faults.
-use ov_script::{Escaped, EscapedWord};
 use ov_server::{Fault, Invocation, command_line};
 use std::test::Fail;
 
@@ -37,23 +36,6 @@ fn tells_faults(rt: HostRuntime) -> Result<(), Fail> {
         assert_eq!(rt; fault.status(), status, "{text}");
         let found = fault.to_string(alloc)?;
         assert_eq!(rt; found.as_str(), text);
-    }
-    Ok(())
-}
-
-#[test]
-fn escapes_and_reads_back(rt: HostRuntime) -> Result<(), Fail> {
-    let alloc = rt.alloc();
-    for (bytes, word) in [
-        (b"".as_slice(), "\\-"),
-        (b"a!~".as_slice(), "a!~"),
-        (b"a b\\".as_slice(), "a\\x20b\\x5c"),
-        (b"\x00\x7f\xff-".as_slice(), "\\x00\\x7f\\xff-"),
-    ] {
-        let text = Escaped(bytes).to_string(alloc)?;
-        assert_eq!(rt; text.as_str(), word);
-        let back = EscapedWord::parse(word.as_bytes()).ok_or("a word")?;
-        assert!(rt; back.bytes(alloc)?.as_slice() == bytes);
     }
     Ok(())
 }

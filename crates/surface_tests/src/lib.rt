@@ -1,14 +1,12 @@
 //! Tests of what no script reaches: streams that fail, command lines, options, schedules of jobs, callbacks that are asked, hooks that are
-//! too many, places that are freed, and public functions that no command calls; and of renames, beside what is open. Scripts and manifests
-//! with what they come to are rows of `side_by_side`.
+//! too many, places that are freed, and public functions that no command calls. Scripts and manifests with what they come to are rows of
+//! `side_by_side`.
 #![tactic(auto)]
 
 #[cfg(test)]
 mod command_lines;
 #[cfg(test)]
 mod cores;
-#[cfg(test)]
-mod files;
 #[cfg(test)]
 mod fixtures;
 #[cfg(test)]
@@ -18,13 +16,11 @@ mod hooks;
 #[cfg(test)]
 mod look_ups;
 #[cfg(test)]
-mod making;
-#[cfg(test)]
 mod manifests;
 #[cfg(test)]
-mod moves;
+mod marks;
 #[cfg(test)]
-mod renames;
+mod parents;
 #[cfg(test)]
 mod schedules;
 #[cfg(test)]

@@ -65,7 +65,7 @@ opened_new-requires-clause-vacant g c =
     let done = performed client call reply old new (ap is_offered is) c.requires.there said.serves said.lowers said.named said.refused in
     made-vacant g.R.Rule.shows client c.args.path.now c.requires.call.0 c.requires.call.1 call is reply old new from done
     c.requires.nothing c.lawful.ensures.known c.lawful.ensures.given c.prepare_new-prepared.new.self
-    c.args.descriptor c.in_ok-prepared.ensures.ready c.key_at-key.result c.key_at-key.ensures
+    c.args.descriptor c.in_ok-prepared.ensures.ready c.requires.free c.key_opened-key.result c.key_opened-key.ensures
     (λ e refused. let no = sym c.in-Descriptor.is ∙ refused in cc) c.requires.state
 
 pub returns-clause-goes : goal.returns-clause-goes
@@ -82,6 +82,6 @@ returns-clause-goes g c =
     let ready = c.in_ok-prepared.ensures.ready in
     goes-made g.R.Rule.shows client c.args.path.now c.requires.call.0 c.requires.call.1 call is reply old new from done
     c.requires.nothing c.lawful.ensures.known c.lawful.ensures.given c.prepare_new-prepared.new.self
-    c.args.descriptor ready c.key_at-key.result c.key_at-key.ensures
-    (λ e refused. let no = sym c.in-Descriptor.is ∙ refused in cc) c.opened_new.new.self c.requires.free c.lawful-3.ensures.known
+    c.args.descriptor ready c.requires.free c.key_opened-key.result c.key_opened-key.ensures
+    (λ e refused. let no = sym c.in-Descriptor.is ∙ refused in cc) c.opened_new.new.self c.lawful-3.ensures.known
     (c.opened_new.ensures from ready)

@@ -1,5 +1,4 @@
-use Rattle.overlay_core.proofs.Opens.{goes-refused-each, stays-err}
-use Rattle.overlay_core.proofs.Performing.{state-of}
+use Rattle.overlay_core.proofs.Performing.{goes-refused-each, state-of, stays-err}
 use Rattle.overlay_core.proofs.watched.Watched.open_refused.Goals as goal
 
 pub perform-requires-clause-state : goal.perform-requires-clause-state

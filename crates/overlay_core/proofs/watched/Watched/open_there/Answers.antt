@@ -65,7 +65,7 @@ opened-requires-clause-free g c =
     let done = performed client call reply old new (ap is_offered is) c.requires.there said.serves said.lowers said.named said.refused in
     opened-free g.R.Rule.shows client c.args.path.now c.args.flags c.requires.call.0 call is reply old new from done c.args.object
     c.requires.stands c.requires.something c.lawful.ensures.known c.lawful.ensures.given c.prepare_open-prepared.new.self
-    c.args.descriptor c.in_ok-prepared.ensures.ready c.key_opened-key.result c.key_opened-key.ensures
+    c.args.descriptor c.in_ok-prepared.ensures.ready c.requires.free c.key_opened-key.result c.key_opened-key.ensures
     (λ e refused. let no = sym c.in-Descriptor.is ∙ refused in cc) c.requires.state
 
 pub returns-clause-goes : goal.returns-clause-goes
@@ -82,6 +82,6 @@ returns-clause-goes g c =
     let ready = c.in_ok-prepared.ensures.ready in
     goes-opened g.R.Rule.shows client c.args.path.now c.args.flags c.requires.call.0 call is reply old new from done c.args.object
     c.requires.stands c.requires.something c.lawful.ensures.known c.lawful.ensures.given c.prepare_open-prepared.new.self
-    c.args.descriptor ready c.key_opened-key.result c.key_opened-key.ensures
-    (λ e refused. let no = sym c.in-Descriptor.is ∙ refused in cc) c.opened.new.self c.requires.free c.lawful-3.ensures.known
+    c.args.descriptor ready c.requires.free c.key_opened-key.result c.key_opened-key.ensures
+    (λ e refused. let no = sym c.in-Descriptor.is ∙ refused in cc) c.opened.new.self c.lawful-3.ensures.known
     (c.opened.ensures from ready)

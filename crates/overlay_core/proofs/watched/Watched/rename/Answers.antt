@@ -6,8 +6,8 @@ use Rattle.notice_laws.specs.Notified.{Notified}
 use Rattle.mount_calls.specs.Offers.{is_offered}
 use Rattle.mount_calls.specs.Renaming.{rename_reply}
 use Rattle.overlay_core.proofs.MovesHeld.{given-up, held-for}
-use Rattle.overlay_core.proofs.Performing.{state-of}
-use Rattle.overlay_core.proofs.RenamesTold.{as-called, back-agrees, clients-counted, goes-given-up, goes-moved, goes-same, moved-told, moving-free, moving-place, never-done, never-root, renamed-so, split-empty, stays-given-up, stays-wanted}
+use Rattle.overlay_core.proofs.Performing.{goes-refused-each, state-of, stays-err}
+use Rattle.overlay_core.proofs.RenamesTold.{as-called, back-agrees, clients-counted, goes-given-up, goes-moved, goes-same, moved-told, moving-free, moving-place, never-root, renamed-so, split-empty, stays-given-up}
 use Rattle.overlay_core.proofs.watched.Watched.rename.Goals as goal
 
 pub perform-requires-clause-state : goal.perform-requires-clause-state
@@ -17,14 +17,14 @@ pub returns-then-is_none-clause-goes : goal.returns-then-is_none-clause-goes
 returns-then-is_none-clause-goes g c =
     let said = c.perform.ensures in
     let root = split-empty c.args.new.now _ c.split_last.result (c.is_none.ensures ∙ ap not c.if-is_none.true) c.split_last.ensures in
-    never-done g.R.Rule.shows c.args.client c.args.call.now c.perform.result c.args.self.now.mount c.perform.new.self c.args.self.now.notifier
-    (ap is_offered c.requires.call) c.requires.there said.serves said.lowers said.named said.refused
+    goes-refused-each g.R.Rule.shows c.args.client c.args.call.now c.args.self.now.mount c.perform.new.self c.args.self.now.notifier
+    c.perform.result (ap is_offered c.requires.call) c.requires.there said.serves said.lowers said.named said.refused
     (λ s a fine. never-root c.args.self.now.mount c.args.self.now.notifier c.args.client c.args.old.now c.args.new.now root s a
     (subst (λ k. refusal s c.args.client k ≡ None) c.requires.call fine))
 
 pub returns-then-is_none-clause-err : goal.returns-then-is_none-clause-err
 returns-then-is_none-clause-err g c =
-    stays-wanted c.perform.result c.args.self.now.mount c.perform.new.self c.args.self.now.notifier c.perform.ensures.err c.perform.ensures.stays_live
+    stays-err c.perform.result c.args.self.now.mount c.perform.new.self c.args.self.now.notifier c.perform.ensures.err c.perform.ensures.stays_live
 
 pub prepare_move-prepared-requires-clause-clients : goal.prepare_move-prepared-requires-clause-clients
 prepare_move-prepared-requires-clause-clients g c =

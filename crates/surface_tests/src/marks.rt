@@ -1,6 +1,6 @@
-// What stands at a name of a layer is moved, a directory gets other marks, and a path is spelled for the layer under the upper.
+// A directory of a layer gets other marks, and a path is spelled for the layer under the upper.
 use crate::fixtures::{mount, path, read};
-use layer_tree::{Entry, Layer, Marks, Node, ROOT};
+use layer_tree::{Entry, Layer, Marks, ROOT};
 use merged_lookup::Found;
 use ov_base::{Name, Redirect};
 use std::alloc::Global;
@@ -8,10 +8,8 @@ use std::hash::RandomState;
 use std::process::Abort;
 use std::test::Fail;
 
-// A layer with a file in a directory and a whiteout in another, of which the first is moved over the second.
-const TWO_DIRECTORIES: &str = "layer = [{entry = [
-  {path = '/d', kind = 'dir'},
-  {path = '/d/f', kind = 'file'},
+// A layer with an opaque directory that has a whiteout.
+const OPAQUE: &str = "layer = [{entry = [
   {path = '/e', kind = 'dir', opaque = true},
   {path = '/e/w', kind = 'whiteout'},
 ]}, {}]";
@@ -28,35 +26,10 @@ fn key(rt: &impl Abort, alloc: Global, layer: &Layer, text: &str) -> usize {
     }
 }
 
-// At the old name a whiteout is left, and the file goes along.
-#[test]
-fn a_directory_is_moved_over_another(rt: HostRuntime) -> Result<(), Fail> {
-    let alloc = rt.alloc();
-    let (mut layer, _, _) = read(alloc, RandomState::new(&rt)?, TWO_DIRECTORIES)?;
-    let (d, e) = (name(&rt, alloc, b"d"), name(&rt, alloc, b"e"));
-    assert!(rt; layer.is_directory(ROOT));
-    let (Some(Entry::Object(moved)), Some(Entry::Object(replaced))) = (
-        layer.entry(ROOT, &d),
-        layer.entry(ROOT, &e),
-    ) else {
-        return Err(Fail::from("no directories"));
-    };
-    assert!(rt; moved != replaced);
-    let file = key(&rt, alloc, &layer, "/d/f");
-    let was = layer.move_reserved(ROOT, &d, ROOT, e, true);
-    assert!(rt; matches!(was, Some(Entry::Object(found)) if found == replaced));
-    assert!(rt; matches!(layer.entry(ROOT, &d), Some(Entry::Whiteout)));
-    assert_eq!(rt; key(&rt, alloc, &layer, "/e"), moved);
-    assert_eq!(rt; key(&rt, alloc, &layer, "/e/f"), file);
-    assert!(rt; layer.find(&path(&rt, alloc, "/e/w")).is_none());
-    assert!(rt; matches!(layer.node(file), Some(Node::Inode(inode)) if inode.links == 1));
-    Ok(())
-}
-
 #[test]
 fn a_directory_gets_marks(rt: HostRuntime) -> Result<(), Fail> {
     let alloc = rt.alloc();
-    let (mut layer, _, _) = read(alloc, RandomState::new(&rt)?, TWO_DIRECTORIES)?;
+    let (mut layer, _, _) = read(alloc, RandomState::new(&rt)?, OPAQUE)?;
     let e = key(&rt, alloc, &layer, "/e");
     assert!(rt; layer.is_directory(e));
     assert!(rt; e != ROOT);
