@@ -1,5 +1,5 @@
 // Whom each call tells that is not refused, as far as that is known before its change.
-ghost use Rattle.std.specs.Prelude.{◌≡◌, ◌<◌, suc, ◌+◌, ◌++◌, true, None, Some, cond, is_none, IfOk};
+ghost use Rattle.std.specs.Prelude.{◌≡◌, ◌<◌, suc, ◌+◌, ◌++◌, [], true, None, Some, cond, is_none, IfOk, OnOk};
 ghost use Rattle.std.specs.Option.{option_copied};
 ghost use Rattle.ov_base.specs.declared.call.Call.TheVariants as call;
 ghost use Rattle.plain_model.specs.Tree.{node_at, node_of};
@@ -138,6 +138,30 @@ impl Unwatched {
         Ok(telling)
     }
 
+    // Tells both directories of a rename, what it replaces where that is no directory, and what moves.
+    fn tell_move(
+        &self,
+        telling: &mut Telling,
+        from: &Place,
+        to: &Place,
+        old: &Path,
+        new: &Path,
+    ) -> Result<(), AllocError>
+        requires from { (from.now.way ≡ way_of (tree_of self.now.tree.slots.items) old.now) × (from.now.node ≡ node_at (tree_of self.now.tree.slots.items) old.now) }
+        requires to { (to.now.way ≡ way_of (tree_of self.now.tree.slots.items) new.now) × (to.now.node ≡ node_at (tree_of self.now.tree.slots.items) new.now) }
+        requires none { telling.old.told.items ≡ [] }
+        ensures told { OnOk result (telling.new.told.items ≡ move_told (unwatched_of self.now) old.now new.now) }
+    {
+        let moved = self.node(old)?;
+        let cookie = next_cookie(self.renames);
+        telling.by_way(&from.way, marked(moved, MOVED_FROM), cookie)?;
+        telling.by_way(&to.way, marked(moved, MOVED_TO), cookie)?;
+        if !is_folder(self.node(new)?) {
+            telling.of_node(to.node.as_ref(), ATTRIB)?;
+        }
+        telling.of_node(from.node.as_ref(), MOVE_SELF)
+    }
+
     // A rename that moves something.
     fn telling_of_move(&self, old: &Path, new: &Path) -> Result<Telling, AllocError>
         ensures told { IfOk result (λ x. x.told.items ≡ move_told (unwatched_of self.now) old.now new.now) }
@@ -145,15 +169,8 @@ impl Unwatched {
     {
         let from = self.place(old)?;
         let to = self.place(new)?;
-        let moved = self.node(old)?;
-        let cookie = next_cookie(self.renames);
         let mut telling = Telling::new(self.alloc);
-        telling.by_way(&from.way, marked(moved, MOVED_FROM), cookie)?;
-        telling.by_way(&to.way, marked(moved, MOVED_TO), cookie)?;
-        if !is_folder(self.node(new)?) {
-            telling.of_node(to.node.as_ref(), ATTRIB)?;
-        }
-        telling.of_node(from.node.as_ref(), MOVE_SELF)?;
+        self.tell_move(&mut telling, &from, &to, old, new)?;
         telling.ends = to.node;
         Ok(telling)
     }
