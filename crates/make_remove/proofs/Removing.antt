@@ -20,7 +20,9 @@ use Rattle.merged_lookup.specs.declared.stack.Stack.{Stack}
 use Rattle.merged_lookup.specs.declared.layers.Layers.{Layers}
 use Rattle.merged_lookup.specs.declared.found.Found.{Found}
 use Rattle.merged_lookup.specs.declared.found.Found.TheVariants as found
-use Rattle.merged_lookup.specs.Merged.{trees, layers_of, lowers_of, top_of, unless_cut, places_at, IsStackOf, IsFound, ShowsDirectory, ShowsInode}
+use Rattle.merged_lookup.specs.declared.found.Topmost.{Topmost}
+use Rattle.merged_lookup.specs.declared.found.Topmost.TheVariants as topmost
+use Rattle.merged_lookup.specs.Merged.{trees, layers_of, lowers_of, top_of, unless_cut, places_at, IsStackOf, IsFound, IsTopmost, ShowsDirectory, ShowsInode}
 use Rattle.merged_lookup.proofs.Descending.{key-of}
 use Rattle.merged_lookup.proofs.Looking.{head-places, head-unless}
 use Rattle.copy_up.specs.Showing.{is_object, ShowsSame, StaysLayers, GainsParents}
@@ -177,6 +179,12 @@ rmdir-full l p q n m is dir some s mount c =
 pub found-inode : (l : Layers) (p : Path) (f : Found) (d : Place) → f ≡ found.Inode d → IsFound l p f → is_directory (shows 0 (layers_of l) p) ≡ false
 found-inode l p f d e h =
     let P : Found → Type 0 = λ f. IsFound l p f in
+    let shown : ShowsInode l p d = subst P e h in
+    ap is_directory shown.shown
+
+pub topmost-inode : (l : Layers) (p : Path) (t : Topmost) (d : Place) → t ≡ topmost.Inode d → IsTopmost l p (Some t) → is_directory (shows 0 (layers_of l) p) ≡ false
+topmost-inode l p t d e h =
+    let P : Topmost → Type 0 = λ t. IsTopmost l p (Some t) in
     let shown : ShowsInode l p d = subst P e h in
     ap is_directory shown.shown
 

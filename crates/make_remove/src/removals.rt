@@ -18,7 +18,7 @@ ghost use Rattle.make_remove.specs.Removing.{unlink_fault, rmdir_fault, ShowsNoN
 use copy_up::place_parents;
 use dir_listing::shows_names;
 use layer_tree::{Entry, Layer, Node};
-use merged_lookup::{Found, Layers, Stack};
+use merged_lookup::{Found, Layers, Stack, Topmost};
 use ov_base::{Errno, Name, Path};
 use std::alloc::AllocError;
 
@@ -45,11 +45,11 @@ pub fn unlink(layers: &mut Layers, path: &Path) -> Result<Result<Option<usize>, 
     let Some((name, parents)) = path.split_last() else {
         return Ok(Err(ROOT_REFUSAL));
     };
-    let (directory, found) = match layers.walk_in(path) {
+    let (directory, shown) = match layers.topmost_in(path) {
         Ok(walked) => walked,
         Err(errno) => return Ok(Err(errno)),
     };
-    let Found::Inode(_) = found else {
+    let Topmost::Inode(_) = shown else {
         return Ok(Err(Errno::EISDIR));
     };
     let key = take_away(layers, directory, parents, name)?;

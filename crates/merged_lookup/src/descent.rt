@@ -13,7 +13,7 @@ use crate::onward::{Onward, onward_in};
 use crate::stack::{Place, Places};
 use crate::trail::{Trail, further};
 use layer_tree::ROOT;
-use ov_base::Name;
+use ov_base::{Name, Path};
 
 // The roots of the layers from this one on.
 pub(crate) fn roots(layers: &Layers, first: usize) -> Places
@@ -80,7 +80,7 @@ pub(crate) fn enter<'a>(
             Onward::From(key, path) => {
                 let Some(other) = further(trail, index, place, path) else {
                     end(places, kept, Place { key, ..place });
-                    append(places, &walk_below(layers, place.layer + 1, path));
+                    append_below(layers, places, place.layer + 1, path);
                     *crossed = true;
                     return None;
                 };
@@ -110,6 +110,14 @@ fn end(places: &mut Places, at: usize, place: Place)
 {
     places.truncate(at);
     places.push(place);
+}
+
+// Puts after these places those to which a path leads from the roots of the layers from this one on. Their room is taken here alone, so
+// that a name which crosses no layers doesn't pay for it.
+fn append_below(layers: &Layers, places: &mut Places, first: usize, path: &Path)
+    ensures { length places.old.items + length (places_from first (trees layers.now) path.now) ≤ 17 → places.new.items ≡ places.old.items ++ places_from first (trees layers.now) path.now }
+{
+    append(places, &walk_below(layers, first, path));
 }
 
 fn append(places: &mut Places, rest: &Places)

@@ -18,6 +18,12 @@ use ov_base::{Attributes, Content, Errno, Name, Path};
 /// The most layers of a mount: the upper and 16 lower ones.
 pub const LAYERS_MAX: usize = 17;
 
+// What the root shows: the upper's root directory.
+const ROOT_SHOWN: Topmost = Topmost::Directory(Place {
+    layer: 0,
+    key: ROOT,
+});
+
 // The most names of a path on which the trail is followed. On longer ones a crossing costs less than the comparisons.
 const FOLLOWED_MAX: usize = 16;
 
@@ -215,15 +221,30 @@ impl Layers {
         ensures refused { IfErr result (λ e. walk_fault (layers_of self.now) path.now ≡ Some e) }
         ensures answers { IsOk result ↔ (walk_fault (layers_of self.now) path.now ≡ None) }
     {
-        match self.parent_of(path)? {
-            None => Ok(Topmost::Directory(Place {
-                layer: 0,
-                key: ROOT,
-            })),
-            Some(parent) => match self.topmost(&parent.stack, parent.name) {
-                Some(shown) => Ok(shown),
-                None => Err(Errno::ENOENT),
-            },
+        let Some((name, parents)) = path.split_last() else {
+            return Ok(ROOT_SHOWN);
+        };
+        let stack = self.directory(parents)?;
+        match self.topmost(&stack, name) {
+            Some(shown) => Ok(shown),
+            None => Err(Errno::ENOENT),
+        }
+    }
+
+    /// `walk_topmost`, with the merged directory in which the last name stands; the root's is the root.
+    pub fn topmost_in(&self, path: &Path) -> Result<(Stack, Topmost), Errno>
+        ensures parent { IfOk result (λ w. IsStackOf self.now (parent path.now) w.0) }
+        ensures found { IfOk result (λ w. IsTopmost self.now path.now (Some w.1)) }
+        ensures refused { IfErr result (λ e. walk_fault (layers_of self.now) path.now ≡ Some e) }
+        ensures answers { IsOk result ↔ (walk_fault (layers_of self.now) path.now ≡ None) }
+    {
+        let Some((name, parents)) = path.split_last() else {
+            return Ok((self.root(), ROOT_SHOWN));
+        };
+        let stack = self.directory(parents)?;
+        match self.topmost(&stack, name) {
+            Some(shown) => Ok((stack, shown)),
+            None => Err(Errno::ENOENT),
         }
     }
 

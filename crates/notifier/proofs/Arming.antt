@@ -20,7 +20,7 @@ use Rattle.notice_laws.specs.Objects.{IsNumberOf}
 use Rattle.notice_laws.specs.Opens.{AreFewer}
 use Rattle.notice_laws.specs.Steps.{IsSpotOf}
 use Rattle.notifier.specs.Arming.{ArmsAt, HoldsAt, IsArmRefused, refusal_of, watch_of}
-use Rattle.notifier.specs.Notifying.{AreCounted, watchers}
+use Rattle.notifier.specs.Notifying.{watchers}
 use Rattle.notifier.proofs.Hearing.{one-more}
 
 -- at most one client more watches the object of a number, and as many each other

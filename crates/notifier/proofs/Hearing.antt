@@ -1,17 +1,17 @@
 -- Instances that hear some subjects and then others, and how many watch an object after one.
 use Rattle.std.proofs.Common.{◌≡◌, ◌≢◌, ℕ, ℤ, ◌+◌, ◌≤◌, Bool, true, false, cond, ◌&&◌, List, [], ◌∷◌, ◌++◌, Some, refl, sym, ap, subst, ◌∙◌, append_assoc, arith, eqb-true}
-use Rattle.std.specs.List.{AllByRecursion, list_any}
-use Rattle.std.proofs.lemmas.Bool.{false≢true, or_parts}
+use Rattle.std.specs.List.{AllByRecursion}
+use Rattle.std.proofs.lemmas.Bool.{false≢true}
 use Rattle.std.proofs.lemmas.List.Sums.{sum_by-cons}
 use Rattle.ov_base.specs.declared.node_id.NodeId.TheVariants.{New}
 use Rattle.ov_base.specs.declared.notice.Notice.{Notice}
 use Rattle.plain_model.specs.Tree.{same_id}
-use Rattle.plain_model.specs.Watching.{Rule, Watch, Subject, Instance, On, Only, Puts, Hears, is_aimed, reaches, ends, AllHear, asked, passed, all_asked, all_passed}
+use Rattle.plain_model.specs.Watching.{Rule, Subject, Instance, On, Only, Puts, Hears, ends, AllHear, asked, passed, all_asked, all_passed}
 use Rattle.plain_model.specs.Machine.{instance_of, watches_of}
 use Rattle.watch_table.specs.Clients.{AreOnlyOn}
 use Rattle.watch_table.specs.Listening.{is_on}
-use Rattle.watch_table.proofs.Hearing.{Hears-none, Hears-push, Puts-append}
-use Rattle.watch_table.proofs.Reaching.{any-filter, unaimed, hears-none, stay, on-stay, off-object, off-number}
+use Rattle.watch_table.proofs.Hearing.{Puts-append}
+use Rattle.watch_table.proofs.Reaching.{any-filter, stay, on-stay, off-object, off-number}
 use Rattle.notifier.specs.Notifying.{watchers}
 
 passed-append : (e : Instance) (ss tz : List Subject) → all_passed e (ss ++ tz) ≡ all_passed (all_passed e ss) tz
@@ -74,24 +74,6 @@ module _ (shows : Rule) (s : Subject) (o : ℕ) where
   -- whether an instance is on an object after it heard a subject
   after-one : (n : ℕ) (e f : Instance) → Hears shows (s ∷ []) e f → is_on n f.watches ≡ is_on n (stay shows s e.client e.watches)
   after-one n e f h = ap (λ x. is_on n x.watches) h.watches
-
-  -- a subject on an object that a client doesn't watch leaves that client's instance as it is
-  off-hears : s.aim ≡ On (New o) → (e : Instance) → is_on o e.watches ≡ false → Hears shows (s ∷ []) e e
-  off-hears aim e off = Hears-push shows [] s e e e (Hears-none shows e) (hears-none shows s e (by e.watches off))
-    where
-      by : (ws : List Watch) → is_on o ws ≡ false → AllByRecursion (λ w. reaches e.client s w ≡ false) ws
-      by [] none = tt
-      by (w ∷ ws) none =
-          let apart = or_parts (same_id (New o) w.node) (is_on o ws) none in
-          (unaimed shows s e.client w (ap (λ a. is_aimed e.client a w) aim ∙ apart.0), by ws apart.1)
-
-  -- and all instances, where nobody watches the object
-  pub nobody-hears : s.aim ≡ On (New o) → (es : List Instance) → list_any (λ (e : Instance). is_on o e.watches) es ≡ false →
-      AllHear shows (s ∷ []) es es
-  nobody-hears aim [] none = tt
-  nobody-hears aim (e ∷ es) none =
-      let apart = or_parts (is_on o e.watches) (list_any (λ (x : Instance). is_on o x.watches) es) none in
-      (off-hears aim e apart.0, nobody-hears aim es apart.1)
 
   -- no more clients watch an object after a subject
   pub fewer-watch : (es fs : List Instance) → AllHear shows (s ∷ []) es fs → watchers fs o ≤ watchers es o

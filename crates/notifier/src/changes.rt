@@ -54,7 +54,7 @@ impl<F: Callback, R: Rule> Notifier<F, R> {
     {
         let way = self.way_to(path);
         let number = self.lift(path, object, key);
-        self.tell_both(way, number, marks(object, ATTRIB));
+        self.tell_both(&way, number, marks(object, ATTRIB));
     }
 
     /// Tells that what stands at the old path has the new path too; a file of a lower layer is in the upper under a key by that. It takes
@@ -66,7 +66,7 @@ impl<F: Callback, R: Rule> Notifier<F, R> {
     {
         let way = self.way_to(new);
         let number = self.lift(old, object, key);
-        self.tell_way(way, CREATE);
+        self.tell_way(&way, CREATE);
         self.tell_number(number, ATTRIB);
     }
 }

@@ -145,30 +145,19 @@ impl<F: Callback, R: Rule> Notifier<F, R> {
         self.objects.is_lost(number)
     }
 
-    // Tells the object of a number, and lets go what the watches held that end by it. What nobody watches takes one look-up.
+    // Tells the object of a number to those who watch it, and lets go what the watches held that end by it. What nobody watches takes one
+    // look-up.
     pub(crate) fn tell(&mut self, object: u64, bits: u32, cookie: u32, name: Option<&EventName>)
         requires { IsSubject (record { aim = plain.On (New object); bits = bits; cookie = cookie; name = option_copied name }) }
         ensures { IsTold R.shows self.old self.new (record { aim = plain.On (New object); bits = bits; cookie = cookie; name = option_copied name.entry } ∷ []) }
     {
-        if self.watches.is_watched(object) {
-            self.tell_watched(object, bits, cookie, name);
-        }
-    }
-
-    // Tells the object of a number to those who watch it, and lets go what the watches held that end by it.
-    fn tell_watched(&mut self, object: u64, bits: u32, cookie: u32, name: Option<&EventName>)
-        requires { IsSubject (record { aim = plain.On (New object); bits = bits; cookie = cookie; name = option_copied name }) }
-        ensures { IsTold R.shows self.old self.new (record { aim = plain.On (New object); bits = bits; cookie = cookie; name = option_copied name.entry } ∷ []) }
-    {
-        let before = self.watches.watchers(object);
         let subject = Subject {
             aim: Aim::On(object),
             bits,
             cookie,
             name,
         };
-        self.watches.fire(&[subject]);
-        let ended = before - self.watches.watchers(object);
+        let ended = self.watches.tell_watchers(object, &subject);
         if ended > 0 {
             self.objects.release(object, ended);
         }

@@ -29,7 +29,7 @@ impl<F: Callback, R: Rule> Notifier<F, R> {
         ensures { Made R.shows self.old self.new path.now bits }
     {
         let way = self.way_to(path);
-        self.tell_way(way, bits);
+        self.tell_way(&way, bits);
     }
 
     // Tells that what stands at a path loses this name. It gives its number, and again where the object ends by it.
@@ -59,7 +59,7 @@ impl<F: Callback, R: Rule> Notifier<F, R> {
     {
         let way = self.way_to(path);
         let (number, ended) = self.lose_name(path, object);
-        self.tell_way(way, DELETE);
+        self.tell_way(&way, DELETE);
         self.tell_number(number, ATTRIB);
         self.tell_end(ended);
     }
@@ -70,7 +70,7 @@ impl<F: Callback, R: Rule> Notifier<F, R> {
     {
         let way = self.way_to(path);
         let (_, ended) = self.lose_name(path, Object::Directory);
-        self.tell_way(way, DELETE + ISDIR);
+        self.tell_way(&way, DELETE + ISDIR);
         self.tell_end(ended);
     }
 }

@@ -185,8 +185,8 @@ impl<F: Callback, R: Rule> Notifier<F, R> {
     }
 
     // Tells that an open emptied its file, where it did.
-    fn tell_emptied(&mut self, is_emptied: bool, way: Option<Way>, number: u64)
-        ensures { IsTold R.shows self.old self.new (cond is_emptied (of_both way (Some number) MODIFY) []) }
+    fn tell_emptied(&mut self, is_emptied: bool, way: &Option<Way>, number: u64)
+        ensures { IsTold R.shows self.old self.new (cond is_emptied (of_both way.now (Some number) MODIFY) []) }
     {
         if is_emptied {
             self.tell_both(way, Some(number), bits::MODIFY);
@@ -211,8 +211,8 @@ impl<F: Callback, R: Rule> Notifier<F, R> {
     {
         let handle = self.handle(client, descriptor);
         self.lift_for(flags.writes, path, object, key);
-        self.tell_emptied(flags.truncate, handle.way, handle.object);
-        self.tell_both(handle.way, Some(handle.object), marks(object, OPEN));
+        self.tell_emptied(flags.truncate, &handle.way, handle.object);
+        self.tell_both(&handle.way, Some(handle.object), marks(object, OPEN));
     }
 
     /// Tells that a client opened a file that was made at a path for it, which was prepared; the file is in the upper under a key. It
@@ -226,8 +226,8 @@ impl<F: Callback, R: Rule> Notifier<F, R> {
         self.lawful();
         let handle = self.handle(client, descriptor);
         self.rise(handle.object, key);
-        self.tell_way(handle.way, CREATE);
-        self.tell_way(handle.way, OPEN);
+        self.tell_way(&handle.way, CREATE);
+        self.tell_way(&handle.way, OPEN);
         self.lawful();
     }
 }

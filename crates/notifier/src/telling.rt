@@ -22,9 +22,9 @@ pub(crate) fn marks(object: Object, bits: u32) -> u32
 
 impl<F: Callback, R: Rule> Notifier<F, R> {
     // Tells the directory of a way, with the name.
-    pub(crate) fn tell_way(&mut self, way: Option<Way>, bits: u32)
+    pub(crate) fn tell_way(&mut self, way: &Option<Way>, bits: u32)
         requires { IsOther bits }
-        ensures { IsTold R.shows self.old self.new (in_way way bits 0) }
+        ensures { IsTold R.shows self.old self.new (in_way way.now bits 0) }
     {
         if let Some(way) = way {
             self.tell(way.directory, bits, 0, Some(&way.name));
@@ -42,9 +42,9 @@ impl<F: Callback, R: Rule> Notifier<F, R> {
     }
 
     // Tells both.
-    pub(crate) fn tell_both(&mut self, way: Option<Way>, number: Option<u64>, bits: u32)
+    pub(crate) fn tell_both(&mut self, way: &Option<Way>, number: Option<u64>, bits: u32)
         requires { IsOther bits }
-        ensures { IsTold R.shows self.old self.new (of_both way number bits) }
+        ensures { IsTold R.shows self.old self.new (of_both way.now number bits) }
     {
         self.tell_way(way, bits);
         self.tell_number(number, bits);

@@ -15,7 +15,7 @@ impl<F: Callback, R: Rule> Notifier<F, R> {
         ensures { Used R.shows self.old self.new client descriptor bits }
     {
         let handle = self.handle(client, descriptor);
-        self.tell_both(handle.way, Some(handle.object), bits);
+        self.tell_both(&handle.way, Some(handle.object), bits);
     }
 
     /// Tells that an open handle is closed, by the bits of that event; its descriptor is on nothing then. It takes no memory.
@@ -28,7 +28,7 @@ impl<F: Callback, R: Rule> Notifier<F, R> {
         let is_lost = self.is_lost(handle.object);
         self.shut(client, descriptor);
         let ended = self.end_of(Some(handle.object), is_lost);
-        self.tell_both(handle.way, Some(handle.object), bits);
+        self.tell_both(&handle.way, Some(handle.object), bits);
         self.tell_end(ended);
     }
 }

@@ -129,7 +129,7 @@ above-get_or c zero (e ∷ es) d h b = h.0
 above-get_or c (suc i) (e ∷ es) d h b = let n : i < length es = omega arith in above-get_or c i es d h.1 n
 
 -- where the client of an instance stands
-place-from : (c i : ℕ) (es : List Instance) (d : Instance) → AreRising (clients_of es) → i < length es → (get_or es i d).client ≡ c →
+pub place-from : (c i : ℕ) (es : List Instance) (d : Instance) → AreRising (clients_of es) → i < length es → (get_or es i d).client ≡ c →
     IsPlace c i es
 place-from c i [] d a b is = absurd (omega arith)
 place-from c zero (e ∷ es) d a b is = is

@@ -1,21 +1,18 @@
 -- One subject told to those whom it is for, and the index after it.
-use Rattle.std.proofs.Common.{◌≡◌, ℕ, ℤ, Bool, true, false, ◌&&◌, ◌||◌, filter, length, List, [], ◌∷◌, Some, refl, sym, ap, subst, ◌∙◌, ◌⊎◌, inl, inr, arith, nat_eq, eqb-true}
-use Rattle.std.specs.List.{AllByRecursion, list_any}
+use Rattle.std.proofs.Common.{◌≡◌, ℕ, ℤ, true, false, ◌&&◌, filter, length, List, [], ◌∷◌, Some, refl, sym, ap, subst, ◌∙◌, ◌⊎◌, inl, inr, arith, nat_eq, eqb-true}
+use Rattle.std.specs.List.{AllByRecursion, count_by, list_any}
 use Rattle.std.proofs.lemmas.Bool.{cases_Bool}
 use Rattle.ov_base.specs.declared.node_id.NodeId.TheVariants.{New}
 use Rattle.plain_model.specs.Watching.{Rule, Watch, Subject, Instance, On, Only, is_aimed, is_numbered, reaches}
 use Rattle.plain_model.specs.Tree.{same_id}
 use Rattle.plain_model.specs.Machine.{instance_of, watches_of}
-use Rattle.watch_table.specs.Clients.{clients_of, AreRising, AreTold, AllHearOne, AreOnlyOn, watches}
+use Rattle.watch_table.specs.Clients.{clients_of, AreRising, AreTold, AllHearOne, AreOnlyOn, KeepWatches, watches}
 use Rattle.watch_table.specs.Listening.{is_on}
 use Rattle.watch_table.specs.Watched.{Watched, watchers_of, SetsWatchers, IsIndexOf}
 use Rattle.watch_table.proofs.Telling.{told-none}
-use Rattle.watch_table.proofs.Reaching.{any-filter, and-false, IsUnreached, unaimed, told-all, heard-watches, on-stay, off-object, off-number}
+use Rattle.watch_table.proofs.Reaching.{neither, any-filter, and-false, IsUnreached, unaimed, told-all, heard-watches, on-stay, off-object, off-number}
+use Rattle.watch_table.proofs.Counting.{index-counts}
 use Rattle.watch_table.proofs.Indexing.{index-less, each-own}
-
-neither : (a b : Bool) → (a || b) ≡ false → (a ≡ false) × (b ≡ false)
-neither true b h = cc
-neither false b h = (refl, h)
 
 -- a list without a length
 pub nil-from : (ks : List ℕ) → nat_eq (length ks) 0 ≡ true → ks ≡ []
@@ -118,3 +115,12 @@ module _ (shows : Rule) (s : Subject) (es : List Instance) (t : Watched) (index 
       (off-number shows s k number o n c (watches_of (instance_of es c)) aim ne
       (λ q. subst (λ x. AreOnlyOn number o (watches_of (instance_of es x))) (sym (eqb-true c k q)) one)))
       (λ c. less-on o c fs heard)
+
+  -- an index of instances is one of those that watch what they watched
+  pub index-kept : (fs : List Instance) → KeepWatches es fs → IsIndexOf fs t
+  index-kept fs keep = record { exact = λ o c. index.exact o c ∙ sym (keep o c); once = index.once }
+
+  -- as many clients watch an object then
+  pub count-kept : (fs : List Instance) (o : ℕ) → AreRising (clients_of fs) → KeepWatches es fs →
+      count_by (λ (e : Instance). is_on o e.watches) fs ≡ count_by (λ (e : Instance). is_on o e.watches) es
+  count-kept fs o rises keep = sym (index-counts fs t o (index-kept fs keep) rises) ∙ index-counts es t o index rising

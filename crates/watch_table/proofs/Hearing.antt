@@ -56,6 +56,22 @@ AllHear-push shows ss s (e ∷ es) [] gs h k = absurd h
 AllHear-push shows ss s (e ∷ es) (f ∷ fs) [] h k = absurd k
 AllHear-push shows ss s (e ∷ es) (f ∷ fs) (g ∷ gs) h k = (Hears-push shows ss s e f g h.0 k.0, AllHear-push shows ss s es fs gs h.1 k.1)
 
+-- all hear one subject alone
+pub one-heard : (shows : Rule) (s : Subject) (es fs : List Instance) → AllHearOne shows s es fs → AllHear shows (s ∷ []) es fs
+one-heard shows s es fs = AllHear-push shows [] s es es fs (AllHear-none shows es)
+
+pub heard-one : (shows : Rule) (s : Subject) (es fs : List Instance) → AllHear shows (s ∷ []) es fs → AllHearOne shows s es fs
+heard-one shows s [] [] h = tt
+heard-one shows s [] (f ∷ fs) h = absurd h
+heard-one shows s (e ∷ es) [] h = absurd h
+heard-one shows s (e ∷ es) (f ∷ fs) h = (
+  record {
+    watches = h.0.watches;
+    queue = subst (λ xs. Puts shows xs e.queue f.queue) (append-nil (asked e s)) h.0.queue;
+  },
+  heard-one shows s es fs h.1,
+)
+
 -- an instance some of whose watches go
 pub IsInstance-filter : (e : Instance) (p : Watch → Bool) (q : List Notice) → IsInstance e →
     IsInstance (record e { watches = filter p e.watches; queue = q })

@@ -1,14 +1,16 @@
 -- Clients that are told of a subject.
-use Rattle.std.proofs.Common.{◌≡◌, ℕ, zero, suc, ◌<◌, Bool, true, false, ◌||◌, List, [], ◌∷◌, ◌++◌, length, get_or, set, take, refl, sym, ap, subst, ◌∙◌, arith, inl, inr, nat_eq, eqb-true, eq-eqb}
+use Rattle.std.proofs.Common.{◌≡◌, ℕ, zero, suc, ◌<◌, ◌≤◌, Bool, true, false, cond, not, ◌||◌, List, [], ◌∷◌, ◌++◌, Some, filter, length, get_or, set, take, nat_lt, refl, sym, ap, subst, ◌∙◌, arith, inl, inr, nat_eq, eqb-true, eq-eqb}
 use Rattle.std.specs.List.{list_any, IsDistinct}
 use Rattle.std.proofs.lemmas.Bool.{false≢true, cases_Bool}
+use Rattle.std.proofs.lemmas.Bool.Decides.{nat_tests}
 use Rattle.std.proofs.lemmas.Cmp.{nat_eq_equiv}
 use Rattle.std.proofs.lemmas.List.Elements.{All-get_or, All-from_recursion}
 use Rattle.std.proofs.lemmas.List.Folds.{list_any-append}
 use Rattle.std.proofs.lemmas.Map.Keys.{IsDistinct-head, IsDistinct-tail}
-use Rattle.plain_model.specs.Watching.{Rule, Subject, Instance}
-use Rattle.watch_table.specs.Clients.{clients_of, AreRising, IsPlace, HearsIf, AreTold}
-use Rattle.watch_table.specs.Listening.{HearsOne}
+use Rattle.plain_model.specs.Watching.{Rule, Subject, Watch, Instance, ends}
+use Rattle.plain_model.specs.Machine.{instance_of, watches_of}
+use Rattle.watch_table.specs.Clients.{clients_of, AreRising, IsPlace, HearsIf, AreTold, KeepWatches, watches}
+use Rattle.watch_table.specs.Listening.{HearsOne, is_on}
 use Rattle.watch_table.proofs.Clients.{IsAbsent, above-absent, nat_ne}
 
 module _ (shows : Rule) (s : Subject) where
@@ -88,3 +90,49 @@ before-apart (k ∷ ks) (suc i) d h b =
     (All-from_recursion (λ y. nat_eq k y ≡ false) ks (IsDistinct-head nat_eq k ks h)) in
     ap (λ b. b || list_any (nat_eq (get_or ks i d)) (take i ks)) (nat_eq_equiv.symm (get_or ks i d) k ∙ head)
     ∙ before-apart ks i d (IsDistinct-tail nat_eq k ks h) n
+
+-- instances where one became another of the same client and watches
+pub KeepWatches-set : (i : ℕ) (es : List Instance) (d y : Instance) → i < length es → y.client ≡ (get_or es i d).client →
+    y.watches ≡ (get_or es i d).watches → KeepWatches es (set es i y)
+KeepWatches-set i [] d y b client same o k = absurd (omega arith)
+KeepWatches-set zero (e ∷ es) d y b client same o k =
+    ap (λ n. is_on o (watches_of (cond (nat_eq n k) (Some y) (instance_of es k)))) client ∙ by (nat_eq e.client k)
+  where
+    by : (q : Bool) → is_on o (watches_of (cond q (Some y) (instance_of es k))) ≡ is_on o (watches_of (cond q (Some e) (instance_of es k)))
+    by true = ap (is_on o) same
+    by false = refl
+KeepWatches-set (suc i) (e ∷ es) d y b client same o k = let n : i < length es = omega arith in
+    by (nat_eq e.client k) (KeepWatches-set i es d y n client same o k)
+  where
+    by : (q : Bool) → watches (set es i y) o k ≡ watches es o k →
+        is_on o (watches_of (cond q (Some e) (instance_of (set es i y) k))) ≡ is_on o (watches_of (cond q (Some e) (instance_of es k)))
+    by true h = refl
+    by false h = h
+
+-- no more come through a filter than went in
+pub short-filter : {A : Type 0} (p : A → Bool) (xs : List A) → length (filter p xs) ≤ length xs
+short-filter p [] = omega arith
+short-filter {A} p (x ∷ xs) = by (p x) (short-filter p xs)
+  where
+    by : (b : Bool) → length (filter p xs) ≤ length xs → length (cond b (x ∷ filter p xs) (filter p xs)) ≤ length (x ∷ xs)
+    by true h = omega (arith, h)
+    by false h = omega (arith, h)
+
+-- a filter through which as many come as went in
+full-filter : {A : Type 0} (p : A → Bool) (xs : List A) → length xs ≤ length (filter p xs) → filter p xs ≡ xs
+full-filter p [] h = refl
+full-filter {A} p (x ∷ xs) h = by (p x) h (full-filter p xs)
+  where
+    by : (b : Bool) → length (x ∷ xs) ≤ length (cond b (x ∷ filter p xs) (filter p xs)) →
+        (length xs ≤ length (filter p xs) → filter p xs ≡ xs) → cond b (x ∷ filter p xs) (filter p xs) ≡ x ∷ xs
+    by true k rest = ap (λ ys. x ∷ ys) (rest (omega (arith, k)))
+    by false k rest = let short = short-filter p xs in absurd (omega (arith, k, short))
+
+-- an instance that hears a subject and has as many watches after it keeps them
+pub hears-kept : (shows : Rule) (s : Subject) (e f : Instance) → HearsOne shows s e f → nat_lt (length f.watches) (length e.watches) ≡ false →
+    f.watches ≡ e.watches
+hears-kept shows s e f h few =
+    let p : Watch → Bool = λ w. not (ends e.client s w) in
+    let stay : f.watches ≡ filter p e.watches = ap (λ (x : Instance). x.watches) h.watches in
+    let all : length e.watches ≤ length f.watches = grind (arith, nat_tests, few) in
+    stay ∙ full-filter p e.watches (subst (λ ws. length e.watches ≤ length ws) stay all)

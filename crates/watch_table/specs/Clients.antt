@@ -25,6 +25,10 @@ IsPlace c (suc i) (e ∷ es) = (e.client ≢ c) × IsPlace c i es
 abbrev pub watches : List Instance → ℕ → ℕ → Bool
 watches es object c = is_on object (watches_of (instance_of es c))
 
+-- each client watches what it watched
+abbrev pub KeepWatches : List Instance → List Instance → Type 0
+KeepWatches old new = (object c : ℕ) → watches new object c ≡ watches old object c
+
 -- an instance that hears a subject, or is as it was
 abbrev pub HearsIf : Rule → Subject → Bool → Instance → Instance → Type 0
 HearsIf shows s true old new = HearsOne shows s old new

@@ -50,6 +50,10 @@ rearmed d mask w = cond (same_id d w.node) (re_mask mask w) w
 abbrev pub asked_of : ℕ → List ℕ → Subject → Watch → List (ℕ × Event)
 asked_of c tags s w = map (λ v. (slice_index_or tags w.slot 0, v)) (events c s w)
 
+-- the event of a subject, for a watch of any number
+abbrev pub IsEventOf : Subject → Event → Type 0
+IsEventOf s v = v ≡ record { watch = v.watch; bits = s.bits; cookie = s.cookie; name = s.name }
+
 -- a client hears one subject
 pub record HearsOne (shows : Rule) (s : Subject) (old new : Instance) : Type 0 where
   pub watches : new ≡ record (passed old s) { queue = new.queue }

@@ -1,5 +1,5 @@
 // The inotify instance of one client.
-ghost use Rattle.std.specs.Prelude.{◌≡◌, ◌<◌, ◌≤◌, ◌+◌, ◌^◌, [], Option, None, Some, IfOk, IfErr, OnOk, OnErr, ◌↔◌, All, MatchResult, MatchOption, false, find, option_map, map, flat_map, length, take, drop};
+ghost use Rattle.std.specs.Prelude.{◌≡◌, ◌<◌, ◌≤◌, ◌+◌, ◌^◌, [], Option, None, Some, IfOk, IfErr, OnOk, OnErr, ◌↔◌, All, MatchResult, MatchOption, false, find, option_map, map, flat_map, length, nat_lt, take, drop};
 ghost use Rattle.std.specs.Vec.{vec_capacity};
 ghost use Rattle.std.specs.List.{list_any, IsDistinct};
 ghost use Rattle.ov_base.specs.declared.node_id.NodeId.TheVariants.{New};
@@ -14,13 +14,13 @@ ghost use Rattle.plain_model.specs.Replies.{number_of};
 ghost use Rattle.watch_table.specs.Subjects.{IsSubject, subject_of};
 ghost use Rattle.watch_table.specs.Clients.{AreOnlyOn};
 ghost use Rattle.watch_table.specs.Listening as listening;
-ghost use Rattle.watch_table.specs.Listening.{arm_refusal, slot_refusal, rearmed, asked_of, HearsOne};
+ghost use Rattle.watch_table.specs.Listening.{arm_refusal, slot_refusal, rearmed, asked_of, HearsOne, IsEventOf};
 
 use crate::hook::{Callback, Hook, Rule};
 use crate::queue::Queue;
 use crate::subject::{IGNORED, Subject};
 use crate::watch::{EVENTS, Watch};
-use ov_base::{Errno, Event, EventName, Notices};
+use ov_base::{Errno, Event, Notices};
 use std::alloc::{AllocError, Global};
 use std::marker::Model;
 
@@ -70,37 +70,31 @@ fn ask<F: Callback, R: Rule>(hook: &Hook<F, R>, queue: &mut Queue, event: &Event
     ensures { (answer : Option Notice) × R.shows hook.now.tag event.now answer × (queue.new ≡ put_answer queue.old answer) }
 {
     let answer = hook.fire(event);
-    queue.put_answer(answer);
+    queue.put_answer(&answer);
 }
 
-// Asks what a subject asks at one watch.
+// Asks what a subject asks at one watch. The subject's event is given, for a watch of any number.
 fn tell_watch<F: Callback, R: Rule>(
     client: u64,
     hooks: &[Hook<F, R>],
     watch: &Watch,
     queue: &mut Queue,
     subject: &Subject<'_>,
+    event: &mut Event,
 )
     requires slot { watch.now.slot < length hooks.now }
     requires number { (0 < watch.now.number) × (watch.now.number < 2 ^ 31) }
     requires subject { IsSubject (subject_of subject.now) }
-    ensures { Puts R.shows (asked_of client (map (λ h. h.tag) hooks.now) (subject_of subject.now) watch.now) queue.old queue.new }
+    requires event { IsEventOf (subject_of subject.now) event.old }
+    ensures puts { Puts R.shows (asked_of client (map (λ h. h.tag) hooks.now) (subject_of subject.now) watch.now) queue.old queue.new }
+    ensures event { IsEventOf (subject_of subject.now) event.new }
 {
     if !watch.is_reached(client, subject) {
         return;
     }
     let hook = &hooks[watch.slot() as usize];
-    let name: Option<EventName> = match subject.name {
-        Some(name) => Some(*name),
-        None => None,
-    };
-    let event = Event {
-        watch: watch.number(),
-        bits: subject.bits,
-        cookie: subject.cookie,
-        name,
-    };
-    ask(hook, queue, &event);
+    event.watch = watch.number();
+    ask(hook, queue, event);
     if watch.is_once() && subject.bits != IGNORED {
         let end = Event {
             watch: watch.number(),
@@ -119,13 +113,16 @@ fn tell_watches<F: Callback, R: Rule>(
     watches: &[Watch],
     queue: &mut Queue,
     subject: &Subject<'_>,
+    event: &mut Event,
 )
     requires watches { All (λ w. (w.slot < length hooks.now) × (0 < w.number) × (w.number < 2 ^ 31)) watches.now }
     requires subject { IsSubject (subject_of subject.now) }
-    ensures { Puts R.shows (flat_map (asked_of client (map (λ h. h.tag) hooks.now) (subject_of subject.now)) watches.now) queue.old queue.new }
+    requires event { IsEventOf (subject_of subject.now) event.old }
+    ensures puts { Puts R.shows (flat_map (asked_of client (map (λ h. h.tag) hooks.now) (subject_of subject.now)) watches.now) queue.old queue.new }
+    ensures event { IsEventOf (subject_of subject.now) event.new }
 {
     for watch in watches {
-        tell_watch(client, hooks, watch, queue, subject);
+        tell_watch(client, hooks, watch, queue, subject, event);
     }
 }
 
@@ -312,10 +309,14 @@ impl<F: Callback, R: Rule> Listener<F, R> {
         self.queue.take(alloc, count as usize)
     }
 
-    // Hears one subject: it asks the hooks of the watches that the subject reaches, and ends those that end with it. It takes no memory.
-    pub(crate) fn hear(&mut self, subject: &Subject<'_>)
-        requires { IsSubject (subject_of subject.now) }
-        ensures { HearsOne R.shows (subject_of subject.now) self.old self.new }
+    // Hears one subject, whose event is given: it asks the hooks of the watches that the subject reaches, and ends those that end with it.
+    // It tells whether any ended. It takes no memory.
+    pub(crate) fn hear(&mut self, subject: &Subject<'_>, event: &mut Event) -> bool
+        requires subject { IsSubject (subject_of subject.now) }
+        requires event { IsEventOf (subject_of subject.now) event.old }
+        ensures hears { HearsOne R.shows (subject_of subject.now) self.old self.new }
+        ensures ended { result ≡ nat_lt (length self.new.watches) (length self.old.watches) }
+        ensures event { IsEventOf (subject_of subject.now) event.new }
     {
         tell_watches(
             self.client,
@@ -323,9 +324,12 @@ impl<F: Callback, R: Rule> Listener<F, R> {
             self.watches.as_slice(),
             &mut self.queue,
             subject,
+            event,
         );
         let client = self.client;
+        let before = self.watches.len();
         self.watches
             .retain(|watch| !watch.is_ended(client, subject));
+        self.watches.len() < before
     }
 }

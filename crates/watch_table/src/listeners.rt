@@ -7,14 +7,14 @@ ghost use Rattle.plain_model.specs.Machine.{instance_of, hooks_of, watches_of, a
 ghost use Rattle.plain_model.specs.Changes.{at_client, armed_on};
 ghost use Rattle.plain_model.specs.Replies.{queue_of, number_of, next_number};
 ghost use Rattle.watch_table.specs.Clients as clients;
-ghost use Rattle.watch_table.specs.Clients.{AreRising, clients_of, IsPlace, AreTold, AreOnlyOn};
-ghost use Rattle.watch_table.specs.Listening.{slot_refusal, arm_refusal};
+ghost use Rattle.watch_table.specs.Clients.{AreRising, clients_of, IsPlace, AreTold, AreOnlyOn, KeepWatches};
+ghost use Rattle.watch_table.specs.Listening.{slot_refusal, arm_refusal, IsEventOf};
 ghost use Rattle.watch_table.specs.Subjects.{IsSubject, subject_of};
 
 use crate::hook::{Callback, Hook, Rule};
 use crate::listener::{HOOKS_MAX, Listener, NotAttached};
 use crate::subject::Subject;
-use ov_base::{Errno, Notices};
+use ov_base::{Errno, Event, Notices};
 use std::alloc::{AllocError, Global};
 use std::marker::Model;
 
@@ -180,25 +180,56 @@ impl<F: Callback, R: Rule> Listeners<F, R> {
         listener.arm(slot, object, mask)
     }
 
-    // A client, if it is attached, hears a subject.
-    fn hear(&mut self, client: u64, subject: &Subject<'_>)
-        requires { IsSubject (subject_of subject.now) }
-        ensures { AreTold R.shows (subject_of subject.now) (client ∷ []) self.old self.new }
+    // Where a client's instance stands, if it is attached; it is looked for at this place first.
+    fn find_near(&self, client: u64, near: usize) -> Option<usize>
+        ensures { MatchOption result (instance_of self.now client ≡ None) (λ i. IsPlace client i self.now) }
     {
-        if let Some(i) = self.find(client) {
-            let listener = &mut self.listeners[i];
-            listener.hear(subject);
+        if near < self.listeners.len() && self.listeners[near].client() == client {
+            return Some(near);
+        }
+        self.find(client)
+    }
+
+    // A client, if it is attached, hears a subject, whose event is given; its instance is looked for at this place first. It gives the
+    // place after it, and whether a watch ended.
+    fn hear(
+        &mut self,
+        client: u64,
+        near: usize,
+        subject: &Subject<'_>,
+        event: &mut Event,
+    ) -> (usize, bool)
+        requires subject { IsSubject (subject_of subject.now) }
+        requires event { IsEventOf (subject_of subject.now) event.old }
+        ensures told { AreTold R.shows (subject_of subject.now) (client ∷ []) self.old self.new }
+        ensures last { result.1 ≡ false → KeepWatches self.old self.new }
+        ensures event { IsEventOf (subject_of subject.now) event.new }
+    {
+        match self.find_near(client, near) {
+            Some(i) => {
+                let listener = &mut self.listeners[i];
+                let ended = listener.hear(subject, event);
+                (i.saturating_add(1), ended)
+            }
+            None => (near, false),
         }
     }
 
-    // Clients hear a subject, each once.
-    pub(crate) fn tell(&mut self, clients: &[u64], subject: &Subject<'_>)
+    // Clients hear a subject, each once. It tells whether a watch ended.
+    pub(crate) fn tell(&mut self, clients: &[u64], subject: &Subject<'_>) -> bool
         requires once { IsDistinct nat_eq clients.now }
         requires subject { IsSubject (subject_of subject.now) }
-        ensures { AreTold R.shows (subject_of subject.now) clients.now self.old self.new }
+        ensures told { AreTold R.shows (subject_of subject.now) clients.now self.old self.new }
+        ensures last { result ≡ false → KeepWatches self.old self.new }
     {
+        let mut event = subject.event();
+        let mut near = 0;
+        let mut is_ended = false;
         for client in clients {
-            self.hear(*client, subject);
+            let (next, ended) = self.hear(*client, near, subject, &mut event);
+            near = next;
+            is_ended |= ended;
         }
+        is_ended
     }
 }

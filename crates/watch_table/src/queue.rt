@@ -79,12 +79,12 @@ fn tells_overflow(notices: &HeapCircularBuffer<Notice>) -> bool
 }
 
 // Puts a notice last.
-fn append(notices: &mut HeapCircularBuffer<Notice>, notice: Notice)
+fn append(notices: &mut HeapCircularBuffer<Notice>, notice: &Notice)
     requires { length notices.old.items < notices.old.capacity }
-    ensures { notices.new ≡ buffer (notices.old.items ++ notice ∷ []) notices.old.capacity }
+    ensures { notices.new ≡ buffer (notices.old.items ++ notice.now ∷ []) notices.old.capacity }
 {
     let name: Option<EventName> = notice.name;
-    let _ = notices.push_back(Notice { name, ..notice });
+    let _ = notices.push_back(Notice { name, ..*notice });
 }
 
 impl Queue {
@@ -98,22 +98,22 @@ impl Queue {
 
     // Puts a notice. One like the last unread changes nothing; below 64 unread it goes last; else the overflow does, where none is
     // unread. It takes no memory.
-    pub(crate) fn put(&mut self, notice: Notice)
-        ensures { self.new ≡ put_notice self.old notice }
+    pub(crate) fn put(&mut self, notice: &Notice)
+        ensures { self.new ≡ put_notice self.old notice.now }
     {
-        if ends_with(&self.notices, &notice) {
+        if ends_with(&self.notices, notice) {
             return;
         }
         if self.notices.len() < QUEUE_MAX {
             append(&mut self.notices, notice);
         } else if !tells_overflow(&self.notices) {
-            append(&mut self.notices, lost());
+            append(&mut self.notices, &lost());
         }
     }
 
     // Puts what a callback answered.
-    pub(crate) fn put_answer(&mut self, answer: Option<Notice>)
-        ensures { self.new ≡ put_answer self.old answer }
+    pub(crate) fn put_answer(&mut self, answer: &Option<Notice>)
+        ensures { self.new ≡ put_answer self.old answer.now }
     {
         if let Some(notice) = answer {
             self.put(notice);

@@ -1,5 +1,5 @@
 // The watches of all clients.
-ghost use Rattle.std.specs.Prelude.{◌≡◌, ℕ, ◌<◌, ◌≤◌, ◌^◌, ◌∷◌, ◌++◌, [], Some, None, All, IsSome, IfOk, IfErr, OnOk, OnErr, ◌↔◌, IfSome, MatchResult, cond, not, nat_eq, filter, map, count_by, length, take, drop, MatchOption, false};
+ghost use Rattle.std.specs.Prelude.{◌≡◌, ℕ, ◌<◌, ◌≤◌, ◌^◌, ◌∷◌, ◌++◌, ◌+◌, [], Some, None, All, IsSome, IfOk, IfErr, OnOk, OnErr, ◌↔◌, IfSome, MatchResult, cond, not, nat_eq, filter, map, count_by, length, take, drop, MatchOption, false};
 ghost use Rattle.std.specs.List.{list_any, IsDistinct};
 ghost use Rattle.ov_base.specs.declared.node_id.NodeId.TheVariants.{New};
 ghost use Rattle.plain_model.specs.Watching.{AllHear, silent, is_numbered};
@@ -74,14 +74,6 @@ impl<F: Callback, R: Rule> WatchTable<F, R> {
         self.listeners.lawful();
     }
 
-    /// Whether a client watches the object of a number. It takes one look-up.
-    pub fn is_watched(&self, object: u64) -> bool
-        ensures { result ≡ list_any (λ e. is_on object e.watches) self.now }
-    {
-        self.listeners.lawful();
-        !self.objects.watchers(object).is_empty()
-    }
-
     /// How many clients watch the object of a number. It takes one look-up.
     pub fn watchers(&self, object: u64) -> usize
         ensures { result ≡ count_by (λ e. is_on object e.watches) self.now }
@@ -114,8 +106,7 @@ impl<F: Callback, R: Rule> WatchTable<F, R> {
         self.listeners.object_of(client, number)
     }
 
-    /// Tells subjects in their order, each to the watches that it reaches. It takes no memory, and a subject that no client watches takes
-    /// one look-up.
+    /// Tells subjects in their order, each to the watches that it reaches. It takes no memory.
     pub fn fire(&mut self, subjects: &[Subject<'_>])
         requires { All (λ s. IsSubject (subject_of s)) subjects.now }
         ensures { AllHear R.shows (subjects_of subjects.now) self.old self.new }
@@ -131,24 +122,32 @@ impl<F: Callback, R: Rule> WatchTable<F, R> {
         ensures { AllHearOne R.shows (subject_of subject.now) self.old self.new }
     {
         match subject.aim {
-            Aim::On(object) => self.tell_watchers(object, subject),
+            Aim::On(object) => {
+                let _ = self.tell_watchers(object, subject);
+            }
             Aim::Only(client, number) => self.tell_one(client, number, subject),
         }
     }
 
-    // Tells a subject for the watches on an object to the clients that watch it.
-    fn tell_watchers(&mut self, object: u64, subject: &Subject<'_>)
+    /// Tells a subject for the watches on the object of a number, and gives how many clients watch it no more. It takes no memory, and one
+    /// look-up where no watch ends.
+    pub fn tell_watchers(&mut self, object: u64, subject: &Subject<'_>) -> usize
         requires aim { subject.now.aim ≡ On object }
         requires subject { IsSubject (subject_of subject.now) }
-        ensures { AllHearOne R.shows (subject_of subject.now) self.old self.new }
+        ensures hear { AllHear R.shows (subject_of subject.now ∷ []) self.old self.new }
+        ensures ended { count_by (λ e. is_on object e.watches) self.new + result ≡ count_by (λ e. is_on object e.watches) self.old }
     {
         self.listeners.lawful();
         let clients = self.objects.watchers(object);
-        if clients.is_empty() {
-            return;
+        let before = clients.len();
+        if before == 0 {
+            return 0;
         }
-        self.listeners.tell(clients, subject);
+        if !self.listeners.tell(clients, subject) {
+            return 0;
+        }
         self.objects.refresh(&self.listeners, object);
+        before - self.objects.watchers(object).len()
     }
 
     // Tells a subject for one watch of a client to that client.

@@ -4,19 +4,19 @@ use Rattle.merged_lookup.specs.Merged.{trees, layers_of}
 use Rattle.make_remove.specs.Removing.{ShowsNoName, Unnames}
 use Rattle.copy_up.specs.Showing.{GainsParents}
 use Rattle.copy_up.proofs.Keeping.{on-err}
-use Rattle.make_remove.proofs.Removing.{found-inode, unshown-in, unlink-step}
+use Rattle.make_remove.proofs.Removing.{topmost-inode, unshown-in, unlink-step}
 use Rattle.make_remove.proofs.removals.unlink.Goals as goal
 
 pub take_away-requires-clause-bare : goal.take_away-requires-clause-bare
 take_away-requires-clause-bare c =
-    let file = found-inode c.args.layers.now c.args.path.now c.in-Ok.walked.1 c.in-Inode.field-0 c.in-Inode.is c.in-Ok.ensures.found in
+    let file = topmost-inode c.args.layers.now c.args.path.now c.in-Ok.walked.1 c.in-Inode.field-0 c.in-Inode.is c.in-Ok.ensures.found in
     let P : Path → Type 0 = λ p. ShowsNoName (layers_of c.args.layers.now) p in
     subst P c.in-Some.ensures (unshown-in (trees c.args.layers.now) c.args.path.now file)
 
 pub returns-clause-steps : goal.returns-clause-steps
 returns-clause-steps c =
     unlink-step c.args.layers.now c.take_away.new.layers c.args.path.now (reverse c.in-Some.parents.now) c.in-Some.name.now c.in-Some.ensures (c.in-Ok.ensures.answers.0 refl)
-    (found-inode c.args.layers.now c.args.path.now c.in-Ok.walked.1 c.in-Inode.field-0 c.in-Inode.is c.in-Ok.ensures.found) c.in_ok-key.ensures.takes
+    (topmost-inode c.args.layers.now c.args.path.now c.in-Ok.walked.1 c.in-Inode.field-0 c.in-Inode.is c.in-Ok.ensures.found) c.in_ok-key.ensures.takes
 
 pub returns-clause-unnames : goal.returns-clause-unnames
 returns-clause-unnames c = subst (λ p. Unnames c.args.layers.now c.take_away.new.layers p c.in_ok-key.key) (sym c.in-Some.ensures) c.in_ok-key.ensures.unnames

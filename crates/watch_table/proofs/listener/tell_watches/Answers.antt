@@ -17,7 +17,9 @@ loop-watch-preserved g c =
     let more : take (i + 1) ws ≡ take i ws ++ w ∷ [] = take_more ws i w c.loop-watch-test.true
     ∙ ap (λ x. take i ws ++ x ∷ []) (sym c.watch-item.is) in
     let split : flat_map f (take (i + 1) ws) ≡ flat_map f (take i ws) ++ f w = ap (flat_map f) more ∙ flat_map-append f (take i ws) (w ∷ [])
-    ∙ ap (λ x. flat_map f (take i ws) ++ x) (append-nil (f w)) in
-    subst (λ xs. Puts g.R.Rule.shows xs c.args.queue.now c.tell_watch.new.queue) (sym split)
-    (Puts-append g.R.Rule.shows (flat_map f (take i ws))
-    (f w) c.args.queue.now c.loop-watch.queue c.tell_watch.new.queue c.loop-watch.invariant c.tell_watch.ensures)
+    ∙ ap (λ x. flat_map f (take i ws) ++ x) (append-nil (f w)) in (
+      subst (λ xs. Puts g.R.Rule.shows xs c.args.queue.now c.tell_watch.new.queue) (sym split)
+          (Puts-append g.R.Rule.shows (flat_map f (take i ws))
+          (f w) c.args.queue.now c.loop-watch.queue c.tell_watch.new.queue c.loop-watch.invariant.0 c.tell_watch.ensures.puts),
+      c.tell_watch.ensures.event,
+    )

@@ -1,10 +1,7 @@
-use Rattle.std.proofs.Common.{◌≡◌, ◌⊎◌, ◌+◌, Some, arith, refl, ap, subst, sym, ◌∙◌}
-use Rattle.ov_base.specs.declared.node_id.NodeId.TheVariants.{New}
-use Rattle.plain_model.specs.Changes.{armed_on, at_client}
+use Rattle.std.proofs.Common.{◌+◌, arith, refl, ◌∙◌}
 use Rattle.open_handles.specs.TrackedHandles.{uses}
 use Rattle.notice_laws.specs.Notified.{Notified}
 use Rattle.notifier.specs.Notifying.{pinned_times, watchers}
-use Rattle.notifier.specs.Arming.{ArmsAt, IsArmRefused}
 use Rattle.notifier.proofs.Arming.{last-first, more-armed, outcome-of, counted-armed, lets-fewer, arms-at, refused-at}
 use Rattle.notifier.proofs.kept.Notifier.armed.Goals as goal
 

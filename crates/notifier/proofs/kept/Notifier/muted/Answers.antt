@@ -1,4 +1,4 @@
-use Rattle.std.proofs.Common.{◌≡◌, ℕ, ◌+◌, ◌<◌, true, cond, ap, sym, subst, ◌∙◌, arith}
+use Rattle.std.proofs.Common.{◌≡◌, ℕ, ◌+◌, true, cond, ap, subst, arith}
 use Rattle.plain_model.specs.Machine.{instance_of, watches_of}
 use Rattle.open_handles.specs.Tracked.{holders_of}
 use Rattle.watch_table.specs.Listening.{is_on}

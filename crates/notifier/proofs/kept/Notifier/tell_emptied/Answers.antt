@@ -9,4 +9,4 @@ pub returns-else-is_emptied : goal.returns-else-is_emptied
 returns-else-is_emptied g c =
     let shows = g.R.Rule.shows in
     let self = c.args.self.now in
-    subst (λ b. IsTold shows self self (cond b (of_both c.args.way (Some c.args.number) MODIFY) [])) (sym c.if-is_emptied.false) (told-none shows self)
+    subst (λ b. IsTold shows self self (cond b (of_both c.args.way.now (Some c.args.number) MODIFY) [])) (sym c.if-is_emptied.false) (told-none shows self)

@@ -1,4 +1,4 @@
-use Rattle.std.proofs.Common.{rules, ◌≡◌, Bool, List, not, filter, map, ap}
+use Rattle.std.proofs.Common.{rules, arith, ◌≡◌, ℕ, Bool, List, length, nat_lt, not, filter, map, ap, ◌∙◌}
 use Rattle.std.proofs.lemmas.Fn.{filter_same}
 use Rattle.plain_model.specs.Watching.{Watch, Instance, ends}
 use Rattle.watch_table.specs.Subjects.{subject_of}
@@ -24,8 +24,14 @@ returns g c =
       armed = c.self.inside.armed;
       queue = c.tell_watches.new.queue;
     } in
+    let before : c.len-before.result ≡ length c.self.inside.watches.items = omega (arith, c.len-before.ensures, c.self.inside.watches.ok) in
+    let after : c.len.result ≡ length c.retain.new.self.items = omega (arith, c.len.ensures, c.retain.new.self.ok) in
     rw (← c.self.view_is) (record {
-      watches = ap with stay;
-      queue =
-          rw (c.as_slice.ensures.value, c.as_slice-2.ensures.value) at c.tell_watches.ensures;
+      hears = record {
+        watches = ap with stay;
+        queue =
+            rw (c.as_slice.ensures.value, c.as_slice-2.ensures.value) at c.tell_watches.ensures.puts;
+      };
+      ended = ap (λ (m : ℕ). nat_lt c.len.result m) before ∙ ap (λ (m : ℕ). nat_lt m (length c.self.inside.watches.items)) after;
+      event = c.tell_watches.ensures.event;
     })

@@ -18,7 +18,7 @@ invariant_of-self g c =
     let fits = c.ranges.number in
     let aim = ap aim_of c.requires.aim in
     let one = simp (to_z-of_z, fits) at c.in-Some.ensures in
-    let heard = tell-only shows s es t c.self.invariant c.lawful.ensures c.args.client c.args.number c.tell.new.self aim c.tell.ensures in
+    let heard = tell-only shows s es t c.self.invariant c.lawful.ensures c.args.client c.args.number c.tell.new.self aim c.tell.ensures.told in
     let o = c.in-Some.object in
     let u = c.refresh.new.self in
     let fs = c.tell.new.self in
@@ -30,7 +30,7 @@ returns-in-Some g c =
     let s = subject_of c.args.subject.now in
     let es = c.self.inside.listeners in
     let all = tell-only g.R.Rule.shows s es c.self.inside.objects c.self.invariant c.lawful.ensures in
-    rw (← c.self.view_is) (all c.args.client c.args.number c.tell.new.self aim c.tell.ensures)
+    rw (← c.self.view_is) (all c.args.client c.args.number c.tell.new.self aim c.tell.ensures.told)
 
 pub returns-in_default : goal.returns-in_default
 returns-in_default g c =
