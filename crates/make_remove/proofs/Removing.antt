@@ -20,9 +20,7 @@ use Rattle.merged_lookup.specs.declared.stack.Stack.{Stack}
 use Rattle.merged_lookup.specs.declared.layers.Layers.{Layers}
 use Rattle.merged_lookup.specs.declared.found.Found.{Found}
 use Rattle.merged_lookup.specs.declared.found.Found.TheVariants as found
-use Rattle.merged_lookup.specs.declared.found.Topmost.{Topmost}
-use Rattle.merged_lookup.specs.declared.found.Topmost.TheVariants as topmost
-use Rattle.merged_lookup.specs.Merged.{trees, layers_of, lowers_of, top_of, unless_cut, places_at, IsStackOf, IsFound, IsTopmost, ShowsDirectory, ShowsInode}
+use Rattle.merged_lookup.specs.Merged.{trees, layers_of, lowers_of, top_of, unless_cut, places_at, IsStackOf, IsFound, ShowsDirectory, ShowsInode}
 use Rattle.merged_lookup.proofs.Descending.{key-of}
 use Rattle.merged_lookup.proofs.Looking.{head-places, head-unless}
 use Rattle.copy_up.specs.Showing.{is_object, ShowsSame, StaysLayers, GainsParents}
@@ -128,15 +126,18 @@ fault-no-directory ts p e h = by (is_directory (shows 0 (map layer_of ts) p)) re
 below-root : (p q : Path) (n : Name) → p ≡ n ∷ q → is_root p ≡ false
 below-root p q n e = ap is_root e
 
-unlink-chain : (r d : Bool) (w : Option Errno) → r ≡ false → w ≡ None → d ≡ false → or_else (when r errno.EBUSY) (or_else w (when d errno.EISDIR)) ≡ None
-unlink-chain r d w root walk file = grind arith
+allowed-chain : (r d : Bool) (w : Option Errno) → or_else (when r errno.EBUSY) (or_else w (when d errno.EISDIR)) ≡ None → (r ≡ false) × (w ≡ None) × (d ≡ false)
+allowed-chain r d w h = grind arith
+
+-- an unlink that is not refused is of what is no directory, below directories
+pub unlink-allowed : (Ls : List Layer) (p : Path) → unlink_fault Ls p ≡ None → (is_root p ≡ false) × (walk_fault Ls p ≡ None) × (is_directory (shows 0 Ls p) ≡ false)
+unlink-allowed Ls p h = allowed-chain (is_root p) (is_directory (shows 0 Ls p)) (walk_fault Ls p) h
 
 -- an unlink that takes the name away is the machine's step
-pub unlink-step : (old new : Layers) (p q : Path) (n : Name) → p ≡ n ∷ q → walk_fault (layers_of old) p ≡ None → is_directory (shows 0 (layers_of old) p) ≡ false → TakesName old new (n ∷ q) → (s : State) → IsMountOf (layer_of old.upper) (lowers_of old) s → (c : ℕ) → Removes (layer_of new.upper) (lowers_of new) s c p (call.Unlink p)
-unlink-step old new p q n e walk file t s m c =
+pub unlink-step : (old new : Layers) (p q : Path) (n : Name) → p ≡ n ∷ q → unlink_fault (layers_of old) p ≡ None → TakesName old new (n ∷ q) → (s : State) → IsMountOf (layer_of old.upper) (lowers_of old) s → (c : ℕ) → Removes (layer_of new.upper) (lowers_of new) s c p (call.Unlink p)
+unlink-step old new p q n e fine t s m c =
     let U : Layer = layer_of old.upper in
     let V : Layer = layer_of new.upper in
-    let fine : unlink_fault (layers_of old) p ≡ None = unlink-chain (is_root p) (is_directory (shows 0 (layers_of old) p)) (walk_fault (layers_of old) p) (below-root p q n e) walk file in
     let lost : Loses U V (lowers_of old) p = subst (λ (x : Path). Loses U V (lowers_of old) x) (sym e) (t.loses m.layers) in
     subst (λ (Ls : List Layer). Removes V Ls s c p (call.Unlink p)) (sym (lowers-same old new t.lowers)) (law_of_unlinked U V (lowers_of old) s m c p fine lost)
 
@@ -179,12 +180,6 @@ rmdir-full l p q n m is dir some s mount c =
 pub found-inode : (l : Layers) (p : Path) (f : Found) (d : Place) → f ≡ found.Inode d → IsFound l p f → is_directory (shows 0 (layers_of l) p) ≡ false
 found-inode l p f d e h =
     let P : Found → Type 0 = λ f. IsFound l p f in
-    let shown : ShowsInode l p d = subst P e h in
-    ap is_directory shown.shown
-
-pub topmost-inode : (l : Layers) (p : Path) (t : Topmost) (d : Place) → t ≡ topmost.Inode d → IsTopmost l p (Some t) → is_directory (shows 0 (layers_of l) p) ≡ false
-topmost-inode l p t d e h =
-    let P : Topmost → Type 0 = λ t. IsTopmost l p (Some t) in
     let shown : ShowsInode l p d = subst P e h in
     ap is_directory shown.shown
 

@@ -11,49 +11,62 @@ ghost use Rattle.layer_tree.specs.Nameless.{IsNameless, KeepsObjects};
 ghost use Rattle.layer_tree.specs.Table.{object_key};
 ghost use Rattle.layer_tree.specs.Tree.{layer_of, inode_at, with_less, entry, child, key_at, IsDirectory, HoldsNoObjects, ReplacesPath, Unbinds, SameTree, SameObjects};
 ghost use Rattle.layer_tree.specs.declared.name_table.Entry.TheVariants as bound;
-ghost use Rattle.merged_lookup.specs.Merged.{layers_of, lowers_of, way_fault, IsStackOf};
+ghost use Rattle.merged_lookup.specs.Merged.{layers_of, lowers_of, parent, way_fault, IsStackOf, ShowsInode};
 ghost use Rattle.copy_up.specs.Showing.{ShowsSame, GainsParents, Stays, StaysLayers, StaysMount, StaysThin};
 ghost use Rattle.make_remove.specs.Removing.{unlink_fault, rmdir_fault, ShowsNoName, TakesAway, Removes, TellsNames, TakesName, Unnames, released_by, has_more};
 
 use copy_up::place_parents;
 use dir_listing::shows_names;
 use layer_tree::{Entry, Layer, Node};
-use merged_lookup::{Found, Layers, Stack, Topmost};
+use merged_lookup::{Found, Layers, Place, Stack, Topmost};
 use ov_base::{Errno, Name, Path};
 use std::alloc::AllocError;
 
 /// Why the root is not removed: the mount stands on it.
 const ROOT_REFUSAL: Errno = Errno::EBUSY;
 
-/// Removes a name of a file or symbolic link, as unlink(2). The root is EBUSY; on the way to the last name a name that shows nothing is
-/// ENOENT, a file ENOTDIR and a symbolic link ELOOP; then a name that shows nothing is ENOENT and a directory EISDIR. It hands back the
-/// key of the upper's inode whose last name this was, which stays until it is freed. A refusal changes nothing, and want of memory
-/// changes nothing that is shown.
-pub fn unlink(layers: &mut Layers, path: &Path) -> Result<Result<Option<usize>, Errno>, AllocError>
-    ensures refused { IfOk result (λ r. IfErr r (λ e. unlink_fault (layers_of layers.old) path.now ≡ Some e)) }
-    ensures unchanged { IfOk result (λ r. OnErr r (layers.new ≡ layers.old)) }
-    ensures allowed { IfOk result (λ r. OnOk r (unlink_fault (layers_of layers.old) path.now ≡ None)) }
-    ensures takes { IfOk result (λ r. OnOk r (TakesName layers.old layers.new path.now)) }
-    ensures steps { IfOk result (λ r. OnOk r ((s : State) → IsMountOf (layer_of layers.old.upper) (lowers_of layers.old) s → (c : ℕ) → Removes (layer_of layers.new.upper) (lowers_of layers.new) s c path.now (call.Unlink path.now))) }
+/// The file or symbolic link that a path shows, with the merged directory in which its name stands, or why unlink(2) refuses it: the root is
+/// EBUSY; on the way to the last name a name that shows nothing is ENOENT, a file ENOTDIR and a symbolic link ELOOP; then a name that shows
+/// nothing is ENOENT and a directory EISDIR.
+pub fn leaf_at(layers: &Layers, path: &Path) -> Result<(Stack, Place), Errno>
+    ensures refused { IfErr result (λ e. unlink_fault (layers_of layers.now) path.now ≡ Some e) }
+    ensures allowed { OnOk result (unlink_fault (layers_of layers.now) path.now ≡ None) }
+    ensures directory { IfOk result (λ leaf. IsStackOf layers.now (parent path.now) leaf.0) }
+    ensures shown { IfOk result (λ leaf. ShowsInode layers.now path.now leaf.1) }
+{
+    let Some(_) = path.split_last() else {
+        return Err(ROOT_REFUSAL);
+    };
+    let (directory, shown) = layers.topmost_in(path)?;
+    let Topmost::Inode(place) = shown else {
+        return Err(Errno::EISDIR);
+    };
+    Ok((directory, place))
+}
+
+/// Removes the name of a file or symbolic link that `leaf_at` found in this directory, as unlink(2). It hands back the key of the upper's inode
+/// whose last name this was, which stays until it is freed. Want of memory changes nothing that is shown.
+pub fn unlink(
+    layers: &mut Layers,
+    directory: Stack,
+    path: &Path,
+) -> Result<Option<usize>, AllocError>
+    requires allowed { unlink_fault (layers_of layers.old) path.now ≡ None }
+    requires directory { IsStackOf layers.old (parent path.now) directory }
+    ensures takes { OnOk result (TakesName layers.old layers.new path.now) }
+    ensures steps { OnOk result ((s : State) → IsMountOf (layer_of layers.old.upper) (lowers_of layers.old) s → (c : ℕ) → Removes (layer_of layers.new.upper) (lowers_of layers.new) s c path.now (call.Unlink path.now)) }
     ensures keeps { StaysLayers layers.old layers.new }
     ensures thin { StaysThin layers.old layers.new }
     ensures no_memory { OnErr result (ShowsSame layers.old layers.new) }
     ensures mounts { OnErr result (StaysMount layers.old layers.new) }
-    ensures unnames { IfOk result (λ r. IfOk r (λ released. Unnames layers.old layers.new path.now released)) }
+    ensures unnames { IfOk result (λ released. Unnames layers.old layers.new path.now released) }
     ensures parents { OnErr result (GainsParents layers.old layers.new path.now) }
 {
     let Some((name, parents)) = path.split_last() else {
-        return Ok(Err(ROOT_REFUSAL));
-    };
-    let (directory, shown) = match layers.topmost_in(path) {
-        Ok(walked) => walked,
-        Err(errno) => return Ok(Err(errno)),
-    };
-    let Topmost::Inode(_) = shown else {
-        return Ok(Err(Errno::EISDIR));
+        unreachable!()
     };
     let key = take_away(layers, directory, parents, name)?;
-    Ok(Ok(key))
+    Ok(key)
 }
 
 /// Removes a directory that shows no name, as rmdir(2). The root is EBUSY; the way is refused as in `unlink`; a name that shows nothing is

@@ -21,6 +21,7 @@ pub mod Carrying
 pub mod Seeking
 pub mod FileReads
 pub mod Changing
+pub mod Unlinking
 pub mod Linking
 pub mod Renames
 pub mod Renaming

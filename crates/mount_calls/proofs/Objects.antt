@@ -1,9 +1,16 @@
 -- What stands at a path of the layers, as far as watches need it.
-use Rattle.std.proofs.Common.{◌≡◌, false, List, [], ◌∷◌, Option, None, Some, refl, ap, ◌∙◌, map}
+use Rattle.std.proofs.Common.{◌≡◌, false, List, [], ◌∷◌, Option, None, Some, Result, Ok, Err, refl, ap, ◌∙◌, map}
+use Rattle.std.specs.Prelude.{IfErr, IfOk}
 use Rattle.ov_base.specs.declared.errno.Errno.{Errno}
 use Rattle.plain_model.specs.Layers.{Name, Path, Shown, Folder, Contents, shows, is_directory}
 use Rattle.layer_tree.specs.Tree.{Tree, layer_of}
-use Rattle.mount_laws.specs.Looks.{absent, fault, or_else, way_fault, walk_fault}
+use Rattle.mount_laws.specs.Looks.{absent, fault, or_else, parents_fault, way_fault, walk_fault}
+use Rattle.merged_lookup.specs.declared.found.Topmost.{Topmost}
+use Rattle.merged_lookup.specs.declared.layers.Layers.{Layers}
+use Rattle.merged_lookup.specs.declared.stack.Stack.{Stack}
+use Rattle.merged_lookup.specs.Merged.{layers_of, IsTopmost}
+use Rattle.mount_calls.specs.declared.look.Look.{Look}
+use Rattle.mount_calls.specs.Looking.{IsLook, topmost_of}
 use Rattle.make_remove.proofs.Removing.{unshown-in}
 
 -- what a way can't go on from is no directory
@@ -34,3 +41,15 @@ walk-blocked ts (n ∷ p) e h = by (way_fault (map layer_of ts) p) refl h
     by : (o : Option Errno) → way_fault (map layer_of ts) p ≡ o → or_else o (absent (shows 0 (map layer_of ts) (n ∷ p))) ≡ Some e → shows 0 (map layer_of ts) (n ∷ p) ≡ None
     by (Some d) is g = unshown-in ts p (way-blocked ts p d is) n
     by None is g = absent-shown (shows 0 (map layer_of ts) (n ∷ p)) e g
+
+-- or its parents are
+pub parents-blocked : (ts : List Tree) (p : Path) (e : Errno) → parents_fault (map layer_of ts) p ≡ Some e → shows 0 (map layer_of ts) p ≡ None
+parents-blocked ts p e h = walk-blocked ts p e (ap (λ o. or_else o (absent (shows 0 (map layer_of ts) p))) h)
+
+-- what a look saw is at the top of what the path shows
+pub seen-top : (l : Layers) (p : Path) (look : Look) → IsLook l p look → IsTopmost l p (topmost_of look.shown)
+seen-top l p look is = by look.shown is.refused is.top
+  where
+    by : (o : Result (Stack × Option Topmost) Errno) → IfErr o (λ e. parents_fault (layers_of l) p ≡ Some e) → IfOk o (λ seen. IsTopmost l p seen.1) → IsTopmost l p (topmost_of o)
+    by (Ok seen) refused top = top
+    by (Err e) refused top = record { shown = parents-blocked (l.upper ∷ l.lowers.items) p e refused }

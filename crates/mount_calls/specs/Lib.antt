@@ -9,4 +9,5 @@ pub mod States
 pub mod Removing
 pub mod Altering
 pub mod Living
+pub mod Looking
 pub mod Renaming

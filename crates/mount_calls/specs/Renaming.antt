@@ -1,10 +1,8 @@
 -- What renames leave of what is open (POSIX.1-2017, rename(): a directory or file that is open stays so, also where it is replaced).
-use Rattle.std.specs.Prelude.{◌≡◌, ℕ, Bool, true, false, Option, Some, Result, Ok, Err}
+use Rattle.std.specs.Prelude.{◌≡◌, ℕ, Bool, true, false, Option, Some}
 use Rattle.ov_base.specs.declared.attributes.Attributes.{Attributes}
 use Rattle.ov_base.specs.declared.call.Call.TheVariants as call
 use Rattle.ov_base.specs.declared.errno.Errno.{Errno}
-use Rattle.ov_base.specs.declared.reply.Reply.{Reply}
-use Rattle.ov_base.specs.declared.reply.Reply.TheVariants.{Done, Refused}
 use Rattle.plain_model.specs.Layers.{Path}
 use Rattle.plain_model.specs.Machine.{State}
 use Rattle.plain_model.specs.Refusals.{refusal}
@@ -56,8 +54,3 @@ pub record RenamesHeld (clients : Clients) (old new : Layers) (redirects : Bool)
 abbrev pub MovesOrStays : Bool → Clients → Layers → Layers → Bool → Path → Path → Type 0
 MovesOrStays true clients old new redirects p q = RenamesHeld clients old new redirects p q
 MovesOrStays false clients old new redirects p q = (is_one (layer_of old.upper) p q ≡ true) × (new ≡ old)
-
--- how a rename is answered that moved something, that had nothing to move, or that was refused
-abbrev pub rename_reply : Result Bool Errno → Reply
-rename_reply (Ok moved) = Done
-rename_reply (Err errno) = Refused errno

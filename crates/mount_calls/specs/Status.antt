@@ -71,3 +71,8 @@ link_reply (Some e) target = reply.Refused e
 -- the reply to readlink at a path: why the walk there is refused, or the target of the symbolic link that is shown
 abbrev pub readlink_reply : List Layer → Path → Reply
 readlink_reply Ls p = link_reply (walk_fault Ls p) (shown_target (shows 0 Ls p))
+
+-- how a change is answered that was made, whatever it tells, or that was refused
+abbrev pub outcome_reply : {A : Type 0} → Result A Errno → Reply
+outcome_reply (Ok told) = reply.Done
+outcome_reply (Err errno) = reply.Refused errno

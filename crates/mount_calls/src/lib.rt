@@ -8,6 +8,7 @@ mod closing;
 mod file_bytes;
 mod file_calls;
 mod files;
+mod look;
 mod mount;
 mod object;
 mod open_calls;
@@ -18,5 +19,6 @@ mod user_attributes;
 mod write_calls;
 
 pub use clients::{CLIENTS_MAX, Clients};
+pub use look::Look;
 pub use mount::Mount;
 pub use status::{status_at, status_of};

@@ -3,9 +3,10 @@ ghost use Rattle.std.specs.Prelude.{◌≡◌, ◌<◌, ◌+◌, ◌^◌, ℕ, f
 ghost use Rattle.plain_model.specs.Layers.{AreLayers};
 ghost use Rattle.layer_tree.specs.Tree.{layer_of, inode_of};
 ghost use Rattle.merged_lookup.specs.Merged.{layers_of, lowers_of};
+ghost use Rattle.notice_laws.specs.Objects.{IsObject};
 ghost use Rattle.mount_calls.specs.States.{AreNamesIn};
 ghost use Rattle.mount_calls.specs.Files.{upper_of};
-ghost use Rattle.mount_calls.specs.Status.{stat_at, readlink_reply, target_reply};
+ghost use Rattle.mount_calls.specs.Status.{outcome_reply, stat_at, readlink_reply, target_reply};
 ghost use Rattle.std.specs.Option.{option_and_then};
 ghost use Rattle.mount_laws.specs.Leaves.{inode_target};
 
@@ -16,6 +17,7 @@ use dir_listing::{Cursor, names};
 use layer_tree::{Inode, Node};
 use make_remove::{mkdir, symlink};
 use merged_lookup::{Found, Layers, Topmost};
+use notice_laws::Object;
 use open_handles::{FileSource, Handle, OpenFile};
 use ov_base::{Attributes, Bytes, Call, Content, Errno, LinkTarget, Mode, NameList, Path, Reply};
 use rename_redirect::link;
@@ -272,6 +274,23 @@ impl Mount {
         }
     }
 
+    /// Removes a name of a file or link, and tells what stood there. Want of memory leaves all that is shown as it was.
+    pub fn unlink_telling(&mut self, path: &Path) -> Result<Result<Object, Errno>, AllocError>
+        ensures serves { IfOk result (λ outcome. (s : State) → IsStateOf self.old s → (c : ℕ) → Serves (refusal s c (Call.Unlink path.now)) s c (Call.Unlink path.now) (outcome_reply outcome) self.new) }
+        ensures object { IfOk result (λ outcome. IfOk outcome (IsObject (layer_of self.old.layers.upper) (lowers_of self.old.layers) path.now)) }
+        ensures err { OnErr result (StaysState self.old self.new) }
+        ensures clients { self.new.clients ≡ self.old.clients }
+        ensures refused { IfOk result (λ outcome. OnErr outcome (self.new.layers ≡ self.old.layers)) }
+        ensures lowers { self.new.layers.lowers ≡ self.old.layers.lowers }
+        ensures thin { StaysThin self.old.layers self.new.layers }
+        ensures named { IfOk result (λ outcome. (s : State) → IsStateOf self.old s → (c : ℕ) → refusal s c (Call.Unlink path.now) ≡ None → KeepsNamed s c self.old.layers self.new.layers (Call.Unlink path.now)) }
+        ensures stays_live { OnErr result (StaysLive self.old.layers self.new.layers) }
+    {
+        self.clients.lawful();
+        let outcome = unlink_and_free(&mut self.layers, &self.clients, path)?;
+        Ok(outcome)
+    }
+
     fn unlink(&mut self, path: &Path) -> Result<Reply, AllocError>
         ensures serves { IfOk result (λ reply. (s : State) → IsStateOf self.old s → (c : ℕ) → Serves (refusal s c (Call.Unlink path.now)) s c (Call.Unlink path.now) reply self.new) }
         ensures err { OnErr result (StaysState self.old self.new) }
@@ -282,9 +301,8 @@ impl Mount {
         ensures named { IfOk result (λ reply. (s : State) → IsStateOf self.old s → (c : ℕ) → refusal s c (Call.Unlink path.now) ≡ None → KeepsNamed s c self.old.layers self.new.layers (Call.Unlink path.now)) }
         ensures stays_live { OnErr result (StaysLive self.old.layers self.new.layers) }
     {
-        self.clients.lawful();
-        match unlink_and_free(&mut self.layers, &self.clients, path)? {
-            Ok(()) => Ok(Reply::Done),
+        match self.unlink_telling(path)? {
+            Ok(_) => Ok(Reply::Done),
             Err(errno) => Ok(Reply::Refused(errno)),
         }
     }

@@ -45,7 +45,7 @@ impl Mount {
 }
 
 // The file or link that is shown at a place.
-fn object_in(layers: &Layers, place: Place) -> Object
+pub(crate) fn object_in(layers: &Layers, place: Place) -> Object
     requires { (p : Names) × ShowsInode layers.now p place }
     ensures { (p : Names) → ShowsInode layers.now p place → IsObject (layer_of layers.now.upper) (lowers_of layers.now) p result }
 {

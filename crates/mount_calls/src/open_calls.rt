@@ -17,11 +17,13 @@ ghost use Rattle.copy_up.specs.Showing.{GainsParents, StaysLayers, StaysMount, S
 ghost use Rattle.mount_calls.specs.Attaching.{KeepsAttached};
 ghost use Rattle.mount_calls.specs.Keeping.{KeepsLayers};
 ghost use Rattle.mount_calls.specs.Living.{KeepsNamed, StaysLive};
+ghost use Rattle.mount_calls.specs.Looking.{IsLook};
 ghost use Rattle.mount_calls.specs.Opening as opening;
 ghost use Rattle.mount_calls.specs.States.{HasStateOf, IsStateOf, Serves, StaysState};
 
 use crate::file_bytes::resize_file;
 use crate::files::file_at;
+use crate::look::Look;
 use crate::mount::Mount;
 use copy_up::all_at_once;
 use layer_tree::{Inode, Node};
@@ -52,11 +54,37 @@ impl Mount {
         ensures named { IfOk result (λ reply. (s : State) → IsStateOf self.old s → refusal s client (Call.Open path.now flags mode) ≡ None → KeepsNamed s client self.old.layers self.new.layers (Call.Open path.now flags mode)) }
         ensures stays_live { OnErr result (StaysLive self.old.layers self.new.layers) }
     {
+        let look = self.look(path);
+        self.open_seen(client, path, flags, mode, look)
+    }
+
+    /// `open` of a path that was looked at before, on these layers.
+    pub fn open_seen(
+        &mut self,
+        client: u64,
+        path: &Path,
+        flags: OpenFlags,
+        mode: u32,
+        look: Look,
+    ) -> Result<Reply, AllocError>
+        requires attached { IsSome (get nat_cmp self.old.clients.attached client) }
+        requires state { ∥ HasStateOf self.old ∥₁ }
+        requires look { IsLook self.old.layers path.now look }
+        ensures serves { IfOk result (λ reply. (s : State) → IsStateOf self.old s → Serves (refusal s client (Call.Open path.now flags mode)) s client (Call.Open path.now flags mode) reply self.new) }
+        ensures err { OnErr result (StaysState self.old self.new) }
+        ensures clients { KeepsAttached self.old.clients self.new.clients }
+        ensures layers { KeepsLayers (Call.Open path.now flags mode) self.old.layers self.new.layers }
+        ensures refused { IfOk result (λ reply. (errno : Errno) → reply ≡ Reply.Refused errno → self.new.layers ≡ self.old.layers) }
+        ensures lowers { self.new.layers.lowers ≡ self.old.layers.lowers }
+        ensures thin { StaysThin self.old.layers self.new.layers }
+        ensures named { IfOk result (λ reply. (s : State) → IsStateOf self.old s → refusal s client (Call.Open path.now flags mode) ≡ None → KeepsNamed s client self.old.layers self.new.layers (Call.Open path.now flags mode)) }
+        ensures stays_live { OnErr result (StaysLive self.old.layers self.new.layers) }
+    {
         let mode = match accepted(flags, mode) {
             Ok(mode) => mode,
             Err(errno) => return Ok(Reply::Refused(errno)),
         };
-        let (directory, top) = match shown_at(&self.layers, path) {
+        let (directory, top) = match look.shown {
             Ok(shown) => shown,
             Err(errno) => return Ok(Reply::Refused(errno)),
         };
@@ -203,26 +231,6 @@ fn bad_flags(flags: OpenFlags) -> bool
     let no_access = !flags.reads && !flags.writes;
     let alone = flags.exclusive && !flags.create || flags.truncate && !flags.writes;
     no_access || flags.unknown || alone || flags.directory && flags.create
-}
-
-// The merged directory in which a path's last name stands, and the topmost object that the path shows, if it shows any.
-fn shown_at(layers: &Layers, path: &Path) -> Result<(Stack, Option<Topmost>), Errno>
-    ensures refused { IfErr result (λ e. parents_fault (layers_of layers.now) path.now ≡ Some e) }
-    ensures way { OnOk result (parents_fault (layers_of layers.now) path.now ≡ None) }
-    ensures directory { IfOk result (λ shown. IsStackOf layers.now (parent path.now) shown.0) }
-    ensures top { IfOk result (λ shown. IsTopmost layers.now path.now shown.1) }
-{
-    match layers.parent_of(path)? {
-        None => {
-            let root = layers.root();
-            let top = root.top();
-            Ok((root, Some(Topmost::Directory(top))))
-        }
-        Some(parent) => {
-            let top = layers.topmost(&parent.stack, parent.name);
-            Ok((parent.stack, top))
-        }
-    }
 }
 
 // Why what is shown isn't opened, or nothing isn't made: as open(2) asks, in its order.

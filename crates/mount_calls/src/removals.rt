@@ -12,27 +12,31 @@ ghost use Rattle.merged_lookup.specs.Merged.{layers_of, lowers_of};
 ghost use Rattle.copy_up.specs.Showing.{ShowsSame, StaysLayers, StaysMount, StaysThin};
 ghost use Rattle.make_remove.specs.Removing.{TakesName};
 ghost use Rattle.plain_model.specs.Layers.{AreLayers, Inode as HeldInode};
+ghost use Rattle.notice_laws.specs.Objects.{IsObject};
 ghost use Rattle.mount_calls.specs.Living.{FreesClosed, KeepsHeld, StaysHeld, StaysLive};
 ghost use Rattle.mount_calls.specs.Renaming.{MovesOrStays, RefusesRenames};
 ghost use Rattle.mount_laws.specs.Renaming.{rename_fault};
 
 use crate::clients::Clients;
+use crate::object::object_in;
 use layer_tree::Node;
-use make_remove::{free, rmdir, unlink};
+use make_remove::{free, leaf_at, rmdir, unlink};
 use merged_lookup::{Layers, Place};
+use notice_laws::Object;
 use ov_base::{Errno, Path};
 use rename_redirect::{Renamed, rename};
 use std::alloc::{AllocError, Global};
 
-/// `unlink`, which frees the inode whose last name this was, unless a handle holds it.
+/// `unlink`, which frees the inode whose last name this was, unless a handle holds it, and tells what stood there.
 pub(crate) fn unlink_and_free(
     layers: &mut Layers,
     clients: &Clients,
     path: &Path,
-) -> Result<Result<(), Errno>, AllocError>
+) -> Result<Result<Object, Errno>, AllocError>
     ensures refused { IfOk result (λ r. IfErr r (λ e. unlink_fault (layers_of layers.old) path.now ≡ Some e)) }
     ensures unchanged { IfOk result (λ r. OnErr r (layers.new ≡ layers.old)) }
     ensures allowed { IfOk result (λ r. OnOk r (unlink_fault (layers_of layers.old) path.now ≡ None)) }
+    ensures object { IfOk result (λ r. IfOk r (IsObject (layer_of layers.old.upper) (lowers_of layers.old) path.now)) }
     ensures takes { IfOk result (λ r. OnOk r (TakesName layers.old layers.new path.now)) }
     ensures steps { IfOk result (λ r. OnOk r ((s : State) → IsMountOf (layer_of layers.old.upper) (lowers_of layers.old) s → (c : ℕ) → Removes (layer_of layers.new.upper) (lowers_of layers.new) s c path.now (call.Unlink path.now))) }
     ensures keeps { StaysLayers layers.old layers.new }
@@ -42,13 +46,14 @@ pub(crate) fn unlink_and_free(
     ensures live { IfOk result (λ r. OnOk r (KeepsHeld clients.now layers.old layers.new (call.Unlink path.now))) }
     ensures stays { OnErr result (StaysLive layers.old layers.new) }
 {
-    match unlink(layers, path)? {
-        Ok(key) => {
-            free_released(layers, clients, key);
-            Ok(Ok(()))
-        }
-        Err(errno) => Ok(Err(errno)),
-    }
+    let (directory, place) = match leaf_at(layers, path) {
+        Ok(leaf) => leaf,
+        Err(errno) => return Ok(Err(errno)),
+    };
+    let object = object_in(layers, place);
+    let key = unlink(layers, directory, path)?;
+    free_released(layers, clients, key);
+    Ok(Ok(object))
 }
 
 /// `rmdir`, which frees the upper's directory.

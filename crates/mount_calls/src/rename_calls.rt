@@ -8,8 +8,8 @@ ghost use Rattle.open_handles.specs.Renames.{IsSettled};
 ghost use Rattle.copy_up.specs.Showing.{StaysThin};
 ghost use Rattle.mount_calls.specs.Attaching.{KeepsAttached};
 ghost use Rattle.mount_calls.specs.Living.{KeepsNamed, StaysLive};
-ghost use Rattle.mount_calls.specs.Renaming.{rename_reply};
 ghost use Rattle.mount_calls.specs.States.{HasStateOf, IsStateOf, Serves, StaysState};
+ghost use Rattle.mount_calls.specs.Status.{outcome_reply};
 
 use crate::mount::Mount;
 use crate::removals::rename_and_free;
@@ -25,7 +25,7 @@ impl Mount {
         new: &Path,
     ) -> Result<Result<bool, Errno>, AllocError>
         requires { ∥ HasStateOf self.old ∥₁ }
-        ensures serves { IfOk result (λ outcome. (s : State) → IsStateOf self.old s → (c : ℕ) → Serves (refusal s c (Call.Rename old.now new.now)) s c (Call.Rename old.now new.now) (rename_reply outcome) self.new) }
+        ensures serves { IfOk result (λ outcome. (s : State) → IsStateOf self.old s → (c : ℕ) → Serves (refusal s c (Call.Rename old.now new.now)) s c (Call.Rename old.now new.now) (outcome_reply outcome) self.new) }
         ensures moves { IfOk result (λ outcome. IfOk outcome (λ moved. is_one (layer_of self.old.layers.upper) old.now new.now ≡ not moved)) }
         ensures err { OnErr result (StaysState self.old self.new) }
         ensures clients { KeepsAttached self.old.clients self.new.clients }

@@ -1,12 +1,12 @@
 //! Measures whole calls, in nanoseconds an operation.
 #![tactic(auto)]
 
-mod calls;
 mod colliding;
 mod deeds;
 mod loads;
 mod manifests;
 mod mounts;
+mod operations;
 mod redirects;
 mod trees;
 mod watchers;
@@ -29,7 +29,7 @@ stat below redirects in 17 layers: chains chains_absent chains_past chains_past_
 const LOWERS: u32 = 16;
 
 // What the command line asks for.
-fn asked<R: Env + AllocGlobal>(rt: &R) -> io::Result<Option<(Load, u32)>> {
+fn asked<R: Env + AllocGlobal>(rt: &R) -> io::Result<Option<(Load, u32, u32)>> {
     let mut words = env::args(rt)?;
     let _program = words.next();
     let Some(load) = words.next() else {
@@ -46,17 +46,17 @@ fn asked<R: Env + AllocGlobal>(rt: &R) -> io::Result<Option<(Load, u32)>> {
         return Ok(None);
     }
     match count.as_str().parse::<u32>() {
-        Ok(count) if count > 0 => Ok(Load::named(load.as_str(), lowers).map(|load| (load, count))),
+        Ok(count) if count > 0 => Ok(Load::named(load.as_str()).map(|load| (load, lowers, count))),
         _ => Ok(None),
     }
 }
 
 fn run<R: Env + AllocGlobal + Clock + Print>(rt: &R, keys: RandomState) -> io::Result<()> {
-    let Some((load, count)) = asked(rt)? else {
+    let Some((load, lowers, count)) = asked(rt)? else {
         return println!(rt; "{USAGE}");
     };
     let alloc: Global = rt.alloc();
-    let (nanos, operations) = measure(rt, alloc, keys, &echoing_hook(), load, count)?;
+    let (nanos, operations) = measure(rt, alloc, keys, &echoing_hook(), load, lowers, count)?;
     let each = nanos / u64::from(operations.max(1));
     println!(rt; "{each} ns an operation, {operations} operations")
 }

@@ -1,13 +1,13 @@
 // Clients that watch, and what they are told.
-use crate::deeds::{Deed, do_all, operations};
-use crate::loads::since;
+use crate::deeds::Deed;
+use crate::loads::{do_all, since};
 use crate::manifests::nested;
-use crate::mounts::{attached, made, mounted_alone, path_of, path_to};
-use crate::trees::{DIRECTORIES, WIDE, served};
+use crate::mounts::{attached, made, path_of, path_to};
+use crate::operations::operations;
+use crate::trees::{DIRECTORIES, WIDE};
 use ov_base::{Call, Path, Reply};
 use overlay_core::Core;
 use std::alloc::{AllocError, Global};
-use std::hash::RandomState;
 use std::io;
 use std::rt::Clock;
 use std::time::Instant;
@@ -32,21 +32,7 @@ const ALL: u32 = 65;
 
 /// Making and removing a file so often in a directory that so many clients watch, of which the first makes it and all read what they
 /// were told. An operation is a notice that was read.
-pub fn measure_notices<C: Clock, F: Callback + Copy, R: Rule>(
-    clock: &C,
-    alloc: Global,
-    keys: RandomState,
-    hook: &Hook<F, R>,
-    watchers: u32,
-    lowers: u32,
-    count: u32,
-) -> io::Result<(u64, u32)> {
-    let manifest = served(alloc, lowers)?;
-    let mut core = mounted_alone(alloc, keys, &manifest)?;
-    tell_on(clock, alloc, &mut core, hook, watchers, count)
-}
-
-fn tell_on<C: Clock, F: Callback + Copy, R: Rule>(
+pub fn tell_on<C: Clock, F: Callback + Copy, R: Rule>(
     clock: &C,
     alloc: Global,
     core: &mut Core<F, R>,

@@ -30,31 +30,13 @@ use Rattle.notifier.specs.Moving.{IsFreeFor, IsPlaceFor}
 use Rattle.mount_calls.specs.declared.mount.Mount.{Mount}
 use Rattle.mount_calls.specs.Attaching.{is_attached}
 use Rattle.mount_calls.specs.Living.{KeepsNamed, StaysLive}
-use Rattle.mount_calls.specs.Renaming.{rename_reply}
+use Rattle.mount_calls.specs.Status.{outcome_reply}
 use Rattle.mount_calls.specs.States.{IsStateOf, Serves, StaysState}
 use Rattle.overlay_core.specs.Watching.{Agrees, Goes, HasState, Stays}
 use Rattle.overlay_core.proofs.MovesFree.{found-one, is-bare, key-free, key-squashed, lifted-found, place-squashed, root-refused}
 use Rattle.overlay_core.proofs.MovesHeld.{IsGivenUp, IsHeldFor, back-tracks, few-clients, ready-tracks}
 use Rattle.overlay_core.proofs.Performing.{Performed, goes-done, goes-refused, passing}
 use Rattle.overlay_core.proofs.Watching.{allowed-by, goes, stays, upper_of}
-
--- what a mount says of a rename that it made
-pub renamed-so : (c : ℕ) (p q : Path) (outcome : Result Bool Errno) (old new : Mount) → is_attached old.clients c ≡ true →
-    ((s : State) → IsStateOf old s → (d : ℕ) → Serves (refusal s d (Rename p q)) s d (Rename p q) (rename_reply outcome) new) →
-    new.layers.lowers ≡ old.layers.lowers →
-    ((s : State) → IsStateOf old s → (d : ℕ) → refusal s d (Rename p q) ≡ None → KeepsNamed s d old.layers new.layers (Rename p q)) →
-    OnErr outcome (new.layers ≡ old.layers) → Performed c (Rename p q) (rename_reply outcome) old new
-renamed-so c p q outcome old new there serves lowers named refused = record {
-  there = there;
-  serves = λ s st. serves s st c;
-  lowers = lowers;
-  named = λ s st fine. named s st c fine;
-  refused = λ e is. by outcome refused e is;
-}
-  where
-    by : (x : Result Bool Errno) → OnErr x (new.layers ≡ old.layers) → (e : Errno) → rename_reply x ≡ Refused e → new.layers ≡ old.layers
-    by (Ok b) h e is = absurd (let no : Done ≡ Refused e = is in cc)
-    by (Err f) h e is = h
 
 -- a call that is a rename goes as that
 pub as-called : (rule : Rule) (c : ℕ) (k : Call) (p q : Path) (r x : Reply) (old new : Mount) (from to : Notified) → k ≡ Rename p q → r ≡ x →

@@ -38,28 +38,21 @@ impl<F: Callback, R: Rule> Watched<F, R> {
     }
 
     /// Removes a name of a file or link, and tells its directory and the file, and the end of the file where it has neither name nor handle.
-    pub(crate) fn unlink(
-        &mut self,
-        client: u64,
-        path: &Path,
-        call: &Call,
-    ) -> Result<Reply, AllocError>
+    pub(crate) fn unlink(&mut self, client: u64, path: &Path) -> Result<Reply, AllocError>
         requires there { is_attached self.old.mount.clients client ≡ true }
-        requires state { ∥ HasState self.old.mount self.old.notifier ∥₁ }
-        requires call { call.now ≡ Call.Unlink path.now }
-        ensures goes { IfOk result (λ reply. Goes R.shows self.old.mount self.old.notifier client (Called call.now reply) self.new.mount self.new.notifier) }
+        ensures goes { IfOk result (λ reply. Goes R.shows self.old.mount self.old.notifier client (Called (Call.Unlink path.now) reply) self.new.mount self.new.notifier) }
         ensures err { OnErr result (Stays self.old.mount self.old.notifier self.new.mount self.new.notifier) }
-        ensures kept { Keeps call.now self.old.mount self.new.mount }
+        ensures kept { Keeps (Call.Unlink path.now) self.old.mount self.new.mount }
         ensures refused { IfOk result (λ reply. (errno : Errno) → reply ≡ Reply.Refused errno → self.new.mount.layers ≡ self.old.mount.layers) }
     {
-        let object = self.mount.object_at(path);
-        let reply = self.mount.perform(client, call)?;
-        let Reply::Done = reply else {
-            return Ok(reply);
-        };
-        self.notifier.unlinked(path, object);
-        self.notifier.lawful();
-        Ok(Reply::Done)
+        match self.mount.unlink_telling(path)? {
+            Ok(object) => {
+                self.notifier.unlinked(path, object);
+                self.notifier.lawful();
+                Ok(Reply::Done)
+            }
+            Err(errno) => Ok(Reply::Refused(errno)),
+        }
     }
 
     /// Removes a directory, and tells the directory that it was in, and its end where no handle is on it.

@@ -1,5 +1,5 @@
 // What opens tell: those of what stands at a path, and those that make a file.
-ghost use Rattle.std.specs.Prelude.{◌≡◌, ◌≢◌, ℕ, None, true, IfNone, IfOk, IfSome, OnErr};
+ghost use Rattle.std.specs.Prelude.{◌≡◌, ◌≢◌, None, true, IfNone, IfOk, IfSome, OnErr};
 ghost use Rattle.plain_model.specs.Machine.{State};
 ghost use Rattle.plain_model.specs.Refusals.{refusal};
 ghost use Rattle.plain_model.specs.Runs.{Called};
@@ -8,11 +8,12 @@ ghost use Rattle.merged_lookup.specs.Merged.{lowers_of};
 ghost use Rattle.notice_laws.specs.declared.object.Object.TheVariants as stands;
 ghost use Rattle.notice_laws.specs.Objects.{IsObject};
 ghost use Rattle.mount_calls.specs.Attaching.{is_attached};
-ghost use Rattle.mount_calls.specs.Offers.{is_offered};
+ghost use Rattle.mount_calls.specs.Looking.{IsLook};
 ghost use Rattle.overlay_core.specs.Opens.{IsFull, IsLowestFree};
 ghost use Rattle.overlay_core.specs.Watching.{Agrees, Goes, HasState, Keeps, Stays};
 
 use crate::watched::Watched;
+use mount_calls::Look;
 use notice_laws::Object;
 use open_handles::DESCRIPTORS_MAX;
 use ov_base::{Call, Errno, OpenFlags, Path, Reply};
@@ -34,17 +35,24 @@ impl<F: Callback, R: Rule> Watched<F, R> {
     }
 
     // Makes an open that is refused, of which nothing is told.
-    fn open_refused(&mut self, client: u64, call: &Call) -> Result<Reply, AllocError>
+    fn open_refused(
+        &mut self,
+        client: u64,
+        path: &Path,
+        flags: OpenFlags,
+        mode: u32,
+        look: Look,
+    ) -> Result<Reply, AllocError>
         requires there { is_attached self.old.mount.clients client ≡ true }
         requires state { ∥ HasState self.old.mount self.old.notifier ∥₁ }
-        requires offered { is_offered call.now ≡ true }
-        requires refused { (s : State) → Agrees self.old.mount self.old.notifier s → refusal s client call.now ≢ None }
-        ensures goes { IfOk result (λ reply. Goes R.shows self.old.mount self.old.notifier client (Called call.now reply) self.new.mount self.new.notifier) }
+        requires look { IsLook self.old.mount.layers path.now look }
+        requires refused { (s : State) → Agrees self.old.mount self.old.notifier s → refusal s client (Call.Open path.now flags mode) ≢ None }
+        ensures goes { IfOk result (λ reply. Goes R.shows self.old.mount self.old.notifier client (Called (Call.Open path.now flags mode) reply) self.new.mount self.new.notifier) }
         ensures err { OnErr result (Stays self.old.mount self.old.notifier self.new.mount self.new.notifier) }
-        ensures kept { Keeps call.now self.old.mount self.new.mount }
+        ensures kept { Keeps (Call.Open path.now flags mode) self.old.mount self.new.mount }
         ensures refused { IfOk result (λ reply. (errno : Errno) → reply ≡ Reply.Refused errno → self.new.mount.layers ≡ self.old.mount.layers) }
     {
-        self.mount.perform(client, call)
+        self.mount.open_seen(client, path, flags, mode, look)
     }
 
     // Opens what stands at a path, under a descriptor that is free, and tells its directory and the object.
@@ -53,26 +61,27 @@ impl<F: Callback, R: Rule> Watched<F, R> {
         client: u64,
         descriptor: u32,
         path: &Path,
-        object: Object,
         flags: OpenFlags,
-        call: &Call,
+        mode: u32,
+        look: Look,
+        object: Object,
     ) -> Result<Reply, AllocError>
         requires there { is_attached self.old.mount.clients client ≡ true }
         requires state { ∥ HasState self.old.mount self.old.notifier ∥₁ }
-        requires call { (mode : ℕ) × (call.now ≡ Call.Open path.now flags mode) }
+        requires look { IsLook self.old.mount.layers path.now look }
         requires free { IsLowestFree self.old.mount.clients client descriptor }
         requires stands { IsObject (layer_of self.old.mount.layers.upper) (lowers_of self.old.mount.layers) path.now object }
         requires something { object ≢ stands.Other }
-        ensures goes { IfOk result (λ reply. Goes R.shows self.old.mount self.old.notifier client (Called call.now reply) self.new.mount self.new.notifier) }
+        ensures goes { IfOk result (λ reply. Goes R.shows self.old.mount self.old.notifier client (Called (Call.Open path.now flags mode) reply) self.new.mount self.new.notifier) }
         ensures err { OnErr result (Stays self.old.mount self.old.notifier self.new.mount self.new.notifier) }
-        ensures kept { Keeps call.now self.old.mount self.new.mount }
+        ensures kept { Keeps (Call.Open path.now flags mode) self.old.mount self.new.mount }
         ensures refused { IfOk result (λ reply. (errno : Errno) → reply ≡ Reply.Refused errno → self.new.mount.layers ≡ self.old.mount.layers) }
     {
         self.notifier.lawful();
         let prepared = self.notifier.prepare_open(client, descriptor, path, object);
         self.notifier.lawful();
         prepared?;
-        let reply = match self.mount.perform(client, call) {
+        let reply = match self.mount.open_seen(client, path, flags, mode, look) {
             Ok(reply) => reply,
             Err(fault) => {
                 self.notifier.cancel_open(client, descriptor);
@@ -98,23 +107,25 @@ impl<F: Callback, R: Rule> Watched<F, R> {
         client: u64,
         descriptor: u32,
         path: &Path,
-        call: &Call,
+        flags: OpenFlags,
+        mode: u32,
+        look: Look,
     ) -> Result<Reply, AllocError>
         requires there { is_attached self.old.mount.clients client ≡ true }
         requires state { ∥ HasState self.old.mount self.old.notifier ∥₁ }
-        requires call { (flags : OpenFlags) × (mode : ℕ) × (call.now ≡ Call.Open path.now flags mode) }
+        requires look { IsLook self.old.mount.layers path.now look }
         requires free { IsLowestFree self.old.mount.clients client descriptor }
         requires nothing { IsObject (layer_of self.old.mount.layers.upper) (lowers_of self.old.mount.layers) path.now stands.Other }
-        ensures goes { IfOk result (λ reply. Goes R.shows self.old.mount self.old.notifier client (Called call.now reply) self.new.mount self.new.notifier) }
+        ensures goes { IfOk result (λ reply. Goes R.shows self.old.mount self.old.notifier client (Called (Call.Open path.now flags mode) reply) self.new.mount self.new.notifier) }
         ensures err { OnErr result (Stays self.old.mount self.old.notifier self.new.mount self.new.notifier) }
-        ensures kept { Keeps call.now self.old.mount self.new.mount }
+        ensures kept { Keeps (Call.Open path.now flags mode) self.old.mount self.new.mount }
         ensures refused { IfOk result (λ reply. (errno : Errno) → reply ≡ Reply.Refused errno → self.new.mount.layers ≡ self.old.mount.layers) }
     {
         self.notifier.lawful();
         let prepared = self.notifier.prepare_new(client, descriptor, path);
         self.notifier.lawful();
         prepared?;
-        let reply = match self.mount.perform(client, call) {
+        let reply = match self.mount.open_seen(client, path, flags, mode, look) {
             Ok(reply) => reply,
             Err(fault) => {
                 self.notifier.cancel_open(client, descriptor);
@@ -139,26 +150,26 @@ impl<F: Callback, R: Rule> Watched<F, R> {
         client: u64,
         path: &Path,
         flags: OpenFlags,
-        call: &Call,
+        mode: u32,
     ) -> Result<Reply, AllocError>
         requires there { is_attached self.old.mount.clients client ≡ true }
         requires state { ∥ HasState self.old.mount self.old.notifier ∥₁ }
-        requires call { (mode : ℕ) × (call.now ≡ Call.Open path.now flags mode) }
-        ensures goes { IfOk result (λ reply. Goes R.shows self.old.mount self.old.notifier client (Called call.now reply) self.new.mount self.new.notifier) }
+        ensures goes { IfOk result (λ reply. Goes R.shows self.old.mount self.old.notifier client (Called (Call.Open path.now flags mode) reply) self.new.mount self.new.notifier) }
         ensures err { OnErr result (Stays self.old.mount self.old.notifier self.new.mount self.new.notifier) }
-        ensures kept { Keeps call.now self.old.mount self.new.mount }
+        ensures kept { Keeps (Call.Open path.now flags mode) self.old.mount self.new.mount }
         ensures refused { IfOk result (λ reply. (errno : Errno) → reply ≡ Reply.Refused errno → self.new.mount.layers ≡ self.old.mount.layers) }
     {
+        let look = self.mount.look(path);
         let Some(descriptor) = self.free_descriptor(client) else {
-            return self.open_refused(client, call);
+            return self.open_refused(client, path, flags, mode, look);
         };
-        let object = self.mount.object_at(path);
+        let object = self.mount.object_seen(&look);
         let Object::Other = object else {
-            return self.open_there(client, descriptor, path, object, flags, call);
+            return self.open_there(client, descriptor, path, flags, mode, look, object);
         };
         if flags.create {
-            return self.open_new(client, descriptor, path, call);
+            return self.open_new(client, descriptor, path, flags, mode, look);
         }
-        self.open_refused(client, call)
+        self.open_refused(client, path, flags, mode, look)
     }
 }

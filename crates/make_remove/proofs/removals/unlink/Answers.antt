@@ -1,22 +1,23 @@
-use Rattle.std.proofs.Common.{reverse, refl, sym, subst}
+use Rattle.std.proofs.Common.{reverse, sym, ap, subst, ◌∙◌, ◌∷◌}
 use Rattle.plain_model.specs.Layers.{Path}
+use Rattle.mount_laws.specs.Looks.{walk_fault}
 use Rattle.merged_lookup.specs.Merged.{trees, layers_of}
 use Rattle.make_remove.specs.Removing.{ShowsNoName, Unnames}
 use Rattle.copy_up.specs.Showing.{GainsParents}
 use Rattle.copy_up.proofs.Keeping.{on-err}
-use Rattle.make_remove.proofs.Removing.{topmost-inode, unshown-in, unlink-step}
+use Rattle.make_remove.proofs.Removing.{unlink-allowed, unshown-in, unlink-step}
 use Rattle.make_remove.proofs.removals.unlink.Goals as goal
 
 pub take_away-requires-clause-bare : goal.take_away-requires-clause-bare
 take_away-requires-clause-bare c =
-    let file = topmost-inode c.args.layers.now c.args.path.now c.in-Ok.walked.1 c.in-Inode.field-0 c.in-Inode.is c.in-Ok.ensures.found in
+    let fine = unlink-allowed (layers_of c.args.layers.now) c.args.path.now c.requires.allowed in
     let P : Path → Type 0 = λ p. ShowsNoName (layers_of c.args.layers.now) p in
-    subst P c.in-Some.ensures (unshown-in (trees c.args.layers.now) c.args.path.now file)
+    subst P c.in-Some.ensures (unshown-in (trees c.args.layers.now) c.args.path.now fine.2)
 
 pub returns-clause-steps : goal.returns-clause-steps
 returns-clause-steps c =
-    unlink-step c.args.layers.now c.take_away.new.layers c.args.path.now (reverse c.in-Some.parents.now) c.in-Some.name.now c.in-Some.ensures (c.in-Ok.ensures.answers.0 refl)
-    (topmost-inode c.args.layers.now c.args.path.now c.in-Ok.walked.1 c.in-Inode.field-0 c.in-Inode.is c.in-Ok.ensures.found) c.in_ok-key.ensures.takes
+    unlink-step c.args.layers.now c.take_away.new.layers c.args.path.now (reverse c.in-Some.parents.now) c.in-Some.name.now c.in-Some.ensures
+    c.requires.allowed c.in_ok-key.ensures.takes
 
 pub returns-clause-unnames : goal.returns-clause-unnames
 returns-clause-unnames c = subst (λ p. Unnames c.args.layers.now c.take_away.new.layers p c.in_ok-key.key) (sym c.in-Some.ensures) c.in_ok-key.ensures.unnames

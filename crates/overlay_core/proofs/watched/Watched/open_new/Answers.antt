@@ -1,9 +1,9 @@
-use Rattle.std.proofs.Common.{ap, sym, ◌∙◌}
-use Rattle.mount_calls.specs.Offers.{is_offered}
+use Rattle.std.proofs.Common.{refl, sym, ◌∙◌}
+use Rattle.ov_base.specs.declared.call.Call.TheVariants.{Open}
 use Rattle.overlay_core.specs.Watching.{Stays}
 use Rattle.overlay_core.proofs.Opens.{attached-tracked, back-agrees, back-tracks, free-watched}
 use Rattle.overlay_core.proofs.OpensTold.{goes-made, goes-unopened, made-vacant}
-use Rattle.overlay_core.proofs.Performing.{on-err, performed, state-of}
+use Rattle.overlay_core.proofs.Performing.{Performed, on-err, state-of}
 use Rattle.overlay_core.proofs.Watching.{stays, upper_of}
 use Rattle.overlay_core.proofs.watched.Watched.open_new.Goals as goal
 
@@ -23,14 +23,14 @@ returns-in_err-prepared-clause-err g c =
     on-err c.from_residual.result (Stays old from old back)
     (λ s a. back-agrees old s from back c.lawful-2.ensures.known c.in_err-prepared.ensures.err a)
 
-pub perform-requires-clause-state : goal.perform-requires-clause-state
-perform-requires-clause-state g c = state-of c.args.self.now.mount c.args.self.now.notifier c.requires.state
+pub open_seen-requires-clause-state : goal.open_seen-requires-clause-state
+open_seen-requires-clause-state g c = state-of c.args.self.now.mount c.args.self.now.notifier c.requires.state
 
 pub returns-in-Err-clause-err : goal.returns-in-Err-clause-err
 returns-in-Err-clause-err g c =
     let old = c.args.self.now.mount in
     let from = c.args.self.now.notifier in
-    let new = c.perform.new.self in
+    let new = c.open_seen.new.self in
     let back = c.cancel_open.new.self in
     let ready = c.in_ok-prepared.ensures.ready in
     stays old new from back c.in-Err.ensures.err c.in-Err.ensures.stays_live
@@ -39,31 +39,29 @@ returns-in-Err-clause-err g c =
 pub returns-in_default-clause-goes : goal.returns-in_default-clause-goes
 returns-in_default-clause-goes g c =
     let client = c.args.client in
-    let call = c.args.call.now in
+    let call = Open c.args.path.now c.args.flags c.args.mode in
     let reply = c.in-Ok.reply in
     let old = c.args.self.now.mount in
     let from = c.args.self.now.notifier in
-    let new = c.perform.new.self in
+    let new = c.open_seen.new.self in
     let back = c.cancel_open-in_default.new.self in
     let said = c.in-Ok.ensures in
-    let is = c.requires.call.2 in
-    let done = performed client call reply old new (ap is_offered is) c.requires.there said.serves said.lowers said.named said.refused in
+    let done : Performed client call reply old new = record { there = c.requires.there; serves = said.serves; lowers = said.lowers; named = said.named; refused = said.refused } in
     let ready = c.in_ok-prepared.ensures.ready in
-    goes-unopened g.R.Rule.shows client c.args.path.now c.requires.call.0 c.requires.call.1 call is reply old new from done back
+    goes-unopened g.R.Rule.shows client c.args.path.now c.args.flags c.args.mode call refl reply old new from done back
     c.in_default.not-Descriptor (c.cancel_open-in_default.ensures from ready.handle ready.readies) c.lawful-in_default.ensures.known
 
 pub opened_new-requires-clause-vacant : goal.opened_new-requires-clause-vacant
 opened_new-requires-clause-vacant g c =
     let client = c.args.client in
-    let call = c.args.call.now in
+    let call = Open c.args.path.now c.args.flags c.args.mode in
     let reply = c.in-Ok.reply in
     let old = c.args.self.now.mount in
     let from = c.args.self.now.notifier in
-    let new = c.perform.new.self in
+    let new = c.open_seen.new.self in
     let said = c.in-Ok.ensures in
-    let is = c.requires.call.2 in
-    let done = performed client call reply old new (ap is_offered is) c.requires.there said.serves said.lowers said.named said.refused in
-    made-vacant g.R.Rule.shows client c.args.path.now c.requires.call.0 c.requires.call.1 call is reply old new from done
+    let done : Performed client call reply old new = record { there = c.requires.there; serves = said.serves; lowers = said.lowers; named = said.named; refused = said.refused } in
+    made-vacant g.R.Rule.shows client c.args.path.now c.args.flags c.args.mode call refl reply old new from done
     c.requires.nothing c.lawful.ensures.known c.lawful.ensures.given c.prepare_new-prepared.new.self
     c.args.descriptor c.in_ok-prepared.ensures.ready c.requires.free c.key_opened-key.result c.key_opened-key.ensures
     (λ e refused. let no = sym c.in-Descriptor.is ∙ refused in cc) c.requires.state
@@ -71,16 +69,15 @@ opened_new-requires-clause-vacant g c =
 pub returns-clause-goes : goal.returns-clause-goes
 returns-clause-goes g c =
     let client = c.args.client in
-    let call = c.args.call.now in
+    let call = Open c.args.path.now c.args.flags c.args.mode in
     let reply = c.in-Ok.reply in
     let old = c.args.self.now.mount in
     let from = c.args.self.now.notifier in
-    let new = c.perform.new.self in
+    let new = c.open_seen.new.self in
     let said = c.in-Ok.ensures in
-    let is = c.requires.call.2 in
-    let done = performed client call reply old new (ap is_offered is) c.requires.there said.serves said.lowers said.named said.refused in
+    let done : Performed client call reply old new = record { there = c.requires.there; serves = said.serves; lowers = said.lowers; named = said.named; refused = said.refused } in
     let ready = c.in_ok-prepared.ensures.ready in
-    goes-made g.R.Rule.shows client c.args.path.now c.requires.call.0 c.requires.call.1 call is reply old new from done
+    goes-made g.R.Rule.shows client c.args.path.now c.args.flags c.args.mode call refl reply old new from done
     c.requires.nothing c.lawful.ensures.known c.lawful.ensures.given c.prepare_new-prepared.new.self
     c.args.descriptor ready c.requires.free c.key_opened-key.result c.key_opened-key.ensures
     (λ e refused. let no = sym c.in-Descriptor.is ∙ refused in cc) c.opened_new.new.self c.lawful-3.ensures.known

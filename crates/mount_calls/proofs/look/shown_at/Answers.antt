@@ -5,7 +5,7 @@ use Rattle.layer_tree.specs.Tree.{layer_of}
 use Rattle.merged_lookup.specs.declared.found.Parent.{Parent}
 use Rattle.merged_lookup.specs.declared.stack.Place.{Place}
 use Rattle.merged_lookup.specs.Merged.{top_of, layers_of, IsParentOf}
-use Rattle.mount_calls.proofs.open_calls.shown_at.Goals as goal
+use Rattle.mount_calls.proofs.look.shown_at.Goals as goal
 
 pub returns-in-None-clause-top : goal.returns-in-None-clause-top
 returns-in-None-clause-top c =
