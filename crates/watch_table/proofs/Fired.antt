@@ -1,7 +1,7 @@
 -- One subject told to those whom it is for, and the index after it.
 use Rattle.std.proofs.Common.{◌≡◌, ℕ, ℤ, true, false, ◌&&◌, filter, length, List, [], ◌∷◌, Some, refl, sym, ap, subst, ◌∙◌, ◌⊎◌, inl, inr, arith, nat_eq, eqb-true}
 use Rattle.std.specs.List.{AllByRecursion, count_by, list_any}
-use Rattle.std.proofs.lemmas.Bool.{cases_Bool}
+use Rattle.std.proofs.lemmas.Bool.{cases_Bool, or_parts}
 use Rattle.ov_base.specs.declared.node_id.NodeId.TheVariants.{New}
 use Rattle.plain_model.specs.Watching.{Rule, Watch, Subject, Instance, On, Only, is_aimed, is_numbered, reaches}
 use Rattle.plain_model.specs.Tree.{same_id}
@@ -10,7 +10,7 @@ use Rattle.watch_table.specs.Clients.{clients_of, AreRising, AreTold, AllHearOne
 use Rattle.watch_table.specs.Listening.{is_on}
 use Rattle.watch_table.specs.Watched.{Watched, watchers_of, SetsWatchers, IsIndexOf}
 use Rattle.watch_table.proofs.Telling.{told-none}
-use Rattle.watch_table.proofs.Reaching.{neither, any-filter, and-false, IsUnreached, unaimed, told-all, heard-watches, on-stay, off-object, off-number}
+use Rattle.watch_table.proofs.Reaching.{any-filter, and-false, IsUnreached, unaimed, told-all, heard-watches, on-stay, off-object, off-number}
 use Rattle.watch_table.proofs.Counting.{index-counts}
 use Rattle.watch_table.proofs.Indexing.{index-less, each-own}
 
@@ -24,7 +24,7 @@ module _ (shows : Rule) (s : Subject) (es : List Instance) (t : Watched) (index 
   off-watches : (o c : ℕ) (ws : List Watch) → s.aim ≡ On (New o) → is_on o ws ≡ false → AllByRecursion (λ w. reaches c s w ≡ false) ws
   off-watches o c [] aim h = tt
   off-watches o c (w ∷ ws) aim h =
-      let n = neither (same_id (New o) w.node) (is_on o ws) h in
+      let n = or_parts (same_id (New o) w.node) (is_on o ws) h in
       (unaimed shows s c w (ap (λ a. is_aimed c a w) aim ∙ n.0), off-watches o c ws aim n.1)
 
   on-unreached : (o : ℕ) (fs : List Instance) → s.aim ≡ On (New o) →
@@ -70,7 +70,7 @@ module _ (shows : Rule) (s : Subject) (es : List Instance) (t : Watched) (index 
   others-unreached k number [] aim = tt
   others-unreached k number (e ∷ fs) aim = (
     (λ h. only-unreached k number e aim
-        (neither (nat_eq e.client k) false h).0),
+        (or_parts (nat_eq e.client k) false h).0),
     others-unreached k number fs aim,
   )
 
@@ -83,7 +83,7 @@ module _ (shows : Rule) (s : Subject) (es : List Instance) (t : Watched) (index 
       AllByRecursion (λ w. reaches c s w ≡ false) ws
   none-numbered k c number [] aim h = tt
   none-numbered k c number (w ∷ ws) aim h =
-      let n = neither (is_numbered number w) (list_any (is_numbered number) ws) h in (
+      let n = or_parts (is_numbered number w) (list_any (is_numbered number) ws) h in (
         unaimed shows s c w (ap (λ a. is_aimed c a w) aim ∙ ap (λ b. nat_eq c k && b) n.0
             ∙ and-false (nat_eq c k)),
         none-numbered k c number ws aim n.1,

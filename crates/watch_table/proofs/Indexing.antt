@@ -1,5 +1,5 @@
 -- The index of watched objects after what changes instances.
-use Rattle.std.proofs.Common.{◌≡◌, ◌≢◌, ℕ, ◌+◌, ◌<◌, Bool, true, false, cond, not, ◌&&◌, ◌||◌, filter, map, List, [], ◌∷◌, ◌++◌, length, Option, Some, None, Result, Ok, Err, refl, sym, ap, subst, ◌∙◌, inl, inr, nat_eq, eqb-true, eq-eqb, arith, bit_and}
+use Rattle.std.proofs.Common.{◌≡◌, ◌≢◌, ℕ, ◌+◌, ◌<◌, Bool, true, false, cond, not, ◌&&◌, ◌||◌, filter, map, List, [], ◌∷◌, ◌++◌, Option, Some, None, Result, Ok, Err, refl, sym, ap, subst, ◌∙◌, inl, inr, nat_eq, eqb-true, eq-eqb, arith, bit_and}
 use Rattle.std.specs.Prelude.{is_some, option_map, OnOk, OnErr, IfOk}
 use Rattle.std.specs.List.{AllByRecursion, IsDistinct, list_any}
 use Rattle.std.proofs.lemmas.Bool.{false≢true, cases_Bool}
@@ -318,34 +318,6 @@ each-own (e ∷ es) a = (
   own-lifted e es es a.0
       (each-own es a.1),
 )
-
--- an object that a client watches is watched
-some-watch : (es : List Instance) (n k : ℕ) → watches es n k ≡ true → list_any (λ (e : Instance). is_on n e.watches) es ≡ true
-some-watch [] n k h = h
-some-watch (e ∷ es) n k h = by (nat_eq e.client k) h (some-watch es n k)
-  where
-    by : (b : Bool) → is_on n (watches_of (cond b (Some e) (instance_of es k))) ≡ true →
-        (watches es n k ≡ true → list_any (λ (x : Instance). is_on n x.watches) es ≡ true) →
-        (is_on n e.watches || list_any (λ (x : Instance). is_on n x.watches) es) ≡ true
-    by true g rest = ap (λ b. b || list_any (λ (x : Instance). is_on n x.watches) es) g
-    by false g rest = ap (λ b. is_on n e.watches || b) (rest g) ∙ or-true (is_on n e.watches)
-
-none-watch : (es fs : List Instance) (n : ℕ) → AllByRecursion (λ (e : Instance). instance_of es e.client ≡ Some e) fs →
-    ((c : ℕ) → watches es n c ≡ false) → list_any (λ (e : Instance). is_on n e.watches) fs ≡ false
-none-watch es [] n own h = refl
-none-watch es (e ∷ fs) n own h = ap (λ b. b || list_any (λ (x : Instance). is_on n x.watches) fs)
-    (sym (ap (λ o. is_on n (watches_of o)) own.0) ∙ h e.client) ∙ none-watch es fs n own.1 h
-
--- an object is watched where the index has a client for it
-pub index-tells : (es : List Instance) (t : Watched) (n : ℕ) → IsIndexOf es t → AreRising (clients_of es) →
-    not (nat_eq (length (watchers_of t n)) 0) ≡ list_any (λ (e : Instance). is_on n e.watches) es
-index-tells es t n h rising = by (watchers_of t n) (λ c. sym (h.exact n c))
-  where
-    by : (ks : List ℕ) → ((c : ℕ) → watches es n c ≡ list_any (nat_eq c) ks) →
-        not (nat_eq (length ks) 0) ≡ list_any (λ (e : Instance). is_on n e.watches) es
-    by [] g = sym (none-watch es es n (each-own es rising) g)
-    by (k ∷ ks) g = ap not (nat_ne (length (k ∷ ks)) 0 (λ e. omega arith))
-        ∙ sym (some-watch es n k (g k ∙ ap (λ b. b || list_any (nat_eq k) ks) (eq-eqb k k refl)))
 
 -- the index after one object more was gone through
 pub refreshed-more : (es : List Instance) (t cur u : Watched) (ws : List Watch) (w : Watch) (m : ℕ) → w.node ≡ New m →

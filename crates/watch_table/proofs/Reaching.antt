@@ -17,11 +17,6 @@ pub kept-all : {A : Type 0} (p : A → Bool) (xs : List A) → AllByRecursion (�
 kept-all p [] h = refl
 kept-all p (x ∷ xs) h = ap (λ b. cond b (x ∷ filter p xs) (filter p xs)) h.0 ∙ ap (λ ys. x ∷ ys) (kept-all p xs h.1)
 
--- two tests that both fail
-pub neither : (a b : Bool) → (a || b) ≡ false → (a ≡ false) × (b ≡ false)
-neither true b h = cc
-neither false b h = (refl, h)
-
 pub and-false : (b : Bool) → (b && false) ≡ false
 and-false true = refl
 and-false false = refl

@@ -6,6 +6,7 @@ use Rattle.std.proofs.lemmas.Bool.Decides.{nat_tests}
 use Rattle.std.proofs.lemmas.Cmp.{nat_eq_equiv}
 use Rattle.std.proofs.lemmas.List.Elements.{All-get_or, All-from_recursion}
 use Rattle.std.proofs.lemmas.List.Folds.{list_any-append}
+use Rattle.std.proofs.lemmas.List.Sums.{length-filter, count_by-le-length}
 use Rattle.std.proofs.lemmas.Map.Keys.{IsDistinct-head, IsDistinct-tail}
 use Rattle.plain_model.specs.Watching.{Rule, Subject, Watch, Instance, ends}
 use Rattle.plain_model.specs.Machine.{instance_of, watches_of}
@@ -111,12 +112,7 @@ KeepWatches-set (suc i) (e ∷ es) d y b client same o k = let n : i < length es
 
 -- no more come through a filter than went in
 pub short-filter : {A : Type 0} (p : A → Bool) (xs : List A) → length (filter p xs) ≤ length xs
-short-filter p [] = omega arith
-short-filter {A} p (x ∷ xs) = by (p x) (short-filter p xs)
-  where
-    by : (b : Bool) → length (filter p xs) ≤ length xs → length (cond b (x ∷ filter p xs) (filter p xs)) ≤ length (x ∷ xs)
-    by true h = omega (arith, h)
-    by false h = omega (arith, h)
+short-filter p xs = omega (arith, length-filter p xs, count_by-le-length p xs)
 
 -- a filter through which as many come as went in
 full-filter : {A : Type 0} (p : A → Bool) (xs : List A) → length xs ≤ length (filter p xs) → filter p xs ≡ xs

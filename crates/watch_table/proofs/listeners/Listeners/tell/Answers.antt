@@ -1,8 +1,8 @@
 use Rattle.std.proofs.Common.{take, get_or, sym, subst, refl, ◌∙◌}
+use Rattle.std.proofs.lemmas.Bool.{or_parts}
 use Rattle.std.proofs.lemmas.List.{take_more}
 use Rattle.watch_table.specs.Clients.{AreTold}
 use Rattle.watch_table.specs.Subjects.{subject_of}
-use Rattle.watch_table.proofs.Reaching.{neither}
 use Rattle.watch_table.proofs.Telling.{told-none, told-more, before-apart}
 use Rattle.watch_table.proofs.listeners.Listeners.tell.Goals as goal
 
@@ -19,7 +19,7 @@ loop-client-preserved g c =
     (told-more g.R.Rule.shows s (take i ks)
     (get_or ks i 0) c.args.self.now c.loop-client.self c.hear-next.new.self c.loop-client.invariant.0 c.hear-next.ensures.told apart) in (
       told,
-      (λ none. let each = neither c.loop-client.is_ended c.hear-next.result.1 none in
+      (λ none. let each = or_parts c.loop-client.is_ended c.hear-next.result.1 none in
           λ o k. c.hear-next.ensures.last each.1 o k ∙ c.loop-client.invariant.1 each.0 o k),
       c.hear-next.ensures.event,
     )
