@@ -133,7 +133,7 @@ pub both-ok : {P Q R : Type 0} (r : Result (Unit {0}) AllocError) → (P → Q �
 both-ok (Ok u) f p q = f p q
 both-ok (Err e) f p q = p
 
--- an upper that is thin after success, and the same after want of memory, stays thin
+-- an upper that is thin after success, and the same after an allocation failure, stays thin
 pub thin-either : (old new : Layers) (r : Result (Unit {0}) AllocError) → new.lowers ≡ old.lowers → OnOk r (StaysThin old new) → OnErr r (new.upper ≡ old.upper) → StaysThin old new
 thin-either old new (Ok u) low ok same = ok
 thin-either old new (Err e) low ok same = thin-agree old new low

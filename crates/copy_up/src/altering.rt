@@ -20,9 +20,10 @@ use merged_lookup::{Found, Layers, Place, Stack, Topmost};
 use ov_base::{AttributeChange, Attributes, Path};
 use std::alloc::AllocError;
 
-/// Changes the attributes of what a walk found at a path, as chmod(2), chown(2) and setxattr(2) do: in place where the upper has it; a
-/// directory of lower layers is placed first, and a file or symbolic link of one is copied up with them (overlayfs.rst,
-/// "Non-directories"). It fails only for want of memory, and changes nothing that is shown then.
+/// Changes the attributes of what a walk found at a path, as chmod(2), chown(2) and setxattr(2) do:
+/// in place where the upper has it; a directory of lower layers is placed first, and a file or
+/// symbolic link of one is copied up with them (overlayfs.rst, "Non-directories"). It fails only
+/// when out of memory, and changes nothing that is shown then.
 pub fn alter(
     layers: &mut Layers,
     path: &Path,

@@ -15,9 +15,10 @@ use merged_lookup::{Layers, Place, Stack};
 use ov_base::{Attributes, Content, Name};
 use std::alloc::AllocError;
 
-/// Copies the file or symbolic link that a lower layer shows at a name of the merged directory at these names into the upper: an inode of
-/// its own, with these attributes, in directories that are placed where the upper lacks them (overlayfs.rst, "Non-directories"), and gives
-/// its key. It fails only for want of memory, and changes nothing that is shown then.
+/// Copies the file or symbolic link that a lower layer shows at a name of the merged directory at
+/// these names into the upper: an inode of its own, with these attributes, in directories that are
+/// placed where the upper lacks them (overlayfs.rst, "Non-directories"), and gives its key. It
+/// fails only when out of memory, and changes nothing that is shown then.
 pub fn all_at_once(
     layers: &mut Layers,
     directory: Stack,
@@ -44,8 +45,8 @@ pub fn all_at_once(
     Ok(key)
 }
 
-/// Puts a new file or symbolic link at a name of a directory of the upper at which no object stands, and gives its key. It fails only for
-/// want of memory, and changes nothing then.
+/// Puts a new file or symbolic link at a name of a directory of the upper at which no object
+/// stands, and gives its key. It fails only when out of memory, and changes nothing then.
 pub fn insert_leaf(
     layers: &mut Layers,
     dir: usize,

@@ -54,8 +54,9 @@ fn upper_directory(layers: &Layers, dir: usize, name: &Name) -> Option<usize>
     }
 }
 
-/// Places the directory that `need_at` tells of, at so many of the path's first names, with the attributes that it shows. It fails only
-/// for want of memory, and changes nothing then; what is shown stays the same in each case.
+/// Places the directory that `need_at` tells of, at so many of the path's first names, with the
+/// attributes that it shows. It fails only when out of memory, and changes nothing then; what is
+/// shown stays the same in each case.
 pub fn place_dir(layers: &mut Layers, path: &Path, count: usize) -> Result<(), AllocError>
     requires shown { parents_fault (layers_of layers.old) path.now ≡ None }
     requires needed { IsNeed (layer_of layers.old.upper) path.now (Need.Directory count) }

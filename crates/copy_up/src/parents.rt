@@ -14,9 +14,10 @@ use merged_lookup::{Found, Layers, Stack};
 use ov_base::{Attributes, Name};
 use std::alloc::AllocError;
 
-/// The merged directory at these names from the root down, where the upper has one: the one that is given, if the upper has it. Those that
-/// the upper lacks are placed first, from the root down, with the attributes that they show. It fails only for want of memory; what is shown
-/// stays the same in each case.
+/// The merged directory at these names from the root down, where the upper has one: the one that is
+/// given, if the upper has it. Those that the upper lacks are placed first, from the root down,
+/// with the attributes that they show. It fails only when out of memory; what is shown stays the
+/// same in each case.
 pub fn place_parents(
     layers: &mut Layers,
     directory: Stack,

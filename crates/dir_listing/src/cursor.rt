@@ -43,7 +43,8 @@ impl Cursor {
         self.listing.is_some()
     }
 
-    /// Gives the next names of the listing that is kept, at most so many. Want of memory gives none and changes nothing.
+    /// Gives the next names of the listing that is kept, at most so many. An allocation failure
+    /// gives none and changes nothing.
     pub fn next(&mut self, alloc: Global, count: usize) -> Result<NameList, AllocError>
         ensures names { IfOk result (λ names. names ≡ take count (unwrap_or self.old [])) }
         ensures left { OnOk result (self.new ≡ option_map (drop count) self.old) }
@@ -88,7 +89,7 @@ impl Listing {
         Listing { names, given: 0 }
     }
 
-    // Gives the next names, at most so many. Want of memory gives none and changes nothing.
+    // Gives the next names, at most so many. An allocation failure gives none and changes nothing.
     fn take(&mut self, alloc: Global, count: usize) -> Result<NameList, AllocError>
         ensures names { IfOk result (λ names. names ≡ take count self.old) }
         ensures left { OnOk result (self.new ≡ drop count self.old) }

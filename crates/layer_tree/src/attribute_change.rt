@@ -17,7 +17,8 @@ pub fn set_attributes_in(node: &mut Node, attributes: Attributes)
     }
 }
 
-/// Changes the attributes of a node; nothing else of it changes. It fails only for want of memory, and changes nothing then.
+/// Changes the attributes of a node; nothing else of it changes. It fails only when out of memory,
+/// and changes nothing then.
 pub fn alter_in(node: &mut Node, change: AttributeChange) -> Result<(), AllocError>
     ensures attributes { node.new ≡ with_attributes (attributes_of node.new) node.old }
     ensures changed { OnOk result (attributes_of node.new ≡ changed change (attributes_of node.old)) }

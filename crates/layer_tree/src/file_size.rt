@@ -9,8 +9,8 @@ use ov_base::{Bytes, Content};
 use std::alloc::{AllocError, Global};
 use std::mem::replace;
 
-/// Gives a node that is a file this length, with zero bytes beyond its end. It fails only for want of memory, and changes nothing then;
-/// a cut never fails.
+/// Gives a node that is a file this length, with zero bytes beyond its end. It fails only when out
+/// of memory, and changes nothing then; a cut never fails.
 pub fn resize_in(alloc: Global, node: &mut Node, size: usize) -> Result<(), AllocError>
     requires { IsSome (node_bytes node.old) }
     ensures sized { (old : List ℕ) → node_bytes node.old ≡ Some old → node.new ≡ with_file (if is_ok result then sized old size else old) node.old }

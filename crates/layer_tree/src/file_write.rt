@@ -8,7 +8,8 @@ use ov_base::{Bytes, Content};
 use std::alloc::{AllocError, Global};
 use std::mem::replace;
 
-/// Lays bytes over those of a node that is a file, from a place on. It fails only for want of memory, and changes nothing then.
+/// Lays bytes over those of a node that is a file, from a place on. It fails only when out of
+/// memory, and changes nothing then.
 pub fn write_in(
     alloc: Global,
     node: &mut Node,

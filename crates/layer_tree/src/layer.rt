@@ -205,8 +205,8 @@ impl Layer {
         reserve_names(&mut self.nodes, dir, names)
     }
 
-    /// Puts an object at a name of a directory at which nothing or a whiteout stands. It fails only for want of memory, changes
-    /// nothing then and hands the object back.
+    /// Puts an object at a name of a directory at which nothing or a whiteout stands. It fails only
+    /// when out of memory, changes nothing then and hands the object back.
     pub fn insert(
         &mut self,
         dir: usize,
@@ -259,8 +259,8 @@ impl Layer {
         key
     }
 
-    /// Puts a whiteout at a name of a directory, and returns what stood there, which keeps its key and what is in it. It fails only
-    /// for want of memory, and changes nothing then.
+    /// Puts a whiteout at a name of a directory, and returns what stood there, which keeps its key
+    /// and what is in it. It fails only when out of memory, and changes nothing then.
     pub fn insert_whiteout(&mut self, dir: usize, name: Name) -> Result<Option<Entry>, AllocError>
         requires { IsDirectory self.old dir }
         ensures value { IfOk result (λ was. was ≡ entry self.old dir name) }

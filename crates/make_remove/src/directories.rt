@@ -11,8 +11,10 @@ use merged_lookup::{Layers, Stack};
 use ov_base::{Errno, Mode, Path};
 use std::alloc::{AllocError, Global};
 
-/// Makes a directory with this mode, owner 0, group 0 and no user attributes, as mkdir(2). On the way to the last name a name that
-/// shows nothing is ENOENT, a file ENOTDIR and a symbolic link ELOOP; where something is shown it is EEXIST. A refusal changes nothing, and want of memory changes nothing that is shown.
+/// Makes a directory with this mode, owner 0, group 0 and no user attributes, as mkdir(2). On the
+/// way to the last name a name that shows nothing is ENOENT, a file ENOTDIR and a symbolic link
+/// ELOOP; where something is shown it is EEXIST. A refusal changes nothing, and an allocation
+/// failure changes nothing that is shown.
 pub fn mkdir(
     alloc: Global,
     layers: &mut Layers,

@@ -14,9 +14,9 @@ use merged_lookup::{Layers, Stack};
 use ov_base::{Attributes, Bytes, Content, Errno, LinkTarget, Mode, Path};
 use std::alloc::{AllocError, Global};
 
-/// Makes a symbolic link of this target, with mode 0777, owner 0, group 0 and no user attributes, as symlink(2). The way to the last
-/// name is refused as `mkdir`'s, and where something is shown it is EEXIST. A refusal changes nothing, and want of memory changes
-/// nothing that is shown.
+/// Makes a symbolic link of this target, with mode 0777, owner 0, group 0 and no user attributes,
+/// as symlink(2). The way to the last name is refused as `mkdir`'s, and where something is shown it
+/// is EEXIST. A refusal changes nothing, and an allocation failure changes nothing that is shown.
 pub fn symlink(
     alloc: Global,
     layers: &mut Layers,
@@ -50,8 +50,9 @@ pub fn symlink(
     Ok(Ok(()))
 }
 
-/// Makes an empty file with this mode, owner 0, group 0 and no user attributes, in the merged directory in which the path's last name
-/// stands and where nothing is shown at it, and gives its key in the upper. Want of memory changes nothing that is shown.
+/// Makes an empty file with this mode, owner 0, group 0 and no user attributes, in the merged
+/// directory in which the path's last name stands and where nothing is shown at it, and gives its
+/// key in the upper. An allocation failure changes nothing that is shown.
 pub fn create(
     alloc: Global,
     layers: &mut Layers,

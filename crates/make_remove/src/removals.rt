@@ -44,8 +44,9 @@ pub fn leaf_at(layers: &Layers, path: &Path) -> Result<(Stack, Place), Errno>
     Ok((directory, place))
 }
 
-/// Removes the name of a file or symbolic link that `leaf_at` found in this directory, as unlink(2). It hands back the key of the upper's inode
-/// whose last name this was, which stays until it is freed. Want of memory changes nothing that is shown.
+/// Removes the name of a file or symbolic link that `leaf_at` found in this directory, as
+/// unlink(2). It hands back the key of the upper's inode whose last name this was, which stays
+/// until it is freed. An allocation failure changes nothing that is shown.
 pub fn unlink(
     layers: &mut Layers,
     directory: Stack,
@@ -69,9 +70,11 @@ pub fn unlink(
     Ok(key)
 }
 
-/// Removes a directory that shows no name, as rmdir(2). The root is EBUSY; the way is refused as in `unlink`; a name that shows nothing is
-/// ENOENT, one that shows no directory ENOTDIR and a directory that shows a name ENOTEMPTY. It hands back the key of the upper's
-/// directory that went, which stays until it is freed. A refusal changes nothing, and want of memory changes nothing that is shown.
+/// Removes a directory that shows no name, as rmdir(2). The root is EBUSY; the way is refused as in
+/// `unlink`; a name that shows nothing is ENOENT, one that shows no directory ENOTDIR and a
+/// directory that shows a name ENOTEMPTY. It hands back the key of the upper's directory that went,
+/// which stays until it is freed. A refusal changes nothing, and an allocation failure changes
+/// nothing that is shown.
 pub fn rmdir(layers: &mut Layers, path: &Path) -> Result<Result<Option<usize>, Errno>, AllocError>
     ensures refused { IfOk result (λ r. IfErr r (λ e. (full : Bool) → TellsNames (layers_of layers.old) path.now full → rmdir_fault (layers_of layers.old) path.now full ≡ Some e)) }
     ensures refuses { IfOk result (λ r. IfErr r (λ e. (s : State) → IsMountOf (layer_of layers.old.upper) (lowers_of layers.old) s → (c : ℕ) → refusal s c (call.Rmdir path.now) ≡ Some e)) }

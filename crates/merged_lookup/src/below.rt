@@ -15,8 +15,9 @@ use ov_base::{Name, Path, Redirect};
 use std::alloc::{AllocError, Global};
 
 impl Layers {
-    /// The path by which the layer under the upper finds a path, by the redirects of the upper's directories on the way to it
-    /// (overlayfs.rst, "redirect_dir"). It fails only for want of memory.
+    /// The path by which the layer under the upper finds a path, by the redirects of the upper's
+    /// directories on the way to it (overlayfs.rst, "redirect_dir"). It fails only when out of
+    /// memory.
     pub fn spelling_below(&self, alloc: Global, path: &Path) -> Result<Path, AllocError>
         ensures { IfOk result (λ spelled. spelled ≡ below (layer_of self.now.upper) path.now) }
     {

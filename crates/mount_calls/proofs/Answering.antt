@@ -33,7 +33,7 @@ serve-refused o s c k e new h st = subst (λ z. Serves z s c k (reply.Refused e)
 pub serve-done : (o : Option Errno) (s : State) (c : ℕ) (k : Call) (r : Reply) (new : Mount) → o ≡ None → r ≡ reply_of s c k → IsStateOf new (after s c k) → Serves o s c k r new
 serve-done o s c k r new h e st = subst (λ z. Serves z s c k r new) (sym h) (e, st)
 
--- what holds, holds where a call wants memory
+-- what holds, holds where a call runs out of memory
 pub on-err : {T : Type 0} (r : Result T AllocError) (P : Type 0) → P → OnErr r P
 on-err r P p = grind arith
 

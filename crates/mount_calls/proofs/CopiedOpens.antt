@@ -65,7 +65,7 @@ copied-as old new p q d a same own (Ok key) h = λ i shown.
     (subst (λ (b : Attributes). (leaf : CopiesLeaf old new q i.content b) × (leaf.number ≡ key)) (own p i shown)
     (h i (ap (shows 0 (layers_of old)) (sym same) ∙ shown)))
 
--- the lower layers stay where a file is copied, and where memory is wanted for that
+-- the lower layers stay where a file is copied, and where memory runs out for that
 pub copied-lowers : (old new : Layers) (q : Path) (d : Place) (a : Attributes) (i : Inode) → shows 0 (layers_of old) q ≡ Some (Contents d.layer d.key (Some i)) → (r : Result ℕ AllocError) → IfOk r (Copied old new q d (λ i. a)) → OnErr r (ShowsSame old new) → new.lowers ≡ old.lowers
 copied-lowers old new q d a i shown r h same = grind arith
 

@@ -20,7 +20,7 @@ link-inode l p d none i =
     ap (λ z. target_reply (inode_target z)) same
     ∙ sym (ap (λ w. link_reply w (shown_target (shows 0 (layers_of l) p))) none ∙ ap (λ o. target_reply (shown_target o)) i.shown)
 
--- a call that may want memory answers the same reply told otherwise
+-- a call that may run out of memory answers the same reply told otherwise
 pub answers-as : (result : Result Reply AllocError) (a b : Reply) → a ≡ b → IfOk result (λ r. r ≡ a) → IfOk result (λ r. r ≡ b)
 answers-as result a b e h = grind arith
 

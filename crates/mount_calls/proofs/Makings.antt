@@ -80,7 +80,7 @@ module _ (m : Mount) (s : State) (st : IsStateOf m s) (c : ℕ) (clients : Clien
       let h : handles.Handle = Directory (record { directory = 0; listing = None }) in
       open-full m s st c p f mode fine h clients e (full-opens m.clients clients c h e same full)
 
-  -- and one that then wants memory leaves the state
+  -- and one that then runs out of memory leaves the state
   pub wanted-state : (new : Layers) (p : Path) → StaysMount m.layers new → GainsParents m.layers new p → IsStateOf (record m { layers = new; clients = clients }) s
   wanted-state new p mounts parents = state-stays reserved s reserved-state new parents.lowers (mounts s st.layers) (parents-live m.layers new p parents)
 

@@ -143,7 +143,7 @@ module _ (u new : LayerTree) (key : ℕ) (now : List ℕ → List ℕ) (there : 
       by None at some = absurd (false≢true some)
       by (Some old) at some = in-it old (sets old at) (cases_eq k key)
 
-  -- and so where memory is wanted for them
+  -- and so where memory runs out for them
   pub written-files : (l : Layers) → l.upper ≡ u → (r : Result (Unit {0}) AllocError) → OnOk r ((old : List ℕ) → bytes_at u key ≡ Some old → SetsBytes (layer_of u) (layer_of new) key (now old)) → OnErr r (SameTree u new) → KeepsFiles l (record l { upper = new })
   written-files l is r sets same q k f = by r sets same
     where

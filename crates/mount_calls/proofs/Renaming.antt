@@ -217,7 +217,7 @@ outside m state p q bare fine two r e =
 pub thin-on : (m : Mount) (new : Layers) → ∥ HasStateOf m ∥₁ → (AreLayers (the_layers m) → StaysThin m.layers new) → StaysThin m.layers new
 thin-on m new state then thin n p h = ∥∥₁_elim state (Bool-set _ _) (λ x. then x.1.layers.layers thin n p h)
 
--- want of memory leaves each state, where each open directory stands where it stood
+-- an allocation failure leaves each state, where each open directory stands where it stood
 pub rename-wanted :
     (m : Mount) (new : Layers) (clients : Clients) → SamePlaces m.clients clients → StaysMount m.layers new →
     new.lowers ≡ m.layers.lowers → StaysLive m.layers new → StaysState m (record m { layers = new; clients = clients })

@@ -43,7 +43,8 @@ thin-held old new low same thin =
     V : Layer
     V = layer_of new.upper
 
--- a write to the upper that leaves what each path holds leaves it thin, and where it wants memory, the mount of each state
+-- a write to the upper that leaves what each path holds leaves it thin, and where it runs out of
+-- memory, the mount of each state
 pub upper-written : (l : Layers) (u new : LayerTree) (r : Result (Unit {0}) AllocError) → l.upper ≡ u → SameObjects (layer_of u) (layer_of new) → (IsLayer (layer_of u) → IsLayer (layer_of new)) → OnErr r (SameTree u new) → StaysThin l (record l { upper = new }) × OnErr r (StaysMount l (record l { upper = new }))
 upper-written l u new r is objects keeps same = (thin-held l (record l { upper = new }) refl held, by r same)
   where

@@ -32,9 +32,9 @@ pub record ShowsAttributes (Ls : List Layer) (p : Path) (a : Attributes) : Type 
 abbrev pub AltersStates : Layers → Layers → Path → Call → Type 0
 AltersStates old new p k = (s : State) → IsMountOf (layer_of old.upper) (lowers_of old) s → (c : ℕ) → AltersState (layer_of new.upper) (lowers_of new) s c p k
 
--- A call that changes attributes at a path is refused with the fault, where there is one, and changes nothing then; else each state is
--- altered as the call alters it. Files that are open stay
--- live. Want of memory leaves all that is shown, and no call changes a lower layer.
+-- A call that changes attributes at a path is refused with the fault, where there is one, and
+-- changes nothing then; else each state is altered as the call alters it. Files that are open stay
+-- live. An allocation failure leaves all that is shown, and no call changes a lower layer.
 pub record AltersUnless (fault : Option Errno) (old new : Layers) (p : Path) (k : Call) (result : Result (Result (Unit {0}) Errno) AllocError) : Type 0 where
   pub refused : IfOk result (λ r. IfErr r (λ e. fault ≡ Some e))
   pub unchanged : IfOk result (λ r. OnErr r (new ≡ old))

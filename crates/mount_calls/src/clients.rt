@@ -286,8 +286,9 @@ impl Clients {
         self.directories.remove(path, attributes);
     }
 
-    /// Takes the memory that `rename` needs to lead what is open at a path or below it to another path; for the root it takes none. What is
-    /// open stays as it is, and want of memory prepares nothing.
+    /// Takes the memory that `rename` needs to lead what is open at a path or below it to another
+    /// path; the root needs none. What is open stays as it is, and an allocation failure
+    /// prepares nothing.
     pub fn prepare_rename(&mut self, old: &Path, new: &Path) -> Result<(), AllocError>
         ensures same { SamePlaces self.old self.new }
         ensures ready { OnOk result (old.now ≢ [] → IsReady self.new.directories old.now new.now) }
@@ -340,8 +341,8 @@ impl Clients {
         self.attached.get_mut(&client).unwrap().rewind(descriptor);
     }
 
-    /// Gives the next names of the listing of an open directory of a client, at most so many. Want of memory gives none and changes
-    /// nothing.
+    /// Gives the next names of the listing of an open directory of a client, at most so many. An
+    /// allocation failure gives none and changes nothing.
     pub fn next_names(
         &mut self,
         alloc: Global,

@@ -27,8 +27,8 @@ pub(crate) fn close_handle(
     }
 }
 
-/// Counts one handle more on a file of the upper; nobody counts those of a lower layer's. It fails for want of memory, and where as many
-/// hold the file as can be counted, and changes nothing then.
+/// Counts one handle more on a file of the upper; nobody counts those of a lower layer's. It fails
+/// when out of memory, and where as many hold the file as can be counted, and changes nothing then.
 pub(crate) fn hold_file(files: &mut OpenFiles, source: FileSource) -> Result<(), AllocError>
     ensures ok { OnOk result ((k : ℕ) → file_holders files.new k ≡ file_holders files.old k + is_upper source k) }
     ensures err { OnErr result ((k : ℕ) → file_holders files.new k ≡ file_holders files.old k) }

@@ -10,8 +10,8 @@ use merged_lookup::Layers;
 use open_handles::FileSource;
 use std::alloc::AllocError;
 
-/// Lays bytes over those of an open file of the upper from a place on, with zero bytes between the file's end and that place. Want of
-/// memory changes nothing.
+/// Lays bytes over those of an open file of the upper from a place on, with zero bytes between the
+/// file's end and that place. An allocation failure changes nothing.
 pub(crate) fn write_file(
     layers: &mut Layers,
     source: FileSource,
@@ -36,8 +36,8 @@ pub(crate) fn write_file(
     layers.upper_mut().write(key, start, bytes)
 }
 
-/// Cuts an open file of the upper to a length, or fills it with zero bytes up to it. Want of memory changes nothing, and a cut to nothing
-/// never wants any.
+/// Cuts an open file of the upper to a length, or fills it with zero bytes up to it. An allocation
+/// failure changes nothing, and a cut to nothing never allocates.
 pub(crate) fn resize_file(
     layers: &mut Layers,
     source: FileSource,

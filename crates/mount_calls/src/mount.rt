@@ -151,8 +151,8 @@ impl Mount {
         self.clients.opened(client, descriptor)
     }
 
-    /// Makes a call of a client that is attached. Offered are all calls but those on watches, which are EOPNOTSUPP and change nothing. Want
-    /// of memory leaves all that is shown as it was.
+    /// Makes a call of a client that is attached. Offered are all calls but those on watches, which
+    /// are EOPNOTSUPP and change nothing. An allocation failure leaves all that is shown as it was.
     pub fn perform(&mut self, client: u64, call: &Call) -> Result<Reply, AllocError>
         requires there { IsSome (get nat_cmp self.old.clients.attached client) }
         requires state { ∥ HasStateOf self.old ∥₁ }
@@ -274,7 +274,8 @@ impl Mount {
         }
     }
 
-    /// Removes a name of a file or link, and tells what stood there. Want of memory leaves all that is shown as it was.
+    /// Removes a name of a file or link, and tells what stood there. An allocation failure leaves
+    /// all that is shown as it was.
     pub fn unlink_telling(&mut self, path: &Path) -> Result<Result<Object, Errno>, AllocError>
         ensures serves { IfOk result (λ outcome. (s : State) → IsStateOf self.old s → (c : ℕ) → Serves (refusal s c (Call.Unlink path.now)) s c (Call.Unlink path.now) (outcome_reply outcome) self.new) }
         ensures object { IfOk result (λ outcome. IfOk outcome (IsObject (layer_of self.old.layers.upper) (lowers_of self.old.layers) path.now)) }

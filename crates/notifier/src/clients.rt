@@ -30,8 +30,9 @@ fn release_each(objects: &mut TrackedObjects, ended: &[Watch])
 }
 
 impl<F: Callback, R: Rule> Notifier<F, R> {
-    /// Attaches a client, whose number is above all others, with its hooks, and nothing open. Over 16 hooks are EINVAL, and want of memory
-    /// is ENOMEM; the hooks are handed back, and all is as before.
+    /// Attaches a client, whose number is above all others, with its hooks, and nothing open. Over
+    /// 16 hooks are EINVAL, and out of memory is ENOMEM; the hooks are handed back, and all is as
+    /// before.
     pub fn attach(
         &mut self,
         alloc: Global,
@@ -87,7 +88,8 @@ impl<F: Callback, R: Rule> Notifier<F, R> {
         self.handles.detach(client);
     }
 
-    /// Takes out the first unread notices of a client, at most so many. Want of memory leaves them all.
+    /// Takes out the first unread notices of a client, at most so many. An allocation failure
+    /// leaves them all.
     pub fn taken(&mut self, alloc: Global, client: u64, count: u32) -> Result<Notices, AllocError>
         requires { IsSome (instance_of self.old.instances client) }
         ensures taken { IfOk result (λ notices. notices ≡ take count (queue_of (instance_of self.old.instances client))) }

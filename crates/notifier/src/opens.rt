@@ -121,8 +121,8 @@ fn hold_new(objects: &mut TrackedObjects, path: &Path) -> Result<TrackedHandle, 
 }
 
 impl<F: Callback, R: Rule> Notifier<F, R> {
-    /// Takes all memory that an open of what stands at a path needs, and puts the client's descriptor on it. Want of memory leaves what
-    /// is tracked.
+    /// Takes all memory that an open of what stands at a path needs, and puts the client's
+    /// descriptor on it. An allocation failure leaves what is tracked.
     pub fn prepare_open(
         &mut self,
         client: u64,
@@ -143,8 +143,8 @@ impl<F: Callback, R: Rule> Notifier<F, R> {
         Ok(())
     }
 
-    /// Takes all memory that an open needs that makes its file at a path, and puts the client's descriptor on it; the file is nowhere yet.
-    /// Want of memory leaves what is tracked.
+    /// Takes all memory that an open needs that makes its file at a path, and puts the client's
+    /// descriptor on it; the file is nowhere yet. An allocation failure leaves what is tracked.
     pub fn prepare_new(
         &mut self,
         client: u64,

@@ -15,8 +15,8 @@ use ov_base::{Errno, Path};
 use std::alloc::{AllocError, Global};
 use watch_table::{Aim, Callback, IGNORED, Rule, Subject};
 
-// Holds what stands at a path for one holder more, and gives its number. It fails only for want of memory, of numbers, or where as many
-// hold it as can be counted, and changes nothing then.
+// Holds what stands at a path for one holder more, and gives its number. It fails only when memory
+// or numbers run out, or where as many hold it as can be counted, and changes nothing then.
 fn hold(objects: &mut TrackedObjects, path: &Path, object: Object) -> Result<u64, AllocError>
     requires { object ≢ Object.Other }
     ensures holds { IfOk result (HoldsAt objects.old objects.new path.now object) }
@@ -47,9 +47,10 @@ impl<F: Callback, R: Rule> Notifier<F, R> {
         self.watches.has_watch(client, watch)
     }
 
-    /// Arms what stands at a path, a directory or a file, for a client through a slot, and gives the watch's number. A slot that is armed on
-    /// another object, or an object that is armed through another slot, is EBUSY; a new watch where all numbers were given is ENOSPC.
-    /// A refusal and want of memory leave what is tracked and watched.
+    /// Arms what stands at a path, a directory or a file, for a client through a slot, and gives
+    /// the watch's number. A slot that is armed on another object, or an object that is armed
+    /// through another slot, is EBUSY; a new watch where all numbers were given is ENOSPC. A
+    /// refusal and an allocation failure leave what is tracked and watched.
     pub fn armed(
         &mut self,
         alloc: Global,

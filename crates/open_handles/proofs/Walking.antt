@@ -38,7 +38,7 @@ no_child_stands t idle p names i d n tree is within named at none k s =
 pub tree-child : (t : Dentries) (d k : ℕ) (n : Name) → child t d n ≡ Some k → IsTree t d → IsTree t k
 tree-child t d k n found tree = tree-any t k (tree-settled t d (λ _ _. inr (n, subst IsSome (sym found) refl)) tree)
 
--- a walk goes on to a child that was made, or want of memory leaves all as it was
+-- a walk goes on to a child that was made, or an allocation failure leaves all as it was
 module _ (old new : Dentries) (d : ℕ) (n : Name) (tree : IsTree old d) (path : Stands old d) where
   -- what is opened is as it was
   pub entered-same : (r : Result ℕ AllocError) → IfOk r (Adds old new d n) → OnErr r (SameEntries old new) → SameHandles old new

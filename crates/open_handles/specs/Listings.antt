@@ -73,7 +73,7 @@ pub record Closes (old new : List (Option Handle)) (d : ℕ) (result : Result (U
   pub not_open : IfErr result (λ errno. (errno ≡ EBADF) × (opened old d ≡ None))
   pub refused : OnErr result (new ≡ old)
 
--- the next names of a listing are given; want of memory changes nothing
+-- the next names of a listing are given; an allocation failure changes nothing
 pub record GivesNames (old new : List (Option Handle)) (d count : ℕ) (result : Result (List (List ℕ)) AllocError) : Type 0 where
   pub names : IfOk result (λ names. names ≡ take count (names_left (open_directory old d)))
   pub left : OnOk result (ChangesSlot old new d (after_names count))

@@ -70,7 +70,8 @@ impl Children {
         }
     }
 
-    /// Puts a child at a name, over the one that is there. Want of memory leaves all as it was; the first child takes none.
+    /// Puts a child at a name, over the one that is there. An allocation failure leaves all as it
+    /// was; the first child allocates nothing.
     pub fn insert(&mut self, name: Name, key: usize) -> Result<(), AllocError>
         ensures ok { OnOk result (Binds self.old self.new name (Some key)) }
         ensures err { OnErr result (SameChildren self.old self.new) }

@@ -48,8 +48,9 @@ pub fn find_names(entries: &Slab<Dentry>, names: &[Name]) -> Option<usize>
     Some(directory)
 }
 
-/// Makes a handle more hold the directory at the path of names from the root down, for which it makes the entries that lack. Want of
-/// memory leaves all as it was, and so does a directory that as many handles hold as can be counted.
+/// Makes a handle more hold the directory at the path of names from the root down, for which it
+/// makes the entries that lack. An allocation failure leaves all as it was, and so does a directory
+/// that as many handles hold as can be counted.
 pub fn open(
     entries: &mut Slab<Dentry>,
     alloc: Global,
@@ -66,8 +67,8 @@ pub fn open(
     Ok(directory)
 }
 
-/// Gives the entry at the path of names from the root down, for which it makes those that lack, and which may be idle then. What is open
-/// stays as it is. Want of memory leaves no idle entry.
+/// Gives the entry at the path of names from the root down, for which it makes those that lack, and
+/// which may be idle then. What is open stays as it is. An allocation failure leaves no idle entry.
 pub fn reach(
     entries: &mut Slab<Dentry>,
     alloc: Global,

@@ -116,7 +116,8 @@ impl Descriptors {
         }
     }
 
-    /// Gives the next names of the listing of an open directory, at most so many. Want of memory gives none and changes nothing.
+    /// Gives the next names of the listing of an open directory, at most so many. An allocation
+    /// failure gives none and changes nothing.
     pub fn next_names(
         &mut self,
         alloc: Global,

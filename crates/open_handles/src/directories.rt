@@ -85,8 +85,9 @@ impl OpenDirectories {
         Some(directory)
     }
 
-    /// Opens the directory at a path for a handle more, and gives its number. It fails only for want of memory, or where as many handles
-    /// hold the directory as can be counted, and changes nothing then.
+    /// Opens the directory at a path for a handle more, and gives its number. It fails only when
+    /// out of memory, or where as many handles hold the directory as can be counted, and changes
+    /// nothing then.
     pub fn open(&mut self, path: &Path) -> Result<usize, AllocError>
         ensures opens { IfOk result (λ k. Opens self.old self.new path.now k) }
         ensures err { OnErr result (SameHandles self.old self.new) }

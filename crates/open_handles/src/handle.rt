@@ -22,7 +22,8 @@ pub enum Handle {
 }
 
 impl OpenDirectory {
-    /// Gives the next names of the listing, at most so many. Want of memory gives none and changes nothing.
+    /// Gives the next names of the listing, at most so many. An allocation failure gives none and
+    /// changes nothing.
     pub fn next_names(&mut self, alloc: Global, count: usize) -> Result<NameList, AllocError>
         ensures names { IfOk result (λ names. names ≡ take count (names_left (Some self.old))) }
         ensures left { OnOk result (self.new ≡ record self.old { listing = option_map (drop count) self.old.listing }) }

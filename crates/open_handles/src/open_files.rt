@@ -76,8 +76,8 @@ impl OpenFiles {
         self.table.reserve(1)
     }
 
-    /// Counts one handle more on a file. It fails only where as many hold the file as can be counted, or for want of memory if none holds
-    /// it, and changes nothing then.
+    /// Counts one handle more on a file. It fails only where as many hold the file as can be
+    /// counted, or when out of memory if none holds it, and changes nothing then.
     pub fn hold(&mut self, key: usize) -> Result<(), AllocError>
         ensures ok { OnOk result (CountsFile self.old self.new key (file_holders self.old key + 1)) }
         ensures countable { OnOk result (file_holders self.old key < HOLDERS_MAX) }

@@ -56,8 +56,8 @@ impl TrackedHandles {
         }
     }
 
-    /// Attaches a client, whose number is above all others, with nothing open. All memory for its handles is taken here; want of it changes
-    /// nothing.
+    /// Attaches a client, whose number is above all others, with nothing open. All memory for its
+    /// handles is taken here; an allocation failure changes nothing.
     pub fn attach(&mut self, alloc: Global, client: u64) -> Result<(), AllocError>
         requires { (c : ℕ) → is_tracked self.old c ≡ true → c < client }
         ensures clients { OnOk result (clients_of self.new ≡ clients_of self.old ++ client ∷ []) }

@@ -96,8 +96,8 @@ impl TrackedObjects {
         }
     }
 
-    /// Holds what is at a path for one holder more, and gives its number. It fails only for want of memory, of numbers, or where as many
-    /// hold it as can be counted, and changes nothing then.
+    /// Holds what is at a path for one holder more, and gives its number. It fails only when memory
+    /// or numbers run out, or where as many hold it as can be counted, and changes nothing then.
     pub fn hold_at(&mut self, path: &Path) -> Result<u64, AllocError>
         ensures holds { IfOk result (λ n. Holds self.old self.new (At path.now) n) }
         ensures err { OnErr result (SameSpots self.old self.new) }
@@ -143,8 +143,9 @@ impl TrackedObjects {
         Ok(self.numbers.add_reserved(ObjectPlace::Entry(entry)))
     }
 
-    /// Holds what is in the upper under a key for one holder more, and gives its number. It fails only for want of memory, of numbers, or
-    /// where as many hold it as can be counted, and changes nothing then.
+    /// Holds what is in the upper under a key for one holder more, and gives its number. It fails
+    /// only when memory or numbers run out, or where as many hold it as can be counted, and changes
+    /// nothing then.
     pub fn hold_key(&mut self, key: usize) -> Result<u64, AllocError>
         ensures holds { IfOk result (λ n. Holds self.old self.new (Upper key) n) }
         ensures err { OnErr result (SameSpots self.old self.new) }
@@ -178,8 +179,8 @@ impl TrackedObjects {
         Ok(self.numbers.add_reserved(ObjectPlace::Upper(key)))
     }
 
-    /// Gives the next number, with one holder, to what is nowhere yet, and makes room for it to come into the upper. It fails only for
-    /// want of memory or of numbers, and changes nothing then.
+    /// Gives the next number, with one holder, to what is nowhere yet, and makes room for it to
+    /// come into the upper. It fails only when memory or numbers run out, and changes nothing then.
     pub fn hold_new(&mut self) -> Result<u64, AllocError>
         ensures number { IfOk result (λ n. n ≡ next_of self.old) }
         ensures unknown { IfOk result (λ n. spot_of self.old n ≡ None) }

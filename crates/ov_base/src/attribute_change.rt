@@ -22,7 +22,8 @@ pub enum AttributeChange {
 }
 
 impl AttributeChange {
-    /// Makes the change. It fails only for want of memory, by a user attribute that is new, and changes nothing then.
+    /// Makes the change. It fails only when out of memory for a new user attribute, and changes
+    /// nothing then.
     pub fn apply(self, attributes: &mut Attributes) -> Result<(), AllocError>
         ensures ok { IfOk result (λ _. attributes.new ≡ changed self attributes.old) }
         ensures err { OnErr result (attributes.new ≡ attributes.old) }

@@ -69,8 +69,9 @@ impl UserAttributes {
         names_in(alloc, self.as_slice())
     }
 
-    /// Sets the value of a name, as setxattr(2) does: a name that is there keeps its position and wants no memory, a new one goes
-    /// last. It fails only for want of memory, and changes nothing then.
+    /// Sets the value of a name, as setxattr(2) does: a name that is there keeps its position and
+    /// allocates nothing, a new one goes last. It fails only when out of memory, and changes
+    /// nothing then.
     pub fn set(&mut self, name: Bytes, value: Bytes) -> Result<(), AllocError>
         ensures ok { IfOk result (λ _. self.new ≡ set_value self.old name value) }
         ensures err { OnErr result (self.new ≡ self.old) }

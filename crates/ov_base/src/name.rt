@@ -127,7 +127,7 @@ fn is_name(bytes: &[u8]) -> bool
 }
 
 impl Stored {
-    // These bytes; at most 22 of them want no memory.
+    // These bytes; at most 22 of them allocate nothing.
     fn new(alloc: Global, bytes: &[u8]) -> Result<Stored, AllocError>
         ensures bytes { IfOk result (λ stored. bytes_of stored ≡ bytes.now) }
         ensures within { IfOk result IsWithin }
@@ -165,8 +165,8 @@ impl Stored {
 }
 
 impl Name {
-    /// The name of these bytes. Over 255 bytes is ENAMETOOLONG, anything else that is no name EINVAL. Only a name of more than 22 bytes
-    /// wants memory.
+    /// The name of these bytes. Over 255 bytes is ENAMETOOLONG, anything else that is no name
+    /// EINVAL. Only a name of more than 22 bytes allocates.
     pub fn parse(alloc: Global, bytes: &[u8]) -> Result<Result<Name, Errno>, AllocError>
         ensures told { IfOk result (λ outcome. outcome ≡ name_of bytes.now) }
         ensures no_memory { OnErr result (name_of bytes.now ≡ Ok bytes.now) }

@@ -4,7 +4,7 @@ use Rattle.std.specs.Io.KnownBytes.{Consumes, IsAtEnd, Keeps}
 use Rattle.ov_server.specs.declared.fault.DeviceFault.{DeviceFault}
 use Rattle.ov_server.specs.declared.fault.DeviceFault.TheVariants.{Stream, Memory}
 
--- a device that failed has its mark set, and want of memory leaves it as it was
+-- a device that failed has its mark set, and an allocation failure leaves it as it was
 abbrev pub Notes : Bool → Bool → DeviceFault → Type 0
 Notes before after Stream = after ≡ true
 Notes before after Memory = after ≡ before

@@ -47,7 +47,7 @@ abbrev pub line_fault : Error → LineErrorKind → Fault
 line_fault error kind.OutOfMemory = Memory
 line_fault error _ = CommandLine error
 
--- want of memory
+-- an allocation failure
 abbrev pub memory : Fault
 memory = Memory
 

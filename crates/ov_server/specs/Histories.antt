@@ -44,7 +44,7 @@ abbrev pub call_refusal : ℕ → Result Call Errno → Option Errno
 call_refusal places (Err errno) = Some errno
 call_refusal places (Ok call) = cond (nat_eq places 0) (Some ENOSPC) None
 
--- a call has a reply, or is not taken by its refusal or for want of memory
+-- a call has a reply, or is not taken by its refusal or because memory ran out
 abbrev pub AnswersCall : Option Errno → ℕ → Answer → Type 0
 AnswersCall refusal client (Replied c reply) = (refusal ≡ None) × (c ≡ client)
 AnswersCall refusal client (NotTaken c errno) = ((refusal ≡ Some errno) ⊎ (errno ≡ ENOMEM)) × (c ≡ client)

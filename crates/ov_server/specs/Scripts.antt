@@ -24,7 +24,8 @@ pub record IsBadLine (layers : ℕ) (script : List ℕ) (number : ℕ) : Type 0 
   pub played : ArePlayed layers nobody before roster
   pub bad : is_good layers roster line ≡ false
 
--- how a run ends early: by its manifest, by the first bad line of its script, where that is known, by a stream or for want of memory
+-- how a run ends early: by its manifest, by the first bad line of its script, where that is known,
+-- by a stream or because memory ran out
 abbrev pub IsRunFault : Option (List ℕ) → ℕ → Fault → Type 0
 IsRunFault script layers (BadCommand number) = IfSome script (λ s. IsBadLine layers s number)
 IsRunFault script layers (Manifest fault) = Unit {0}

@@ -14,7 +14,7 @@ pub enum Answer {
     NotAttached { errno: Errno },
     Detached { client: u32 },
     Replied { client: u32, reply: Reply },
-    /// The call was not made, for its path text or for want of memory.
+    /// The call was not made, for its path text or because memory ran out.
     NotTaken { client: u32, errno: Errno },
 }
 

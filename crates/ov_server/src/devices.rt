@@ -125,7 +125,7 @@ impl<W: Write> Output<W> {
     }
 }
 
-// The fault of a device, noted unless it is want of memory.
+// The fault of a device, noted unless memory ran out.
 fn noted(fault: io::Error, failed: &mut bool) -> DeviceFault
     ensures { devices.Notes failed.old failed.new result }
 {

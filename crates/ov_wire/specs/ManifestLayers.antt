@@ -127,7 +127,7 @@ pub record IsAsSaid (L : Layer) (entries : List Entry) : Type 0 where
 abbrev pub IsSpelled : Layer → Items → Type 0
 IsSpelled L items = (entries : List Entry) × (entries_of items ≡ Ok entries) × IsAsSaid L entries
 
--- the fault of this entry, or want of memory
+-- the fault of this entry, or an allocation failure
 abbrev pub fault_at : ℕ → ℕ → EntryError → ManifestFault
 fault_at layer number (error.Fault f) = whole.Entry layer number f
 fault_at layer number (error.Memory e) = whole.Memory e

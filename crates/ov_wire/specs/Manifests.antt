@@ -75,7 +75,7 @@ options_of manifest =
 abbrev pub whole_of : Members → Result Options ManifestFault
 whole_of manifest = and_then (options_of manifest) (λ options. if nat_le 2 (layer_count manifest) && nat_le (layer_count manifest) 17 then Ok options else Err fault.Layers)
 
--- a fault of an entry, or want of memory
+-- a fault of an entry, or an allocation failure
 abbrev pub IsOfEntry : ManifestFault → Type 0
 IsOfEntry (fault.Entry layer entry f) = Unit {0}
 IsOfEntry (fault.Memory e) = Unit {0}

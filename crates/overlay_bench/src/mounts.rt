@@ -37,7 +37,8 @@ pub fn echoing_hook() -> Hook<Echo, AnyAnswer> {
     Hook::new(0, Echo)
 }
 
-/// The mount of a manifest without a client; what is no mount is answered as want of memory is.
+/// The mount of a manifest without a client; what is no mount is answered as an allocation failure
+/// is.
 pub fn mounted_alone<F: Callback + Copy, R: Rule>(
     alloc: Global,
     keys: RandomState,
@@ -52,7 +53,8 @@ pub fn mounted_alone<F: Callback + Copy, R: Rule>(
     }
 }
 
-/// The number of a client that comes with so many copies of a hook; that it is refused is answered as want of memory is.
+/// The number of a client that comes with so many copies of a hook; that it is refused is answered
+/// as an allocation failure is.
 pub fn attached<F: Callback + Copy, R: Rule>(
     alloc: Global,
     core: &mut Core<F, R>,
@@ -72,7 +74,8 @@ pub fn attached<F: Callback + Copy, R: Rule>(
     }
 }
 
-/// The reply to a call of a client; that it isn't attached, or was too often, is answered as want of memory is.
+/// The reply to a call of a client; that it isn't attached, or was too often, is answered as an
+/// allocation failure is.
 pub fn made<F: Callback, R: Rule>(
     core: &mut Core<F, R>,
     client: u64,
@@ -90,7 +93,7 @@ pub fn made<F: Callback, R: Rule>(
     }
 }
 
-/// The path of a text; what is no path is answered as want of memory is.
+/// The path of a text; what is no path is answered as an allocation failure is.
 pub fn path_of(alloc: Global, text: &str) -> Result<Path, AllocError> {
     match Path::parse(alloc, text.as_bytes())? {
         Ok(path) => Ok(path),

@@ -77,7 +77,7 @@ fn watching<F: Callback + Copy, R: Rule>(
     Ok(clients)
 }
 
-// Arms a slot of a client; a refusal is answered as want of memory is.
+// Arms a slot of a client; a refusal is answered as an allocation failure is.
 fn arm<F: Callback + Copy, R: Rule>(
     core: &mut Core<F, R>,
     client: u64,

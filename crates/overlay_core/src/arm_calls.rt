@@ -48,8 +48,9 @@ fn path_fault(layers: &Layers, path: &Path, mask: u32) -> Option<Errno>
 }
 
 impl<F: Callback, R: Rule> Watched<F, R> {
-    /// Arms what stands at a path for a client through a slot, and gives the watch's number. It is refused for the slot and the mask, then
-    /// for the path, and last for what the client watches. Want of memory leaves what is watched.
+    /// Arms what stands at a path for a client through a slot, and gives the watch's number. It is
+    /// refused for the slot and the mask, then for the path, and last for what the client watches.
+    /// An allocation failure leaves what is watched.
     pub(crate) fn arm(
         &mut self,
         client: u64,

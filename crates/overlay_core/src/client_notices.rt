@@ -54,8 +54,8 @@ impl<F: Callback, R: Rule> Watched<F, R> {
         Ok(Watched { mount, notifier })
     }
 
-    /// Attaches a client with its hooks, which has all descriptors free, and gives its number. Want of memory is ENOMEM, and the hooks are
-    /// handed back then.
+    /// Attaches a client with its hooks, which has all descriptors free, and gives its number. Out
+    /// of memory is ENOMEM, and the hooks are handed back then.
     pub(crate) fn attach(
         &mut self,
         alloc: Global,

@@ -3,7 +3,8 @@ ghost use Rattle.std.specs.Prelude.{◌≡◌, ◌≢◌};
 
 use ov_base::Call;
 
-/// Where a job stands: its call still has steps to make, or was answered, or was given up for want of memory.
+/// Where a job stands: its call still has steps to make, or was answered, or was given up when out
+/// of memory.
 #[derive(Clone, Copy, Debug, PartialEq, Eq)]
 pub enum Standing {
     Open,

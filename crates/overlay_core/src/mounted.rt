@@ -106,8 +106,9 @@ impl<F: Callback, R: Rule> Core<F, R> {
         }))
     }
 
-    /// Attaches a client with its hooks, which has all descriptors free, and gives its number: they start at 0, rise and aren't used again.
-    /// Over 16 hooks are EINVAL, where 64 are attached it is ENFILE, and want of memory is ENOMEM. The hooks are handed back then.
+    /// Attaches a client with its hooks, which has all descriptors free, and gives its number: they
+    /// start at 0, rise and aren't used again. Over 16 hooks are EINVAL, where 64 are attached it
+    /// is ENFILE, and out of memory is ENOMEM. The hooks are handed back then.
     pub fn attach(&mut self, hooks: Vec<Hook<F, R>>) -> Result<u64, NotAttached<F, R>>
         requires { self.old.finished + 1 < 2 ^ 63 }
         ensures attached { IfOk result (λ n. Goes R.shows self.old.watched.mount self.old.watched.notifier n (Attached (map (λ h. h.tag) hooks.items)) self.new.watched.mount self.new.watched.notifier) }
@@ -153,8 +154,9 @@ impl<F: Callback, R: Rule> Core<F, R> {
         self.watched.mount.is_attached(client)
     }
 
-    /// One step of a job that is open, of a client that is attached. Each call is finished in one step, and told to who watches;
-    /// want of memory gives it up and leaves all that is shown as it was.
+    /// One step of a job that is open, of a client that is attached. Each call is finished in one
+    /// step, and told to who watches; an allocation failure gives it up and leaves all that is
+    /// shown as it was.
     pub fn advance(&mut self, job: &mut Job) -> Turn
         requires open { job.old.standing ≡ Standing.Open }
         requires attached { attaching.is_attached self.old.watched.mount.clients job.old.client ≡ true }

@@ -12,8 +12,9 @@ use ov_base::Reply;
 use std::alloc::{AllocError, Global};
 use watch_table::{Callback, Rule};
 
-/// Gives jobs steps in the order of a schedule, and answers the replies, each with its job's index, in the order of finishing. An index
-/// past the end, of a job that is over or of a client that isn't attached is skipped. Want of memory for the replies changes nothing.
+/// Gives jobs steps in the order of a schedule, and answers the replies, each with its job's index,
+/// in the order of finishing. An index past the end, of a job that is over or of a client that
+/// isn't attached is skipped. An allocation failure for the replies changes nothing.
 pub fn drive<F: Callback, R: Rule>(
     alloc: Global,
     core: &mut Core<F, R>,

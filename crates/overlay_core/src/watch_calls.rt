@@ -28,7 +28,8 @@ impl<F: Callback, R: Rule> Watched<F, R> {
         Reply::Done
     }
 
-    /// Takes out the first unread notices of a client, at most so many; over 65 are EINVAL. Want of memory leaves them all.
+    /// Takes out the first unread notices of a client, at most so many; over 65 are EINVAL. An
+    /// allocation failure leaves them all.
     pub(crate) fn notices(
         &mut self,
         alloc: Global,

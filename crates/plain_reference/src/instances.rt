@@ -142,7 +142,7 @@ impl Instances {
         }
     }
 
-    /// Arms a node for a client through a slot. Want of memory changes nothing.
+    /// Arms a node for a client through a slot. An allocation failure changes nothing.
     pub fn arm(
         &mut self,
         client: u32,

@@ -54,9 +54,10 @@ impl Reference {
         self.unwatched.clients.has(client)
     }
 
-    /// Lets a client come with hooks of these tags, and gives its number: tag 0 answers each event as it is, 1 those of directories
-    /// alone, 2 all others, 3 each without its name, any other none. None comes with over 16 hooks, where 64 are attached, or where the
-    /// numbers have run out. Want of memory changes nothing.
+    /// Lets a client come with hooks of these tags, and gives its number: tag 0 answers each event
+    /// as it is, 1 those of directories alone, 2 all others, 3 each without its name, any other
+    /// none. None comes with over 16 hooks, where 64 are attached, or where the numbers have run
+    /// out. An allocation failure changes nothing.
     pub fn attach(&mut self, tags: Vec<u32>) -> Result<Option<u32>, AllocError>
         ensures came { IfOk result (λ number. Attaches (state_of self.old) tags.items number (state_of self.new)) }
         ensures err { OnErr result (state_of self.new ≡ state_of self.old) }
@@ -147,8 +148,9 @@ impl Reference {
         Ok(answer)
     }
 
-    /// Makes a client's call as the plain machine does. None where it isn't offered: a new node when the serials have run out, or a
-    /// further name or move that can't be counted. Want of memory changes nothing.
+    /// Makes a client's call as the plain machine does. None where it isn't offered: a new node
+    /// when the serials have run out, or a further name or move that can't be counted. An
+    /// allocation failure changes nothing.
     pub fn call(&mut self, client: u32, call: &Call) -> Result<Option<Reply>, AllocError>
         ensures answer { IfOk result (λ answer. Answers (state_of self.old) client call.now answer (state_of self.new)) }
         ensures err { OnErr result (state_of self.new ≡ state_of self.old) }

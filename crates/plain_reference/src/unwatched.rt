@@ -21,8 +21,9 @@ pub struct Unwatched {
 }
 
 impl Unwatched {
-    /// Makes a client's call as the plain machine without watches does. None where it isn't offered: a new node when the serials have run
-    /// out, or a further name or move that can't be counted. Want of memory changes nothing.
+    /// Makes a client's call as the plain machine without watches does. None where it isn't
+    /// offered: a new node when the serials have run out, or a further name or move that can't be
+    /// counted. An allocation failure changes nothing.
     pub(crate) fn call(&mut self, client: u32, call: &Call) -> Result<Option<Reply>, AllocError>
         requires { is_made_alone call.now ≡ true }
         ensures answer { IfOk result (λ answer. AnswersBy Mute (unwatched_of self.old) client call.now answer (unwatched_of self.new)) }

@@ -84,7 +84,7 @@ gives-name start mid new same stays placed p q name links directories key kept =
       nameless = all.nameless;
     }
 
--- want of memory after parents were placed
+-- an allocation failure after parents were placed
 module _ (start mid new : Layers) (same : ShowsSame start mid) (stays : Stays start mid) (low : new.lowers ≡ mid.lowers) (unchanged : SameObjects (layer_of mid.upper) (layer_of new.upper)) (kept : KeepsObjects mid.upper new.upper None) where
   pub fails-same : ShowsSame start new
   fails-same = same-then start mid new same (same-unchanged mid new low unchanged (λ k. kept.inodes k (λ e. cc)))

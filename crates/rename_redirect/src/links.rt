@@ -14,10 +14,11 @@ use merged_lookup::{Found, Layers, Place, Stack};
 use ov_base::{Errno, Path};
 use std::alloc::AllocError;
 
-/// Gives the file or symbolic link that a path shows a further name, as link(2); one of a lower layer is copied up first
-/// (overlayfs.rst, "Non-directories"). The walk of the old path is refused first, then the way to the new one, as `mkdir`'s; where
-/// something is shown there it is EEXIST, and a directory at the old path is EPERM. A refusal changes nothing, and want of memory changes
-/// nothing that is shown.
+/// Gives the file or symbolic link that a path shows a further name, as link(2); one of a lower
+/// layer is copied up first (overlayfs.rst, "Non-directories"). The walk of the old path is refused
+/// first, then the way to the new one, as `mkdir`'s; where something is shown there it is EEXIST,
+/// and a directory at the old path is EPERM. A refusal changes nothing, and an allocation failure
+/// changes nothing that is shown.
 pub fn link(layers: &mut Layers, old: &Path, new: &Path) -> Result<Result<(), Errno>, AllocError>
     ensures refused { IfOk result (λ r. IfErr r (λ e. link_fault (layers_of layers.old) old.now new.now ≡ Some e)) }
     ensures unchanged { IfOk result (λ r. OnErr r (layers.new ≡ layers.old)) }

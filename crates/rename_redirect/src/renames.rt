@@ -33,12 +33,15 @@ pub enum Renamed {
     Inode(Option<usize>),
 }
 
-/// Moves what a path shows to another path, as rename(2), over a file, a symbolic link or a directory that shows no name. A file of a
-/// lower layer is copied up first, and so is a directory that only lower layers have, without what is in it; one that they have moves with
-/// a redirect (overlayfs.rst, "redirect_dir"). The root is EBUSY; the walk of the old path is refused first, then the way to the new one.
-/// Where both are one object nothing is done; else a directory is not moved below itself (EINVAL), nor over what is no directory (ENOTDIR),
-/// nor anything else over a directory (EISDIR), nor one that lower layers have if redirects aren't made (EXDEV), nor any over one that
-/// shows a name (ENOTEMPTY). A refusal changes nothing, and want of memory changes nothing that is shown.
+/// Moves what a path shows to another path, as rename(2), over a file, a symbolic link or a
+/// directory that shows no name. A file of a lower layer is copied up first, and so is a directory
+/// that only lower layers have, without what is in it; one that they have moves with a redirect
+/// (overlayfs.rst, "redirect_dir"). The root is EBUSY; the walk of the old path is refused first,
+/// then the way to the new one. Where both are one object nothing is done; else a directory is not
+/// moved below itself (EINVAL), nor over what is no directory (ENOTDIR), nor anything else over a
+/// directory (EISDIR), nor one that lower layers have if redirects aren't made (EXDEV), nor any
+/// over one that shows a name (ENOTEMPTY). A refusal changes nothing, and an allocation failure
+/// changes nothing that is shown.
 pub fn rename(
     alloc: Global,
     layers: &mut Layers,

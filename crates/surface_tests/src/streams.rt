@@ -130,7 +130,7 @@ fn assert_reader(
     assert!(rt; output.as_slice() == b"client 0\n".as_slice());
 }
 
-// The begun line isn't played, and want of memory is no failing device.
+// The begun line isn't played, and running out of memory is no failing device.
 #[test]
 fn tells_failing_readers(rt: HostRuntime) -> Result<(), Fail> {
     let keys = RandomState::new(&rt)?;

@@ -184,7 +184,8 @@ fn rooms(alloc: Global) -> Result<(Queue, Vec<Watch>), AllocError>
 }
 
 impl<F: Callback, R: Rule> Listener<F, R> {
-    // The instance of a client as it begins, with at most 16 hooks. Want of memory is ENOMEM, and the hooks are handed back.
+    // The instance of a client as it begins, with at most 16 hooks. Out of memory is ENOMEM, and
+    // the hooks are handed back.
     pub(crate) fn new(
         alloc: Global,
         client: u64,
@@ -299,7 +300,7 @@ impl<F: Callback, R: Rule> Listener<F, R> {
         number
     }
 
-    // Takes out the first unread notices, at most so many. Want of memory leaves them all.
+    // Takes out the first unread notices, at most so many. An allocation failure leaves them all.
     pub(crate) fn take(&mut self, alloc: Global, count: u32) -> Result<Notices, AllocError>
         ensures taken { IfOk result (λ notices. notices ≡ take count self.old.queue) }
         ensures left { OnOk result (self.new ≡ record self.old { queue = drop count self.old.queue }) }

@@ -106,8 +106,8 @@ impl<F: Callback, R: Rule> Listeners<F, R> {
         }
     }
 
-    // Attaches a client, whose number is above all others, with its hooks. Over 16 hooks are EINVAL, and want of memory is ENOMEM; the
-    // hooks are handed back.
+    // Attaches a client, whose number is above all others, with its hooks. Over 16 hooks are
+    // EINVAL, and out of memory is ENOMEM; the hooks are handed back.
     pub(crate) fn attach(
         &mut self,
         alloc: Global,
@@ -149,7 +149,8 @@ impl<F: Callback, R: Rule> Listeners<F, R> {
         self.listeners.remove(i)
     }
 
-    // Takes out the first unread notices of a client, at most so many. Want of memory leaves them all.
+    // Takes out the first unread notices of a client, at most so many. An allocation failure leaves
+    // them all.
     pub(crate) fn take(
         &mut self,
         alloc: Global,

@@ -120,7 +120,7 @@ impl Queue {
         }
     }
 
-    // Takes out the first notices, at most so many. Want of memory leaves them all.
+    // Takes out the first notices, at most so many. An allocation failure leaves them all.
     pub(crate) fn take(&mut self, alloc: Global, count: usize) -> Result<Notices, AllocError>
         ensures taken { IfOk result (λ notices. notices ≡ take count self.old) }
         ensures left { OnOk result (self.new ≡ drop count self.old) }

@@ -163,8 +163,8 @@ impl<F: Callback, R: Rule> WatchTable<F, R> {
         }
     }
 
-    /// Attaches a client, whose number is above all others, with its hooks. Over 16 hooks are EINVAL, and want of memory is ENOMEM; the
-    /// hooks are handed back.
+    /// Attaches a client, whose number is above all others, with its hooks. Over 16 hooks are
+    /// EINVAL, and out of memory is ENOMEM; the hooks are handed back.
     pub fn attach(
         &mut self,
         alloc: Global,
@@ -201,8 +201,9 @@ impl<F: Callback, R: Rule> WatchTable<F, R> {
         self.listeners.get(client).may_arm(slot, mask)
     }
 
-    /// Arms an object for a client through a slot, and gives the watch's number. A slot that is armed on another object, or an object that
-    /// is armed through another slot, is EBUSY; a new watch where all numbers were given is ENOSPC. Want of memory changes nothing.
+    /// Arms an object for a client through a slot, and gives the watch's number. A slot that is
+    /// armed on another object, or an object that is armed through another slot, is EBUSY; a new
+    /// watch where all numbers were given is ENOSPC. An allocation failure changes nothing.
     pub fn arm(
         &mut self,
         alloc: Global,
@@ -231,7 +232,8 @@ impl<F: Callback, R: Rule> WatchTable<F, R> {
         Ok(Ok(self.listeners.arm(client, slot, object, mask)))
     }
 
-    /// Takes out the first unread notices of a client, at most so many. Want of memory leaves them all.
+    /// Takes out the first unread notices of a client, at most so many. An allocation failure
+    /// leaves them all.
     pub fn take(&mut self, alloc: Global, client: u64, count: u32) -> Result<Notices, AllocError>
         requires { IsSome (instance_of self.old client) }
         ensures taken { IfOk result (λ notices. notices ≡ take count (queue_of (instance_of self.old client))) }

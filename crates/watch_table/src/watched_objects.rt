@@ -105,7 +105,7 @@ impl WatchedObjects {
         }
     }
 
-    // One client more watches an object. Want of memory changes nothing.
+    // One client more watches an object. An allocation failure changes nothing.
     pub(crate) fn add(&mut self, alloc: Global, object: u64, client: u64) -> Result<(), AllocError>
         ensures ok { OnOk result (SetsWatchers self.old self.new object (watchers_of self.old object ++ client ∷ [])) }
         ensures err { OnErr result (SameWatchers self.old self.new) }

@@ -38,8 +38,8 @@ impl Layer {
         }
     }
 
-    /// Lays bytes over those of a file from a place on, with zero bytes between the file's end and that place. It fails only for
-    /// want of memory, and changes nothing then.
+    /// Lays bytes over those of a file from a place on, with zero bytes between the file's end and
+    /// that place. It fails only when out of memory, and changes nothing then.
     pub fn write(&mut self, key: usize, start: usize, bytes: &[u8]) -> Result<(), AllocError>
         requires file { IsSome (bytes_at self.old key) }
         requires end { start + length bytes.now < 2 ^ 64 }
@@ -58,8 +58,9 @@ impl Layer {
         write_in(alloc, node, start, bytes)
     }
 
-    /// Cuts the bytes of a file to a length, or fills them with zero bytes up to it, as ftruncate(2). It fails only for want of memory,
-    /// and changes nothing then. A cut never fails, and gives memory back where less than half of it stays in use.
+    /// Cuts the bytes of a file to a length, or fills them with zero bytes up to it, as
+    /// ftruncate(2). It fails only when out of memory, and changes nothing then. A cut never fails,
+    /// and gives memory back where less than half of it stays in use.
     pub fn resize(&mut self, key: usize, size: usize) -> Result<(), AllocError>
         requires { IsSome (bytes_at self.old key) }
         ensures writes { (old : List ℕ) → bytes_at self.old key ≡ Some old → Writes self.old self.new key (if is_ok result then sized old size else old) }
@@ -94,8 +95,8 @@ impl Layer {
         set_attributes_in(node, attributes);
     }
 
-    /// Changes the attributes of what stands under a key, where they stand; nothing else changes. It fails only for want of memory, and
-    /// changes nothing then.
+    /// Changes the attributes of what stands under a key, where they stand; nothing else changes.
+    /// It fails only when out of memory, and changes nothing then.
     pub fn alter(&mut self, key: usize, change: AttributeChange) -> Result<(), AllocError>
         requires { IsSome (get self.old key) }
         ensures sets { OnOk result ((a : AttributesOf) → attributes_at self.old key ≡ Some a → SetsAttributes self.old self.new key (changed change a)) }

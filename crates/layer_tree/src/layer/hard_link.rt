@@ -16,8 +16,9 @@ use slab::Slab;
 use std::alloc::AllocError;
 
 impl Layer {
-    /// Gives a file or symbolic link a further name in a directory, at which nothing or a whiteout stands, as link(2) does. It fails
-    /// only for want of memory, of which 2^64 names are more than there is, and changes nothing then.
+    /// Gives a file or symbolic link a further name in a directory, at which nothing or a whiteout
+    /// stands, as link(2) does. It fails only when out of memory (2^64 names are more than memory
+    /// holds), and changes nothing then.
     pub fn link(&mut self, dir: usize, name: Name, key: usize) -> Result<(), AllocError>
         requires is_dir { IsDirectory self.old dir }
         requires no_object { child self.old dir name ≡ None }
