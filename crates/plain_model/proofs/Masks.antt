@@ -15,11 +15,13 @@ AsksEvents w = bit_and w.mask EVENTS ≡ w.mask
 pub and-within : (m n : ℕ) → bit_and (bit_and m n) n ≡ bit_and m n
 and-within m n = and_assoc n m n ∙ ap (bit_and m) (and_self n)
 
+-- two numbers that are at most a third are so both
 max-within : (x y e : ℕ) → min x e ≡ x → min y e ≡ y → min (max x y) e ≡ max x y
 max-within x y e h k = omega arith
 
 -- two masks within a third are so together
-or-within : (a b m : ℕ) → bit_and a m ≡ a → bit_and b m ≡ b → bit_and (bit_or a b) m ≡ bit_or a b
+or-within : (a b m : ℕ) → bit_and a m ≡ a → bit_and b m ≡ b →
+    bit_and (bit_or a b) m ≡ bit_or a b
 or-within a b m h k = same_from_bits (bit_and (bit_or a b) m) (bit_or a b) each
   where
     at : (n : ℕ) → bit_and n m ≡ n → (i : ℕ) → min (bit_at n i) (bit_at m i) ≡ bit_at n i
@@ -32,7 +34,8 @@ or-within a b m h k = same_from_bits (bit_and (bit_or a b) m) (bit_or a b) each
         ∙ sym (bit_at_or a b i)
 
 -- a watch asks for events alone when it is armed again, or isn't
-pub rearmed-AsksEvents : (again : Bool) (mask : ℕ) (w : Watch) → AsksEvents w → AsksEvents (cond again (re_mask mask w) w)
+pub rearmed-AsksEvents : (again : Bool) (mask : ℕ) (w : Watch) → AsksEvents w →
+    AsksEvents (cond again (re_mask mask w) w)
 rearmed-AsksEvents false mask w h = h
 rearmed-AsksEvents true mask w h = by (has_bit mask MASK_ADD)
   where

@@ -12,8 +12,8 @@ use Rattle.plain_model.specs.Runs.{HOOKS_MAX, Deed, Entry, Does, Run}
 abbrev pub hearers_of : List Instance → List ℕ
 hearers_of es = map {A = Instance} (λ e. e.client) es
 
--- A watch of an instance that has so many hooks, and has given so many numbers. Its mask has no bits but those of events: what else arm
--- takes isn't kept there.
+-- A watch of an instance that has so many hooks, and has given so many numbers. Its mask has no
+-- bits but those of events.
 pub record IsWatch (hooks armed : ℕ) (w : Watch) : Type 0 where
   pub slot : w.slot < hooks
   pub positive : 0 < w.number
