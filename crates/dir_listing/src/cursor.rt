@@ -64,7 +64,8 @@ impl Cursor {
     }
 }
 
-// The names of a directory as they were when the listing was made. Contracts see those that are still to be given.
+// The names of a directory as they were when the listing was made; none are kept once the last was
+// given. Contracts see those that are still to be given.
 #[derive(Drop)]
 struct Listing {
     names: Vec<Name>,
@@ -89,7 +90,8 @@ impl Listing {
         Listing { names, given: 0 }
     }
 
-    // Gives the next names, at most so many. An allocation failure gives none and changes nothing.
+    // Gives the next names, at most so many, and lets all go with the last one. An allocation
+    // failure gives none and changes nothing.
     fn take(&mut self, alloc: Global, count: usize) -> Result<NameList, AllocError>
         ensures names { IfOk result (λ names. names ≡ take count self.old) }
         ensures left { OnOk result (self.new ≡ drop count self.old) }
@@ -98,7 +100,11 @@ impl Listing {
         let left = self.names.len() - self.given;
         let end = self.given + left.min(count);
         let names = copy_names(alloc, &self.names.as_slice()[self.given..end])?;
-        self.given = end;
+        if end < self.names.len() {
+            self.given = end;
+        } else {
+            *self = Listing::new(Vec::new(alloc));
+        }
         Ok(NameList::from_vec(names))
     }
 }

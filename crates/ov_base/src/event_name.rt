@@ -1,5 +1,6 @@
 // The names that events carry.
-ghost use Rattle.std.specs.Prelude.{◌≡◌};
+ghost use Rattle.std.specs.Prelude.{◌≡◌, IsTrue};
+ghost use Rattle.ov_base.specs.Names.{is_name};
 
 use crate::name::{NAME_MAX, Name};
 use std::alloc::AllocError;
@@ -59,5 +60,12 @@ impl EventName {
         ensures { result.now ≡ self.now }
     {
         &self.bytes[..self.len as usize]
+    }
+
+    /// What each such name is; it does nothing.
+    pub fn lawful(&self)
+        ensures { IsTrue (is_name self.now) }
+    {
+        let _ = &self.len;
     }
 }

@@ -1,5 +1,6 @@
 // What watches tell: inotify(7).
-ghost use Rattle.std.specs.Prelude.{◌≡◌, [], IfOk};
+ghost use Rattle.std.specs.Prelude.{◌≡◌, IfSome, IsTrue};
+ghost use Rattle.ov_base.specs.Names.{is_name};
 
 use crate::event_name::EventName;
 use std::marker::Model;
@@ -11,6 +12,17 @@ pub struct Event {
     pub bits: u32,
     pub cookie: u32,
     pub name: Option<EventName>,
+}
+
+impl Event {
+    /// What each event's name is, where it has one; it does nothing.
+    pub fn lawful(&self)
+        ensures { IfSome self.now.name (λ n. IsTrue (is_name n)) }
+    {
+        if let Some(name) = &self.name {
+            name.lawful();
+        }
+    }
 }
 
 /// What a client reads, as `struct inotify_event`.

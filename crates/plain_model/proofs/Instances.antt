@@ -26,6 +26,7 @@ use Rattle.plain_model.specs.Runs.{HOOKS_MAX, Answered, Step, Closes, joined, wi
 use Rattle.plain_model.specs.Instances.{hearers_of, IsWatch, AreApart, IsInstance, AreInstances, LawOfInstances, LawOfInstancesOfRuns}
 use Rattle.plain_model.proofs.Paths.{ids_tell}
 use Rattle.plain_model.proofs.Held.{flipped}
+use Rattle.plain_model.proofs.Masks.{AsksEvents, and-within, rearmed-AsksEvents}
 use Rattle.plain_model.proofs.Values.{put-IsQueue}
 use Rattle.plain_model.proofs.Looking.{or-first, or-second, when-not, look-found}
 use Rattle.plain_model.proofs.Kept.{by-path}
@@ -111,6 +112,7 @@ again-is d mask e h = record {
           slot = subst (λ n. n < length e.tags) (sym same.slot) k.slot;
           positive = subst (λ n. 0 < n) (sym same.number) k.positive;
           given = subst (λ n. n ≤ e.armed) (sym same.number) k.given;
+          events = rearmed-AsksEvents (same_id d w.node) mask w k.events;
         }
 
     apart : (v w : Watch) → AreApart v w → AreApart (rearmed d mask v) (rearmed d mask w)
@@ -135,9 +137,9 @@ is_other slot d v = not (same_id d v.node) && nat_eq v.slot slot || same_id d v.
 
 -- an instance with one watch more
 more-is : (e : Instance) (slot : ℕ) (d : NodeId) (w : Watch) → MayArm e slot d → watch_on e.watches (Some d) ≡ None →
-    w.number ≡ e.armed + 1 → w.slot ≡ slot → w.node ≡ d → IsInstance e →
+    w.number ≡ e.armed + 1 → w.slot ≡ slot → w.node ≡ d → AsksEvents w → IsInstance e →
     IsInstance (record e { armed = e.armed + 1; watches = e.watches ++ w ∷ [] })
-more-is e slot d w may none number at on h = record {
+more-is e slot d w may none number at on events h = record {
   hooks = h.hooks;
   watches =
       All-push (IsWatch (length e.tags) (e.armed + 1)) e.watches w
@@ -160,12 +162,12 @@ more-is e slot d w may none number at on h = record {
         omega arith
 
     older : (v : Watch) → IsWatch (length e.tags) e.armed v → IsWatch (length e.tags) (e.armed + 1) v
-    older v k = let given = k.given in record { slot = k.slot; positive = k.positive; given = omega arith }
+    older v k = let given = k.given in record { slot = k.slot; positive = k.positive; given = omega arith; events = k.events }
 
     newest : IsWatch (length e.tags) (e.armed + 1) w
     newest =
         let below = ltb-true slot (length e.tags) may.hooked in
-        record { slot = subst (λ n. n < length e.tags) (sym at) below; positive = omega arith; given = omega arith }
+        record { slot = subst (λ n. n < length e.tags) (sym at) below; positive = omega arith; given = omega arith; events = events }
 
     apart : (v : Watch) → IsWatch (length e.tags) e.armed v → same_id d v.node ≡ false → is_other slot d v ≡ false → AreApart v w
     apart v k other free = record {
@@ -186,7 +188,7 @@ armed-is e slot d mask may h = by (watch_on e.watches (Some d)) refl
         (record e { watches = map (rearmed d mask) e.watches })
         (record e { armed = e.armed + 1; watches = e.watches ++ new ∷ [] }))
     by (Some w) o = again-is d mask e h
-    by None o = more-is e slot d new may o refl refl refl h
+    by None o = more-is e slot d new may o refl refl refl (and-within mask EVENTS) h
 
 -- a change of one client's instance, which is the one that is found by its number
 at-each : (c : ℕ) (f : Instance → Instance) (es : List Instance) → IsDistinct nat_eq (hearers_of es) →

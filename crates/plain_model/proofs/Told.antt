@@ -185,10 +185,10 @@ one-or-two own ended true false h k = All-cons IsEvent own [] h (All-nil IsEvent
 
 -- what a subject asks at a watch are events
 pub law_of_events : LawOfEvents
-law_of_events c s w h positive fits =
+law_of_events c s w h named positive fits =
     one-or-two
     (record { watch = w.number; bits = s.bits; cookie = s.cookie; name = s.name })
     (record { watch = w.number; bits = IGNORED; cookie = 0; name = None })
     (reaches c s w) (w.once && not (is_last s))
-    (record { positive = positive; fits = fits; known = h.known; moves = h.moves })
-    (record { positive = positive; fits = fits; known = refl; moves = (λ m. absurd (false≢true m), λ n. absurd (n refl)) })
+    (record { positive = positive; fits = fits; known = h.known; moves = h.moves; named = named })
+    (record { positive = positive; fits = fits; known = refl; moves = (λ m. absurd (false≢true m), λ n. absurd (n refl)); named = tt })

@@ -1,9 +1,9 @@
 -- What the inotify instances of every run keep (inotify_add_watch(2): each watch has a number of its own, and an object has one watch of a
 -- client at most; inotify(7): the queue of unread events has a limit).
-use Rattle.std.specs.Prelude.{◌≢◌, ℕ, ◌<◌, ◌≤◌, List, nat_eq, length, map}
+use Rattle.std.specs.Prelude.{◌≡◌, ◌≢◌, ℕ, ◌<◌, ◌≤◌, List, nat_eq, bit_and, length, map}
 use Rattle.std.specs.List.{All, AllPairs, IsDistinct}
 use Rattle.plain_model.specs.Tree.{Tree}
-use Rattle.plain_model.specs.Watching.{Watch, Instance, Rule, IsQueue}
+use Rattle.plain_model.specs.Watching.{EVENTS, Watch, Instance, Rule, IsQueue}
 use Rattle.plain_model.specs.Machine.{MountOptions, State, opening}
 use Rattle.plain_model.specs.Refusals.{WATCHES_MAX}
 use Rattle.plain_model.specs.Runs.{HOOKS_MAX, Deed, Entry, Does, Run}
@@ -12,11 +12,13 @@ use Rattle.plain_model.specs.Runs.{HOOKS_MAX, Deed, Entry, Does, Run}
 abbrev pub hearers_of : List Instance → List ℕ
 hearers_of es = map {A = Instance} (λ e. e.client) es
 
--- a watch of an instance that has so many hooks, and has given so many numbers
+-- A watch of an instance that has so many hooks, and has given so many numbers. Its mask has no
+-- bits but those of events.
 pub record IsWatch (hooks armed : ℕ) (w : Watch) : Type 0 where
   pub slot : w.slot < hooks
   pub positive : 0 < w.number
   pub given : w.number ≤ armed
+  pub events : bit_and w.mask EVENTS ≡ w.mask
 
 -- two watches of one instance, the earlier one first: the numbers rise, and the slots and the nodes differ
 pub record AreApart (v w : Watch) : Type 0 where

@@ -1,7 +1,8 @@
 -- Watches: whom a change tells of, which watches that reaches, what their callbacks are asked, and the queues of notices (inotify(7)).
-use Rattle.std.specs.Prelude.{◌≡◌, ◌≢◌, ◌↔◌, ℕ, ◌<◌, ◌≤◌, ◌^◌, ◌+◌, ℤ, pos, negsuc, Bool, true, false, cond, not, ◌&&◌, ◌||◌, List, [], ◌∷◌, ◌++◌, Option, None, Some, nat_eq, nat_lt, bit_and, length, filter, flat_map, map, slice_index_or, IsTrue}
+use Rattle.std.specs.Prelude.{◌≡◌, ◌≢◌, ◌↔◌, ℕ, ◌<◌, ◌≤◌, ◌^◌, ◌+◌, ℤ, pos, negsuc, Bool, true, false, cond, not, ◌&&◌, ◌||◌, List, [], ◌∷◌, ◌++◌, Option, None, Some, nat_eq, nat_lt, bit_and, length, filter, flat_map, map, slice_index_or, IfSome, IsTrue}
 use Rattle.std.specs.List.{All, list_any}
 use Rattle.std.specs.Ordering.{int_eq}
+use Rattle.ov_base.specs.Names.{is_name}
 use Rattle.ov_base.specs.declared.node_id.NodeId.{NodeId}
 use Rattle.ov_base.specs.declared.notice.Event.{Event}
 use Rattle.ov_base.specs.declared.notice.Notice.{Notice}
@@ -230,12 +231,17 @@ OTHERS =
     ACCESS ∷ MODIFY ∷ ATTRIB ∷ CLOSE_WRITE ∷ CLOSE_NOWRITE ∷ OPEN ∷ CREATE ∷ DELETE ∷ DELETE_SELF ∷ MOVE_SELF ∷ IGNORED
     ∷ (ACCESS + ISDIR) ∷ (MODIFY + ISDIR) ∷ (ATTRIB + ISDIR) ∷ (CLOSE_WRITE + ISDIR) ∷ (CLOSE_NOWRITE + ISDIR) ∷ (OPEN + ISDIR) ∷ (CREATE + ISDIR) ∷ (DELETE + ISDIR) ∷ []
 
+-- none, or a name in a directory
+abbrev pub IsNameOrNone : Option Name → Type 0
+IsNameOrNone name = IfSome name (λ n. IsTrue (is_name n))
+
 -- what every event that a callback is asked is
 pub record IsEvent (e : Event) : Type 0 where
   pub positive : 0 < e.watch
   pub fits : e.watch < 2 ^ 31
   pub known : IsTrue (is_one_of MOVES e.bits || is_one_of OTHERS e.bits)
   pub moves : IsTrue (is_one_of MOVES e.bits) ↔ (e.cookie ≢ 0)
+  pub named : IsNameOrNone e.name
 
 -- whether a subject is for one watch alone
 abbrev pub is_only : Aim → Bool
@@ -250,6 +256,9 @@ pub record IsSubject (s : Subject) : Type 0 where
   pub fits : s.cookie < 2 ^ 32
   pub alone : is_only s.aim ≡ true → s.bits ≡ IGNORED
 
--- what a subject asks at a watch are events, the IGNORED that follows a watch's only event too
+-- what a subject asks at a watch are events, the IGNORED that follows a watch's only event too,
+-- where the name that it tells is one
 abbrev pub LawOfEvents : Type 0
-LawOfEvents = (c : ℕ) (s : Subject) (w : Watch) → IsSubject s → 0 < w.number → w.number < 2 ^ 31 → All IsEvent (events c s w)
+LawOfEvents =
+    (c : ℕ) (s : Subject) (w : Watch) → IsSubject s → IsNameOrNone s.name → 0 < w.number →
+    w.number < 2 ^ 31 → All IsEvent (events c s w)

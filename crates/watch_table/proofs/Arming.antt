@@ -16,6 +16,7 @@ use Rattle.plain_model.specs.Tree.{same_id}
 use Rattle.plain_model.specs.Watching.{Watch, Instance, EVENTS, MASK_ADD, ONESHOT, has_bit}
 use Rattle.plain_model.specs.Machine.{watch_on}
 use Rattle.plain_model.specs.Refusals.{◌or_else◌, when, is_busy, WATCHES_MAX}
+use Rattle.plain_model.proofs.Masks.{AsksEvents, rearmed-AsksEvents}
 use Rattle.plain_model.proofs.Paths.{ids_tell}
 use Rattle.watch_table.specs.Listening.{IsWatch, IsInstance, rearmed, slot_refusal, arm_refusal}
 use Rattle.watch_table.proofs.Keys.{distinct_none, distinct_push, distinct_kept}
@@ -84,7 +85,12 @@ rearmed-IsWatch : (hooks armed : ℕ) (d : NodeId) (mask : ℕ) (w : Watch) → 
 rearmed-IsWatch hooks armed d mask w h =
     let slot = rearmed-keeps (λ v. v.slot) d mask w (λ m o. refl) in
     let number = rearmed-keeps (λ v. v.number) d mask w (λ m o. refl) in
-    record { slot = rw slot h.slot; positive = rw number h.positive; given = rw number h.given }
+    record {
+      slot = rw slot h.slot;
+      positive = rw number h.positive;
+      given = rw number h.given;
+      events = rearmed-AsksEvents (same_id d w.node) mask w h.events;
+    }
 
 -- an instance where a watch is armed again
 pub rearmed-IsInstance : (e : Instance) (d : NodeId) (mask : ℕ) → IsInstance e →
@@ -153,15 +159,15 @@ same_id_equiv = record {
 
 -- an instance with a watch more: of a slot that no watch has, on an object that no watch is on
 pub more-IsInstance : (e : Instance) (w : Watch) → IsInstance e → w.slot < length e.tags → w.number ≡ e.armed + 1 → e.armed < WATCHES_MAX →
-    is_busy e.watches w.slot (Some w.node) ≡ false → watch_on e.watches (Some w.node) ≡ None →
+    is_busy e.watches w.slot (Some w.node) ≡ false → watch_on e.watches (Some w.node) ≡ None → AsksEvents w →
     IsInstance (record e { armed = e.armed + 1; watches = e.watches ++ w ∷ [] })
-more-IsInstance e w h slot number left free none = record {
+more-IsInstance e w h slot number left free none events = record {
   hooks = h.hooks;
   watches =
       All-push (IsWatch (length e.tags) (e.armed + 1)) e.watches w
       (All-weaker (IsWatch (length e.tags) e.armed) (IsWatch (length e.tags) (e.armed + 1))
-      (λ v k. let g = k.given in record { slot = k.slot; positive = k.positive; given = omega arith }) e.watches h.watches)
-      (record { slot = slot; positive = omega arith; given = omega arith });
+      (λ v k. let g = k.given in record { slot = k.slot; positive = k.positive; given = omega arith; events = k.events }) e.watches h.watches)
+      (record { slot = slot; positive = omega arith; given = omega arith; events = events });
   few = omega arith;
   numbers = distinct_push nat_eq (λ v. v.number) nat_eq_equiv e.watches w h.numbers
       (rw number (number-new (length e.tags) e.armed e.watches h.watches));
@@ -227,9 +233,9 @@ none-mapped f (Some a) h = cc
 -- an instance whose arming of a new watch is not refused may have it
 pub arms-IsInstance : (e : Instance) (w : Watch) (mask : ℕ) → IsInstance e → slot_refusal (length e.tags) w.slot mask ≡ None →
     arm_refusal e.watches e.armed w.slot w.node ≡ None → w.number ≡ e.armed + 1 →
-    option_map (λ v. v.number) (watch_on e.watches (Some w.node)) ≡ None →
+    option_map (λ v. v.number) (watch_on e.watches (Some w.node)) ≡ None → AsksEvents w →
     IsInstance (record e { armed = e.armed + 1; watches = e.watches ++ w ∷ [] })
-arms-IsInstance e w mask h slot allowed number none =
+arms-IsInstance e w mask h slot allowed number none events =
     let new : watch_on e.watches (Some w.node) ≡ None = none-mapped (λ v. v.number) (watch_on e.watches (Some w.node)) none in
     more-IsInstance e w h (slot_below (length e.tags) w.slot mask slot) number (number_left e.watches e.armed w.slot w.node allowed new)
-    (not_busy e.watches e.armed w.slot w.node allowed) new
+    (not_busy e.watches e.armed w.slot w.node allowed) new events

@@ -1,5 +1,5 @@
 -- What an instance keeps, when it refuses to arm, and what the calls of one client make of it.
-use Rattle.std.specs.Prelude.{◌≡◌, ℕ, ◌<◌, ◌≤◌, not, cond, Bool, ◌&&◌, List, Option, Some, is_none, nat_eq, nat_lt, length, All, map, slice_index_or}
+use Rattle.std.specs.Prelude.{◌≡◌, ℕ, ◌≤◌, not, cond, Bool, ◌&&◌, List, Option, Some, is_none, nat_eq, nat_lt, length, All, map, slice_index_or}
 use Rattle.std.specs.List.{list_any, IsDistinct}
 use Rattle.ov_base.specs.declared.errno.Errno.{Errno}
 use Rattle.ov_base.specs.declared.errno.Errno.TheVariants.{EINVAL, EBUSY, ENOSPC}
@@ -12,12 +12,7 @@ use Rattle.plain_model.specs.Machine.{watch_on}
 use Rattle.plain_model.specs.Changes.{re_mask}
 use Rattle.plain_model.specs.Refusals.{◌or_else◌, when, bad_mask, is_busy, WATCHES_MAX}
 use Rattle.plain_model.specs.Runs.{HOOKS_MAX}
-
--- a watch of an instance with so many hooks, which was given so many numbers
-pub record IsWatch (hooks armed : ℕ) (w : Watch) : Type 0 where
-  pub slot : w.slot < hooks
-  pub positive : 0 < w.number
-  pub given : w.number ≤ armed
+pub use Rattle.plain_model.specs.Instances.{IsWatch}
 
 -- What an instance keeps. No two of its watches have one slot, so they are at most as many as its hooks.
 pub record IsInstance (e : Instance) : Type 0 where

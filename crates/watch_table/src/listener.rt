@@ -94,6 +94,7 @@ fn tell_watch<F: Callback, R: Rule>(
     }
     let hook = &hooks[watch.slot() as usize];
     event.watch = watch.number();
+    event.lawful();
     ask(hook, queue, event);
     if watch.is_once() && subject.bits != IGNORED {
         let end = Event {

@@ -17,22 +17,24 @@ const PLACES: usize = 65;
 
 const Q_OVERFLOW: u32 = 0x4000;
 
-// The notices that a client has not read, in their order.
+// The notices that a client has not read, in their order, and whether the overflow is one of them.
 #[derive(Drop)]
 pub(crate) struct Queue {
     notices: HeapCircularBuffer<Notice>,
+    has_overflow: bool,
 }
 
 impl Model for Queue {
     ghost use Rattle.std.specs.Prelude.{◌≡◌, List};
     ghost use Rattle.ov_base.specs.declared.notice.Notice.{Notice};
-    ghost use Rattle.plain_model.specs.Watching.{IsQueue};
+    ghost use Rattle.std.specs.List.{list_any};
+    ghost use Rattle.plain_model.specs.Watching.{IsQueue, same_notice, overflow};
 
     ghost Value = { List Notice };
 
     ghost view = { λ q. q.notices.items };
 
-    ghost invariant = { λ q. (q.notices.capacity ≡ 65) × IsQueue q.notices.items };
+    ghost invariant = { λ q. (q.notices.capacity ≡ 65) × IsQueue q.notices.items × (q.has_overflow ≡ list_any (same_notice overflow) q.notices.items) };
 }
 
 fn same_names(a: &Option<EventName>, b: &Option<EventName>) -> bool
@@ -71,11 +73,16 @@ fn ends_with(notices: &HeapCircularBuffer<Notice>, notice: &Notice) -> bool
     }
 }
 
+fn is_overflow(notice: &Notice) -> bool
+    ensures { result ≡ same_notice overflow notice.now }
+{
+    same(&lost(), notice)
+}
+
 fn tells_overflow(notices: &HeapCircularBuffer<Notice>) -> bool
     ensures { result ≡ list_any (same_notice overflow) notices.now.items }
 {
-    let lost = lost();
-    notices.iter().any(|notice| same(&lost, notice))
+    notices.iter().any(|notice| is_overflow(notice))
 }
 
 // Puts a notice last.
@@ -93,7 +100,10 @@ impl Queue {
         ensures { IfOk result (λ q. q ≡ []) }
     {
         let notices = HeapCircularBuffer::with_capacity(alloc, PLACES)?;
-        Ok(Queue { notices })
+        Ok(Queue {
+            notices,
+            has_overflow: false,
+        })
     }
 
     // Puts a notice. One like the last unread changes nothing; below 64 unread it goes last; else the overflow does, where none is
@@ -106,8 +116,10 @@ impl Queue {
         }
         if self.notices.len() < QUEUE_MAX {
             append(&mut self.notices, notice);
-        } else if !tells_overflow(&self.notices) {
+            self.has_overflow = self.has_overflow || is_overflow(notice);
+        } else if !self.has_overflow {
             append(&mut self.notices, &lost());
+            self.has_overflow = true;
         }
     }
 
@@ -130,6 +142,7 @@ impl Queue {
         first.truncate(count);
         let left = self.notices.len() - first.len();
         self.notices.truncate_front(left);
+        self.has_overflow = tells_overflow(&self.notices);
         Ok(Notices::from_vec(first))
     }
 }

@@ -1,7 +1,8 @@
 use Rattle.std.proofs.Common.{◌≡◌, ◌≤◌, arith, sym, ap, subst, ◌∙◌, length, map, ◌++◌, ◌∷◌, [], ◌+◌, refl, false}
 use Rattle.std.proofs.lemmas.List.{length-map}
 use Rattle.ov_base.specs.declared.node_id.NodeId.TheVariants.{New}
-use Rattle.plain_model.specs.Watching.{Watch, Instance}
+use Rattle.plain_model.specs.Watching.{EVENTS, Watch, Instance}
+use Rattle.plain_model.proofs.Masks.{and-within}
 use Rattle.watch_table.specs.Listening.{IsInstance, rearmed}
 use Rattle.watch_table.proofs.Arming.{number_on-given, rearmed-IsInstance, arms-IsInstance, room-left, written-over}
 use Rattle.watch_table.proofs.listener.Listener.arm.Goals as goal
@@ -28,7 +29,7 @@ push_reserved-requires g c =
     let allowed = rw (← c.self.view_is) at c.requires.allowed in
     let none = rw c.as_slice.ensures.value at (sym c.number_on.ensures ∙ c.in_default.is) in
     let w : Watch = record { number = e.armed + 1; slot = c.args.slot; node = New c.args.object; mask = 0; once = false } in
-    let few = room-left e w (arms-IsInstance e w c.args.mask c.self.invariant.0 slot allowed refl none) in
+    let few = room-left e w (arms-IsInstance e w c.args.mask c.self.invariant.0 slot allowed refl none refl) in
     let room = c.self.invariant.1 in
     let len = sym (ap length c.as_slice.ensures.value) ∙ c.as_slice.ensures.len in
     omega arith
@@ -46,7 +47,8 @@ invariant_of-self-2 g c =
     let slot = rw (← c.self.view_is) at c.requires.slot in
     let allowed = rw (← c.self.view_is) at c.requires.allowed in
     let none = rw c.as_slice.ensures.value at (sym c.number_on.ensures ∙ c.in_default.is) in
-    let more = subst with (sym c.new.ensures) (arms-IsInstance e _ c.args.mask c.self.invariant.0 slot allowed refl none) in
+    let more = subst with (sym c.new.ensures) (arms-IsInstance e _ c.args.mask c.self.invariant.0 slot allowed refl none
+    (and-within c.args.mask EVENTS)) in
     (rw c.push_reserved.ensures.items more, rw c.push_reserved.ensures.capacity c.self.invariant.1)
 
 pub returns-in-Some-clause-fits : goal.returns-in-Some-clause-fits
