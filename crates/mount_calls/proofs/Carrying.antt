@@ -1,14 +1,28 @@
 -- Open files through changes of the layers and of the tree.
 use Rattle.std.proofs.Common.{◌≡◌, ◌↔◌, ℕ, ◌<◌, true, List, Some, arith}
-use Rattle.mount_calls.proofs.Words.{after, Call, Dentries, Directory, File, file_holders, Handle, handle_of, IsLive, IsMountOf, Layer, layer_of, Layers, lowers_of, OpenDirectory, OpenFile, State, Table, Tree, Upper}
+use Rattle.mount_calls.proofs.Words.{after, Call, Dentries, Directory, File, file_holders, Handle, handle_of, IsLive, IsMountOf, Layer, layer_of, Layers, lowers_of, NodeId, OpenDirectory, OpenFile, State, Table, Tree, Upper}
+use Rattle.plain_model.specs.Tree.{IsKept}
+use Rattle.plain_model.specs.Changes.{is_held}
 use Rattle.mount_laws.proofs.Handles.{held-by}
 use Rattle.open_handles.specs.declared.handle.Handle as handles
 use Rattle.mount_calls.specs.declared.clients.Clients.{Clients}
 use Rattle.mount_calls.specs.declared.mount.Mount.{Mount}
 use Rattle.mount_calls.specs.Attaching.{opened_by}
 use Rattle.mount_calls.specs.Files.{is_leaf, IsFile, HasFile}
-use Rattle.mount_calls.specs.Living.{StaysLive, KeepsLive, KeepsHeldFrom, KeepsLeaves, KeepsHeldLeaves}
+use Rattle.mount_calls.specs.Living.{StaysLive, KeepsLive, KeepsHeldFrom}
 use Rattle.mount_calls.specs.States.{IsHandle, IsOpenAs, AreTables, IsStateOf}
+
+-- the call leaves each file of the tree a file
+abbrev pub KeepsLeaves : Call → Type 0
+KeepsLeaves call =
+    (s : State) → IsKept s.tree s.serial → (c : ℕ) (d : NodeId) →
+    is_leaf (s.tree d) ≡ true → is_leaf ((after s c call).tree d) ≡ true
+
+-- the call leaves each file on which a handle is open a file
+abbrev pub KeepsHeldLeaves : Call → Type 0
+KeepsHeldLeaves call =
+    (s : State) → IsKept s.tree s.serial → (c : ℕ) (d : NodeId) → is_held s.tables d ≡ true →
+    is_leaf (s.tree d) ≡ true → is_leaf ((after s c call).tree d) ≡ true
 
 module _ (U V : Layer) (lowers : List Layer) (t u : Tree) where
   -- a handle is on the open file still where that stays live, and the node a file

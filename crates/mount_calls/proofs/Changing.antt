@@ -27,13 +27,13 @@ use Rattle.mount_calls.specs.Altering.{AltersUnless}
 use Rattle.mount_calls.specs.Held.{handles_below}
 use Rattle.mount_calls.specs.Removing.{IsOpenNowhere, HasAttributes, RemovesOpen}
 use Rattle.mount_calls.specs.Files.{AreOne}
-use Rattle.mount_calls.specs.Living.{StaysLive, KeepsLive, KeepsHeld, KeepsLeaves, KeepsHeldLeaves}
+use Rattle.mount_calls.specs.Living.{StaysLive, KeepsLive, KeepsHeld}
 use Rattle.mount_calls.specs.States.{Stands, IsHandle, AreTables, IsStateOf, StaysState, Serves}
 use Rattle.mount_calls.proofs.Answering.{on-err, serve-refused, serve-done}
 use Rattle.mount_calls.proofs.Counting.{below-find}
 use Rattle.mount_calls.proofs.Serving.{slot-open, handle-now, open-before, one-fewer}
 use Rattle.mount_calls.proofs.Stating.{the_layers, the_lowers, the_upper, Alike}
-use Rattle.mount_calls.proofs.Carrying.{AreCounted, CarriesFiles, tables-on, state-stays, files-kept, files-held}
+use Rattle.mount_calls.proofs.Carrying.{KeepsLeaves, KeepsHeldLeaves, AreCounted, CarriesFiles, tables-on, state-stays, files-kept, files-held}
 use Rattle.mount_calls.proofs.Directories.{seen, shown-attributes, shown-directory}
 
 -- a directory with another name in it is one still

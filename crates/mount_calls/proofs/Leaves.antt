@@ -9,7 +9,7 @@ use Rattle.plain_model.specs.Machine.{look, same_found}
 use Rattle.plain_model.specs.Changes.{lead_way, meta_touched, one_fewer, one_more, with_attributes, with_mode, with_owner, set_value, drop_value, opened, is_held, settled, dropped, renamed}
 use Rattle.plain_model.proofs.Paths.{ids_tell}
 use Rattle.mount_calls.specs.Files.{is_leaf}
-use Rattle.mount_calls.specs.Living.{KeepsLeaves, KeepsHeldLeaves}
+use Rattle.mount_calls.proofs.Carrying.{KeepsLeaves, KeepsHeldLeaves}
 
 -- a file of a tree that gets another node is one still
 put-leaf : (t : Tree) (x d : NodeId) (o : Option Node) → (x ≡ d → is_leaf o ≡ true) → is_leaf (t d) ≡ true → is_leaf (put t x o d) ≡ true

@@ -5,7 +5,7 @@ use Rattle.ov_base.specs.declared.bytes.Content.TheVariants as content
 use Rattle.ov_base.specs.declared.call.Call.{Call}
 use Rattle.ov_base.specs.declared.node_id.NodeId.{NodeId}
 use Rattle.plain_model.specs.Layers.{Path, Named, Inode, Layer, held}
-use Rattle.plain_model.specs.Tree.{Tree, IsKept, node_at}
+use Rattle.plain_model.specs.Tree.{Tree, node_at}
 use Rattle.plain_model.specs.Machine.{State}
 use Rattle.plain_model.specs.Changes.{is_held, after}
 use Rattle.layer_tree.specs.Tree.{layer_of, SameObjects}
@@ -16,7 +16,6 @@ use Rattle.mount_laws.specs.OpenFiles.{IsLive, DropsInode, WritesInode}
 use Rattle.copy_up.specs.Showing.{StaysLayers, StaysMount, StaysThin}
 use Rattle.open_handles.specs.FileHolders.{file_holders}
 use Rattle.mount_calls.specs.declared.clients.Clients.{Clients}
-use Rattle.mount_calls.specs.Files.{is_leaf}
 
 -- a live file stays so in each tree
 abbrev pub StaysLive : Layers → Layers → Type 0
@@ -62,17 +61,6 @@ pub record NamesFile (U : Layer) (p : Path) (k : ℕ) : Type 0 where
 -- each path that names a file of the upper names the same one still
 abbrev pub KeepsFiles : Layers → Layers → Type 0
 KeepsFiles old new = (p : Path) (k : ℕ) → NamesFile (layer_of old.upper) p k → NamesFile (layer_of new.upper) p k
-
--- the call leaves each file of the tree a file
-abbrev pub KeepsLeaves : Call → Type 0
-KeepsLeaves call =
-    (s : State) → IsKept s.tree s.serial → (c : ℕ) (d : NodeId) → is_leaf (s.tree d) ≡ true → is_leaf ((after s c call).tree d) ≡ true
-
--- the call leaves each file on which a handle is open a file
-abbrev pub KeepsHeldLeaves : Call → Type 0
-KeepsHeldLeaves call =
-    (s : State) → IsKept s.tree s.serial → (c : ℕ) (d : NodeId) → is_held s.tables d ≡ true →
-    is_leaf (s.tree d) ≡ true → is_leaf ((after s c call).tree d) ≡ true
 
 -- every path holds what it held, and each inode that a path names is as it was
 pub record KeepsPaths (old new : Layers) : Type 0 where

@@ -2,11 +2,13 @@
 use Rattle.std.proofs.Common.{◌≡◌, ◌≢◌, ℕ, false, List, [], ◌∷◌, Option, None, Some, IsSome, refl, sym, ap, subst, ◌∙◌, inl, inr, is_some, ◌||◌}
 use Rattle.std.specs.List.{list_any, AllZip}
 use Rattle.std.proofs.lemmas.Bool.{cases_Bool}
+use Rattle.ov_base.specs.declared.call.Call.{Call}
 use Rattle.ov_base.specs.declared.node_id.NodeId.{NodeId}
 use Rattle.ov_base.specs.declared.node_id.NodeId.TheVariants.{New}
-use Rattle.plain_model.specs.Layers.{Name}
+use Rattle.plain_model.specs.Layers.{Name, Layer}
 use Rattle.plain_model.specs.Tree.{same_id}
 use Rattle.plain_model.specs.Watching.{On, Subject, Watch, Instance, Rule, AllHear}
+use Rattle.plain_model.specs.Machine.{State}
 use Rattle.plain_model.specs.Changes.{makes, after}
 use Rattle.plain_model.specs.Subjects as told
 use Rattle.plain_model.specs.Subjects.{subjects}
@@ -15,10 +17,10 @@ use Rattle.plain_model.proofs.Alike.{alike-hearing}
 use Rattle.plain_model.proofs.AlikeKept.{alike-kept}
 use Rattle.plain_model.proofs.Paths.{ids_tell}
 use Rattle.open_handles.specs.declared.tracked_client.Way.{Way}
-use Rattle.open_handles.specs.Tracked.{Tracked, spot_of}
-use Rattle.notice_laws.specs.Notified.{Bearers, AreBorne, stands_for}
+use Rattle.open_handles.specs.Tracked.{Tracked, Spot, spot_of}
+use Rattle.notice_laws.specs.Notified.{Notified, AreKnown, Bearers, AreBorne, stands_for, Tracks, Passes, Resumes}
 use Rattle.notice_laws.specs.Objects.{Means, MeansWay}
-use Rattle.notice_laws.specs.Telling.{of_number, in_way, LawOfTold, LawOfTelling}
+use Rattle.notice_laws.specs.Telling.{of_number, in_way, LawOfTold, Tells, Follows}
 use Rattle.notice_laws.proofs.Numbers.{some-is}
 use Rattle.notice_laws.proofs.FewerObjects.{one-to-one, alike-known}
 use Rattle.notice_laws.proofs.Staying.{still-given}
@@ -95,7 +97,11 @@ law_of_told U s objects bearers es fs borne alike =
     }
 
 -- after a telling the call's watches are heard, and what is kept for watches is the new state's
-pub law_of_telling : (shows : Rule) → LawOfTelling shows
+pub law_of_telling : (shows : Rule) (U V : Layer) (lowers : List Layer) (s : State) (c : ℕ) (call : Call) →
+    Passes U V lowers s c call → (old new : Notified) → (k : Tracks U s old) → AreKnown new →
+    (ss : List Subject) (becomes : Spot → Spot → Type 0) →
+    Tells shows old new ss becomes → Follows V s c call old new k.bearers ss becomes →
+    Resumes shows V s c call new
 law_of_telling shows U V lowers s c call passes old new k known ss becomes tells follows = record {
   heard = heard.heard;
   hears = subst (λ es. AllHear shows (subjects s c call) es heard.heard) (sym follows.instances) heard.hears;

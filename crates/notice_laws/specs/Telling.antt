@@ -16,7 +16,7 @@ use Rattle.open_handles.specs.Tracked.{Tracked, Spot, spot_of}
 use Rattle.open_handles.specs.TrackedHandles.{TrackedTables, IsOn, clients_of, tracked_by}
 use Rattle.notice_laws.specs.declared.object.Object.{Object}
 use Rattle.notice_laws.specs.declared.object.Object.TheVariants as object
-use Rattle.notice_laws.specs.Notified.{Notified, AreKnown, Bearers, IsAt, AreBorne, stands_for, IsSlotOn, Tracks, Passes, Resumes}
+use Rattle.notice_laws.specs.Notified.{Notified, Bearers, IsAt, AreBorne, stands_for, IsSlotOn}
 use Rattle.notice_laws.specs.Objects.{Means, MeansWay}
 
 -- the object of a number is told, without a name
@@ -88,13 +88,6 @@ pub record Follows (V : Layer) (s : State) (c : ℕ) (call : Call) (old new : No
   pub clients : clients_of new.handles ≡ settling.clients_of (tables_after s c call)
   pub instances : instances_after s c call ≡ s.instances
   pub renames : new.renames ≡ (after s c call).renames
-
--- then the call's watches are heard, and what is kept for watches is the new state's
-abbrev pub LawOfTelling : Rule → Type 1
-LawOfTelling shows =
-    (U V : Layer) (lowers : List Layer) (s : State) (c : ℕ) (call : Call) → Passes U V lowers s c call →
-    (old new : Notified) → (k : Tracks U s old) → AreKnown new → (ss : List Subject) (becomes : Spot → Spot → Type 0) →
-    Tells shows old new ss becomes → Follows V s c call old new k.bearers ss becomes → Resumes shows V s c call new
 
 -- Whose end is told, of the object of a number that lost its last name: its own, where no handle is on it, and else none.
 abbrev pub IsEnd : TrackedTables → Bool → Option ℕ → Option ℕ → Type 0

@@ -1,5 +1,5 @@
 -- What a change of one entry means for all of them.
-use Rattle.std.proofs.Common.{◌≡◌, ℕ, cond, List, [], Option, Some, None, IsSome, is_some, get_or, refl, sym, ap, subst, ◌∙◌, inl, inr, arith, nat_eq}
+use Rattle.std.proofs.Common.{◌≡◌, ◌≢◌, ℕ, cond, List, [], Option, Some, None, IsSome, is_some, get_or, refl, sym, ap, subst, ◌∙◌, inl, inr, arith, nat_eq}
 use Rattle.std.specs.Prelude.{option_map}
 use Rattle.std.specs.Option.{option_and_then, option_map_or}
 use Rattle.std.specs.Map.{lookup}
@@ -12,8 +12,8 @@ use Rattle.plain_model.specs.Layers.{Name}
 use Rattle.open_handles.specs.declared.dentry.Dentry.{Dentry}
 use Rattle.open_handles.specs.declared.dentry.Place.{Place}
 use Rattle.open_handles.specs.declared.dentry.Place.TheVariants.{In}
-use Rattle.open_handles.specs.Dentries.{Dentries, place_at, child_in, child}
-use Rattle.open_handles.specs.Steps.{IsIdle, Lists, SameDentry, SameEntries, Relists, Adds, Unlinks, Drops, Displaces, Counts}
+use Rattle.open_handles.specs.Dentries.{Dentries, place_at, held, child_in, child}
+use Rattle.open_handles.specs.Steps.{IsIdle, Lists, SameDentry, SameEntries, Relists, Adds, Unlinks, Displaces, Counts}
 
 -- a read entry is there
 pub there : (t : Dentries) (k : ℕ) (e : Dentry) → get t k ≡ Some e → IsSome (get t k)
@@ -80,6 +80,13 @@ slab_len-written t k before after found =
     let counted = sum_by-set one t.slots k (Some after) None within in
     let was : one (get_or t.slots k None) ≡ 1 = ap one found in
     omega (arith, counted, was)
+
+-- a directory without handles and children has no entry any more
+pub record Drops (old new : Dentries) (k : ℕ) : Type 0 where
+  pub gone : place_at new k ≡ None
+  pub places : (j : ℕ) → j ≢ k → place_at new j ≡ place_at old j
+  pub counts : (j : ℕ) → held new j ≡ held old j
+  pub children : (d : ℕ) (m : Name) → child new d m ≡ child old d m
 
 -- an entry that nothing keeps was freed
 pub drops : (old new : Dentries) (k : ℕ) (e : Dentry) → get old k ≡ Some e → IsIdle e → Updates old new k None → Drops old new k

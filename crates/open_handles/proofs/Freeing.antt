@@ -12,9 +12,9 @@ use Rattle.open_handles.specs.declared.dentry.Dentry.{Dentry}
 use Rattle.open_handles.specs.declared.dentry.Place.{Place}
 use Rattle.open_handles.specs.declared.dentry.Place.TheVariants.{Root, In, Removed}
 use Rattle.open_handles.specs.Dentries.{Dentries, ROOT, place_at, held, child_in, child, HasChild, IsTree}
-use Rattle.open_handles.specs.Steps.{IsIdle, Relists, Unlinks, Drops}
+use Rattle.open_handles.specs.Steps.{IsIdle, Relists, Unlinks}
 use Rattle.open_handles.specs.Opened.{SameHandles}
-use Rattle.open_handles.proofs.Entries.{drops, unlinks-freed}
+use Rattle.open_handles.proofs.Entries.{Drops, drops, unlinks-freed}
 use Rattle.open_handles.proofs.Moving.{tree-settled, tree-dropped, child-there}
 use Rattle.open_handles.proofs.Handles.{tree-freed, same-freed, same-dropped}
 

@@ -5,8 +5,9 @@ use Rattle.ov_base.specs.declared.attributes.Attributes.{Attributes}
 use Rattle.plain_model.specs.Layers.{Name, Path}
 use Rattle.open_handles.specs.declared.dentry.Place.TheVariants as place
 use Rattle.open_handles.specs.Dentries.{Dentries, ROOT, place_at, held, child, StandsAt, Stands, IsTree}
-use Rattle.open_handles.specs.Steps.{SameEntries, Adds, Unlinks, Drops, Counts}
+use Rattle.open_handles.specs.Steps.{SameEntries, Adds, Unlinks, Counts}
 use Rattle.open_handles.specs.Opened.{Location, opened, holders, SameHandles, Opens, Closes}
+use Rattle.open_handles.proofs.Entries.{Drops}
 use Rattle.open_handles.proofs.Standing.{one_there}
 use Rattle.open_handles.proofs.Located.{unheld, stands, removed, standing, opened-stands, opened-none, opened-removed, opened-at, opened-same, removed-stands}
 use Rattle.open_handles.proofs.Moving.{tree-settled, tree-same, tree-counted, stands-same, paths-added, tree-added, paths-unlinked, tree-unlinked, tree-dropped}

@@ -10,7 +10,8 @@ use Rattle.open_handles.specs.declared.dentry.Dentry.{Dentry}
 use Rattle.open_handles.specs.declared.dentry.Place.{Place}
 use Rattle.open_handles.specs.declared.dentry.Place.TheVariants.{Root, In, Removed}
 use Rattle.open_handles.specs.Dentries.{Dentries, ROOT, place_at, held, child_in, child, StandsAt, Stands, HasChild, IsTree}
-use Rattle.open_handles.specs.Steps.{SameEntries, Adds, Unlinks, Drops, Counts, KeepsPaths}
+use Rattle.open_handles.specs.Steps.{SameEntries, Adds, Unlinks, Counts, KeepsPaths}
+use Rattle.open_handles.proofs.Entries.{Drops}
 
 -- two names are one or not
 same_name : (m n : Name) → (m ≡ n) ⊎ (m ≢ n)

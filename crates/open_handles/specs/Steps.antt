@@ -66,13 +66,6 @@ pub record Unlinks (old new : Dentries) (k d : ℕ) (n : Name) (to : Option Plac
   pub counts : (j : ℕ) → held new j ≡ held old j
   pub binds : Rebinds old new d n None
 
--- a directory without handles and children has no entry any more
-pub record Drops (old new : Dentries) (k : ℕ) : Type 0 where
-  pub gone : place_at new k ≡ None
-  pub places : (j : ℕ) → j ≢ k → place_at new j ≡ place_at old j
-  pub counts : (j : ℕ) → held new j ≡ held old j
-  pub children : (d : ℕ) (m : Name) → child new d m ≡ child old d m
-
 -- a directory stands there now, and has the handles and children that it had
 pub record Displaces (old new : Dentries) (k : ℕ) (to : Place) : Type 0 where
   pub placed : place_at new k ≡ Some to
