@@ -54,7 +54,7 @@ fn upper_directory(layers: &Layers, dir: usize, name: &Name) -> Option<usize>
     }
 }
 
-/// Places the directory that `need_at` tells of, at so many of the path's first names, with the
+/// Places the directory that `need_at` names, at so many of the path's first names, with the
 /// attributes that it shows. It fails only when out of memory, and changes nothing then; what is
 /// shown stays the same in each case.
 pub fn place_dir(layers: &mut Layers, path: &Path, count: usize) -> Result<(), AllocError>

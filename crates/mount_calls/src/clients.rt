@@ -233,7 +233,7 @@ impl Clients {
         self.files.is_held(key)
     }
 
-    /// Moves the place of an open file of a client.
+    /// Sets the place, in bytes from the start, of an open file of a client.
     pub fn move_to(&mut self, client: u64, descriptor: u32, place: u64)
         requires { IsSome (file_by self.old client descriptor) }
         ensures { ChangesClient self.old self.new client (λ before after. ChangesSlot before after descriptor (with_place place)) }

@@ -1,4 +1,5 @@
-//! A mount with the clients on it: its calls on files are those of the plain machine. Nobody is told of them here.
+//! A mount with the clients on it: its calls on files are those of the plain machine. Nobody is
+//! notified of them here.
 #![tactic(auto)]
 
 mod attribute_calls;

@@ -41,7 +41,7 @@ impl Mount {
         }
     }
 
-    /// What stands at a path that was looked at, as `object_at` tells it.
+    /// What stands at a path that was looked at, as `object_at` returns it.
     pub fn object_seen(&self, look: &Look) -> Object
         requires { (p : Names) × IsLook self.now.layers p look.now }
         ensures { (p : Names) → IsLook self.now.layers p look.now → IsObject (layer_of self.now.layers.upper) (lowers_of self.now.layers) p result }

@@ -274,7 +274,7 @@ impl Mount {
         }
     }
 
-    /// Removes a name of a file or link, and tells what stood there. An allocation failure leaves
+    /// Removes a name of a file or link, and returns what stood there. An allocation failure leaves
     /// all that is shown as it was.
     pub fn unlink_telling(&mut self, path: &Path) -> Result<Result<Object, Errno>, AllocError>
         ensures serves { IfOk result (λ outcome. (s : State) → IsStateOf self.old s → (c : ℕ) → Serves (refusal s c (Call.Unlink path.now)) s c (Call.Unlink path.now) (outcome_reply outcome) self.new) }

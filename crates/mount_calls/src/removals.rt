@@ -27,7 +27,8 @@ use ov_base::{Errno, Path};
 use rename_redirect::{Renamed, rename};
 use std::alloc::{AllocError, Global};
 
-/// `unlink`, which frees the inode whose last name this was, unless a handle holds it, and tells what stood there.
+/// `unlink`, which frees the inode whose last name this was, unless a handle holds it, and returns
+/// what stood there.
 pub(crate) fn unlink_and_free(
     layers: &mut Layers,
     clients: &Clients,
@@ -85,8 +86,8 @@ pub(crate) fn rmdir_and_free(
     }
 }
 
-/// `rename`, which frees what lost its last name by it, unless a handle holds it. It tells whether anything moved: nothing does where both
-/// paths are one object.
+/// `rename`, which frees what lost its last name by it, unless a handle holds it. It returns
+/// whether anything moved: nothing does where both paths are one object.
 pub(crate) fn rename_and_free(
     alloc: Global,
     layers: &mut Layers,

@@ -17,9 +17,9 @@ use ov_base::{Call, Errno, Path, Reply};
 use std::alloc::AllocError;
 
 impl Mount {
-    /// Moves what stands at the old path to the new one, with what is open there, and tells whether
-    /// anything moved: nothing does where both paths are one object. An allocation failure leaves
-    /// all that is shown as it was.
+    /// Moves what stands at the old path to the new one, with what is open there, and returns
+    /// whether anything moved: nothing does where both paths are one object. An allocation failure
+    /// leaves all that is shown as it was.
     pub fn rename_moving(
         &mut self,
         old: &Path,

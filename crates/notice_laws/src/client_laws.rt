@@ -18,7 +18,7 @@ pub fn law_of_joined()
     ensures { LawOfJoined }
 {}
 
-/// A client that goes has no watches first: what its closes tell it doesn't hear.
+/// A client that goes has no watches first: it doesn't hear of its closes.
 pub fn law_of_muted()
     ensures { LawOfMuted }
 {}
@@ -33,7 +33,7 @@ pub fn law_of_armed<A: AnswerRule>()
     ensures { LawOfArmed A.shows }
 {}
 
-/// `disarm` tells the watch that it ends, and it is gone (inotify_rm_watch(2)).
+/// `disarm` notifies the watch that it ends, and it is gone (inotify_rm_watch(2)).
 pub fn law_of_disarmed<A: AnswerRule>()
     ensures { LawOfDisarmed A.shows }
 {}

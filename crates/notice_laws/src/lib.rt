@@ -1,4 +1,5 @@
-//! What an engine owes of watches: laws that tie what it tracks and tells by numbers of its own to what the plain machine's calls tell.
+//! What an engine owes of watches: laws that tie what it tracks and notifies by numbers of its own
+//! to what the plain machine's calls notify.
 #![tactic(auto)]
 
 mod call_laws;

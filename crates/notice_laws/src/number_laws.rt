@@ -13,7 +13,8 @@ pub fn law_of_way_numbers()
     ensures { LawOfWayNumbers }
 {}
 
-/// What is told by numbers reaches the watches that the machine's subjects reach; what has no number nobody watches.
+/// What is notified by numbers reaches the watches that the machine's subjects reach; what has no
+/// number nobody watches.
 pub fn law_of_told()
     ensures { LawOfTold }
 {}

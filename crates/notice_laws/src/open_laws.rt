@@ -14,19 +14,20 @@ pub fn law_of_fewer_numbers()
     ensures { LawOfFewerNumbers }
 {}
 
-/// An open of what is there tells its directory and the object, first that it is emptied where that is asked for (inotify(7), `IN_OPEN`).
+/// An open of what is there notifies its directory and the object, first that it is emptied where
+/// that is asked for (inotify(7), `IN_OPEN`).
 pub fn law_of_opened<A: AnswerRule>()
     ensures { LawOfOpened A.shows }
 {}
 
-/// An open that makes its file tells the directory, of the new name and of the open; the file has a number then (inotify(7),
-/// `IN_CREATE`).
+/// An open that makes its file notifies the directory, of the new name and of the open; the file
+/// has a number then (inotify(7), `IN_CREATE`).
 pub fn law_of_opened_new<A: AnswerRule>()
     ensures { LawOfOpenedNew A.shows }
 {}
 
-/// A close tells the directory by which the handle was opened, the object, and the object's end where it has neither name nor handle then
-/// (inotify(7), `IN_CLOSE` and `IN_DELETE_SELF`).
+/// A close notifies the directory by which the handle was opened, the object, and the object's end
+/// where it has neither name nor handle then (inotify(7), `IN_CLOSE` and `IN_DELETE_SELF`).
 pub fn law_of_closed<A: AnswerRule>()
     ensures { LawOfClosed A.shows }
 {}

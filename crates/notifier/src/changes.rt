@@ -27,7 +27,8 @@ impl<F: Callback, R: Rule> Notifier<F, R> {
         }
     }
 
-    // Tells that what stands at a path, where it is a file of a lower layer, is in the upper under a key now. It gives its number.
+    // Notifies that what stands at a path, where it is a file of a lower layer, is in the upper
+    // under a key now. It gives its number.
     pub(crate) fn lift(&mut self, path: &Path, object: Object, key: usize) -> Option<u64>
         requires room { HasRoom self.old.objects path.now object }
         requires free { IsFree self.old.objects path.now object key }
@@ -45,8 +46,8 @@ impl<F: Callback, R: Rule> Notifier<F, R> {
         number
     }
 
-    /// Tells that attributes of what stands at a path changed; a file of a lower layer is in the upper under a key by that. It takes no
-    /// memory.
+    /// Notifies that attributes of what stands at a path changed; a file of a lower layer is in the
+    /// upper under a key by that. It takes no memory.
     pub fn altered(&mut self, path: &Path, object: Object, key: usize)
         requires room { HasRoom self.old.objects path.now object }
         requires free { IsFree self.old.objects path.now object key }
@@ -57,8 +58,8 @@ impl<F: Callback, R: Rule> Notifier<F, R> {
         self.tell_both(&way, number, marks(object, ATTRIB));
     }
 
-    /// Tells that what stands at the old path has the new path too; a file of a lower layer is in the upper under a key by that. It takes
-    /// no memory.
+    /// Notifies that what stands at the old path has the new path too; a file of a lower layer is
+    /// in the upper under a key by that. It takes no memory.
     pub fn linked(&mut self, old: &Path, new: &Path, object: Object, key: usize)
         requires room { HasRoom self.old.objects old.now object }
         requires free { IsFree self.old.objects old.now object key }

@@ -1,4 +1,5 @@
-//! What a mount keeps and tells for watches: the objects that watches and handles pin, what each handle is on, and the watches.
+//! What a mount keeps and notifies for watches: the objects that watches and handles pin, what each
+//! handle is on, and the watches.
 #![tactic(auto)]
 
 mod bits;

@@ -225,8 +225,9 @@ impl<F: Callback, R: Rule> Notifier<F, R> {
         }
     }
 
-    /// Tells that what stood at the old path moved to the new one, where something else was replaced, or nothing; a file of a lower layer
-    /// is in the upper under a key by that. It takes no memory, which `prepare_move` took.
+    /// Notifies that what stood at the old path moved to the new one, where something else was
+    /// replaced, or nothing; a file of a lower layer is in the upper under a key by that. It takes
+    /// no memory, which `prepare_move` took.
     pub fn moved(&mut self, old: &Path, new: &Path, object: Object, replaced: Object, key: usize)
         requires ready { IsReady self.old old.now new.now object }
         requires free { IsFreeFor self.old.objects old.now new.now object replaced key }

@@ -23,7 +23,8 @@ pub(crate) fn is_last_name(object: Object) -> bool
 }
 
 impl<F: Callback, R: Rule> Notifier<F, R> {
-    /// Tells that a directory or a link was made at a path, by the bits of that event. It takes no memory.
+    /// Notifies that a directory or a link was made at a path, by the bits of that event. It takes
+    /// no memory.
     pub fn made(&mut self, path: &Path, bits: u32)
         requires { IsOther bits }
         ensures { Made R.shows self.old self.new path.now bits }
@@ -32,7 +33,8 @@ impl<F: Callback, R: Rule> Notifier<F, R> {
         self.tell_way(&way, bits);
     }
 
-    // Tells that what stands at a path loses this name. It gives its number, and again where the object ends by it.
+    // Notifies that what stands at a path loses this name. It gives its number, and again where the
+    // object ends by it.
     pub(crate) fn lose_name(&mut self, path: &Path, object: Object) -> (Option<u64>, Option<u64>)
         ensures number { IsNumberOf self.old.objects path.now object result.0 }
         ensures ended { IsEnd self.old.handles (is_last_name object) result.0 result.1 }
@@ -53,7 +55,7 @@ impl<F: Callback, R: Rule> Notifier<F, R> {
         }
     }
 
-    /// Tells that a name of a file or link is gone. It takes no memory.
+    /// Notifies that a name of a file or link is gone. It takes no memory.
     pub fn unlinked(&mut self, path: &Path, object: Object)
         ensures { Unlinked R.shows self.old self.new path.now object }
     {
@@ -64,7 +66,7 @@ impl<F: Callback, R: Rule> Notifier<F, R> {
         self.tell_end(ended);
     }
 
-    /// Tells that a directory is gone. It takes no memory.
+    /// Notifies that a directory is gone. It takes no memory.
     pub fn removed(&mut self, path: &Path)
         ensures { Removed R.shows self.old self.new path.now }
     {

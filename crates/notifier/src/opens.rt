@@ -193,8 +193,8 @@ impl<F: Callback, R: Rule> Notifier<F, R> {
         }
     }
 
-    /// Tells that a client opened what stands at a path, which was prepared; a file of a lower layer that is opened for writing is in the
-    /// upper under a key by that. It takes no memory.
+    /// Notifies that a client opened what stands at a path, which was prepared; a file of a lower
+    /// layer that is opened for writing is in the upper under a key by that. It takes no memory.
     pub fn opened(
         &mut self,
         client: u64,
@@ -215,8 +215,8 @@ impl<F: Callback, R: Rule> Notifier<F, R> {
         self.tell_both(&handle.way, Some(handle.object), marks(object, OPEN));
     }
 
-    /// Tells that a client opened a file that was made at a path for it, which was prepared; the file is in the upper under a key. It
-    /// takes no memory.
+    /// Notifies that a client opened a file that was made at a path for it, which was prepared; the
+    /// file is in the upper under a key. It takes no memory.
     pub fn opened_new(&mut self, client: u64, descriptor: u32, path: &Path, key: usize)
         requires open { IsSome (tracked_by self.old.handles client descriptor) }
         requires room { 0 < room self.old.objects }

@@ -8,7 +8,7 @@ use crate::kept::Notifier;
 use watch_table::{Callback, Rule};
 
 impl<F: Callback, R: Rule> Notifier<F, R> {
-    /// Tells that an open handle was used, by the bits of that event. It takes no memory.
+    /// Notifies that an open handle was used, by the bits of that event. It takes no memory.
     pub fn used(&mut self, client: u64, descriptor: u32, bits: u32)
         requires open { IsSome (tracked_by self.old.handles client descriptor) }
         requires bits { IsOther bits }
@@ -18,7 +18,8 @@ impl<F: Callback, R: Rule> Notifier<F, R> {
         self.tell_both(&handle.way, Some(handle.object), bits);
     }
 
-    /// Tells that an open handle is closed, by the bits of that event; its descriptor is on nothing then. It takes no memory.
+    /// Notifies that an open handle is closed, by the bits of that event; its descriptor is on
+    /// nothing then. It takes no memory.
     pub fn closed(&mut self, client: u64, descriptor: u32, bits: u32)
         requires open { IsSome (tracked_by self.old.handles client descriptor) }
         requires bits { IsOther bits }

@@ -79,7 +79,8 @@ impl<F: Callback, R: Rule> Notifier<F, R> {
         outcome
     }
 
-    /// Takes a watch of a client away, which is told so, and lets go what it held. It takes no memory.
+    /// Takes a watch of a client away, which is notified of it, and lets go what it held. It takes
+    /// no memory.
     pub fn disarmed(&mut self, client: u64, watch: i32)
         requires { list_any (is_numbered watch) (watches_of (instance_of self.old.instances client)) ≡ true }
         ensures { Disarmed R.shows self.old self.new client watch }

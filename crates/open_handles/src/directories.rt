@@ -43,7 +43,8 @@ impl Model for OpenDirectories {
 }
 
 impl OpenDirectories {
-    /// Nothing is open. Names are hashed with these keys.
+    /// Nothing is open. Names are hashed with these keys. It fails only when out of memory for the
+    /// root's entry.
     pub fn new(alloc: Global, keys: RandomState) -> Result<OpenDirectories, AllocError>
         ensures { IfOk result (λ d. (k : ℕ) → opened d k ≡ None) }
     {

@@ -190,8 +190,8 @@ impl NumberedObjects {
         Some(place)
     }
 
-    /// Tells that an object is elsewhere now, where no object with a number is, or nowhere any more. It takes no memory. Where the object
-    /// was, none with a number is then.
+    /// Notes that an object is elsewhere now, where no object with a number is, or nowhere any
+    /// more. It takes no memory. Where the object was, none with a number is then.
     pub fn move_to(&mut self, number: u64, place: ObjectPlace)
         requires there { IsSome (place_of self.old number) }
         requires vacant { place ≢ Nowhere → IsVacant self.old place }

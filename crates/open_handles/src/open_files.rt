@@ -95,7 +95,8 @@ impl OpenFiles {
         }
     }
 
-    /// Counts one handle less on a file, and tells whether that was the last one. It takes no memory.
+    /// Counts one handle less on a file, and returns whether that was the last one. It takes no
+    /// memory.
     pub fn release(&mut self, key: usize) -> bool
         requires { 0 < file_holders self.old key }
         ensures counts { CountsFile self.old self.new key (file_holders self.old key - 1) }

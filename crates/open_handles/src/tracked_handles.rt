@@ -94,7 +94,7 @@ impl TrackedHandles {
         }
     }
 
-    /// Tells what a free descriptor of an attached client is on from now on. It takes no memory.
+    /// Notes what a free descriptor of an attached client is on from now on. It takes no memory.
     pub fn open(&mut self, client: u64, descriptor: u32, handle: TrackedHandle)
         requires attached { is_tracked self.old client ≡ true }
         requires slot { descriptor < 64 }
@@ -143,8 +143,9 @@ impl TrackedHandles {
         count
     }
 
-    /// Tells that an object has another way in place of one: each handle on it that was opened by exactly the one has the other, as after a
-    /// rename. It goes through all handles and takes no memory.
+    /// Notes that an object has another way in place of one: each handle on it that was opened by
+    /// exactly the one has the other, as after a rename. It goes through all handles and takes no
+    /// memory.
     pub fn re_way(&mut self, object: u64, from: &Way, to: Way)
         ensures handles { (c d : ℕ) → tracked_by self.new c d ≡ option_map (re_way_of object from.now to) (tracked_by self.old c d) }
         ensures clients { clients_of self.new ≡ clients_of self.old }

@@ -231,7 +231,7 @@ impl TrackedObjects {
         }
     }
 
-    /// Tells that an object is under no path any more. It takes no memory.
+    /// Notes that an object is under no path any more. It takes no memory.
     pub fn lose(&mut self, number: u64)
         requires { IsSome (spot_of self.old number) }
         ensures loses { SetsSpot self.old self.new number (Some Nowhere) (holders_of self.old number) }
@@ -259,7 +259,8 @@ impl TrackedObjects {
         self.numbers.reserve()
     }
 
-    /// Tells that an object was copied up: it is in the upper under a key now, under which nothing is tracked. It takes no memory.
+    /// Notes that an object was copied up: it is in the upper under a key now, under which nothing
+    /// is tracked. It takes no memory.
     pub fn rise(&mut self, number: u64, key: usize)
         requires there { IsSome (spot_of self.old number) }
         requires vacant { IsVacant self.old (Upper key) }

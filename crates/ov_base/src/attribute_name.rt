@@ -42,7 +42,8 @@ impl Clone for AttributeName {
 }
 
 impl AttributeName {
-    /// Why bytes are no name, as setxattr(2) tells it: none, over 255 or with a NUL is EINVAL, others outside `user.` EOPNOTSUPP.
+    /// Why bytes are no name, as setxattr(2) says it: none, over 255 or with a NUL is EINVAL,
+    /// others outside `user.` EOPNOTSUPP.
     pub fn fault(bytes: &[u8]) -> Option<Errno>
         ensures { result ≡ result_err (attribute_of bytes.now) }
     {

@@ -62,7 +62,7 @@ impl UserAttributes {
         value_in(self.as_slice(), name)
     }
 
-    /// The names in their order, as listxattr(2) tells them.
+    /// The names in their order, as listxattr(2) gives them.
     pub fn names(&self, alloc: Global) -> Result<Texts, AllocError>
         ensures { IfOk result (λ names. names ≡ map (λ x. x.0) self.now) }
     {

@@ -34,14 +34,14 @@ impl Mode {
         Mode { bits: 0o777 }
     }
 
-    /// The mode of a directory for which none is told.
+    /// The mode of a directory for which none is given.
     pub fn of_directories() -> Mode
         ensures { result ≡ 0o755 }
     {
         Mode { bits: 0o755 }
     }
 
-    /// The mode of a file for which none is told.
+    /// The mode of a file for which none is given.
     pub fn of_files() -> Mode
         ensures { result ≡ 0o644 }
     {

@@ -34,9 +34,9 @@ impl Path {
         }
     }
 
-    /// The path that a text spells: `/` is the root, else each name follows a `/`.
-    /// A text over 4,095 bytes is ENAMETOOLONG, one that doesn't begin with `/` is EINVAL, and then the first name at fault
-    /// tells: over 255 bytes ENAMETOOLONG; empty, `.`, `..` or with a NUL EINVAL.
+    /// The path that a text spells: `/` is the root, else each name follows a `/`. A text over
+    /// 4,095 bytes is ENAMETOOLONG, one that doesn't begin with `/` is EINVAL, and then the first
+    /// name at fault decides: over 255 bytes ENAMETOOLONG; empty, `.`, `..` or with a NUL EINVAL.
     pub fn parse(alloc: Global, text: &[u8]) -> Result<Result<Path, Errno>, AllocError>
         ensures { IfOk result (λ outcome. outcome ≡ path_of_text text.now) }
     {

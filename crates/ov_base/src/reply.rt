@@ -4,7 +4,7 @@ use crate::errno::Errno;
 use crate::name::NameList;
 use crate::notice::Notices;
 
-/// The kind of an object, as `S_IFMT` tells it.
+/// The kind of an object, as `S_IFMT` names it.
 #[derive(Clone, Copy, Debug, PartialEq, Eq)]
 pub enum ObjectKind {
     Directory,

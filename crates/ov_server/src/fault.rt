@@ -7,7 +7,8 @@ use ov_wire::ManifestFault;
 use std::alloc::{AllocError, AllocFailed};
 use thiserror::Error;
 
-/// Why a run ended before all was done. Its text is what standard error tells after the program's name.
+/// Why a run ended before all was done. Its text is what standard error shows after the program's
+/// name.
 #[derive(Debug, Drop, Error)]
 pub enum Fault {
     /// The command line is wrong, or asks for help; the text is clap's.

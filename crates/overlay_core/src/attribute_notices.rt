@@ -26,7 +26,7 @@ impl<F: Callback, R: Rule> Watched<F, R> {
         }
     }
 
-    /// Changes attributes of what stands at a path, and tells its directory and the object.
+    /// Changes attributes of what stands at a path, and notifies its directory and the object.
     pub(crate) fn alter(
         &mut self,
         client: u64,
@@ -54,7 +54,8 @@ impl<F: Callback, R: Rule> Watched<F, R> {
         Ok(Reply::Done)
     }
 
-    /// Gives what stands at the old path the new path too, and tells the directory of that and the object.
+    /// Gives what stands at the old path the new path too, and notifies the directory of that and
+    /// the object.
     pub(crate) fn link(
         &mut self,
         client: u64,

@@ -114,7 +114,8 @@ impl<F: Callback, R: Rule> Watched<F, R> {
         reply
     }
 
-    /// Closes a descriptor of a client, and tells it. One that isn't open is EBADF. It takes no memory.
+    /// Closes a descriptor of a client, and notifies of it. One that isn't open is EBADF. It takes
+    /// no memory.
     pub(crate) fn close(&mut self, client: u64, descriptor: u32) -> Reply
         requires there { is_attached self.old.mount.clients client ≡ true }
         requires state { ∥ HasState self.old.mount self.old.notifier ∥₁ }
@@ -138,8 +139,8 @@ impl<F: Callback, R: Rule> Watched<F, R> {
         }
     }
 
-    /// Detaches a client: its watches end unheard, and then its descriptors are closed in rising order, of which others are told. Its hooks
-    /// are handed back. It takes no memory.
+    /// Detaches a client: its watches end unheard, and then its descriptors are closed in rising
+    /// order, of which others are notified. Its hooks are handed back. It takes no memory.
     pub(crate) fn detach(&mut self, client: u64) -> Vec<Hook<F, R>>
         requires there { is_attached self.old.mount.clients client ≡ true }
         requires state { ∥ HasState self.old.mount self.old.notifier ∥₁ }

@@ -155,8 +155,8 @@ impl<F: Callback, R: Rule> Core<F, R> {
     }
 
     /// One step of a job that is open, of a client that is attached. Each call is finished in one
-    /// step, and told to who watches; an allocation failure gives it up and leaves all that is
-    /// shown as it was.
+    /// step, and those who watch are notified; an allocation failure gives it up and leaves all
+    /// that is shown as it was.
     pub fn advance(&mut self, job: &mut Job) -> Turn
         requires open { job.old.standing ≡ Standing.Open }
         requires attached { attaching.is_attached self.old.watched.mount.clients job.old.client ≡ true }

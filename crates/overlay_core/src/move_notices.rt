@@ -10,8 +10,8 @@ use std::alloc::AllocError;
 use watch_table::{Callback, Rule};
 
 impl<F: Callback, R: Rule> Watched<F, R> {
-    /// Moves what stands at the old path to the new one, and tells both directories, what was replaced, and what moved. Nothing is told
-    /// where both paths are one object.
+    /// Moves what stands at the old path to the new one, and notifies both directories, what was
+    /// replaced, and what moved. Nobody is notified where both paths are one object.
     pub(crate) fn rename(
         &mut self,
         client: u64,

@@ -11,7 +11,7 @@ use std::alloc::AllocError;
 use watch_table::{Callback, Rule};
 
 impl<F: Callback, R: Rule> Watched<F, R> {
-    /// Makes a directory or a link at a path, and tells its directory by these bits.
+    /// Makes a directory or a link at a path, and notifies its directory by these bits.
     pub(crate) fn make(
         &mut self,
         client: u64,
@@ -37,7 +37,8 @@ impl<F: Callback, R: Rule> Watched<F, R> {
         Ok(Reply::Done)
     }
 
-    /// Removes a name of a file or link, and tells its directory and the file, and the end of the file where it has neither name nor handle.
+    /// Removes a name of a file or link, and notifies its directory and the file, and the end of
+    /// the file where it has neither name nor handle.
     pub(crate) fn unlink(&mut self, client: u64, path: &Path) -> Result<Reply, AllocError>
         requires there { is_attached self.old.mount.clients client ≡ true }
         ensures goes { IfOk result (λ reply. Goes R.shows self.old.mount self.old.notifier client (Called (Call.Unlink path.now) reply) self.new.mount self.new.notifier) }
@@ -55,7 +56,8 @@ impl<F: Callback, R: Rule> Watched<F, R> {
         }
     }
 
-    /// Removes a directory, and tells the directory that it was in, and its end where no handle is on it.
+    /// Removes a directory, and notifies the directory that it was in, and its end where no handle
+    /// is on it.
     pub(crate) fn rmdir(
         &mut self,
         client: u64,

@@ -55,7 +55,8 @@ impl<F: Callback, R: Rule> Watched<F, R> {
         self.mount.open_seen(client, path, flags, mode, look)
     }
 
-    // Opens what stands at a path, under a descriptor that is free, and tells its directory and the object.
+    // Opens what stands at a path, under a descriptor that is free, and notifies its directory and
+    // the object.
     fn open_there(
         &mut self,
         client: u64,
@@ -144,7 +145,8 @@ impl<F: Callback, R: Rule> Watched<F, R> {
         Ok(reply)
     }
 
-    /// Opens what stands at a path, or makes a file there, and tells its directory and the object.
+    /// Opens what stands at a path, or makes a file there, and notifies its directory and the
+    /// object.
     pub(crate) fn open(
         &mut self,
         client: u64,

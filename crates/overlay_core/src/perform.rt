@@ -12,8 +12,8 @@ use std::alloc::AllocError;
 use watch_table::{Callback, Rule};
 
 impl<F: Callback, R: Rule> Watched<F, R> {
-    /// Makes a call of a client that is attached, and tells it. An allocation failure leaves all
-    /// that is shown as it was, and tells nothing.
+    /// Makes a call of a client that is attached, and notifies of it. An allocation failure leaves
+    /// all that is shown as it was, and notifies nobody.
     pub fn perform(&mut self, client: u64, call: &Call) -> Result<Reply, AllocError>
         requires there { is_attached self.old.mount.clients client ≡ true }
         requires state { ∥ HasState self.old.mount self.old.notifier ∥₁ }

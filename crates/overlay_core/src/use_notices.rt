@@ -13,7 +13,7 @@ use std::alloc::AllocError;
 use watch_table::{Callback, Rule};
 
 impl<F: Callback, R: Rule> Watched<F, R> {
-    /// Reads of an open file. Bytes that were read are told as an access.
+    /// Reads of an open file, and notifies of an access where bytes were read.
     pub(crate) fn read(
         &mut self,
         client: u64,
@@ -38,7 +38,7 @@ impl<F: Callback, R: Rule> Watched<F, R> {
         Ok(reply)
     }
 
-    /// Writes to an open file. Bytes that were written are told as a change.
+    /// Writes to an open file, and notifies of a change where bytes were written.
     pub(crate) fn write(
         &mut self,
         client: u64,
@@ -64,7 +64,7 @@ impl<F: Callback, R: Rule> Watched<F, R> {
         Ok(reply)
     }
 
-    /// Cuts or fills an open file, which is told as a change.
+    /// Cuts or fills an open file, and notifies of the change.
     pub(crate) fn truncate(
         &mut self,
         client: u64,
@@ -87,7 +87,7 @@ impl<F: Callback, R: Rule> Watched<F, R> {
         Ok(reply)
     }
 
-    /// Makes a call that tells nothing.
+    /// Makes a call that notifies nobody.
     pub(crate) fn quiet(&mut self, client: u64, call: &Call) -> Result<Reply, AllocError>
         requires there { is_attached self.old.mount.clients client ≡ true }
         requires state { ∥ HasState self.old.mount self.old.notifier ∥₁ }

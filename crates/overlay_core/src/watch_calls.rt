@@ -13,7 +13,8 @@ use watch_table::{Callback, Rule};
 const NOTICES_MAX: u32 = 65;
 
 impl<F: Callback, R: Rule> Watched<F, R> {
-    /// Takes a watch of a client away, which is told so. One that the client doesn't have is EINVAL. It takes no memory.
+    /// Takes a watch of a client away, which is notified of it. One that the client doesn't have is
+    /// EINVAL. It takes no memory.
     pub(crate) fn disarm(&mut self, client: u64, watch: i32) -> Reply
         requires there { is_attached self.old.mount.clients client ≡ true }
         requires state { ∥ HasState self.old.mount self.old.notifier ∥₁ }

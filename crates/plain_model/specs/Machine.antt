@@ -88,7 +88,8 @@ into t n (Found d) = enter d (t d) n
 into t n (Absent d) = Fails ENOENT
 into t n (Fails e) = Fails e
 
--- the walk of a path, from the root
+-- The walk of a path, from the root. What it finds is what `node_at` gives; where it finds nothing,
+-- `node_at` gives none, and the walk says why.
 abbrev pub look : Tree → Path → Look
 look t [] = Found root
 look t (n ∷ p) = into t n (look t p)

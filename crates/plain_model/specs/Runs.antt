@@ -15,7 +15,8 @@ use Rattle.plain_model.specs.Changes.{makes, next_if, tree_after, after}
 use Rattle.plain_model.specs.Replies.{reply_of}
 use Rattle.plain_model.specs.Subjects.{subjects}
 
--- a call that is not refused: its reply, the state's columns, and what the callbacks made of the events
+-- A call that is not refused: its reply, all of the state but the instances by its columns, and the
+-- instances by what the callbacks made of the events.
 pub record Taken (shows : Rule) (old : State) (c : ℕ) (call : Call) (reply : Reply) (new : State) : Type 0 where
   pub answer : reply ≡ reply_of old c call
   pub state : new ≡ record (after old c call) { instances = new.instances }

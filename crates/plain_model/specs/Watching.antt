@@ -206,7 +206,8 @@ abbrev pub Puts : Rule → List (ℕ × Event) → List Notice → List Notice �
 Puts shows [] old new = new ≡ old
 Puts shows (a ∷ rest) old new = (answer : Option Notice) × shows a.0 a.1 answer × Puts shows rest (put_answer old answer) new
 
--- one client hears subjects
+-- One client hears subjects. All but its queue is as `all_passed` leaves it, and the queue is what
+-- the callbacks' answers make of it.
 pub record Hears (shows : Rule) (subjects : List Subject) (old new : Instance) : Type 0 where
   pub watches : new ≡ record (all_passed old subjects) { queue = new.queue }
   pub queue : Puts shows (all_asked old subjects) old.queue new.queue

@@ -47,7 +47,8 @@ pub fn law_of_bounds()
     ensures { LawOfBounds }
 {}
 
-/// A queue of notices keeps within 65 places: 64 notices, and one that tells of an overflow (inotify(7), `IN_Q_OVERFLOW`).
+/// A queue of notices keeps within 65 places: 64 notices, and one for an overflow (inotify(7),
+/// `IN_Q_OVERFLOW`).
 pub fn law_of_queues()
     ensures { LawOfQueues }
 {}

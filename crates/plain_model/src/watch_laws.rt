@@ -14,8 +14,9 @@ pub trait IdentityMap {
     ghost of: { Identities };
 }
 
-/// What a call tells, in any state, are subjects: their bits are those of an event, their cookies are not 0 exactly for the two events
-/// of a rename, and what is told to one watch alone ends it (inotify(7), "inotify events").
+/// What a call notifies, in any state, are subjects: their bits are those of an event, their
+/// cookies are not 0 exactly for the two events of a rename, and what is for one watch alone ends
+/// it (inotify(7), "inotify events").
 pub fn law_of_subjects()
     ensures { LawOfSubjects }
 {}
@@ -36,8 +37,9 @@ pub fn law_of_instances_of_runs<A: AnswerRule>()
     ensures { LawOfInstancesOfRuns A.shows }
 {}
 
-/// Instances that are alike, watch by watch, and are told alike go on alike, whatever their callbacks answer: an engine that tells objects
-/// by identities of its own hears as the machine does.
+/// Instances that are alike, watch by watch, and are notified alike go on alike, whatever their
+/// callbacks answer: an engine that knows objects by identities of its own hears as the machine
+/// does.
 pub fn law_of_alike_hearing<A: AnswerRule, I: IdentityMap>()
     ensures { LawOfAlikeHearing A.shows I.of }
 {}

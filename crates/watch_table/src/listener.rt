@@ -30,7 +30,7 @@ pub const HOOKS_MAX: usize = 16;
 // The most watch numbers that a client is given.
 const WATCHES_MAX: u32 = 0x7fff_ffff;
 
-// The bits that arm takes.
+// The bits that arm takes: those of events, ONLYDIR, MASK_ADD and ONESHOT (inotify_add_watch(2)).
 const ARM_BITS: u32 = 0xa100_0fff;
 
 // The inotify instance of one client: its hooks by slot, its watches in the order of their numbers, with room for one for each slot, how

@@ -14,7 +14,8 @@ pub enum Aim {
     Only(u64, i32),
 }
 
-/// What a call tells: whom, which bits, the cookie of a rename, and the name in the directory that is told.
+/// What a call notifies: whom, which bits, the cookie of a rename, and the name in the directory
+/// that is notified.
 #[derive(Clone, Copy)]
 pub struct Subject<'a> {
     pub aim: Aim,

@@ -106,7 +106,7 @@ impl<F: Callback, R: Rule> WatchTable<F, R> {
         self.listeners.object_of(client, number)
     }
 
-    /// Tells subjects in their order, each to the watches that it reaches. It takes no memory.
+    /// Notifies subjects in their order, each to the watches that it reaches. It takes no memory.
     pub fn fire(&mut self, subjects: &[Subject<'_>])
         requires { All (λ s. IsSubject (subject_of s)) subjects.now }
         ensures { AllHear R.shows (subjects_of subjects.now) self.old self.new }
@@ -129,8 +129,8 @@ impl<F: Callback, R: Rule> WatchTable<F, R> {
         }
     }
 
-    /// Tells a subject for the watches on the object of a number, and gives how many clients watch it no more. It takes no memory, and one
-    /// look-up where no watch ends.
+    /// Notifies a subject to the watches on the object of a number, and gives how many clients
+    /// watch it no more. It takes no memory, and one look-up where no watch ends.
     pub fn tell_watchers(&mut self, object: u64, subject: &Subject<'_>) -> usize
         requires aim { subject.now.aim ≡ On object }
         requires subject { IsSubject (subject_of subject.now) }
