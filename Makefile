@@ -1,11 +1,25 @@
-# `make show` builds the program, with the build's own lines in out/show.log, and prints the merged tree of an example.
-# `make test` runs the gate, at most four proofs side by side, with one job each: several jobs on one proof take up to half as much
-# processor time again.
-.PHONY: show test
+# What can be made; `make` alone lists it.
+.PHONY: help show play build test
+
+EXAMPLE := examples/change-layer
+
+help:
+	@echo "make show    print the merged tree of $(EXAMPLE).toml: an unproved build, within 2 minutes"
+	@echo "make play    play $(EXAMPLE).script on it, likewise"
+	@echo "make build   prove the program and leave it at out/overlayd: about an hour, interruptible"
+	@echo "make test    the gate: every proof, test, refused edit and program run"
 
 show:
-	@mkdir -p out
-	@cd crates/overlayd && rt run -- show ../../examples/change-layer.toml 2>../../out/show.log || { cat ../../out/show.log >&2; exit 1; }
+	@tools/need-kit && tools/try show $(EXAMPLE).toml
 
+play:
+	@tools/need-kit && tools/try play $(EXAMPLE).toml < $(EXAMPLE).script
+
+build:
+	@tools/need-kit && tools/build
+
+# The gate has at most four proofs side by side, with one job each: several jobs on one proof take
+# up to half as much processor time again.
 test:
+	@tools/need-kit
 	RT_JOBS=$$(($$(nproc) < 4 ? $$(nproc) : 4)) rt ci

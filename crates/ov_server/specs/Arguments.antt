@@ -1,5 +1,5 @@
 -- The command line of the program, and what its words ask for.
-use Rattle.std.specs.Prelude.{◌≡◌, ℕ, List, Some, true, false, codes, ◌⊎◌}
+use Rattle.std.specs.Prelude.{◌≡◌, ℕ, List, [], ◌∷◌, Some, true, false, codes, drop, ◌⊎◌}
 use Rattle.clap.specs.Simple.{App, new_app, new_rule, on_top, subcommand_of, subcommand_rows_of, with_rule, with_subcommand}
 use Rattle.clap.specs.Takes.{takes}
 use Rattle.clap.specs.Values.{kind_of}
@@ -18,11 +18,13 @@ manifest_rule = record (new_rule (codes "MANIFEST")) { required = true }
 abbrev pub app_named : List ℕ → App
 app_named name = with_rule (new_app name) manifest_rule
 
--- the program without its subcommands, one of which is wanted
+-- the program without its subcommands, one of which is wanted; it has a version
 abbrev pub bare_app : App
-bare_app = on_top (λ s. record s { subcommand_required = true }) (new_app (codes "overlayd"))
+bare_app = on_top (λ s. record s { has_version = true; subcommand_required = true })
+    (new_app (codes "overlayd"))
 
--- THE COMMAND LINE: `overlayd show MANIFEST`, or `overlayd play MANIFEST`
+-- THE COMMAND LINE: `overlayd show MANIFEST`, `overlayd play MANIFEST`, `overlayd --version` or
+-- `overlayd --help`
 abbrev pub overlayd_app : App
 overlayd_app = with_subcommand (with_subcommand bare_app (app_named (codes "show")).top) (app_named (codes "play")).top
 
@@ -47,6 +49,10 @@ pub record IsAskedBy (words : List (List ℕ)) (asked : Invocation) : Type 0 whe
   pub rows : List Row
   pub subcommand : subcommand_of overlayd_app words ≡ Some (name_of asked, rows)
   pub manifest : first_of (codes "MANIFEST") rows ≡ Some (manifest_named asked)
+
+-- one word follows the program's name, and it is this one
+abbrev pub IsLoneWord : List ℕ → List (List ℕ) → Type 0
+IsLoneWord word words = drop 1 words ≡ word ∷ []
 
 -- the words are none of such a command line, or memory ran out
 abbrev pub IsRefusedBy : List (List ℕ) → Error → Type 0

@@ -1,15 +1,20 @@
 // The command line.
-ghost use Rattle.std.specs.Prelude.{◌≡◌, false, IfErr, IfOk, IfSome, map};
+ghost use Rattle.std.specs.Prelude.{◌≡◌, false, codes, [], ◌∷◌, IfErr, IfOk, IfSome, map};
 ghost use Rattle.clap.specs.Faults.{fault_of};
 ghost use Rattle.clap.specs.Kinds.{FailsBy};
 ghost use Rattle.clap.specs.Simple.{app_of};
 ghost use Rattle.clap.specs.Walk.{rule_of};
 ghost use Rattle.clap.specs.declared.builder.command.Command.TheViews.{out-Command};
-ghost use Rattle.ov_server.specs.Arguments.{IsAskedBy, IsRefusedBy, Names, app_named, manifest_rule, overlayd_app};
+ghost use Rattle.ov_server.specs.Arguments.{IsAskedBy, IsLoneWord, IsRefusedBy, Names};
+ghost use Rattle.ov_server.specs.Arguments.{app_named, manifest_rule, overlayd_app};
 
+use clap::error::ErrorKind;
 use clap::{Arg, ArgMatches, Command, Error};
 use std::alloc::{AllocError, Global};
 use std::convert::AsStr;
+
+/// The version of the program, which `overlayd --version` prints.
+pub const VERSION: &str = "0.3.0";
 
 /// What the command line asks for.
 #[derive(Clone, Copy, Debug, PartialEq, Eq)]
@@ -20,11 +25,16 @@ pub enum Invocation<'a> {
     Play { manifest: &'a str },
 }
 
-/// Reads the words of a command line, the program's name first. An error has the text for the user, also where help is asked for.
+/// Reads the words of a command line, the program's name first. An error has the text for the user,
+/// also where help or the version is asked for.
 pub fn command_line<'a, S: AsStr>(alloc: Global, words: &'a [S]) -> Result<Invocation<'a>, Error>
     ensures ok { IfOk result (IsAskedBy (map S.text words.entry.now)) }
     ensures err { IfErr result (IsRefusedBy (map S.text words.entry.now)) }
     ensures kinds { FailsBy (fault_of overlayd_app (map S.text words.entry.now)) result }
+    ensures version { IsLoneWord (codes "--version") (map S.text words.entry.now)
+        → FailsBy (ErrorKind.DisplayVersion ∷ []) result }
+    ensures help { IsLoneWord (codes "--help") (map S.text words.entry.now)
+        → FailsBy (ErrorKind.DisplayHelp ∷ []) result }
 {
     let command = overlayd(alloc)?;
     let matches = command.try_get_matches_from(words)?;
@@ -44,6 +54,7 @@ fn overlayd<'a>(alloc: Global) -> Result<Command<'a>, AllocError>
         "Plays the script on standard input on the mount of a manifest",
     )?;
     Command::new(alloc, "overlayd")
+        .version(VERSION)
         .about("An overlay mount in memory")
         .subcommand_required(true)
         .subcommand(show)?

@@ -11,7 +11,7 @@ use thiserror::Error;
 /// name.
 #[derive(Debug, Drop, Error)]
 pub enum Fault {
-    /// The command line is wrong, or asks for help; the text is clap's.
+    /// The command line is wrong, or asks for help or the version; the text is clap's.
     #[error("{0}")]
     CommandLine(clap::Error),
     /// A word of the command line is no UTF-8.
@@ -35,8 +35,8 @@ pub enum Fault {
 }
 
 impl Fault {
-    /// The exit status: 0 where help is asked for, 1 for a file, a manifest or a stream, 2 for a command line or a script
-    /// line, 3 for memory.
+    /// The exit status: 0 where help or the version is asked for, 1 for a file, a manifest or a
+    /// stream, 2 for a command line or a script line, 3 for memory.
     pub fn status(&self) -> u8
         ensures { result ≡ faults.status_of self.now }
     {

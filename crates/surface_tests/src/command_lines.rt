@@ -11,6 +11,8 @@ fn reads_command_lines(rt: HostRuntime) -> Result<(), Fail> {
     assert!(rt; play == Invocation::Play { manifest: "m.toml" });
     for (words, status) in [
         (["overlayd", "--help"].as_slice(), 0),
+        (&["overlayd", "--version"], 0),
+        (&["overlayd", "show", "--version"], 2),
         (&["overlayd", "show"], 2),
         (&["overlayd", "mount", "m.toml"], 2),
     ] {
@@ -21,6 +23,19 @@ fn reads_command_lines(rt: HostRuntime) -> Result<(), Fail> {
         assert_eq!(rt; fault.status(), status);
     }
     Ok(())
+}
+
+#[test]
+fn prints_the_version(rt: HostRuntime) -> Result<(), Fail> {
+    let alloc = rt.alloc();
+    match command_line(alloc, &["overlayd", "--version"]) {
+        Ok(_) => Err(Fail::from("no version")),
+        Err(error) => {
+            let text = error.to_string(alloc)?;
+            assert_eq!(rt; text.as_str(), "overlayd 0.3.0\n");
+            Ok(())
+        }
+    }
 }
 
 #[test]
