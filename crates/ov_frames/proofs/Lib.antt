@@ -1,0 +1,6 @@
+pub mod Formats
+pub mod Framed
+pub mod Joined
+pub mod Pieces
+pub mod Spelled
+pub mod WorkedRows

@@ -1,0 +1,10 @@
+pub mod Asked
+pub mod Fields
+pub mod Frames
+pub mod Fronts
+pub mod Gives
+pub mod Replies
+pub mod Requests
+pub mod Streams
+pub mod Told
+pub mod Rows

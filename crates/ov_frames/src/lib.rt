@@ -1,0 +1,21 @@
+//! Frames: the requests that the bytes of a stream spell, in whatever pieces they come, and the bytes of replies.
+#![tactic(auto)]
+
+mod answer;
+mod asked;
+mod decoder;
+mod fault;
+mod fields;
+mod front;
+mod laws;
+mod reading;
+mod request;
+mod writing;
+
+pub use answer::Answer;
+pub use decoder::{Decoder, End};
+pub use fault::{FrameFault, ReadError};
+pub use front::FRAME_MAX;
+pub use laws::{law_of_frames, law_of_pieces, worked_rows};
+pub use request::Request;
+pub use writing::encode_reply;
