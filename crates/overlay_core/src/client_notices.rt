@@ -132,6 +132,7 @@ impl<F: Callback, R: Rule> Watched<F, R> {
         ensures closes { (s : State) → Follows self.old.mount self.old.notifier s → ClosesEach R.shows s client self.new.mount self.new.notifier }
         ensures others { KeepsOthers self.old.mount.clients self.new.mount.clients client }
         ensures paths { KeepsPaths self.old.mount.layers self.new.mount.layers }
+        ensures thin { StaysThin self.old.mount.layers self.new.mount.layers }
     {
         for descriptor in 0..DESCRIPTORS_MAX as u32 {
             let _ = self.shut(client, descriptor);
@@ -147,6 +148,7 @@ impl<F: Callback, R: Rule> Watched<F, R> {
         ensures hooks { IfSome (instance_of self.old.notifier.instances client) (λ e. map (λ h. h.tag) result.items ≡ e.tags) }
         ensures clients { Detaches self.old.mount.clients self.new.mount.clients client }
         ensures layers { KeepsPaths self.old.mount.layers self.new.mount.layers }
+        ensures thin { StaysThin self.old.mount.layers self.new.mount.layers }
     {
         let hooks = self.notifier.muted(client);
         self.notifier.lawful();

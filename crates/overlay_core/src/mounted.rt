@@ -140,6 +140,7 @@ impl<F: Callback, R: Rule> Core<F, R> {
         ensures clients { Detaches self.old.watched.mount.clients self.new.watched.mount.clients client }
         ensures finished { self.new.finished ≡ self.old.finished + 1 }
         ensures layers { KeepsPaths self.old.watched.mount.layers self.new.watched.mount.layers }
+        ensures thin { StaysThin self.old.watched.mount.layers self.new.watched.mount.layers }
         ensures options { self.new.options ≡ self.old.options }
     {
         self.finished += 1;
