@@ -139,8 +139,9 @@ impl<F: Callback, R: Rule> Watched<F, R> {
         }
     }
 
-    /// Detaches a client: its watches end unheard, and then its descriptors are closed in rising order, of which others are told. Its hooks
-    /// are handed back. It takes no memory.
+    /// Detaches a client: its watches end unheard, and then its descriptors are closed in rising
+    /// order, of which others are told. Gives as many hooks as it has, with the same tags in the same
+    /// order. It takes no memory.
     pub(crate) fn detach(&mut self, client: u64) -> Vec<Hook<F, R>>
         requires there { is_attached self.old.mount.clients client ≡ true }
         requires state { ∥ HasState self.old.mount self.old.notifier ∥₁ }
