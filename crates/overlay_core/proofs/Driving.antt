@@ -1,11 +1,12 @@
 -- Runs grow at their end, and what a change of one job makes of counts.
-use Rattle.std.proofs.Common.{arith, ◌≡◌, ℕ, suc, zero, ◌+◌, ◌<◌, ◌≤◌, Bool, false, ◌||◌, List, [], ◌∷◌, ◌++◌, length, get_or, cond, Option, Some, refl, sym, ap, subst, ◌∙◌, slice_get, nat_eq, take, option_map}
+use Rattle.std.proofs.Common.{arith, ◌≡◌, ℕ, suc, zero, ◌+◌, ◌<◌, ◌≤◌, Bool, true, false, not, ◌&&◌, ◌||◌, ◌⊎◌, inl, inr, List, [], ◌∷◌, ◌++◌, length, get_or, cond, Option, Some, None, refl, sym, ap, subst, ◌∙◌, slice_get, nat_eq, take, option_map}
 use Rattle.mount_calls.proofs.Words.{Call, cases_eq, eq-eqb, list_any, ne_eqb, Reply, State}
 use Rattle.std.proofs.Math.ListN.{set}
 use Rattle.std.proofs.Math.Bool.{or-false}
 use Rattle.std.proofs.lemmas.List.Folds.{list_any-append}
 use Rattle.std.proofs.lemmas.Option.{same_Some, slice_get-map, slice_get_within}
 use Rattle.std.proofs.lemmas.List.{take_more}
+use Rattle.std.proofs.lemmas.Bool.{and_cases, and_left, and_parts, and_right, cases_Bool, false≢true, or_parts}
 use Rattle.plain_model.specs.Watching.{Rule}
 use Rattle.plain_model.specs.Runs.{Called, Entry, Does, Run}
 use Rattle.mount_calls.specs.declared.clients.Clients.{Clients}
@@ -16,7 +17,7 @@ use Rattle.mount_calls.specs.declared.mount.Mount.{Mount}
 use Rattle.notice_laws.specs.Notified.{Notified}
 use Rattle.overlay_core.specs.Watching.{Stays}
 use Rattle.mount_calls.specs.Attaching.{KeepsAttached, is_attached}
-use Rattle.overlay_core.specs.Drives.{call_of, calls_of, AreEntries, Drives, Answers, one_if_open, one_if_answered, open_count, answered, replies_to, PassesOver}
+use Rattle.overlay_core.specs.Drives.{call_of, calls_of, AreEntries, Drives, Answers, one_if_open, one_if_answered, open_count, answered, replies_to, asks_for, is_due, is_open, is_over, GivesNoStep, PassesOver}
 use Rattle.mount_calls.proofs.Serving.{get-set, get-others}
 
 -- one more entry, and one more deed of a run
@@ -86,31 +87,167 @@ once-none jobs n j k h stood given i = grind (arith, once-set)
 pub room-less : (jobs : List Job) (n : ℕ) (j k : Job) → slice_get jobs n ≡ Some j → j.standing ≡ Open → one_if_open k.standing ≡ 0 → open_count (set jobs n k) + 1 ≤ open_count jobs
 room-less jobs n j k h stood over = let one : one_if_open j.standing ≡ 1 = ap one_if_open stood in omega (arith, open-set jobs n j k h)
 
--- a job that does not change
-passes-same : (clients : Clients) (o : Option Job) → PassesOver clients o o false
-passes-same clients o = grind arith
+-- a job that is as it was, as one is that gets no step
+pub passes-same : (clients : Clients) (old new : Option Job) (asked : Bool) →
+    asked && is_due clients old ≡ false → new ≡ old → PassesOver clients old new asked
+passes-same clients old new asked idle same = record {
+  skipped = λ h. same;
+  stepped = λ due. absurd (false≢true (sym idle ∙ due));
+}
 
-pub passes-start : (clients : Clients) (jobs : List Job) (schedule : List ℕ) (i : ℕ) → PassesOver clients (slice_get jobs i) (slice_get jobs i) (list_any (λ x. nat_eq x i) (take 0 schedule))
-passes-start clients jobs schedule i = passes-same clients (slice_get jobs i)
+-- before the first step each job is as it was
+pub passes-start : (clients : Clients) (jobs : List Job) (schedule : List ℕ) (i : ℕ) →
+    PassesOver clients (slice_get jobs i) (slice_get jobs i) (asks_for (take 0 schedule) i)
+passes-start clients jobs schedule i =
+    passes-same clients (slice_get jobs i) (slice_get jobs i) false refl refl
 
--- the job of one index ends
-pub passes-end : (clients : Clients) (jobs : List Job) (n : ℕ) (j k : Job) → slice_get jobs n ≡ Some j → k.client ≡ j.client → (k.standing ≡ Open → ⊥) → (i : ℕ) → PassesOver clients (slice_get jobs i) (slice_get (set jobs n k) i) (nat_eq n i)
-passes-end clients jobs n j k h client over i = grind (arith, cases_eq, set-here, get-others, ne_eqb, passes-same)
+-- the job of one index gets a step and is over
+pub passes-end : (clients : Clients) (jobs : List Job) (n : ℕ) (j k : Job) →
+    slice_get jobs n ≡ Some j → is_due clients (slice_get jobs n) ≡ true → is_open k.standing ≡ false → (i : ℕ) →
+    PassesOver clients (slice_get jobs i) (slice_get (set jobs n k) i) (nat_eq n i)
+passes-end clients jobs n j k at due over i = by (cases_eq n i)
+  where
+    asked : nat_eq n n && is_due clients (slice_get jobs n) ≡ true
+    asked = ap (λ b. b && is_due clients (slice_get jobs n)) (eq-eqb n n refl) ∙ due
 
--- a client that is not attached stays so, and what is asked of two parts of a schedule is asked of the whole
-passes-on : (clients between : Clients) (a b c : Option Job) (p q : Bool) → ((n : ℕ) → is_attached between n ≡ is_attached clients n) → PassesOver clients a b p → PassesOver between b c q → PassesOver clients a c (p || q)
-passes-on clients between a b c p q same h g = grind arith
+    here : PassesOver clients (slice_get jobs n) (slice_get (set jobs n k) n) (nat_eq n n)
+    here = record {
+      skipped = λ idle. absurd (false≢true (sym idle ∙ asked));
+      stepped = λ yes. ap is_over (set-here jobs n j k at) ∙ ap not over;
+    }
 
-pub passes-more : (clients between : Clients) (a b c : List Job) (schedule : List ℕ) (at i : ℕ) → KeepsAttached clients between → at < length schedule → PassesOver clients (slice_get a i) (slice_get b i) (list_any (λ x. nat_eq x i) (take at schedule)) → PassesOver between (slice_get b i) (slice_get c i) (nat_eq (get_or schedule at 0) i) → PassesOver clients (slice_get a i) (slice_get c i) (list_any (λ x. nat_eq x i) (take (at + 1) schedule))
+    by : (n ≡ i) ⊎ (n ≡ i → ⊥) →
+        PassesOver clients (slice_get jobs i) (slice_get (set jobs n k) i) (nat_eq n i)
+    by (inl is) =
+        subst (λ x. PassesOver clients (slice_get jobs x) (slice_get (set jobs n k) x) (nat_eq n x))
+        is here
+    by (inr other) =
+        passes-same clients (slice_get jobs i) (slice_get (set jobs n k) i) (nat_eq n i)
+        (and_left (nat_eq n i) (is_due clients (slice_get jobs i)) (ne_eqb n i other))
+        (get-others jobs n i k (λ e. other (sym e)))
+
+-- where the same clients are attached the same jobs get steps
+same-due : (clients between : Clients) (o : Option Job) →
+    ((n : ℕ) → is_attached between n ≡ is_attached clients n) → is_due between o ≡ is_due clients o
+same-due clients between (Some j) same = ap (λ b. is_open j.standing && b) (same j.client)
+same-due clients between None same = refl
+
+-- a job that is over gets no step
+over-idle : (clients : Clients) (o : Option Job) → is_over o ≡ true → is_due clients o ≡ false
+over-idle clients (Some j) over =
+    and_left (is_open j.standing) (is_attached clients j.client) (by (is_open j.standing) over)
+  where
+    by : (b : Bool) → not b ≡ true → b ≡ false
+    by true h = absurd (false≢true h)
+    by false h = refl
+over-idle clients None over = refl
+
+-- what two parts of a schedule do to a job, the whole does
+passes-on : (clients between : Clients) (a b c : Option Job) (p q : Bool) →
+    ((n : ℕ) → is_attached between n ≡ is_attached clients n) →
+    PassesOver clients a b p → PassesOver between b c q → PassesOver clients a c (p || q)
+passes-on clients between a b c p q same h g = record {
+  skipped = λ idle. skip (and_cases (p || q) (is_due clients a) idle);
+  stepped = λ due.
+      let parts = and_parts (p || q) (is_due clients a) due in
+      step (cases_Bool p) parts.0 parts.1;
+}
+  where
+    -- a job that the first part leaves gets a step in the second as it did before
+    still : b ≡ a → is_due between b ≡ is_due clients a
+    still is = ap (is_due between) is ∙ same-due clients between a same
+
+    skip : ((p || q) ≡ false) ⊎ (is_due clients a ≡ false) → c ≡ a
+    skip (inl none) =
+        let parts = or_parts p q none in
+        g.skipped (and_left q (is_due between b) parts.1)
+        ∙ h.skipped (and_left p (is_due clients a) parts.0)
+    skip (inr idle) =
+        let is = h.skipped (and_right p (is_due clients a) idle) in
+        g.skipped (and_right q (is_due between b) (still is ∙ idle)) ∙ is
+
+    step : (p ≡ true) ⊎ (p ≡ false) → (p || q) ≡ true → is_due clients a ≡ true → is_over c ≡ true
+    step (inl first) asked due =
+        let over = h.stepped (ap (λ x. x && is_due clients a) first ∙ due) in
+        ap is_over (g.skipped (and_right q (is_due between b) (over-idle between b over))) ∙ over
+    step (inr later) asked due =
+        let is = h.skipped (and_left p (is_due clients a) later) in
+        let second : q ≡ true = ap (λ x. x || q) (sym later) ∙ asked in
+        g.stepped (ap (λ x. x && is_due between b) second ∙ (still is ∙ due))
+
+-- a schedule asks for what it asked for so far, and for its next index
+asks-more : (schedule : List ℕ) (at i : ℕ) → at < length schedule →
+    asks_for (take (at + 1) schedule) i
+    ≡ asks_for (take at schedule) i || nat_eq (get_or schedule at 0) i
+asks-more schedule at i within =
+    ap (list_any (λ x. nat_eq x i)) (take_more schedule at 0 within)
+    ∙ list_any-append (λ x. nat_eq x i) (take at schedule) (get_or schedule at 0 ∷ [])
+    ∙ ap (λ b. asks_for (take at schedule) i || b) (or-false (nat_eq (get_or schedule at 0) i))
+
+-- what a schedule did to a job so far and what its next index does
+pub passes-more : (clients between : Clients) (a b c : List Job) (schedule : List ℕ) (at i : ℕ) →
+    KeepsAttached clients between → at < length schedule →
+    PassesOver clients (slice_get a i) (slice_get b i) (asks_for (take at schedule) i) →
+    PassesOver between (slice_get b i) (slice_get c i) (nat_eq (get_or schedule at 0) i) →
+    PassesOver clients (slice_get a i) (slice_get c i) (asks_for (take (at + 1) schedule) i)
 passes-more clients between a b c schedule at i same within h g =
     subst (λ asked. PassesOver clients (slice_get a i) (slice_get c i) asked)
-    (sym (ap (list_any (λ x. nat_eq x i)) (take_more schedule at 0 within) ∙ list_any-append (λ x. nat_eq x i) (take at schedule) (get_or schedule at 0 ∷ []) ∙ ap (λ b. list_any (λ x. nat_eq x i) (take at schedule) || b) (or-false (nat_eq (get_or schedule at 0) i))))
-    (passes-on clients between (slice_get a i) (slice_get b i) (slice_get c i) (list_any (λ x. nat_eq x i) (take at schedule)) (nat_eq (get_or schedule at 0) i) same.attached h g)
+    (sym (asks-more schedule at i within))
+    (passes-on clients between (slice_get a i) (slice_get b i) (slice_get c i)
+    (asks_for (take at schedule) i) (nat_eq (get_or schedule at 0) i) same.attached h g)
+
+-- where a schedule gives no step, the jobs are as they were when its next index comes
+module _ (clients between : Clients) (jobs now : List Job) (schedule : List ℕ) (at : ℕ)
+    (within : at < length schedule) (none : GivesNoStep clients jobs (take (at + 1) schedule)) where
+  idle-at : (i : ℕ) →
+      (asks_for (take at schedule) i || nat_eq (get_or schedule at 0) i)
+      && is_due clients (slice_get jobs i) ≡ false
+  idle-at i =
+      ap (λ b. b && is_due clients (slice_get jobs i)) (sym (asks-more schedule at i within))
+      ∙ none i
+
+  -- it gave none so far
+  pub none-before : GivesNoStep clients jobs (take at schedule)
+  none-before i = by (and_cases (so_far || nat_eq (get_or schedule at 0) i) due (idle-at i))
+    where
+      so_far : Bool
+      so_far = asks_for (take at schedule) i
+
+      due : Bool
+      due = is_due clients (slice_get jobs i)
+
+      by : ((so_far || nat_eq (get_or schedule at 0) i) ≡ false) ⊎ (due ≡ false) →
+          so_far && due ≡ false
+      by (inl free) =
+          and_left so_far due (or_parts so_far (nat_eq (get_or schedule at 0) i) free).0
+      by (inr idle) = and_right so_far due idle
+
+  -- and its next index gives none
+  pub none-here : KeepsAttached clients between →
+      ((i : ℕ) →
+      PassesOver clients (slice_get jobs i) (slice_get now i) (asks_for (take at schedule) i)) →
+      is_due between (slice_get now (get_or schedule at 0)) ≡ false
+  none-here same passed =
+      same-due clients between (slice_get now n) same.attached
+      ∙ ap (is_due clients) ((passed n).skipped (and_right so_far due idle)) ∙ idle
+    where
+      n : ℕ
+      n = get_or schedule at 0
+
+      so_far : Bool
+      so_far = asks_for (take at schedule) n
+
+      due : Bool
+      due = is_due clients (slice_get jobs n)
+
+      by : ((so_far || nat_eq n n) ≡ false) ⊎ (due ≡ false) → due ≡ false
+      by (inl free) =
+          absurd (false≢true (sym (or_parts so_far (nat_eq n n) free).1 ∙ eq-eqb n n refl))
+      by (inr idle) = idle
+
+      idle : due ≡ false
+      idle = by (and_cases (so_far || nat_eq n n) due (idle-at n))
 
 -- the same clients are attached after two changes
 pub keeps-on : (a b c : Clients) → KeepsAttached a b → KeepsAttached b c → KeepsAttached a c
 keeps-on a b c h g = record { attached = λ n. g.attached n ∙ h.attached n; next = g.next ∙ h.next }
-
--- a job that counts as over is not open
-pub not-open : (j : Job) → one_if_open j.standing ≡ 0 → j.standing ≡ Open → ⊥
-not-open j none stood = let one : one_if_open j.standing ≡ 1 = ap one_if_open stood in omega arith

@@ -1,5 +1,6 @@
 -- What a schedule of steps leaves.
-use Rattle.std.specs.Prelude.{◌≡◌, ℕ, ◌+◌, Bool, true, false, List, [], ◌∷◌, nat_eq, cond, map, Option, Some, None, slice_get}
+use Rattle.std.specs.Prelude.{◌≡◌, ℕ, ◌+◌, ◌&&◌, Bool, true, false, not, List, [], ◌∷◌, nat_eq, cond, map, Option, Some, None, slice_get}
+use Rattle.std.specs.List.{list_any}
 use Rattle.ov_base.specs.declared.call.Call.{Call}
 use Rattle.ov_base.specs.declared.reply.Reply.{Reply}
 use Rattle.plain_model.specs.Watching.{Rule}
@@ -73,9 +74,32 @@ abbrev pub count_some : Option Reply → ℕ
 count_some (Some r) = 1
 count_some None = 0
 
--- a job that is open in the end was open, and where the schedule asks for it, its client isn't attached
-abbrev pub PassesOver : Clients → Option Job → Option Job → Bool → Type 0
-PassesOver clients (Some old) (Some new) asked = (new.client ≡ old.client) × (new.standing ≡ Open → (old.standing ≡ Open) × (asked ≡ true → is_attached clients old.client ≡ false))
-PassesOver clients None None asked = Unit {0}
-PassesOver clients (Some old) None asked = ⊥
-PassesOver clients None (Some new) asked = ⊥
+abbrev pub is_open : Standing → Bool
+is_open Open = true
+is_open Answered = false
+is_open GivenUp = false
+
+-- a job that is asked for gets a step: it is open, and its client is attached
+abbrev pub is_due : Clients → Option Job → Bool
+is_due clients (Some j) = is_open j.standing && is_attached clients j.client
+is_due clients None = false
+
+-- the job of this index is over
+abbrev pub is_over : Option Job → Bool
+is_over (Some j) = not (is_open j.standing)
+is_over None = false
+
+-- WHAT BECOMES OF A JOB. One that the schedule doesn't ask for is as it was, and so is one that was
+-- over or whose client isn't attached. One that gets a step is over then.
+pub record PassesOver (clients : Clients) (old new : Option Job) (asked : Bool) : Type 0 where
+  pub skipped : asked && is_due clients old ≡ false → new ≡ old
+  pub stepped : asked && is_due clients old ≡ true → is_over new ≡ true
+
+-- a schedule asks for this index
+abbrev pub asks_for : List ℕ → ℕ → Bool
+asks_for schedule i = list_any (λ x. nat_eq x i) schedule
+
+-- no job that a schedule asks for gets a step
+abbrev pub GivesNoStep : Clients → List Job → List ℕ → Type 0
+GivesNoStep clients jobs schedule =
+    (i : ℕ) → asks_for schedule i && is_due clients (slice_get jobs i) ≡ false

@@ -133,6 +133,7 @@ impl<F: Callback, R: Rule> Watched<F, R> {
         ensures closes { (s : State) → Follows self.old.mount self.old.notifier s → ClosesEach R.shows s client self.new.mount self.new.notifier }
         ensures others { KeepsOthers self.old.mount.clients self.new.mount.clients client }
         ensures paths { KeepsPaths self.old.mount.layers self.new.mount.layers }
+        ensures thin { StaysThin self.old.mount.layers self.new.mount.layers }
     {
         for descriptor in 0..DESCRIPTORS_MAX as u32 {
             let _ = self.shut(client, descriptor);
@@ -140,7 +141,8 @@ impl<F: Callback, R: Rule> Watched<F, R> {
     }
 
     /// Detaches a client: its watches end unheard, and then its descriptors are closed in rising
-    /// order, of which others are notified. Its hooks are handed back. It takes no memory.
+    /// order, of which others are notified. Gives as many hooks as it has, with the same tags in
+    /// the same order. It takes no memory.
     pub(crate) fn detach(&mut self, client: u64) -> Vec<Hook<F, R>>
         requires there { is_attached self.old.mount.clients client ≡ true }
         requires state { ∥ HasState self.old.mount self.old.notifier ∥₁ }
@@ -148,6 +150,7 @@ impl<F: Callback, R: Rule> Watched<F, R> {
         ensures hooks { IfSome (instance_of self.old.notifier.instances client) (λ e. map (λ h. h.tag) result.items ≡ e.tags) }
         ensures clients { Detaches self.old.mount.clients self.new.mount.clients client }
         ensures layers { KeepsPaths self.old.mount.layers self.new.mount.layers }
+        ensures thin { StaysThin self.old.mount.layers self.new.mount.layers }
     {
         let hooks = self.notifier.muted(client);
         self.notifier.lawful();

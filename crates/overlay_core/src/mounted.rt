@@ -131,8 +131,8 @@ impl<F: Callback, R: Rule> Core<F, R> {
         Ok(client)
     }
 
-    /// Detaches a client, which closes its descriptors in rising order: a file without a name goes with its last handle. Its hooks are
-    /// handed back.
+    /// Detaches a client, which closes its descriptors in rising order: a file without a name goes
+    /// with its last handle. Gives as many hooks as it has, with the same tags in the same order.
     pub fn detach(&mut self, client: u64) -> Vec<Hook<F, R>>
         requires attached { attaching.is_attached self.old.watched.mount.clients client ≡ true }
         requires bound { self.old.finished + 1 < 2 ^ 63 }
@@ -141,6 +141,7 @@ impl<F: Callback, R: Rule> Core<F, R> {
         ensures clients { Detaches self.old.watched.mount.clients self.new.watched.mount.clients client }
         ensures finished { self.new.finished ≡ self.old.finished + 1 }
         ensures layers { KeepsPaths self.old.watched.mount.layers self.new.watched.mount.layers }
+        ensures thin { StaysThin self.old.watched.mount.layers self.new.watched.mount.layers }
         ensures options { self.new.options ≡ self.old.options }
     {
         self.finished += 1;

@@ -1,10 +1,9 @@
 // Jobs that are given steps in the order of a schedule.
-ghost use Rattle.std.specs.Prelude.{◌≡◌, ◌+◌, ◌<◌, ◌≤◌, ◌^◌, ℕ, None, IfOk, IfSome, OnErr, OnOk, slice_get, length, nat_eq};
-ghost use Rattle.std.specs.List.{list_any};
+ghost use Rattle.std.specs.Prelude.{◌≡◌, ◌+◌, ◌<◌, ◌≤◌, ◌^◌, ℕ, false, None, IfOk, IfSome, OnErr, OnOk, slice_get, length, nat_eq};
 ghost use Rattle.copy_up.specs.Showing.{StaysThin};
 ghost use Rattle.overlay_core.specs.Watching.{Stays};
 ghost use Rattle.mount_calls.specs.Attaching.{KeepsAttached};
-ghost use Rattle.overlay_core.specs.Drives.{calls_of, Drives, Answers, PassesOver, answered, replies_to, one_if_some, open_count, count_some};
+ghost use Rattle.overlay_core.specs.Drives.{Answers, Drives, GivesNoStep, PassesOver, answered, asks_for, calls_of, count_some, is_due, one_if_some, open_count, replies_to};
 
 use crate::job::{Job, Standing};
 use crate::mounted::{Core, Turn};
@@ -14,7 +13,8 @@ use watch_table::{Callback, Rule};
 
 /// Gives jobs steps in the order of a schedule, and answers the replies, each with its job's index,
 /// in the order of finishing. An index past the end, of a job that is over or of a client that
-/// isn't attached is skipped. An allocation failure for the replies changes nothing.
+/// isn't attached is skipped; a job that gets no step is left alone. An allocation failure for the
+/// replies changes nothing.
 pub fn drive<F: Callback, R: Rule>(
     alloc: Global,
     core: &mut Core<F, R>,
@@ -25,7 +25,11 @@ pub fn drive<F: Callback, R: Rule>(
     ensures run { IfOk result (λ replies. Drives R.shows (calls_of jobs.old) core.old.watched.mount core.old.watched.notifier replies.items core.new.watched.mount core.new.watched.notifier) }
     ensures calls { calls_of jobs.new ≡ calls_of jobs.old }
     ensures once { IfOk result (λ replies. (i : ℕ) → answered jobs.new i ≡ answered jobs.old i + replies_to i replies.items) }
-    ensures passed { OnOk result ((i : ℕ) → PassesOver core.old.watched.mount.clients (slice_get jobs.old i) (slice_get jobs.new i) (list_any (λ x. nat_eq x i) schedule.now)) }
+    ensures passed { OnOk result ((i : ℕ) →
+        PassesOver core.old.watched.mount.clients (slice_get jobs.old i) (slice_get jobs.new i)
+        (asks_for schedule.now i)) }
+    ensures idle { OnOk result (
+        GivesNoStep core.old.watched.mount.clients jobs.old schedule.now → core.new ≡ core.old) }
     ensures finished { IfOk result (λ replies. core.new.finished ≡ core.old.finished + length replies.items) }
     ensures clients { KeepsAttached core.old.watched.mount.clients core.new.watched.mount.clients }
     ensures lowers { core.new.watched.mount.layers.lowers ≡ core.old.watched.mount.layers.lowers }
@@ -51,6 +55,8 @@ fn one<F: Callback, R: Rule>(core: &mut Core<F, R>, jobs: &mut [Job], index: usi
     ensures room { open_count jobs.new + count_some result ≤ open_count jobs.old }
     ensures once { (i : ℕ) → answered jobs.new i ≡ answered jobs.old i + one_if_some result index i }
     ensures passed { (i : ℕ) → PassesOver core.old.watched.mount.clients (slice_get jobs.old i) (slice_get jobs.new i) (nat_eq index i) }
+    ensures idle { is_due core.old.watched.mount.clients (slice_get jobs.old index) ≡ false →
+        core.new ≡ core.old }
     ensures finished { core.new.finished ≡ core.old.finished + count_some result }
     ensures clients { KeepsAttached core.old.watched.mount.clients core.new.watched.mount.clients }
     ensures lowers { core.new.watched.mount.layers.lowers ≡ core.old.watched.mount.layers.lowers }

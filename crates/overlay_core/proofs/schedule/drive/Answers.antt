@@ -4,7 +4,7 @@ use Rattle.std.specs.Vec.{vec_capacity}
 use Rattle.ov_base.specs.declared.call.Call.{Call}
 use Rattle.ov_base.specs.declared.reply.Reply.{Reply}
 use Rattle.overlay_core.specs.Drives.{calls_of, Drives, Answers, replies_to}
-use Rattle.overlay_core.proofs.Driving.{drives-none, drives-more, drives-stay, keeps-on, open-at-most, passes-more, passes-start, replies-more}
+use Rattle.overlay_core.proofs.Driving.{drives-none, drives-more, drives-stay, keeps-on, none-before, none-here, open-at-most, passes-more, passes-start, replies-more}
 use Rattle.overlay_core.proofs.schedule.drive.Goals as goal
 use Rattle.overlay_core.proofs.schedule.drive.Goals.{in-Some, in_default}
 
@@ -17,6 +17,7 @@ loop-index-init g c =
       calls = refl;
       once = λ i. let e : replies_to i c.in_ok-replies.replies.items ≡ 0 = ap (replies_to i) none in omega arith;
       passed = passes-start c.args.core.now.watched.mount.clients c.args.jobs.now c.args.schedule.now;
+      idle = λ none. refl;
       finished = omega arith;
       few = omega arith;
       clients = record { attached = λ n. refl; next = refl };
@@ -41,6 +42,16 @@ loop-index-preserved g c =
             run = subst (λ (rs : List (ℕ × Reply)). Drives g.R.Rule.shows calls c.args.core.now.watched.mount c.args.core.now.watched.notifier rs c.one-reply.new.core.watched.mount c.one-reply.new.core.watched.notifier) (sym grown) (drives-more g.R.Rule.shows calls c.args.core.now.watched.mount c.loop-index.core.watched.mount c.one-reply.new.core.watched.mount c.args.core.now.watched.notifier c.loop-index.core.watched.notifier c.one-reply.new.core.watched.notifier c.loop-index.replies.items i w.in-Some.reply I.run answers);
             calls = w.in-Some.ensures.calls ∙ I.calls;
             passed = λ n. passes-more c.args.core.now.watched.mount.clients c.loop-index.core.watched.mount.clients c.args.jobs.now c.loop-index.jobs c.one-reply.new.jobs c.args.schedule.now c.loop-index.index-index n I.clients (omega arith) (I.passed n) (w.in-Some.ensures.passed n);
+            idle = λ none.
+                let clients = c.args.core.now.watched.mount.clients in
+                let between = c.loop-index.core.watched.mount.clients in
+                let was = c.args.jobs.now in
+                let asked = c.args.schedule.now in
+                let now = c.loop-index.jobs in
+                let at = c.loop-index.index-index in
+                w.in-Some.ensures.idle
+                (none-here clients between was now asked at (omega arith) none I.clients I.passed)
+                ∙ I.idle (none-before clients between was now asked at (omega arith) none);
             finished = let before = I.finished in let here = w.in-Some.ensures.finished in omega (arith, before, here, longer);
             few = let before = I.few in omega (arith, before, longer);
             clients = keeps-on c.args.core.now.watched.mount.clients c.loop-index.core.watched.mount.clients c.one-reply.new.core.watched.mount.clients I.clients w.in-Some.ensures.clients;
@@ -62,6 +73,16 @@ loop-index-preserved g c =
             run = subst (λ (rs : List (ℕ × Reply)). Drives g.R.Rule.shows calls c.args.core.now.watched.mount c.args.core.now.watched.notifier rs c.one-reply.new.core.watched.mount c.one-reply.new.core.watched.notifier) (sym same) (drives-stay g.R.Rule.shows calls c.args.core.now.watched.mount c.loop-index.core.watched.mount c.one-reply.new.core.watched.mount c.args.core.now.watched.notifier c.loop-index.core.watched.notifier c.one-reply.new.core.watched.notifier c.loop-index.replies.items I.run (w.in_default.ensures.stays refl));
             calls = w.in_default.ensures.calls ∙ I.calls;
             passed = λ n. passes-more c.args.core.now.watched.mount.clients c.loop-index.core.watched.mount.clients c.args.jobs.now c.loop-index.jobs c.one-reply.new.jobs c.args.schedule.now c.loop-index.index-index n I.clients (omega arith) (I.passed n) (w.in_default.ensures.passed n);
+            idle = λ none.
+                let clients = c.args.core.now.watched.mount.clients in
+                let between = c.loop-index.core.watched.mount.clients in
+                let was = c.args.jobs.now in
+                let asked = c.args.schedule.now in
+                let now = c.loop-index.jobs in
+                let at = c.loop-index.index-index in
+                w.in_default.ensures.idle
+                (none-here clients between was now asked at (omega arith) none I.clients I.passed)
+                ∙ I.idle (none-before clients between was now asked at (omega arith) none);
             finished = let before = I.finished in let here = w.in_default.ensures.finished in omega (arith, before, here, long);
             few = let before = I.few in omega (arith, before, long);
             clients = keeps-on c.args.core.now.watched.mount.clients c.loop-index.core.watched.mount.clients c.one-reply.new.core.watched.mount.clients I.clients w.in_default.ensures.clients;

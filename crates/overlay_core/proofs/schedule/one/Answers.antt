@@ -1,9 +1,10 @@
-use Rattle.std.proofs.Common.{arith, rules, ◌≡◌, Some, slice_get, get_or, ap}
+use Rattle.std.proofs.Common.{arith, rules, ◌≡◌, true, Some, slice_get, get_or, ap, refl}
 use Rattle.std.proofs.lemmas.Option.{slice_get-get_or}
 use Rattle.overlay_core.specs.declared.job.Job.{Job}
 use Rattle.overlay_core.specs.declared.job.Standing.TheVariants.{Open}
-use Rattle.overlay_core.specs.Drives.{one_if_open}
-use Rattle.overlay_core.proofs.Driving.{calls-set, call-here, once-done, once-none, room-less, passes-end, not-open}
+use Rattle.mount_calls.specs.Attaching.{is_attached}
+use Rattle.overlay_core.specs.Drives.{is_due, is_open, one_if_open}
+use Rattle.overlay_core.proofs.Driving.{calls-set, call-here, once-done, once-none, room-less, passes-end}
 use Rattle.overlay_core.proofs.schedule.one.Given.{Over}
 use Rattle.overlay_core.proofs.schedule.one.Goals.{After-advance}
 use Rattle.overlay_core.proofs.schedule.one.Goals as goal
@@ -17,6 +18,13 @@ here g c = slice_get-get_or c.args.jobs.now c.args.index c.index-jobs-index.resu
 
 stands : (g : Over) (c : After-advance g) → (job g c).standing ≡ Open
 stands g c = search rules
+
+-- and gets a step
+due : (g : Over) (c : After-advance g) →
+    is_due c.args.core.now.watched.mount.clients (slice_get c.args.jobs.now c.args.index) ≡ true
+due g c =
+    let at : is_attached c.args.core.now.watched.mount.clients (job g c).client ≡ true = search rules in
+    rw (here g c, stands g c, at) refl
 
 pub returns-in-Done-clause-calls : goal.returns-in-Done-clause-calls
 returns-in-Done-clause-calls g c =
@@ -41,7 +49,8 @@ returns-in-Done-clause-once g c =
 pub returns-in-Done-clause-passed : goal.returns-in-Done-clause-passed
 returns-in-Done-clause-passed g c =
     let x = (goal.at.returns-in-Done-clause-passed g c).After-advance in
-    passes-end c.args.core.now.watched.mount.clients c.args.jobs.now c.args.index (job g x) c.advance.new.job (here g x) c.advance.ensures.job.0 (not-open c.advance.new.job (ap one_if_open c.in-Done.ensures.turn.1))
+    passes-end c.args.core.now.watched.mount.clients c.args.jobs.now c.args.index (job g x)
+    c.advance.new.job (here g x) (due g x) (ap is_open c.in-Done.ensures.turn.1)
 
 pub returns-in-NoMemory-clause-calls : goal.returns-in-NoMemory-clause-calls
 returns-in-NoMemory-clause-calls g c =
@@ -61,4 +70,5 @@ returns-in-NoMemory-clause-once g c =
 pub returns-in-NoMemory-clause-passed : goal.returns-in-NoMemory-clause-passed
 returns-in-NoMemory-clause-passed g c =
     let x = (goal.at.returns-in-NoMemory-clause-passed g c).After-advance in
-    passes-end c.args.core.now.watched.mount.clients c.args.jobs.now c.args.index (job g x) c.advance.new.job (here g x) c.advance.ensures.job.0 (not-open c.advance.new.job (ap one_if_open c.in-NoMemory.ensures.turn.1))
+    passes-end c.args.core.now.watched.mount.clients c.args.jobs.now c.args.index (job g x)
+    c.advance.new.job (here g x) (due g x) (ap is_open c.in-NoMemory.ensures.turn.1)

@@ -10,6 +10,7 @@ loop-descriptor-init g c =
       closes = λ s f. closes-none g.R.Rule.shows m c.args.self.now.notifier s c.args.client f;
       others = others-same m.clients c.args.client;
       paths = paths-same m.layers;
+      thin = λ thin. thin;
     }
 
 pub shut-requires-clause-there : goal.shut-requires-clause-there
@@ -33,6 +34,7 @@ loop-descriptor-preserved g c =
           (omega arith) c.shut.result c.shut.ensures.shuts;
       others = others-on old.mount.clients mid.mount.clients new.mount.clients c.args.client I.others c.shut.ensures.others;
       paths = paths-on old.mount.layers mid.mount.layers new.mount.layers I.paths c.shut.ensures.paths;
+      thin = λ thin. c.shut.ensures.thin (I.thin thin);
     }
 
 pub returns-clause-closes : goal.returns-clause-closes
@@ -47,3 +49,6 @@ returns-clause-others g c = c.loop-descriptor.invariant.others
 
 pub returns-clause-paths : goal.returns-clause-paths
 returns-clause-paths g c = c.loop-descriptor.invariant.paths
+
+pub returns-clause-thin : goal.returns-clause-thin
+returns-clause-thin g c = c.loop-descriptor.invariant.thin
