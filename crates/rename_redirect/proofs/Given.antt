@@ -1,5 +1,5 @@
 -- A further name in an upper whose missing parents were placed.
-use Rattle.std.proofs.Common.{◌≡◌, ◌<◌, ℕ, zero, suc, true, false, List, ◌∷◌, None, Some, is_some, option_map, refl, sym, ap, ◌∙◌, subst, arith}
+use Rattle.std.proofs.Common.{◌≡◌, ◌≢◌, ◌<◌, inl, inr, ℕ, zero, suc, true, false, List, ◌∷◌, None, Some, is_some, option_map, refl, sym, ap, ◌∙◌, subst, arith}
 use Rattle.ov_base.specs.declared.errno.Errno.TheVariants as errno
 use Rattle.plain_model.specs.Layers.{Name, Path, Directory, Named, Inode, Layer, held, Contents, shows, is_directory, IsLayer, AreLayers}
 use Rattle.plain_model.specs.Laws.{IsOutside}
@@ -22,6 +22,7 @@ use Rattle.copy_up.specs.Showing.{ShowsSame, Stays, StaysThin, GainsParents}
 use Rattle.copy_up.proofs.Frames.{gains-self, gains-then, gains-unchanged}
 use Rattle.copy_up.proofs.Keeping.{lowers-same, linked-by, lift, same-self, same-then, same-unchanged, stays-then, stays-unchanged}
 use Rattle.rename_redirect.specs.Linking.{GivesName, GainsBoth, CopiesName, KeepsDirectories, LinkSteps}
+use Rattle.rename_redirect.proofs.Gained.{gains-paths, path-then}
 use Rattle.rename_redirect.proofs.Shown.{still-absent, thin-linked}
 
 -- parents of the second path alone
@@ -73,12 +74,24 @@ module _ (start mid : Layers) (V : Layer) (same : ShowsSame start mid) (stays : 
       }
 
 -- what p showed is given the further name q
-pub gives-name : (start mid new : Layers) → ShowsSame start mid → Stays start mid → KeepsObjects start.upper mid.upper None → (p q : Path) → (AreLayers (layers_of mid) → GainsName (layer_of mid.upper) (layer_of new.upper) (lowers_of mid) p q) → (AreLayers (layers_of mid) → (j : ℕ) → is_some ((layer_of mid.upper).inodes j) ≡ true → GainsLink (layer_of mid.upper) (layer_of new.upper) p q j) → KeepsDirectories (layer_of mid.upper) (layer_of new.upper) → (key : ℕ) → KeepsObjects mid.upper new.upper (Some key) → GivesName start new p q
-gives-name start mid new same stays placed p q name links directories key kept =
+pub gives-name :
+    (start mid new : Layers) → ShowsSame start mid → Stays start mid → (p q : Path) → GainsBoth start mid p q →
+    (AreLayers (layers_of mid) → GainsName (layer_of mid.upper) (layer_of new.upper) (lowers_of mid) p q) →
+    (AreLayers (layers_of mid) → (j : ℕ) → is_some ((layer_of mid.upper).inodes j) ≡ true →
+    GainsLink (layer_of mid.upper) (layer_of new.upper) p q j) →
+    ((x : Path) → x ≢ p → x ≢ q → held (layer_of new.upper) x ≡ held (layer_of mid.upper) x) →
+    KeepsDirectories (layer_of mid.upper) (layer_of new.upper) →
+    (key : ℕ) → KeepsObjects mid.upper new.upper (Some key) → GivesName start new p q
+gives-name start mid new same stays p q gains name links rest directories key kept =
+    let placed = keeps_then start.upper gains.mid.upper mid.upper None gains.first.objects gains.second.objects in
     let all = keeps_then start.upper mid.upper new.upper (Some key) placed kept in
     record {
       gains = λ h. name-since start mid (layer_of new.upper) same stays p q (name (stays.layers h));
       links = λ h j is. link-since start mid (layer_of new.upper) same stays p q j (links (stays.layers h) j (ap is_some (stays.inodes j) ∙ is));
+      paths = λ x a b. elim (gains-paths start mid p q gains x) [
+        | inl k ↦ inl (path-then start mid new p x (rest x a b) k)
+        | inr k ↦ inr (path-then start mid new q x (rest x a b) k)
+      ];
       directories = λ x k a o r h. directories x k a o r (stays.holds x (Directory k a o r) h);
       seen = all.seen;
       nameless = all.nameless;

@@ -11,3 +11,4 @@ pub mod Steps
 pub mod Further
 pub mod Given
 pub mod Shown
+pub mod Gained

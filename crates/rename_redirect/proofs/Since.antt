@@ -12,11 +12,11 @@ use Rattle.mount_laws.proofs.RenamedOpen.{law_of_kept_move_link}
 use Rattle.layer_tree.specs.Tree.{layer_of, directory_number}
 use Rattle.layer_tree.specs.Nameless.{KeepsObjects}
 use Rattle.layer_tree.proofs.Changing.{same_presence}
-use Rattle.layer_tree.proofs.Nameless.{keeps_then, vacant_before}
+use Rattle.layer_tree.proofs.Nameless.{keeps_then}
 use Rattle.merged_lookup.specs.declared.layers.Layers.{Layers}
 use Rattle.merged_lookup.specs.Merged.{layers_of, lowers_of}
 use Rattle.copy_up.specs.Showing.{ShowsSame, Stays, GainsParents, PlacedParent, KeepsPath, IsParent}
-use Rattle.copy_up.proofs.Frames.{lacking, through-same}
+use Rattle.copy_up.proofs.Frames.{through-same}
 use Rattle.copy_up.proofs.Keeping.{lowers-same, linked-by}
 use Rattle.make_remove.specs.Making.{shown_under}
 use Rattle.make_remove.specs.Removing.{last_named}
@@ -26,6 +26,7 @@ use Rattle.rename_redirect.specs.declared.renames.Renamed.{Renamed}
 use Rattle.rename_redirect.specs.declared.renames.Renamed.TheVariants as renamed
 use Rattle.rename_redirect.specs.Linking.{GainsBoth}
 use Rattle.rename_redirect.specs.Renaming.{HasMarks, KeepsMoved, MovesMarks, MovesOver, Replaces, Moves, DoesRename}
+use Rattle.rename_redirect.proofs.Gained.{parent-since, parent-then}
 use Rattle.rename_redirect.proofs.Overs.{last-alike}
 
 -- a path that is no parent of the other holds what it held
@@ -51,34 +52,6 @@ follows-parent p q x y out (Goes r e f) (inr (n, s, i)) = absurd (out (n ∷ (s 
 lacked-before : (x : Option Object) (y : Option Object) → ((o : Object) → x ≡ Some o → y ≡ Some o) → y ≡ None → x ≡ None
 lacked-before None y keep none = refl
 lacked-before (Some o) y keep none = let z : Some o ≡ None = sym (keep o refl) ∙ none in absurd (cc)
-
--- a parent that is gained after others were
-parent-since : (a b c : Layers) (t x : Path) → ShowsSame a b → KeepsObjects a.upper b.upper None → held (layer_of a.upper) x ≡ None → PlacedParent b c t x → PlacedParent a c t x
-parent-since a b c t x same kept none g = record {
-  parent = g.parent;
-  lacked = none;
-  layer = g.layer;
-  key = g.key;
-  attributes = g.attributes;
-  shown = lacking a x none ∙ sym (through-same a b x same) ∙ sym (lacking b x g.lacked) ∙ g.shown;
-  number = g.number;
-  vacant = vacant_before a.upper b.upper None kept g.number g.vacant;
-  gained = g.gained;
-}
-
--- and one that stays where it is gained
-parent-then : (a b c : Layers) (t x y : Path) → y ≡ x → held (layer_of c.upper) y ≡ held (layer_of b.upper) x → PlacedParent a b t x → PlacedParent a c t x
-parent-then a b c t x y at e g = record {
-  parent = g.parent;
-  lacked = g.lacked;
-  layer = g.layer;
-  key = g.key;
-  attributes = g.attributes;
-  shown = g.shown;
-  number = g.number;
-  vacant = g.vacant;
-  gained = sym (ap (held (layer_of c.upper)) at) ∙ e ∙ g.gained;
-}
 
 -- whether something is shown, and whether that is a directory, is told without the inodes
 some-over : (f g : ℕ → Option Inode) (o : Option Object) (s : Option Shown) → is_some (over 0 f o s) ≡ is_some (over 0 g o s)

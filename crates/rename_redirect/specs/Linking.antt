@@ -1,5 +1,5 @@
 -- What link leaves of the upper (link(2); overlayfs.rst, "Non-directories": a file of a lower layer is copied up first).
-use Rattle.std.specs.Prelude.{◌≡◌, ℕ, Bool, Option, Some, IsSome, is_some, true}
+use Rattle.std.specs.Prelude.{◌≡◌, ◌≢◌, ◌⊎◌, ℕ, Bool, Option, Some, IsSome, is_some, true}
 use Rattle.slab.specs.Slab.{get}
 use Rattle.ov_base.specs.declared.attributes.Attributes.{Attributes}
 use Rattle.ov_base.specs.declared.bytes.Content.{Content}
@@ -14,7 +14,7 @@ use Rattle.layer_tree.specs.Tree.{layer_of, seen_at}
 use Rattle.layer_tree.specs.Nameless.{IsNameless}
 use Rattle.merged_lookup.specs.declared.layers.Layers.{Layers}
 use Rattle.merged_lookup.specs.Merged.{layers_of, lowers_of}
-use Rattle.copy_up.specs.Showing.{GainsParents, ShowsSame}
+use Rattle.copy_up.specs.Showing.{GainsParents, KeepsPath, ShowsSame}
 
 -- every state of the machine whose mount has the old layers goes on to one with the new layers by link
 abbrev pub LinkSteps : Layers → Layers → Path → Path → Type 0
@@ -26,11 +26,14 @@ abbrev pub KeepsDirectories : Layer → Layer → Type 0
 KeepsDirectories U V =
     (x : Path) (k : ℕ) (a : Attributes) (opaque : Bool) (r : Option Redirect) → held U x ≡ Some (Directory k a opaque r) → held V x ≡ Some (Directory k a opaque r)
 
--- What p showed has the further name q, which is all that is shown anew but for its link count, and each inode that the upper had gained a
--- link so. The directories that the upper held stay, and so does what stood under its keys, also what has no name.
+-- What p showed has the further name q, which is all that is shown anew but for its link count, and
+-- each inode that the upper had gained a link so. The directories that the upper held stay, and so
+-- does what stood under its keys, also what has no name. Every path but these two holds what it held,
+-- unless it is a missing parent of one of them that the upper gained.
 pub record GivesName (old new : Layers) (p q : Path) : Type 0 where
   pub gains : AreLayers (layers_of old) → GainsName (layer_of old.upper) (layer_of new.upper) (lowers_of old) p q
   pub links : AreLayers (layers_of old) → (j : ℕ) → is_some ((layer_of old.upper).inodes j) ≡ true → GainsLink (layer_of old.upper) (layer_of new.upper) p q j
+  pub paths : (x : Path) → x ≢ p → x ≢ q → KeepsPath old new p x ⊎ KeepsPath old new q x
   pub directories : KeepsDirectories (layer_of old.upper) (layer_of new.upper)
   pub seen : (k : ℕ) → IsSome (get old.upper k) → seen_at new.upper k ≡ seen_at old.upper k
   pub nameless : (k : ℕ) → IsNameless old.upper k → IsNameless new.upper k

@@ -1,13 +1,13 @@
-use Rattle.std.proofs.Common.{[], ◌∷◌, Some, None, reverse, sym, ap, ◌∙◌, subst}
+use Rattle.std.proofs.Common.{[], ◌∷◌, Some, reverse, sym, ap, ◌∙◌, subst}
 use Rattle.ov_base.specs.declared.attributes.Attributes.{Attributes}
 use Rattle.ov_base.specs.declared.bytes.Content.{Content}
 use Rattle.plain_model.specs.Layers.{Path, Contents, shows}
 use Rattle.layer_tree.specs.Tree.{layer_of}
-use Rattle.layer_tree.proofs.Nameless.{keeps_then}
 use Rattle.merged_lookup.specs.Merged.{layers_of}
 use Rattle.copy_up.proofs.Frames.{gains-self}
 use Rattle.copy_up.proofs.Keeping.{on-err, same-self, then-layers}
-use Rattle.rename_redirect.specs.Linking.{CopiesName, GivesName}
+use Rattle.rename_redirect.specs.Linking.{CopiesName, GainsBoth, GivesName}
+use Rattle.rename_redirect.proofs.Gained.{beside-copy}
 use Rattle.rename_redirect.proofs.Given.{gains-first, gives-name, fails-same, fails-stays, fails-both, copy-name, copy-links, copy-thin, follows}
 use Rattle.rename_redirect.proofs.Shown.{outside-split}
 use Rattle.rename_redirect.proofs.copies.link_copy.Goals as goal
@@ -88,11 +88,13 @@ returns-clause-linked c =
     (subst (λ (z : Attributes). CopiesName (layer_of l1.upper) (layer_of l2.upper) (n ∷ t) (m ∷ u) c.in_ok-copy.copy.0 z) found.3
     (c.in_ok-insert_in_upper.ensures.copied t u from onto (λ e. out [] e))) in
     let objects = c.in_ok-insert_in_upper.ensures.objects in
+    let gains = subst (λ (z : Path). GainsBoth l0 l1 z (m ∷ u)) c.in-Some.ensures (subst (GainsBoth l0 l1 c.args.old.now) c.in-Some-split_last.ensures p.gains) in
     subst (λ (z : Path). GivesName l0 l2 z c.args.new.now) (sym c.in-Some.ensures)
     (subst (λ (z : Path). GivesName l0 l2 (n ∷ t) z) (sym c.in-Some-split_last.ensures)
-    (gives-name l0 l1 l2 p.same p.stays (keeps_then l0.upper p.gains.mid.upper l1.upper None p.gains.first.objects p.gains.second.objects) (n ∷ t) (m ∷ u)
+    (gives-name l0 l1 l2 p.same p.stays (n ∷ t) (m ∷ u) gains
     (copy-name l1 l2 c.insert_in_upper.ensures.lowers c.insert_in_upper.ensures.keeps n t m u s.0 c.args.place.key i shown absent out copy)
     (copy-links l1 l2 c.insert_in_upper.ensures.lowers c.insert_in_upper.ensures.keeps n t m u s.0 c.args.place.key i shown absent out copy)
+    (beside-copy l1.upper (layer_of l2.upper) (n ∷ t) (m ∷ u) i.content i.attributes from.free onto.free copy)
     c.in_ok-insert_in_upper.ensures.directories objects.0 objects.1))
 
 pub returns-clause-keeps : goal.returns-clause-keeps

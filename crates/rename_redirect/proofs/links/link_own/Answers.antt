@@ -1,11 +1,13 @@
 use Rattle.std.proofs.Common.{◌∷◌, reverse, sym, ap, ◌∙◌, subst}
 use Rattle.plain_model.specs.Layers.{Path, shows}
+use Rattle.layer_tree.specs.Tree.{layer_of}
 use Rattle.merged_lookup.specs.Merged.{layers_of}
 use Rattle.copy_up.specs.Showing.{GainsParents, Stays}
 use Rattle.copy_up.proofs.Keeping.{on-err}
 use Rattle.copy_up.proofs.OtherAttributes.{upper-named}
 use Rattle.make_remove.proofs.Making.{absent-place}
 use Rattle.rename_redirect.specs.Linking.{GivesName}
+use Rattle.rename_redirect.proofs.Gained.{beside-name}
 use Rattle.rename_redirect.proofs.Given.{gains-second, gives-name, fails-same, fails-stays, fails-both, own-name, own-links, own-thin}
 use Rattle.rename_redirect.proofs.links.link_own.Goals as goal
 
@@ -84,9 +86,10 @@ returns-clause-linked c =
     let absent = p.same.absent (n ∷ t) (sym (ap (shows 0 (layers_of l0)) c.in-Some.ensures) ∙ c.requires.absent) in
     let adds = c.in_ok-link_in_upper.ensures.added c.args.old.now t ((p.names c.args.old.now c.args.place.key).1 named.named) place in
     subst (λ (z : Path). GivesName l0 l2 c.args.old.now z) (sym c.in-Some.ensures)
-    (gives-name l0 l1 l2 p.same stays (p.gains n).objects c.args.old.now (n ∷ t)
+    (gives-name l0 l1 l2 p.same stays c.args.old.now (n ∷ t) (gains-second l0 l1 c.args.old.now (n ∷ t) p.same (p.gains n))
     (own-name l1 l2 c.link_in_upper.ensures.lowers c.link_in_upper.ensures.keeps c.args.old.now n t absent adds)
     (own-links l1 l2 c.link_in_upper.ensures.lowers c.link_in_upper.ensures.keeps c.args.old.now n t absent adds)
+    (λ x a. beside-name l1.upper (layer_of l2.upper) c.args.old.now (n ∷ t) place.free adds x)
     c.in_ok-link_in_upper.ensures.directories c.args.place.key c.in_ok-link_in_upper.ensures.objects)
 
 pub returns-clause-thin : goal.returns-clause-thin

@@ -1,0 +1,89 @@
+-- What the upper holds once parents of one path, or of two, were gained.
+use Rattle.std.proofs.Common.{◌≡◌, ◌≢◌, ◌⊎◌, false, [], ◌∷◌, ◌++◌, None, Some, refl, sym, ap, ◌∙◌, subst, inl, inr}
+use Rattle.ov_base.specs.declared.attributes.Attributes.{Attributes}
+use Rattle.ov_base.specs.declared.bytes.Content.{Content}
+use Rattle.plain_model.specs.Layers.{Name, Path, Directory, Layer, held}
+use Rattle.plain_model.specs.Laws.{IsOutside}
+use Rattle.plain_model.proofs.Paths.{place}
+use Rattle.mount_laws.specs.Linking.{AddsName}
+use Rattle.layer_tree.specs.Tree.{Tree, layer_of}
+use Rattle.layer_tree.specs.Nameless.{KeepsObjects}
+use Rattle.layer_tree.proofs.Nameless.{vacant_before}
+use Rattle.merged_lookup.specs.declared.layers.Layers.{Layers}
+use Rattle.copy_up.specs.Showing.{is_object, ShowsSame, PlacedParent, KeepsPath}
+use Rattle.copy_up.proofs.Frames.{lacking, through-same}
+use Rattle.copy_up.proofs.Placing.{free-directory, nothing-held}
+use Rattle.rename_redirect.specs.Linking.{GainsBoth, CopiesName}
+
+-- a parent that is gained after others were
+pub parent-since : (a b c : Layers) (t x : Path) → ShowsSame a b → KeepsObjects a.upper b.upper None → held (layer_of a.upper) x ≡ None → PlacedParent b c t x → PlacedParent a c t x
+parent-since a b c t x same kept none g = record {
+  parent = g.parent;
+  lacked = none;
+  layer = g.layer;
+  key = g.key;
+  attributes = g.attributes;
+  shown = lacking a x none ∙ sym (through-same a b x same) ∙ sym (lacking b x g.lacked) ∙ g.shown;
+  number = g.number;
+  vacant = vacant_before a.upper b.upper None kept g.number g.vacant;
+  gained = g.gained;
+}
+
+-- and one that stays where it is gained
+pub parent-then : (a b c : Layers) (t x y : Path) → y ≡ x → held (layer_of c.upper) y ≡ held (layer_of b.upper) x → PlacedParent a b t x → PlacedParent a c t x
+parent-then a b c t x y at e g = record {
+  parent = g.parent;
+  lacked = g.lacked;
+  layer = g.layer;
+  key = g.key;
+  attributes = g.attributes;
+  shown = g.shown;
+  number = g.number;
+  vacant = g.vacant;
+  gained = sym (ap (held (layer_of c.upper)) at) ∙ e ∙ g.gained;
+}
+
+-- what a path holds is kept where it holds the same afterwards
+pub path-then :
+    (a b c : Layers) (p x : Path) → held (layer_of c.upper) x ≡ held (layer_of b.upper) x →
+    KeepsPath a b p x → KeepsPath a c p x
+path-then a b c p x e (inl f) = inl (e ∙ f)
+path-then a b c p x e (inr g) = inr (parent-then a b c p x x refl e g)
+
+-- parents of two paths that are gained one after the other are parents of either
+pub gains-paths :
+    (a b : Layers) (p q : Path) → GainsBoth a b p q → (x : Path) → KeepsPath a b p x ⊎ KeepsPath a b q x
+gains-paths a b p q g x = by (g.first.paths x) (g.second.paths x)
+  where
+    by : KeepsPath a g.mid p x → KeepsPath g.mid b q x → KeepsPath a b p x ⊎ KeepsPath a b q x
+    by kept (inl e) = inl (path-then a g.mid b p x e kept)
+    by (inl e) (inr h) = inr (inr (parent-since a g.mid b q x g.same_first g.first.objects (sym e ∙ h.lacked) h))
+    by (inr f) (inr h) = let z : Some (Directory f.number f.attributes false None) ≡ None = sym f.gained ∙ h.lacked in absurd (cc)
+
+-- an object that comes where none was, with nothing below it, leaves what every other path holds
+pub beside :
+    (t : Tree) (V : Layer) (q : Path) → is_object (held (layer_of t) q) ≡ false →
+    ((n : Name) (r : Path) → held V (n ∷ r ++ q) ≡ None) → (x : Path) →
+    (IsOutside q x → held V x ≡ held (layer_of t) x) → x ≢ q → held V x ≡ held (layer_of t) x
+beside t V q free beneath x outside off = elim (place q x) [ inl b ↦ by b.0 b.1 | inr out ↦ outside out ]
+  where
+    by : (r : Path) → x ≡ r ++ q → held V x ≡ held (layer_of t) x
+    by [] e = absurd (off e)
+    by (n ∷ r) e =
+        subst (λ z. held V z ≡ held (layer_of t) z) (sym e)
+        (beneath n r ∙ sym (nothing-held t q (free-directory (held (layer_of t) q) free) n r))
+
+-- so does a further name
+pub beside-name :
+    (t : Tree) (V : Layer) (p q : Path) → is_object (held (layer_of t) q) ≡ false → AddsName (layer_of t) V p q →
+    (x : Path) → x ≢ q → held V x ≡ held (layer_of t) x
+beside-name t V p q free adds x = beside t V q free adds.beneath x (adds.elsewhere x)
+
+-- and a new inode at two names
+pub beside-copy :
+    (t : Tree) (V : Layer) (p q : Path) (content : Content) (a : Attributes) →
+    is_object (held (layer_of t) p) ≡ false → is_object (held (layer_of t) q) ≡ false →
+    CopiesName (layer_of t) V p q content a → (x : Path) → x ≢ p → x ≢ q → held V x ≡ held (layer_of t) x
+beside-copy t V p q content a from onto copy x off =
+    beside t V q onto copy.further.beneath x
+    (λ out. copy.further.elsewhere x out ∙ beside t copy.copied p from copy.leaf.beneath x (copy.leaf.elsewhere x) off)
