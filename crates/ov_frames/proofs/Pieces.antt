@@ -3,6 +3,7 @@ use Rattle.std.specs.Prelude.{nat_lt, nat_eq}
 use Rattle.std.specs.Int.{w32, from_be_bytes}
 use Rattle.std.proofs.lemmas.Bool.{ltb-true, ltb-false, le-ltb}
 use Rattle.std.proofs.Common.{Bool, true, false, cond, Result, Ok, Err, ◌≡◌, ℕ, ◌+◌, List, [], ◌∷◌, ◌++◌, ◌-◌, ◌≤◌, ◌<◌, length, take, drop, arith, length-drop, refl, sym, ap, subst, ◌∙◌, append_assoc, append-nil, drop-drop}
+use Rattle.ov_frames.specs.Feeding.{Adds}
 use Rattle.ov_frames.specs.Requests.{request_at}
 use Rattle.ov_frames.specs.declared.fault.FrameFault.TheVariants.{BadLength}
 use Rattle.ov_frames.specs.Streams.{FRAME_MAX, judged, sized, Continues, front_of, IsLeft, Left, Held, Faulty, Spells}
@@ -13,21 +14,25 @@ use Rattle.ov_frames.specs.declared.front.Front.{Front}
 use Rattle.ov_frames.specs.declared.front.Front.TheVariants.{Begun, Whole, Bad}
 use Rattle.ov_frames.specs.declared.request.Request.{Request}
 
--- the requests are those of the front of bytes, so many of them
-abbrev pub Opens : List ℕ → ℕ → List Request → Type 0
-Opens bytes used rs = (more : List Request) (left : Left) → Spells (drop used bytes) more left → Spells bytes (rs ++ more) left
+-- the requests are those that were there before and those of so many bytes at the front
+abbrev pub Opens : List Request → List ℕ → ℕ → List Request → Type 0
+Opens before bytes used rs = (more : List Request) (left : Left) → Spells (drop used bytes) more left → Adds before (rs ++ more) bytes left
 
-pub opens_none : (bytes : List ℕ) → Opens bytes 0 []
-opens_none bytes more left h = h
+-- no bytes, no requests
+pub opens_none : (before : List Request) (bytes : List ℕ) → Opens before bytes 0 before
+opens_none before bytes more left h = record { added = more; requests = refl; spells = h }
 
-pub opens_more : (bytes : List ℕ) (used len : ℕ) (rs : List Request) (r : Request) → Opens bytes used rs → front_of (drop used bytes) ≡ Whole r len → Opens bytes (used + len) (rs ++ r ∷ [])
-opens_more bytes used len rs r opens whole more left h =
+-- a whole frame adds its request
+pub opens_more : (before : List Request) (bytes : List ℕ) (used len : ℕ) (rs : List Request) (r : Request) → Opens before bytes used rs → front_of (drop used bytes) ≡ Whole r len
+    → Opens before bytes (used + len) (rs ++ r ∷ [])
+opens_more before bytes used len rs r opens whole more left h =
     let rest = subst (λ (bs : List ℕ). Spells bs more left) (sym (drop-drop len used bytes)) h in
-    subst (λ (all : List Request). Spells bytes all left) (sym (append_assoc rs (r ∷ []) more)) (opens (r ∷ more) left (len, whole, rest))
+    subst (λ (all : List Request). Adds before all bytes left) (sym (append_assoc rs (r ∷ []) more)) (opens (r ∷ more) left (len, whole, rest))
 
-pub opens_all : (bytes : List ℕ) (used : ℕ) (rs : List Request) (left : Left) → Opens bytes used rs → IsLeft (drop used bytes) left → Spells bytes rs left
-opens_all bytes used rs left opens h =
-    subst (λ (all : List Request). Spells bytes all left) (append-nil rs) (opens [] left h)
+-- nothing whole follows
+pub opens_all : (before : List Request) (bytes : List ℕ) (used : ℕ) (rs : List Request) (left : Left) → Opens before bytes used rs → IsLeft (drop used bytes) left → Adds before rs bytes left
+opens_all before bytes used rs left opens h =
+    subst (λ (all : List Request). Adds before all bytes left) (append-nil rs) (opens [] left h)
 
 -- a slice to the end
 pub front_to_end : (bytes : List ℕ) (used : ℕ) (f : Front) → f ≡ front_of (take (length bytes - used) (drop used bytes)) → front_of (drop used bytes) ≡ f
@@ -40,7 +45,8 @@ whole_within n f r len h e = subst (IsWithin n) e h
 
 -- ---- more bytes leave a whole frame and a fault as they are
 
-abbrev tested : Bool → Bool → Bool → Front → Front
+-- the tests of a length, and what they leave
+abbrev pub tested : Bool → Bool → Bool → Front → Front
 tested b1 b2 b3 whole = cond b1 (Bad BadLength) (cond b2 (Bad BadLength) (cond b3 Begun whole))
 
 kept_tested : (b1 b2 b3 c3 : Bool) (v w f : Front) → tested b1 b2 b3 v ≡ f → (f ≡ Begun → ⊥) → (b3 ≡ false → (c3 ≡ false) × (w ≡ v)) → tested b1 b2 c3 w ≡ f
@@ -131,7 +137,8 @@ only_so bytes (r ∷ rs) (q ∷ qs) left other h k =
 
 -- ---- what is held back is less than a frame
 
-judged_whole : (k : ℕ) (o : Result Request FrameFault) → judged k o ≡ Begun → ⊥
+-- a frame that was judged is begun no more
+pub judged_whole : (k : ℕ) (o : Result Request FrameFault) → judged k o ≡ Begun → ⊥
 judged_whole k (Ok r) e = cc
 judged_whole k (Err f) e = cc
 
