@@ -5,7 +5,7 @@ use Rattle.std.specs.Int.{w32, from_be_bytes}
 use Rattle.std.specs.Option.{ForNone}
 use Rattle.std.proofs.lemmas.Bool.{cases_lt, ltb-true, ltb-false, lt-ltb, le-ltb}
 use Rattle.std.proofs.lemmas.List.{drop_at, take-append-drop, take-append-le, take_all, take_rest, length-append, length-take-le}
-use Rattle.ov_frames.proofs.Pieces.{front_kept, judged_whole, tested, whole_length}
+use Rattle.ov_frames.proofs.Pieces.{begun_long, front_kept, judged_whole, tested, whole_length, whole_long}
 use Rattle.ov_frames.specs.Feeding.{Adds, IsCompleted, IsFilled}
 use Rattle.ov_frames.specs.Fronts.{front_end, length_end}
 use Rattle.ov_frames.specs.Requests.{request_at}
@@ -17,10 +17,12 @@ use Rattle.ov_frames.specs.declared.request.Request.{Request}
 
 -- ---- where the frame at the front of bytes ends
 
+-- until the length is there, its end
 end_short : (bytes : List ℕ) → length bytes < 4 → front_end bytes ≡ 4
 unfolding front_end
 end_short bytes short = rw (lt-ltb _ _ short) refl
 
+-- then what the length says
 end_long : (bytes : List ℕ) → 4 ≤ length bytes → front_end bytes ≡ length_end (from_be_bytes w32 (take 4 bytes))
 unfolding front_end
 end_long bytes long = rw (le-ltb _ _ long) refl
@@ -31,6 +33,7 @@ end_kept bytes more long =
     end_long (bytes ++ more) (omega (arith, length-append bytes more))
     ∙ ap (λ (l : List ℕ). length_end (from_be_bytes w32 l)) (take-append-le 4 bytes more long) ∙ sym (end_long bytes long)
 
+-- so by the tests
 least_tested : (b1 b2 : Bool) (n : ℕ) → 4 ≤ cond b1 4 (cond b2 4 (4 + n))
 least_tested true b2 n = omega arith
 least_tested false true n = omega arith
@@ -44,15 +47,12 @@ end_least bytes =
       | inr long ↦ rw (end_long bytes long) (least_tested (nat_eq (from_be_bytes w32 (take 4 bytes)) 0) (nat_lt FRAME_MAX (from_be_bytes w32 (take 4 bytes))) (from_be_bytes w32 (take 4 bytes)))
     ]
 
+-- so by the tests, behind the length
 begun_tested : (b1 b2 b3 : Bool) (v : Front) (n m : ℕ) → tested b1 b2 b3 v ≡ Begun → (v ≡ Begun → ⊥) → (b3 ≡ true → m < n) → 4 + m < cond b1 4 (cond b2 4 (4 + n))
 begun_tested true b2 b3 v n m e whole less = absurd cc
 begun_tested false true b3 v n m e whole less = absurd cc
 begun_tested false false true v n m e whole less = let h = less refl in omega arith
 begun_tested false false false v n m e whole less = absurd (whole e)
-
-begun_long : (b : Bool) (v : Front) (P : Type 0) → cond b Begun v ≡ Begun → (b ≡ true → P) → (b ≡ false → v ≡ Begun → P) → P
-begun_long true v P e short long = short refl
-begun_long false v P e short long = long refl e
 
 -- a begun frame lacks bytes
 begun_lacks : (bytes : List ℕ) → front_of bytes ≡ Begun → length bytes < front_end bytes
@@ -66,16 +66,13 @@ begun_lacks bytes e =
     let h = begun_tested (nat_eq n 0) (nat_lt FRAME_MAX n) (nat_lt (length rest) n) (judged (4 + n) (request_at (take n rest))) n (length rest) k (judged_whole (4 + n) (request_at (take n rest))) (λ b. ltb-true _ _ b) in
     rw (end_long bytes long) (omega (arith, h, length-drop 4 bytes)))
 
+-- so by the tests
 whole_tested : (b1 b2 b3 : Bool) (n : ℕ) (o : Result Request FrameFault) (r : Request) (len : ℕ) → tested b1 b2 b3 (judged (4 + n) o) ≡ Whole r len → len ≡ cond b1 4 (cond b2 4 (4 + n))
 whole_tested true b2 b3 n o r len e = absurd cc
 whole_tested false true b3 n o r len e = absurd cc
 whole_tested false false true n o r len e = absurd cc
 whole_tested false false false n (Ok q) r len e = let same : 4 + n ≡ len = cc in sym same
 whole_tested false false false n (Err f) r len e = absurd cc
-
-whole_long : (b : Bool) (v : Front) (r : Request) (len : ℕ) (P : Type 0) → cond b Begun v ≡ Whole r len → (b ≡ false → v ≡ Whole r len → P) → P
-whole_long true v r len P e long = absurd cc
-whole_long false v r len P e long = long refl e
 
 -- a whole frame goes as far as its length says
 whole_end : (bytes : List ℕ) (r : Request) (len : ℕ) → front_of bytes ≡ Whole r len → len ≡ front_end bytes
@@ -129,6 +126,7 @@ completes old piece mid new a b begun first second =
 
 -- ---- what the whole stream spells then
 
+-- the stream as what is held then and the rest of the piece
 stream : (old piece new : List ℕ) (used : ℕ) → new ≡ old ++ take used piece → old ++ piece ≡ new ++ drop used piece
 stream old piece new used added =
     ap (λ (l : List ℕ). old ++ l) (sym (take-append-drop used piece)) ∙ sym (append_assoc old (take used piece) (drop used piece)) ∙ ap (λ (l : List ℕ). l ++ drop used piece) (sym added)

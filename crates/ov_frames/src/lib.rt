@@ -1,4 +1,5 @@
-//! Frames: the requests that the bytes of a stream spell, in whatever pieces they come, and the bytes of replies.
+//! Frames: the requests that the bytes of a stream spell, in whatever pieces they come, and the
+//! bytes of replies.
 #![tactic(auto)]
 
 mod answer;
@@ -16,7 +17,7 @@ mod writing;
 
 pub use answer::Answer;
 pub use decoder::{Decoder, End};
-pub use fault::{FrameFault, ReadError};
+pub use fault::FrameFault;
 pub use front::FRAME_MAX;
 pub use laws::{law_of_frames, law_of_pieces, worked_rows};
 pub use request::Request;

@@ -1,4 +1,4 @@
-use Rattle.std.proofs.Common.{◌≡◌, ℕ, ◌+◌, ◌-◌, List, length, take, drop, sym, ap, subst, ◌∙◌}
+use Rattle.std.proofs.Common.{◌≡◌, ℕ, ◌+◌, ◌-◌, length, take, drop, sym, ap, subst, ◌∙◌}
 use Rattle.ov_frames.specs.Feeding.{IsCompleted, IsFilled}
 use Rattle.ov_frames.specs.Fronts.{front_end}
 use Rattle.ov_frames.specs.Streams.{front_of}

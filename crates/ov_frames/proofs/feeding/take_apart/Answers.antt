@@ -1,4 +1,4 @@
-use Rattle.std.proofs.Common.{◌≡◌, ℕ, ◌+◌, ◌≤◌, List, ◌++◌, [], ◌∷◌, length, drop, sym, subst, ◌∙◌, refl, arith, length-drop, length-take, take, ◌-◌}
+use Rattle.std.proofs.Common.{◌+◌, List, length, drop, sym, subst, ◌∙◌, refl, arith, length-drop, length-take, ◌-◌}
 use Rattle.ov_frames.specs.Streams.{Held, Faulty}
 use Rattle.ov_frames.proofs.Pieces.{Opens, opens_none, opens_more, opens_all, front_to_end, whole_within}
 use Rattle.ov_frames.specs.declared.request.Request.{Request}
