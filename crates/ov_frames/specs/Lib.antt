@@ -1,8 +1,10 @@
 pub mod Asked
+pub mod Feeding
 pub mod Fields
 pub mod Frames
 pub mod Fronts
 pub mod Gives
+pub mod Kept
 pub mod Replies
 pub mod Requests
 pub mod Streams

@@ -1,21 +1,24 @@
-//! Frames: the requests that the bytes of a stream spell, in whatever pieces they come, and the bytes of replies.
+//! Frames: the requests that the bytes of a stream spell, in whatever pieces they come, and the
+//! bytes of replies.
 #![tactic(auto)]
 
 mod answer;
 mod asked;
 mod decoder;
 mod fault;
+mod feeding;
 mod fields;
 mod front;
 mod laws;
+mod open_flags;
 mod reading;
 mod request;
 mod writing;
 
 pub use answer::Answer;
 pub use decoder::{Decoder, End};
-pub use fault::{FrameFault, ReadError};
+pub use fault::FrameFault;
 pub use front::FRAME_MAX;
 pub use laws::{law_of_frames, law_of_pieces, worked_rows};
 pub use request::Request;
-pub use writing::encode_reply;
+pub use writing::{append_reply, encode_reply};
