@@ -1,0 +1,3 @@
+pub mod Conversation
+pub mod Gaining
+pub mod Talking

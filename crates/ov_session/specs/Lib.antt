@@ -1,0 +1,6 @@
+pub mod Conversing
+pub mod Devices
+pub mod Doors
+pub mod Serving
+pub mod Sessions
+pub mod Talks

@@ -1,0 +1,71 @@
+-- A session on its way: what it has asked and answered.
+use Rattle.std.specs.Prelude.{◌≡◌, ℕ, List, [], ◌++◌, Option, Result, Ok, Err, ◌⊎◌}
+use Rattle.ov_frames.specs.declared.answer.Answer.{Answer}
+use Rattle.ov_frames.specs.declared.request.Request.{Request}
+use Rattle.ov_session.specs.Devices.{Gains, IsFrontOf}
+use Rattle.ov_session.specs.Serving.{Serves, IsLeaving, IsHeldBack, frames}
+use Rattle.ov_session.specs.declared.ending.Ending.{Ending}
+use Rattle.ov_session.specs.declared.ending.Ending.TheVariants as ending
+use Rattle.ov_session.specs.declared.exchange.Exchange.{Exchange}
+
+-- where a session stands: the bytes of its writer and those held for it, what the session tells, and the door
+pub record Place (D : Type 0) : Type 0 where
+  pub contents : Option (List ℕ)
+  pub held : List ℕ
+  pub told : List Exchange
+  pub door : D
+
+abbrev pub place : {D : Type 0} → Option (List ℕ) → List ℕ → List Exchange → D → Place D
+place contents held told door = record { contents = contents; held = held; told = told; door = door }
+
+-- between two places the output gained these bytes
+abbrev pub Gained : {D : Type 0} → Place D → Place D → List ℕ → Type 0
+Gained old new bytes = Gains old.contents new.contents old.held new.held bytes
+
+-- these requests were served, and their answers given to the output
+pub record Talked {D : Type 0} (goes : D → List Exchange → D → Type 0) (old new : Place D) (rs : List Request) : Type 0 where
+  pub told : List Exchange
+  pub added : new.told ≡ old.told ++ told
+  pub went : goes old.door told new.door
+  pub answers : List Answer
+  pub served : Serves rs told answers
+  pub gained : Gained old new (frames answers)
+
+-- no call was held back, or the first of the later requests was
+abbrev pub MayBeHeldBack : List Request → List Exchange → Type 0
+MayBeHeldBack later stopped = (stopped ≡ []) ⊎ IsHeldBack later stopped
+
+-- why no more was served: the later requests, the call held back, the bytes given to the output, and the answers
+abbrev pub Breaks : Ending → List Request → List Exchange → List ℕ → List Answer → Type 0
+Breaks ending.Detached later stopped given answers = (stopped ≡ []) × (given ≡ frames answers) × IsLeaving later
+Breaks ending.Write later stopped given answers = MayBeHeldBack later stopped × IsFrontOf given (frames answers)
+Breaks ending.Memory later stopped given answers = MayBeHeldBack later stopped × IsFrontOf given (frames answers)
+Breaks ending.Stopped later stopped given answers = IsHeldBack later stopped × (given ≡ frames answers)
+Breaks _ later stopped given answers = ⊥
+
+-- these requests were served and the later ones not
+pub record BrokeOff {D : Type 0} (goes : D → List Exchange → D → Type 0) (old new : Place D) (rs later : List Request) (e : Ending) : Type 0 where
+  pub told : List Exchange
+  pub stopped : List Exchange
+  pub added : new.told ≡ old.told ++ (told ++ stopped)
+  pub went : goes old.door (told ++ stopped) new.door
+  pub answers : List Answer
+  pub served : Serves rs told answers
+  pub given : List ℕ
+  pub gained : Gained old new given
+  pub how : Breaks e later stopped given answers
+
+-- the requests were served, or a front of them
+abbrev pub IsServed : {D : Type 0} → (D → List Exchange → D → Type 0) → Place D → Place D → List Request → Result (Unit {0}) Ending → Type 0
+IsServed goes old new rs (Ok x) = Talked goes old new rs
+IsServed goes old new rs (Err e) = (front : List Request) × (later : List Request) × (rs ≡ front ++ later) × BrokeOff goes old new front later e
+
+-- nothing is held for the writer, unless it failed or memory ran out
+abbrev pub HandedOn : Ending → List ℕ → Type 0
+HandedOn ending.Write held = Unit {0}
+HandedOn ending.Memory held = Unit {0}
+HandedOn _ held = held ≡ []
+
+abbrev pub IsHandedOn : Result (Unit {0}) Ending → List ℕ → Type 0
+IsHandedOn (Ok x) held = held ≡ []
+IsHandedOn (Err e) held = HandedOn e held

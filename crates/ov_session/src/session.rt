@@ -1,0 +1,146 @@
+// Sessions: a client's stream is read, its requests are served, and in the end the client is detached.
+ghost use Rattle.std.specs.Prelude.{◌≡◌, ◌<◌, [], false, length, IfOk};
+ghost use Rattle.ov_session.specs.Conversing.{Conversed, ended};
+ghost use Rattle.ov_session.specs.Devices.{InputAt, IsSent, is_write};
+ghost use Rattle.ov_session.specs.Sessions.{IsSession};
+ghost use Rattle.ov_session.specs.Talks.{HandedOn, place};
+
+use crate::door::Door;
+use crate::ending::Ending;
+use crate::input::SessionInput;
+use crate::output::SessionOutput;
+use crate::serving::take_piece;
+use ov_frames::{Answer, Decoder, End};
+use std::alloc::{AllocError, Global};
+use std::io::{Read, Write};
+
+/// How many bytes one read asks for.
+const PIECE: usize = 65_536;
+
+// Room for a piece.
+fn buffer_of(alloc: Global) -> Result<Vec<u8>, AllocError>
+    ensures { IfOk result (λ buffer. 0 < length buffer.items) }
+{
+    let buffer = vec![in alloc; 0u8; PIECE]?;
+    Ok(buffer)
+}
+
+fn ending_of(end: End) -> Ending
+    ensures { result ≡ ended end }
+{
+    match end {
+        End::Ended => Ending::Ended,
+        End::Cut => Ending::Cut,
+        End::Frame(fault) => Ending::Frame(fault),
+    }
+}
+
+// Serves the requests of the stream until it ends, the client leaves, or something fails.
+fn converse<R: Read, W: Write, D: Door>(
+    alloc: Global,
+    input: &mut SessionInput<R>,
+    output: &mut SessionOutput<W>,
+    door: &mut D,
+    session: &mut D::Session,
+) -> Ending
+    requires input { input.old.failed ≡ false }
+    requires well { output.old.failed ≡ false }
+    requires held { output.old.held.items ≡ [] }
+    requires admitted { D.admits door.old session.old }
+    ensures conversed { Conversed D.goes (R.remaining input.old.reader) (R.remaining input.new.reader)
+        (place (W.contents output.old.writer) output.old.held.items (D.told session.old) door.old)
+        (place (W.contents output.new.writer) output.new.held.items (D.told session.new) door.new)
+        result }
+    ensures input { InputAt input.new.failed input.new.reads_left result }
+    ensures handed_on { HandedOn result output.new.held.items }
+    ensures mark { output.new.failed ≡ is_write result }
+    ensures admitted { D.admits door.new session.new }
+{
+    let Ok(mut buffer) = buffer_of(alloc) else {
+        return Ending::Memory;
+    };
+    pieces_of(alloc, buffer.as_mut_slice(), input, output, door, session)
+}
+
+fn pieces_of<R: Read, W: Write, D: Door>(
+    alloc: Global,
+    piece: &mut [u8],
+    input: &mut SessionInput<R>,
+    output: &mut SessionOutput<W>,
+    door: &mut D,
+    session: &mut D::Session,
+) -> Ending
+    requires room { 0 < length piece.old }
+    requires input { input.old.failed ≡ false }
+    requires well { output.old.failed ≡ false }
+    requires held { output.old.held.items ≡ [] }
+    requires admitted { D.admits door.old session.old }
+    ensures conversed { Conversed D.goes (R.remaining input.old.reader) (R.remaining input.new.reader)
+        (place (W.contents output.old.writer) output.old.held.items (D.told session.old) door.old)
+        (place (W.contents output.new.writer) output.new.held.items (D.told session.new) door.new)
+        result }
+    ensures input { InputAt input.new.failed input.new.reads_left result }
+    ensures handed_on { HandedOn result output.new.held.items }
+    ensures mark { output.new.failed ≡ is_write result }
+    ensures admitted { D.admits door.new session.new }
+{
+    let mut decoder = Decoder::new(alloc);
+    'pieces: loop {
+        let count = match input.read(piece) {
+            Ok(count) => count,
+            Err(end) => return end,
+        };
+        if count == 0 {
+            return ending_of(decoder.end());
+        }
+        if let Err(end) = take_piece(alloc, &mut decoder, &piece[..count], output, door, session) {
+            return end;
+        }
+    }
+}
+
+// Sends the answer to a detach that was asked for, and how the session ends.
+fn send_farewell<W: Write>(
+    alloc: Global,
+    output: &mut SessionOutput<W>,
+    farewell: &Answer,
+) -> Ending
+    requires well { output.old.failed ≡ false }
+    ensures sent { IsSent (W.contents output.old.writer) (W.contents output.new.writer)
+        output.old.held.items output.new.held.items farewell.now result }
+    ensures mark { output.new.failed ≡ is_write result }
+{
+    if let Err(end) = output.put(alloc, farewell) {
+        return end;
+    }
+    match output.flush() {
+        Ok(()) => Ending::Detached,
+        Err(end) => end,
+    }
+}
+
+/// Runs a session: serves what its client's bytes ask for, and detaches it once, whatever ends the session.
+pub fn session_run<R: Read, W: Write, D: Door>(
+    alloc: Global,
+    input: &mut SessionInput<R>,
+    output: &mut SessionOutput<W>,
+    door: &mut D,
+    session: &mut D::Session,
+) -> Ending
+    requires input { input.old.failed ≡ false }
+    requires output { output.old.failed ≡ false }
+    requires held { output.old.held.items ≡ [] }
+    requires admitted { D.admits door.old session.old }
+    ensures session { IsSession D.goes (R.remaining input.old.reader) (R.remaining input.new.reader)
+        (W.contents output.old.writer) (W.contents output.new.writer)
+        (D.told session.old) (D.told session.new) door.old door.new result }
+    ensures input { InputAt input.new.failed input.new.reads_left result }
+    ensures output { output.new.failed ≡ is_write result }
+{
+    let end = converse(alloc, input, output, door, session);
+    let farewell = door.detach(session);
+    match end {
+        Ending::Detached => send_farewell(alloc, output, &farewell),
+        other => other,
+    }
+}
