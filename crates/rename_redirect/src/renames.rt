@@ -60,6 +60,7 @@ pub fn rename(
     ensures no_memory { OnErr result (ShowsSame layers.old layers.new) }
     ensures mounts { OnErr result (StaysMount layers.old layers.new) }
     ensures parents { OnErr result (GainsBoth layers.old layers.new old.now new.now) }
+    ensures apart { OnErr result (is_one (layer_of layers.old.upper) old.now new.now ≡ false) }
     ensures keeps { StaysLayers layers.old layers.new }
     ensures thin { AreLayers (layers_of layers.old) → StaysThin layers.old layers.new }
 {
