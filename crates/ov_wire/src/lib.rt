@@ -1,6 +1,9 @@
-//! What comes from outside as bytes: manifests.
+//! What comes from outside as bytes: manifests, and frames.
 #![tactic(auto)]
 
 mod manifest;
 
 pub use manifest::{EntryFault, ManifestFault, layers_of, manifest_of};
+pub use ov_frames::{
+    Answer, Decoder, End, FRAME_MAX, FrameFault, Request, append_reply, encode_reply,
+};
