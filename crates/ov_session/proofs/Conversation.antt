@@ -9,7 +9,7 @@ use Rattle.ov_frames.specs.declared.answer.Answer.{Answer}
 use Rattle.ov_frames.specs.declared.fault.FrameFault.{FrameFault}
 use Rattle.ov_frames.specs.declared.request.Request.{Request}
 use Rattle.ov_frames.proofs.Pieces.{goes_on}
-use Rattle.ov_session.specs.Conversing.{SoFar, Stands, Conversed, IsTurn, IsUnfed, ended}
+use Rattle.ov_session.specs.Conversing.{Stands, Conversed, IsTurn, IsUnfed, ended}
 use Rattle.ov_session.specs.Devices.{Gains, InputAt, IsFrontOf, IsInputEnd, IsSent}
 use Rattle.ov_session.specs.Serving.{frames}
 use Rattle.ov_session.specs.Sessions.{StandsLast, IsSession}
@@ -18,6 +18,7 @@ use Rattle.ov_session.specs.declared.ending.Ending.{Ending}
 use Rattle.ov_session.specs.declared.ending.Ending.TheVariants as ending
 use Rattle.ov_session.specs.declared.exchange.Exchange.{Exchange}
 use Rattle.ov_session.specs.declared.exchange.Exchange.TheVariants.{Departed}
+use Rattle.ov_session.proofs.SoFar.{SoFar}
 use Rattle.ov_session.proofs.Gaining.{front_of_all, gains_then, written_of, written_all}
 use Rattle.ov_session.proofs.Talking.{Doorway, talked_nothing, talked_then, broke_then}
 

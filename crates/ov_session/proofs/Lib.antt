@@ -1,3 +1,4 @@
 pub mod Conversation
 pub mod Gaining
+pub mod SoFar
 pub mod Talking

@@ -14,14 +14,6 @@ use Rattle.ov_session.specs.declared.ending.Ending.{Ending}
 use Rattle.ov_session.specs.declared.ending.Ending.TheVariants as ending
 use Rattle.ov_session.specs.declared.exchange.Exchange.{Exchange}
 
--- so far: the bytes read spell these requests, and each was served
-pub record SoFar {D : Type 0} (goes : D → List Exchange → D → Type 0) (in_old in_new : Option (List ℕ)) (old new : Place D) (left : Left) : Type 0 where
-  pub taken : List ℕ
-  pub consumed : Consumes in_old in_new taken
-  pub requests : List Request
-  pub spelled : Spells taken requests left
-  pub talked : Talked goes old new requests
-
 -- how things stand at each end: of the input what remains, the requests that are not served, what is left of the stream behind its
 -- whole frames, the call held back, the bytes given to the output, and the frames of the answers
 abbrev pub Stands : Ending → Option (List ℕ) → List Request → Left → List Exchange → List ℕ → List ℕ → Type 0

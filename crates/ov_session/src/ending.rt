@@ -26,7 +26,7 @@ pub enum Ending {
     Stopped,
 }
 
-/// How the fault of a device ends a session: with `failure`, which is noted, or for want of memory.
+/// How the fault of a device ends a session: with `failure`, which is noted, or out of memory.
 pub(crate) fn noted(fault: io::Error, failure: Ending, failed: &mut bool) -> Ending
     ensures { Notes failed.old failed.new failure result }
 {

@@ -1,5 +1,5 @@
 use Rattle.std.proofs.Common.{◌≡◌, ◌<◌, [], false, length}
-use Rattle.ov_session.specs.Conversing.{SoFar}
+use Rattle.ov_session.proofs.SoFar.{SoFar}
 use Rattle.ov_session.specs.Talks.{place}
 use Rattle.ov_session.proofs.session.pieces_of.Given as goal
 
