@@ -1,6 +1,8 @@
 -- The calls that change attributes, by how they end.
-use Rattle.std.proofs.Common.{◌≡◌, ℕ, true, false, not, ◌&&◌, is_none, length, nat_lt, List, Option, None, Some, Result, Ok, MatchResult, refl, sym, ap, ◌∙◌, subst}
+use Rattle.std.proofs.Common.{◌≡◌, ℕ, true, false, not, ◌&&◌, is_none, length, nat_lt, List, Option, None, Some, Result, Ok, Err, MatchResult, refl, sym, ap, ◌∙◌, subst}
 use Rattle.std.proofs.Common.{arith}
+use Rattle.std.specs.Result.{IsErr}
+use Rattle.std.specs.declared.alloc.AllocError.{AllocError}
 use Rattle.ov_base.specs.AttributeChanges.{changed}
 use Rattle.ov_base.specs.declared.attributes.Attributes.{Attributes}
 use Rattle.ov_base.specs.declared.call.Call.{Call}
@@ -17,12 +19,14 @@ use Rattle.mount_laws.specs.Attributes.{user_in, chown_fault, set_fault, get_fau
 use Rattle.mount_laws.specs.Altered.{Alters, AltersBy, AltersState}
 use Rattle.mount_laws.specs.StayOpen.{AltersNamed, LivesThroughChange}
 use Rattle.copy_up.specs.Altering.{AltersAs, AltersObjectAs}
-use Rattle.copy_up.specs.Showing.{StaysLayers, StaysThin}
+use Rattle.copy_up.specs.Showing.{GainsParents, ShowsSame, StaysLayers, StaysMount, StaysThin}
 use Rattle.copy_up.proofs.Keeping.{lowers-same}
 use Rattle.mount_calls.specs.declared.attributes.Change.{Change}
 use Rattle.mount_calls.specs.Altering.{AltersUnless, IsChange, IsOpenTo, ShowsAttributes}
 use Rattle.mount_calls.specs.Living.{KeepsLive}
 use Rattle.mount_calls.proofs.Altered.{alters-named}
+use Rattle.mount_calls.proofs.Frames.{around-parents, around-paths}
+use Rattle.mount_calls.proofs.Lasting.{parents-live}
 
 -- a change that was planned, and made
 module _
@@ -51,6 +55,7 @@ module _
     allowed = none;
     alters = λ s m c. subst (λ (ls : List Layer). AltersState (layer_of new.upper) ls s c p k) (sym (lowers-same old new low)) (state-altered s m c);
     lowers = low;
+    around = around-paths old new p (object h.before h.shown).paths;
     keeps = keeps;
     thin = thin;
     no_memory = tt;
@@ -58,6 +63,27 @@ module _
     live = live-altered tree object;
     stays = tt;
   }
+
+-- a change that wants memory leaves what is shown, and what the upper holds around the path
+pub alters-wanted :
+    (fault : Option Errno) (old new : Layers) (p : Path) (k : Call) (r : Result (Result (Unit {0}) Errno) AllocError) →
+    IsErr r → GainsParents old new p → StaysLayers old new → StaysThin old new → ShowsSame old new →
+    StaysMount old new → AltersUnless fault old new p k r
+alters-wanted fault old new p k (Ok x) wrong gains keeps thin same mounts = let no : false ≡ true = wrong in absurd (cc)
+alters-wanted fault old new p k (Err e) wrong gains keeps thin same mounts = record {
+  refused = tt;
+  unchanged = tt;
+  allowed = tt;
+  alters = tt;
+  lowers = gains.lowers;
+  around = around-parents old new p gains;
+  keeps = keeps;
+  thin = thin;
+  no_memory = same;
+  mounts = mounts;
+  live = tt;
+  stays = parents-live old new p gains;
+}
 
 -- what is told of an inode is told where it is shown
 pub open-as : {A : Type 0} (now : A → Attributes) (r : Result A Errno) (s : Option Shown) (j k : ℕ) (i : Option Inode) → s ≡ Some (Contents j k i) → MatchResult r (λ a. IsOpenTo (Some (Contents 0 0 i)) (now a)) (λ e. (e ≡ ELOOP) × (is_link_inode i ≡ true)) → MatchResult r (λ a. IsOpenTo s (now a)) (λ e. (e ≡ ELOOP) × (shows_link s ≡ true))

@@ -35,3 +35,4 @@ pub mod Named
 pub mod Freed
 pub mod Makings
 pub mod CopiedOpens
+pub mod Frames

@@ -16,6 +16,7 @@ use Rattle.mount_laws.specs.Altered.{AltersBy, AltersState}
 use Rattle.mount_laws.specs.StayOpen.{LivesThroughChange}
 use Rattle.copy_up.specs.Showing.{ShowsSame, StaysLayers, StaysMount, StaysThin}
 use Rattle.mount_calls.specs.declared.attributes.Change.{Change}
+use Rattle.mount_calls.specs.Keeping.{KeepsAround}
 use Rattle.mount_calls.specs.Living.{KeepsLive, StaysLive}
 
 -- what is shown is no symbolic link, and has these attributes
@@ -34,13 +35,15 @@ AltersStates old new p k = (s : State) → IsMountOf (layer_of old.upper) (lower
 
 -- A call that changes attributes at a path is refused with the fault, where there is one, and
 -- changes nothing then; else each state is altered as the call alters it. Files that are open stay
--- live. An allocation failure leaves all that is shown, and no call changes a lower layer.
+-- live. An allocation failure leaves all that is shown, and no call changes a lower layer, nor what
+-- the upper holds around the path, but for missing parents of it that it gains.
 pub record AltersUnless (fault : Option Errno) (old new : Layers) (p : Path) (k : Call) (result : Result (Result (Unit {0}) Errno) AllocError) : Type 0 where
   pub refused : IfOk result (λ r. IfErr r (λ e. fault ≡ Some e))
   pub unchanged : IfOk result (λ r. OnErr r (new ≡ old))
   pub allowed : IfOk result (λ r. OnOk r (fault ≡ None))
   pub alters : IfOk result (λ r. OnOk r (AltersStates old new p k))
   pub lowers : new.lowers ≡ old.lowers
+  pub around : KeepsAround old new p
   pub keeps : StaysLayers old new
   pub thin : StaysThin old new
   pub no_memory : OnErr result (ShowsSame old new)

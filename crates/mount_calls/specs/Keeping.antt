@@ -1,8 +1,16 @@
 -- What calls leave alone.
-use Rattle.std.specs.Prelude.{◌≡◌, Bool, true, false, cond, ◌||◌}
+use Rattle.std.specs.Prelude.{◌≡◌, ◌≢◌, ◌⊎◌, Bool, true, false, cond, ◌||◌, ◌&&◌, ◌∷◌, ◌++◌}
+use Rattle.std.specs.Prelude.{None, is_none}
 use Rattle.ov_base.specs.declared.call.Call.{Call}
 use Rattle.ov_base.specs.declared.call.Call.TheVariants as call
+use Rattle.plain_model.specs.Layers.{Name, Path, held, shows}
+use Rattle.plain_model.specs.Laws.{IsOutside}
+use Rattle.mount_laws.specs.Moving.{Follows}
+use Rattle.layer_tree.specs.Tree.{layer_of, SameObjects}
 use Rattle.merged_lookup.specs.declared.layers.Layers.{Layers}
+use Rattle.merged_lookup.specs.Merged.{layers_of}
+use Rattle.copy_up.specs.Showing.{is_object, KeepsPath}
+use Rattle.rename_redirect.specs.Renaming.{is_one, KeepsMoved}
 use Rattle.mount_calls.specs.Living.{KeepsPaths}
 
 -- the calls that take no memory, and so never want it
@@ -13,21 +21,54 @@ takes_no_memory (call.Close d) = true
 takes_no_memory (call.Disarm watch) = true
 takes_no_memory _ = false
 
--- What a call leaves of the layers: those that change attributes, bytes and names may change them, a close may free a file without a name,
--- and every other call leaves them the very same.
+-- the upper holds at x what it held, or nothing where at most a whiteout was
+abbrev pub LosesNoObject : Layers → Layers → Path → Type 0
+LosesNoObject old new x =
+    (held (layer_of new.upper) x ≡ held (layer_of old.upper) x)
+    ⊎ ((is_object (held (layer_of old.upper) x) ≡ false) × (held (layer_of new.upper) x ≡ None))
+
+-- Outside of p the upper holds what it held, but for missing parents of p that it gained, each as
+-- it was shown. Below p it gains nothing, and loses whiteouts at most.
+pub record KeepsAround (old new : Layers) (p : Path) : Type 0 where
+  pub outside : (x : Path) → IsOutside p x → KeepsPath old new p x
+  pub below : (n : Name) (r : Path) → LosesNoObject old new (n ∷ r ++ p)
+
+-- At every path but p and q the upper holds what it held, but for missing parents of the two that
+-- it gained, each as it was shown.
+abbrev pub KeepsBut : Layers → Layers → Path → Path → Type 0
+KeepsBut old new p q = (x : Path) → x ≢ p → x ≢ q → KeepsPath old new p x ⊎ KeepsPath old new q x
+
+-- What the upper held at a path other than p, it holds at the path that follows it where p moves to
+-- q, but for missing parents of the two that it gained, each as it was shown.
+abbrev pub MovesAlong : Layers → Layers → Path → Path → Type 0
+MovesAlong old new p q = (x y : Path) → Follows p q x y → x ≢ p → KeepsMoved old new p q x y
+
+-- Where p and q are one object, the layers stay the very same. Else what the upper held below p went
+-- along to q, and all else stayed, but for missing parents that it gained; or it gained these alone.
+pub record KeepsRenamed (old new : Layers) (p q : Path) : Type 0 where
+  pub one : is_one (layer_of old.upper) p q ≡ true → new ≡ old
+  pub paths : MovesAlong old new p q ⊎ ((x : Path) → KeepsMoved old new p q x x)
+
+-- What a call leaves of the layers. One that changes something at a path leaves what the upper holds
+-- around it, but for missing parents of the path that it gained; so does an open that writes, or that
+-- makes the file where nothing is shown. A link does so with its two paths, and a rename too, but what
+-- the upper holds below the old path goes along. A write and a truncate leave what every path holds,
+-- and a close may free a file without a name. Every other call leaves the layers the very same.
 abbrev pub KeepsLayers : Call → Layers → Layers → Type 0
-KeepsLayers (call.Chmod p mode) old new = Unit {0}
-KeepsLayers (call.Chown p uid gid) old new = Unit {0}
-KeepsLayers (call.SetAttribute p n v) old new = Unit {0}
-KeepsLayers (call.DeleteAttribute p n) old new = Unit {0}
-KeepsLayers (call.Mkdir p mode) old new = Unit {0}
-KeepsLayers (call.Symlink target p) old new = Unit {0}
-KeepsLayers (call.Unlink p) old new = Unit {0}
-KeepsLayers (call.Rmdir p) old new = Unit {0}
-KeepsLayers (call.Hardlink p q) old new = Unit {0}
-KeepsLayers (call.Rename p q) old new = Unit {0}
-KeepsLayers (call.Open p f mode) old new = cond (f.writes || f.create) (Unit {0}) (new ≡ old)
-KeepsLayers (call.Write d bytes) old new = Unit {0}
-KeepsLayers (call.Truncate d size) old new = Unit {0}
+KeepsLayers (call.Chmod p mode) old new = KeepsAround old new p
+KeepsLayers (call.Chown p uid gid) old new = KeepsAround old new p
+KeepsLayers (call.SetAttribute p n v) old new = KeepsAround old new p
+KeepsLayers (call.DeleteAttribute p n) old new = KeepsAround old new p
+KeepsLayers (call.Mkdir p mode) old new = KeepsAround old new p
+KeepsLayers (call.Symlink target p) old new = KeepsAround old new p
+KeepsLayers (call.Unlink p) old new = KeepsAround old new p
+KeepsLayers (call.Rmdir p) old new = KeepsAround old new p
+KeepsLayers (call.Hardlink p q) old new = KeepsBut old new p q
+KeepsLayers (call.Rename p q) old new = KeepsRenamed old new p q
+KeepsLayers (call.Open p f mode) old new =
+    cond (f.writes || (f.create && is_none (shows 0 (layers_of old) p)))
+    (KeepsAround old new p) (new ≡ old)
+KeepsLayers (call.Write d bytes) old new = SameObjects (layer_of old.upper) (layer_of new.upper)
+KeepsLayers (call.Truncate d size) old new = SameObjects (layer_of old.upper) (layer_of new.upper)
 KeepsLayers (call.Close d) old new = KeepsPaths old new
 KeepsLayers _ old new = new ≡ old

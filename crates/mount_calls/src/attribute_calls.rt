@@ -3,6 +3,7 @@ ghost use Rattle.std.specs.Prelude.{◌≡◌, ℕ, None, IfOk, OnErr};
 ghost use Rattle.plain_model.specs.Machine.{State};
 ghost use Rattle.plain_model.specs.Refusals.{refusal};
 ghost use Rattle.copy_up.specs.Showing.{StaysThin};
+ghost use Rattle.mount_calls.specs.Keeping.{KeepsLayers};
 ghost use Rattle.mount_calls.specs.Living.{KeepsNamed, StaysLive};
 ghost use Rattle.mount_calls.specs.States.{IsStateOf, Serves, StaysState};
 
@@ -17,6 +18,7 @@ impl Mount {
         ensures serves { IfOk result (λ reply. (s : State) → IsStateOf self.old s → (c : ℕ) → Serves (refusal s c (Call.Chmod path.now mode)) s c (Call.Chmod path.now mode) reply self.new) }
         ensures err { OnErr result (StaysState self.old self.new) }
         ensures clients { self.new.clients ≡ self.old.clients }
+        ensures layers { KeepsLayers (Call.Chmod path.now mode) self.old.layers self.new.layers }
         ensures refused { IfOk result (λ reply. (errno : Errno) → reply ≡ Reply.Refused errno → self.new.layers ≡ self.old.layers) }
         ensures lowers { self.new.layers.lowers ≡ self.old.layers.lowers }
         ensures thin { StaysThin self.old.layers self.new.layers }
@@ -33,6 +35,7 @@ impl Mount {
         ensures serves { IfOk result (λ reply. (s : State) → IsStateOf self.old s → (c : ℕ) → Serves (refusal s c (Call.Chown path.now uid gid)) s c (Call.Chown path.now uid gid) reply self.new) }
         ensures err { OnErr result (StaysState self.old self.new) }
         ensures clients { self.new.clients ≡ self.old.clients }
+        ensures layers { KeepsLayers (Call.Chown path.now uid gid) self.old.layers self.new.layers }
         ensures refused { IfOk result (λ reply. (errno : Errno) → reply ≡ Reply.Refused errno → self.new.layers ≡ self.old.layers) }
         ensures lowers { self.new.layers.lowers ≡ self.old.layers.lowers }
         ensures thin { StaysThin self.old.layers self.new.layers }
@@ -54,6 +57,7 @@ impl Mount {
         ensures serves { IfOk result (λ reply. (s : State) → IsStateOf self.old s → (c : ℕ) → Serves (refusal s c (Call.SetAttribute path.now name.now value.now)) s c (Call.SetAttribute path.now name.now value.now) reply self.new) }
         ensures err { OnErr result (StaysState self.old self.new) }
         ensures clients { self.new.clients ≡ self.old.clients }
+        ensures layers { KeepsLayers (Call.SetAttribute path.now name.now value.now) self.old.layers self.new.layers }
         ensures refused { IfOk result (λ reply. (errno : Errno) → reply ≡ Reply.Refused errno → self.new.layers ≡ self.old.layers) }
         ensures lowers { self.new.layers.lowers ≡ self.old.layers.lowers }
         ensures thin { StaysThin self.old.layers self.new.layers }
@@ -74,6 +78,7 @@ impl Mount {
         ensures serves { IfOk result (λ reply. (s : State) → IsStateOf self.old s → (c : ℕ) → Serves (refusal s c (Call.DeleteAttribute path.now name.now)) s c (Call.DeleteAttribute path.now name.now) reply self.new) }
         ensures err { OnErr result (StaysState self.old self.new) }
         ensures clients { self.new.clients ≡ self.old.clients }
+        ensures layers { KeepsLayers (Call.DeleteAttribute path.now name.now) self.old.layers self.new.layers }
         ensures refused { IfOk result (λ reply. (errno : Errno) → reply ≡ Reply.Refused errno → self.new.layers ≡ self.old.layers) }
         ensures lowers { self.new.layers.lowers ≡ self.old.layers.lowers }
         ensures thin { StaysThin self.old.layers self.new.layers }

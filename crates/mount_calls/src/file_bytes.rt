@@ -1,7 +1,7 @@
 // Changing the bytes of files of the upper (POSIX.1-2017, write() and ftruncate()).
 ghost use Rattle.std.specs.Prelude.{◌≡◌, ◌+◌, ◌<◌, ◌^◌, ℕ, List, Some, IsOk, OnOk, OnErr, length};
 ghost use Rattle.plain_model.specs.Changes.{sized};
-ghost use Rattle.layer_tree.specs.Tree.{bytes_at, written};
+ghost use Rattle.layer_tree.specs.Tree.{bytes_at, layer_of, written, SameObjects};
 ghost use Rattle.copy_up.specs.Showing.{StaysLayers, StaysMount, StaysThin};
 ghost use Rattle.open_handles.specs.declared.open_file.FileSource.TheVariants as sources;
 ghost use Rattle.mount_calls.specs.Living.{KeepsFiles, SetsFile, StaysLive};
@@ -21,6 +21,7 @@ pub(crate) fn write_file(
     requires { start + length bytes.now < 2 ^ 64 }
     ensures sets { OnOk result ((k : ℕ) (old : List ℕ) → source ≡ sources.Upper k → bytes_at layers.old.upper k ≡ Some old → SetsFile layers.old layers.new k (written old start bytes.now)) }
     ensures files { KeepsFiles layers.old layers.new }
+    ensures objects { SameObjects (layer_of layers.old.upper) (layer_of layers.new.upper) }
     ensures lowers { layers.new.lowers ≡ layers.old.lowers }
     ensures keeps { StaysLayers layers.old layers.new }
     ensures thin { StaysThin layers.old layers.new }
@@ -46,6 +47,7 @@ pub(crate) fn resize_file(
     ensures sets { OnOk result ((k : ℕ) (old : List ℕ) → source ≡ sources.Upper k → bytes_at layers.old.upper k ≡ Some old → SetsFile layers.old layers.new k (sized old size)) }
     ensures empties { size ≡ 0 → IsOk result }
     ensures files { KeepsFiles layers.old layers.new }
+    ensures objects { SameObjects (layer_of layers.old.upper) (layer_of layers.new.upper) }
     ensures lowers { layers.new.lowers ≡ layers.old.lowers }
     ensures keeps { StaysLayers layers.old layers.new }
     ensures thin { StaysThin layers.old layers.new }

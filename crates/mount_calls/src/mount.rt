@@ -222,6 +222,7 @@ impl Mount {
         ensures serves { IfOk result (λ reply. (s : State) → IsStateOf self.old s → (c : ℕ) → Serves (refusal s c (Call.Mkdir path.now mode)) s c (Call.Mkdir path.now mode) reply self.new) }
         ensures err { OnErr result (StaysState self.old self.new) }
         ensures clients { self.new.clients ≡ self.old.clients }
+        ensures layers { KeepsLayers (Call.Mkdir path.now mode) self.old.layers self.new.layers }
         ensures refused { IfOk result (λ reply. (errno : Errno) → reply ≡ Reply.Refused errno → self.new.layers ≡ self.old.layers) }
         ensures lowers { self.new.layers.lowers ≡ self.old.layers.lowers }
         ensures thin { StaysThin self.old.layers self.new.layers }
@@ -242,6 +243,7 @@ impl Mount {
         ensures serves { IfOk result (λ reply. (s : State) → IsStateOf self.old s → (c : ℕ) → Serves (refusal s c (Call.Symlink target.now path.now)) s c (Call.Symlink target.now path.now) reply self.new) }
         ensures err { OnErr result (StaysState self.old self.new) }
         ensures clients { self.new.clients ≡ self.old.clients }
+        ensures layers { KeepsLayers (Call.Symlink target.now path.now) self.old.layers self.new.layers }
         ensures refused { IfOk result (λ reply. (errno : Errno) → reply ≡ Reply.Refused errno → self.new.layers ≡ self.old.layers) }
         ensures lowers { self.new.layers.lowers ≡ self.old.layers.lowers }
         ensures thin { StaysThin self.old.layers self.new.layers }
@@ -262,6 +264,7 @@ impl Mount {
         ensures serves { IfOk result (λ reply. (s : State) → IsStateOf self.old s → (c : ℕ) → Serves (refusal s c (Call.Hardlink old.now new.now)) s c (Call.Hardlink old.now new.now) reply self.new) }
         ensures err { OnErr result (StaysState self.old self.new) }
         ensures clients { self.new.clients ≡ self.old.clients }
+        ensures layers { KeepsLayers (Call.Hardlink old.now new.now) self.old.layers self.new.layers }
         ensures refused { IfOk result (λ reply. (errno : Errno) → reply ≡ Reply.Refused errno → self.new.layers ≡ self.old.layers) }
         ensures lowers { self.new.layers.lowers ≡ self.old.layers.lowers }
         ensures thin { StaysThin self.old.layers self.new.layers }
@@ -281,6 +284,7 @@ impl Mount {
         ensures object { IfOk result (λ outcome. IfOk outcome (IsObject (layer_of self.old.layers.upper) (lowers_of self.old.layers) path.now)) }
         ensures err { OnErr result (StaysState self.old self.new) }
         ensures clients { self.new.clients ≡ self.old.clients }
+        ensures layers { KeepsLayers (Call.Unlink path.now) self.old.layers self.new.layers }
         ensures refused { IfOk result (λ outcome. OnErr outcome (self.new.layers ≡ self.old.layers)) }
         ensures lowers { self.new.layers.lowers ≡ self.old.layers.lowers }
         ensures thin { StaysThin self.old.layers self.new.layers }
@@ -296,6 +300,7 @@ impl Mount {
         ensures serves { IfOk result (λ reply. (s : State) → IsStateOf self.old s → (c : ℕ) → Serves (refusal s c (Call.Unlink path.now)) s c (Call.Unlink path.now) reply self.new) }
         ensures err { OnErr result (StaysState self.old self.new) }
         ensures clients { self.new.clients ≡ self.old.clients }
+        ensures layers { KeepsLayers (Call.Unlink path.now) self.old.layers self.new.layers }
         ensures refused { IfOk result (λ reply. (errno : Errno) → reply ≡ Reply.Refused errno → self.new.layers ≡ self.old.layers) }
         ensures lowers { self.new.layers.lowers ≡ self.old.layers.lowers }
         ensures thin { StaysThin self.old.layers self.new.layers }
@@ -313,6 +318,7 @@ impl Mount {
         ensures serves { IfOk result (λ reply. (s : State) → IsStateOf self.old s → (c : ℕ) → Serves (refusal s c (Call.Rmdir path.now)) s c (Call.Rmdir path.now) reply self.new) }
         ensures err { OnErr result (StaysState self.old self.new) }
         ensures clients { KeepsAttached self.old.clients self.new.clients }
+        ensures layers { KeepsLayers (Call.Rmdir path.now) self.old.layers self.new.layers }
         ensures refused { IfOk result (λ reply. (errno : Errno) → reply ≡ Reply.Refused errno → self.new.layers ≡ self.old.layers) }
         ensures lowers { self.new.layers.lowers ≡ self.old.layers.lowers }
         ensures thin { StaysThin self.old.layers self.new.layers }

@@ -7,6 +7,7 @@ ghost use Rattle.plain_model.specs.Layers.{Path as Names, Inode as HeldInode, Co
 ghost use Rattle.plain_model.specs.Machine.{State};
 ghost use Rattle.plain_model.specs.Refusals as refusals;
 ghost use Rattle.plain_model.specs.Refusals.{refusal, when};
+ghost use Rattle.layer_tree.specs.Tree.{layer_of, SameObjects};
 ghost use Rattle.merged_lookup.specs.declared.found.Topmost.TheVariants as topmost;
 ghost use Rattle.merged_lookup.specs.declared.stack.Place.{Place as ShownPlace};
 ghost use Rattle.merged_lookup.specs.Merged.{layers_of, parent, parents_fault, IsStackOf, IsTopmost, ShowsInode};
@@ -15,7 +16,7 @@ ghost use Rattle.mount_laws.specs.Opening.{opening_fault, shown_fault};
 ghost use Rattle.copy_up.specs.Leaves.{CopiesLeaf};
 ghost use Rattle.copy_up.specs.Showing.{GainsParents, StaysLayers, StaysMount, StaysThin};
 ghost use Rattle.mount_calls.specs.Attaching.{KeepsAttached};
-ghost use Rattle.mount_calls.specs.Keeping.{KeepsLayers};
+ghost use Rattle.mount_calls.specs.Keeping.{KeepsAround, KeepsLayers};
 ghost use Rattle.mount_calls.specs.Living.{KeepsNamed, StaysLive};
 ghost use Rattle.mount_calls.specs.Looking.{IsLook};
 ghost use Rattle.mount_calls.specs.Opening as opening;
@@ -117,6 +118,7 @@ impl Mount {
         ensures err { OnErr result (StaysState self.old self.new) }
         ensures clients { KeepsAttached self.old.clients self.new.clients }
         ensures layers { flags.truncate ≡ false → self.new.layers ≡ self.old.layers }
+        ensures objects { SameObjects (layer_of self.old.layers.upper) (layer_of self.new.layers.upper) }
         ensures refused { IfOk result (λ reply. (errno : Errno) → reply ≡ Reply.Refused errno → self.new.layers ≡ self.old.layers) }
         ensures lowers { self.new.layers.lowers ≡ self.old.layers.lowers }
         ensures thin { StaysThin self.old.layers self.new.layers }
@@ -161,6 +163,7 @@ impl Mount {
         ensures serves { IfOk result (λ reply. (s : State) → IsStateOf self.old s → Serves (refusal s client (Call.Open path.now flags mode)) s client (Call.Open path.now flags mode) reply self.new) }
         ensures err { OnErr result (StaysState self.old self.new) }
         ensures clients { KeepsAttached self.old.clients self.new.clients }
+        ensures around { KeepsAround self.old.layers self.new.layers path.now }
         ensures refused { IfOk result (λ reply. (errno : Errno) → reply ≡ Reply.Refused errno → self.new.layers ≡ self.old.layers) }
         ensures lowers { self.new.layers.lowers ≡ self.old.layers.lowers }
         ensures thin { StaysThin self.old.layers self.new.layers }
@@ -196,6 +199,7 @@ impl Mount {
         ensures serves { IfOk result (λ reply. (s : State) → IsStateOf self.old s → Serves (refusal s client (Call.Open path.now flags mode)) s client (Call.Open path.now flags mode) reply self.new) }
         ensures err { OnErr result (StaysState self.old self.new) }
         ensures clients { KeepsAttached self.old.clients self.new.clients }
+        ensures around { KeepsAround self.old.layers self.new.layers path.now }
         ensures refused { IfOk result (λ reply. (errno : Errno) → reply ≡ Reply.Refused errno → self.new.layers ≡ self.old.layers) }
         ensures lowers { self.new.layers.lowers ≡ self.old.layers.lowers }
         ensures thin { StaysThin self.old.layers self.new.layers }
@@ -288,6 +292,7 @@ fn bring_up(
     ensures copied { IfOk result (λ key. (i : HeldInode) → shows 0 (layers_of layers.old) path.now ≡ Some (Contents place.layer place.key (Some i)) → (leaf : CopiesLeaf layers.old layers.new path.now i.content i.attributes) × (leaf.number ≡ key)) }
     ensures mounts { OnErr result (StaysMount layers.old layers.new) }
     ensures parents { OnErr result (GainsParents layers.old layers.new path.now) }
+    ensures around { KeepsAround layers.old layers.new path.now }
     ensures lowers { layers.new.lowers ≡ layers.old.lowers }
     ensures keeps { StaysLayers layers.old layers.new }
     ensures thin { StaysThin layers.old layers.new }

@@ -13,6 +13,7 @@ ghost use Rattle.copy_up.specs.Showing.{ShowsSame, StaysLayers, StaysMount, Stay
 ghost use Rattle.make_remove.specs.Removing.{TakesName};
 ghost use Rattle.plain_model.specs.Layers.{AreLayers, Inode as HeldInode};
 ghost use Rattle.notice_laws.specs.Objects.{IsObject};
+ghost use Rattle.mount_calls.specs.Keeping.{KeepsAround, KeepsRenamed};
 ghost use Rattle.mount_calls.specs.Living.{FreesClosed, KeepsHeld, StaysHeld, StaysLive};
 ghost use Rattle.mount_calls.specs.Renaming.{MovesOrStays, RefusesRenames};
 ghost use Rattle.mount_laws.specs.Renaming.{rename_fault};
@@ -40,6 +41,7 @@ pub(crate) fn unlink_and_free(
     ensures object { IfOk result (λ r. IfOk r (IsObject (layer_of layers.old.upper) (lowers_of layers.old) path.now)) }
     ensures takes { IfOk result (λ r. OnOk r (TakesName layers.old layers.new path.now)) }
     ensures steps { IfOk result (λ r. OnOk r ((s : State) → IsMountOf (layer_of layers.old.upper) (lowers_of layers.old) s → (c : ℕ) → Removes (layer_of layers.new.upper) (lowers_of layers.new) s c path.now (call.Unlink path.now))) }
+    ensures around { KeepsAround layers.old layers.new path.now }
     ensures keeps { StaysLayers layers.old layers.new }
     ensures thin { StaysThin layers.old layers.new }
     ensures no_memory { OnErr result (ShowsSame layers.old layers.new) }
@@ -70,6 +72,7 @@ pub(crate) fn rmdir_and_free(
     ensures bare { IfOk result (λ r. OnOk r (ShowsNoName (layers_of layers.old) path.now)) }
     ensures takes { IfOk result (λ r. OnOk r (TakesName layers.old layers.new path.now)) }
     ensures steps { IfOk result (λ r. OnOk r ((s : State) → IsMountOf (layer_of layers.old.upper) (lowers_of layers.old) s → (c : ℕ) → Removes (layer_of layers.new.upper) (lowers_of layers.new) s c path.now (call.Rmdir path.now))) }
+    ensures around { KeepsAround layers.old layers.new path.now }
     ensures keeps { StaysLayers layers.old layers.new }
     ensures thin { StaysThin layers.old layers.new }
     ensures no_memory { OnErr result (ShowsSame layers.old layers.new) }
@@ -100,6 +103,7 @@ pub(crate) fn rename_and_free(
     ensures unchanged { IfOk result (λ r. OnErr r (layers.new ≡ layers.old)) }
     ensures allowed { IfOk result (λ r. OnOk r (rename_fault (layer_of layers.old.upper) (lowers_of layers.old) redirects old.now new.now false ≡ None)) }
     ensures does { IfOk result (λ r. IfOk r (λ moved. MovesOrStays moved clients.now layers.old layers.new redirects old.now new.now)) }
+    ensures paths { KeepsRenamed layers.old layers.new old.now new.now }
     ensures lowers { layers.new.lowers ≡ layers.old.lowers }
     ensures keeps { StaysLayers layers.old layers.new }
     ensures thin { AreLayers (layers_of layers.old) → StaysThin layers.old layers.new }

@@ -7,6 +7,7 @@ ghost use Rattle.mount_laws.specs.Renaming.{is_one};
 ghost use Rattle.open_handles.specs.Renames.{IsSettled};
 ghost use Rattle.copy_up.specs.Showing.{StaysThin};
 ghost use Rattle.mount_calls.specs.Attaching.{KeepsAttached};
+ghost use Rattle.mount_calls.specs.Keeping.{KeepsLayers};
 ghost use Rattle.mount_calls.specs.Living.{KeepsNamed, StaysLive};
 ghost use Rattle.mount_calls.specs.States.{HasStateOf, IsStateOf, Serves, StaysState};
 ghost use Rattle.mount_calls.specs.Status.{outcome_reply};
@@ -31,6 +32,7 @@ impl Mount {
         ensures err { OnErr result (StaysState self.old self.new) }
         ensures clients { KeepsAttached self.old.clients self.new.clients }
         ensures settled { IsSettled self.old.clients.directories → IsSettled self.new.clients.directories }
+        ensures layers { KeepsLayers (Call.Rename old.now new.now) self.old.layers self.new.layers }
         ensures refused { IfOk result (λ outcome. OnErr outcome (self.new.layers ≡ self.old.layers)) }
         ensures lowers { self.new.layers.lowers ≡ self.old.layers.lowers }
         ensures thin { StaysThin self.old.layers self.new.layers }
@@ -73,6 +75,7 @@ impl Mount {
         ensures err { OnErr result (StaysState self.old self.new) }
         ensures clients { KeepsAttached self.old.clients self.new.clients }
         ensures settled { IsSettled self.old.clients.directories → IsSettled self.new.clients.directories }
+        ensures layers { KeepsLayers (Call.Rename old.now new.now) self.old.layers self.new.layers }
         ensures refused { IfOk result (λ reply. (errno : Errno) → reply ≡ Reply.Refused errno → self.new.layers ≡ self.old.layers) }
         ensures lowers { self.new.layers.lowers ≡ self.old.layers.lowers }
         ensures thin { StaysThin self.old.layers self.new.layers }

@@ -4,6 +4,7 @@ ghost use Rattle.plain_model.specs.Machine.{State};
 ghost use Rattle.plain_model.specs.Refusals.{refusal};
 ghost use Rattle.copy_up.specs.Showing.{StaysThin};
 ghost use Rattle.mount_calls.specs.Attaching.{KeepsAttached, file_by, opened_by};
+ghost use Rattle.mount_calls.specs.Keeping.{KeepsLayers};
 ghost use Rattle.mount_calls.specs.Living.{KeepsNamed, StaysLive};
 ghost use Rattle.mount_calls.specs.Opening.{write_fault, truncate_fault, written_key};
 ghost use Rattle.mount_calls.specs.States.{IsStateOf, Serves, StaysState};
@@ -29,6 +30,7 @@ impl Mount {
         ensures serves { IfOk result (λ reply. (s : State) → IsStateOf self.old s → Serves (refusal s client (Call.Write descriptor bytes.now)) s client (Call.Write descriptor bytes.now) reply self.new) }
         ensures err { OnErr result (StaysState self.old self.new) }
         ensures clients { KeepsAttached self.old.clients self.new.clients }
+        ensures layers { KeepsLayers (Call.Write descriptor bytes.now) self.old.layers self.new.layers }
         ensures refused { IfOk result (λ reply. (errno : Errno) → reply ≡ Reply.Refused errno → self.new.layers ≡ self.old.layers) }
         ensures lowers { self.new.layers.lowers ≡ self.old.layers.lowers }
         ensures thin { StaysThin self.old.layers self.new.layers }
@@ -86,6 +88,7 @@ impl Mount {
         ensures serves { IfOk result (λ reply. (s : State) → IsStateOf self.old s → Serves (refusal s client (Call.Truncate descriptor size)) s client (Call.Truncate descriptor size) reply self.new) }
         ensures err { OnErr result (StaysState self.old self.new) }
         ensures clients { self.new.clients ≡ self.old.clients }
+        ensures layers { KeepsLayers (Call.Truncate descriptor size) self.old.layers self.new.layers }
         ensures refused { IfOk result (λ reply. (errno : Errno) → reply ≡ Reply.Refused errno → self.new.layers ≡ self.old.layers) }
         ensures lowers { self.new.layers.lowers ≡ self.old.layers.lowers }
         ensures thin { StaysThin self.old.layers self.new.layers }

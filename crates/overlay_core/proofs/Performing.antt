@@ -1,5 +1,5 @@
 -- Calls that a mount makes and that answer that they are done, and what is kept for watches then.
-use Rattle.std.proofs.Common.{◌≡◌, ◌≢◌, ℕ, true, None, IsSome, is_some, sym, ap, subst, ◌∙◌}
+use Rattle.std.proofs.Common.{◌≡◌, ◌≢◌, ℕ, true, None, IsSome, is_some, refl, sym, ap, subst, ◌∙◌}
 use Rattle.std.specs.Prelude.{IfOk, OnErr, Result, Ok, Err}
 use mathlib.Core.Logic.{∥∥₁_map}
 use Rattle.ov_base.specs.declared.call.Call.{Call}
@@ -25,7 +25,8 @@ use Rattle.mount_calls.specs.Living.{KeepsNamed, StaysLive}
 use Rattle.mount_calls.specs.Offers.{is_offered}
 use Rattle.mount_calls.specs.States.{HasStateOf, IsStateOf, Serves, StaysState}
 use Rattle.mount_calls.specs.Status.{outcome_reply}
-use Rattle.overlay_core.specs.Watching.{Agrees, Goes, HasState, Stays}
+use Rattle.mount_calls.proofs.Frames.{same-layers}
+use Rattle.overlay_core.specs.Watching.{Agrees, Goes, HasState, Keeps, Stays}
 use Rattle.overlay_core.proofs.Watching.{goes, passes, stays, tracks-same, upper_of}
 
 -- what a call says that a mount made, and answered so
@@ -39,6 +40,15 @@ pub record Performed (c : ℕ) (k : Call) (r : Reply) (old new : Mount) : Type 0
 -- a mount with watches whose state is one has one that the mount stands for
 pub state-of : (m : Mount) (k : Notified) → ∥ HasState m k ∥₁ → ∥ HasStateOf m ∥₁
 state-of m k state = ∥∥₁_map state (λ x. (x.0, x.1.stands))
+
+-- a call leaves alone a mount that stays as it was
+pub keeps-same : (k : Call) (m : Mount) → Keeps k m m
+keeps-same k m = record {
+  clients = record { attached = λ n. refl; next = refl };
+  layers = same-layers k m.layers;
+  lowers = refl;
+  thin = λ h. h;
+}
 
 -- a call that the machine answers so, and that it does not refuse, is answered so
 pub answered : (s : State) (c : ℕ) (k : Call) (r : Reply) (new : Mount) → refusal s c k ≡ None → Serves (refusal s c k) s c k r new → r ≡ reply_of s c k

@@ -1,5 +1,5 @@
-use Rattle.std.proofs.Common.{IsSome, rules, sym}
-use Rattle.layer_tree.specs.Tree.{bytes_at, written}
+use Rattle.std.proofs.Common.{IsSome, rules, sym, subst}
+use Rattle.layer_tree.specs.Tree.{bytes_at, written, layer_of, SameObjects, Tree}
 use Rattle.mount_calls.proofs.Named.{written-files}
 use Rattle.mount_calls.proofs.Writings.{upper-written}
 use Rattle.mount_calls.proofs.file_bytes.write_file.Goals as goal
@@ -14,3 +14,6 @@ pub returns-clause-files : goal.returns-clause-files
 returns-clause-files c =
     let there : IsSome (bytes_at c.upper_mut.result.now c.in-Upper.key) = search rules in
     written-files c.upper_mut.result.now c.write.new.self c.in-Upper.key (λ old. written old c.args.start c.args.bytes.now) there c.write.ensures.objects_held c.args.layers.now (sym c.upper_mut.ensures.value) c.write.result c.write.ensures.sets c.write.ensures.err
+
+pub returns-clause-objects : goal.returns-clause-objects
+returns-clause-objects c = subst (λ (z : Tree). SameObjects (layer_of z) (layer_of c.write.new.self)) c.upper_mut.ensures.value c.write.ensures.objects_held

@@ -1,5 +1,6 @@
 use Rattle.std.proofs.Common.{true, false}
 use Rattle.mount_calls.proofs.Freed.{moves-then}
+use Rattle.mount_calls.proofs.Frames.{renames-moved, renames-parents, renames-same}
 use Rattle.mount_calls.proofs.removals.rename_and_free.Goals as goal
 
 pub returns-in-Ok-Directory-clause-does : goal.returns-in-Ok-Directory-clause-does
@@ -29,3 +30,24 @@ returns-in-Ok-Directory-clause-thin c = λ are h. c.free_released.ensures.thin (
 
 pub returns-in-Ok-Inode-clause-thin : goal.returns-in-Ok-Inode-clause-thin
 returns-in-Ok-Inode-clause-thin c = λ are h. c.free_released-in-Ok-Inode.ensures.thin (c.rename.ensures.thin are h)
+
+pub returns-in-Ok-Unchanged-clause-paths : goal.returns-in-Ok-Unchanged-clause-paths
+returns-in-Ok-Unchanged-clause-paths c =
+    let does = rw (c.in-Ok-Unchanged.is, c.in-Ok-Unchanged.field-0-is) at c.in_ok-rename.ensures.does in
+    renames-same c.args.layers.now c.rename.new.layers c.args.old.now c.args.new.now does.1
+
+pub returns-in-Ok-Directory-clause-paths : goal.returns-in-Ok-Directory-clause-paths
+returns-in-Ok-Directory-clause-paths c =
+    let does = rw (c.in-Ok-Directory.is, c.in-Ok-Directory.field-0-is) at c.in_ok-rename.ensures.does in
+    renames-moved c.args.layers.now c.rename.new.layers c.free_released.new.layers c.args.old.now c.args.new.now true _ does c.free_released.ensures.held
+
+pub returns-in-Ok-Inode-clause-paths : goal.returns-in-Ok-Inode-clause-paths
+returns-in-Ok-Inode-clause-paths c =
+    let does = rw (c.in-Ok-Inode.is, c.in-Ok-Inode.field-0-is) at c.in_ok-rename.ensures.does in
+    renames-moved c.args.layers.now c.rename.new.layers c.free_released-in-Ok-Inode.new.layers c.args.old.now c.args.new.now false _ does c.free_released-in-Ok-Inode.ensures.held
+
+pub returns-in-Err-clause-paths : goal.returns-in-Err-clause-paths
+returns-in-Err-clause-paths c = renames-same c.args.layers.now c.rename.new.layers c.args.old.now c.args.new.now (rw c.in-Err.is at c.in_ok-rename.ensures.unchanged)
+
+pub returns-in_err-rename-clause-paths : goal.returns-in_err-rename-clause-paths
+returns-in_err-rename-clause-paths c = renames-parents c.args.layers.now c.rename.new.layers c.args.old.now c.args.new.now c.in_err-rename.ensures.apart c.in_err-rename.ensures.parents

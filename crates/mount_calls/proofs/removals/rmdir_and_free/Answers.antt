@@ -1,6 +1,7 @@
 use Rattle.ov_base.specs.declared.call.Call.TheVariants as call
 use Rattle.mount_calls.proofs.Freed.{takes-then, removes-then}
 use Rattle.mount_calls.proofs.Lasting.{rmdir-held}
+use Rattle.mount_calls.proofs.Frames.{around-same, around-others, around-parents}
 use Rattle.mount_calls.proofs.removals.rmdir_and_free.Goals as goal
 
 pub returns-in-Ok-clause-takes : goal.returns-in-Ok-clause-takes
@@ -19,3 +20,14 @@ pub returns-in-Ok-clause-live : goal.returns-in-Ok-clause-live
 returns-in-Ok-clause-live c = λ s m client d k some on live.
     c.free_released.ensures.live _ d k some
     (rmdir-held c.args.path.now c.args.clients.now c.args.layers.now c.rmdir.new.layers c.in-Ok.key (rw c.in-Ok.is at c.in_ok-key.ensures.takes) (rw c.in-Ok.is at c.in_ok-key.ensures.unnames) (rw c.in-Ok.is at c.in_ok-key.ensures.steps) s m client d k some on live)
+
+pub returns-in-Ok-clause-around : goal.returns-in-Ok-clause-around
+returns-in-Ok-clause-around c =
+    let taken = returns-in-Ok-clause-takes c in
+    around-others c.args.layers.now c.free_released.new.layers c.args.path.now taken.others
+
+pub returns-in-Err-clause-around : goal.returns-in-Err-clause-around
+returns-in-Err-clause-around c = around-same c.args.layers.now c.rmdir.new.layers c.args.path.now (rw c.in-Err.is at c.in_ok-key.ensures.unchanged)
+
+pub returns-in_err-key-clause-around : goal.returns-in_err-key-clause-around
+returns-in_err-key-clause-around c = around-parents c.args.layers.now c.rmdir.new.layers c.args.path.now c.in_err-key.ensures.parents

@@ -1,6 +1,8 @@
 use Rattle.ov_base.specs.declared.call.Call.TheVariants as call
 use Rattle.mount_calls.proofs.Freed.{takes-then, removes-then}
 use Rattle.mount_calls.proofs.Lasting.{unlink-held}
+use Rattle.std.proofs.Common.{refl}
+use Rattle.mount_calls.proofs.Frames.{around-same, around-others, around-parents}
 use Rattle.mount_calls.proofs.removals.unlink_and_free.Goals as goal
 
 pub returns-clause-takes : goal.returns-clause-takes
@@ -19,3 +21,12 @@ pub returns-clause-live : goal.returns-clause-live
 returns-clause-live c = λ s m client d k some on live.
     c.free_released.ensures.live _ d k some
     (unlink-held c.args.path.now c.args.clients.now c.args.layers.now c.unlink.new.layers c.in_ok-key.key c.in_ok-key.ensures.takes c.in_ok-key.ensures.unnames c.in_ok-key.ensures.steps s m client d k some on live)
+
+pub returns-in-Err-clause-around : goal.returns-in-Err-clause-around
+returns-in-Err-clause-around c = around-same c.args.layers.now c.args.layers.now c.args.path.now refl
+
+pub returns-in_err-key-clause-around : goal.returns-in_err-key-clause-around
+returns-in_err-key-clause-around c = around-parents c.args.layers.now c.unlink.new.layers c.args.path.now c.in_err-key.ensures.parents
+
+pub returns-clause-around : goal.returns-clause-around
+returns-clause-around c = around-others c.args.layers.now c.free_released.new.layers c.args.path.now (returns-clause-takes c).others

@@ -6,6 +6,7 @@ use Rattle.merged_lookup.specs.Merged.{lowers_of}
 use Rattle.mount_calls.proofs.Changing.{link-done, no-memory, refused}
 use Rattle.mount_calls.proofs.Lasting.{both-live, link-live, link-leaves}
 use Rattle.mount_calls.proofs.Named.{keeps-named, refused-named}
+use Rattle.mount_calls.proofs.Frames.{but-parents, but-same}
 use Rattle.mount_calls.proofs.mount.Mount.link.Goals as goal
 
 pub returns-in-Ok-clause-serves : goal.returns-in-Ok-clause-serves
@@ -37,3 +38,14 @@ returns-in-Ok-clause-named c = λ s st client fine.
 
 pub returns-in-Err-clause-named : goal.returns-in-Err-clause-named
 returns-in-Err-clause-named c = λ s st client fine. refused-named c.args.self.now.layers s client (call.Hardlink c.args.old.now c.args.new.now) c.in-Err.errno (record c.args.self.now { layers = c.link.new.layers }) refl (returns-in-Err-clause-serves c s st client) fine
+
+pub returns-in-Ok-clause-layers : goal.returns-in-Ok-clause-layers
+returns-in-Ok-clause-layers c =
+    let linked = rw c.in-Ok.is at c.in_ok-link.ensures.linked in
+    linked.paths
+
+pub returns-in-Err-clause-layers : goal.returns-in-Err-clause-layers
+returns-in-Err-clause-layers c = but-same c.args.self.now.layers c.link.new.layers c.args.old.now c.args.new.now (rw c.in-Err.is at c.in_ok-link.ensures.unchanged)
+
+pub returns-in_err-link-clause-layers : goal.returns-in_err-link-clause-layers
+returns-in_err-link-clause-layers c = but-parents c.args.self.now.layers c.link.new.layers c.args.old.now c.args.new.now c.in_err-link.ensures.parents

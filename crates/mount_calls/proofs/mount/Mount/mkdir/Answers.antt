@@ -7,6 +7,7 @@ use Rattle.mount_calls.proofs.Parsed.{mode-fault}
 use Rattle.mount_calls.proofs.Changing.{mkdir-done, no-memory, refused}
 use Rattle.mount_calls.proofs.Lasting.{mkdir-live, mkdir-leaves, parents-live}
 use Rattle.mount_calls.proofs.Named.{keeps-named, refused-named}
+use Rattle.mount_calls.proofs.Frames.{around-same, around-others, around-parents}
 use Rattle.mount_calls.proofs.mount.Mount.mkdir.Goals as goal
 
 pub returns-in-Err-clause-serves : goal.returns-in-Err-clause-serves
@@ -49,3 +50,17 @@ returns-in-Ok-2-clause-named c = λ s st client fine.
 
 pub returns-in-Err-2-clause-named : goal.returns-in-Err-2-clause-named
 returns-in-Err-2-clause-named c = λ s st client fine. refused-named c.args.self.now.layers s client (call.Mkdir c.args.path.now c.args.mode) c.in-Err-2.errno (record c.args.self.now { layers = c.mkdir.new.layers }) refl (returns-in-Err-2-clause-serves c s st client) fine
+
+pub returns-in-Err-clause-layers : goal.returns-in-Err-clause-layers
+returns-in-Err-clause-layers c = around-same c.args.self.now.layers c.args.self.now.layers c.args.path.now refl
+
+pub returns-in-Ok-2-clause-layers : goal.returns-in-Ok-2-clause-layers
+returns-in-Ok-2-clause-layers c =
+    let made = rw c.in-Ok-2.is at c.in_ok-mkdir.ensures.made in
+    around-others c.args.self.now.layers c.mkdir.new.layers c.args.path.now made.others
+
+pub returns-in-Err-2-clause-layers : goal.returns-in-Err-2-clause-layers
+returns-in-Err-2-clause-layers c = around-same c.args.self.now.layers c.mkdir.new.layers c.args.path.now (rw c.in-Err-2.is at c.in_ok-mkdir.ensures.unchanged)
+
+pub returns-in_err-mkdir-clause-layers : goal.returns-in_err-mkdir-clause-layers
+returns-in_err-mkdir-clause-layers c = around-parents c.args.self.now.layers c.mkdir.new.layers c.args.path.now c.in_err-mkdir.ensures.parents

@@ -11,6 +11,8 @@ use Rattle.ov_base.specs.declared.reply.Reply.TheVariants as reply
 use Rattle.mount_calls.specs.Living.{KeepsFiles}
 use Rattle.mount_calls.proofs.Named.{open-paths, refused-named, stays-named}
 use Rattle.mount_calls.proofs.Stating.{the_lowers, the_upper}
+use Rattle.mount_calls.proofs.Frames.{around-same, around-then}
+use Rattle.mount_calls.proofs.Lasting.{parents-live}
 use Rattle.mount_calls.proofs.mount.Mount.open_copied.Goals as goal
 use Rattle.mount_calls.proofs.mount.Mount.open_copied.Goals.{then-flags+in_ok-resize_file, else-flags}
 
@@ -70,3 +72,29 @@ returns-clause-named c = λ s st fine.
     stays-named c.args.self.now.layers (record c.if-flags.self { clients = c.open_reserved.new.self }) s c.args.client (call.Open c.args.path.now c.args.flags c.args.mode) (reply.Descriptor c.open_reserved.result) (returns-clause-serves c s st) fine
     (open-paths (the_upper c.args.self.now) (the_lowers c.args.self.now) s st.layers c.args.client c.args.path.now c.args.flags c.args.mode fine (ap is_some c.requires.shown.shown))
     files
+
+pub returns-in_err-errno-clause-around : goal.returns-in_err-errno-clause-around
+returns-in_err-errno-clause-around c = around-same c.args.self.now.layers c.args.self.now.layers c.args.path.now refl
+
+pub returns-in-Err-clause-around : goal.returns-in-Err-clause-around
+returns-in-Err-clause-around c = around-same c.args.self.now.layers c.args.self.now.layers c.args.path.now refl
+
+pub returns-clause-around : goal.returns-clause-around
+returns-clause-around c = elim c.if-flags.branch [
+  | then-flags+in_ok-resize_file w ↦
+      rw w.self-is
+      (around-then c.args.self.now.layers c.bring_up.new.layers w.resize_file.new.layers c.args.path.now w.resize_file.ensures.objects c.bring_up.ensures.around)
+  | else-flags w ↦ rw w.self-is c.bring_up.ensures.around
+]
+
+pub returns-in_err-key-clause-stays_live : goal.returns-in_err-key-clause-stays_live
+returns-in_err-key-clause-stays_live c =
+    on-err c.from_residual-in_err-key.result _
+    (parents-live c.args.self.now.layers c.bring_up.new.layers c.args.path.now c.in_err-key.ensures.parents)
+
+pub returns-clause-thin : goal.returns-clause-thin
+returns-clause-thin c =
+    elim c.if-flags.branch [
+      | then-flags+in_ok-resize_file w ↦ rw w.self-is (λ h. w.resize_file.ensures.thin (c.bring_up.ensures.thin h))
+      | else-flags w ↦ rw w.self-is c.bring_up.ensures.thin
+    ]

@@ -8,6 +8,7 @@ use Rattle.mount_calls.proofs.Makings.{none-holds, reserved-state, reserve-full,
 use Rattle.ov_base.specs.declared.call.Call.TheVariants as call
 use Rattle.mount_calls.proofs.Lasting.{create-live}
 use Rattle.mount_calls.proofs.Named.{keeps-named, refused-named}
+use Rattle.mount_calls.proofs.Frames.{around-same, around-others, around-parents}
 use Rattle.mount_calls.proofs.mount.Mount.open_made.Goals as goal
 
 pub returns-in_err-errno-clause-err : goal.returns-in_err-errno-clause-err
@@ -37,3 +38,15 @@ pub returns-clause-named : goal.returns-clause-named
 returns-clause-named c = λ s st fine.
     keeps-named c.args.self.now.layers c.create.new.layers (call.Open c.args.path.now c.args.flags c.args.mode)
     (create-live c.args.self.now.layers c.create.new.layers c.args.path.now c.args.mode c.in_ok-key.ensures.made.0 c.in_ok-key.ensures.steps c.args.flags) s st.layers c.args.client
+
+pub returns-in_err-errno-clause-around : goal.returns-in_err-errno-clause-around
+returns-in_err-errno-clause-around c = around-same c.args.self.now.layers c.args.self.now.layers c.args.path.now refl
+
+pub returns-in-Err-clause-around : goal.returns-in-Err-clause-around
+returns-in-Err-clause-around c = around-same c.args.self.now.layers c.args.self.now.layers c.args.path.now refl
+
+pub returns-in_err-key-clause-around : goal.returns-in_err-key-clause-around
+returns-in_err-key-clause-around c = around-parents c.args.self.now.layers c.create.new.layers c.args.path.now c.in_err-key.ensures.parents
+
+pub returns-clause-around : goal.returns-clause-around
+returns-clause-around c = around-others c.args.self.now.layers c.create.new.layers c.args.path.now c.in_ok-key.ensures.made.0.others

@@ -74,3 +74,9 @@ returns-after-flags-clause-named c = λ s st fine.
 
 pub returns-in-Err-2-clause-named : goal.returns-in-Err-2-clause-named
 returns-in-Err-2-clause-named c = λ s st fine. refused-named c.args.self.now.layers s c.args.client (call.Open c.args.path.now c.args.flags c.args.mode) c.in-Err-2.errno (record c.args.self.now { clients = c.open_file.new.self }) refl (returns-in-Err-2-clause-serves c s st) fine
+
+pub returns-after-flags-clause-objects : goal.returns-after-flags-clause-objects
+returns-after-flags-clause-objects c = elim c.if-flags.branch [
+  | then-flags+in_ok-resize_file-in-Ok-2 w ↦ rw w.self-is w.resize_file.ensures.objects
+  | else-flags w ↦ rw w.self-is (λ x. refl)
+]

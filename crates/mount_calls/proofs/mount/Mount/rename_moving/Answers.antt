@@ -7,6 +7,7 @@ use Rattle.mount_calls.proofs.Answering.{on-err}
 use Rattle.mount_calls.proofs.Renaming.{bare-below, outside, rename-done, rename-refused, rename-same, rename-same-named, rename-wanted, replaced-copied, same-state, same-then, thin-on, to-path}
 use Rattle.mount_calls.proofs.Stating.{the_lowers, the_upper}
 use Rattle.mount_calls.proofs.Named.{refused-named}
+use Rattle.mount_calls.proofs.Frames.{renames-same}
 use Rattle.mount_calls.proofs.mount.Mount.rename_moving.Goals as goal
 
 pub returns-in_err-prepare_rename-clause-err : goal.returns-in_err-prepare_rename-clause-err
@@ -92,3 +93,9 @@ returns-in-Ok-Ok-false-clause-named c = λ s st client fine.
 
 pub returns-in-Ok-Err-clause-named : goal.returns-in-Ok-Err-clause-named
 returns-in-Ok-Err-clause-named c = λ s st client fine. refused-named c.args.self.now.layers s client (call.Rename c.args.old.now c.args.new.now) c.in-Ok-Err.errno (record c.args.self.now { layers = c.rename_and_free.new.layers; clients = c.cancel_rename-in-Ok-Err.new.self }) refl (returns-in-Ok-Err-clause-serves c s st client) fine
+
+pub returns-in_err-replaced-clause-layers : goal.returns-in_err-replaced-clause-layers
+returns-in_err-replaced-clause-layers c = renames-same c.args.self.now.layers c.args.self.now.layers c.args.old.now c.args.new.now refl
+
+pub returns-in_err-prepare_rename-clause-layers : goal.returns-in_err-prepare_rename-clause-layers
+returns-in_err-prepare_rename-clause-layers c = renames-same c.args.self.now.layers c.args.self.now.layers c.args.old.now c.args.new.now refl

@@ -6,6 +6,7 @@ use Rattle.merged_lookup.specs.Merged.{lowers_of}
 use Rattle.mount_calls.proofs.Changing.{none-below, rmdir-open, rmdir-unopened, no-memory, refused}
 use Rattle.mount_calls.proofs.Lasting.{rmdir-leaves}
 use Rattle.mount_calls.proofs.Named.{refused-named, removes-named}
+use Rattle.mount_calls.proofs.Frames.{around-same}
 use Rattle.mount_calls.proofs.mount.Mount.rmdir.Goals as goal
 use Rattle.mount_calls.proofs.mount.Mount.rmdir.Goals.{in-Some, in_default}
 
@@ -44,3 +45,11 @@ returns-after-attributes-3-clause-named c = λ s st client fine.
 
 pub returns-in-Err-clause-named : goal.returns-in-Err-clause-named
 returns-in-Err-clause-named c = λ s st client fine. refused-named c.args.self.now.layers s client (call.Rmdir c.args.path.now) c.in-Err.errno (record c.args.self.now { layers = c.rmdir_and_free.new.layers }) refl (returns-in-Err-clause-serves c s st client) fine
+
+pub returns-in_err-attributes-clause-layers : goal.returns-in_err-attributes-clause-layers
+returns-in_err-attributes-clause-layers c = around-same c.args.self.now.layers c.args.self.now.layers c.args.path.now refl
+
+pub returns-after-attributes-3-clause-layers : goal.returns-after-attributes-3-clause-layers
+returns-after-attributes-3-clause-layers c =
+    let around = c.rmdir_and_free.ensures.around in
+    elim c.match-attributes-3.branch [ in-Some w ↦ rw w.self-is around | in_default w ↦ rw w.self-is around ]

@@ -7,6 +7,7 @@ use Rattle.mount_calls.proofs.Parsed.{target-fault}
 use Rattle.mount_calls.proofs.Changing.{symlink-done, no-memory, refused}
 use Rattle.mount_calls.proofs.Lasting.{symlink-live, symlink-leaves, parents-live}
 use Rattle.mount_calls.proofs.Named.{keeps-named, refused-named}
+use Rattle.mount_calls.proofs.Frames.{around-same, around-others, around-parents}
 use Rattle.mount_calls.proofs.mount.Mount.symlink.Goals as goal
 
 pub returns-in-Err-clause-serves : goal.returns-in-Err-clause-serves
@@ -49,3 +50,20 @@ returns-in-Ok-2-clause-named c = λ s st client fine.
 
 pub returns-in-Err-2-clause-named : goal.returns-in-Err-2-clause-named
 returns-in-Err-2-clause-named c = λ s st client fine. refused-named c.args.self.now.layers s client (call.Symlink c.args.target.now c.args.path.now) c.in-Err-2.errno (record c.args.self.now { layers = c.symlink.new.layers }) refl (returns-in-Err-2-clause-serves c s st client) fine
+
+pub returns-in_err-clone-clause-layers : goal.returns-in_err-clone-clause-layers
+returns-in_err-clone-clause-layers c = around-same c.args.self.now.layers c.args.self.now.layers c.args.path.now refl
+
+pub returns-in-Err-clause-layers : goal.returns-in-Err-clause-layers
+returns-in-Err-clause-layers c = around-same c.args.self.now.layers c.args.self.now.layers c.args.path.now refl
+
+pub returns-in-Ok-2-clause-layers : goal.returns-in-Ok-2-clause-layers
+returns-in-Ok-2-clause-layers c =
+    let made = rw c.in-Ok-2.is at c.in_ok-symlink.ensures.made in
+    around-others c.args.self.now.layers c.symlink.new.layers c.args.path.now made.others
+
+pub returns-in-Err-2-clause-layers : goal.returns-in-Err-2-clause-layers
+returns-in-Err-2-clause-layers c = around-same c.args.self.now.layers c.symlink.new.layers c.args.path.now (rw c.in-Err-2.is at c.in_ok-symlink.ensures.unchanged)
+
+pub returns-in_err-symlink-clause-layers : goal.returns-in_err-symlink-clause-layers
+returns-in_err-symlink-clause-layers c = around-parents c.args.self.now.layers c.symlink.new.layers c.args.path.now c.in_err-symlink.ensures.parents

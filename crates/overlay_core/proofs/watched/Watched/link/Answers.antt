@@ -11,7 +11,7 @@ use Rattle.notice_laws.specs.Notified.{Passes, Resumes}
 use Rattle.notice_laws.specs.Objects.{IsObject}
 use Rattle.mount_calls.specs.Offers.{is_offered}
 use Rattle.overlay_core.specs.Watching.{Agrees, Goes, HasState, Stays}
-use Rattle.overlay_core.proofs.Performing.{agrees-room, goes-done, goes-refused, on-err, passing, performed, state-of}
+use Rattle.overlay_core.proofs.Performing.{agrees-room, goes-done, goes-refused, on-err, passing, performed, state-of, keeps-same}
 use Rattle.overlay_core.proofs.Watching.{allowed-by, stays, upper_of}
 use Rattle.notice_laws.proofs.Lifting.{law_of_linked}
 use Rattle.overlay_core.proofs.Lifted.{free-key, free-squashed, lifted-key, linked-file, linked-leads}
@@ -77,3 +77,6 @@ returns-clause-goes g c = λ s a.
     a.tracks c.lawful-2.ensures.known c.linked.ensures)) in
     subst (λ r. Goes g.R.Rule.shows old mid c.args.client (Called c.args.call.now r) new to) c.in-Done.is goes s
     (subst (λ k. Agrees old k s) (sym c.prepare_lift.ensures.rest) (agrees-room c.args.self.now.notifier mid.objects c.prepare_lift.ensures.same c.lawful.ensures.known old s a))
+
+pub returns-in_err-prepare_lift-clause-kept : goal.returns-in_err-prepare_lift-clause-kept
+returns-in_err-prepare_lift-clause-kept g c = keeps-same c.args.call.now c.args.self.now.mount

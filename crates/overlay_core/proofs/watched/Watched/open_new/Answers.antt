@@ -3,7 +3,7 @@ use Rattle.ov_base.specs.declared.call.Call.TheVariants.{Open}
 use Rattle.overlay_core.specs.Watching.{Stays}
 use Rattle.overlay_core.proofs.Opens.{attached-tracked, back-agrees, back-tracks, free-watched}
 use Rattle.overlay_core.proofs.OpensTold.{goes-made, goes-unopened, made-vacant}
-use Rattle.overlay_core.proofs.Performing.{Performed, on-err, state-of}
+use Rattle.overlay_core.proofs.Performing.{Performed, on-err, state-of, keeps-same}
 use Rattle.overlay_core.proofs.Watching.{stays, upper_of}
 use Rattle.overlay_core.proofs.watched.Watched.open_new.Goals as goal
 
@@ -82,3 +82,6 @@ returns-clause-goes g c =
     c.args.descriptor ready c.requires.free c.key_opened-key.result c.key_opened-key.ensures
     (λ e refused. let no = sym c.in-Descriptor.is ∙ refused in cc) c.opened_new.new.self c.lawful-3.ensures.known
     (c.opened_new.ensures from ready)
+
+pub returns-in_err-prepared-clause-kept : goal.returns-in_err-prepared-clause-kept
+returns-in_err-prepared-clause-kept g c = keeps-same (Open c.args.path.now c.args.flags c.args.mode) c.args.self.now.mount

@@ -7,7 +7,7 @@ use Rattle.notice_laws.specs.Notified.{Notified}
 use Rattle.mount_calls.specs.Offers.{is_offered}
 use Rattle.mount_calls.specs.Status.{outcome_reply}
 use Rattle.overlay_core.proofs.MovesHeld.{given-up, held-for}
-use Rattle.overlay_core.proofs.Performing.{goes-refused-each, performed-outcome, state-of, stays-err}
+use Rattle.overlay_core.proofs.Performing.{goes-refused-each, performed-outcome, state-of, stays-err, keeps-same}
 use Rattle.overlay_core.proofs.RenamesTold.{as-called, back-agrees, clients-counted, goes-given-up, goes-moved, goes-same, moved-told, moving-free, moving-place, never-root, split-empty, stays-given-up}
 use Rattle.overlay_core.proofs.watched.Watched.rename.Goals as goal
 
@@ -132,3 +132,6 @@ returns-in-Err-rename_moving-clause-err g c =
     (given-up c.prepare_move-prepared.new.self c.cancel_move-in-Err-rename_moving.new.self c.cancel_move-in-Err-rename_moving.ensures.rest c.cancel_move-in-Err-rename_moving.ensures.fewer
     c.cancel_move-in-Err-rename_moving.ensures.unpinned c.lawful-in-Err-rename_moving.ensures.known c.lawful-in-Err-rename_moving.ensures.counts c.lawful-in-Err-rename_moving.ensures.held)
     c.in-Err-rename_moving.ensures.err c.in-Err-rename_moving.ensures.stays_live
+
+pub returns-in-Err-clause-kept : goal.returns-in-Err-clause-kept
+returns-in-Err-clause-kept g c = keeps-same c.args.call.now c.args.self.now.mount

@@ -1,0 +1,136 @@
+-- What calls leave of what the upper holds at each path.
+use Rattle.std.proofs.Common.{◌≡◌, ◌≢◌, ◌⊎◌, ℕ, Bool, true, false, cond, ◌||◌, ◌&&◌, is_none, [], ◌∷◌, ◌++◌, Option, None, refl, sym, ap, ◌∙◌, subst, inl, inr, arith, length, length-append}
+use Rattle.std.proofs.lemmas.Bool.{false≢true}
+use Rattle.ov_base.specs.declared.call.Call.{Call}
+use Rattle.ov_base.specs.declared.call.Call.TheVariants as call
+use Rattle.ov_base.specs.declared.call.OpenFlags.{OpenFlags}
+use Rattle.plain_model.specs.Layers.{Name, Path, held, shows}
+use Rattle.plain_model.specs.Laws.{IsOutside}
+use Rattle.plain_model.specs.Refusals.{bad_flags}
+use Rattle.mount_laws.specs.Moving.{Follows}
+use Rattle.layer_tree.specs.Tree.{layer_of, SameObjects}
+use Rattle.merged_lookup.specs.declared.layers.Layers.{Layers}
+use Rattle.merged_lookup.specs.Merged.{layers_of}
+use Rattle.copy_up.specs.Showing.{GainsParents, KeepsOthers, KeepsPath}
+use Rattle.make_remove.proofs.Unnaming.{own-parent}
+use Rattle.rename_redirect.specs.Linking.{GainsBoth}
+use Rattle.rename_redirect.specs.Renaming.{is_one, KeepsMoved, Moves}
+use Rattle.rename_redirect.proofs.Gained.{gains-paths, parent-then, path-then}
+use Rattle.mount_calls.specs.Keeping.{KeepsAround, KeepsBut, KeepsLayers, KeepsRenamed}
+
+-- no path below p is one of its parents
+below-parent : (old new : Layers) (p : Path) (n : Name) (r : Path) → KeepsPath old new p (n ∷ r ++ p) → held (layer_of new.upper) (n ∷ r ++ p) ≡ held (layer_of old.upper) (n ∷ r ++ p)
+below-parent old new p n r (inl e) = e
+below-parent old new p n r (inr g) =
+    let a = ap length g.parent.2 in
+    let b = length-append g.parent.1 (n ∷ r ++ p) in
+    let c = length-append r p in
+    absurd (omega (arith, a, b, c))
+
+-- what only p changes is kept around it
+pub around-paths : (old new : Layers) (p : Path) → ((x : Path) → x ≢ p → KeepsPath old new p x) → KeepsAround old new p
+around-paths old new p paths = record {
+  outside = λ x out. paths x (λ e. out [] e);
+  below = λ n r. inl (below-parent old new p n r (paths (n ∷ r ++ p) (longer n r)));
+}
+  where
+    longer : (n : Name) (r : Path) → n ∷ r ++ p ≢ p
+    longer n r e =
+        let a = ap length e in
+        let b = length-append r p in
+        absurd (omega (arith, a, b))
+
+-- so are parents of it that are gained
+pub around-parents : (old new : Layers) (p : Path) → GainsParents old new p → KeepsAround old new p
+around-parents old new p g = around-paths old new p (λ x off. g.paths x)
+
+-- and what does not change
+pub around-same : (old new : Layers) (p : Path) → new ≡ old → KeepsAround old new p
+around-same old new p e = around-paths old new p (λ x off. inl (ap (λ (l : Layers). held (layer_of l.upper) x) e))
+
+-- what is made or removed at p changes nothing around it
+pub around-others : (old new : Layers) (p : Path) → KeepsOthers old new p → KeepsAround old new p
+around-others old new p k = record { outside = k.paths; below = λ n r. inr (k.bare n r, k.below n r) }
+
+-- nor does what leaves every path as it is
+pub around-then : (a b c : Layers) (p : Path) → SameObjects (layer_of b.upper) (layer_of c.upper) → KeepsAround a b p → KeepsAround a c p
+around-then a b c p same k = record {
+  outside = λ x out. path-then a b c p x (same x) (k.outside x out);
+  below = λ n r. elim (k.below n r) [ inl e ↦ inl (same (n ∷ r ++ p) ∙ e) | inr z ↦ inr (z.0, same (n ∷ r ++ p) ∙ z.1) ];
+}
+
+-- parents of two paths that are gained are all that a link gains that wants memory
+pub but-parents : (old new : Layers) (p q : Path) → GainsBoth old new p q → KeepsBut old new p q
+but-parents old new p q g = λ x a b. gains-paths old new p q g x
+
+-- a link that is refused gains nothing
+pub but-same : (old new : Layers) (p q : Path) → new ≡ old → KeepsBut old new p q
+but-same old new p q e = λ x a b. inl (inl (ap (λ (l : Layers). held (layer_of l.upper) x) e))
+
+-- one or the other holds where both do
+pub either : (b : Bool) (A B : Type 0) → A → B → cond b A B
+either true A B a c = a
+either false A B a c = c
+
+-- where the first of two tests decides for what holds, or both hold
+pub unless-first : (b c : Bool) (A B : Type 0) → A → (b ≡ false → B) → cond (b || c) A B
+unless-first true c A B a d = a
+unless-first false c A B a d = either c A B a (d refl)
+
+-- an open that doesn't write cuts no file
+pub reads-whole : (f : OpenFlags) → bad_flags f ≡ false → f.writes ≡ false → f.truncate ≡ false
+reads-whole f good off = grind arith
+
+-- a rename of one object
+pub renames-same : (old new : Layers) (p q : Path) → new ≡ old → KeepsRenamed old new p q
+renames-same old new p q e = record { one = λ h. e; paths = inr (λ x. inl (ap (λ (l : Layers). held (layer_of l.upper) x) e)) }
+
+-- a rename that wants memory gains parents at most
+pub renames-parents : (old new : Layers) (p q : Path) → is_one (layer_of old.upper) p q ≡ false → GainsBoth old new p q → KeepsRenamed old new p q
+renames-parents old new p q apart g = record { one = λ h. absurd (false≢true (sym apart ∙ h)); paths = inr (λ x. by x (gains-paths old new p q g x)) }
+  where
+    by : (x : Path) → KeepsPath old new p x ⊎ KeepsPath old new q x → KeepsMoved old new p q x x
+    by x (inl (inl e)) = inl e
+    by x (inl (inr h)) = inr (inl h)
+    by x (inr (inl e)) = inl e
+    by x (inr (inr h)) = inr (inr h)
+
+-- what moved took what the upper held along, also once what lost its last name is freed
+pub renames-moved : (a b c : Layers) (p q : Path) (directory : Bool) (released : Option ℕ) → Moves a b p q directory released → SameObjects (layer_of b.upper) (layer_of c.upper) → KeepsRenamed a c p q
+renames-moved a b c p q directory released moves same = record {
+  one = λ h. absurd (false≢true (sym moves.apart ∙ h));
+  paths = inl (λ x y f off. by x y (moves.over.paths x y f off));
+}
+  where
+    by : (x y : Path) → KeepsMoved a b p q x y → KeepsMoved a c p q x y
+    by x y (inl e) = inl (same y ∙ e)
+    by x y (inr (inl g)) = inr (inl (parent-then a b c p x x refl (same x) g))
+    by x y (inr (inr g)) = inr (inr (parent-then a b c q x x refl (same x) g))
+
+-- layers that stay the very same are kept so by each call
+pub same-layers : (k : Call) (l : Layers) → KeepsLayers k l l
+same-layers (call.Stat p) l = refl
+same-layers (call.Readlink p) l = refl
+same-layers (call.Chmod p mode) l = around-same l l p refl
+same-layers (call.Chown p uid gid) l = around-same l l p refl
+same-layers (call.SetAttribute p n v) l = around-same l l p refl
+same-layers (call.GetAttribute p n) l = refl
+same-layers (call.DeleteAttribute p n) l = around-same l l p refl
+same-layers (call.ListAttributes p) l = refl
+same-layers (call.Mkdir p mode) l = around-same l l p refl
+same-layers (call.Symlink target p) l = around-same l l p refl
+same-layers (call.Unlink p) l = around-same l l p refl
+same-layers (call.Rmdir p) l = around-same l l p refl
+same-layers (call.Hardlink p q) l = but-same l l p q refl
+same-layers (call.Rename p q) l = renames-same l l p q refl
+same-layers (call.Open p f mode) l = either (f.writes || (f.create && is_none (shows 0 (layers_of l) p))) (KeepsAround l l p) (l ≡ l) (around-same l l p refl) refl
+same-layers (call.Read d n) l = refl
+same-layers (call.Write d bytes) l = λ x. refl
+same-layers (call.Seek d offset whence) l = refl
+same-layers (call.Truncate d size) l = λ x. refl
+same-layers (call.Fstat d) l = refl
+same-layers (call.ListNames d n) l = refl
+same-layers (call.Close d) l = record { lowers = refl; objects = λ x. refl; inodes = λ x k h. refl }
+same-layers (call.Arm slot p mask) l = refl
+same-layers (call.Disarm watch) l = refl
+same-layers (call.TakeNotices n) l = refl
