@@ -25,6 +25,15 @@ fn path_of(alloc: Global, text: &str) -> Result<Path> {
     path.ok().context("not a path")
 }
 
+fn report(rt: &HostRuntime, reply: Reply) -> Result<()> {
+    if let Reply::Unread(notices) = reply {
+        for notice in notices.as_slice() {
+            println!(rt; "watch {} heard {:x}", notice.watch, notice.mask)?;
+        }
+    }
+    Ok(())
+}
+
 // README: begin
 // An empty upper layer over a lower one with a file.
 const LAYERS: &str = r#"layer = [{}, { entry = [{ path = "/motd", kind = "file" }] }]"#;
@@ -44,22 +53,26 @@ fn main(rt: HostRuntime) -> Result<()> {
 fn session<F: Callback + Copy>(rt: &HostRuntime, callback: F) -> Result<()>
     requires { (e : Bor Event) → IsEvent e.now → F.may callback e }
 {
-    let (alloc, keys) = (rt.alloc(), RandomState::new(rt)?);
-    let (upper, lowers, options) = manifest_of(alloc, keys, LAYERS.as_bytes())?;
-    let mounting = Core::mount(alloc, keys, upper, lowers, options)?;
-    let mut core = mounting.ok().context("no mount")?;
-    let hooks: Vec<Hook<F, AnyAnswer>> = vec![in alloc; Hook::new(0, callback)]?;
+    let hooks: Vec<Hook<F, AnyAnswer>> = vec![in rt.alloc(); Hook::new(0, callback)]?;
+    let mut core = mounted(rt.alloc(), RandomState::new(rt)?)?;
     let client = core.attach(hooks).ok().context("not attached")?;
+    report(rt, edit(rt.alloc(), &mut core, client)?)
+}
+
+fn mounted<F: Callback, A: Rule>(alloc: Global, keys: RandomState) -> Result<Core<F, A>> {
+    let (upper, lowers, options) = manifest_of(alloc, keys, LAYERS.as_bytes())?;
+    Core::mount(alloc, keys, upper, lowers, options)?
+        .ok()
+        .context("no mount")
+}
+
+// Watches the file, changes its mode, and reads the notices.
+fn edit<F: Callback, A: Rule>(alloc: Global, core: &mut Core<F, A>, client: u64) -> Result<Reply> {
     let (slot, path, mask) = (0, path_of(alloc, "/motd")?, ATTRIB);
-    call(&mut core, client, Call::Arm { slot, path, mask })?;
+    call(core, client, Call::Arm { slot, path, mask })?;
     let (path, mode) = (path_of(alloc, "/motd")?, 0o600);
-    call(&mut core, client, Call::Chmod { path, mode })?;
-    if let Reply::Unread(notices) = call(&mut core, client, Call::TakeNotices { count: 65 })? {
-        for notice in notices.as_slice() {
-            println!(rt; "watch {} heard {:x}", notice.watch, notice.mask)?;
-        }
-    }
-    Ok(())
+    call(core, client, Call::Chmod { path, mode })?;
+    call(core, client, Call::TakeNotices { count: 65 })
 }
 
 fn call<F: Callback, A: Rule>(core: &mut Core<F, A>, client: u64, call: Call) -> Result<Reply> {
