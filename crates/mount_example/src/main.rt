@@ -2,6 +2,7 @@
 //! one that it changes. `tools/check-docs` compares what is between the marks with the README.
 #![tactic(auto)]
 
+ghost use Rattle.std.specs.Prelude.{◌≡◌, IfOk};
 ghost use Rattle.std.specs.Borrow.{Bor};
 ghost use Rattle.ov_base.specs.declared.notice.Event.{Event};
 ghost use Rattle.plain_model.specs.Watching.{IsEvent};
@@ -53,20 +54,21 @@ fn main(rt: HostRuntime) -> Result<()> {
 fn session<F: Callback + Copy>(rt: &HostRuntime, callback: F) -> Result<()>
     requires { (e : Bor Event) → IsEvent e.now → F.may callback e }
 {
-    let hooks: Vec<Hook<F, AnyAnswer>> = vec![in rt.alloc(); Hook::new(0, callback)]?;
+    let mut hooks: Vec<Hook<F, AnyAnswer>> = Vec::new(rt.alloc());
+    hooks.push(Hook::new(0, callback))?;
     let mut core = mounted(rt.alloc(), RandomState::new(rt)?)?;
     let client = core.attach(hooks).ok().context("not attached")?;
     report(rt, edit(rt.alloc(), &mut core, client)?)
 }
 
-fn mounted<F: Callback, A: Rule>(alloc: Global, keys: RandomState) -> Result<Core<F, A>> {
+fn mounted<F: Callback, A: Rule>(alloc: Global, keys: RandomState) -> Result<Core<F, A>>
+    ensures { IfOk result (λ core. core.finished ≡ 0) }
+{
     let (upper, lowers, options) = manifest_of(alloc, keys, LAYERS.as_bytes())?;
-    Core::mount(alloc, keys, upper, lowers, options)?
-        .ok()
-        .context("no mount")
+    let mounting = Core::mount(alloc, keys, upper, lowers, options)?;
+    mounting.ok().context("no mount")
 }
 
-// Watches the file, changes its mode, and reads the notices.
 fn edit<F: Callback, A: Rule>(alloc: Global, core: &mut Core<F, A>, client: u64) -> Result<Reply> {
     let (slot, path, mask) = (0, path_of(alloc, "/motd")?, ATTRIB);
     call(core, client, Call::Arm { slot, path, mask })?;
