@@ -6,10 +6,12 @@ use Rattle.ov_frames.specs.Replies.{answer_frame}
 use Rattle.ov_frames.specs.Told.{end_of}
 use Rattle.ov_frames.specs.Streams.{Left, Held, Faulty, Spells, Continues, answer_of, front_of}
 use Rattle.ov_frames.specs.declared.answer.Answer.{Answer}
+use Rattle.ov_frames.specs.declared.decoder.End.{End}
+use Rattle.ov_frames.specs.declared.decoder.End.TheVariants as ends
 use Rattle.ov_frames.specs.declared.fault.FrameFault.{FrameFault}
 use Rattle.ov_frames.specs.declared.request.Request.{Request}
 use Rattle.ov_frames.proofs.Pieces.{goes_on}
-use Rattle.ov_session.specs.Conversing.{Stands, Conversed, IsTurn, IsUnfed, ended}
+use Rattle.ov_session.specs.Conversing.{Stands, Conversed, IsTurn, IsUnfed, ended, is_faulty}
 use Rattle.ov_session.specs.Devices.{Gains, InputAt, IsFrontOf, IsInputEnd, IsSent}
 use Rattle.ov_session.specs.Serving.{frames}
 use Rattle.ov_session.specs.Sessions.{StandsLast, IsSession}
@@ -187,19 +189,24 @@ so_far_same goes i j k o n left piece s c e = record {
 }
 
 -- a read that failed
-pub read_ended : {D : Type 0} (goes : D → List Exchange → D → Type 0) (i j k : Option (List ℕ)) (o n : Place D) (left : Left) (failed : Bool) (reads : ℕ) (e : Ending) → SoFar goes i j o n left → Keeps j k → IsInputEnd failed reads e → Conversed goes i k o n e
-read_ended goes i j k o n left failed reads ending.Read s c h =
+pub read_ended : {D : Type 0} (goes : D → List Exchange → D → Type 0) (i j k : Option (List ℕ)) (o n : Place D) (left : Left) (failed : Bool) (reads : ℕ) (e : Ending) → SoFar goes i j o n left → is_faulty left ≡ false → Keeps j k → IsInputEnd failed reads e → Conversed goes i k o n e
+read_ended goes i j k o n left failed reads ending.Read s b c h =
     let s' : SoFar goes i k o n left = record { taken = s.taken; consumed = Consumes-kept i j k s.taken s.consumed c; requests = s.requests; spelled = s.spelled; talked = s.talked } in
-    all_served goes i k o n left ending.Read s' (refl, refl, refl)
-read_ended goes i j k o n left failed reads ending.Memory s c h =
+    all_served goes i k o n left ending.Read s' (refl, refl, refl, b)
+read_ended goes i j k o n left failed reads ending.Memory s b c h =
     let s' : SoFar goes i k o n left = record { taken = s.taken; consumed = Consumes-kept i j k s.taken s.consumed c; requests = s.requests; spelled = s.spelled; talked = s.talked } in
     all_served goes i k o n left ending.Memory s' (inl refl, front_of_all (frames s.talked.answers))
-read_ended goes i j k o n left failed reads ending.Detached s c h = absurd h
-read_ended goes i j k o n left failed reads ending.Ended s c h = absurd h
-read_ended goes i j k o n left failed reads ending.Cut s c h = absurd h
-read_ended goes i j k o n left failed reads (ending.Frame f) s c h = absurd h
-read_ended goes i j k o n left failed reads ending.Write s c h = absurd h
-read_ended goes i j k o n left failed reads ending.Stopped s c h = absurd h
+read_ended goes i j k o n left failed reads ending.Detached s b c h = absurd h
+read_ended goes i j k o n left failed reads ending.Ended s b c h = absurd h
+read_ended goes i j k o n left failed reads ending.Cut s b c h = absurd h
+read_ended goes i j k o n left failed reads (ending.Frame f) s b c h = absurd h
+read_ended goes i j k o n left failed reads ending.Write s b c h = absurd h
+read_ended goes i j k o n left failed reads ending.Stopped s b c h = absurd h
+
+-- a stream that ends at no fault has none
+pub begun_of : (left : Left) (e : End) → e ≡ end_of left → ((f : FrameFault) → e ≡ ends.Frame f → ⊥) → is_faulty left ≡ false
+begun_of (Held bytes) e h differs = refl
+begun_of (Faulty f) e h differs = absurd (differs f h)
 
 -- the end of the input
 pub input_ended : {D : Type 0} (goes : D → List Exchange → D → Type 0) (i j : Option (List ℕ)) (o n : Place D) (left : Left) → SoFar goes i j o n left → IsAtEnd j → Conversed goes i j o n (ended (end_of left))

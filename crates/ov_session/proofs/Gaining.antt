@@ -1,11 +1,12 @@
 -- Bytes that an output gained, step by step.
-use Rattle.std.proofs.Common.{◌≡◌, ℕ, List, [], ◌++◌, take, drop, Option, Some, None, refl, sym, ap, subst, ◌∙◌, append_assoc, append-nil}
+use Rattle.std.proofs.Common.{◌≡◌, ℕ, List, [], ◌++◌, take, drop, Option, Some, None, Ok, Err, refl, sym, ap, subst, ◌∙◌, append_assoc, append-nil}
 use Rattle.std.proofs.KnownBytes.{Appends-nil, Appends-trans, Appends-kept}
 use Rattle.std.proofs.lemmas.List.{take-append-drop}
 use Rattle.std.specs.Io.KnownBytes.{Appends, Keeps}
+use Rattle.std.specs.Prelude.{Result, IfErr}
 use Rattle.ov_frames.specs.Replies.{answer_frame}
 use Rattle.ov_frames.specs.declared.answer.Answer.{Answer}
-use Rattle.ov_session.specs.Devices.{Gains, IsFrontOf, IsOutputEnd, IsSent}
+use Rattle.ov_session.specs.Devices.{Gains, IsFrontOf, IsOutputEnd, IsPut, IsSent}
 use Rattle.ov_session.specs.declared.ending.Ending.{Ending}
 use Rattle.ov_session.specs.declared.ending.Ending.TheVariants as ending
 
@@ -65,6 +66,25 @@ keeps_none None b c n bytes h k e = tt
 keeps_none (Some x) None c n bytes h k e = absurd h
 keeps_none (Some x) (Some y) None n bytes h k e = absurd k
 keeps_none (Some x) (Some y) (Some z) n bytes h k e = k ∙ ap (λ (m : ℕ). y ++ take m bytes) e ∙ append-nil y ∙ h
+
+-- an answer was held, and what was held was handed on, or the output failed at that
+pub put_handed : (o n : Option (List ℕ)) (p q r : List ℕ) (a : Answer)
+    (result : Result (Unit {0}) Ending) → q ≡ p ++ answer_frame a → Gains o n q r []
+    → IfErr result IsOutputEnd → IsPut o n p r a result
+put_handed o n p q r a result h k e =
+    by result (gains_last o o n p q r (answer_frame a) (gains_held o p q (answer_frame a) h) k) e
+  where
+    by : (result : Result (Unit {0}) Ending) → Gains o n p r (answer_frame a)
+        → IfErr result IsOutputEnd → IsPut o n p r a result
+    by (Ok x) gained e = gained
+    by (Err ending.Write) gained e = gained
+    by (Err ending.Memory) gained e = (answer_frame a, front_of_all (answer_frame a), gained)
+    by (Err ending.Detached) gained e = absurd e
+    by (Err ending.Ended) gained e = absurd e
+    by (Err ending.Cut) gained e = absurd e
+    by (Err (ending.Frame f)) gained e = absurd e
+    by (Err ending.Read) gained e = absurd e
+    by (Err ending.Stopped) gained e = absurd e
 
 -- an answer that was taken, and then the output failed
 pub sent_badly : (o m n : Option (List ℕ)) (p q r : List ℕ) (a : Answer) (end : Ending) → Gains o m p q (answer_frame a) → Gains m n q r [] → IsOutputEnd end → IsSent o n p r a end

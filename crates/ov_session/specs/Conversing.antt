@@ -1,5 +1,5 @@
 -- A session from piece to piece, until its client is detached.
-use Rattle.std.specs.Prelude.{◌≡◌, ℕ, List, [], ◌∷◌, ◌++◌, Option, Result, Ok, Err, ◌⊎◌}
+use Rattle.std.specs.Prelude.{◌≡◌, ℕ, Bool, true, false, List, [], ◌∷◌, ◌++◌, Option, Result, Ok, Err, ◌⊎◌}
 use Rattle.std.specs.Io.KnownBytes.{Consumes, IsAtEnd}
 use Rattle.ov_frames.specs.Streams.{Left, Held, Faulty, Spells, Continues}
 use Rattle.ov_frames.specs.declared.answer.Answer.{Answer}
@@ -14,6 +14,11 @@ use Rattle.ov_session.specs.declared.ending.Ending.{Ending}
 use Rattle.ov_session.specs.declared.ending.Ending.TheVariants as ending
 use Rattle.ov_session.specs.declared.exchange.Exchange.{Exchange}
 
+-- what is left of a stream is a fault, so that no more of it is read
+abbrev pub is_faulty : Left → Bool
+is_faulty (Held bytes) = false
+is_faulty (Faulty fault) = true
+
 -- how things stand at each end: of the input what remains, the requests that are not served, what is left of the stream behind its
 -- whole frames, the call held back, the bytes given to the output, and the frames of the answers
 abbrev pub Stands : Ending → Option (List ℕ) → List Request → Left → List Exchange → List ℕ → List ℕ → Type 0
@@ -22,7 +27,7 @@ Stands ending.Ended input later left stopped given all = (later ≡ []) × (stop
 Stands ending.Cut input later left stopped given all =
     (later ≡ []) × (stopped ≡ []) × (given ≡ all) × ((b : ℕ) × (bytes : List ℕ) × (left ≡ Held (b ∷ bytes))) × IsAtEnd input
 Stands (ending.Frame fault) input later left stopped given all = (later ≡ []) × (stopped ≡ []) × (given ≡ all) × (left ≡ Faulty fault)
-Stands ending.Read input later left stopped given all = (later ≡ []) × (stopped ≡ []) × (given ≡ all)
+Stands ending.Read input later left stopped given all = (later ≡ []) × (stopped ≡ []) × (given ≡ all) × (is_faulty left ≡ false)
 Stands ending.Write input later left stopped given all = MayBeHeldBack later stopped × IsFrontOf given all
 Stands ending.Memory input later left stopped given all = MayBeHeldBack later stopped × IsFrontOf given all
 Stands ending.Stopped input later left stopped given all = IsHeldBack later stopped × (given ≡ all)

@@ -4,7 +4,7 @@ ghost use Rattle.std.specs.Io.KnownBytes.{Appends, Keeps};
 ghost use Rattle.ov_session.specs.Devices.{Gains, IsOutputEnd, IsPut, write_failed};
 
 use crate::ending::{Ending, noted};
-use ov_frames::{Answer, encode_reply};
+use ov_frames::{Answer, append_reply};
 use std::alloc::Global;
 use std::io;
 use std::io::Write;
@@ -46,16 +46,13 @@ impl<W> SessionOutput<W> {
 
 impl<W: Write> SessionOutput<W> {
     /// Puts the frame of an answer behind what is held, and hands it on where that is much.
-    pub(crate) fn put(&mut self, alloc: Global, answer: &Answer) -> Result<(), Ending>
+    pub(crate) fn put(&mut self, answer: &Answer) -> Result<(), Ending>
         requires well { self.old.failed ≡ false }
         ensures put { IsPut (W.contents self.old.writer) (W.contents self.new.writer)
             self.old.held.items self.new.held.items answer.now result }
         ensures mark { self.new.failed ≡ write_failed result }
     {
-        let Ok(frame) = encode_reply(alloc, answer) else {
-            return Err(Ending::Memory);
-        };
-        if self.held.extend_from_slice(frame.as_slice()).is_err() {
+        if let Err(_) = append_reply(answer, &mut self.held) {
             return Err(Ending::Memory);
         }
         if self.held.len() < HELD_MOST {

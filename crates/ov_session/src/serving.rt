@@ -1,6 +1,6 @@
 // Serving requests: each is asked of the door, and its answer given to the output.
-ghost use Rattle.std.specs.Prelude.{◌≡◌, ◌∷◌, [], false};
-ghost use Rattle.ov_session.specs.Conversing.{IsTurn};
+ghost use Rattle.std.specs.Prelude.{◌≡◌, ◌∷◌, [], false, OnOk};
+ghost use Rattle.ov_session.specs.Conversing.{IsTurn, is_faulty};
 ghost use Rattle.ov_session.specs.Devices.{write_failed};
 ghost use Rattle.ov_session.specs.Talks.{IsHandedOn, IsServed, place};
 
@@ -31,9 +31,9 @@ fn serve_one<W: Write, D: Door>(
     match request.call(alloc) {
         Err(_) => Err(Ending::Memory),
         Ok(None) => Err(Ending::Detached),
-        Ok(Some(Err(errno))) => output.put(alloc, &Answer::NotTaken(errno)),
+        Ok(Some(Err(errno))) => output.put(&Answer::NotTaken(errno)),
         Ok(Some(Ok(call))) => match door.call(session, call) {
-            CallOutcome::Answered => output.put(alloc, door.answer(session)),
+            CallOutcome::Answered => output.put(door.answer(session)),
             CallOutcome::HeldBack => Err(Ending::Stopped),
             CallOutcome::OutOfMemory => Err(Ending::Memory),
         },
@@ -109,6 +109,7 @@ pub(crate) fn take_piece<W: Write, D: Door>(
         (place (W.contents output.old.writer) output.old.held.items (D.told session.old) door.old)
         (place (W.contents output.new.writer) output.new.held.items (D.told session.new) door.new)
         result }
+    ensures begun { OnOk result (is_faulty decoder.new ≡ false) }
     ensures handed_on { IsHandedOn result output.new.held.items }
     ensures mark { output.new.failed ≡ write_failed result }
     ensures admitted { D.admits door.new session.new }

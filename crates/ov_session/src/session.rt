@@ -100,17 +100,13 @@ fn pieces_of<R: Read, W: Write, D: Door>(
 }
 
 // Sends the answer to a detach that was asked for, and how the session ends.
-fn send_farewell<W: Write>(
-    alloc: Global,
-    output: &mut SessionOutput<W>,
-    farewell: &Answer,
-) -> Ending
+fn send_farewell<W: Write>(output: &mut SessionOutput<W>, farewell: &Answer) -> Ending
     requires well { output.old.failed ≡ false }
     ensures sent { IsSent (W.contents output.old.writer) (W.contents output.new.writer)
         output.old.held.items output.new.held.items farewell.now result }
     ensures mark { output.new.failed ≡ is_write result }
 {
-    if let Err(end) = output.put(alloc, farewell) {
+    if let Err(end) = output.put(farewell) {
         return end;
     }
     match output.flush() {
@@ -140,7 +136,7 @@ pub fn session_run<R: Read, W: Write, D: Door>(
     let end = converse(alloc, input, output, door, session);
     let farewell = door.detach(session);
     match end {
-        Ending::Detached => send_farewell(alloc, output, &farewell),
+        Ending::Detached => send_farewell(output, &farewell),
         other => other,
     }
 }

@@ -1,6 +1,6 @@
 use Rattle.std.proofs.Common.{◌≡◌, ◌<◌, ℕ, [], take, sym, ap, subst, ◌∙◌}
 use Rattle.ov_frames.specs.Streams.{Left, Spells}
-use Rattle.ov_session.specs.Conversing.{Conversed, ended}
+use Rattle.ov_session.specs.Conversing.{Conversed, ended, is_faulty}
 use Rattle.ov_session.specs.Talks.{place}
 use Rattle.ov_session.specs.declared.ending.Ending.{Ending}
 use Rattle.ov_session.proofs.Conversation.{so_far_nothing, so_far_more, so_far_same, nothing_spelled, input_ended, read_ended, turn_ends}
@@ -13,6 +13,7 @@ pieces-init g c =
     let o = place (g.W.Write.contents c.args.output.now.writer) c.args.output.now.held.items (g.D.Door.told c.args.session.now) c.args.door.now in
     record {
       so_far = so_far_nothing g.D.Door.goes (g.R.Read.remaining c.args.input.now.reader) o c.new-decoder.result laws (subst (λ (l : Left). Spells [] [] l) (sym c.new-decoder.ensures) nothing_spelled);
+      begun = ap is_faulty c.new-decoder.ensures;
       room = c.requires.room;
       input = c.requires.input;
       well = c.requires.well;
@@ -28,7 +29,7 @@ returns-in-Err-clause-conversed g c =
     let o = place (contents c.args.output.now.writer) c.args.output.now.held.items (told c.args.session.now) c.args.door.now in
     let n = place (contents c.pieces.output.writer) c.pieces.output.held.items (told c.pieces.session) c.pieces.door in
     read_ended g.D.Door.goes (remaining c.args.input.now.reader) (remaining c.pieces.input.reader) (remaining c.read.new.self.reader) o n c.pieces.decoder c.read.new.self.failed c.read.new.self.reads_left c.in-Err.end
-    c.pieces.invariant.so_far c.in-Err.ensures.kept c.in-Err.ensures.end
+    c.pieces.invariant.so_far c.pieces.invariant.begun c.in-Err.ensures.kept c.in-Err.ensures.end
 
 pub returns-then-count-eq0-clause-conversed : goal.returns-then-count-eq0-clause-conversed
 returns-then-count-eq0-clause-conversed g c =
@@ -69,6 +70,7 @@ pieces-preserved g c =
     record {
       so_far = so_far_more g.D.Door.goes (remaining c.args.input.now.reader) (remaining c.pieces.input.reader) (remaining c.read.new.self.reader) o m n c.pieces.decoder c.take_piece.new.decoder (take c.in-Ok.count c.read.new.piece) h.0
           laws c.pieces.invariant.so_far c.in-Ok.ensures.ok.1 h.1 h.2;
+      begun = c.in_default.ensures.begun;
       room = subst (λ (m : ℕ). 0 < m) (sym c.in-Ok.ensures.room) c.pieces.invariant.room;
       input = c.in-Ok.ensures.well;
       well = c.in_default.ensures.mark;

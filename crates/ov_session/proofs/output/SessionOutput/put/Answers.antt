@@ -1,0 +1,21 @@
+use Rattle.std.proofs.Common.{[], sym, ◌∙◌, append-nil}
+use Rattle.ov_frames.specs.Replies.{answer_frame}
+use Rattle.ov_session.proofs.Gaining.{front_of_none, gains_held, put_handed}
+use Rattle.ov_session.proofs.output.SessionOutput.put.Goals as goal
+
+pub returns-in-Err-clause-put : goal.returns-in-Err-clause-put
+returns-in-Err-clause-put g c =
+    let writer = g.W.Write.contents c.args.self.now.writer in
+    let held = c.args.self.now.held.items in (
+      [],
+      front_of_none (answer_frame c.args.answer.now),
+      gains_held writer held c.append_reply.new.out.items []
+          (c.in-Err.ensures.err ∙ sym (append-nil held)),
+    )
+
+pub returns-else-len-lt-HELD_MOST-clause-put : goal.returns-else-len-lt-HELD_MOST-clause-put
+returns-else-len-lt-HELD_MOST-clause-put g c =
+    put_handed (g.W.Write.contents c.args.self.now.writer)
+    (g.W.Write.contents c.hand_on.new.self.writer) c.args.self.now.held.items
+    c.append_reply.new.out.items c.hand_on.new.self.held.items c.args.answer.now c.hand_on.result
+    c.in_default.ensures.ok c.hand_on.ensures.bytes c.hand_on.ensures.end
