@@ -6,12 +6,12 @@ use Rattle.slab.specs.Slab.{get}
 use Rattle.ov_base.specs.declared.attributes.Attributes.{Attributes}
 use Rattle.ov_base.specs.declared.bytes.Content.{Content}
 use Rattle.plain_model.specs.Layers.{Name, Path, Named, Inode, held, Contents, shows, through, holds_directory}
+use Rattle.plain_model.proofs.Paths.{place}
 use Rattle.layer_tree.specs.AttributeChange.{with_attributes, SetsAttributes, SetsInode, SetsDirectory}
 use Rattle.layer_tree.specs.Nameless.{IsNameless, KeepsObjects}
 use Rattle.layer_tree.specs.Tree.{Tree, layer_of, inode_of, seen, seen_at, inode_at}
 use Rattle.layer_tree.specs.declared.node.Node.{Node}
 use Rattle.layer_tree.specs.declared.node.Node.TheVariants as node
-use Rattle.layer_tree.proofs.Walks.{cases_ends}
 use Rattle.merged_lookup.specs.declared.layers.Layers.{Layers}
 use Rattle.merged_lookup.specs.Merged.{layers_of, lowers_of}
 use Rattle.copy_up.specs.Showing.{number_of, IsParent, KeepsPath, GainsParents}
@@ -120,7 +120,7 @@ module _ (old new : Layers) (p : Path) (c : Content) (a : Attributes) (leaf : Co
         stood = λ there. absurd (true≢false (sym there ∙ ap is_some leaf.vacant));
         seen = λ m off there. leaf.objects.seen m there;
         inodes = λ m off. leaf.objects.inodes m (λ e. off (cc));
-        paths = λ q off. elim (cases_ends q p) [
+        paths = λ q off. elim (place p q) [
           | inl found ↦ beside-copy q found.0 found.1 off
           | inr away ↦ leaf.others.paths q away
         ];

@@ -1,6 +1,7 @@
 -- What a mount shows before and after its upper gains a directory.
-use Rattle.std.proofs.Common.{is_some, ◌≡◌, ◌≢◌, ℕ, suc, ◌+◌, ◌<◌, Bool, true, false, List, [], ◌∷◌, ◌++◌, Option, None, Some, refl, sym, ap, ap₂, ◌∙◌, subst, length, map, drop, take, reverse, get_or, arith, Result, Ok, Err, OnErr, ◌⊎◌, inl, inr}
+use Rattle.std.proofs.Common.{is_some, ◌≡◌, ◌≢◌, ℕ, suc, ◌+◌, ◌<◌, ◌≤◌, Bool, true, false, List, [], ◌∷◌, ◌++◌, Option, None, Some, refl, sym, ap, ap₂, ◌∙◌, subst, length, map, drop, take, reverse, get_or, arith, Result, Ok, Err, OnErr, ◌⊎◌, inl, inr}
 use Rattle.std.proofs.lemmas.Bool.{false≢true}
+use Rattle.std.proofs.lemmas.List.{length-map}
 use Rattle.ov_base.specs.declared.attributes.Attributes.{Attributes}
 use Rattle.ov_base.specs.declared.errno.Errno.{Errno}
 use Rattle.plain_model.specs.Layers.{Name, Path, Object, Whiteout, Directory, Inode, Layer, held, below, cuts, Shown, Folder, Contents, over, shows, through, is_directory, Named, IsLayer, AreLayers, holds_directory}
@@ -18,11 +19,11 @@ use Rattle.merged_lookup.specs.declared.stack.Place.{Place}
 use Rattle.merged_lookup.specs.declared.stack.Stack.{Stack}
 use Rattle.merged_lookup.specs.declared.layers.Layers.{Layers}
 use Rattle.merged_lookup.specs.Merged.{level, unless_cut, places_at, top_of, lowers_of, layers_of, or_else, fault, way_fault, IsStackOf, ShowsDirectory}
-use Rattle.merged_lookup.proofs.Descending.{reverse-more}
+use Rattle.merged_lookup.proofs.Descending.{length-places, reverse-more}
 use Rattle.merged_lookup.proofs.Looking.{head-places, head-unless, reverse-parts}
 use Rattle.copy_up.specs.Showing.{PassesSame, ShowsSame, HasPlace, is_object, Stays, StaysLayers, StaysMount, StaysThin, GainsParent, IsParent, GainsParents}
 use Rattle.copy_up.proofs.Frames.{gains-one}
-use Rattle.copy_up.proofs.Placing.{nothing-held, some-not-none, agree-placed, placed-same, placed-absent, IsHeldDirectory, top-held, free-folder}
+use Rattle.copy_up.proofs.Placing.{nothing-held, agree-placed, placed-same, placed-absent, IsHeldDirectory, top-held, free-folder}
 
 pub same-self : (l : Layers) → ShowsSame l l
 same-self l = record { lowers = refl; sights = λ p. refl; absent = λ p h. h; passes = record { cuts = λ p. refl; spelling = λ p. refl } }
@@ -214,27 +215,18 @@ module _ (old new : Layers) (low : new.lowers ≡ old.lowers) (inodes : (k : ℕ
   pub frames-placed : get old.upper key ≡ None → (t : Path) → IsParent (n ∷ p) t → KeepsObjects old.upper new.upper None → GainsParents old new t
   frames-placed vacant t parent kept = gains-one old new t (n ∷ p) i m key a parent low shown lacked sets vacant kept
 
-  -- the upper shows it
-  pub shown-placed : shows 0 (layers_of new) (n ∷ p) ≡ Some (Folder 0 key a)
-  shown-placed = ap (λ o. over 0 (layer_of new.upper).inodes o (through (layer_of new.upper) (lowers_of new) (n ∷ p))) sets.there
-
-  -- the stack of a directory that the upper has stays
-  pub stack-placed : (q : Path) (s : Stack) → (top_of s.places.items).layer ≡ 0 → IsStackOf old q s → IsStackOf new q s
-  stack-placed q s top is =
+  -- its place is on top of the places that it had
+  pub places-placed : (s : List Place) → s ≡ places_at 0 (layers_of old) (n ∷ p) → record { layer = 0; key = key } ∷ s ≡ places_at 0 (layers_of new) (n ∷ p)
+  places-placed s is =
       let U : Layer = layer_of old.upper in
-      let rest : List Place = unless_cut (cuts U q) (places_at 1 (lowers_of old) (below U q)) in
-      let some : 0 < length s.places.items = omega (arith, s.some_place) in
-      let d : IsHeldDirectory (held U q) (top_of s.places.items).key = top-held (held U q) rest s.places.items is.places (head-unless (cuts U q) (places_at 1 (lowers_of old) (below U q)) (head-places 1 (lowers_of old) (below U q))) some top in
-      let other : q ≢ n ∷ p = λ e. some-not-none (Directory (top_of s.places.items).key d.attributes d.opaque d.redirect) (sym d.is ∙ ap (held U) e ∙ lacked) in
-      let agree : PassesSame U (layer_of new.upper) = same-placed.passes in
-      record { places = is.places ∙ sym (ap (λ Ls. places_at 0 (layer_of new.upper ∷ Ls) q) (lowers-same old new low) ∙ places-agree 0 U (layer_of new.upper) (lowers_of old) q (sets.elsewhere q other) (agree.cuts q) (agree.spelling q)) }
-
-folder-index : (i j k m : ℕ) (a b : Attributes) → ◌≡◌ {A = Option Shown} (Some (Folder i k a)) (Some (Folder j m b)) → i ≡ j
-folder-index i j k m a b e = cc
-
--- the place of a directory is in the upper where the upper shows it
-pub top-shown-upper : (l : Layers) (p : Path) (s : List Place) (key : ℕ) (a : Attributes) → shows 0 (layers_of l) p ≡ Some (Folder 0 key a) → ShowsDirectory l p s → (top_of s).layer ≡ 0
-top-shown-upper l p s key a h d = folder-index (top_of s).layer 0 (top_of s).key key d.attributes a (sym d.shown ∙ h)
+      let V : Layer = layer_of new.upper in
+      let x : Path = n ∷ p in
+      let agree : PassesSame U V = same-placed.passes in
+      let rest : List Place = unless_cut (cuts U x) (places_at 1 (lowers_of old) (below U x)) in
+      let before : s ≡ rest = is ∙ ap (λ o. level 0 o rest) lacked in
+      let after : places_at 0 (V ∷ lowers_of old) x ≡ record { layer = 0; key = key } ∷ rest
+      = λ j. level 0 (sets.there j) (unless_cut (agree.cuts x j) (places_at 1 (lowers_of old) (agree.spelling x j))) in
+      ap (λ (z : List Place). record { layer = 0; key = key } ∷ z) before ∙ sym after ∙ sym (ap (λ Ls. places_at 0 (V ∷ Ls) x) (lowers-same old new low))
 
 -- whether a directory is seen
 abbrev is_branch : Option Sight → Bool
@@ -285,13 +277,20 @@ way-shows l names i n h is none =
 pub is-parent : (names : List Name) (i : ℕ) (name n : Name) → i < length names → name ≡ get_or names i name → IsParent (name ∷ reverse (take i names)) (n ∷ reverse names)
 is-parent names i name n h is = (n, reverse (drop (i + 1) names), ap (λ z. n ∷ z) (reverse-parts names (i + 1) ∙ ap (λ z. reverse (drop (i + 1) names) ++ z) (reverse-more names i name h is)))
 
--- the upper has the directory n in p now, and the same is shown as before
-pub record IsPlaced (old new : Layers) (p : Path) (n : Name) : Type 0 where
-  pub key : ℕ
-  pub attributes : Attributes
+length-unless : (c : Bool) (s : List Place) (m : ℕ) → length s ≤ m → length (unless_cut c s) ≤ m
+length-unless true s m h = omega arith
+length-unless false s m h = h
+
+-- where the upper holds nothing, a path reaches directories of lower layers alone
+lower-places : (U : Layer) (Ls : List Layer) (p : Path) → held U p ≡ None → length (places_at 0 (U ∷ Ls) p) ≤ length Ls
+lower-places U Ls p none =
+    subst (λ (o : Option Object). length (level 0 o (unless_cut (cuts U p) (places_at 1 Ls (below U p)))) ≤ length Ls) (sym none)
+    (length-unless (cuts U p) (places_at 1 Ls (below U p)) (length Ls) (length-places 1 Ls (below U p)))
+
+-- the upper has the directory n in p now, under this key, and the same is shown as before
+pub record IsPlaced (old new : Layers) (p : Path) (n : Name) (key : ℕ) : Type 0 where
   pub same : ShowsSame old new
-  pub shown : shows 0 (layers_of new) (n ∷ p) ≡ Some (Folder 0 key attributes)
-  pub stack : (q : Path) (s : Stack) → (top_of s.places.items).layer ≡ 0 → IsStackOf old q s → IsStackOf new q s
+  pub places : (s : List Place) → s ≡ places_at 0 (layers_of old) (n ∷ p) → record { layer = 0; key = key } ∷ s ≡ places_at 0 (layers_of new) (n ∷ p)
   pub stays : Stays old new
   pub gains : GainsParent old new (n ∷ p)
   pub frames : (t : Path) → IsParent (n ∷ p) t → KeepsObjects old.upper new.upper None → GainsParents old new t
@@ -301,25 +300,32 @@ module _ (old : Layers) (p : Path) (n : Name) (parent : Stack) (is : IsStackOf o
   pub found-shown : shows 0 (layers_of old) (n ∷ p) ≡ Some (Folder spot.layer spot.key f.attributes)
   found-shown = f.shown ∙ ap (λ (d : Place). Some (Folder d.layer d.key f.attributes)) (sym is_spot)
 
+  -- the upper holds nothing there
+  found-lacked : held (layer_of old.upper) (n ∷ p) ≡ None
+  found-lacked = free-folder (layer_of old.upper).inodes (held (layer_of old.upper) (n ∷ p)) (through (layer_of old.upper) (lowers_of old) (n ∷ p)) spot.layer spot.key f.attributes found-shown lower
+
+  -- so there is room for its place on top
+  pub found-few : length found < 17
+  found-few =
+      let short : length (places_at 0 (layers_of old) (n ∷ p)) ≤ length (lowers_of old) = lower-places (layer_of old.upper) (lowers_of old) (n ∷ p) found-lacked in
+      let same : length (lowers_of old) ≡ length old.lowers.items = simp length-map in
+      let all : length found ≡ length (places_at 0 (layers_of old) (n ∷ p)) = ap length f.places in
+      omega (arith, old.few_lowers)
+
   -- has a place in the upper
   pub found-place : HasPlace (layer_of old.upper) dir.key n p
-  found-place =
-      let lacked : held (layer_of old.upper) (n ∷ p) ≡ None = free-folder (layer_of old.upper).inodes (held (layer_of old.upper) (n ∷ p)) (through (layer_of old.upper) (lowers_of old) (n ∷ p)) spot.layer spot.key f.attributes found-shown lower in
-      subst (λ (d : Place). HasPlace (layer_of old.upper) d.key n p) (sym is_dir) (place-of old p parent n is upper (ap is_object lacked))
+  found-place = subst (λ (d : Place). HasPlace (layer_of old.upper) d.key n p) (sym is_dir) (place-of old p parent n is upper (ap is_object found-lacked))
 
   -- is placed there by a copy of its attributes
-  pub found-placed : (new : Layers) (copy : Attributes) → copy ≡ f.attributes → new.lowers ≡ old.lowers → ((k : ℕ) → inode_at new.upper k ≡ inode_at old.upper k) → (key : ℕ) × SetsPath (layer_of old.upper) (layer_of new.upper) (n ∷ p) (Directory key copy false None) × (get old.upper key ≡ None) → (IsLayer (layer_of old.upper) → IsLayer (layer_of new.upper)) → IsPlaced old new p n
-  found-placed new copy e low inodes sets keep =
+  pub found-placed : (new : Layers) (copy : Attributes) → copy ≡ f.attributes → new.lowers ≡ old.lowers → ((k : ℕ) → inode_at new.upper k ≡ inode_at old.upper k) → (key : ℕ) → SetsPath (layer_of old.upper) (layer_of new.upper) (n ∷ p) (Directory key copy false None) × (get old.upper key ≡ None) → (IsLayer (layer_of old.upper) → IsLayer (layer_of new.upper)) → IsPlaced old new p n key
+  found-placed new copy e low inodes key sets keep =
       let shown : shows 0 (layers_of old) (n ∷ p) ≡ Some (Folder spot.layer spot.key copy) = found-shown ∙ ap (λ a. Some (Folder spot.layer spot.key a)) (sym e) in
       record {
-        key = sets.0;
-        attributes = copy;
-        same = same-placed old new low inodes p n spot.layer spot.key copy shown lower sets.0 sets.1;
-        shown = shown-placed old new low inodes p n spot.layer spot.key copy shown lower sets.0 sets.1;
-        stack = stack-placed old new low inodes p n spot.layer spot.key copy shown lower sets.0 sets.1;
-        stays = stays-placed old new low inodes p n spot.layer spot.key copy shown lower sets.0 sets.1 keep;
-        gains = gains-placed old new low inodes p n spot.layer spot.key copy shown lower sets.0 sets.1;
-        frames = frames-placed old new low inodes p n spot.layer spot.key copy shown lower sets.0 sets.1 sets.2;
+        same = same-placed old new low inodes p n spot.layer spot.key copy shown lower key sets.0;
+        places = places-placed old new low inodes p n spot.layer spot.key copy shown lower key sets.0;
+        stays = stays-placed old new low inodes p n spot.layer spot.key copy shown lower key sets.0 keep;
+        gains = gains-placed old new low inodes p n spot.layer spot.key copy shown lower key sets.0;
+        frames = frames-placed old new low inodes p n spot.layer spot.key copy shown lower key sets.0 sets.1;
       }
 
 pub on-err : {A E : Type 0} (P : Type 0) (r : Result A E) → P → OnErr r P

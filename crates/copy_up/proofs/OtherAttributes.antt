@@ -1,6 +1,5 @@
 -- Other attributes of what the upper has, or gets first from the lower layers.
-use Rattle.std.proofs.Common.{◌≡◌, ◌≤◌, ◌<◌, ℕ, suc, Bool, true, false, List, [], ◌∷◌, Option, None, Some, Result, Ok, Err, OnOk, OnErr, refl, sym, ap, ◌∙◌, subst, is_some, IsSome, length, reverse, arith}
-use Rattle.std.proofs.lemmas.List.{reverse-reverse}
+use Rattle.std.proofs.Common.{◌≡◌, ◌≢◌, ◌≤◌, ◌<◌, ℕ, suc, Bool, true, false, List, [], ◌∷◌, Option, None, Some, Result, Ok, Err, OnOk, OnErr, refl, sym, ap, ◌∙◌, subst, is_some, IsSome, length, arith}
 use Rattle.std.specs.Option.{option_and_then, option_map_or}
 use Rattle.std.specs.Prelude.{option_map}
 use Rattle.std.specs.declared.alloc.AllocError.{AllocError}
@@ -8,7 +7,7 @@ use Rattle.slab.specs.Slab.{get}
 use Rattle.ov_base.specs.declared.attributes.Attributes.{Attributes}
 use Rattle.ov_base.specs.declared.redirect.Redirect.{Redirect}
 use Rattle.ov_base.specs.declared.redirect.Redirect.TheVariants.{Absolute, Single}
-use Rattle.plain_model.specs.Layers.{Name, Path, Object, Directory, Named, Whiteout, Inode, Layer, held, below, cuts, Shown, Folder, Contents, over, unless, shows, IsLayer, AreLayers}
+use Rattle.plain_model.specs.Layers.{Path, Object, Directory, Named, Whiteout, Inode, Layer, held, below, cuts, Shown, Folder, Contents, over, unless, shows, IsLayer, AreLayers}
 use Rattle.plain_model.specs.Tree.{IsThin}
 use Rattle.plain_model.proofs.Uppers.{AgreeTo, agree-where, under-agree}
 use Rattle.mount_laws.specs.Altered.{Alters}
@@ -121,6 +120,13 @@ stands-at l p s dir tree is top is_dir =
 pub under-key : (t : Tree) (k : ℕ) (a : Attributes) → IsDirectoryWith (get t k) a → attributes_at t k ≡ Some a
 under-key t k a d = ap (option_map attributes_of) d.is ∙ ap Some d.attributes
 
+-- a directory that a lower layer shows is below the root, which is the upper's
+pub lower-below : (l : Layers) (p : Path) (d : Place) (a : Attributes) → shows 0 (layers_of l) p ≡ Some (Folder d.layer d.key a) → 0 < d.layer → p ≢ []
+lower-below l p d a shown lower e =
+    let root : ◌≡◌ {A = Option Shown} (Some (Folder 0 0 (layer_of l.upper).root)) (Some (Folder d.layer d.key a)) = sym (ap (shows 0 (layers_of l)) e) ∙ shown in
+    let first : 0 ≡ d.layer = cc in
+    omega (arith, lower, first)
+
 -- what is shown has one set of attributes
 pub shown-folder : (l : Layers) (p : Path) (j k : ℕ) (a b : Attributes) → shows 0 (layers_of l) p ≡ Some (Folder j k a) → ShowsAttributes l p b → a ≡ b
 shown-folder l p j k a b is shows = let two : Some a ≡ Some b = sym (ap shown_attributes is) ∙ shows in cc
@@ -129,12 +135,12 @@ pub shown-inode : (l : Layers) (p : Path) (j k : ℕ) (i : Inode) (b : Attribute
 shown-inode l p j k i b is shows = let two : Some i.attributes ≡ Some b = sym (ap shown_attributes is) ∙ shows in cc
 
 -- two facts of one success
-pub both-ok : {P Q R : Type 0} (r : Result (Unit {0}) AllocError) → (P → Q → R) → OnOk r P → OnOk r Q → OnOk r R
+pub both-ok : {A P Q R : Type 0} (r : Result A AllocError) → (P → Q → R) → OnOk r P → OnOk r Q → OnOk r R
 both-ok (Ok u) f p q = f p q
 both-ok (Err e) f p q = p
 
 -- an upper that is thin after success, and the same after an allocation failure, stays thin
-pub thin-either : (old new : Layers) (r : Result (Unit {0}) AllocError) → new.lowers ≡ old.lowers → OnOk r (StaysThin old new) → OnErr r (new.upper ≡ old.upper) → StaysThin old new
+pub thin-either : {A : Type 0} (old new : Layers) (r : Result A AllocError) → new.lowers ≡ old.lowers → OnOk r (StaysThin old new) → OnErr r (new.upper ≡ old.upper) → StaysThin old new
 thin-either old new (Ok u) low ok same = ok
 thin-either old new (Err e) low ok same = thin-agree old new low
     (λ x. agree-where (layer_of old.upper) (layer_of new.upper) (λ _. Unit {0}) (λ k y u. tt) (λ y u. ap (λ (t : Tree). held (layer_of t) y) same) x tt)
@@ -179,7 +185,3 @@ inode-there (Some n) i h = refl
 -- what is found, where it is an inode
 pub found-inode : (l : Layers) (p : Path) (f : Found) (d : Place) → f ≡ found.Inode d → IsFound l p f → ShowsInode l p d
 found-inode l p f d e h = let P : Found → Type 0 = λ f. IsFound l p f in subst P e h
-
--- the names of a path, turned back
-pub turned-back : (names p : List Name) → names ≡ reverse p → reverse names ≡ p
-turned-back names p e = ap reverse e ∙ reverse-reverse p

@@ -1,5 +1,5 @@
 -- Other attributes of an object of the upper that is shown, changed where they stand.
-use Rattle.std.proofs.Common.{◌≡◌, ◌⊎◌, ℕ, Bool, true, false, List, [], ◌∷◌, slice_get, Ok, Err, Option, None, Some, IsSome, Result, OnOk, refl, ap, ◌∙◌, sym, subst, inl, inr, arith}
+use Rattle.std.proofs.Common.{◌≡◌, ◌⊎◌, ℕ, Bool, true, false, List, [], ◌∷◌, slice_get, Ok, Err, IfOk, Option, None, Some, IsSome, Result, OnOk, refl, ap, ◌∙◌, sym, subst, inl, inr, arith}
 use Rattle.std.specs.declared.alloc.AllocError.{AllocError}
 use Rattle.slab.specs.Slab.{get}
 use Rattle.ov_base.specs.AttributeChanges.{changed}
@@ -23,7 +23,7 @@ use Rattle.merged_lookup.specs.Merged.{layers_of, lowers_of, trees, IsTopmost, S
 use Rattle.merged_lookup.proofs.Descending.{key-of}
 use Rattle.merged_lookup.proofs.Folders.{held-node}
 use Rattle.copy_up.specs.Altering.{AltersObject, AltersAs, AltersObjectAs}
-use Rattle.copy_up.specs.Showing.{StaysThin}
+use Rattle.copy_up.specs.Showing.{number_of, StaysThin}
 use Rattle.copy_up.proofs.AlteredObjects.{object-inode, object-directory}
 use Rattle.copy_up.proofs.Frames.{gains-self}
 use Rattle.copy_up.proofs.Nodes.{table-some}
@@ -119,6 +119,11 @@ module _ (old new : Layers) (p : Path) (d : Place) (low : new.lowers ≡ old.low
       (shown-inode old p d.layer d.key o.inode a o.shown shows)
       (alters-inode old new low d.key (changed x o.inode.attributes) (sets-inode o) p o.is.named keeps h)
 
+  -- stands under its key still
+  pub own-key : IsOwn old p d → number_of (held (layer_of new.upper) p) ≡ Some d.key
+  own-key (inl o) = ap number_of (sets-directory o).now
+  own-key (inr o) = ap number_of ((sets-inode o).objects p ∙ o.is.named)
+
   -- and is the one object that changes
   pub own-object : ((k : ℕ) → IsNameless old.upper k → IsNameless new.upper k) → IsOwn old p d → AltersObjectAs old new p x
   own-object nameless (inl o) a shows =
@@ -130,10 +135,15 @@ module _ (old new : Layers) (p : Path) (d : Place) (low : new.lowers ≡ old.low
       (made.sets o.inode.attributes (inode_attributes old.upper d.key o.inode o.is.inode)) (sets-inode o) o.is.named nameless)
 
 -- the facts of a success together
-pub changes-key : (old new : Layers) (key : ℕ) (x : AttributeChange) (r : Result (Unit {0}) AllocError)
+pub changes-key : {A : Type 0} (old new : Layers) (key : ℕ) (x : AttributeChange) (r : Result A AllocError)
     → OnOk r ((a : Attributes) → attributes_at old.upper key ≡ Some a → SetsAttributes old.upper new.upper key (changed x a))
     → OnOk r ((i : Inode) → inode_at old.upper key ≡ Some i → SetsInode (layer_of old.upper) (layer_of new.upper) key (changed x i.attributes))
     → OnOk r ((p : Path) (a : Attributes) → attributes_at old.upper key ≡ Some a → key_at old.upper p ≡ Some key → IsDirectory old.upper key → SetsDirectory (layer_of old.upper) (layer_of new.upper) p key (changed x a))
     → OnOk r (ChangesKey old new key x)
 changes-key old new key x (Ok u) sets inode directory = record { sets = sets; inode = inode; directory = directory }
 changes-key old new key x (Err e) sets inode directory = tt
+
+-- a success that gives a key gives the number that is held, where that is under it
+pub key-given : {P : Type 0} (r : Result ℕ AllocError) (key : ℕ) (o : Option ℕ) → OnOk r P → (P → o ≡ Some key) → IfOk r (λ k. k ≡ key) → IfOk r (λ k. o ≡ Some k)
+key-given (Ok k) key o p there same = there p ∙ ap Some (sym same)
+key-given (Err e) key o p there same = tt

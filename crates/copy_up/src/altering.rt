@@ -1,39 +1,41 @@
 // Other attributes of what a path shows.
-ghost use Rattle.std.specs.Prelude.{◌≡◌, ◌<◌, ℕ, Some, None, IsSome, IfOk, OnOk, OnErr};
+ghost use Rattle.std.specs.Prelude.{◌≡◌, ◌≢◌, ◌<◌, ◌↔◌, ◌∷◌, ℕ, [], Some, None, true, IsSome, IfOk, OnOk, OnErr};
 ghost use Rattle.slab.specs.Slab.{get};
 ghost use Rattle.ov_base.specs.AttributeChanges.{changed};
 ghost use Rattle.ov_base.specs.declared.attributes.Attributes.{Attributes as AttributesOf};
-ghost use Rattle.plain_model.specs.Layers.{Path as Names, Inode, Folder, Contents, shows, IsLayer, AreLayers};
+ghost use Rattle.plain_model.specs.Layers.{Name, Path as Names, Named, Inode, Folder, Contents, held, shows, is_directory, IsLayer, AreLayers};
 ghost use Rattle.mount_laws.specs.Altered.{Alters};
 ghost use Rattle.layer_tree.specs.AttributeChange.{attributes_at, SetsAttributes, SetsInode, SetsDirectory};
 ghost use Rattle.layer_tree.specs.Nameless.{IsNameless};
 ghost use Rattle.layer_tree.specs.Tree.{layer_of, key_at, inode_at, IsDirectory};
-ghost use Rattle.merged_lookup.specs.declared.found.Topmost.{Topmost as MountTopmost};
-ghost use Rattle.merged_lookup.specs.Descent.{place_shown};
-ghost use Rattle.merged_lookup.specs.Merged.{layers_of, lowers_of, parent, parents_fault, walk_fault, way_fault, IsStackOf, IsTopmost, ShowsDirectory, ShowsInode};
-ghost use Rattle.copy_up.specs.Showing.{ShowsSame, GainsParents, StaysLayers, StaysMount, StaysThin};
+ghost use Rattle.merged_lookup.specs.Merged.{layers_of, lowers_of, parent, parents_fault, top_of, IsStackOf, IsTopmost, ShowsInode};
+ghost use Rattle.copy_up.specs.Showing.{number_of, ShowsSame, GainsParents, StaysLayers, StaysMount, StaysThin};
 ghost use Rattle.copy_up.specs.Altering.{AltersObject, AltersAs, AltersObjectAs};
 
 use crate::leaves::all_at_once;
-use crate::parents::place_parents;
-use merged_lookup::{Found, Layers, Place, Stack, Topmost};
+use crate::parents::{place_parent, place_parents};
+use merged_lookup::{Layers, Place, Stack, Topmost};
 use ov_base::{AttributeChange, Attributes, Path};
 use std::alloc::AllocError;
 
-/// Changes the attributes of what a walk found at a path, as chmod(2), chown(2) and setxattr(2) do:
-/// in place where the upper has it; a directory of lower layers is placed first, and a file or
-/// symbolic link of one is copied up with them (overlayfs.rst, "Non-directories"). It fails only
-/// when out of memory, and changes nothing that is shown then.
+/// Changes the attributes of what is shown at a path, as chmod(2), chown(2) and setxattr(2) do, and
+/// gives the key under which it stands in the upper then: in place where the upper has it; a
+/// directory of lower layers is placed first, and a file or symbolic link of one is copied up with
+/// them (overlayfs.rst, "Non-directories"). It is told the merged directory in which the object
+/// stands. It fails only when out of memory, and changes nothing that is shown then.
 pub fn alter(
     layers: &mut Layers,
     path: &Path,
+    directory: Stack,
     top: Topmost,
     change: AttributeChange,
-) -> Result<(), AllocError>
-    requires walked { walk_fault (layers_of layers.old) path.now ≡ None }
+) -> Result<usize, AllocError>
+    requires way { parents_fault (layers_of layers.old) path.now ≡ None }
+    requires directory { IsStackOf layers.old (parent path.now) directory }
     requires shown { IsTopmost layers.old path.now (Some top) }
     ensures altered { OnOk result (AltersAs layers.old layers.new path.now change) }
     ensures object { OnOk result (AltersObjectAs layers.old layers.new path.now change) }
+    ensures key { IfOk result (λ key. number_of (held (layer_of layers.new.upper) path.now) ≡ Some key) }
     ensures lowers { layers.new.lowers ≡ layers.old.lowers }
     ensures nameless { (k : ℕ) → IsNameless layers.old.upper k → IsNameless layers.new.upper k }
     ensures no_memory { OnErr result (ShowsSame layers.old layers.new) }
@@ -47,43 +49,27 @@ pub fn alter(
         layers.lawful();
         return alter_upper(layers, place.key, change);
     }
-    alter_lower(layers, path, change)
-}
-
-// `alter` of what a lower layer has, to which it walks for the directories that a copy-up wants.
-fn alter_lower(layers: &mut Layers, path: &Path, change: AttributeChange) -> Result<(), AllocError>
-    requires walked { walk_fault (layers_of layers.old) path.now ≡ None }
-    requires lower { (top : MountTopmost) × IsTopmost layers.old path.now (Some top) × (0 < (place_shown top).layer) }
-    ensures altered { OnOk result (AltersAs layers.old layers.new path.now change) }
-    ensures object { OnOk result (AltersObjectAs layers.old layers.new path.now change) }
-    ensures lowers { layers.new.lowers ≡ layers.old.lowers }
-    ensures nameless { (k : ℕ) → IsNameless layers.old.upper k → IsNameless layers.new.upper k }
-    ensures no_memory { OnErr result (ShowsSame layers.old layers.new) }
-    ensures mounts { OnErr result (StaysMount layers.old layers.new) }
-    ensures parents { OnErr result (GainsParents layers.old layers.new path.now) }
-    ensures keeps { StaysLayers layers.old layers.new }
-    ensures thin { StaysThin layers.old layers.new }
-{
-    let Ok((directory, found)) = layers.walk_in(path) else {
-        unreachable!()
-    };
-    match found {
-        Found::Directory(stack) => place_changed(layers, path, stack, change),
-        Found::Inode(place) => copy_changed(layers, path, directory, place, change),
+    match top {
+        Topmost::Directory(place) => place_changed(layers, path, directory, place, change),
+        Topmost::Inode(place) => copy_changed(layers, path, directory, place, change),
     }
 }
 
-// `alter` of a directory, which is placed first where the upper lacks it.
+// `alter` of a directory that the upper lacks, which is placed first.
 fn place_changed(
     layers: &mut Layers,
     path: &Path,
     directory: Stack,
+    place: Place,
     change: AttributeChange,
-) -> Result<(), AllocError>
-    requires way { way_fault (layers_of layers.old) path.now ≡ None }
-    requires shown { ShowsDirectory layers.old path.now directory.places.items }
+) -> Result<usize, AllocError>
+    requires way { parents_fault (layers_of layers.old) path.now ≡ None }
+    requires directory { IsStackOf layers.old (parent path.now) directory }
+    requires shown { (a : AttributesOf) × (shows 0 (layers_of layers.old) path.now ≡ Some (Folder place.layer place.key a)) }
+    requires lower { 0 < place.layer }
     ensures altered { OnOk result (AltersAs layers.old layers.new path.now change) }
     ensures object { OnOk result (AltersObjectAs layers.old layers.new path.now change) }
+    ensures key { IfOk result (λ key. number_of (held (layer_of layers.new.upper) path.now) ≡ Some key) }
     ensures lowers { layers.new.lowers ≡ layers.old.lowers }
     ensures nameless { (k : ℕ) → IsNameless layers.old.upper k → IsNameless layers.new.upper k }
     ensures no_memory { OnErr result (ShowsSame layers.old layers.new) }
@@ -92,7 +78,7 @@ fn place_changed(
     ensures keeps { StaysLayers layers.old layers.new }
     ensures thin { StaysThin layers.old layers.new }
 {
-    let attributes = changed_directory(layers, directory.top(), change)?;
+    let attributes = changed_directory(layers, place, change)?;
     place_with(layers, path, directory, attributes)
 }
 
@@ -110,17 +96,21 @@ fn changed_directory(
     Ok(attributes)
 }
 
-// Places the directory that a path shows in the upper, where the upper lacks it, with other attributes.
+// Places the directory that a path below the root shows in the upper, where the upper lacks it,
+// with other attributes, and gives its key.
 fn place_with(
     layers: &mut Layers,
     path: &Path,
     directory: Stack,
     attributes: Attributes,
-) -> Result<(), AllocError>
-    requires way { way_fault (layers_of layers.old) path.now ≡ None }
-    requires directory { IsStackOf layers.old path.now directory }
+) -> Result<usize, AllocError>
+    requires way { parents_fault (layers_of layers.old) path.now ≡ None }
+    requires directory { IsStackOf layers.old (parent path.now) directory }
+    requires shown { is_directory (shows 0 (layers_of layers.old) path.now) ≡ true }
+    requires below { path.now ≢ [] }
     ensures altered { OnOk result (AreLayers (layers_of layers.old) → Alters (layer_of layers.old.upper) (layer_of layers.new.upper) (lowers_of layers.old) path.now attributes) }
     ensures object { OnOk result (AltersObject layers.old layers.new path.now attributes) }
+    ensures key { IfOk result (λ key. number_of (held (layer_of layers.new.upper) path.now) ≡ Some key) }
     ensures lowers { layers.new.lowers ≡ layers.old.lowers }
     ensures nameless { (k : ℕ) → IsNameless layers.old.upper k → IsNameless layers.new.upper k }
     ensures no_memory { OnErr result (ShowsSame layers.old layers.new) }
@@ -129,11 +119,35 @@ fn place_with(
     ensures keeps { StaysLayers layers.old layers.new }
     ensures thin { StaysThin layers.old layers.new }
 {
-    let placed = place_parents(layers, directory, path.names())?;
+    let placed = place_at(layers, path, directory)?;
     let dir = placed.top();
     layers.lawful();
     set_attributes(layers, dir.key, attributes);
-    Ok(())
+    Ok(dir.key)
+}
+
+// The merged directory that a path below the root shows, where the upper has it: it is placed there
+// where the upper lacks it, and so are its parents.
+fn place_at(layers: &mut Layers, path: &Path, directory: Stack) -> Result<Stack, AllocError>
+    requires way { parents_fault (layers_of layers.old) path.now ≡ None }
+    requires directory { IsStackOf layers.old (parent path.now) directory }
+    requires shown { is_directory (shows 0 (layers_of layers.old) path.now) ≡ true }
+    requires below { path.now ≢ [] }
+    ensures same { ShowsSame layers.old layers.new }
+    ensures stack { IfOk result (λ s. IsStackOf layers.new path.now s) }
+    ensures upper { IfOk result (λ s. (top_of s.places.items).layer ≡ 0) }
+    ensures keeps { StaysLayers layers.old layers.new }
+    ensures mounts { StaysMount layers.old layers.new }
+    ensures thin { StaysThin layers.old layers.new }
+    ensures names { (p : Names) (k : ℕ) → (held (layer_of layers.new.upper) p ≡ Some (Named k)) ↔ (held (layer_of layers.old.upper) p ≡ Some (Named k)) }
+    ensures gains { (n : Name) → GainsParents layers.old layers.new (n ∷ path.now) }
+    ensures proper { OnErr result (GainsParents layers.old layers.new path.now) }
+{
+    let Some((name, parents)) = path.split_last() else {
+        unreachable!()
+    };
+    let parent = place_parents(layers, directory, parents)?;
+    place_parent(layers, &parent, name)
 }
 
 // `alter` of a file or symbolic link of a lower layer, which is copied up.
@@ -143,13 +157,14 @@ fn copy_changed(
     directory: Stack,
     place: Place,
     change: AttributeChange,
-) -> Result<(), AllocError>
+) -> Result<usize, AllocError>
     requires way { parents_fault (layers_of layers.old) path.now ≡ None }
     requires directory { IsStackOf layers.old (parent path.now) directory }
     requires shown { ShowsInode layers.old path.now place }
     requires lower { 0 < place.layer }
     ensures altered { OnOk result (AltersAs layers.old layers.new path.now change) }
     ensures object { OnOk result (AltersObjectAs layers.old layers.new path.now change) }
+    ensures key { IfOk result (λ key. number_of (held (layer_of layers.new.upper) path.now) ≡ Some key) }
     ensures lowers { layers.new.lowers ≡ layers.old.lowers }
     ensures nameless { (k : ℕ) → IsNameless layers.old.upper k → IsNameless layers.new.upper k }
     ensures no_memory { OnErr result (ShowsSame layers.old layers.new) }
@@ -162,8 +177,8 @@ fn copy_changed(
     let Some((name, parents)) = path.split_last() else {
         unreachable!()
     };
-    all_at_once(layers, directory, parents, name, place, attributes)?;
-    Ok(())
+    let key = all_at_once(layers, directory, parents, name, place, attributes)?;
+    Ok(key)
 }
 
 // A copy of the attributes of the file or symbolic link that is shown at a place, changed.
@@ -180,9 +195,15 @@ fn changed_inode(
     Ok(attributes)
 }
 
-// Changes the attributes of what stands under a key of the upper, where they stand; the lower layers stay.
-fn alter_upper(layers: &mut Layers, key: usize, change: AttributeChange) -> Result<(), AllocError>
+// Changes the attributes of what stands under a key of the upper, where they stand, and gives that
+// key; the lower layers stay.
+fn alter_upper(
+    layers: &mut Layers,
+    key: usize,
+    change: AttributeChange,
+) -> Result<usize, AllocError>
     requires { IsSome (get layers.old.upper key) }
+    ensures same { IfOk result (λ k. k ≡ key) }
     ensures lowers { layers.new.lowers ≡ layers.old.lowers }
     ensures sets { OnOk result ((a : AttributesOf) → attributes_at layers.old.upper key ≡ Some a → SetsAttributes layers.old.upper layers.new.upper key (changed change a)) }
     ensures inode { OnOk result ((i : Inode) → inode_at layers.old.upper key ≡ Some i → SetsInode (layer_of layers.old.upper) (layer_of layers.new.upper) key (changed change i.attributes)) }
@@ -191,7 +212,8 @@ fn alter_upper(layers: &mut Layers, key: usize, change: AttributeChange) -> Resu
     ensures keeps { IsLayer (layer_of layers.old.upper) → IsLayer (layer_of layers.new.upper) }
     ensures nameless { (k : ℕ) → IsNameless layers.old.upper k → IsNameless layers.new.upper k }
 {
-    layers.upper_mut().alter(key, change)
+    layers.upper_mut().alter(key, change)?;
+    Ok(key)
 }
 
 // Gives what stands under a key of the upper these attributes; the lower layers stay.

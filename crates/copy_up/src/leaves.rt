@@ -10,7 +10,7 @@ ghost use Rattle.copy_up.specs.Showing.{ShowsSame, HasPlace, GainsParents, Stays
 ghost use Rattle.copy_up.specs.Leaves.{CopiesLeaf};
 
 use crate::parents::place_parents;
-use layer_tree::{Layer, Object};
+use layer_tree::Object;
 use merged_lookup::{Layers, Place, Stack};
 use ov_base::{Attributes, Content, Name};
 use std::alloc::AllocError;
@@ -63,27 +63,10 @@ pub fn insert_leaf(
     ensures same { OnErr result (KeepsObjects layers.old.upper layers.new.upper None) }
     ensures keeps { IsLayer (layer_of layers.old.upper) → IsLayer (layer_of layers.new.upper) }
 {
-    insert_leaf_in(layers.upper_mut(), dir, name, content, attributes)
-}
-
-// Puts a new file or symbolic link at a name of a directory of a layer at which no object stands, and gives its key.
-fn insert_leaf_in(
-    upper: &mut Layer,
-    dir: usize,
-    name: &Name,
-    content: Content,
-    attributes: Attributes,
-) -> Result<usize, AllocError>
-    requires { (p : Names) × HasPlace (layer_of upper.old) dir name.now p }
-    ensures placed { IfOk result (λ key. (p : Names) → HasPlace (layer_of upper.old) dir name.now p → PlacesLeaf (layer_of upper.old) (layer_of upper.new) (name.now ∷ p) key (record { content = content; attributes = attributes; links = 1 })) }
-    ensures unchanged { OnErr result (SameObjects (layer_of upper.old) (layer_of upper.new)) }
-    ensures vacant { IfOk result (λ key. get upper.old key ≡ None) }
-    ensures objects { IfOk result (λ key. KeepsObjects upper.old upper.new (Some key)) }
-    ensures same { OnErr result (KeepsObjects upper.old upper.new None) }
-    ensures keeps { IsLayer (layer_of upper.old) → IsLayer (layer_of upper.new) }
-{
-    upper.lawful();
+    layers.lawful();
     let name = name.clone()?;
-    let key = upper.insert(dir, name, Object::Inode(content, attributes))?;
+    let key = layers
+        .upper_mut()
+        .insert(dir, name, Object::Inode(content, attributes))?;
     Ok(key)
 }

@@ -9,7 +9,7 @@ ghost use Rattle.layer_tree.specs.Tree.{layer_of, inode_at, SetsPath, SameObject
 ghost use Rattle.merged_lookup.specs.Merged.{layers_of, way_fault, top_of, IsStackOf, ShowsDirectory};
 ghost use Rattle.copy_up.specs.Showing.{ShowsSame, HasPlace, GainsParent, IsParent, GainsParents, Stays, StaysLayers, StaysMount, StaysThin};
 
-use layer_tree::{Layer, Marks, Object};
+use layer_tree::{Marks, Object};
 use merged_lookup::{Found, Layers, Stack};
 use ov_base::{Attributes, Name};
 use std::alloc::AllocError;
@@ -82,16 +82,16 @@ pub(crate) fn place_parent(
     ensures unchanged { OnErr result (SameObjects (layer_of layers.old.upper) (layer_of layers.new.upper)) }
     ensures gains { (p t : Path) → IsStackOf layers.old p parent.now → IsParent (name.now ∷ p) t → GainsParents layers.old layers.new t }
 {
-    let found = directory_in(layers, parent, name);
+    let mut found = directory_in(layers, parent, name);
     let place = found.top();
     if place.layer == 0 {
         return Ok(found);
     }
     let attributes = layers.attributes_at(place).clone()?;
     let dir = parent.top();
-    insert_directory(layers, dir.key, name, attributes, false)?;
-    let placed = directory_in(layers, parent, name);
-    Ok(placed)
+    let key = insert_directory(layers, dir.key, name, attributes, false)?;
+    found.put_upper(key);
+    Ok(found)
 }
 
 // The merged directory that is shown at a name.
@@ -105,46 +105,31 @@ pub(crate) fn directory_in(layers: &Layers, parent: &Stack, name: &Name) -> Stac
     }
 }
 
-/// Puts a directory without a redirect at a name of a directory of the upper at which no object stands.
+/// Puts a directory without a redirect at a name of a directory of the upper at which no object
+/// stands, and gives its key.
 pub fn insert_directory(
     layers: &mut Layers,
     dir: usize,
     name: &Name,
     attributes: Attributes,
     opaque: bool,
-) -> Result<(), AllocError>
+) -> Result<usize, AllocError>
     requires { (p : Path) × HasPlace (layer_of layers.old.upper) dir name.now p }
     ensures lowers { layers.new.lowers ≡ layers.old.lowers }
-    ensures sets { OnOk result ((p : Path) → HasPlace (layer_of layers.old.upper) dir name.now p → (key : ℕ) × SetsPath (layer_of layers.old.upper) (layer_of layers.new.upper) (name.now ∷ p) (held.Directory key attributes opaque None) × (get layers.old.upper key ≡ None)) }
+    ensures sets { IfOk result (λ key. (p : Path) → HasPlace (layer_of layers.old.upper) dir name.now p → SetsPath (layer_of layers.old.upper) (layer_of layers.new.upper) (name.now ∷ p) (held.Directory key attributes opaque None) × (get layers.old.upper key ≡ None)) }
     ensures unchanged { OnErr result (SameObjects (layer_of layers.old.upper) (layer_of layers.new.upper)) }
     ensures keeps { IsLayer (layer_of layers.old.upper) → IsLayer (layer_of layers.new.upper) }
     ensures inodes { (key : ℕ) → inode_at layers.new.upper key ≡ inode_at layers.old.upper key }
     ensures objects { KeepsObjects layers.old.upper layers.new.upper None }
 {
-    insert_in(layers.upper_mut(), dir, name, attributes, opaque)
-}
-
-// Puts a directory without a redirect at a name of a directory of a layer at which no object stands.
-fn insert_in(
-    upper: &mut Layer,
-    dir: usize,
-    name: &Name,
-    attributes: Attributes,
-    opaque: bool,
-) -> Result<(), AllocError>
-    requires { (p : Path) × HasPlace (layer_of upper.old) dir name.now p }
-    ensures sets { OnOk result ((p : Path) → HasPlace (layer_of upper.old) dir name.now p → (key : ℕ) × SetsPath (layer_of upper.old) (layer_of upper.new) (name.now ∷ p) (held.Directory key attributes opaque None) × (get upper.old key ≡ None)) }
-    ensures unchanged { OnErr result (SameObjects (layer_of upper.old) (layer_of upper.new)) }
-    ensures keeps { IsLayer (layer_of upper.old) → IsLayer (layer_of upper.new) }
-    ensures inodes { (key : ℕ) → inode_at upper.new key ≡ inode_at upper.old key }
-    ensures objects { KeepsObjects upper.old upper.new None }
-{
-    upper.lawful();
+    layers.lawful();
     let name = name.clone()?;
     let marks = Marks {
         opaque,
         redirect: None,
     };
-    upper.insert(dir, name, Object::Directory(attributes, marks))?;
-    Ok(())
+    let key = layers
+        .upper_mut()
+        .insert(dir, name, Object::Directory(attributes, marks))?;
+    Ok(key)
 }

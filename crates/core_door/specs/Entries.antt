@@ -11,7 +11,7 @@ use Rattle.mount_calls.specs.Keeping.{takes_no_memory}
 use Rattle.ov_frames.specs.declared.answer.Answer.TheVariants.{Replied, NotTaken}
 use Rattle.ov_session.specs.declared.exchange.Exchange.{Exchange}
 use Rattle.ov_session.specs.declared.exchange.Exchange.TheVariants.{Called, HeldBack, Departed}
-use Rattle.overlay_core.specs.Watching.{Agrees}
+use Rattle.overlay_core.specs.Views.{CoreAgrees, core_finished}
 use Rattle.overlay_core.specs.declared.mounted.Core.{Core}
 use Rattle.watch_table.specs.declared.hook.Callback.{Ghosts as Callback}
 use Rattle.watch_table.specs.declared.hook.Rule.{Ghosts as Rule}
@@ -50,8 +50,8 @@ IsCounted n (Departed answer ∷ told) m = (answer ≡ Replied n Done) × IsCoun
 pub record IsPlayed {F G : Type 0} {asks : Callback F} {rule : Rule G}
     (client : ℕ) (old : Core F G asks rule) (told : List Exchange)
     (new : Core F G asks rule) : Type 0 where
-  pub counted : IsCounted old.finished told new.finished
+  pub counted : IsCounted (core_finished old) told (core_finished new)
   pub run :
-      (s : State) → Agrees old.watched.mount old.watched.notifier s →
+      (s : State) → CoreAgrees old s →
       (t : State) × ((number : ℕ) → Run rule.shows s (entries_of client number told) t)
-      × Agrees new.watched.mount new.watched.notifier t
+      × CoreAgrees new t

@@ -1,8 +1,8 @@
 // A door whose calls one client of a core makes.
 ghost use Rattle.std.specs.Prelude.{◌≡◌, ◌+◌, ◌<◌, ◌≤◌, ◌^◌, ◌∷◌, [], true};
-ghost use Rattle.mount_calls.specs.Attaching.{is_attached};
+ghost use Rattle.overlay_core.specs.Views.{core_finished, has_client};
 ghost use Rattle.ov_session.specs.declared.exchange.Exchange.TheVariants.{Called};
-ghost use Rattle.core_door.specs.Entries.{IsPlayed};
+ghost use Rattle.core_door.specs.Rooms.{IsServed};
 
 use crate::session::CoreSession;
 use ov_base::{Call, Errno, Reply};
@@ -39,14 +39,14 @@ impl<F: Callback, R: Rule> CoreDoor<F, R> {
 
     // Makes a call, unless the history is full or memory runs out, and hands it back.
     fn perform(&mut self, call: Call) -> (Call, Answer)
-        requires attached { is_attached self.old.core.watched.mount.clients self.old.client ≡ true }
-        requires bound { self.old.core.finished + 1 < 2 ^ 63 }
+        requires attached { has_client self.old.core self.old.client ≡ true }
+        requires bound { core_finished self.old.core + 1 < 2 ^ 63 }
         ensures client { self.new.client ≡ self.old.client }
         ensures call { result.0 ≡ call }
-        ensures played { IsPlayed self.old.client self.old.core
+        ensures served { IsServed self.old.client self.old.core
             (Called call result.1 ∷ []) self.new.core }
-        ensures attached { is_attached self.new.core.watched.mount.clients self.old.client ≡ true }
-        ensures finished { self.new.core.finished ≤ self.old.core.finished + 1 }
+        ensures attached { has_client self.new.core self.old.client ≡ true }
+        ensures finished { core_finished self.new.core ≤ core_finished self.old.core + 1 }
     {
         if self.core.room() == 0 {
             return (call, Answer::NotTaken(Errno::ENOSPC));
@@ -66,24 +66,24 @@ impl<F: Callback + Drop, R: Rule> Door for CoreDoor<F, R> {
 
     ghost use Rattle.std.specs.Prelude.{◌≡◌, ◌+◌, ◌<◌, ◌^◌, true, refl, vec_len};
     ghost use Rattle.std.specs.Vec.{vec_capacity};
-    ghost use Rattle.mount_calls.specs.Attaching.{is_attached};
-    ghost use Rattle.core_door.specs.Entries.{IsPlayed};
-    ghost use Rattle.core_door.specs.Joining.{played_nothing, played_on};
+    ghost use Rattle.overlay_core.specs.Views.{core_finished, has_client};
+    ghost use Rattle.core_door.specs.Joining.{served_nothing, served_on};
+    ghost use Rattle.core_door.specs.Rooms.{IsServed};
 
     ghost told = { λ s. s.exchanges.items };
 
     ghost goes = { λ d told e.
-        (e.client ≡ d.client) × IsPlayed d.client d.core told e.core };
+        (e.client ≡ d.client) × IsServed d.client d.core told e.core };
 
     ghost admits = { λ d s.
-        (is_attached d.core.watched.mount.clients d.client ≡ true)
-        × (d.core.finished + 1 < 2 ^ 63)
+        (has_client d.core d.client ≡ true)
+        × (core_finished d.core + 1 < 2 ^ 63)
         × (vec_len s.exchanges < vec_capacity s.exchanges) };
 
-    ghost stays = { λ d. (refl, played_nothing d.client d.core) };
+    ghost stays = { λ d. (refl, served_nothing d.client d.core) };
 
     ghost joins = { λ a b c xs ys.
-        played_on a.client b.client c.client a.core b.core c.core xs ys };
+        served_on a.client b.client c.client a.core b.core c.core xs ys };
 
     fn call(&mut self, session: &mut CoreSession, call: Call) -> CallOutcome {
         if session.reserve().is_err() {

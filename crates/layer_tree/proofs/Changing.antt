@@ -4,7 +4,8 @@ use Rattle.std.specs.Option.{option_and_then}
 use Rattle.std.specs.Prelude.{option_map}
 use Rattle.slab.specs.Slab.{get}
 use Rattle.plain_model.specs.Layers as layers
-use Rattle.plain_model.specs.Layers.{Layer, Path, held}
+use Rattle.plain_model.specs.Layers.{Path, held}
+use Rattle.plain_model.proofs.Paths.{cases_pair, place}
 use Rattle.layer_tree.specs.Walk.{Rebinds}
 use Rattle.layer_tree.specs.Places.{HasNames}
 use Rattle.layer_tree.specs.Table.{entry_in, object_key}
@@ -13,7 +14,7 @@ use Rattle.layer_tree.specs.declared.name_table.Entry.{Entry}
 use Rattle.layer_tree.specs.declared.name_table.Entry.TheVariants as to
 use Rattle.layer_tree.specs.declared.node.Node.{Node}
 use Rattle.layer_tree.specs.declared.node.Node.TheVariants as node
-use Rattle.layer_tree.proofs.Walks.{bound, cases_pair, cases_ends, IsPlaced, other_name, walk_beside, walk_to_dir, walk_at, walk_under_none}
+use Rattle.layer_tree.proofs.Walks.{bound, IsPlaced, other_name, walk_beside, walk_to_dir, walk_at, walk_under_none}
 
 -- a key with a child is a directory
 pub parent_is_directory : (t : Tree) (dir : ℕ) (name : List ℕ) (key : ℕ) → child t dir name ≡ Some key → IsDirectory t dir
@@ -182,7 +183,7 @@ module _ (old new : Tree) (dir : ℕ) (name : List ℕ) (e : Option Entry) (chan
 
         elsewhere : (q : Path) → q ≢ name ∷ p → object_at new q ≡ object_at old q
         elsewhere q differs =
-            elim (cases_ends q (name ∷ p)) [
+            elim (place (name ∷ p) q) [
               | inl found ↦ under q differs found.0 found.1
               | inr off ↦ object_beside q off
             ]

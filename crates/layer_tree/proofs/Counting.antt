@@ -1,8 +1,8 @@
 -- How a change of one name changes the places where a key stands.
 use Rattle.std.proofs.Common.{◌≡◌, ◌≢◌, ◌⊎◌, ℕ, suc, List, [], ◌∷◌, length, Option, Some, refl, sym, ap, subst, ◌∙◌, inl, inr}
+use Rattle.plain_model.proofs.Paths.{cases_pair}
 use Rattle.layer_tree.specs.Walk.{Rebinds}
 use Rattle.layer_tree.specs.Places.{Listed, Apart, StandsAt, HasNames}
-use Rattle.layer_tree.proofs.Walks.{cases_pair}
 
 -- the rest alone where the place is the one, and else the place before it
 abbrev pub dropped : {A B : Type 0} (p : ℕ × List ℕ) (ps rest : List (ℕ × List ℕ)) → A ⊎ B → List (ℕ × List ℕ)

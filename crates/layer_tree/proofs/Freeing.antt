@@ -5,14 +5,14 @@ use Rattle.std.specs.Prelude.{option_map}
 use Rattle.std.proofs.lemmas.Bool.{cases_eq}
 use Rattle.slab.specs.Slab.{Updates}
 use Rattle.plain_model.specs.Layers as layers
-use Rattle.plain_model.specs.Layers.{Path, held, IsLayer}
+use Rattle.plain_model.specs.Layers.{Path, IsLayer}
+use Rattle.plain_model.proofs.Paths.{cases_pair}
 use Rattle.layer_tree.specs.Places.{Listed}
 use Rattle.layer_tree.specs.Table.{Table, entry_in, object_key}
 use Rattle.layer_tree.specs.Tree.{Tree, ROOT, table_of, inode_of, seen, entry, child, key_at, entry_at, seen_at, seen_entry, inode_at, layer_of, directory_attributes, leads_on, IsUnmarked, IsDirectory, IsTree, Unbinds, Frees, SameObjects}
 use Rattle.layer_tree.specs.declared.name_table.Entry.{Entry}
 use Rattle.layer_tree.specs.declared.name_table.Entry.TheVariants as to
 use Rattle.layer_tree.specs.declared.node.Node.{Node}
-use Rattle.layer_tree.proofs.Walks.{cases_pair}
 use Rattle.layer_tree.proofs.Counting.{HasNames-alike}
 use Rattle.layer_tree.proofs.Changing.{key_of_entry}
 use Rattle.layer_tree.proofs.Held.{held_together}

@@ -7,12 +7,12 @@ use Rattle.ov_base.specs.declared.redirect.Redirect.TheVariants as redirect
 use Rattle.plain_model.specs.Layers as layers
 use Rattle.plain_model.specs.Layers.{Layer, Path, Named, held, same_path, AreLinks, HasAllPaths, IsLayer}
 use Rattle.plain_model.specs.Laws.{IsOutside}
-use Rattle.plain_model.proofs.Paths.{paths_tell}
+use Rattle.plain_model.proofs.Paths.{paths_tell, one_or_not, place}
 use Rattle.plain_model.proofs.Counting.{Counted, count-same, count-more, count-less}
 use Rattle.layer_tree.specs.Tree.{SetsPath, ReplacesPath, SameObjects, IsHeldTogether, with_less}
 use Rattle.layer_tree.specs.Link.{with_more}
 use Rattle.layer_tree.specs.Move.{MovesPath}
-use Rattle.layer_tree.proofs.Walks.{unwrapped, cases_ends, same_path as same_or_not}
+use Rattle.layer_tree.proofs.Walks.{unwrapped}
 use Rattle.layer_tree.proofs.Roots.{links_of}
 use Rattle.layer_tree.proofs.Swapping.{member-swap, count-swap, swapped, swapped-first, swapped-second, swapped-neither, swapped-back, by_place}
 
@@ -159,13 +159,13 @@ module _ (old new : Layer) (path : Path) (o : Option layers.Object) (replaces : 
       none_was (n ∷ s) f h off = bare n s k (sym (ap (held old) f) ∙ h)
 
       there : Names new k w → Names old k w × (w ≡ path → ⊥)
-      there h = elim (cases_ends w path) [
+      there h = elim (place path w) [
         | inl found ↦ absurd (none_inside found.0 found.1 h)
         | inr off ↦ (sym (replaces.elsewhere w off) ∙ h, off [])
       ]
 
       back : Names old k w × (w ≡ path → ⊥) → Names new k w
-      back h = elim (cases_ends w path) [
+      back h = elim (place path w) [
         | inl found ↦ absurd (none_was found.0 found.1 h.0 h.1)
         | inr off ↦ replaces.elsewhere w off ∙ h.0
       ]
@@ -187,7 +187,7 @@ module _ (old new : Layer) (path : Path) (o : Option layers.Object) (replaces : 
       inside w (n ∷ s) f off h = true≢false (sym h ∙ ap (λ x. is_some (held new x)) f ∙ ap is_some (replaces.below n s))
 
       others : (n : List ℕ) (p : Path) → n ∷ p ≢ path → is_some (held new (n ∷ p)) ≡ true → list_any (same_path (n ∷ p)) ps ≡ true
-      others n p off h = elim (cases_ends (n ∷ p) path) [
+      others n p off h = elim (place path (n ∷ p)) [
         | inl found ↦ absurd (inside (n ∷ p) found.0 found.1 off h)
         | inr away ↦ all (n ∷ p) (sym (ap is_some (replaces.elsewhere (n ∷ p) away)) ∙ h)
       ]
@@ -235,7 +235,7 @@ module _ (old new : Layer) (path : Path) (o : layers.Object) (key : ℕ) (sets :
       exact w = (there, back)
         where
           there : Names new key w → (w ≡ path) ⊎ Names old key w
-          there h = elim (same_or_not w path) [
+          there h = elim (one_or_not paths_tell w path) [
             | inl f ↦ inl f
             | inr off ↦ absurd (unnamed w (sym (sets.elsewhere w off) ∙ h))
           ]
@@ -273,7 +273,7 @@ module _ (old new : Layer) (path : Path) (key : ℕ) (sets : SetsPath old new pa
   names_further w = (there, back)
     where
       there : Names new key w → (w ≡ path) ⊎ Names old key w
-      there h = elim (same_or_not w path) [
+      there h = elim (one_or_not paths_tell w path) [
         | inl f ↦ inl f
         | inr off ↦ inr (sym (sets.elsewhere w off) ∙ h)
       ]

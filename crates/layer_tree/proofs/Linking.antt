@@ -7,6 +7,7 @@ use Rattle.std.proofs.lemmas.Bool.{cases_eq}
 use Rattle.slab.specs.Slab.{get}
 use Rattle.plain_model.specs.Layers as layers
 use Rattle.plain_model.specs.Layers.{Path, IsLayer}
+use Rattle.plain_model.proofs.Paths.{cases_pair}
 use Rattle.layer_tree.specs.Walk.{Rebinds}
 use Rattle.layer_tree.specs.Places.{HasNames}
 use Rattle.layer_tree.specs.Table.{Table, NameMap, entry_in}
@@ -16,7 +17,7 @@ use Rattle.layer_tree.specs.Link.{Links, HasCountRoom, with_more}
 use Rattle.layer_tree.specs.declared.name_table.Entry.TheVariants as to
 use Rattle.layer_tree.specs.declared.node.Node.{Node}
 use Rattle.layer_tree.specs.declared.node.Node.TheVariants as node
-use Rattle.layer_tree.proofs.Walks.{unwrapped, cases_pair}
+use Rattle.layer_tree.proofs.Walks.{unwrapped}
 use Rattle.layer_tree.proofs.Retabling.{same_seen as seen_retabled, same_inode as inode_retabled, room_kept}
 use Rattle.layer_tree.proofs.Counting.{StandsAt-bound, StandsAt-other}
 use Rattle.layer_tree.proofs.Changing.{Changed, kind_seen, presence_seen, same_presence, same_kind, child_rebinds, SetsPath-changed}

@@ -8,7 +8,7 @@ use Rattle.slab.specs.Slab.{get}
 use Rattle.plain_model.specs.Layers as layers
 use Rattle.plain_model.specs.Layers.{Path, Named, held, IsLayer}
 use Rattle.plain_model.specs.Laws.{IsOutside}
-use Rattle.plain_model.proofs.Paths.{outside-parent, parent-outside}
+use Rattle.plain_model.proofs.Paths.{outside-parent, parent-outside, cases_pair}
 use Rattle.layer_tree.specs.Walk.{Rebinds}
 use Rattle.layer_tree.specs.Places.{StandsAt, HasNames}
 use Rattle.layer_tree.specs.Table.{NameMap, object_key}
@@ -18,7 +18,7 @@ use Rattle.layer_tree.specs.Nameless.{IsNameless, KeepsObjects}
 use Rattle.layer_tree.specs.Move.{left_entry, left_object, Moves, MovesPath}
 use Rattle.layer_tree.specs.declared.name_table.Entry.{Entry}
 use Rattle.layer_tree.specs.declared.name_table.Entry.TheVariants as bound
-use Rattle.layer_tree.proofs.Walks.{unwrapped, cases_pair, one_path, walk_under_none}
+use Rattle.layer_tree.proofs.Walks.{unwrapped, one_path, walk_under_none}
 use Rattle.layer_tree.proofs.Counting.{without, length_without, StandsAt-bound, StandsAt-other, StandsAt-unbound}
 use Rattle.layer_tree.proofs.Tables.{get_put, get_other, get_gone, get_left}
 use Rattle.layer_tree.proofs.Retabling.{same_seen as seen_retabled, same_inode as inode_retabled, same_count, room_kept}

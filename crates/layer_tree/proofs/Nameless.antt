@@ -8,12 +8,13 @@ use Rattle.layer_tree.specs.Table.{object_key}
 use Rattle.layer_tree.specs.Tree.{Tree, ROOT, child, key_at, inode_of, inode_at, new_inode, Inserts, Unbinds, Frees, SameTree}
 use Rattle.layer_tree.specs.Nameless.{IsNameless, KeepsObjects}
 use Rattle.ov_base.specs.declared.attributes.Attributes.{Attributes}
+use Rattle.plain_model.proofs.Paths.{cases_pair}
 use Rattle.layer_tree.specs.declared.name_table.Entry.{Entry}
 use Rattle.layer_tree.specs.declared.node.Marks.{Marks}
 use Rattle.layer_tree.specs.declared.node.Node.{Node}
 use Rattle.layer_tree.specs.declared.node.Object.{Object}
 use Rattle.layer_tree.specs.declared.node.Object.TheVariants as object
-use Rattle.layer_tree.proofs.Walks.{bound, cases_pair}
+use Rattle.layer_tree.proofs.Walks.{bound}
 use Rattle.layer_tree.proofs.Changing.{same_presence}
 
 -- no path leads to an object without a name

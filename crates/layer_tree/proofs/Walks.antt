@@ -1,7 +1,6 @@
 -- Walks by names from a root, over any step from a key by a name.
-use Rattle.std.proofs.Common.{◌≡◌, ◌≢◌, ◌⊎◌, ℕ, List, [], ◌∷◌, ◌++◌, length, length-append, Option, Some, None, refl, sym, ap, ◌∙◌, inl, inr, arith}
+use Rattle.std.proofs.Common.{◌≡◌, ◌≢◌, ℕ, List, [], ◌∷◌, ◌++◌, length, length-append, Option, Some, None, refl, sym, ap, ◌∙◌, arith}
 use Rattle.std.specs.Option.{option_and_then}
-use Rattle.std.proofs.lemmas.Bool.{cases_eq}
 use Rattle.layer_tree.specs.Walk.{walk, Rebinds}
 
 -- a value that a chain of two gave came through both
@@ -11,60 +10,6 @@ bound f (Some x) y e = (x, refl, e)
 
 pub unwrapped : {A : Type 0} (x y : A) → Some x ≡ Some y → x ≡ y
 unwrapped x y e = cc
-
--- two names are one or not
-pub same_name : (m n : List ℕ) → (m ≡ n) ⊎ (m ≢ n)
-same_name [] [] = inl refl
-same_name [] (y ∷ ys) = inr (λ e. cc)
-same_name (x ∷ xs) [] = inr (λ e. cc)
-same_name (x ∷ xs) (y ∷ ys) =
-    elim (cases_eq x y) [
-      | inl same ↦ elim (same_name xs ys) [ inl tail ↦ inl (cc) | inr differs ↦ inr (λ e. differs (cc)) ]
-      | inr differs ↦ inr (λ e. differs (cc))
-    ]
-
--- two paths are one or not
-pub same_path : (p q : List (List ℕ)) → (p ≡ q) ⊎ (p ≢ q)
-same_path [] [] = inl refl
-same_path [] (y ∷ ys) = inr (λ e. cc)
-same_path (x ∷ xs) [] = inr (λ e. cc)
-same_path (x ∷ xs) (y ∷ ys) =
-    elim (same_name x y) [
-      | inl same ↦ elim (same_path xs ys) [ inl tail ↦ inl (cc) | inr differs ↦ inr (λ e. differs (cc)) ]
-      | inr differs ↦ inr (λ e. differs (cc))
-    ]
-
--- a name in a directory is the name in that directory, or not
-pub cases_pair : (d dir : ℕ) (n name : List ℕ) → ((d ≡ dir) × (n ≡ name)) ⊎ ((d ≡ dir) → (n ≡ name) → ⊥)
-cases_pair d dir n name =
-    elim (cases_eq d dir) [
-      | inl e ↦ elim (same_name n name) [ inl f ↦ inl (e, f) | inr g ↦ inr (λ _ f. g f) ]
-      | inr g ↦ inr (λ e _. g e)
-    ]
-
--- a path goes through another or not
-pub cases_ends : (q t : List (List ℕ)) → ((s : List (List ℕ)) × (q ≡ s ++ t)) ⊎ ((s : List (List ℕ)) → q ≢ s ++ t)
-cases_ends [] t =
-    elim (same_path [] t) [
-      | inl same ↦ inl ([], same)
-      | inr differs ↦ inr (none t differs)
-    ]
-  where
-    none : (t : List (List ℕ)) → [] ≢ t → (s : List (List ℕ)) → [] ≢ s ++ t
-    none t differs [] e = differs e
-    none t differs (n ∷ s) e = cc
-cases_ends (n ∷ q) t =
-    elim (same_path (n ∷ q) t) [
-      | inl same ↦ inl ([], same)
-      | inr differs ↦ elim (cases_ends q t) [
-        | inl found ↦ inl (n ∷ found.0, ap (λ x. n ∷ x) found.1)
-        | inr off ↦ inr (neither n q t differs off)
-      ]
-    ]
-  where
-    neither : (n : List ℕ) (q t : List (List ℕ)) → n ∷ q ≢ t → ((s : List (List ℕ)) → q ≢ s ++ t) → (s : List (List ℕ)) → n ∷ q ≢ s ++ t
-    neither n q t differs off [] e = differs e
-    neither n q t differs off (m ∷ s) e = off s (cc)
 
 -- a key that may have children has at most one name, and the root has none
 pub record IsPlaced (step : ℕ → List ℕ → Option ℕ) (root : ℕ) (IsDir : ℕ → Type 0) : Type 0 where

@@ -152,31 +152,10 @@ fn remove_name(
     ensures same { OnErr result (KeepsObjects layers.old.upper layers.new.upper None) }
     ensures lowers { layers.new.lowers ≡ layers.old.lowers }
 {
-    remove_in(layers.upper_mut(), dir, name, covered)
-}
-
-// Takes a name out of a directory of a layer, or covers it by a whiteout, and gives the key of what lost its last name.
-fn remove_in(
-    upper: &mut Layer,
-    dir: usize,
-    name: &Name,
-    covered: bool,
-) -> Result<Option<usize>, AllocError>
-    requires dir { IsDirectory upper.old dir }
-    requires bare { HoldsNoObjects upper.old dir name.now }
-    ensures takes { OnOk result ((p : List (List ℕ)) → key_at upper.old p ≡ Some dir → TakesAway (layer_of upper.old) (layer_of upper.new) (name.now ∷ p) (cond covered (Some held.Whiteout) None)) }
-    ensures objects { OnOk result (KeepsObjects upper.old upper.new (child upper.old dir name.now)) }
-    ensures fewer { OnOk result ((key : ℕ) → child upper.old dir name.now ≡ Some key → inode_at upper.new key ≡ option_map with_less (inode_at upper.old key)) }
-    ensures released { IfOk result (λ released. released ≡ released_by upper.new (child upper.old dir name.now)) }
-    ensures nameless { IfOk result (λ released. (key : ℕ) → released ≡ Some key → IsNameless upper.new key) }
-    ensures keeps { (p : List (List ℕ)) → key_at upper.old p ≡ Some dir → IsLayer (layer_of upper.old) → IsLayer (layer_of upper.new) }
-    ensures unchanged { OnErr result (SameObjects (layer_of upper.old) (layer_of upper.new)) }
-    ensures same { OnErr result (KeepsObjects upper.old upper.new None) }
-{
-    upper.lawful();
-    let was = unbind(upper, dir, name, covered)?;
-    upper.lawful();
-    Ok(released(upper, was))
+    layers.lawful();
+    let was = unbind(layers.upper_mut(), dir, name, covered)?;
+    layers.lawful();
+    Ok(released(layers.upper(), was))
 }
 
 // Takes a name out of a directory, or covers it by a whiteout; what it led to stays.

@@ -10,15 +10,11 @@ use Rattle.layer_tree.specs.declared.name_table.Entry.{Entry}
 use Rattle.layer_tree.specs.declared.name_table.Entry.TheVariants as bound
 use Rattle.layer_tree.specs.declared.node.Node.{Node}
 use Rattle.layer_tree.specs.declared.node.Node.TheVariants as node
+use Rattle.layer_tree.proofs.Walks.{bound as some-before}
 use Rattle.merged_lookup.specs.declared.layers.Layers.{Layers}
 use Rattle.merged_lookup.specs.Merged.{lowers_of}
 use Rattle.merged_lookup.specs.Locating.{IsPlaceOf, ShowsUpper, place_of}
 use Rattle.merged_lookup.proofs.Descending.{held-in}
-
--- where a step leads on, something is there
-some-before : {A B : Type 0} (f : A → Option B) (o : Option A) (y : B) → option_and_then f o ≡ Some y → (x : A) × (o ≡ Some x) × (f x ≡ Some y)
-some-before f None y h = cc
-some-before f (Some x) y h = (x, refl, h)
 
 -- a path that leads on from another does so from a key
 key-before : (t : Tree) (r q : Path) (k : ℕ) → key_at t (r ++ q) ≡ Some k → (j : ℕ) × (key_at t q ≡ Some j)

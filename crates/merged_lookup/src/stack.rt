@@ -1,5 +1,5 @@
 // The directories of the layers that one merged directory is made of.
-ghost use Rattle.std.specs.Prelude.{◌≡◌, ◌<◌};
+ghost use Rattle.std.specs.Prelude.{◌≡◌, ◌<◌, ◌∷◌};
 ghost use Rattle.arrayvec.specs.ArrayVec.{array_vec_len};
 
 use crate::descent::below_upper;
@@ -41,6 +41,14 @@ impl Stack {
         ensures { result.now ≡ self.now.places.items }
     {
         self.places.as_slice()
+    }
+
+    /// Puts the upper's new directory of a key over the directories of lower layers alone.
+    pub fn put_upper(&mut self, key: usize)
+        requires { array_vec_len self.old.places < 17 }
+        ensures { self.new.places.items ≡ (record { layer = 0; key = key }) ∷ self.old.places.items }
+    {
+        self.places.insert(0, Place { layer: 0, key });
     }
 
     /// Whether the merged directory is base: a lower layer that is reached has a directory there.

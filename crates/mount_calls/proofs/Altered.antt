@@ -5,9 +5,9 @@ use Rattle.std.specs.Prelude.{option_map}
 use Rattle.slab.specs.Slab.{get}
 use Rattle.ov_base.specs.declared.attributes.Attributes.{Attributes}
 use Rattle.plain_model.specs.Layers.{Name, Path, Named, Inode, held}
+use Rattle.plain_model.proofs.Paths.{one_or_not, paths_tell}
 use Rattle.mount_laws.specs.StayOpen.{AltersNamed}
 use Rattle.layer_tree.specs.Tree.{Tree, ROOT, IsTree, IsUnmarked, layer_of, seen_at, inode_at}
-use Rattle.layer_tree.proofs.Walks.{same_path}
 use Rattle.merged_lookup.specs.declared.layers.Layers.{Layers}
 use Rattle.copy_up.specs.Showing.{number_of, KeepsPath}
 use Rattle.copy_up.specs.Altering.{object_with, inode_with, AltersObject}
@@ -39,7 +39,7 @@ root-apart t tree k i is e = subst IsUnmarked (inode-seen t ROOT i (ap (inode_at
 module _ (old new : Layers) (p : Path) (a : Attributes) (x : AltersObject old new p a) (j : ℕ) where
   -- names elsewhere are as they were
   names-by : StillNames old new j p → (q : Path) → StillNames old new j q
-  names-by here q = elim (same_path q p) [
+  names-by here q = elim (one_or_not paths_tell q p) [
     | inl e ↦ subst (StillNames old new j) (sym e) here
     | inr off ↦ names-kept old new p q j (x.paths q off)
   ]

@@ -1,61 +1,66 @@
 -- The calls that change attributes, by how they end.
-use Rattle.std.proofs.Common.{◌≡◌, ℕ, true, false, not, ◌&&◌, is_none, length, nat_lt, List, Option, None, Some, Result, Ok, Err, MatchResult, refl, sym, ap, ◌∙◌, subst}
+use Rattle.std.proofs.Common.{◌≡◌, ℕ, true, false, List, Option, None, Some, Result, Ok, Err, MatchResult, refl, sym, ap, ◌∙◌, subst}
 use Rattle.std.proofs.Common.{arith}
 use Rattle.std.specs.Result.{IsErr}
 use Rattle.std.specs.declared.alloc.AllocError.{AllocError}
 use Rattle.ov_base.specs.AttributeChanges.{changed}
+use Rattle.ov_base.specs.declared.attribute_change.AttributeChange.{AttributeChange}
 use Rattle.ov_base.specs.declared.attributes.Attributes.{Attributes}
-use Rattle.ov_base.specs.declared.call.Call.{Call}
 use Rattle.ov_base.specs.declared.errno.Errno.{Errno}
 use Rattle.ov_base.specs.declared.errno.Errno.TheVariants.{ELOOP}
-use Rattle.plain_model.specs.Layers.{Path, Inode, Layer, Shown, Contents, shows}
-use Rattle.plain_model.specs.Machine.{State, value_of}
-use Rattle.plain_model.specs.Refusals.{when, bad_attribute}
+use Rattle.plain_model.specs.Layers.{Path, Inode, Layer, Shown, Contents, held, shows}
+use Rattle.plain_model.specs.Machine.{State}
+use Rattle.plain_model.specs.Refusals.{when}
 use Rattle.layer_tree.specs.Tree.{IsTree, layer_of}
+use Rattle.merged_lookup.specs.declared.found.Topmost.{Topmost}
 use Rattle.merged_lookup.specs.declared.layers.Layers.{Layers}
-use Rattle.merged_lookup.specs.Merged.{layers_of, lowers_of, IsTopmost}
+use Rattle.merged_lookup.specs.declared.stack.Stack.{Stack}
+use Rattle.merged_lookup.specs.Merged.{layers_of, lowers_of}
 use Rattle.mount_laws.specs.Looks.{or_else, walk_fault, is_link_inode, shows_link, IsMountOf}
-use Rattle.mount_laws.specs.Attributes.{user_in, chown_fault, set_fault, get_fault}
-use Rattle.mount_laws.specs.Altered.{Alters, AltersBy, AltersState}
-use Rattle.mount_laws.specs.StayOpen.{AltersNamed, LivesThroughChange}
+use Rattle.mount_laws.specs.Attributes.{chown_fault, user_in}
+use Rattle.mount_laws.specs.Altered.{Alters, AltersState}
+use Rattle.mount_laws.specs.StayOpen.{AltersNamed}
 use Rattle.copy_up.specs.Altering.{AltersAs, AltersObjectAs}
-use Rattle.copy_up.specs.Showing.{GainsParents, ShowsSame, StaysLayers, StaysMount, StaysThin}
-use Rattle.copy_up.proofs.Keeping.{lowers-same}
-use Rattle.mount_calls.specs.declared.attributes.Change.{Change}
-use Rattle.mount_calls.specs.Altering.{AltersUnless, IsChange, IsOpenTo, ShowsAttributes}
+use Rattle.copy_up.specs.Showing.{number_of, GainsParents, ShowsSame, StaysLayers, StaysMount, StaysThin}
+use Rattle.copy_up.proofs.Frames.{gains-self}
+use Rattle.copy_up.proofs.Keeping.{lowers-same, same-self}
+use Rattle.mount_calls.specs.declared.attribute_changes.AttributeCall.{AttributeCall}
+use Rattle.mount_calls.specs.Altering.{AltersUnless, IsOpenTo, IsTarget, ShowsAttributes}
+use Rattle.mount_calls.specs.AttributeCalls.{call_at, asked, asking_fault, asked_fault, user_fault}
 use Rattle.mount_calls.specs.Living.{KeepsLive}
 use Rattle.mount_calls.proofs.Altered.{alters-named}
+use Rattle.mount_calls.proofs.AttributeCalls.{IsSeen, altered-asked, live-asked, user-last, walk-seen}
 use Rattle.mount_calls.proofs.Frames.{around-parents, around-paths}
 use Rattle.mount_calls.proofs.Lasting.{parents-live}
 
--- a change that was planned, and made
+-- a call that was judged, and the change that it asks for made
 module _
-    (fault : List Layer → Option Errno) (old : Layers) (p : Path) (k : Call) (new : Layers) (low : new.lowers ≡ old.lowers)
-    (keeps : StaysLayers old new) (thin : StaysThin old new) (f : Attributes → Attributes) (law : AltersBy f p fault k)
-    (through : LivesThroughChange f p k) (x : Change) (none : fault (layers_of old) ≡ None) (h : IsChange f old p x)
-    (alters : AltersAs old new p x.change) where
+    (x : AttributeCall) (old new : Layers) (p : Path) (target : Stack × Topmost) (h : IsTarget old p x target) (low : new.lowers ≡ old.lowers)
+    (keeps : StaysLayers old new) (thin : StaysThin old new) (made : AttributeChange)
+    (asks : (a : Attributes) → changed made a ≡ asked x a) (alters : AltersAs old new p made) where
   -- alters each state, over the lower layers that there were
-  state-altered : (s : State) → IsMountOf (layer_of old.upper) (lowers_of old) s → (c : ℕ) → AltersState (layer_of new.upper) (lowers_of old) s c p k
+  state-altered : (s : State) → IsMountOf (layer_of old.upper) (lowers_of old) s → (c : ℕ) → AltersState (layer_of new.upper) (lowers_of old) s c p (call_at p x)
   state-altered s m c =
-      law (layer_of old.upper) (layer_of new.upper) (lowers_of old) s m c none h.before h.shown
-      (subst (λ (a : Attributes). Alters (layer_of old.upper) (layer_of new.upper) (lowers_of old) p a) h.after (alters h.before h.shown m.layers))
+      altered-asked p x (layer_of old.upper) (layer_of new.upper) (lowers_of old) s m c h.allowed h.attributes h.shown
+      (subst (λ (a : Attributes). Alters (layer_of old.upper) (layer_of new.upper) (lowers_of old) p a) (asks h.attributes) (alters h.attributes h.shown m.layers))
 
   -- leaves live files live, also where it changes their attributes
-  live-altered : IsTree old.upper → AltersObjectAs old new p x.change → KeepsLive old new k
+  live-altered : IsTree old.upper → AltersObjectAs old new p made → KeepsLive old new (call_at p x)
   live-altered tree object s m c d j l =
-      through (layer_of old.upper) (layer_of new.upper) (lowers_of old) s c h.before h.shown (state-altered s m c) d j
-      (subst (λ (a : Attributes). AltersNamed (layer_of old.upper) (layer_of new.upper) p a j) h.after (alters-named old new tree p (changed x.change h.before) (object h.before h.shown) j _ l.inode))
+      live-asked p x (layer_of old.upper) (layer_of new.upper) (lowers_of old) s c h.attributes h.shown (state-altered s m c) d j
+      (subst (λ (a : Attributes). AltersNamed (layer_of old.upper) (layer_of new.upper) p a j) (asks h.attributes) (alters-named old new tree p (changed made h.attributes) (object h.attributes h.shown) j _ l.inode))
       l
 
   -- ends so with the attributes that the call gives
-  pub alters-done : IsTree old.upper → AltersObjectAs old new p x.change → AltersUnless (fault (layers_of old)) old new p k (Ok (Ok tt))
-  alters-done tree object = record {
+  pub alters-done : IsTree old.upper → AltersObjectAs old new p made → (key : ℕ) → number_of (held (layer_of new.upper) p) ≡ Some key → AltersUnless x old new p (Ok (Ok key))
+  alters-done tree object key there = record {
     refused = tt;
     unchanged = tt;
-    allowed = none;
-    alters = λ s m c. subst (λ (ls : List Layer). AltersState (layer_of new.upper) ls s c p k) (sym (lowers-same old new low)) (state-altered s m c);
+    allowed = h.allowed;
+    alters = λ s m c. subst (λ (ls : List Layer). AltersState (layer_of new.upper) ls s c p (call_at p x)) (sym (lowers-same old new low)) (state-altered s m c);
+    key = there;
     lowers = low;
-    around = around-paths old new p (object h.before h.shown).paths;
+    around = around-paths old new p (object h.attributes h.shown).paths;
     keeps = keeps;
     thin = thin;
     no_memory = tt;
@@ -66,15 +71,16 @@ module _
 
 -- a change that wants memory leaves what is shown, and what the upper holds around the path
 pub alters-wanted :
-    (fault : Option Errno) (old new : Layers) (p : Path) (k : Call) (r : Result (Result (Unit {0}) Errno) AllocError) →
+    (x : AttributeCall) (old new : Layers) (p : Path) (r : Result (Result ℕ Errno) AllocError) →
     IsErr r → GainsParents old new p → StaysLayers old new → StaysThin old new → ShowsSame old new →
-    StaysMount old new → AltersUnless fault old new p k r
-alters-wanted fault old new p k (Ok x) wrong gains keeps thin same mounts = let no : false ≡ true = wrong in absurd (cc)
-alters-wanted fault old new p k (Err e) wrong gains keeps thin same mounts = record {
+    StaysMount old new → AltersUnless x old new p r
+alters-wanted x old new p (Ok y) wrong gains keeps thin same mounts = let no : false ≡ true = wrong in absurd (cc)
+alters-wanted x old new p (Err e) wrong gains keeps thin same mounts = record {
   refused = tt;
   unchanged = tt;
   allowed = tt;
   alters = tt;
+  key = tt;
   lowers = gains.lowers;
   around = around-parents old new p gains;
   keeps = keeps;
@@ -83,6 +89,28 @@ alters-wanted fault old new p k (Err e) wrong gains keeps thin same mounts = rec
   mounts = mounts;
   live = tt;
   stays = parents-live old new p gains;
+}
+
+-- and so does one for which there is none at all
+pub alters-unmade : (x : AttributeCall) (l : Layers) (p : Path) (r : Result (Result ℕ Errno) AllocError) → IsErr r → AltersUnless x l l p r
+alters-unmade x l p r wrong = alters-wanted x l l p r wrong (gains-self l p) (λ h. h) (λ h. h) (same-self l) (λ s h. h)
+
+-- a call that is refused changes nothing
+pub alters-refused : (x : AttributeCall) (l : Layers) (p : Path) (e : Errno) → asked_fault (layers_of l) p x ≡ Some e → AltersUnless x l l p (Ok (Err e))
+alters-refused x l p e fault = record {
+  refused = fault;
+  unchanged = refl;
+  allowed = tt;
+  alters = tt;
+  key = tt;
+  lowers = refl;
+  around = around-parents l l p (gains-self l p);
+  keeps = λ h. h;
+  thin = λ h. h;
+  no_memory = tt;
+  mounts = tt;
+  live = tt;
+  stays = tt;
 }
 
 -- what is told of an inode is told where it is shown
@@ -97,14 +125,23 @@ chown-link Ls p none link = ap (λ w. or_else w (when (shows_link (shows 0 Ls p)
 pub shows-open : (Ls : List Layer) (p : Path) (a : Attributes) → walk_fault Ls p ≡ None → IsOpenTo (shows 0 Ls p) a → ShowsAttributes Ls p a
 shows-open Ls p a none h = record { allowed = ap (λ w. or_else w (when (shows_link (shows 0 Ls p)) ELOOP)) none ∙ ap (λ b. when b ELOOP) h.no_link; shown = h.attributes }
 
--- a set is not refused where its name, its value and the path are not, and there is room
-pub set-none : (Ls : List Layer) (p : Path) (n v : List ℕ) (a : Attributes) → bad_attribute n ≡ None → nat_lt 1024 (length v) ≡ false → ShowsAttributes Ls p a → (is_none (value_of a.user n) && not (nat_lt (length a.user) 64)) ≡ false → set_fault Ls p n v ≡ None
-set-none Ls p n v a good short s room = rw (good, short, s.allowed, ap user_in s.shown, room) refl
+-- a call on what was seen, where it is refused neither for what it asks for nor for a symbolic link
+module _
+    (x : AttributeCall) (l : Layers) (p : Path) (target : Stack × Topmost) (first : asking_fault x ≡ None) (seen : IsSeen l p target)
+    (a : Attributes) (is : IsOpenTo (shows 0 (layers_of l) p) a) where
+  -- is refused for the user attributes there
+  pub user-judged : asked_fault (layers_of l) p x ≡ user_fault x a.user
+  user-judged =
+      user-last (layers_of l) p x first (shows-open (layers_of l) p a (walk-seen l p target seen) is).allowed
+      ∙ ap (λ o. user_fault x (user_in o)) is.attributes
 
--- a delete is not refused where its name and the path are not, and the name is set
-pub get-none : (Ls : List Layer) (p : Path) (n : List ℕ) (a : Attributes) → bad_attribute n ≡ None → ShowsAttributes Ls p a → is_none (value_of a.user n) ≡ false → get_fault Ls p n ≡ None
-get-none Ls p n a good s there = rw (good, s.allowed, ap user_in s.shown, there) refl
-
--- a change of the attributes that are shown
-pub changes-shown : (f : Attributes → Attributes) (l : Layers) (p : Path) (x : Change) (a : Attributes) → ShowsAttributes (layers_of l) p a → IsTopmost l p (Some x.top) → changed x.change a ≡ f a → IsChange f l p x
-changes-shown f l p x a s top after = grind arith
+  -- or is to be made
+  pub target-judged : user_fault x a.user ≡ None → IsTarget l p x target
+  target-judged none = record {
+    allowed = user-judged ∙ none;
+    way = seen.way;
+    directory = seen.directory;
+    top = seen.top;
+    attributes = a;
+    shown = is.attributes;
+  }

@@ -1,5 +1,5 @@
 -- The calls that change the layers: what becomes of open directories, and the machine's steps.
-use Rattle.std.proofs.Common.{arith, ◌≡◌, ◌≢◌, ℕ, ◌<◌, Bool, true, false, cond, List, [], ◌∷◌, ◌++◌, Option, None, Some, Result, Ok, Err, IsSome, refl, sym, ap, ◌∙◌, subst}
+use Rattle.std.proofs.Common.{arith, ◌≡◌, ◌≢◌, ℕ, ◌<◌, Bool, true, false, cond, List, [], ◌∷◌, ◌++◌, Option, None, Some, Result, Ok, IsSome, refl, sym, ap, ◌∙◌, subst}
 use Rattle.mount_calls.proofs.Words.{after, AllocError, At, Attributes, base, Call, change, Dentries, Descriptors, Directory, Errno, false≢true, folder_attributes, Handle, handle_of, is_directory, is_folder, IsMountOf, Layer, layer_of, Layers, Location, lowers_of, made_way, MountOptions, Name, nat_cmp, New, Node, node_at, NodeId, OnErr, OpenDirectory, option_and_then, option_map, or_else, over_node, Path, put, refusal, Removed, Removes, reply_of, shows, State, StaysMount, Table, Tree, way_of, when}
 use Rattle.std.specs.BTreeMap.{get}
 use Rattle.ov_base.specs.declared.call.Call.TheVariants as call
@@ -23,13 +23,16 @@ use Rattle.open_handles.specs.Opened as places
 use Rattle.open_handles.specs.Opened.{NoneBelow, after_removal}
 use Rattle.open_handles.specs.declared.handle.Handle as handles
 use Rattle.mount_calls.specs.declared.mount.Mount.{Mount}
+use Rattle.mount_calls.specs.declared.attribute_changes.AttributeCall.{AttributeCall}
 use Rattle.mount_calls.specs.Altering.{AltersUnless}
+use Rattle.mount_calls.specs.AttributeCalls.{call_at}
 use Rattle.mount_calls.specs.Held.{handles_below}
 use Rattle.mount_calls.specs.Removing.{IsOpenNowhere, HasAttributes, RemovesOpen}
 use Rattle.mount_calls.specs.Files.{AreOne}
 use Rattle.mount_calls.specs.Living.{StaysLive, KeepsLive, KeepsHeld}
 use Rattle.mount_calls.specs.States.{Stands, IsHandle, AreTables, IsStateOf, StaysState, Serves}
 use Rattle.mount_calls.proofs.Answering.{on-err, serve-refused, serve-done}
+use Rattle.mount_calls.proofs.AttributeCalls.{leaves-asked, refusal-asked, still-asked}
 use Rattle.mount_calls.proofs.Counting.{below-find}
 use Rattle.mount_calls.proofs.Serving.{slot-open, handle-now, open-before, one-fewer}
 use Rattle.mount_calls.proofs.Stating.{the_layers, the_lowers, the_upper, Alike}
@@ -178,17 +181,14 @@ module _ (m : Mount) (s : State) (st : IsStateOf m s) (new : Layers) where
   done c k ok answer mounts tables still same directories files =
       serve-done _ s c k reply.Done _ ok (sym answer) (state-after c k m.clients mounts tables still (tables-after c k same directories files) st.one refl)
 
-  -- a call that alters what a path shows, and no watch, and leaves each file of the tree a file
-  pub altered-done : (c : ℕ) (p : Path) (k : Call) (fault : Option Errno) → refusal s c k ≡ fault → (after s c k).instances ≡ s.instances → KeepsLeaves k → AltersUnless fault m.layers new p k (Ok (Ok tt)) → Serves (refusal s c k) s c k reply.Done (record m { layers = new })
-  altered-done c p k fault law still leaves y =
-      let x : AltersState V (lowers_of new) s c p k = y.alters s st.layers c in
-      done c k (law ∙ y.allowed) x.answer x.mounts x.tables still y.lowers
-      (λ b fd o h on. handle-on s.tree (after s c k).tree (λ q d at. x.paths q ∙ at) x.hidden (λ d f. x.folders d ∙ f) m.clients.directories o h)
-      (files-kept m.layers new s st.layers c k m.clients y.live leaves)
-
-  -- and its refusal
-  pub altered-refused : (c : ℕ) (p : Path) (k : Call) (fault : Option Errno) (e : Errno) → refusal s c k ≡ fault → AltersUnless fault m.layers new p k (Ok (Err e)) → Serves (refusal s c k) s c k (reply.Refused e) (record m { layers = new })
-  altered-refused c p k fault e law x = refused c k e (law ∙ x.refused) x.unchanged
+  -- a call that alters what a path shows
+  pub altered-done : (c : ℕ) (p : Path) (x : AttributeCall) (key : ℕ) → AltersUnless x m.layers new p (Ok (Ok key)) → Serves (refusal s c (call_at p x)) s c (call_at p x) reply.Done (record m { layers = new })
+  altered-done c p x key y =
+      let k = call_at p x in
+      let z : AltersState V (lowers_of new) s c p k = y.alters s st.layers c in
+      done c k (refusal-asked (the_upper m) (the_lowers m) s st.layers c p x ∙ y.allowed) z.answer z.mounts z.tables (still-asked s c p x) y.lowers
+      (λ b fd o h on. handle-on s.tree (after s c k).tree (λ q d at. z.paths q ∙ at) z.hidden (λ d f. z.folders d ∙ f) m.clients.directories o h)
+      (files-kept m.layers new s st.layers c k m.clients y.live (leaves-asked p x))
 
   -- open directories stand where they stood after a call that makes a node
   pub handle-beside : (c : ℕ) (k : Call) (p : Path) (x : Node) → (after s c k).tree ≡ made_way s.tree s.serial (way_of s.tree p) x → ((q : Path) (d : NodeId) → node_at s.tree q ≡ Some d → node_at (after s c k).tree q ≡ Some d) → KeepsHidden s.tree (after s c k).tree → (o : OpenDirectory) (h : Handle) → IsHandle s.tree m.clients.directories o h → IsHandle (after s c k).tree m.clients.directories o h

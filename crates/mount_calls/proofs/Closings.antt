@@ -15,7 +15,7 @@ use Rattle.mount_laws.proofs.Lists.{law_of_bad_descriptors}
 use Rattle.mount_laws.proofs.Descriptors.{law_of_handle_close}
 use Rattle.mount_laws.proofs.Removed.{law_of_close_removed}
 use Rattle.open_handles.specs.declared.handle.Handle as handles
-use Rattle.open_handles.specs.Listings.{Closes}
+use Rattle.open_handles.specs.Listings.{Closes, file_in}
 use Rattle.mount_calls.specs.declared.clients.Clients.{Clients}
 use Rattle.mount_calls.specs.declared.mount.Mount.{Mount}
 use Rattle.mount_calls.specs.Attaching.{opened_by, file_by, ChangesClient}
@@ -124,9 +124,16 @@ module _ (m : Mount) (s : State) (st : IsStateOf m s) (c d : ℕ) where
   inode-there k e = grind arith
 
   -- an open one is closed
-  module _ (new : Clients) (ch : ChangesClient m.clients new c (λ x y. Closes x y d (Ok tt))) (files : (k : ℕ) → HasFile new k ↔ 0 < file_holders new.files k)
-      (l : Layers) (closed : Option ℕ) (is : closed ≡ upper_of (file_by m.clients c d))
+  module _ (new : Clients) (led : handles.Handle) (ch : ChangesClient m.clients new c (λ x y. Closes x y d (Ok led))) (files : (k : ℕ) → HasFile new k ↔ 0 < file_holders new.files k)
+      (l : Layers) (closed : Option ℕ) (is_closed : closed ≡ upper_of (file_in (Some led)))
       (leaves : LeavesOpen new m.layers l closed) where
+    -- what the descriptor led to
+    opened : opened_by m.clients c d ≡ Some led
+    opened = rw ch.was ch.changes.was_open
+
+    is : closed ≡ upper_of (file_by m.clients c d)
+    is = is_closed ∙ sym (ap (λ o. upper_of (file_in o)) opened)
+
     abbrev step : State
     step = after s c (call.Close d)
 
@@ -162,7 +169,7 @@ module _ (m : Mount) (s : State) (st : IsStateOf m s) (c d : ℕ) where
         })
       where
         there : is_some (opened_by m.clients c d) ≡ true
-        there = rw ch.was ch.changes.was_open
+        there = ap is_some opened
 
         handle : (x : handles.Handle) × (h : Handle) × (handle_of s.tables c d ≡ Some h)
         handle = was-open (opened_by m.clients c d) refl there

@@ -11,10 +11,9 @@ use Rattle.plain_model.specs.Tree.{Origin, origin_in, SeenLeaf}
 use Rattle.plain_model.specs.Refusals.{bad_mode}
 use Rattle.plain_model.specs.Changes.{opened, touched, with_attributes, with_owner}
 use Rattle.plain_model.proofs.Keeping.{put-here}
-use Rattle.plain_model.proofs.Paths.{ids_tell}
+use Rattle.plain_model.proofs.Paths.{ids_tell, one_or_not, paths_tell}
 use Rattle.layer_tree.specs.declared.node.Inode.{Inode as StoredInode}
 use Rattle.layer_tree.specs.declared.node.Node.TheVariants as node
-use Rattle.layer_tree.proofs.Walks.{same_path}
 use Rattle.mount_laws.specs.Looks.{absent, is_link_inode}
 use Rattle.mount_laws.specs.Attributes.{shown_attributes, chown_fault}
 use Rattle.mount_laws.specs.Altered.{AltersState}
@@ -168,7 +167,7 @@ module _ (m : Mount) (s : State) (st : IsStateOf m s) (c : ℕ) (clients : Clien
   -- a live file is another inode, which keeps its names and its attributes
   other-file : (e : NodeId) (j : ℕ) → IsLive (the_upper m) s.tree e j → AltersNamed (the_upper m) V p a j
   other-file e j live = record {
-    names = λ q. elim (same_path q p) [
+    names = λ q. elim (one_or_not paths_tell q p) [
       | inl here ↦ subst (λ z. (held V z ≡ Some (Named j)) ↔ (held (the_upper m) z ≡ Some (Named j))) (sym here) (λ h. absurd (not-now h), λ h. absurd (not-before h))
       | inr away ↦ other-names m.layers new p leaf.others q away j
     ];
@@ -220,7 +219,7 @@ module _ (m : Mount) (s : State) (st : IsStateOf m s) (c : ℕ) (clients : Clien
       ap (λ i. Some (Contents 0 leaf.number i)) leaf.inode ∙
       ap (λ k. Some (Contents 0 k (Some (record { content = there.inode.content; attributes = a; links = 1 })))) copy.1
 
-  module _ (d : ℕ) (last : Clients) (ch : OpensFile clients last c (file_at (record { layer = 0; key = key }) f) (Ok (Ok d))) where
+  module _ (d : ℕ) (last : Clients) (ch : OpensFile clients last c d (file_at (record { layer = 0; key = key }) f) (Ok tt)) where
     abbrev asked : Call
     asked = call.Open p f mode
 

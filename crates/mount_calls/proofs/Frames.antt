@@ -1,21 +1,19 @@
 -- What calls leave of what the upper holds at each path.
-use Rattle.std.proofs.Common.{◌≡◌, ◌≢◌, ◌⊎◌, ℕ, Bool, true, false, cond, ◌||◌, ◌&&◌, is_none, [], ◌∷◌, ◌++◌, Option, None, refl, sym, ap, ◌∙◌, subst, inl, inr, arith, length, length-append}
+use Rattle.std.proofs.Common.{◌≡◌, ◌≢◌, ◌⊎◌, ℕ, Bool, true, false, cond, ◌||◌, ◌&&◌, is_none, [], ◌∷◌, ◌++◌, Option, refl, sym, ap, ◌∙◌, inl, inr, arith, length, length-append}
 use Rattle.std.proofs.lemmas.Bool.{false≢true}
 use Rattle.ov_base.specs.declared.call.Call.{Call}
 use Rattle.ov_base.specs.declared.call.Call.TheVariants as call
 use Rattle.ov_base.specs.declared.call.OpenFlags.{OpenFlags}
 use Rattle.plain_model.specs.Layers.{Name, Path, held, shows}
-use Rattle.plain_model.specs.Laws.{IsOutside}
 use Rattle.plain_model.specs.Refusals.{bad_flags}
-use Rattle.mount_laws.specs.Moving.{Follows}
 use Rattle.layer_tree.specs.Tree.{layer_of, SameObjects}
 use Rattle.merged_lookup.specs.declared.layers.Layers.{Layers}
 use Rattle.merged_lookup.specs.Merged.{layers_of}
 use Rattle.copy_up.specs.Showing.{GainsParents, KeepsOthers, KeepsPath}
-use Rattle.make_remove.proofs.Unnaming.{own-parent}
+use Rattle.copy_up.proofs.Frames.{parent-then, path-then}
 use Rattle.rename_redirect.specs.Linking.{GainsBoth}
 use Rattle.rename_redirect.specs.Renaming.{is_one, KeepsMoved, Moves}
-use Rattle.rename_redirect.proofs.Gained.{gains-paths, parent-then, path-then}
+use Rattle.rename_redirect.proofs.Gained.{gains-paths}
 use Rattle.mount_calls.specs.Keeping.{KeepsAround, KeepsBut, KeepsLayers, KeepsRenamed}
 
 -- no path below p is one of its parents

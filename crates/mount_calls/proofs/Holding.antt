@@ -1,12 +1,11 @@
 -- As many handles hold a directory or a file as its count says, after one client's descriptors changed.
 use Rattle.std.proofs.Common.{arith, ◌≡◌, ◌≢◌, ℕ, ◌+◌, ◌<◌, ◌≤◌, true, false, cond, List, [], ◌∷◌, Option, None, Some, IsSome, Result, Ok, Err, IsOk, OnOk, refl, sym, ap, ◌∙◌, inl, inr, is_some, nat_eq, option_map, suc, add-one, zero-add}
-use Rattle.mount_calls.proofs.Words.{AllocError, cases_eq, ChangesSlot, Dentries, Descriptors, Directory, Errno, File, file_holders, FileSource, GivesNames, Location, Name, nat_cmp, ne_eqb, OpenDirectory, OpenFile, option_and_then, Path, SetsSlot, with_listing, with_place}
+use Rattle.mount_calls.proofs.Words.{AllocError, cases_eq, ChangesSlot, Dentries, Descriptors, Directory, File, file_holders, FileSource, GivesNames, Location, Name, nat_cmp, ne_eqb, OpenDirectory, OpenFile, option_and_then, Path, SetsSlot, with_listing, with_place}
 use Rattle.std.specs.BTreeMap.{get}
 use Rattle.std.specs.Result.{IsErr}
 use Rattle.open_handles.specs.declared.handle.Handle as handles
 use Rattle.open_handles.specs.Descriptors.{opened}
-use Rattle.open_handles.specs.Listings.{Closes, after_names}
-use Rattle.ov_base.specs.declared.errno.Errno.TheVariants.{EBADF}
+use Rattle.open_handles.specs.Listings.{after_names}
 use Rattle.mount_calls.specs.Attaching.{opened_by, KeepsPlaces, ChangesClient}
 use Rattle.open_handles.specs.Holding.{holds, handles_on, is_upper, holds_file, files_on}
 use Rattle.open_handles.specs.FileHolders.{HeldFiles, SameCounts}
@@ -16,6 +15,8 @@ use Rattle.open_handles.proofs.Holding.{handles_on-alike, handles_on-sets, handl
 use Rattle.mount_calls.specs.declared.clients.Clients.{Clients}
 use Rattle.mount_calls.specs.Held.{handles_by, handles_below, files_by, files_below, ClosesAll, ReleasesAll}
 use Rattle.mount_calls.specs.Opening.{OpensAt, OpensFile}
+use Rattle.mount_calls.specs.FreeDescriptors.{IsLowestFree}
+use Rattle.mount_calls.proofs.Serving.{lowest-slot}
 use Rattle.mount_calls.proofs.Counting.{below-same, below-changes, below-one, below-some, has-client}
 
 -- what counts as held isn't gone
@@ -209,23 +210,16 @@ stays-client old new c P there same changes places next = by (get nat_cmp old.at
     by (Some x) is h = client-changes old new c x x P (record { was = is; is = ap (λ z. get nat_cmp z c) same ∙ is; others = λ m off. ap (λ z. get nat_cmp z m) same }) (changes x is) places next
 
 -- an open that wanted memory for the directory
-pub opens-failed : (old new : Clients) (c : ℕ) (p : Path) (e : AllocError) → IsSome (get nat_cmp old.attached c) → new.attached ≡ old.attached → SameHandles old.directories new.directories → new.next ≡ old.next → OpensAt old new c p (Err e)
-opens-failed old new c p e there same handles next = record {
+pub opens-failed : (old new : Clients) (c d : ℕ) (p : Path) (e : AllocError) → IsSome (get nat_cmp old.attached c) → IsLowestFree old c d → new.attached ≡ old.attached → SameHandles old.directories new.directories → new.next ≡ old.next → OpensAt old new c d p (Err e)
+opens-failed old new c d p e there low same handles next = record {
   handle = record { directory = 0; listing = None };
   fresh = refl;
   stands = tt;
-  changes = stays-client old new c _ there same (λ x is. record { lowest = tt; opens = tt; full = tt; refused = tt; err = refl }) (λ b d o l stood at. handles.located o.directory ∙ at) next;
+  changes = stays-client old new c _ there same (λ x is. record { lowest = lowest-slot old c d x is low; opens = tt; err = refl }) (λ b d o l stood at. handles.located o.directory ∙ at) next;
 }
 
 -- an open that wanted memory for the file
-pub file-failed : (old new : Clients) (c : ℕ) (f : OpenFile) (r : Result (Result ℕ Errno) AllocError) → IsErr r → IsSome (get nat_cmp old.attached c) → new.attached ≡ old.attached → new.directories ≡ old.directories → new.next ≡ old.next → OpensFile old new c f r
-file-failed old new c f (Ok x) wrong there same handles next = let no : false ≡ true = wrong in absurd (cc)
-file-failed old new c f (Err e) wrong there same handles next =
-    stays-client old new c _ there same (λ x is. record { lowest = tt; opens = tt; full = tt; refused = tt; err = refl }) (λ b d o l stood at. ap (λ z. places.opened z o.directory) handles ∙ at) next
-
--- a descriptor that isn't open is not closed
-pub closes-bad : (clients : Clients) (c d : ℕ) → IsSome (get nat_cmp clients.attached c) → opened_by clients c d ≡ None → ChangesClient clients clients c (λ x y. Closes x y d (Err EBADF))
-closes-bad clients c d there none =
-    stays-client clients clients c _ there refl
-    (λ x is. record { closes = tt; was_open = tt; not_open = (refl, ap (option_and_then (λ (y : Descriptors). opened y.slots.items d)) (sym is) ∙ none); refused = refl })
-    (λ b e o l stood at. at) refl
+pub file-failed : (old new : Clients) (c d : ℕ) (f : OpenFile) (r : Result (Unit {0}) AllocError) → IsErr r → IsSome (get nat_cmp old.attached c) → IsLowestFree old c d → new.attached ≡ old.attached → new.directories ≡ old.directories → new.next ≡ old.next → OpensFile old new c d f r
+file-failed old new c d f (Ok x) wrong there low same handles next = let no : false ≡ true = wrong in absurd (cc)
+file-failed old new c d f (Err e) wrong there low same handles next =
+    stays-client old new c _ there same (λ x is. record { lowest = lowest-slot old c d x is low; opens = tt; err = refl }) (λ b d o l stood at. ap (λ z. places.opened z o.directory) handles ∙ at) next

@@ -20,8 +20,11 @@ pub mod Answering
 pub mod Carrying
 pub mod Seeking
 pub mod FileReads
+pub mod AttributeCalls
 pub mod Changing
+pub mod MakingCalls
 pub mod Unlinking
+pub mod AlteredCalls
 pub mod Linking
 pub mod Renames
 pub mod Renaming
@@ -36,3 +39,4 @@ pub mod Freed
 pub mod Makings
 pub mod CopiedOpens
 pub mod Frames
+pub mod Keys

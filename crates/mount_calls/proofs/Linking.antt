@@ -1,6 +1,6 @@
 -- What readlink answers.
 use Rattle.std.proofs.Common.{◌≡◌, ℕ, Bool, true, false, not, List, Option, None, Some, Result, refl, sym, ap, ◌∙◌, ◌⊎◌, inl, inr, arith}
-use Rattle.mount_calls.proofs.Words.{AllocError, EINVAL, Errno, IfOk, inode_of, layer_of, Layers, layers_of, lowers_of, node_in, option_and_then, or_else, Path, Place, refusal, Reply, Shown, shows, shows_link, ShowsInode, State, trees, when}
+use Rattle.mount_calls.proofs.Words.{AllocError, EINVAL, Errno, IfOk, inode_of, Layer, layer_of, Layers, layers_of, lowers_of, node_in, option_and_then, or_else, Path, Place, refusal, Reply, Shown, shows, shows_link, ShowsInode, State, trees, when}
 use Rattle.ov_base.specs.declared.call.Call.TheVariants as call
 use Rattle.ov_base.specs.declared.reply.Reply.TheVariants as reply
 use Rattle.merged_lookup.specs.Merged.{walk_fault}
@@ -8,10 +8,19 @@ use Rattle.merged_lookup.proofs.Looking.{inode-shown}
 use Rattle.mount_laws.specs.Leaves.{Reads, inode_target, shown_target}
 use Rattle.mount_laws.proofs.Refusing.{law_of_readlink}
 use Rattle.mount_calls.specs.declared.mount.Mount.{Mount}
-use Rattle.mount_calls.specs.Status.{target_reply, link_reply, readlink_reply}
+use Rattle.mount_calls.specs.Status.{target_reply}
 use Rattle.mount_calls.specs.States.{IsStateOf, Serves}
 use Rattle.mount_calls.proofs.Answering.{serve-refused, serve-done}
 use Rattle.mount_calls.proofs.Stating.{the_layers}
+
+-- the reply to readlink of what has this target, or none, where the walk is refused or not
+abbrev pub link_reply : Option Errno → Option (List ℕ) → Reply
+link_reply None target = target_reply target
+link_reply (Some e) target = reply.Refused e
+
+-- the reply to readlink at a path: why the walk there is refused, or the target of the symbolic link that is shown
+abbrev pub readlink_reply : List Layer → Path → Reply
+readlink_reply Ls p = link_reply (walk_fault Ls p) (shown_target (shows 0 Ls p))
 
 -- the reply to readlink of a file or symbolic link that is shown
 pub link-inode : (l : Layers) (p : Path) (d : Place) → walk_fault (layers_of l) p ≡ None → ShowsInode l p d → target_reply (inode_target (option_and_then inode_of (node_in (trees l) d))) ≡ readlink_reply (layers_of l) p

@@ -1,12 +1,11 @@
 -- Opens that make a file: the states that the mount stands for on the way.
-use Rattle.std.proofs.Common.{arith, ◌≡◌, ◌↔◌, ℕ, zero, suc, cond, List, [], None, Some, Ok, Err, refl, sym, ap, ◌∙◌, subst, is_none}
-use Rattle.mount_calls.proofs.Words.{after, Call, change, Descriptors, Directory, Errno, File, file_holders, fresh, Handle, IsLive, IsMountOf, Layer, layer_of, Layers, layers_of, Leaf, live_handle, lowers_of, lowest_free, made_way, New, NodeId, OpenFile, OpenFlags, opening_fault, Own, Path, refusal, shows, State, StaysMount, Tree, Upper, way_of, with_handle}
+use Rattle.std.proofs.Common.{arith, ◌≡◌, ◌↔◌, ℕ, zero, suc, cond, List, [], None, Some, Ok, refl, sym, ap, ◌∙◌, subst, is_none}
+use Rattle.mount_calls.proofs.Words.{after, Call, change, File, file_holders, fresh, Handle, IsLive, IsMountOf, Layer, layer_of, Layers, layers_of, Leaf, live_handle, lowers_of, lowest_free, made_way, New, NodeId, OpenFile, OpenFlags, opening_fault, Own, Path, refusal, shows, State, StaysMount, Tree, Upper, way_of, with_handle}
 use mathlib.Core.Logic.{∥∥₁_elim}
 use mathlib.Core.HLevel.{⊥_prop}
 use Rattle.slab.specs.Slab.{get}
 use Rattle.ov_base.specs.declared.bytes.Content.TheVariants as content
 use Rattle.ov_base.specs.declared.call.Call.TheVariants as call
-use Rattle.ov_base.specs.declared.errno.Errno.TheVariants.{EMFILE}
 use Rattle.ov_base.specs.declared.reply.Reply.TheVariants as reply
 use Rattle.plain_model.specs.Changes.{opened}
 use Rattle.mount_laws.specs.Leaves.{GainsLeaf, MakesFile}
@@ -17,35 +16,17 @@ use Rattle.copy_up.specs.Showing.{GainsParents}
 use Rattle.copy_up.proofs.Keeping.{lowers-same}
 use Rattle.make_remove.specs.Making.{new_attributes}
 use Rattle.make_remove.specs.Leaves.{MakesLeaf, CreateSteps}
-use Rattle.open_handles.specs.declared.handle.Handle as handles
-use Rattle.open_handles.specs.Listings.{Opens}
 use Rattle.mount_calls.specs.declared.clients.Clients.{Clients}
 use Rattle.mount_calls.specs.declared.mount.Mount.{Mount}
 use Rattle.mount_calls.specs.Attaching.{ChangesClient}
-use Rattle.mount_calls.specs.Files.{HasFile, HasAllOpen, IsOpenOn, file_at}
+use Rattle.mount_calls.specs.Files.{HasFile, IsOpenOn, file_at}
 use Rattle.mount_calls.specs.Opening.{OpensFile}
 use Rattle.mount_calls.specs.States.{HasStateOf, IsStateOf, Serves}
 use Rattle.mount_calls.proofs.Carrying.{AreCounted, files-kept, state-on, state-stays}
 use Rattle.mount_calls.proofs.Changing.{handle-beside}
 use Rattle.mount_calls.proofs.Lasting.{create-live, open-leaves, parents-live}
-use Rattle.mount_calls.proofs.Openings.{open-full, free-there, state-open, open-served, unfaulted}
+use Rattle.mount_calls.proofs.Openings.{free-there, state-open, open-served, unfaulted}
 use Rattle.mount_calls.proofs.Stating.{the_lowers, the_upper, keep-state}
-
--- room that is made where all descriptors are open is an open that is refused
-pub full-opens : (old new : Clients) (c : ℕ) (h : handles.Handle) (e : Errno) → ChangesClient old new c (λ x y. y ≡ x) → (e ≡ EMFILE) × HasAllOpen old c → ChangesClient old new c (λ x y. Opens x y h (Ok (Err e)))
-full-opens old new c h e same full =
-    let two : Some same.before ≡ Some full.1.descriptors = sym same.was ∙ full.1.attached in
-    let before : same.before ≡ full.1.descriptors = cc in
-    record {
-      before = full.1.descriptors;
-      was = full.1.attached;
-      after = same.after;
-      is = same.is;
-      changes = record { lowest = tt; opens = tt; full = (full.0, full.1.full); refused = same.changes ∙ ap (λ (x : Descriptors). x.slots.items) before; err = tt };
-      others = same.others;
-      places = same.places;
-      next = same.next;
-    }
 
 -- no client has a file open under whose key nothing stands
 not-open : (m : Mount) (s : State) → IsStateOf m s → (k : ℕ) → get m.layers.upper k ≡ None → HasFile m.clients k → ⊥
@@ -74,12 +55,6 @@ module _ (m : Mount) (s : State) (st : IsStateOf m s) (c : ℕ) (clients : Clien
   pub reserved-state : IsStateOf reserved s
   reserved-state = keep-state m s st c clients same
 
-  -- an open for which there is no room is refused
-  pub reserve-full : (p : Path) (f : OpenFlags) (mode : ℕ) → opening_fault (layers_of m.layers) p f mode (Some 0) ≡ None → (e : Errno) → (e ≡ EMFILE) × HasAllOpen m.clients c → Serves (refusal s c (call.Open p f mode)) s c (call.Open p f mode) (reply.Refused e) reserved
-  reserve-full p f mode fine e full =
-      let h : handles.Handle = Directory (record { directory = 0; listing = None }) in
-      open-full m s st c p f mode fine h clients e (full-opens m.clients clients c h e same full)
-
   -- and one that then runs out of memory leaves the state
   pub wanted-state : (new : Layers) (p : Path) → StaysMount m.layers new → GainsParents m.layers new p → IsStateOf (record m { layers = new; clients = clients }) s
   wanted-state new p mounts parents = state-stays reserved s reserved-state new parents.lowers (mounts s st.layers) (parents-live m.layers new p parents)
@@ -87,7 +62,7 @@ module _ (m : Mount) (s : State) (st : IsStateOf m s) (c : ℕ) (clients : Clien
   -- an open that makes its file
   module _ (p : Path) (f : OpenFlags) (mode : ℕ) (fine : opening_fault (layers_of m.layers) p f mode (Some 0) ≡ None) (absent : shows 0 (layers_of m.layers) p ≡ None)
       (new : Layers) (key : ℕ) (leaf : MakesLeaf m.layers new p (content.File []) (new_attributes mode)) (number : leaf.number ≡ key) (steps : CreateSteps m.layers new p mode)
-      (d : ℕ) (last : Clients) (ch : OpensFile clients last c (file_at (record { layer = 0; key = key }) f) (Ok (Ok d))) where
+      (d : ℕ) (last : Clients) (ch : OpensFile clients last c d (file_at (record { layer = 0; key = key }) f) (Ok tt)) where
     abbrev V : Layer
     V = layer_of new.upper
 

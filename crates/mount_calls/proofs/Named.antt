@@ -24,7 +24,6 @@ use Rattle.mount_laws.proofs.Opening.{law_of_open_refusal, law_of_opened_for_rea
 use Rattle.mount_laws.proofs.RenamedTree.{came-from}
 use Rattle.mount_calls.specs.declared.mount.Mount.{Mount}
 use Rattle.mount_calls.specs.Living.{KeepsFiles, KeepsLive, KeepsNamed, KeepsPaths, NamesFile}
-use Rattle.mount_calls.specs.Offers.{is_offered}
 use Rattle.mount_calls.specs.States.{IsStateOf, Serves}
 use Rattle.mount_calls.proofs.Closings.{closes-handle}
 
@@ -222,7 +221,7 @@ removes-named old new s c p k lowers loses x d j q live at =
     away e = let z : None ≡ Some d = sym x.gone ∙ ap (node_at (after s c k).tree) (sym e) ∙ at in cc
 
 -- whether a reply is a refusal
-abbrev is_refused : Reply → Bool
+abbrev pub is_refused : Reply → Bool
 is_refused (reply.Refused e) = true
 is_refused _ = false
 
@@ -239,21 +238,3 @@ keeps-named old new k keeps s m c d j q live at = keeps s m c d j live
 pub reads-named : (old new : Layers) (s : State) (c : ℕ) (k : Call) → new ≡ old → (after s c k).tree ≡ s.tree → KeepsNamed s c old new k
 reads-named old new s c k same tree d j q live at =
     subst (λ (l : Layers). IsLive (layer_of l.upper) (after s c k).tree d j) (sym same) (subst (λ (t : Tree). IsLive (layer_of old.upper) t d j) (sym tree) live)
-
--- what is told of each client's call, told of a call that is offered
-pub named-offered : (old new : Mount) (r : Result Reply AllocError) (client : ℕ) (given k : Call) → given ≡ k → IfOk r (λ reply. (s : State) → IsStateOf old s → (c : ℕ) → refusal s c k ≡ None → KeepsNamed s c old.layers new.layers k) → IfOk r (λ reply. is_offered given ≡ true → (s : State) → IsStateOf old s → refusal s client given ≡ None → KeepsNamed s client old.layers new.layers given)
-named-offered old new (Err e) client given k is h = tt
-named-offered old new (Ok r) client given k is h = λ offered s st.
-    subst (λ (x : Call). refusal s client x ≡ None → KeepsNamed s client old.layers new.layers x) (sym is) (h s st client)
-
--- and of this client's
-pub named-by : (old new : Mount) (r : Result Reply AllocError) (client : ℕ) (given k : Call) → given ≡ k → IfOk r (λ reply. (s : State) → IsStateOf old s → refusal s client k ≡ None → KeepsNamed s client old.layers new.layers k) → IfOk r (λ reply. is_offered given ≡ true → (s : State) → IsStateOf old s → refusal s client given ≡ None → KeepsNamed s client old.layers new.layers given)
-named-by old new (Err e) client given k is h = tt
-named-by old new (Ok r) client given k is h = λ offered s st.
-    subst (λ (x : Call). refusal s client x ≡ None → KeepsNamed s client old.layers new.layers x) (sym is) (h s st)
-
--- and of one that changes neither layers nor tree
-pub named-read : (old new : Mount) (r : Result Reply AllocError) (client : ℕ) (given k : Call) → given ≡ k → new.layers ≡ old.layers → ((s : State) → (after s client k).tree ≡ s.tree) → IfOk r (λ reply. is_offered given ≡ true → (s : State) → IsStateOf old s → refusal s client given ≡ None → KeepsNamed s client old.layers new.layers given)
-named-read old new (Err e) client given k is same tree = tt
-named-read old new (Ok r) client given k is same tree = λ offered s st fine.
-    subst (λ (x : Call). KeepsNamed s client old.layers new.layers x) (sym is) (reads-named old.layers new.layers s client k same (tree s))

@@ -53,7 +53,7 @@ writing-served m s st c p f mode fine law d free t becomes =
     (law.state ∙ ap (λ y. record s { tree = y; tables = with_handle s.tables c law.descriptor (Some (live_handle f law.node (way_of s.tree p))) }) becomes)
 
 -- a file of the upper is opened to be written
-module _ (m : Mount) (s : State) (st : IsStateOf m s) (c : ℕ) (p : Path) (f : OpenFlags) (mode : ℕ) (fine : opening_fault (layers_of m.layers) p f mode (Some 0) ≡ None) (w : f.writes ≡ true) (place : Place) (own : place.layer ≡ 0) (shown : ShowsInode m.layers p place) (d : ℕ) (new : Clients) (ch : OpensFile m.clients new c (file_at place f) (Ok (Ok d))) where
+module _ (m : Mount) (s : State) (st : IsStateOf m s) (c : ℕ) (p : Path) (f : OpenFlags) (mode : ℕ) (fine : opening_fault (layers_of m.layers) p f mode (Some 0) ≡ None) (w : f.writes ≡ true) (place : Place) (own : place.layer ≡ 0) (shown : ShowsInode m.layers p place) (d : ℕ) (new : Clients) (ch : OpensFile m.clients new c d (file_at place f) (Ok tt)) where
   abbrev asked : Call
   asked = call.Open p f mode
 
@@ -117,7 +117,7 @@ module _ (m : Mount) (s : State) (st : IsStateOf m s) (c : ℕ) (p : Path) (f : 
       (state-rewritten (record m { clients = new }) held held-state layers place.key law.node [] (open-leads m s st c (File file) d new ch file made place.key refl key) keeps empties)
 
 -- an open of a file that isn't emptied, for writing where it is the upper's
-pub open-whole : (m : Mount) (s : State) (st : IsStateOf m s) (c : ℕ) (p : Path) (f : OpenFlags) (mode : ℕ) → opening_fault (layers_of m.layers) p f mode (Some 0) ≡ None → f.truncate ≡ false → (place : Place) → (f.writes ≡ true → place.layer ≡ 0) → ShowsInode m.layers p place → (d : ℕ) (new : Clients) → OpensFile m.clients new c (file_at place f) (Ok (Ok d)) → Serves (refusal s c (call.Open p f mode)) s c (call.Open p f mode) (reply.Descriptor d) (record m { clients = new })
+pub open-whole : (m : Mount) (s : State) (st : IsStateOf m s) (c : ℕ) (p : Path) (f : OpenFlags) (mode : ℕ) → opening_fault (layers_of m.layers) p f mode (Some 0) ≡ None → f.truncate ≡ false → (place : Place) → (f.writes ≡ true → place.layer ≡ 0) → ShowsInode m.layers p place → (d : ℕ) (new : Clients) → OpensFile m.clients new c d (file_at place f) (Ok tt) → Serves (refusal s c (call.Open p f mode)) s c (call.Open p f mode) (reply.Descriptor d) (record m { clients = new })
 open-whole m s st c p f mode fine t place own shown d new ch = by (cases_Bool f.writes)
   where
     by : (f.writes ≡ true) ⊎ (f.writes ≡ false) → Serves (refusal s c (call.Open p f mode)) s c (call.Open p f mode) (reply.Descriptor d) (record m { clients = new })

@@ -23,13 +23,17 @@ use Rattle.open_handles.specs.declared.handle.Handle as handles
 use Rattle.open_handles.specs.Listings.{Opens}
 use Rattle.mount_calls.specs.declared.clients.Clients.{Clients}
 use Rattle.mount_calls.specs.declared.mount.Mount.{Mount}
+use Rattle.std.specs.BTreeMap.{get}
+use Rattle.std.specs.Ordering.{nat_cmp}
+use Rattle.notice_laws.proofs.Numbers.{some-is}
 use Rattle.mount_calls.specs.Attaching.{ChangesClient}
+use Rattle.mount_calls.specs.FreeDescriptors.{IsFull, IsLowestFree}
 use Rattle.mount_calls.specs.Files.{lower_inode, is_leaf, IsFrozen, IsOf, IsOpenOn, AreOne, source_at, file_at}
 use Rattle.mount_calls.specs.Opening.{inode_refusal, OpensAt, OpensFile}
 use Rattle.mount_calls.specs.States.{IsLeft, AreTables, IsStateOf, Serves}
-use Rattle.mount_calls.proofs.Answering.{serve-refused, serve-done}
+use Rattle.mount_calls.proofs.Answering.{serve-done}
 use Rattle.mount_calls.proofs.Slots.{changes-as, opened-after}
-use Rattle.mount_calls.proofs.Serving.{handle-set, room-of, placed, open-at, free-lowest, free-none, tables-set}
+use Rattle.mount_calls.proofs.Serving.{handle-set, lowest-slot, opened-is, room-of, placed, open-at, free-lowest, free-none, tables-set}
 use Rattle.mount_calls.proofs.Stating.{the_layers, the_lowers, the_upper, Alike, with-tables, keep-state}
 
 -- why a file or symbolic link isn't opened for reading is told by the node at its place
@@ -49,6 +53,10 @@ table-last Ls p f mode free = faults-last (when (bad_flags f) EINVAL) (bad_mode 
 -- a fault of the flags or of the mode comes first
 pub flags-first : (Ls : List Layer) (p : Path) (f : OpenFlags) (mode : ℕ) (e : Errno) → or_else (when (bad_flags f) EINVAL) (bad_mode mode) ≡ Some e → opening_fault Ls p f mode (Some 0) ≡ Some e
 flags-first Ls p f mode e h = search rules
+
+-- so an open that has no fault has flags that go together
+pub flags-fine : (Ls : List Layer) (p : Path) (f : OpenFlags) (mode : ℕ) → opening_fault Ls p f mode (Some 0) ≡ None → bad_flags f ≡ false
+flags-fine Ls p f mode fine = when-not (bad_flags f) EINVAL (first-none (when (bad_flags f) EINVAL) _ fine)
 
 -- then one of the parents
 pub parents-next : (Ls : List Layer) (p : Path) (f : OpenFlags) (mode : ℕ) (e : Errno) → bad_flags f ≡ false → bad_mode mode ≡ None → parents_fault Ls p ≡ Some e → opening_fault Ls p f mode (Some 0) ≡ Some e
@@ -141,15 +149,15 @@ module _ (m : Mount) (s : State) (st : IsStateOf m s) (c : ℕ) where
   alike = Alike m.layers s m.clients
 
   -- an open that wanted memory
-  pub open-wanted : (h : handles.Handle) (new : Clients) (e : AllocError) → ChangesClient m.clients new c (λ x y. Opens x y h (Err e)) → IsStateOf (record m { clients = new }) s
-  open-wanted h new e ch = keep-state m s st c new (changes-as m.clients new c _ _ (λ x y g. g.err) ch)
+  pub open-wanted : (d : ℕ) (h : handles.Handle) (new : Clients) (e : AllocError) → ChangesClient m.clients new c (λ x y. Opens x y d h (Err e)) → IsStateOf (record m { clients = new }) s
+  open-wanted d h new e ch = keep-state m s st c new (changes-as m.clients new c _ _ (λ x y g. g.err) ch)
 
   -- an open file at a path is one with it exactly where it is one inode
   pub fresh-one : (p : Path) (file : OpenFile) (x : Handle) → node_at s.tree p ≡ Some x.node → IsOf (the_upper m) (the_lowers m) s.tree file.source x → (g : OpenFile) (k j : ℕ) (e : NodeId) → File file ≡ File g → g.source ≡ Upper k → IsOpenOn m.clients s.tables j e → (x.node ≡ e) ↔ (k ≡ j)
   fresh-one p file x at of g k j e same key y = grind arith
 
   -- a descriptor that is opened on both sides, alike
-  module _ (h : handles.Handle) (d : ℕ) (new : Clients) (ch : ChangesClient m.clients new c (λ x y. Opens x y h (Ok (Ok d)))) where
+  module _ (h : handles.Handle) (d : ℕ) (new : Clients) (ch : ChangesClient m.clients new c (λ x y. Opens x y d h (Ok tt))) where
     -- the machine finds the same descriptor
     pub free-there : lowest_free s.tables c ≡ Some d
     free-there = free-lowest alike m.clients s.tables st.tables c d ch.before ch.was ch.changes.lowest
@@ -177,6 +185,12 @@ module _ (m : Mount) (s : State) (st : IsStateOf m s) (c : ℕ) where
         is)
         (one-more m.clients new s.tables alike st.tables c d h made sets ch.changes.lowest.in_range st.one fresh)
 
+  -- the machine finds the descriptor that is the lowest free one
+  pub lowest-there : (d : ℕ) → is_some (get nat_cmp m.clients.attached c) ≡ true → IsLowestFree m.clients c d → lowest_free s.tables c ≡ Some d
+  lowest-there d there low =
+      let ds = some-is (get nat_cmp m.clients.attached c) there in
+      free-lowest alike m.clients s.tables st.tables c d ds.0 ds.1 (lowest-slot m.clients c d ds.0 ds.1 low)
+
   module _ (p : Path) (f : OpenFlags) (mode : ℕ) where
     abbrev asked : Call
     asked = call.Open p f mode
@@ -186,8 +200,8 @@ module _ (m : Mount) (s : State) (st : IsStateOf m s) (c : ℕ) where
     refused = law_of_open_refusal (the_upper m) (the_lowers m) s st.layers c p f mode ∙ table-last (the_layers m) p f mode (lowest_free s.tables c)
 
     -- an open that is refused by what the layers show
-    pub open-fault : (e : Errno) → opening_fault (the_layers m) p f mode (Some 0) ≡ Some e → Serves (refusal s c asked) s c asked (reply.Refused e) m
-    open-fault e h = serve-refused _ s c asked e m (refused ∙ ap (λ z. or_else z (when (is_none (lowest_free s.tables c)) EMFILE)) h) st
+    pub open-fault : (e : Errno) → opening_fault (the_layers m) p f mode (Some 0) ≡ Some e → refusal s c asked ≡ Some e
+    open-fault e h = refused ∙ ap (λ z. or_else z (when (is_none (lowest_free s.tables c)) EMFILE)) h
 
     module _ (fine : opening_fault (the_layers m) p f mode (Some 0) ≡ None) where
       -- it is refused for want of a descriptor alone
@@ -195,15 +209,15 @@ module _ (m : Mount) (s : State) (st : IsStateOf m s) (c : ℕ) where
       table-alone = refused ∙ ap (λ z. or_else z (when (is_none (lowest_free s.tables c)) EMFILE)) fine
 
       -- an open where all descriptors are open
-      pub open-full : (h : handles.Handle) (new : Clients) (e : Errno) → ChangesClient m.clients new c (λ x y. Opens x y h (Ok (Err e))) → Serves (refusal s c asked) s c asked (reply.Refused e) (record m { clients = new })
-      open-full h new e ch =
-          subst (λ z. Serves (refusal s c asked) s c asked (reply.Refused z) (record m { clients = new })) (sym ch.changes.full.0)
-          (serve-refused _ s c asked EMFILE (record m { clients = new })
-          (table-alone ∙ ap (λ z. when (is_none z) EMFILE) (free-none alike m.clients s.tables st.tables c ch.before ch.was ch.changes.full.1))
-          (keep-state m s st c new (changes-as m.clients new c _ _ (λ x y g. g.refused) ch)))
+      pub open-full : is_some (get nat_cmp m.clients.attached c) ≡ true → IsFull m.clients c → refusal s c asked ≡ Some EMFILE
+      open-full there full =
+          let ds = some-is (get nat_cmp m.clients.attached c) there in
+          table-alone
+          ∙ ap (λ z. when (is_none z) EMFILE)
+          (free-none alike m.clients s.tables st.tables c ds.0 ds.1 (λ k below. ap is_some (sym (opened-is m.clients c k ds.0 ds.1)) ∙ full k below))
 
       -- where a descriptor is free nothing refuses it
-      unrefused : (d : ℕ) → lowest_free s.tables c ≡ Some d → refusal s c asked ≡ None
+      pub unrefused : (d : ℕ) → lowest_free s.tables c ≡ Some d → refusal s c asked ≡ None
       unrefused d free = table-alone ∙ ap (λ z. when (is_none z) EMFILE) free
 
       -- nor by what the layers show
@@ -214,7 +228,7 @@ module _ (m : Mount) (s : State) (st : IsStateOf m s) (c : ℕ) where
       pub open-served : (d x : ℕ) → lowest_free s.tables c ≡ Some d → lowest_free s.tables c ≡ Some x → reply_of s c asked ≡ reply.Descriptor x → (next : ℕ → State) → after s c asked ≡ next x → (new : Mount) → IsStateOf new (next d) → Serves (refusal s c asked) s c asked (reply.Descriptor d) new
       open-served d x free found answer next state new stands = grind (arith, serve-done, unrefused)
 
-      module _ (w : f.writes ≡ false) (there : is_some (shows 0 (the_layers m) p) ≡ true) (h : handles.Handle) (d : ℕ) (new : Clients) (ch : ChangesClient m.clients new c (λ x y. Opens x y h (Ok (Ok d)))) where
+      module _ (w : f.writes ≡ false) (there : is_some (shows 0 (the_layers m) p) ≡ true) (h : handles.Handle) (d : ℕ) (new : Clients) (ch : ChangesClient m.clients new c (λ x y. Opens x y d h (Ok tt))) where
         -- the machine finds the same descriptor
         free : lowest_free s.tables c ≡ Some d
         free = free-there h d new ch
@@ -240,7 +254,7 @@ module _ (m : Mount) (s : State) (st : IsStateOf m s) (c : ℕ) where
       shown-fine = first-none (shown_fault f (shows 0 (the_layers m) p)) _ (second-none (parents_fault (the_layers m) p) _ (second-none (bad_mode mode) _ (second-none (when (bad_flags f) EINVAL) _ fine)))
 
       -- an open of a directory
-      pub open-directory : (j k : ℕ) (a : Attributes) → shows 0 (the_layers m) p ≡ Some (Folder j k a) → (d : ℕ) (new : Clients) → OpensAt m.clients new c p (Ok (Ok d)) → Serves (refusal s c asked) s c asked (reply.Descriptor d) (record m { clients = new })
+      pub open-directory : (j k : ℕ) (a : Attributes) → shows 0 (the_layers m) p ≡ Some (Folder j k a) → (d : ℕ) (new : Clients) → OpensAt m.clients new c d p (Ok tt) → Serves (refusal s c asked) s c asked (reply.Descriptor d) (record m { clients = new })
       open-directory j k a shown d new opens =
           let w : f.writes ≡ false = no-write f j k a (ap (shown_fault f) (sym shown) ∙ shown-fine) in
           let there : is_some (shows 0 (the_layers m) p) ≡ true = ap is_some shown in
@@ -284,7 +298,7 @@ module _ (m : Mount) (s : State) (st : IsStateOf m s) (c : ℕ) where
       of-shown (suc j) k file w o = subst (λ z. IsOf (the_upper m) (the_lowers m) s.tree z (new_handle f o.node (way_of s.tree p) (s.tree o.node))) (sym (source-below j k)) (frozen j k file w o)
 
       -- an open of a file
-      pub open-file : (place : Place) → ShowsInode m.layers p place → f.writes ≡ false → (d : ℕ) (new : Clients) → OpensFile m.clients new c (file_at place f) (Ok (Ok d)) → Serves (refusal s c asked) s c asked (reply.Descriptor d) (record m { clients = new })
+      pub open-file : (place : Place) → ShowsInode m.layers p place → f.writes ≡ false → (d : ℕ) (new : Clients) → OpensFile m.clients new c d (file_at place f) (Ok tt) → Serves (refusal s c asked) s c asked (reply.Descriptor d) (record m { clients = new })
       open-file place i w d new ch =
           let file : IsShownFile (shows 0 (the_layers m) p) place.layer place.key = file-there place i in
           let there : is_some (shows 0 (the_layers m) p) ≡ true = ap is_some file.shown in

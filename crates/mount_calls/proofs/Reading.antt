@@ -7,14 +7,9 @@ use Rattle.plain_model.specs.Machine.{value_of}
 use Rattle.mount_laws.specs.Attributes.{shown_user, chown_fault, get_fault, GetsAttribute, ListsAttributes}
 use Rattle.mount_laws.proofs.Attributes.{law_of_get_attribute, law_of_list_attributes}
 use Rattle.mount_calls.specs.declared.mount.Mount.{Mount}
-use Rattle.mount_calls.specs.Offers.{is_offered}
 use Rattle.mount_calls.specs.States.{IsStateOf, Serves}
 use Rattle.mount_calls.proofs.Answering.{serve-refused, serve-done}
 use Rattle.mount_calls.proofs.Stating.{the_layers}
-
--- a call that serves, told of a call that is offered
-pub serves-offered : (old new : Mount) (r : Result Reply AllocError) (client : ℕ) (given k : Call) → given ≡ k → IfOk r (λ reply. (s : State) → IsStateOf old s → (c : ℕ) → Serves (refusal s c k) s c k reply new) → IfOk r (λ reply. is_offered given ≡ true → (s : State) → IsStateOf old s → Serves (refusal s client given) s client given reply new)
-serves-offered old new r client given k is h = grind arith
 
 module _ (m : Mount) (s : State) (st : IsStateOf m s) (c : ℕ) (p : Path) where
   gets : (n : List ℕ) → GetsAttribute (the_layers m) s c p n

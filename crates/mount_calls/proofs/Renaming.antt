@@ -76,6 +76,12 @@ rmdir-fine :
     or_else (when (is_root p) EBUSY) (or_else w (or_else (when (not d) ENOTDIR) (when false ENOTEMPTY))) ≡ None
 rmdir-fine p w d root h g = grind arith
 
+-- rmdir refuses what is no directory
+pub never-rmdir :
+    (p : Path) (w : Option Errno) (d : Bool) → d ≡ false →
+    or_else (when (is_root p) EBUSY) (or_else w (or_else (when (not d) ENOTDIR) (when false ENOTEMPTY))) ≡ None → ⊥
+never-rmdir p w d h fine = grind arith
+
 module _ (m : Mount) (s : State) (st : IsStateOf m s) where
   -- a directory that is open at a path other than the root is one that rmdir would find
   open-found :

@@ -11,6 +11,7 @@ use Rattle.open_handles.specs.declared.handle.Handle as handles
 use Rattle.mount_calls.specs.Attaching.{KeepsAttached, KeepsPlaces, opened_by, ChangesClient}
 use Rattle.open_handles.specs.Descriptors.{opened, IsFull, IsLowestFree}
 use Rattle.mount_calls.specs.Files.{IsOpenOn, AreOne}
+use Rattle.mount_calls.specs.FreeDescriptors as client
 use Rattle.mount_calls.specs.States.{Stands, IsHandle, IsOpenAs, IsSlot, AreTables}
 
 -- one element of a list after it is set, and the others
@@ -118,6 +119,14 @@ there o = is_some o
 -- what a client has open under a descriptor
 pub opened-is : (clients : Clients) (c d : ℕ) (ds : Descriptors) → get nat_cmp clients.attached c ≡ Some ds → opened_by clients c d ≡ opened ds.slots.items d
 opened-is clients c d ds e = ap (option_and_then (λ (x : Descriptors). opened x.slots.items d)) e
+
+-- the lowest free descriptor of a client is that of its slots
+pub lowest-slot : (clients : Clients) (c d : ℕ) (ds : Descriptors) → get nat_cmp clients.attached c ≡ Some ds → client.IsLowestFree clients c d → IsLowestFree ds.slots.items d
+lowest-slot clients c d ds is low = record {
+  in_range = low.in_range;
+  free = sym (opened-is clients c d ds is) ∙ low.free;
+  lowest = λ k below. ap is_some (sym (opened-is clients c k ds is)) ∙ low.lowest k below;
+}
 
 -- the same clients are attached, with the same directories open, and the next number is the same
 pub record SameClients (old new : Clients) : Type 0 where

@@ -1,21 +1,23 @@
 -- What the calls on attributes read at a path, and what those that change them leave of the layers of a mount.
-use Rattle.std.specs.Prelude.{◌≡◌, ℕ, false, List, Option, None, Some, Result, MatchResult, IfOk, IfErr, OnOk, OnErr}
+use Rattle.std.specs.Prelude.{◌≡◌, ℕ, false, List, Option, None, Some, Result, Ok, Err, MatchResult, IfOk, IfErr, OnOk, OnErr}
 use Rattle.std.specs.declared.alloc.AllocError.{AllocError}
-use Rattle.ov_base.specs.AttributeChanges.{changed}
 use Rattle.ov_base.specs.declared.attributes.Attributes.{Attributes}
 use Rattle.ov_base.specs.declared.call.Call.{Call}
 use Rattle.ov_base.specs.declared.errno.Errno.{Errno}
-use Rattle.plain_model.specs.Layers.{Path, Layer, Shown, shows}
+use Rattle.ov_base.specs.declared.errno.Errno.TheVariants.{ENOENT}
+use Rattle.plain_model.specs.Layers.{Path, Layer, Shown, held, shows}
 use Rattle.plain_model.specs.Machine.{State}
 use Rattle.layer_tree.specs.Tree.{layer_of}
+use Rattle.merged_lookup.specs.declared.found.Topmost.{Topmost}
 use Rattle.merged_lookup.specs.declared.layers.Layers.{Layers}
-use Rattle.merged_lookup.specs.Merged.{layers_of, lowers_of, walk_fault, IsTopmost}
+use Rattle.merged_lookup.specs.declared.stack.Stack.{Stack}
+use Rattle.merged_lookup.specs.Merged.{layers_of, lowers_of, parent, parents_fault, IsStackOf, IsTopmost}
 use Rattle.mount_laws.specs.Looks.{shows_link, IsMountOf}
 use Rattle.mount_laws.specs.Attributes.{shown_attributes, chown_fault}
-use Rattle.mount_laws.specs.Altered.{AltersBy, AltersState}
-use Rattle.mount_laws.specs.StayOpen.{LivesThroughChange}
-use Rattle.copy_up.specs.Showing.{ShowsSame, StaysLayers, StaysMount, StaysThin}
-use Rattle.mount_calls.specs.declared.attributes.Change.{Change}
+use Rattle.mount_laws.specs.Altered.{AltersState}
+use Rattle.copy_up.specs.Showing.{number_of, ShowsSame, StaysLayers, StaysMount, StaysThin}
+use Rattle.mount_calls.specs.declared.attribute_changes.AttributeCall.{AttributeCall}
+use Rattle.mount_calls.specs.AttributeCalls.{call_at, asked_fault}
 use Rattle.mount_calls.specs.Keeping.{KeepsAround}
 use Rattle.mount_calls.specs.Living.{KeepsLive, StaysLive}
 
@@ -33,40 +35,45 @@ pub record ShowsAttributes (Ls : List Layer) (p : Path) (a : Attributes) : Type 
 abbrev pub AltersStates : Layers → Layers → Path → Call → Type 0
 AltersStates old new p k = (s : State) → IsMountOf (layer_of old.upper) (lowers_of old) s → (c : ℕ) → AltersState (layer_of new.upper) (lowers_of new) s c p k
 
--- A call that changes attributes at a path is refused with the fault, where there is one, and
--- changes nothing then; else each state is altered as the call alters it. Files that are open stay
--- live. An allocation failure leaves all that is shown, and no call changes a lower layer, nor what
--- the upper holds around the path, but for missing parents of it that it gains.
-pub record AltersUnless (fault : Option Errno) (old new : Layers) (p : Path) (k : Call) (result : Result (Result (Unit {0}) Errno) AllocError) : Type 0 where
-  pub refused : IfOk result (λ r. IfErr r (λ e. fault ≡ Some e))
+-- A call that changes attributes at a path is refused with its fault, where there is one, and
+-- changes nothing then; else each state is altered as the call alters it, and the key is that under
+-- which the upper has what the path shows. Files that are open stay live. An allocation failure
+-- leaves all that is shown, and no call changes a lower layer, nor what the upper holds around the
+-- path, but for missing parents of it that it gains.
+pub record AltersUnless (x : AttributeCall) (old new : Layers) (p : Path) (result : Result (Result ℕ Errno) AllocError) : Type 0 where
+  pub refused : IfOk result (λ r. IfErr r (λ e. asked_fault (layers_of old) p x ≡ Some e))
   pub unchanged : IfOk result (λ r. OnErr r (new ≡ old))
-  pub allowed : IfOk result (λ r. OnOk r (fault ≡ None))
-  pub alters : IfOk result (λ r. OnOk r (AltersStates old new p k))
+  pub allowed : IfOk result (λ r. OnOk r (asked_fault (layers_of old) p x ≡ None))
+  pub alters : IfOk result (λ r. OnOk r (AltersStates old new p (call_at p x)))
+  pub key : IfOk result (λ r. IfOk r (λ k. number_of (held (layer_of new.upper) p) ≡ Some k))
   pub lowers : new.lowers ≡ old.lowers
   pub around : KeepsAround old new p
   pub keeps : StaysLayers old new
   pub thin : StaysThin old new
   pub no_memory : OnErr result (ShowsSame old new)
   pub mounts : OnErr result (StaysMount old new)
-  pub live : IfOk result (λ r. OnOk r (KeepsLive old new k))
+  pub live : IfOk result (λ r. OnOk r (KeepsLive old new (call_at p x)))
   pub stays : OnErr result (StaysLive old new)
 
--- the change is of what the path shows, and makes f of the attributes that it shows
-pub record IsChange (f : Attributes → Attributes) (l : Layers) (p : Path) (x : Change) : Type 0 where
-  pub walked : walk_fault (layers_of l) p ≡ None
-  pub top : IsTopmost l p (Some x.top)
-  pub before : Attributes
-  pub shown : shown_attributes (shows 0 (layers_of l) p) ≡ Some before
-  pub after : changed x.change before ≡ f before
+-- what a path shows in a merged directory, to be changed there; nothing is ENOENT
+abbrev pub target_in : Stack → Option Topmost → Result (Stack × Topmost) Errno
+target_in directory (Some top) = Ok (directory, top)
+target_in directory None = Err ENOENT
 
--- such a change is to be made where there is no fault, and else the fault is told
-abbrev pub Plans : (List Layer → Option Errno) → (Attributes → Attributes) → Layers → Path → Result Change Errno → Type 0
-Plans fault f l p r = MatchResult r (λ x. (fault (layers_of l) ≡ None) × IsChange f l p x) (λ e. fault (layers_of l) ≡ Some e)
+-- so also where it was seen, and the way there is not refused
+abbrev pub target_of : Result (Stack × Option Topmost) Errno → Result (Stack × Topmost) Errno
+target_of (Ok seen) = target_in seen.0 seen.1
+target_of (Err e) = Err e
 
-abbrev pub IsPlan : Layers → Path → Result Change Errno → Type 0
-IsPlan l p r = (fault : List Layer → Option Errno) × (f : Attributes → Attributes) × Plans fault f l p r
+-- a call isn't refused, and this is what it changes, in the merged directory where that stands, with the attributes that it has
+pub record IsTarget (l : Layers) (p : Path) (x : AttributeCall) (target : Stack × Topmost) : Type 0 where
+  pub allowed : asked_fault (layers_of l) p x ≡ None
+  pub way : parents_fault (layers_of l) p ≡ None
+  pub directory : IsStackOf l (parent p) target.0
+  pub top : IsTopmost l p (Some target.1)
+  pub attributes : Attributes
+  pub shown : shown_attributes (shows 0 (layers_of l) p) ≡ Some attributes
 
--- every call that the change was planned for is made
-abbrev pub CarriesOut : Layers → Layers → Path → Result Change Errno → Result (Result (Unit {0}) Errno) AllocError → Type 0
-CarriesOut old new p r result =
-    (fault : List Layer → Option Errno) (f : Attributes → Attributes) (k : Call) → AltersBy f p fault k → LivesThroughChange f p k → Plans fault f old p r → AltersUnless (fault (layers_of old)) old new p k result
+-- so a call is judged, or its fault is told
+abbrev pub Judges : Layers → Path → AttributeCall → Result (Stack × Topmost) Errno → Type 0
+Judges l p x r = MatchResult r (IsTarget l p x) (λ e. asked_fault (layers_of l) p x ≡ Some e)

@@ -18,7 +18,6 @@ use Rattle.open_handles.specs.declared.open_file.OpenFile.{OpenFile}
 use Rattle.std.specs.BTreeMap.{get}
 use Rattle.std.specs.Ordering.{nat_cmp}
 use Rattle.open_handles.specs.declared.descriptors.Descriptors.{Descriptors}
-use Rattle.open_handles.specs.Descriptors.{IsFull}
 use Rattle.open_handles.specs.FileHolders.{room}
 use Rattle.open_handles.specs.Listings.{HasRoom}
 use Rattle.mount_calls.specs.declared.clients.Clients.{Clients}
@@ -108,15 +107,9 @@ abbrev pub upper_of : Option OpenFile → Option ℕ
 upper_of None = None
 upper_of (Some f) = elim f.source [ Upper k ↦ Some k | Lower layer k ↦ None ]
 
--- there is room for a file that a client opens
-pub record HasFileRoom (clients : Clients) (n : ℕ) : Type 0 where
+-- there is room for a file that a client opens under its lowest free descriptor
+pub record HasFileRoom (clients : Clients) (n d : ℕ) : Type 0 where
   pub descriptors : Descriptors
   pub attached : get nat_cmp clients.attached n ≡ Some descriptors
-  pub place : HasRoom descriptors
+  pub place : HasRoom descriptors d
   pub spare : 0 < room clients.files
-
--- a client has all its descriptors open
-pub record HasAllOpen (clients : Clients) (n : ℕ) : Type 0 where
-  pub descriptors : Descriptors
-  pub attached : get nat_cmp clients.attached n ≡ Some descriptors
-  pub full : IsFull descriptors.slots.items

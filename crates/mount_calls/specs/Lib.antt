@@ -1,12 +1,14 @@
 pub mod Status
 pub mod Attaching
 pub mod Files
+pub mod FreeDescriptors
 pub mod Held
-pub mod Offers
 pub mod Keeping
 pub mod Opening
 pub mod States
+pub mod Making
 pub mod Removing
+pub mod AttributeCalls
 pub mod Altering
 pub mod Living
 pub mod Looking

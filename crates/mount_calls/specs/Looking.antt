@@ -1,12 +1,21 @@
--- What was seen at a path, for a call and for those who are told of it (POSIX.1-2017, General Concepts, Pathname Resolution).
-use Rattle.std.specs.Prelude.{◌≡◌, Option, None, Some, Result, Ok, Err, IfOk, IfErr, OnOk}
+-- What was seen at a path, and what was judged of an open, for a call and for those who are told of it
+-- (POSIX.1-2017, General Concepts, Pathname Resolution).
+use Rattle.std.specs.Prelude.{◌≡◌, ℕ, Bool, Option, None, Some, Result, Ok, Err, IfOk, IfErr, OnOk}
+use Rattle.ov_base.specs.declared.call.OpenFlags.{OpenFlags}
 use Rattle.ov_base.specs.declared.errno.Errno.{Errno}
 use Rattle.plain_model.specs.Layers.{Path}
 use Rattle.merged_lookup.specs.declared.layers.Layers.{Layers}
 use Rattle.merged_lookup.specs.declared.found.Topmost.{Topmost}
 use Rattle.merged_lookup.specs.declared.stack.Stack.{Stack}
-use Rattle.merged_lookup.specs.Merged.{layers_of, parent, parents_fault, IsStackOf, IsTopmost}
+use Rattle.layer_tree.specs.Tree.{layer_of}
+use Rattle.merged_lookup.specs.Merged.{layers_of, lowers_of, parent, parents_fault, IsStackOf, IsTopmost}
+use Rattle.mount_laws.specs.Opening.{opening_fault}
+use Rattle.notice_laws.specs.Objects.{IsObject}
+use Rattle.notice_laws.specs.declared.object.Object.TheVariants as object
 use Rattle.mount_calls.specs.declared.look.Look.{Look}
+use Rattle.mount_calls.specs.declared.mount.Mount.{Mount}
+use Rattle.mount_calls.specs.declared.open_calls.Judged.{Judged}
+use Rattle.mount_calls.specs.FreeDescriptors.{IsLowestFree}
 
 -- the topmost object that was seen, if there was one
 abbrev pub topmost_of : Result (Stack × Option Topmost) Errno → Option Topmost
@@ -19,3 +28,14 @@ pub record IsLook (l : Layers) (p : Path) (look : Look) : Type 0 where
   pub way : OnOk look.shown (parents_fault (layers_of l) p ≡ None)
   pub directory : IfOk look.shown (λ seen. IsStackOf l (parent p) seen.0)
   pub top : IfOk look.shown (λ seen. IsTopmost l p seen.1)
+
+-- the file of the upper that is shown at p, if one is, stands under this key
+abbrev pub IsKeyAt : Layers → Path → ℕ → Type 0
+IsKeyAt l p key = (k : ℕ) (last : Bool) → IsObject (layer_of l.upper) (lowers_of l) p (object.Upper k last) → key ≡ k
+
+-- AN OPEN WAS JUDGED: nothing refuses it, its descriptor is the lowest free one, and this is where it opens
+pub record IsJudged (m : Mount) (c : ℕ) (p : Path) (f : OpenFlags) (judged : Judged) : Type 0 where
+  pub allowed : opening_fault (layers_of m.layers) p f judged.mode (Some 0) ≡ None
+  pub free : IsLowestFree m.clients c judged.descriptor
+  pub directory : IsStackOf m.layers (parent p) judged.directory
+  pub top : IsTopmost m.layers p judged.top

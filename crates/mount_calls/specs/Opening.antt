@@ -1,5 +1,5 @@
 -- What an open opens, and why calls by a descriptor are refused.
-use Rattle.std.specs.Prelude.{OnOk, IfOk, ◌≡◌, ℕ, ℤ, nat_abs, nat_eq, nat_lt, not, ◌&&◌, ◌||◌, Option, None, Some, Result, Ok, Err, cond, is_none}
+use Rattle.std.specs.Prelude.{OnOk, ◌≡◌, ℕ, ℤ, nat_abs, nat_eq, nat_lt, not, ◌&&◌, ◌||◌, Option, None, Some, Result, Ok, Err, cond, is_none}
 use Rattle.std.specs.declared.alloc.AllocError.{AllocError}
 use Rattle.ov_base.specs.declared.call.OpenFlags.{OpenFlags}
 use Rattle.ov_base.specs.declared.errno.Errno.{Errno}
@@ -64,13 +64,13 @@ list_fault (Some (Directory o)) n = when (nat_eq n 0 || nat_lt 256 n) EINVAL
 abbrev pub inode_refusal : OpenFlags → Option Shown → Option Errno
 inode_refusal f s = or_else (when (shows_link s) ELOOP) (when f.directory ENOTDIR)
 
--- a file is opened under a client's lowest free descriptor, or refused where 64 are open
-abbrev pub OpensFile : Clients → Clients → ℕ → OpenFile → Result (Result ℕ Errno) AllocError → Type 0
-OpensFile old new client f result = ChangesClient old new client (λ before after. Opens before after (File f) result)
+-- a file is opened under a client's lowest free descriptor
+abbrev pub OpensFile : Clients → Clients → ℕ → ℕ → OpenFile → Result (Unit {0}) AllocError → Type 0
+OpensFile old new client d f result = ChangesClient old new client (λ before after. Opens before after d (File f) result)
 
--- the directory at a path is opened under a client's lowest free descriptor, or refused where 64 are open
-pub record OpensAt (old new : Clients) (client : ℕ) (p : Path) (result : Result (Result ℕ Errno) AllocError) : Type 0 where
+-- the directory at a path is opened under a client's lowest free descriptor
+pub record OpensAt (old new : Clients) (client d : ℕ) (p : Path) (result : Result (Unit {0}) AllocError) : Type 0 where
   pub handle : OpenDirectory
   pub fresh : handle.listing ≡ None
-  pub stands : IfOk result (λ opening. OnOk opening (located new handle ≡ Some (At p)))
-  pub changes : ChangesClient old new client (λ before after. Opens before after (Directory handle) result)
+  pub stands : OnOk result (located new handle ≡ Some (At p))
+  pub changes : ChangesClient old new client (λ before after. Opens before after d (Directory handle) result)

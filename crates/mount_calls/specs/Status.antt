@@ -1,5 +1,6 @@
 -- What stat(2) and readlink(2) answer at a path of the layers of a mount, and shows of an object of a layer.
 use Rattle.std.specs.Prelude.{ℕ, min, List, length, Option, Some, None, Result, Ok, Err}
+use Rattle.std.specs.declared.alloc.AllocError.{AllocError}
 use Rattle.ov_base.specs.declared.attributes.Attributes.{Attributes}
 use Rattle.ov_base.specs.declared.errno.Errno.{Errno}
 use Rattle.ov_base.specs.declared.errno.Errno.TheVariants.{ENOENT, EINVAL}
@@ -13,7 +14,6 @@ use Rattle.ov_base.specs.declared.reply.Stat.{Stat}
 use Rattle.layer_tree.specs.declared.node.Node.{Node}
 use Rattle.layer_tree.specs.declared.node.Node.TheVariants as node
 use Rattle.plain_model.specs.Layers.{Path, Inode, Layer, Shown, Folder, Contents, shows}
-use Rattle.mount_laws.specs.Leaves.{shown_target}
 use Rattle.merged_lookup.specs.Merged.{walk_fault}
 
 -- what stat shows of an object with these attributes
@@ -63,16 +63,12 @@ abbrev pub target_reply : Option (List ℕ) → Reply
 target_reply None = reply.Refused EINVAL
 target_reply (Some target) = reply.Target target
 
--- the same, where the walk is refused or not
-abbrev pub link_reply : Option Errno → Option (List ℕ) → Reply
-link_reply None target = target_reply target
-link_reply (Some e) target = reply.Refused e
-
--- the reply to readlink at a path: why the walk there is refused, or the target of the symbolic link that is shown
-abbrev pub readlink_reply : List Layer → Path → Reply
-readlink_reply Ls p = link_reply (walk_fault Ls p) (shown_target (shows 0 Ls p))
-
 -- how a change is answered that was made, whatever it tells, or that was refused
 abbrev pub outcome_reply : {A : Type 0} → Result A Errno → Reply
 outcome_reply (Ok told) = reply.Done
 outcome_reply (Err errno) = reply.Refused errno
+
+-- and how it is answered where memory may run out
+abbrev pub outcome_result : {A : Type 0} → Result (Result A Errno) AllocError → Result Reply AllocError
+outcome_result (Ok outcome) = Ok (outcome_reply outcome)
+outcome_result (Err e) = Err e

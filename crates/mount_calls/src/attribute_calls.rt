@@ -1,98 +1,54 @@
 // The calls on attributes, by the plain machine.
-ghost use Rattle.std.specs.Prelude.{◌≡◌, ℕ, None, IfOk, OnErr};
+ghost use Rattle.std.specs.Prelude.{◌≡◌, ℕ, None, Some, IfOk, OnErr};
+ghost use Rattle.plain_model.specs.Layers.{held};
 ghost use Rattle.plain_model.specs.Machine.{State};
 ghost use Rattle.plain_model.specs.Refusals.{refusal};
-ghost use Rattle.copy_up.specs.Showing.{StaysThin};
+ghost use Rattle.layer_tree.specs.Tree.{layer_of};
+ghost use Rattle.copy_up.specs.Showing.{number_of, StaysThin};
+ghost use Rattle.mount_calls.specs.AttributeCalls.{call_at};
 ghost use Rattle.mount_calls.specs.Keeping.{KeepsLayers};
 ghost use Rattle.mount_calls.specs.Living.{KeepsNamed, StaysLive};
+ghost use Rattle.mount_calls.specs.Looking.{IsLook};
+ghost use Rattle.mount_calls.specs.Making.{TellsEach};
 ghost use Rattle.mount_calls.specs.States.{IsStateOf, Serves, StaysState};
+ghost use Rattle.mount_calls.specs.Status.{outcome_reply};
 
-use crate::attributes::{chmod, chown};
+use crate::attribute_changes::{AttributeCall, alter_seen};
+use crate::look::Look;
 use crate::mount::Mount;
-use crate::user_attributes::{delete_attribute, get_attribute, list_attributes, set_attribute};
+use crate::user_attributes::{get_attribute, list_attributes};
 use ov_base::{Bytes, Call, Errno, Path, Reply};
 use std::alloc::AllocError;
 
 impl Mount {
-    pub(crate) fn chmod(&mut self, path: &Path, mode: u32) -> Result<Reply, AllocError>
-        ensures serves { IfOk result (λ reply. (s : State) → IsStateOf self.old s → (c : ℕ) → Serves (refusal s c (Call.Chmod path.now mode)) s c (Call.Chmod path.now mode) reply self.new) }
-        ensures err { OnErr result (StaysState self.old self.new) }
-        ensures clients { self.new.clients ≡ self.old.clients }
-        ensures layers { KeepsLayers (Call.Chmod path.now mode) self.old.layers self.new.layers }
-        ensures refused { IfOk result (λ reply. (errno : Errno) → reply ≡ Reply.Refused errno → self.new.layers ≡ self.old.layers) }
-        ensures lowers { self.new.layers.lowers ≡ self.old.layers.lowers }
-        ensures thin { StaysThin self.old.layers self.new.layers }
-        ensures named { IfOk result (λ reply. (s : State) → IsStateOf self.old s → (c : ℕ) → refusal s c (Call.Chmod path.now mode) ≡ None → KeepsNamed s c self.old.layers self.new.layers (Call.Chmod path.now mode)) }
-        ensures stays_live { OnErr result (StaysLive self.old.layers self.new.layers) }
-    {
-        match chmod(&mut self.layers, path, mode)? {
-            Ok(()) => Ok(Reply::Done),
-            Err(errno) => Ok(Reply::Refused(errno)),
-        }
-    }
-
-    pub(crate) fn chown(&mut self, path: &Path, uid: u32, gid: u32) -> Result<Reply, AllocError>
-        ensures serves { IfOk result (λ reply. (s : State) → IsStateOf self.old s → (c : ℕ) → Serves (refusal s c (Call.Chown path.now uid gid)) s c (Call.Chown path.now uid gid) reply self.new) }
-        ensures err { OnErr result (StaysState self.old self.new) }
-        ensures clients { self.new.clients ≡ self.old.clients }
-        ensures layers { KeepsLayers (Call.Chown path.now uid gid) self.old.layers self.new.layers }
-        ensures refused { IfOk result (λ reply. (errno : Errno) → reply ≡ Reply.Refused errno → self.new.layers ≡ self.old.layers) }
-        ensures lowers { self.new.layers.lowers ≡ self.old.layers.lowers }
-        ensures thin { StaysThin self.old.layers self.new.layers }
-        ensures named { IfOk result (λ reply. (s : State) → IsStateOf self.old s → (c : ℕ) → refusal s c (Call.Chown path.now uid gid) ≡ None → KeepsNamed s c self.old.layers self.new.layers (Call.Chown path.now uid gid)) }
-        ensures stays_live { OnErr result (StaysLive self.old.layers self.new.layers) }
-    {
-        match chown(&mut self.layers, path, uid, gid)? {
-            Ok(()) => Ok(Reply::Done),
-            Err(errno) => Ok(Reply::Refused(errno)),
-        }
-    }
-
-    pub(crate) fn set_attribute(
+    /// Makes a call on the attributes of what was seen at a path, and gives the key under which that
+    /// stands in the upper then. It is refused for what it asks for, then as chown(2) is for the path,
+    /// and last for the user attributes there. An allocation failure leaves all that is shown.
+    pub fn alter(
         &mut self,
         path: &Path,
-        name: &Bytes,
-        value: &Bytes,
-    ) -> Result<Reply, AllocError>
-        ensures serves { IfOk result (λ reply. (s : State) → IsStateOf self.old s → (c : ℕ) → Serves (refusal s c (Call.SetAttribute path.now name.now value.now)) s c (Call.SetAttribute path.now name.now value.now) reply self.new) }
+        look: Look,
+        call: AttributeCall,
+    ) -> Result<Result<usize, Errno>, AllocError>
+        requires { IsLook self.old.layers path.now look }
+        ensures serves { IfOk result (λ outcome. (s : State) → IsStateOf self.old s → (c : ℕ) → Serves (refusal s c (call_at path.now call.entry)) s c (call_at path.now call.entry) (outcome_reply outcome) self.new) }
+        ensures key { IfOk result (λ outcome. IfOk outcome (λ key. number_of (held (layer_of self.new.layers.upper) path.now) ≡ Some key)) }
         ensures err { OnErr result (StaysState self.old self.new) }
         ensures clients { self.new.clients ≡ self.old.clients }
-        ensures layers { KeepsLayers (Call.SetAttribute path.now name.now value.now) self.old.layers self.new.layers }
-        ensures refused { IfOk result (λ reply. (errno : Errno) → reply ≡ Reply.Refused errno → self.new.layers ≡ self.old.layers) }
+        ensures layers { KeepsLayers (call_at path.now call.entry) self.old.layers self.new.layers }
+        ensures refused { IfOk result (λ outcome. OnErr outcome (self.new.layers ≡ self.old.layers)) }
         ensures lowers { self.new.layers.lowers ≡ self.old.layers.lowers }
         ensures thin { StaysThin self.old.layers self.new.layers }
-        ensures named { IfOk result (λ reply. (s : State) → IsStateOf self.old s → (c : ℕ) → refusal s c (Call.SetAttribute path.now name.now value.now) ≡ None → KeepsNamed s c self.old.layers self.new.layers (Call.SetAttribute path.now name.now value.now)) }
+        ensures named { IfOk result (λ outcome. (s : State) → IsStateOf self.old s → (c : ℕ) → refusal s c (call_at path.now call.entry) ≡ None → KeepsNamed s c self.old.layers self.new.layers (call_at path.now call.entry)) }
         ensures stays_live { OnErr result (StaysLive self.old.layers self.new.layers) }
     {
-        match set_attribute(&mut self.layers, path, name, value)? {
-            Ok(()) => Ok(Reply::Done),
-            Err(errno) => Ok(Reply::Refused(errno)),
-        }
+        let outcome = alter_seen(&mut self.layers, path, look, &call)?;
+        Ok(outcome)
     }
 
-    pub(crate) fn delete_attribute(
-        &mut self,
-        path: &Path,
-        name: &Bytes,
-    ) -> Result<Reply, AllocError>
-        ensures serves { IfOk result (λ reply. (s : State) → IsStateOf self.old s → (c : ℕ) → Serves (refusal s c (Call.DeleteAttribute path.now name.now)) s c (Call.DeleteAttribute path.now name.now) reply self.new) }
-        ensures err { OnErr result (StaysState self.old self.new) }
-        ensures clients { self.new.clients ≡ self.old.clients }
-        ensures layers { KeepsLayers (Call.DeleteAttribute path.now name.now) self.old.layers self.new.layers }
-        ensures refused { IfOk result (λ reply. (errno : Errno) → reply ≡ Reply.Refused errno → self.new.layers ≡ self.old.layers) }
-        ensures lowers { self.new.layers.lowers ≡ self.old.layers.lowers }
-        ensures thin { StaysThin self.old.layers self.new.layers }
-        ensures named { IfOk result (λ reply. (s : State) → IsStateOf self.old s → (c : ℕ) → refusal s c (Call.DeleteAttribute path.now name.now) ≡ None → KeepsNamed s c self.old.layers self.new.layers (Call.DeleteAttribute path.now name.now)) }
-        ensures stays_live { OnErr result (StaysLive self.old.layers self.new.layers) }
-    {
-        match delete_attribute(&mut self.layers, path, name)? {
-            Ok(()) => Ok(Reply::Done),
-            Err(errno) => Ok(Reply::Refused(errno)),
-        }
-    }
-
-    pub(crate) fn get_attribute(&self, path: &Path, name: &Bytes) -> Result<Reply, AllocError>
-        ensures { IfOk result (λ reply. (s : State) → IsStateOf self.now s → (c : ℕ) → Serves (refusal s c (Call.GetAttribute path.now name.now)) s c (Call.GetAttribute path.now name.now) reply self.now) }
+    /// The value of a user attribute of what stands at a path.
+    pub fn get_attribute(&self, path: &Path, name: &Bytes) -> Result<Reply, AllocError>
+        ensures { IfOk result (TellsEach (Call.GetAttribute path.now name.now) self.now) }
     {
         match get_attribute(&self.layers, path, name)? {
             Ok(value) => Ok(Reply::Value(value)),
@@ -100,8 +56,9 @@ impl Mount {
         }
     }
 
-    pub(crate) fn list_attributes(&self, path: &Path) -> Result<Reply, AllocError>
-        ensures { IfOk result (λ reply. (s : State) → IsStateOf self.now s → (c : ℕ) → Serves (refusal s c (Call.ListAttributes path.now)) s c (Call.ListAttributes path.now) reply self.now) }
+    /// The names of the user attributes of what stands at a path.
+    pub fn list_attributes(&self, path: &Path) -> Result<Reply, AllocError>
+        ensures { IfOk result (TellsEach (Call.ListAttributes path.now) self.now) }
     {
         match list_attributes(self.alloc, &self.layers, path)? {
             Ok(names) => Ok(Reply::AttributeNames(names)),

@@ -1,5 +1,5 @@
 // The attached clients.
-ghost use Rattle.std.specs.Prelude.{◌≡◌, ◌≢◌, ◌+◌, ◌<◌, ◌^◌, ℕ, true, false, Some, None, Ok, IfOk, IfErr, OnOk, OnErr, IsSome, is_some, [], option_copied, ◌↔◌, nat_lt};
+ghost use Rattle.std.specs.Prelude.{◌≡◌, ◌≢◌, ◌+◌, ◌<◌, ◌^◌, ℕ, true, false, Some, None, Ok, IfOk, IfErr, IfNone, IfSome, OnOk, OnErr, IsSome, is_some, [], option_copied, ◌↔◌, nat_lt};
 ghost use Rattle.std.specs.Option.{option_and_then};
 ghost use Rattle.std.specs.BTreeMap.{get, btree_map_len};
 ghost use Rattle.std.specs.Ordering.{nat_cmp};
@@ -36,7 +36,8 @@ pub struct Clients {
 impl Clients {
     ghost use Rattle.mount_calls.specs.Attaching.{HasNoRoom, Attaches, Detaches, TakesBack, IsSame, ChangesClient, KeepsPlaces, opened_by, directory_by, file_by, located, path_of};
     ghost use Rattle.open_handles.specs.declared.open_file.FileSource.TheVariants as sources;
-    ghost use Rattle.mount_calls.specs.Files.{HasFile, HasFileRoom, HasAllOpen};
+    ghost use Rattle.mount_calls.specs.Files.{HasFile, HasFileRoom};
+    ghost use Rattle.mount_calls.specs.FreeDescriptors.{IsFull, IsLowestFree};
     ghost use Rattle.mount_calls.specs.Opening.{OpensAt, OpensFile};
     ghost use Rattle.mount_calls.specs.Removing.{IsOpenNowhere, IsOpenAt, RemovesOpen};
     ghost use Rattle.mount_calls.specs.Renaming.{RenamesOpen, SamePlaces};
@@ -131,10 +132,21 @@ impl Clients {
         self.attached.get(&client)?.directory(descriptor)
     }
 
-    /// Opens the directory at a path under the lowest free descriptor of a client and gives it. Where 64 are open it is EMFILE.
-    pub fn open(&mut self, client: u64, path: &Path) -> Result<Result<u32, Errno>, AllocError>
-        requires { IsSome (get nat_cmp self.old.attached client) }
-        ensures { OpensAt self.old self.new client path.now result }
+    /// The lowest free descriptor of a client, unless all 64 are open.
+    pub fn free_descriptor(&self, client: u64) -> Option<u32>
+        requires { IsSome (get nat_cmp self.now.attached client) }
+        ensures free { IfSome result (IsLowestFree self.now client) }
+        ensures full { IfNone result (IsFull self.now client) }
+    {
+        self.attached.get(&client).unwrap().lowest_free()
+    }
+
+    /// Opens the directory at a path under the lowest free descriptor of a client. It fails only
+    /// when out of memory, or where as many hold the directory as can be counted.
+    pub fn open(&mut self, client: u64, descriptor: u32, path: &Path) -> Result<(), AllocError>
+        requires attached { IsSome (get nat_cmp self.old.attached client) }
+        requires free { IsLowestFree self.old client descriptor }
+        ensures { OpensAt self.old self.new client descriptor path.now result }
     {
         self.directories.lawful();
         let directory = match self.directories.open(path) {
@@ -145,12 +157,13 @@ impl Clients {
             directory,
             listing: Cursor::new(),
         });
-        match self.attached.get_mut(&client).unwrap().open(handle) {
-            Ok(Ok(descriptor)) => Ok(Ok(descriptor)),
-            Ok(Err(errno)) => {
-                self.directories.close(directory);
-                Ok(Err(errno))
-            }
+        match self
+            .attached
+            .get_mut(&client)
+            .unwrap()
+            .open(descriptor, handle)
+        {
+            Ok(()) => Ok(()),
             Err(fault) => {
                 self.directories.close(directory);
                 Err(fault)
@@ -158,27 +171,26 @@ impl Clients {
         }
     }
 
-    /// Opens a file under the lowest free descriptor of a client and gives it. Where 64 are open it is EMFILE.
+    /// Opens a file under the lowest free descriptor of a client. It fails only when out of memory,
+    /// or where as many hold the file as can be counted.
     pub fn open_file(
         &mut self,
         client: u64,
+        descriptor: u32,
         file: OpenFile,
-    ) -> Result<Result<u32, Errno>, AllocError>
-        requires { IsSome (get nat_cmp self.old.attached client) }
-        ensures { OpensFile self.old self.new client file result }
+    ) -> Result<(), AllocError>
+        requires attached { IsSome (get nat_cmp self.old.attached client) }
+        requires free { IsLowestFree self.old client descriptor }
+        ensures { OpensFile self.old self.new client descriptor file result }
     {
         hold_file(&mut self.files, file.source)?;
         match self
             .attached
             .get_mut(&client)
             .unwrap()
-            .open(Handle::File(file))
+            .open(descriptor, Handle::File(file))
         {
-            Ok(Ok(descriptor)) => Ok(Ok(descriptor)),
-            Ok(Err(errno)) => {
-                close_file(&mut self.files, file.source);
-                Ok(Err(errno))
-            }
+            Ok(()) => Ok(()),
             Err(fault) => {
                 close_file(&mut self.files, file.source);
                 Err(fault)
@@ -186,34 +198,31 @@ impl Clients {
         }
     }
 
-    /// Makes room for a file that a client opens, so that the next `open_reserved` takes no memory. Where 64 descriptors are open it is
-    /// EMFILE. Nothing is opened.
-    pub fn reserve_file(&mut self, client: u64) -> Result<Result<(), Errno>, AllocError>
-        requires { IsSome (get nat_cmp self.old.attached client) }
+    /// Makes room for a file that a client opens under its lowest free descriptor, so that the next
+    /// `open_reserved` takes no memory. Nothing is opened.
+    pub fn reserve_file(&mut self, client: u64, descriptor: u32) -> Result<(), AllocError>
+        requires attached { IsSome (get nat_cmp self.old.attached client) }
+        requires free { IsLowestFree self.old client descriptor }
         ensures same { ChangesClient self.old self.new client (λ before after. after ≡ before) }
-        ensures room { IfOk result (λ reserving. OnOk reserving (HasFileRoom self.new client)) }
-        ensures full { IfOk result (λ reserving. IfErr reserving (λ errno. (errno ≡ Errno.EMFILE) × HasAllOpen self.old client)) }
+        ensures room { OnOk result (HasFileRoom self.new client descriptor) }
     {
-        match self.attached.get_mut(&client).unwrap().reserve()? {
-            Ok(()) => {
-                self.files.reserve()?;
-                Ok(Ok(()))
-            }
-            Err(errno) => Ok(Err(errno)),
-        }
+        self.attached.get_mut(&client).unwrap().reserve(descriptor)?;
+        self.files.reserve()?;
+        Ok(())
     }
 
-    /// Opens a file that no handle holds yet under the lowest free descriptor of a client, for which there is room, and gives it.
-    pub fn open_reserved(&mut self, client: u64, file: OpenFile) -> u32
-        requires room { HasFileRoom self.old client }
+    /// Opens a file that no handle holds yet under the lowest free descriptor of a client, for which
+    /// there is room.
+    pub fn open_reserved(&mut self, client: u64, descriptor: u32, file: OpenFile)
+        requires room { HasFileRoom self.old client descriptor }
         requires fresh { (k : ℕ) → file.source ≡ sources.Upper k → file_holders self.old.files k ≡ 0 }
-        ensures { OpensFile self.old self.new client file (Ok (Ok result)) }
+        ensures { OpensFile self.old self.new client descriptor file (Ok tt) }
     {
         let _ = hold_file(&mut self.files, file.source);
         self.attached
             .get_mut(&client)
             .unwrap()
-            .open_reserved(Handle::File(file))
+            .open_reserved(descriptor, Handle::File(file));
     }
 
     /// The file to which a descriptor of a client leads, if it leads to one.
@@ -359,17 +368,15 @@ impl Clients {
             .next_names(alloc, descriptor, count)
     }
 
-    /// Closes a descriptor of a client. One that isn't open is EBADF.
-    pub fn close(&mut self, client: u64, descriptor: u32) -> Result<(), Errno>
+    /// Closes a descriptor of a client, and gives what it led to. One that isn't open is EBADF.
+    pub fn close(&mut self, client: u64, descriptor: u32) -> Result<Handle, Errno>
         requires { IsSome (get nat_cmp self.old.attached client) }
         ensures { ChangesClient self.old self.new client (λ before after. Closes before after descriptor result) }
     {
-        let Some(_) = self.opened(client, descriptor) else {
+        let Some(handle) = self.attached.get_mut(&client).unwrap().take(descriptor) else {
             return Err(Errno::EBADF);
         };
-        let descriptors = self.attached.get_mut(&client).unwrap();
-        let handle = descriptors.take(descriptor).unwrap();
         close_handle(&mut self.directories, &mut self.files, &handle);
-        Ok(())
+        Ok(handle)
     }
 }

@@ -1,14 +1,12 @@
 // The calls on open files, and `lseek` and `fstat` on directories, by the plain machine (POSIX.1-2017, read(), lseek() and fstat()).
-ghost use Rattle.std.specs.Prelude.{◌≡◌, None, Some, Ok, IfOk, IfErr, OnErr, IsSome, option_copied};
+ghost use Rattle.std.specs.Prelude.{◌≡◌, None, Some, Ok, IfOk, IfErr, IsSome, option_copied};
 ghost use Rattle.ov_base.specs.declared.attributes.Attributes.{Attributes as DirectoryAttributes};
-ghost use Rattle.plain_model.specs.Machine.{State};
-ghost use Rattle.plain_model.specs.Refusals.{refusal};
-ghost use Rattle.mount_calls.specs.Attaching.{KeepsAttached, directory_by, file_by, opened_by};
+ghost use Rattle.mount_calls.specs.Attaching.{directory_by, file_by, opened_by};
 ghost use Rattle.open_handles.specs.declared.open_file.OpenFile.{OpenFile as OpenedFile};
+ghost use Rattle.mount_calls.specs.Making.{MakesCall, TellsCall};
 ghost use Rattle.mount_calls.specs.Opening as opening;
 ghost use Rattle.mount_calls.specs.Opening.{read_fault, seek_fault};
 ghost use Rattle.mount_calls.specs.Status.{stat_with};
-ghost use Rattle.mount_calls.specs.States.{IsStateOf, Serves, StaysState};
 
 use crate::files::{bytes_in, status_in};
 use crate::mount::Mount;
@@ -22,16 +20,8 @@ const TRANSFER_MAX: u32 = 65_536;
 
 impl Mount {
     /// Reads the next bytes of an open file, at most so many.
-    pub(crate) fn read(
-        &mut self,
-        client: u64,
-        descriptor: u32,
-        count: u32,
-    ) -> Result<Reply, AllocError>
-        ensures serves { IfOk result (λ reply. (s : State) → IsStateOf self.old s → Serves (refusal s client (Call.Read descriptor count)) s client (Call.Read descriptor count) reply self.new) }
-        ensures err { OnErr result (StaysState self.old self.new) }
-        ensures clients { KeepsAttached self.old.clients self.new.clients }
-        ensures layers { self.new.layers ≡ self.old.layers }
+    pub fn read(&mut self, client: u64, descriptor: u32, count: u32) -> Result<Reply, AllocError>
+        ensures { MakesCall client (Call.Read descriptor count) self.old self.new result }
     {
         let file = match self.file_to_read(client, descriptor, count) {
             Ok(file) => file,
@@ -67,10 +57,8 @@ impl Mount {
     }
 
     /// Moves the place of an open file, or goes back to the start of an open directory.
-    pub(crate) fn seek(&mut self, client: u64, descriptor: u32, offset: i64, whence: u8) -> Reply
-        ensures serves { (s : State) → IsStateOf self.old s → Serves (refusal s client (Call.Seek descriptor offset whence)) s client (Call.Seek descriptor offset whence) result self.new }
-        ensures clients { KeepsAttached self.old.clients self.new.clients }
-        ensures layers { self.new.layers ≡ self.old.layers }
+    pub fn seek(&mut self, client: u64, descriptor: u32, offset: i64, whence: u8) -> Reply
+        ensures { MakesCall client (Call.Seek descriptor offset whence) self.old self.new (Ok result) }
     {
         if let Some(errno) = self.seek_refusal(client, descriptor, offset, whence) {
             return Reply::Refused(errno);
@@ -110,9 +98,7 @@ impl Mount {
         whence: u8,
     ) -> Reply
         requires { file_by self.old.clients client descriptor ≡ Some file }
-        ensures serves { (s : State) → IsStateOf self.old s → Serves (refusal s client (Call.Seek descriptor offset whence)) s client (Call.Seek descriptor offset whence) result self.new }
-        ensures clients { KeepsAttached self.old.clients self.new.clients }
-        ensures layers { self.new.layers ≡ self.old.layers }
+        ensures { MakesCall client (Call.Seek descriptor offset whence) self.old self.new (Ok result) }
     {
         let size = bytes_in(&self.layers, file.source).len();
         match place_sought(file, size, offset, whence) {
@@ -125,8 +111,8 @@ impl Mount {
     }
 
     /// What stat(2) shows of what a client has open.
-    pub(crate) fn fstat(&self, client: u64, descriptor: u32) -> Result<Reply, AllocError>
-        ensures { IfOk result (λ reply. (s : State) → IsStateOf self.now s → Serves (refusal s client (Call.Fstat descriptor)) s client (Call.Fstat descriptor) reply self.now) }
+    pub fn fstat(&self, client: u64, descriptor: u32) -> Result<Reply, AllocError>
+        ensures { IfOk result (TellsCall client (Call.Fstat descriptor) self.now) }
     {
         match self.clients.opened(client, descriptor) {
             None => Ok(Reply::Refused(Errno::EBADF)),
@@ -138,7 +124,7 @@ impl Mount {
     // What stat(2) shows of an open file.
     fn file_status(&self, client: u64, descriptor: u32, source: FileSource) -> Reply
         requires { (f : OpenedFile) × (file_by self.now.clients client descriptor ≡ Some f) × (f.source ≡ source) }
-        ensures { (s : State) → IsStateOf self.now s → Serves (refusal s client (Call.Fstat descriptor)) s client (Call.Fstat descriptor) result self.now }
+        ensures { TellsCall client (Call.Fstat descriptor) self.now result }
     {
         match status_in(&self.layers, source) {
             Ok(status) => Reply::Status(status),
@@ -149,7 +135,7 @@ impl Mount {
     // What stat(2) shows of an open directory.
     fn directory_status(&self, client: u64, descriptor: u32) -> Result<Reply, AllocError>
         requires { IsSome (directory_by self.now.clients client descriptor) }
-        ensures { IfOk result (λ reply. (s : State) → IsStateOf self.now s → Serves (refusal s client (Call.Fstat descriptor)) s client (Call.Fstat descriptor) reply self.now) }
+        ensures { IfOk result (TellsCall client (Call.Fstat descriptor) self.now) }
     {
         let status = match self.clients.path(self.alloc, client, descriptor)? {
             Some(path) => status_at(&self.layers, &path),

@@ -3,12 +3,14 @@
 #![tactic(auto)]
 
 mod attribute_calls;
+mod attribute_changes;
 mod attributes;
 mod clients;
 mod closing;
 mod file_bytes;
 mod file_calls;
 mod files;
+mod link_calls;
 mod look;
 mod mount;
 mod object;
@@ -19,7 +21,9 @@ mod status;
 mod user_attributes;
 mod write_calls;
 
+pub use attribute_changes::AttributeCall;
 pub use clients::{CLIENTS_MAX, Clients};
 pub use look::Look;
 pub use mount::Mount;
+pub use open_calls::Judged;
 pub use status::{status_at, status_of};

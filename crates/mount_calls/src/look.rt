@@ -21,7 +21,7 @@ pub struct Look {
 
 impl Look {
     // The topmost object, if the path shows any.
-    fn topmost(&self) -> Option<Topmost>
+    pub(crate) fn topmost(&self) -> Option<Topmost>
         ensures { result ≡ topmost_of self.now.shown }
     {
         match &self.shown {
@@ -32,7 +32,7 @@ impl Look {
 }
 
 impl Mount {
-    /// What a path shows, looked at once for `object_seen` and `open_seen`.
+    /// What a path shows, looked at once for `object_seen` and for the call.
     pub fn look(&self, path: &Path) -> Look
         ensures { IsLook self.now.layers path.now result }
     {

@@ -1,12 +1,12 @@
 // A mount and the clients on it: what each call does, by the plain machine.
-ghost use Rattle.std.specs.Prelude.{◌≡◌, ◌<◌, ◌+◌, ◌^◌, ℕ, false, List, Some, None, Ok, IsOk, IfOk, IfErr, OnOk, OnErr, IsSome, IsSomeAnd, IfNone, IfSome, is_some, MatchResult, option_copied, true};
+ghost use Rattle.std.specs.Prelude.{◌≡◌, ◌<◌, ◌+◌, ◌^◌, ℕ, false, List, Some, None, Ok, IfOk, IfErr, OnOk, OnErr, IsSome, IsSomeAnd, IfNone, IfSome, is_some, MatchResult, option_copied, true};
 ghost use Rattle.plain_model.specs.Layers.{AreLayers};
 ghost use Rattle.layer_tree.specs.Tree.{layer_of, inode_of};
 ghost use Rattle.merged_lookup.specs.Merged.{layers_of, lowers_of};
 ghost use Rattle.notice_laws.specs.Objects.{IsObject};
 ghost use Rattle.mount_calls.specs.States.{AreNamesIn};
 ghost use Rattle.mount_calls.specs.Files.{upper_of};
-ghost use Rattle.mount_calls.specs.Status.{outcome_reply, stat_at, readlink_reply, target_reply};
+ghost use Rattle.mount_calls.specs.Status.{outcome_result, target_reply};
 ghost use Rattle.std.specs.Option.{option_and_then};
 ghost use Rattle.mount_laws.specs.Leaves.{inode_target};
 
@@ -20,7 +20,6 @@ use merged_lookup::{Found, Layers, Topmost};
 use notice_laws::Object;
 use open_handles::{FileSource, Handle, OpenFile};
 use ov_base::{Attributes, Bytes, Call, Content, Errno, LinkTarget, Mode, NameList, Path, Reply};
-use rename_redirect::link;
 use std::alloc::{AllocError, Global};
 use std::hash::RandomState;
 
@@ -52,9 +51,9 @@ impl Mount {
     ghost use Rattle.mount_calls.specs.Removing.{IsOpenNowhere, HasAttributes};
     ghost use Rattle.mount_laws.specs.Removals.{rmdir_fault};
     ghost use Rattle.mount_calls.specs.Opening.{list_fault};
-    ghost use Rattle.mount_calls.specs.Living.{KeepsNamed, KeepsPaths, StaysLive};
-    ghost use Rattle.mount_calls.specs.Offers.{is_offered};
-    ghost use Rattle.mount_calls.specs.Keeping.{KeepsLayers, takes_no_memory};
+    ghost use Rattle.mount_calls.specs.Living.{KeepsNamed, StaysLive};
+    ghost use Rattle.mount_calls.specs.Keeping.{KeepsLayers};
+    ghost use Rattle.mount_calls.specs.Making.{MakesCall, MakesEach, TellsEach};
     ghost use Rattle.copy_up.specs.Showing.{StaysThin};
 
     /// A mount of these layers without a client, whose renames of directories make redirects or not. The names of open directories are
@@ -151,56 +150,9 @@ impl Mount {
         self.clients.opened(client, descriptor)
     }
 
-    /// Makes a call of a client that is attached. Offered are all calls but those on watches, which
-    /// are EOPNOTSUPP and change nothing. An allocation failure leaves all that is shown as it was.
-    pub fn perform(&mut self, client: u64, call: &Call) -> Result<Reply, AllocError>
-        requires there { IsSome (get nat_cmp self.old.clients.attached client) }
-        requires state { ∥ HasStateOf self.old ∥₁ }
-        ensures serves { IfOk result (λ reply. is_offered call.now ≡ true → (s : State) → IsStateOf self.old s → Serves (refusal s client call.now) s client call.now reply self.new) }
-        ensures unoffered { IfOk result (λ reply. is_offered call.now ≡ false → (reply ≡ Reply.Refused Errno.EOPNOTSUPP) × (self.new ≡ self.old)) }
-        ensures err { OnErr result (StaysState self.old self.new) }
-        ensures memory { takes_no_memory call.now ≡ true → IsOk result }
-        ensures clients { KeepsAttached self.old.clients self.new.clients }
-        ensures layers { KeepsLayers call.now self.old.layers self.new.layers }
-        ensures refused { IfOk result (λ reply. (errno : Errno) → reply ≡ Reply.Refused errno → self.new.layers ≡ self.old.layers) }
-        ensures lowers { self.new.layers.lowers ≡ self.old.layers.lowers }
-        ensures thin { StaysThin self.old.layers self.new.layers }
-        ensures named { IfOk result (λ reply. is_offered call.now ≡ true → (s : State) → IsStateOf self.old s → refusal s client call.now ≡ None → KeepsNamed s client self.old.layers self.new.layers call.now) }
-        ensures stays_live { OnErr result (StaysLive self.old.layers self.new.layers) }
-    {
-        match call {
-            Call::Stat { path } => Ok(self.stat(path)),
-            Call::Readlink { path } => self.readlink(path),
-            Call::Chmod { path, mode } => self.chmod(path, *mode),
-            Call::Chown { path, uid, gid } => self.chown(path, *uid, *gid),
-            Call::SetAttribute { path, name, value } => self.set_attribute(path, name, value),
-            Call::GetAttribute { path, name } => self.get_attribute(path, name),
-            Call::DeleteAttribute { path, name } => self.delete_attribute(path, name),
-            Call::ListAttributes { path } => self.list_attributes(path),
-            Call::Mkdir { path, mode } => self.mkdir(path, *mode),
-            Call::Symlink { target, path } => self.symlink(target, path),
-            Call::Unlink { path } => self.unlink(path),
-            Call::Rmdir { path } => self.rmdir(path),
-            Call::Hardlink { old, new } => self.link(old, new),
-            Call::Rename { old, new } => self.rename(old, new),
-            Call::Open { path, flags, mode } => self.open(client, path, *flags, *mode),
-            Call::Read { descriptor, count } => self.read(client, *descriptor, *count),
-            Call::Write { descriptor, bytes } => self.write(client, *descriptor, bytes),
-            Call::Truncate { descriptor, size } => self.truncate(client, *descriptor, *size),
-            Call::Fstat { descriptor } => self.fstat(client, *descriptor),
-            Call::Seek {
-                descriptor,
-                offset,
-                whence,
-            } => Ok(self.seek(client, *descriptor, *offset, *whence)),
-            Call::ListNames { descriptor, count } => self.list(client, *descriptor, *count),
-            Call::Close { descriptor } => Ok(self.close(client, *descriptor)),
-            _ => Ok(Reply::Refused(Errno::EOPNOTSUPP)),
-        }
-    }
-
-    fn stat(&self, path: &Path) -> Reply
-        ensures { (s : State) → IsStateOf self.now s → (c : ℕ) → Serves (refusal s c (Call.Stat path.now)) s c (Call.Stat path.now) result self.now }
+    /// What stat(2) shows at a path.
+    pub fn stat(&self, path: &Path) -> Reply
+        ensures { TellsEach (Call.Stat path.now) self.now result }
     {
         match status_at(&self.layers, path) {
             Ok(status) => Reply::Status(status),
@@ -208,8 +160,9 @@ impl Mount {
         }
     }
 
-    fn readlink(&self, path: &Path) -> Result<Reply, AllocError>
-        ensures { IfOk result (λ reply. (s : State) → IsStateOf self.now s → (c : ℕ) → Serves (refusal s c (Call.Readlink path.now)) s c (Call.Readlink path.now) reply self.now) }
+    /// The target of the symbolic link at a path.
+    pub fn readlink(&self, path: &Path) -> Result<Reply, AllocError>
+        ensures { IfOk result (TellsEach (Call.Readlink path.now) self.now) }
     {
         match self.layers.walk_topmost(path) {
             Ok(Topmost::Inode(place)) => read_link(self.layers.node(place)),
@@ -218,16 +171,10 @@ impl Mount {
         }
     }
 
-    fn mkdir(&mut self, path: &Path, mode: u32) -> Result<Reply, AllocError>
-        ensures serves { IfOk result (λ reply. (s : State) → IsStateOf self.old s → (c : ℕ) → Serves (refusal s c (Call.Mkdir path.now mode)) s c (Call.Mkdir path.now mode) reply self.new) }
-        ensures err { OnErr result (StaysState self.old self.new) }
+    /// Makes a directory.
+    pub fn mkdir(&mut self, path: &Path, mode: u32) -> Result<Reply, AllocError>
+        ensures makes { MakesEach (Call.Mkdir path.now mode) self.old self.new result }
         ensures clients { self.new.clients ≡ self.old.clients }
-        ensures layers { KeepsLayers (Call.Mkdir path.now mode) self.old.layers self.new.layers }
-        ensures refused { IfOk result (λ reply. (errno : Errno) → reply ≡ Reply.Refused errno → self.new.layers ≡ self.old.layers) }
-        ensures lowers { self.new.layers.lowers ≡ self.old.layers.lowers }
-        ensures thin { StaysThin self.old.layers self.new.layers }
-        ensures named { IfOk result (λ reply. (s : State) → IsStateOf self.old s → (c : ℕ) → refusal s c (Call.Mkdir path.now mode) ≡ None → KeepsNamed s c self.old.layers self.new.layers (Call.Mkdir path.now mode)) }
-        ensures stays_live { OnErr result (StaysLive self.old.layers self.new.layers) }
     {
         let mode = match Mode::parse(mode) {
             Ok(mode) => mode,
@@ -239,16 +186,10 @@ impl Mount {
         }
     }
 
-    fn symlink(&mut self, target: &Bytes, path: &Path) -> Result<Reply, AllocError>
-        ensures serves { IfOk result (λ reply. (s : State) → IsStateOf self.old s → (c : ℕ) → Serves (refusal s c (Call.Symlink target.now path.now)) s c (Call.Symlink target.now path.now) reply self.new) }
-        ensures err { OnErr result (StaysState self.old self.new) }
+    /// Makes a symbolic link.
+    pub fn symlink(&mut self, target: &Bytes, path: &Path) -> Result<Reply, AllocError>
+        ensures makes { MakesEach (Call.Symlink target.now path.now) self.old self.new result }
         ensures clients { self.new.clients ≡ self.old.clients }
-        ensures layers { KeepsLayers (Call.Symlink target.now path.now) self.old.layers self.new.layers }
-        ensures refused { IfOk result (λ reply. (errno : Errno) → reply ≡ Reply.Refused errno → self.new.layers ≡ self.old.layers) }
-        ensures lowers { self.new.layers.lowers ≡ self.old.layers.lowers }
-        ensures thin { StaysThin self.old.layers self.new.layers }
-        ensures named { IfOk result (λ reply. (s : State) → IsStateOf self.old s → (c : ℕ) → refusal s c (Call.Symlink target.now path.now) ≡ None → KeepsNamed s c self.old.layers self.new.layers (Call.Symlink target.now path.now)) }
-        ensures stays_live { OnErr result (StaysLive self.old.layers self.new.layers) }
     {
         let target = match LinkTarget::parse(target.clone()?) {
             Ok(target) => target,
@@ -260,70 +201,22 @@ impl Mount {
         }
     }
 
-    fn link(&mut self, old: &Path, new: &Path) -> Result<Reply, AllocError>
-        ensures serves { IfOk result (λ reply. (s : State) → IsStateOf self.old s → (c : ℕ) → Serves (refusal s c (Call.Hardlink old.now new.now)) s c (Call.Hardlink old.now new.now) reply self.new) }
-        ensures err { OnErr result (StaysState self.old self.new) }
-        ensures clients { self.new.clients ≡ self.old.clients }
-        ensures layers { KeepsLayers (Call.Hardlink old.now new.now) self.old.layers self.new.layers }
-        ensures refused { IfOk result (λ reply. (errno : Errno) → reply ≡ Reply.Refused errno → self.new.layers ≡ self.old.layers) }
-        ensures lowers { self.new.layers.lowers ≡ self.old.layers.lowers }
-        ensures thin { StaysThin self.old.layers self.new.layers }
-        ensures named { IfOk result (λ reply. (s : State) → IsStateOf self.old s → (c : ℕ) → refusal s c (Call.Hardlink old.now new.now) ≡ None → KeepsNamed s c self.old.layers self.new.layers (Call.Hardlink old.now new.now)) }
-        ensures stays_live { OnErr result (StaysLive self.old.layers self.new.layers) }
-    {
-        match link(&mut self.layers, old, new)? {
-            Ok(()) => Ok(Reply::Done),
-            Err(errno) => Ok(Reply::Refused(errno)),
-        }
-    }
-
     /// Removes a name of a file or link, and returns what stood there. An allocation failure leaves
     /// all that is shown as it was.
     pub fn unlink_telling(&mut self, path: &Path) -> Result<Result<Object, Errno>, AllocError>
-        ensures serves { IfOk result (λ outcome. (s : State) → IsStateOf self.old s → (c : ℕ) → Serves (refusal s c (Call.Unlink path.now)) s c (Call.Unlink path.now) (outcome_reply outcome) self.new) }
+        ensures makes { MakesEach (Call.Unlink path.now) self.old self.new (outcome_result result) }
         ensures object { IfOk result (λ outcome. IfOk outcome (IsObject (layer_of self.old.layers.upper) (lowers_of self.old.layers) path.now)) }
-        ensures err { OnErr result (StaysState self.old self.new) }
         ensures clients { self.new.clients ≡ self.old.clients }
-        ensures layers { KeepsLayers (Call.Unlink path.now) self.old.layers self.new.layers }
-        ensures refused { IfOk result (λ outcome. OnErr outcome (self.new.layers ≡ self.old.layers)) }
-        ensures lowers { self.new.layers.lowers ≡ self.old.layers.lowers }
-        ensures thin { StaysThin self.old.layers self.new.layers }
-        ensures named { IfOk result (λ outcome. (s : State) → IsStateOf self.old s → (c : ℕ) → refusal s c (Call.Unlink path.now) ≡ None → KeepsNamed s c self.old.layers self.new.layers (Call.Unlink path.now)) }
-        ensures stays_live { OnErr result (StaysLive self.old.layers self.new.layers) }
     {
         self.clients.lawful();
         let outcome = unlink_and_free(&mut self.layers, &self.clients, path)?;
         Ok(outcome)
     }
 
-    fn unlink(&mut self, path: &Path) -> Result<Reply, AllocError>
-        ensures serves { IfOk result (λ reply. (s : State) → IsStateOf self.old s → (c : ℕ) → Serves (refusal s c (Call.Unlink path.now)) s c (Call.Unlink path.now) reply self.new) }
-        ensures err { OnErr result (StaysState self.old self.new) }
-        ensures clients { self.new.clients ≡ self.old.clients }
-        ensures layers { KeepsLayers (Call.Unlink path.now) self.old.layers self.new.layers }
-        ensures refused { IfOk result (λ reply. (errno : Errno) → reply ≡ Reply.Refused errno → self.new.layers ≡ self.old.layers) }
-        ensures lowers { self.new.layers.lowers ≡ self.old.layers.lowers }
-        ensures thin { StaysThin self.old.layers self.new.layers }
-        ensures named { IfOk result (λ reply. (s : State) → IsStateOf self.old s → (c : ℕ) → refusal s c (Call.Unlink path.now) ≡ None → KeepsNamed s c self.old.layers self.new.layers (Call.Unlink path.now)) }
-        ensures stays_live { OnErr result (StaysLive self.old.layers self.new.layers) }
-    {
-        match self.unlink_telling(path)? {
-            Ok(_) => Ok(Reply::Done),
-            Err(errno) => Ok(Reply::Refused(errno)),
-        }
-    }
-
-    fn rmdir(&mut self, path: &Path) -> Result<Reply, AllocError>
+    /// Removes an empty directory; handles on it stay, and keep its attributes.
+    pub fn rmdir(&mut self, path: &Path) -> Result<Reply, AllocError>
         requires { ∥ HasStateOf self.old ∥₁ }
-        ensures serves { IfOk result (λ reply. (s : State) → IsStateOf self.old s → (c : ℕ) → Serves (refusal s c (Call.Rmdir path.now)) s c (Call.Rmdir path.now) reply self.new) }
-        ensures err { OnErr result (StaysState self.old self.new) }
-        ensures clients { KeepsAttached self.old.clients self.new.clients }
-        ensures layers { KeepsLayers (Call.Rmdir path.now) self.old.layers self.new.layers }
-        ensures refused { IfOk result (λ reply. (errno : Errno) → reply ≡ Reply.Refused errno → self.new.layers ≡ self.old.layers) }
-        ensures lowers { self.new.layers.lowers ≡ self.old.layers.lowers }
-        ensures thin { StaysThin self.old.layers self.new.layers }
-        ensures named { IfOk result (λ reply. (s : State) → IsStateOf self.old s → (c : ℕ) → refusal s c (Call.Rmdir path.now) ≡ None → KeepsNamed s c self.old.layers self.new.layers (Call.Rmdir path.now)) }
-        ensures stays_live { OnErr result (StaysLive self.old.layers self.new.layers) }
+        ensures { MakesEach (Call.Rmdir path.now) self.old self.new result }
     {
         self.clients.lawful();
         let attributes = self.attributes_left(path)?;
@@ -352,11 +245,9 @@ impl Mount {
         }
     }
 
-    fn list(&mut self, client: u64, descriptor: u32, count: u32) -> Result<Reply, AllocError>
-        ensures serves { IfOk result (λ reply. (s : State) → IsStateOf self.old s → Serves (refusal s client (Call.ListNames descriptor count)) s client (Call.ListNames descriptor count) reply self.new) }
-        ensures err { OnErr result (StaysState self.old self.new) }
-        ensures clients { KeepsAttached self.old.clients self.new.clients }
-        ensures layers { self.new.layers ≡ self.old.layers }
+    /// Gives the next names of an open directory, at most so many.
+    pub fn list(&mut self, client: u64, descriptor: u32, count: u32) -> Result<Reply, AllocError>
+        ensures { MakesCall client (Call.ListNames descriptor count) self.old self.new result }
     {
         if let Some(errno) = self.list_refusal(client, descriptor, count) {
             return Ok(Reply::Refused(errno));
@@ -405,19 +296,13 @@ impl Mount {
     /// Closes a descriptor, and frees a file of the upper that has neither a name nor a handle then. A free one is EBADF.
     pub fn close(&mut self, client: u64, descriptor: u32) -> Reply
         requires { IsSome (get nat_cmp self.old.clients.attached client) }
-        ensures serves { (s : State) → IsStateOf self.old s → Serves (refusal s client (Call.Close descriptor)) s client (Call.Close descriptor) result self.new }
-        ensures clients { KeepsAttached self.old.clients self.new.clients }
+        ensures makes { MakesCall client (Call.Close descriptor) self.old self.new (Ok result) }
         ensures others { KeepsOthers self.old.clients self.new.clients client }
-        ensures paths { KeepsPaths self.old.layers self.new.layers }
-        ensures refused { (errno : Errno) → result ≡ Reply.Refused errno → self.new.layers ≡ self.old.layers }
-        ensures thin { StaysThin self.old.layers self.new.layers }
-        ensures named { (s : State) → IsStateOf self.old s → refusal s client (Call.Close descriptor) ≡ None → KeepsNamed s client self.old.layers self.new.layers (Call.Close descriptor) }
     {
-        let closed = upper_key(self.clients.file(client, descriptor));
-        self.clients.lawful();
         match self.clients.close(client, descriptor) {
-            Ok(()) => {
+            Ok(handle) => {
                 self.clients.lawful();
+                let closed = upper_key(handle.file());
                 free_closed(&mut self.layers, &self.clients, closed);
                 Reply::Done
             }

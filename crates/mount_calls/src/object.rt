@@ -26,16 +26,6 @@ impl Mount {
         }
     }
 
-    /// The key of the file of the upper that stands at a path, and 0 where none does.
-    pub fn key_at(&self, path: &Path) -> usize
-        ensures { (key : ℕ) (last : Bool) → IsObject (layer_of self.now.layers.upper) (lowers_of self.now.layers) path.now (Object.Upper key last) → result ≡ key }
-    {
-        match self.object_at(path) {
-            Object::Upper { key, last: _ } => key,
-            _ => 0,
-        }
-    }
-
     /// The key of the file of the upper that a client has open under a descriptor, and 0 where it has none. No path is walked for it.
     pub fn key_opened(&self, client: u64, descriptor: u32) -> usize
         ensures { result ≡ unwrap_or (upper_of (file_by self.now.clients client descriptor)) 0 }

@@ -1,5 +1,5 @@
 // `open`, by the plain machine (POSIX.1-2017, open(), as Linux's namei.c asks for its errors).
-ghost use Rattle.std.specs.Prelude.{◌≡◌, ◌<◌, true, false, ℕ, None, Some, IfOk, IfErr, OnOk, OnErr, IsSome};
+ghost use Rattle.std.specs.Prelude.{◌≡◌, ◌<◌, true, false, None, Some, IfOk, IfErr, OnOk, OnErr, IsSome};
 ghost use Rattle.std.specs.BTreeMap.{get};
 ghost use Rattle.std.specs.Ordering.{nat_cmp};
 ghost use Rattle.ov_base.specs.declared.errno.Errno.TheVariants.{EINVAL};
@@ -18,7 +18,8 @@ ghost use Rattle.copy_up.specs.Showing.{GainsParents, StaysLayers, StaysMount, S
 ghost use Rattle.mount_calls.specs.Attaching.{KeepsAttached};
 ghost use Rattle.mount_calls.specs.Keeping.{KeepsAround, KeepsLayers};
 ghost use Rattle.mount_calls.specs.Living.{KeepsNamed, StaysLive};
-ghost use Rattle.mount_calls.specs.Looking.{IsLook};
+ghost use Rattle.mount_calls.specs.FreeDescriptors.{IsLowestFree};
+ghost use Rattle.mount_calls.specs.Looking.{IsJudged, IsLook};
 ghost use Rattle.mount_calls.specs.Opening as opening;
 ghost use Rattle.mount_calls.specs.States.{HasStateOf, IsStateOf, Serves, StaysState};
 
@@ -33,71 +34,90 @@ use merged_lookup::{Layers, Place, Stack, Topmost};
 use ov_base::{Call, Content, Errno, Mode, OpenFlags, Path, Reply};
 use std::alloc::AllocError;
 
-impl Mount {
-    /// Opens what a path shows, or a file that is made where it shows nothing, under the lowest free descriptor of a client; a symbolic
-    /// link isn't followed. A file of a lower layer that is opened for writing is copied up first (overlayfs.rst, "Non-directories").
-    pub(crate) fn open(
-        &mut self,
-        client: u64,
-        path: &Path,
-        flags: OpenFlags,
-        mode: u32,
-    ) -> Result<Reply, AllocError>
-        requires attached { IsSome (get nat_cmp self.old.clients.attached client) }
-        requires state { ∥ HasStateOf self.old ∥₁ }
-        ensures serves { IfOk result (λ reply. (s : State) → IsStateOf self.old s → Serves (refusal s client (Call.Open path.now flags mode)) s client (Call.Open path.now flags mode) reply self.new) }
-        ensures err { OnErr result (StaysState self.old self.new) }
-        ensures clients { KeepsAttached self.old.clients self.new.clients }
-        ensures layers { KeepsLayers (Call.Open path.now flags mode) self.old.layers self.new.layers }
-        ensures refused { IfOk result (λ reply. (errno : Errno) → reply ≡ Reply.Refused errno → self.new.layers ≡ self.old.layers) }
-        ensures lowers { self.new.layers.lowers ≡ self.old.layers.lowers }
-        ensures thin { StaysThin self.old.layers self.new.layers }
-        ensures named { IfOk result (λ reply. (s : State) → IsStateOf self.old s → refusal s client (Call.Open path.now flags mode) ≡ None → KeepsNamed s client self.old.layers self.new.layers (Call.Open path.now flags mode)) }
-        ensures stays_live { OnErr result (StaysLive self.old.layers self.new.layers) }
-    {
-        let look = self.look(path);
-        self.open_seen(client, path, flags, mode, look)
-    }
+/// An open that was judged, which nothing refuses: the descriptor and the mode that it gets, the
+/// merged directory in which the last name of its path stands, and what is shown there.
+#[derive(Drop)]
+pub struct Judged {
+    pub descriptor: u32,
+    pub mode: Mode,
+    pub(crate) directory: Stack,
+    pub(crate) top: Option<Topmost>,
+}
 
-    /// `open` of a path that was looked at before, on these layers.
-    pub fn open_seen(
-        &mut self,
+impl Mount {
+    /// Judges an open of a path that was looked at, in the order of open(2): by its flags and mode,
+    /// by what the path shows, and by the client's descriptors. Nothing changes, and it takes no
+    /// memory.
+    pub fn judge_open(
+        &self,
         client: u64,
-        path: &Path,
+        look: Look,
         flags: OpenFlags,
         mode: u32,
-        look: Look,
-    ) -> Result<Reply, AllocError>
-        requires attached { IsSome (get nat_cmp self.old.clients.attached client) }
-        requires state { ∥ HasStateOf self.old ∥₁ }
-        requires look { IsLook self.old.layers path.now look }
-        ensures serves { IfOk result (λ reply. (s : State) → IsStateOf self.old s → Serves (refusal s client (Call.Open path.now flags mode)) s client (Call.Open path.now flags mode) reply self.new) }
-        ensures err { OnErr result (StaysState self.old self.new) }
-        ensures clients { KeepsAttached self.old.clients self.new.clients }
-        ensures layers { KeepsLayers (Call.Open path.now flags mode) self.old.layers self.new.layers }
-        ensures refused { IfOk result (λ reply. (errno : Errno) → reply ≡ Reply.Refused errno → self.new.layers ≡ self.old.layers) }
-        ensures lowers { self.new.layers.lowers ≡ self.old.layers.lowers }
-        ensures thin { StaysThin self.old.layers self.new.layers }
-        ensures named { IfOk result (λ reply. (s : State) → IsStateOf self.old s → refusal s client (Call.Open path.now flags mode) ≡ None → KeepsNamed s client self.old.layers self.new.layers (Call.Open path.now flags mode)) }
-        ensures stays_live { OnErr result (StaysLive self.old.layers self.new.layers) }
+    ) -> Result<Judged, Errno>
+        requires attached { IsSome (get nat_cmp self.now.clients.attached client) }
+        requires look { (p : Names) × IsLook self.now.layers p look }
+        ensures refused { IfErr result (λ errno. (p : Names) → IsLook self.now.layers p look → (s : State) → IsStateOf self.now s → refusal s client (Call.Open p flags mode) ≡ Some errno) }
+        ensures allowed { OnOk result ((p : Names) → IsLook self.now.layers p look → (s : State) → IsStateOf self.now s → refusal s client (Call.Open p flags mode) ≡ None) }
+        ensures judged { IfOk result (λ judged. (p : Names) → IsLook self.now.layers p look → IsJudged self.now client p flags judged) }
+        ensures mode { IfOk result (λ judged. judged.mode ≡ mode) }
     {
         let mode = match accepted(flags, mode) {
             Ok(mode) => mode,
-            Err(errno) => return Ok(Reply::Refused(errno)),
+            Err(errno) => return Err(errno),
         };
         let (directory, top) = match look.shown {
             Ok(shown) => shown,
-            Err(errno) => return Ok(Reply::Refused(errno)),
+            Err(errno) => return Err(errno),
         };
         if let Some(errno) = shown_refusal(&self.layers, top, flags) {
-            return Ok(Reply::Refused(errno));
+            return Err(errno);
         }
+        let Some(descriptor) = self.clients.free_descriptor(client) else {
+            return Err(Errno::EMFILE);
+        };
+        Ok(Judged {
+            descriptor,
+            mode,
+            directory,
+            top,
+        })
+    }
+
+    /// Makes an open that was judged, on this mount: of what the path shows, or of a file that is
+    /// made where it shows nothing; a symbolic link isn't followed. A file of a lower layer that is
+    /// opened for writing is copied up first (overlayfs.rst, "Non-directories").
+    pub fn open_judged(
+        &mut self,
+        client: u64,
+        path: &Path,
+        flags: OpenFlags,
+        judged: Judged,
+    ) -> Result<(), AllocError>
+        requires attached { IsSome (get nat_cmp self.old.clients.attached client) }
+        requires state { ∥ HasStateOf self.old ∥₁ }
+        requires judged { IsJudged self.old client path.now flags judged }
+        ensures serves { OnOk result ((s : State) → IsStateOf self.old s → Serves (refusal s client (Call.Open path.now flags judged.mode)) s client (Call.Open path.now flags judged.mode) (Reply.Descriptor judged.descriptor) self.new) }
+        ensures err { OnErr result (StaysState self.old self.new) }
+        ensures clients { KeepsAttached self.old.clients self.new.clients }
+        ensures layers { KeepsLayers (Call.Open path.now flags judged.mode) self.old.layers self.new.layers }
+        ensures lowers { self.new.layers.lowers ≡ self.old.layers.lowers }
+        ensures thin { StaysThin self.old.layers self.new.layers }
+        ensures named { OnOk result ((s : State) → IsStateOf self.old s → refusal s client (Call.Open path.now flags judged.mode) ≡ None → KeepsNamed s client self.old.layers self.new.layers (Call.Open path.now flags judged.mode)) }
+        ensures stays_live { OnErr result (StaysLive self.old.layers self.new.layers) }
+    {
+        let Judged {
+            descriptor,
+            mode,
+            directory,
+            top,
+        } = judged;
         match top {
-            None => self.open_made(client, path, flags, mode, directory),
+            None => self.open_made(client, descriptor, path, flags, mode, directory),
             Some(Topmost::Inode(place)) if flags.writes && place.layer > 0 => {
-                self.open_copied(client, path, flags, mode, directory, place)
+                self.open_copied(client, descriptor, path, flags, mode, directory, place)
             }
-            Some(top) => self.open_shown(client, path, flags, mode, top),
+            Some(top) => self.open_shown(client, descriptor, path, flags, mode, top),
         }
     }
 
@@ -105,114 +125,109 @@ impl Mount {
     fn open_shown(
         &mut self,
         client: u64,
+        descriptor: u32,
         path: &Path,
         flags: OpenFlags,
         mode: Mode,
         top: Topmost,
-    ) -> Result<Reply, AllocError>
+    ) -> Result<(), AllocError>
         requires attached { IsSome (get nat_cmp self.old.clients.attached client) }
+        requires free { IsLowestFree self.old.clients client descriptor }
         requires allowed { opening_fault (layers_of self.old.layers) path.now flags mode (Some 0) ≡ None }
         requires shown { IsTopmost self.old.layers path.now (Some top) }
         requires own { flags.writes ≡ true → (d : ShownPlace) → top ≡ topmost.Inode d → d.layer ≡ 0 }
-        ensures serves { IfOk result (λ reply. (s : State) → IsStateOf self.old s → Serves (refusal s client (Call.Open path.now flags mode)) s client (Call.Open path.now flags mode) reply self.new) }
+        ensures serves { OnOk result ((s : State) → IsStateOf self.old s → Serves (refusal s client (Call.Open path.now flags mode)) s client (Call.Open path.now flags mode) (Reply.Descriptor descriptor) self.new) }
         ensures err { OnErr result (StaysState self.old self.new) }
         ensures clients { KeepsAttached self.old.clients self.new.clients }
         ensures layers { flags.truncate ≡ false → self.new.layers ≡ self.old.layers }
         ensures objects { SameObjects (layer_of self.old.layers.upper) (layer_of self.new.layers.upper) }
-        ensures refused { IfOk result (λ reply. (errno : Errno) → reply ≡ Reply.Refused errno → self.new.layers ≡ self.old.layers) }
         ensures lowers { self.new.layers.lowers ≡ self.old.layers.lowers }
         ensures thin { StaysThin self.old.layers self.new.layers }
-        ensures named { IfOk result (λ reply. (s : State) → IsStateOf self.old s → refusal s client (Call.Open path.now flags mode) ≡ None → KeepsNamed s client self.old.layers self.new.layers (Call.Open path.now flags mode)) }
+        ensures named { OnOk result ((s : State) → IsStateOf self.old s → refusal s client (Call.Open path.now flags mode) ≡ None → KeepsNamed s client self.old.layers self.new.layers (Call.Open path.now flags mode)) }
         ensures stays_live { OnErr result (StaysLive self.old.layers self.new.layers) }
     {
         let Topmost::Inode(place) = top else {
-            return match self.clients.open(client, path)? {
-                Ok(descriptor) => Ok(Reply::Descriptor(descriptor)),
-                Err(errno) => Ok(Reply::Refused(errno)),
-            };
+            self.clients.open(client, descriptor, path)?;
+            return Ok(());
         };
         let file = file_at(place, flags);
-        match self.clients.open_file(client, file)? {
-            Ok(descriptor) => {
-                if flags.truncate {
-                    resize_file(&mut self.layers, file.source, 0)?;
-                }
-                Ok(Reply::Descriptor(descriptor))
-            }
-            Err(errno) => Ok(Reply::Refused(errno)),
+        self.clients.open_file(client, descriptor, file)?;
+        if flags.truncate {
+            resize_file(&mut self.layers, file.source, 0)?;
         }
+        Ok(())
     }
 
     // Opens a file of a lower layer for writing, for which it is copied up.
     fn open_copied(
         &mut self,
         client: u64,
+        descriptor: u32,
         path: &Path,
         flags: OpenFlags,
         mode: Mode,
         directory: Stack,
         place: Place,
-    ) -> Result<Reply, AllocError>
+    ) -> Result<(), AllocError>
         requires attached { IsSome (get nat_cmp self.old.clients.attached client) }
+        requires free { IsLowestFree self.old.clients client descriptor }
         requires state { ∥ HasStateOf self.old ∥₁ }
         requires allowed { opening_fault (layers_of self.old.layers) path.now flags mode (Some 0) ≡ None }
         requires directory { IsStackOf self.old.layers (parent path.now) directory }
         requires shown { IsTopmost self.old.layers path.now (Some (topmost.Inode place)) }
         requires writes { flags.writes ≡ true }
         requires lower { 0 < place.layer }
-        ensures serves { IfOk result (λ reply. (s : State) → IsStateOf self.old s → Serves (refusal s client (Call.Open path.now flags mode)) s client (Call.Open path.now flags mode) reply self.new) }
+        ensures serves { OnOk result ((s : State) → IsStateOf self.old s → Serves (refusal s client (Call.Open path.now flags mode)) s client (Call.Open path.now flags mode) (Reply.Descriptor descriptor) self.new) }
         ensures err { OnErr result (StaysState self.old self.new) }
         ensures clients { KeepsAttached self.old.clients self.new.clients }
         ensures around { KeepsAround self.old.layers self.new.layers path.now }
-        ensures refused { IfOk result (λ reply. (errno : Errno) → reply ≡ Reply.Refused errno → self.new.layers ≡ self.old.layers) }
         ensures lowers { self.new.layers.lowers ≡ self.old.layers.lowers }
         ensures thin { StaysThin self.old.layers self.new.layers }
-        ensures named { IfOk result (λ reply. (s : State) → IsStateOf self.old s → refusal s client (Call.Open path.now flags mode) ≡ None → KeepsNamed s client self.old.layers self.new.layers (Call.Open path.now flags mode)) }
+        ensures named { OnOk result ((s : State) → IsStateOf self.old s → refusal s client (Call.Open path.now flags mode) ≡ None → KeepsNamed s client self.old.layers self.new.layers (Call.Open path.now flags mode)) }
         ensures stays_live { OnErr result (StaysLive self.old.layers self.new.layers) }
     {
-        if let Err(errno) = self.clients.reserve_file(client)? {
-            return Ok(Reply::Refused(errno));
-        }
+        self.clients.reserve_file(client, descriptor)?;
         self.clients.lawful();
         let key = bring_up(&mut self.layers, path, directory, place)?;
         let file = file_at(Place { layer: 0, key }, flags);
         if flags.truncate {
             resize_file(&mut self.layers, file.source, 0)?;
         }
-        Ok(Reply::Descriptor(self.clients.open_reserved(client, file)))
+        self.clients.open_reserved(client, descriptor, file);
+        Ok(())
     }
 
     // Opens a file that is made.
     fn open_made(
         &mut self,
         client: u64,
+        descriptor: u32,
         path: &Path,
         flags: OpenFlags,
         mode: Mode,
         directory: Stack,
-    ) -> Result<Reply, AllocError>
+    ) -> Result<(), AllocError>
         requires attached { IsSome (get nat_cmp self.old.clients.attached client) }
+        requires free { IsLowestFree self.old.clients client descriptor }
         requires state { ∥ HasStateOf self.old ∥₁ }
         requires allowed { opening_fault (layers_of self.old.layers) path.now flags mode (Some 0) ≡ None }
         requires directory { IsStackOf self.old.layers (parent path.now) directory }
         requires absent { shows 0 (layers_of self.old.layers) path.now ≡ None }
-        ensures serves { IfOk result (λ reply. (s : State) → IsStateOf self.old s → Serves (refusal s client (Call.Open path.now flags mode)) s client (Call.Open path.now flags mode) reply self.new) }
+        ensures serves { OnOk result ((s : State) → IsStateOf self.old s → Serves (refusal s client (Call.Open path.now flags mode)) s client (Call.Open path.now flags mode) (Reply.Descriptor descriptor) self.new) }
         ensures err { OnErr result (StaysState self.old self.new) }
         ensures clients { KeepsAttached self.old.clients self.new.clients }
         ensures around { KeepsAround self.old.layers self.new.layers path.now }
-        ensures refused { IfOk result (λ reply. (errno : Errno) → reply ≡ Reply.Refused errno → self.new.layers ≡ self.old.layers) }
         ensures lowers { self.new.layers.lowers ≡ self.old.layers.lowers }
         ensures thin { StaysThin self.old.layers self.new.layers }
-        ensures named { IfOk result (λ reply. (s : State) → IsStateOf self.old s → refusal s client (Call.Open path.now flags mode) ≡ None → KeepsNamed s client self.old.layers self.new.layers (Call.Open path.now flags mode)) }
+        ensures named { OnOk result ((s : State) → IsStateOf self.old s → refusal s client (Call.Open path.now flags mode) ≡ None → KeepsNamed s client self.old.layers self.new.layers (Call.Open path.now flags mode)) }
         ensures stays_live { OnErr result (StaysLive self.old.layers self.new.layers) }
     {
-        if let Err(errno) = self.clients.reserve_file(client)? {
-            return Ok(Reply::Refused(errno));
-        }
+        self.clients.reserve_file(client, descriptor)?;
         self.clients.lawful();
         let key = create(self.alloc, &mut self.layers, directory, path, mode)?;
         let file = file_at(Place { layer: 0, key }, flags);
-        Ok(Reply::Descriptor(self.clients.open_reserved(client, file)))
+        self.clients.open_reserved(client, descriptor, file);
+        Ok(())
     }
 }
 

@@ -1,5 +1,5 @@
 // `unlink`, `rmdir` and `rename`, where what loses its last name is freed at once, unless a handle holds it, and what closing frees.
-ghost use Rattle.std.specs.Prelude.{◌≡◌, ◌<◌, ℕ, Bool, true, false, Some, None, IfOk, IfErr, OnOk, OnErr};
+ghost use Rattle.std.specs.Prelude.{◌≡◌, ◌<◌, ℕ, Bool, true, false, Some, None, is_some, IfSome, IfOk, IfErr, OnOk, OnErr};
 ghost use Rattle.ov_base.specs.declared.call.Call.TheVariants as call;
 ghost use Rattle.plain_model.specs.Machine.{State};
 ghost use Rattle.plain_model.specs.Refusals.{refusal};
@@ -14,11 +14,13 @@ ghost use Rattle.make_remove.specs.Removing.{TakesName};
 ghost use Rattle.plain_model.specs.Layers.{AreLayers, Inode as HeldInode};
 ghost use Rattle.notice_laws.specs.Objects.{IsObject};
 ghost use Rattle.mount_calls.specs.Keeping.{KeepsAround, KeepsRenamed};
+ghost use Rattle.mount_calls.specs.Looking.{IsKeyAt, IsLook};
 ghost use Rattle.mount_calls.specs.Living.{FreesClosed, KeepsHeld, StaysHeld, StaysLive};
 ghost use Rattle.mount_calls.specs.Renaming.{MovesOrStays, RefusesRenames};
 ghost use Rattle.mount_laws.specs.Renaming.{rename_fault};
 
 use crate::clients::Clients;
+use crate::look::Look;
 use crate::object::object_in;
 use layer_tree::Node;
 use make_remove::{free, leaf_at, rmdir, unlink};
@@ -89,8 +91,9 @@ pub(crate) fn rmdir_and_free(
     }
 }
 
-/// `rename`, which frees what lost its last name by it, unless a handle holds it. It returns
-/// whether anything moved: nothing does where both paths are one object.
+/// `rename`, which frees what lost its last name by it, unless a handle holds it. Returns the key
+/// under which the upper has the file that moved, 0 for a directory, and nothing where both paths are
+/// one object, so that nothing moved.
 pub(crate) fn rename_and_free(
     alloc: Global,
     layers: &mut Layers,
@@ -98,11 +101,16 @@ pub(crate) fn rename_and_free(
     old: &Path,
     new: &Path,
     redirects: bool,
-) -> Result<Result<bool, Errno>, AllocError>
+    from: Look,
+    onto: Look,
+) -> Result<Result<Option<usize>, Errno>, AllocError>
+    requires from { IsLook layers.old old.now from }
+    requires onto { IsLook layers.old new.now onto }
     ensures refuses { IfOk result (λ r. IfErr r (RefusesRenames layers.old redirects old.now new.now)) }
     ensures unchanged { IfOk result (λ r. OnErr r (layers.new ≡ layers.old)) }
     ensures allowed { IfOk result (λ r. OnOk r (rename_fault (layer_of layers.old.upper) (lowers_of layers.old) redirects old.now new.now false ≡ None)) }
-    ensures does { IfOk result (λ r. IfOk r (λ moved. MovesOrStays moved clients.now layers.old layers.new redirects old.now new.now)) }
+    ensures does { IfOk result (λ r. IfOk r (λ moved. MovesOrStays (is_some moved) clients.now layers.old layers.new redirects old.now new.now)) }
+    ensures key { IfOk result (λ r. IfOk r (λ moved. IfSome moved (IsKeyAt layers.new new.now))) }
     ensures paths { KeepsRenamed layers.old layers.new old.now new.now }
     ensures lowers { layers.new.lowers ≡ layers.old.lowers }
     ensures keeps { StaysLayers layers.old layers.new }
@@ -111,15 +119,15 @@ pub(crate) fn rename_and_free(
     ensures mounts { OnErr result (StaysMount layers.old layers.new) }
     ensures stays { OnErr result (StaysLive layers.old layers.new) }
 {
-    match rename(alloc, layers, old, new, redirects)? {
-        Ok(Renamed::Unchanged) => Ok(Ok(false)),
+    match rename(alloc, layers, old, new, redirects, from.shown, onto.shown)? {
+        Ok(Renamed::Unchanged) => Ok(Ok(None)),
         Ok(Renamed::Directory(released)) => {
             free_released(layers, clients, released);
-            Ok(Ok(true))
+            Ok(Ok(Some(0)))
         }
-        Ok(Renamed::Inode(released)) => {
+        Ok(Renamed::Inode { key, released }) => {
             free_released(layers, clients, released);
-            Ok(Ok(true))
+            Ok(Ok(Some(key)))
         }
         Err(errno) => Ok(Err(errno)),
     }

@@ -1,34 +1,46 @@
 // `rename` of a mount, by the plain machine (POSIX.1-2017, rename()).
-ghost use Rattle.std.specs.Prelude.{◌≡◌, ℕ, IfOk, IfErr, None, OnErr, not};
+ghost use Rattle.std.specs.Prelude.{◌≡◌, ℕ, IfOk, IfErr, IfNone, IfSome, None, OnErr, false, is_some, not};
 ghost use Rattle.plain_model.specs.Machine.{State};
 ghost use Rattle.plain_model.specs.Refusals.{refusal};
 ghost use Rattle.layer_tree.specs.Tree.{layer_of};
+ghost use Rattle.mount_laws.specs.Removals.{rmdir_fault};
 ghost use Rattle.mount_laws.specs.Renaming.{is_one};
+ghost use Rattle.merged_lookup.specs.Merged.{layers_of};
 ghost use Rattle.open_handles.specs.Renames.{IsSettled};
 ghost use Rattle.copy_up.specs.Showing.{StaysThin};
 ghost use Rattle.mount_calls.specs.Attaching.{KeepsAttached};
 ghost use Rattle.mount_calls.specs.Keeping.{KeepsLayers};
+ghost use Rattle.mount_calls.specs.Looking.{IsKeyAt, IsLook};
 ghost use Rattle.mount_calls.specs.Living.{KeepsNamed, StaysLive};
+ghost use Rattle.mount_calls.specs.Removing.{HasAttributes, IsOpenNowhere};
 ghost use Rattle.mount_calls.specs.States.{HasStateOf, IsStateOf, Serves, StaysState};
 ghost use Rattle.mount_calls.specs.Status.{outcome_reply};
 
+use crate::look::Look;
 use crate::mount::Mount;
 use crate::removals::rename_and_free;
-use ov_base::{Call, Errno, Path, Reply};
+use merged_lookup::Topmost;
+use ov_base::{Attributes, Call, Errno, Path, Reply};
 use std::alloc::AllocError;
 
 impl Mount {
-    /// Moves what stands at the old path to the new one, with what is open there, and returns
-    /// whether anything moved: nothing does where both paths are one object. An allocation failure
-    /// leaves all that is shown as it was.
+    /// Moves what stands at the old path to the new one, with what is open there, on the layers on
+    /// which both were looked at. Returns the key under which the upper has the file that moved, 0 for
+    /// a directory, and nothing where both paths are one object, so that nothing moved. An allocation
+    /// failure leaves all that is shown as it was.
     pub fn rename_moving(
         &mut self,
         old: &Path,
         new: &Path,
-    ) -> Result<Result<bool, Errno>, AllocError>
-        requires { ∥ HasStateOf self.old ∥₁ }
+        from: Look,
+        onto: Look,
+    ) -> Result<Result<Option<usize>, Errno>, AllocError>
+        requires state { ∥ HasStateOf self.old ∥₁ }
+        requires from { IsLook self.old.layers old.now from }
+        requires onto { IsLook self.old.layers new.now onto }
         ensures serves { IfOk result (λ outcome. (s : State) → IsStateOf self.old s → (c : ℕ) → Serves (refusal s c (Call.Rename old.now new.now)) s c (Call.Rename old.now new.now) (outcome_reply outcome) self.new) }
-        ensures moves { IfOk result (λ outcome. IfOk outcome (λ moved. is_one (layer_of self.old.layers.upper) old.now new.now ≡ not moved)) }
+        ensures moves { IfOk result (λ outcome. IfOk outcome (λ moved. is_one (layer_of self.old.layers.upper) old.now new.now ≡ not (is_some moved))) }
+        ensures key { IfOk result (λ outcome. IfOk outcome (λ moved. IfSome moved (IsKeyAt self.new.layers new.now))) }
         ensures err { OnErr result (StaysState self.old self.new) }
         ensures clients { KeepsAttached self.old.clients self.new.clients }
         ensures settled { IsSettled self.old.clients.directories → IsSettled self.new.clients.directories }
@@ -39,7 +51,7 @@ impl Mount {
         ensures named { IfOk result (λ outcome. (s : State) → IsStateOf self.old s → (c : ℕ) → refusal s c (Call.Rename old.now new.now) ≡ None → KeepsNamed s c self.old.layers self.new.layers (Call.Rename old.now new.now)) }
         ensures stays_live { OnErr result (StaysLive self.old.layers self.new.layers) }
     {
-        let replaced = self.attributes_left(new)?;
+        let replaced = self.attributes_seen(new, &onto)?;
         self.clients.prepare_rename(old, new)?;
         self.clients.lawful();
         match rename_and_free(
@@ -49,14 +61,16 @@ impl Mount {
             old,
             new,
             self.redirects,
+            from,
+            onto,
         ) {
-            Ok(Ok(true)) => {
+            Ok(Ok(Some(key))) => {
                 self.clients.rename(old, new, replaced);
-                Ok(Ok(true))
+                Ok(Ok(Some(key)))
             }
-            Ok(Ok(false)) => {
+            Ok(Ok(None)) => {
                 self.clients.cancel_rename();
-                Ok(Ok(false))
+                Ok(Ok(None))
             }
             Ok(Err(errno)) => {
                 self.clients.cancel_rename();
@@ -69,22 +83,21 @@ impl Mount {
         }
     }
 
-    pub(crate) fn rename(&mut self, old: &Path, new: &Path) -> Result<Reply, AllocError>
-        requires { ∥ HasStateOf self.old ∥₁ }
-        ensures serves { IfOk result (λ reply. (s : State) → IsStateOf self.old s → (c : ℕ) → Serves (refusal s c (Call.Rename old.now new.now)) s c (Call.Rename old.now new.now) reply self.new) }
-        ensures err { OnErr result (StaysState self.old self.new) }
-        ensures clients { KeepsAttached self.old.clients self.new.clients }
-        ensures settled { IsSettled self.old.clients.directories → IsSettled self.new.clients.directories }
-        ensures layers { KeepsLayers (Call.Rename old.now new.now) self.old.layers self.new.layers }
-        ensures refused { IfOk result (λ reply. (errno : Errno) → reply ≡ Reply.Refused errno → self.new.layers ≡ self.old.layers) }
-        ensures lowers { self.new.layers.lowers ≡ self.old.layers.lowers }
-        ensures thin { StaysThin self.old.layers self.new.layers }
-        ensures named { IfOk result (λ reply. (s : State) → IsStateOf self.old s → (c : ℕ) → refusal s c (Call.Rename old.now new.now) ≡ None → KeepsNamed s c self.old.layers self.new.layers (Call.Rename old.now new.now)) }
-        ensures stays_live { OnErr result (StaysLive self.old.layers self.new.layers) }
+    // A copy of the attributes of the directory that was seen at a path, where it is open, for the handles that hold it once it is replaced.
+    fn attributes_seen(&self, path: &Path, look: &Look) -> Result<Option<Attributes>, AllocError>
+        requires { IsLook self.now.layers path.now look.now }
+        ensures left { IfOk result (λ left. IfSome left (HasAttributes (layers_of self.now.layers) path.now)) }
+        ensures none { IfOk result (λ left. IfNone left (rmdir_fault (layers_of self.now.layers) path.now false ≡ None → IsOpenNowhere self.now.clients path.now)) }
     {
-        match self.rename_moving(old, new)? {
-            Ok(_) => Ok(Reply::Done),
-            Err(errno) => Ok(Reply::Refused(errno)),
+        if !self.clients.is_open_at(path) {
+            return Ok(None);
         }
+        let place = match look.topmost() {
+            Some(Topmost::Directory(place)) => place,
+            Some(Topmost::Inode(_)) => return Ok(None),
+            None => return Ok(None),
+        };
+        let attributes = self.layers.attributes_at(place).clone()?;
+        Ok(Some(attributes))
     }
 }

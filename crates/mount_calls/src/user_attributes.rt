@@ -1,18 +1,17 @@
-// The calls on user attributes.
+// User attributes: why they are refused, and those of what a path shows.
 ghost use Rattle.std.specs.Prelude.{◌≡◌, ◌&&◌, not, None, Some, IfOk, IfErr, OnOk, is_none, length, map, nat_lt};
 ghost use Rattle.std.specs.Result.{result_err};
 ghost use Rattle.ov_base.specs.AttributeNames.{attribute_of};
-ghost use Rattle.ov_base.specs.UserValues.{value_of, set_value, drop_value};
-ghost use Rattle.ov_base.specs.declared.call.Call.TheVariants as call;
+ghost use Rattle.ov_base.specs.UserValues.{value_of};
 ghost use Rattle.plain_model.specs.Layers.{shows};
-ghost use Rattle.plain_model.specs.Refusals.{bad_attribute};
-ghost use Rattle.mount_laws.specs.Attributes.{chown_fault, get_fault, set_fault, shown_user};
+ghost use Rattle.plain_model.specs.Refusals.{bad_attribute, when};
+ghost use Rattle.mount_laws.specs.Attributes.{chown_fault, get_fault, shown_user};
+ghost use Rattle.mount_laws.specs.Looks.{or_else};
 ghost use Rattle.merged_lookup.specs.Merged.{layers_of};
-ghost use Rattle.mount_calls.specs.Altering.{AltersUnless, Plans};
 
-use crate::attributes::{Change, attributes_at, carry_out, target_at};
+use crate::attributes::attributes_at;
 use merged_lookup::Layers;
-use ov_base::{AttributeChange, AttributeName, Bytes, Errno, Path, Texts, UserAttributes};
+use ov_base::{AttributeName, Bytes, Errno, Path, Texts, UserAttributes};
 use std::alloc::{AllocError, Global};
 
 /// The most bytes of a user attribute's value.
@@ -21,75 +20,18 @@ const VALUE_MAX: usize = 1024;
 /// The most user attributes of an object.
 const ATTRIBUTES_MAX: usize = 64;
 
-/// Sets a user attribute of what a path shows, as setxattr(2). A malformed name is EINVAL and one outside `user.` EOPNOTSUPP, a value of
-/// over 1,024 bytes EFBIG; then it is refused as `chown` is; then a new name where there are 64 is EFBIG.
-pub(crate) fn set_attribute(
-    layers: &mut Layers,
-    path: &Path,
-    name: &Bytes,
-    value: &Bytes,
-) -> Result<Result<(), Errno>, AllocError>
-    ensures { AltersUnless (set_fault (layers_of layers.old) path.now name.now value.now) layers.old layers.new path.now (call.SetAttribute path.now name.now value.now) result }
-{
-    let change = value_change(layers, path, name, value)?;
-    carry_out(layers, path, change)
-}
-
-// The change that sets a user attribute.
-fn value_change(
-    layers: &Layers,
-    path: &Path,
-    name: &Bytes,
-    value: &Bytes,
-) -> Result<Result<Change, Errno>, AllocError>
-    ensures { IfOk result (Plans (λ Ls. set_fault Ls path.now name.now value.now) (λ a. record a { user = set_value a.user name.now value.now }) layers.now path.now) }
+/// Why a user attribute isn't set, whatever a path shows: a malformed name is EINVAL and one outside
+/// `user.` EOPNOTSUPP; then a value of over 1,024 bytes is EFBIG.
+pub(crate) fn value_fault(name: &Bytes, value: &Bytes) -> Option<Errno>
+    ensures { result ≡ or_else (bad_attribute name.now) (when (nat_lt 1024 (length value.now)) Errno.EFBIG) }
 {
     if let Some(errno) = name_fault(name) {
-        return Ok(Err(errno));
+        return Some(errno);
     }
     if value.as_slice().len() > VALUE_MAX {
-        return Ok(Err(Errno::EFBIG));
+        return Some(Errno::EFBIG);
     }
-    let target = match target_at(layers, path) {
-        Ok(target) => target,
-        Err(errno) => return Ok(Err(errno)),
-    };
-    if has_no_room(&target.attributes.user, name) {
-        return Ok(Err(Errno::EFBIG));
-    }
-    let name = AttributeName::new(name.clone()?);
-    let value = value.clone()?;
-    Ok(Ok(target.into_change(AttributeChange::Set(name, value))))
-}
-
-/// Deletes a user attribute of what a path shows, as removexattr(2). It is refused as `get_attribute` is.
-pub(crate) fn delete_attribute(
-    layers: &mut Layers,
-    path: &Path,
-    name: &Bytes,
-) -> Result<Result<(), Errno>, AllocError>
-    ensures { AltersUnless (get_fault (layers_of layers.old) path.now name.now) layers.old layers.new path.now (call.DeleteAttribute path.now name.now) result }
-{
-    let change = deletion(layers, path, name)?;
-    carry_out(layers, path, change)
-}
-
-// The change that deletes a user attribute.
-fn deletion(layers: &Layers, path: &Path, name: &Bytes) -> Result<Result<Change, Errno>, AllocError>
-    ensures { IfOk result (Plans (λ Ls. get_fault Ls path.now name.now) (λ a. record a { user = drop_value a.user name.now }) layers.now path.now) }
-{
-    if let Some(errno) = name_fault(name) {
-        return Ok(Err(errno));
-    }
-    let target = match target_at(layers, path) {
-        Ok(target) => target,
-        Err(errno) => return Ok(Err(errno)),
-    };
-    if is_unset(&target.attributes.user, name) {
-        return Ok(Err(Errno::ENODATA));
-    }
-    let name = AttributeName::new(name.clone()?);
-    Ok(Ok(target.into_change(AttributeChange::Delete(name))))
+    None
 }
 
 /// The value of a user attribute of what a path shows, as getxattr(2). A malformed name is EINVAL and one outside `user.` EOPNOTSUPP; then
@@ -133,22 +75,23 @@ pub(crate) fn list_attributes(
     }
 }
 
-// The fault of a user attribute's name.
-fn name_fault(name: &Bytes) -> Option<Errno>
+/// Why a user attribute's name isn't one.
+pub(crate) fn name_fault(name: &Bytes) -> Option<Errno>
     ensures refusal { result ≡ bad_attribute name.now }
     ensures name { result ≡ result_err (attribute_of name.now) }
 {
     AttributeName::fault(name.as_slice())
 }
 
-fn is_unset(user: &UserAttributes, name: &Bytes) -> bool
+/// Whether none of these user attributes has this name.
+pub(crate) fn is_unset(user: &UserAttributes, name: &Bytes) -> bool
     ensures { result ≡ is_none (value_of user.now name.now) }
 {
     user.get(name.as_slice()).is_none()
 }
 
-// Whether this name would be one too many.
-fn has_no_room(user: &UserAttributes, name: &Bytes) -> bool
+/// Whether this name would be one too many.
+pub(crate) fn has_no_room(user: &UserAttributes, name: &Bytes) -> bool
     ensures { result ≡ (is_none (value_of user.now name.now) && not (nat_lt (length user.now) 64)) }
 {
     user.len() >= ATTRIBUTES_MAX && is_unset(user, name)

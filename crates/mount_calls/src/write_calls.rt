@@ -1,13 +1,8 @@
 // `write` and `ftruncate`, by the plain machine (POSIX.1-2017, write() and ftruncate()).
-ghost use Rattle.std.specs.Prelude.{◌≡◌, None, Some, IfOk, IfErr, OnErr, is_some};
-ghost use Rattle.plain_model.specs.Machine.{State};
-ghost use Rattle.plain_model.specs.Refusals.{refusal};
-ghost use Rattle.copy_up.specs.Showing.{StaysThin};
-ghost use Rattle.mount_calls.specs.Attaching.{KeepsAttached, file_by, opened_by};
-ghost use Rattle.mount_calls.specs.Keeping.{KeepsLayers};
-ghost use Rattle.mount_calls.specs.Living.{KeepsNamed, StaysLive};
+ghost use Rattle.std.specs.Prelude.{◌≡◌, None, Some, IfOk, IfErr, is_some};
+ghost use Rattle.mount_calls.specs.Attaching.{file_by, opened_by};
+ghost use Rattle.mount_calls.specs.Making.{MakesCall};
 ghost use Rattle.mount_calls.specs.Opening.{write_fault, truncate_fault, written_key};
-ghost use Rattle.mount_calls.specs.States.{IsStateOf, Serves, StaysState};
 
 use crate::file_bytes::{resize_file, write_file};
 use crate::files::bytes_in;
@@ -21,21 +16,13 @@ const TRANSFER_MAX: usize = 65_536;
 
 impl Mount {
     /// Writes bytes to an open file, at its place or at its end: as many as fit below the most bytes of a file.
-    pub(crate) fn write(
+    pub fn write(
         &mut self,
         client: u64,
         descriptor: u32,
         bytes: &Bytes,
     ) -> Result<Reply, AllocError>
-        ensures serves { IfOk result (λ reply. (s : State) → IsStateOf self.old s → Serves (refusal s client (Call.Write descriptor bytes.now)) s client (Call.Write descriptor bytes.now) reply self.new) }
-        ensures err { OnErr result (StaysState self.old self.new) }
-        ensures clients { KeepsAttached self.old.clients self.new.clients }
-        ensures layers { KeepsLayers (Call.Write descriptor bytes.now) self.old.layers self.new.layers }
-        ensures refused { IfOk result (λ reply. (errno : Errno) → reply ≡ Reply.Refused errno → self.new.layers ≡ self.old.layers) }
-        ensures lowers { self.new.layers.lowers ≡ self.old.layers.lowers }
-        ensures thin { StaysThin self.old.layers self.new.layers }
-        ensures named { IfOk result (λ reply. (s : State) → IsStateOf self.old s → refusal s client (Call.Write descriptor bytes.now) ≡ None → KeepsNamed s client self.old.layers self.new.layers (Call.Write descriptor bytes.now)) }
-        ensures stays_live { OnErr result (StaysLive self.old.layers self.new.layers) }
+        ensures { MakesCall client (Call.Write descriptor bytes.now) self.old self.new result }
     {
         let bytes = bytes.as_slice();
         let file = match self.file_to_write(client, descriptor, bytes.len()) {
@@ -79,21 +66,9 @@ impl Mount {
     }
 
     /// Cuts an open file to a size, or fills it with zero bytes up to it.
-    pub(crate) fn truncate(
-        &mut self,
-        client: u64,
-        descriptor: u32,
-        size: u64,
-    ) -> Result<Reply, AllocError>
-        ensures serves { IfOk result (λ reply. (s : State) → IsStateOf self.old s → Serves (refusal s client (Call.Truncate descriptor size)) s client (Call.Truncate descriptor size) reply self.new) }
-        ensures err { OnErr result (StaysState self.old self.new) }
+    pub fn truncate(&mut self, client: u64, descriptor: u32, size: u64) -> Result<Reply, AllocError>
+        ensures makes { MakesCall client (Call.Truncate descriptor size) self.old self.new result }
         ensures clients { self.new.clients ≡ self.old.clients }
-        ensures layers { KeepsLayers (Call.Truncate descriptor size) self.old.layers self.new.layers }
-        ensures refused { IfOk result (λ reply. (errno : Errno) → reply ≡ Reply.Refused errno → self.new.layers ≡ self.old.layers) }
-        ensures lowers { self.new.layers.lowers ≡ self.old.layers.lowers }
-        ensures thin { StaysThin self.old.layers self.new.layers }
-        ensures named { IfOk result (λ reply. (s : State) → IsStateOf self.old s → refusal s client (Call.Truncate descriptor size) ≡ None → KeepsNamed s client self.old.layers self.new.layers (Call.Truncate descriptor size)) }
-        ensures stays_live { OnErr result (StaysLive self.old.layers self.new.layers) }
     {
         let file = match self.file_to_truncate(client, descriptor, size) {
             Ok(file) => file,

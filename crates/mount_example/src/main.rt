@@ -6,6 +6,7 @@ ghost use Rattle.std.specs.Prelude.{◌≡◌, IfOk};
 ghost use Rattle.std.specs.Borrow.{Bor};
 ghost use Rattle.ov_base.specs.declared.notice.Event.{Event};
 ghost use Rattle.plain_model.specs.Watching.{IsEvent};
+ghost use Rattle.overlay_core.specs.Views.{core_finished};
 
 use anyhow::{Context, Result};
 use ov_base::{Call, Event, Notice, Path, Reply};
@@ -62,7 +63,7 @@ fn session<F: Callback + Copy>(rt: &HostRuntime, callback: F) -> Result<()>
 }
 
 fn mounted<F: Callback, A: Rule>(alloc: Global, keys: RandomState) -> Result<Core<F, A>>
-    ensures { IfOk result (λ core. core.finished ≡ 0) }
+    ensures { IfOk result (λ core. core_finished core ≡ 0) }
 {
     let (upper, lowers, options) = manifest_of(alloc, keys, LAYERS.as_bytes())?;
     let mounting = Core::mount(alloc, keys, upper, lowers, options)?;

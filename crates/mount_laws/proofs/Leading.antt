@@ -14,11 +14,11 @@ use Rattle.ov_base.specs.declared.node_id.NodeId.{NodeId}
 use Rattle.ov_base.specs.declared.node_id.NodeId.TheVariants.{New}
 use Rattle.plain_model.specs.Layers.{Name, Path}
 use Rattle.plain_model.specs.Laws.{IsOutside}
-use Rattle.plain_model.specs.Tree.{same_id, Node, Branch, Leaf, Own, Tree, names_of, entry, node_at, node_of, lead, is_folder, count_of, IsKept}
+use Rattle.plain_model.specs.Tree.{same_id, Node, Branch, Leaf, Own, Tree, names_of, entry, node_at, node_of, lead, is_folder, IsKept}
 use Rattle.plain_model.specs.Machine.{Table, State, Look, Found, Absent, Fails, look, is_found, same_found, has_names, is_base, node_found, is_below, bytes_of_node, handle_of, write_place}
 use Rattle.plain_model.specs.Refusals.{refusal, walked, there, when, bad_mode, unless_same, has_nul, ◌or_else◌}
 use Rattle.plain_model.specs.Changes.{change, on_way, way_of, lead_way, one_fewer, one_more, with_mode, with_owner, set_value, drop_value, sized, written, fitting, node_of_handle, with_handle, wrote, opened, fresh, is_named, is_held, settled, made_way, dropped, renamed, tree_after}
-use Rattle.plain_model.proofs.Keeping.{IsMild, change-like}
+use Rattle.plain_model.proofs.Keeping.{IsMild, change-like, unnamed}
 use Rattle.plain_model.proofs.Kept.{by-path, taken-name, open-reached, bytes-mild, attributes-mild, opened-mild}
 use Rattle.plain_model.proofs.Looking.{or-first, or-second, when-not, Reached, Tells, look-found, look-reached}
 use Rattle.plain_model.proofs.Paths.{ids_tell}
@@ -33,12 +33,6 @@ use Rattle.mount_laws.proofs.RenamedTree.{is-it, settled-here, settled-there, sa
 mild-same : (f : Node → Node) → IsMild f → (t : Tree) (o : Option NodeId) → LeadsSame t (change f t o)
 mild-same f mild t o = same-paths t (change f t o) (λ x k. (change-like f mild t o x).names k)
 
--- a node without a name, by its count
-unnamed-count : (o : Option Node) → is_named o ≡ false → count_of o ≡ 0
-unnamed-count None h = refl
-unnamed-count (Some (Branch a b names c)) h = grind (arith, nat_tests)
-unnamed-count (Some (Leaf content a u c)) h = grind (arith, nat_tests)
-
 -- a node that goes for want of a name and of handles leads nowhere else
 settled-same : (ks : List Table) (t : Tree) (i : ℕ) → IsKept t i → (o : Option NodeId) → LeadsSame t (settled ks t o)
 settled-same ks t i kept o = same-paths t (settled ks t o) names
@@ -46,7 +40,7 @@ settled-same ks t i kept o = same-paths t (settled ks t o) names
     left : (x : NodeId) (k : Name) (named held : Bool) → is_named (t x) ≡ named → names_of (cond (named || held) (t x) None) k ≡ names_of (t x) k
     left x k true held h = refl
     left x k false true h = refl
-    left x k false false h = sym (kept.bare x k (unnamed-count (t x) h))
+    left x k false false h = sym (kept.bare x k (unnamed (t x) h))
 
     names : (x : NodeId) (k : Name) → names_of (settled ks t o x) k ≡ names_of (t x) k
     names x k = elim (is-it o x) [

@@ -13,25 +13,13 @@ use Rattle.plain_model.specs.Layers.{Name, Path}
 use Rattle.plain_model.specs.Tree.{Node, Branch, Leaf, Own, Untouched, Tree, node_at, with_name, put, is_folder, is_untouched, IsKept}
 use Rattle.plain_model.specs.Machine.{MountOptions, Table, State, look, same_found, bytes_of_node, handle_of, write_place}
 use Rattle.plain_model.specs.Changes.{over_node, change, way_of, lead_way, touched, meta_touched, one_fewer, one_more, with_bytes, with_attributes, with_mode, with_owner, set_value, drop_value, sized, written, fitting, node_of_handle, with_handle, wrote, opened, fresh, is_named, is_held, settled, made_way, dropped, renamed, tree_after}
-use Rattle.plain_model.proofs.Keeping.{put-there, put-fact}
+use Rattle.plain_model.proofs.Keeping.{with-folders, with-untouched, put-there, put-fact}
 use Rattle.plain_model.proofs.Lasting.{way-stands, change-stands}
 use Rattle.mount_laws.specs.Nodes.{touched_by, KeepsSorts, LawOfSorts}
 use Rattle.mount_laws.proofs.Handles.{not-same}
 use Rattle.mount_laws.proofs.RenamedTree.{is-it, change-here, change-there, settled-here, settled-there}
 
--- a name that leads elsewhere doesn't tell whether a node is a directory
-folder-named : (n : Name) (e : Option NodeId) (o : Option Node) → is_folder (with_name n e o) ≡ is_folder o
-folder-named n e None = refl
-folder-named n e (Some (Branch a b names c)) = refl
-folder-named n e (Some (Leaf content a u c)) = refl
-
--- nor whether a file or link is untouched
-untouched-named : (n : Name) (e : Option NodeId) (o : Option Node) → is_untouched (with_name n e o) ≡ is_untouched o
-untouched-named n e None = refl
-untouched-named n e (Some (Branch a b names c)) = refl
-untouched-named n e (Some (Leaf content a u c)) = refl
-
--- so a fact that names don't tell stays
+-- a fact that names don't tell stays where a name leads elsewhere
 pub way-fact :
     {B : Type 0} (g : Option Node → B) → ((n : Name) (e : Option NodeId) (o : Option Node) → g (with_name n e o) ≡ g o) →
     (t : Tree) (w : Option (NodeId × Name)) (e : Option NodeId) (x : NodeId) → g (lead_way t w e x) ≡ g (t x)
@@ -40,11 +28,11 @@ way-fact g h t (Some w) e x = put-fact g t w.0 (with_name w.1 e (t w.0)) (h w.1 
 
 -- so directories stay directories where a name leads elsewhere
 pub way-folder : (t : Tree) (w : Option (NodeId × Name)) (e : Option NodeId) (x : NodeId) → is_folder (lead_way t w e x) ≡ is_folder (t x)
-way-folder = way-fact is_folder folder-named
+way-folder = way-fact is_folder with-folders
 
 -- and files and links untouched
 pub way-untouched : (t : Tree) (w : Option (NodeId × Name)) (e : Option NodeId) (x : NodeId) → is_untouched (lead_way t w e x) ≡ is_untouched (t x)
-way-untouched = way-fact is_untouched untouched-named
+way-untouched = way-fact is_untouched with-untouched
 
 -- a fact that a change of a node leaves
 pub change-fact :

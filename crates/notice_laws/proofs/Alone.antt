@@ -199,7 +199,7 @@ alone-there None h = h
 alone-there (Some x) h = refl
 
 -- a directory stands alone
-folder-alone : (o : Option Node) → is_folder o ≡ true → stands_alone o ≡ true
+pub folder-alone : (o : Option Node) → is_folder o ≡ true → stands_alone o ≡ true
 folder-alone None h = h
 folder-alone (Some (Branch a b names c)) h = refl
 folder-alone (Some (Leaf content a u c)) h = absurd (false≢true h)

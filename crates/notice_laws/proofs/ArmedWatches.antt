@@ -5,10 +5,11 @@ use Rattle.ov_base.specs.declared.node_id.NodeId.{NodeId}
 use Rattle.ov_base.specs.declared.node_id.NodeId.TheVariants.{New}
 use Rattle.plain_model.specs.Layers.{Layer}
 use Rattle.plain_model.specs.Tree.{node_at}
-use Rattle.plain_model.specs.Watching.{IGNORED, Only, Subject, Rule, Instance, AllHear}
+use Rattle.plain_model.specs.Watching.{IGNORED, Only, Subject, Rule, Instance}
 use Rattle.plain_model.specs.Machine.{State, handle_of}
 use Rattle.plain_model.specs.Changes.{armed_on, at_client, after}
 use Rattle.plain_model.specs.Alike.{AreAllAlike, TellsAlike}
+use Rattle.plain_model.proofs.Watching.{AllHear-none}
 use Rattle.open_handles.specs.TrackedHandles.{clients_of}
 use Rattle.notice_laws.specs.Notified.{Notified, stands_for, Tracks}
 use Rattle.notice_laws.specs.Objects.{Means}
@@ -19,16 +20,11 @@ use Rattle.notice_laws.proofs.Numbers.{law_of_numbers}
 use Rattle.notice_laws.proofs.Told.{law_of_telling}
 use Rattle.notice_laws.proofs.Slots.{law_of_known_slots}
 
--- where nothing is told, nothing is heard
-hears-nothing : (shows : Rule) (es : List Instance) → AllHear shows [] es es
-hears-nothing shows [] = tt
-hears-nothing shows (e ∷ es) = (record { watches = refl; queue = refl }, hears-nothing shows es)
-
 -- notices are read
 pub law_of_taken : (shows : Rule) → LawOfTaken shows
 law_of_taken shows U V lowers s c count passes old new k takes = record {
   heard = (after s c (TakeNotices count)).instances;
-  hears = hears-nothing shows (after s c (TakeNotices count)).instances;
+  hears = AllHear-none shows (after s c (TakeNotices count)).instances;
   tracks = subst (Tracks V (after s c (TakeNotices count))) (sym taken) (record {
     bearers = k.bearers;
     borne = fewer-borne U V s.tree s.serial old.objects old.objects k.bearers passes.named (λ n spot is. is) k.borne;
@@ -58,7 +54,7 @@ armed-alike U s k t c slot mask number (Some d) h =
 pub law_of_armed : (shows : Rule) → LawOfArmed shows
 law_of_armed shows U V lowers s c slot mask p passes o object old new k known armed = record {
   heard = (after s c (Arm slot p mask)).instances;
-  hears = hears-nothing shows (after s c (Arm slot p mask)).instances;
+  hears = AllHear-none shows (after s c (Arm slot p mask)).instances;
   tracks =
       known-tracks V (after s c (Arm slot p mask)) old new k.bearers known
       (fewer-borne U V s.tree s.serial old.objects new.objects k.bearers passes.named armed.objects k.borne)

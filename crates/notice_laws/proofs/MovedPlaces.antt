@@ -27,7 +27,7 @@ use Rattle.notice_laws.specs.Steps.{is_last_name, IsSpotOf}
 use Rattle.notice_laws.specs.Moves as moves
 use Rattle.notice_laws.specs.Moves.{Moves}
 use Rattle.notice_laws.proofs.NamesLost.{HasOtherPath, spot-something, other-path, spot-node, alone-spot}
-use Rattle.notice_laws.proofs.Alone.{law_of_alone}
+use Rattle.notice_laws.proofs.Alone.{folder-alone, law_of_alone}
 use Rattle.notice_laws.proofs.Nowhere.{law_of_nowhere, law_of_lost}
 use Rattle.notice_laws.proofs.LastNames.{law_of_upper, law_of_last_name, folder-stands, lower-stands}
 
@@ -36,12 +36,6 @@ untouched-file : (o : Option Node) → is_untouched o ≡ true → is_folder o �
 untouched-file None h = refl
 untouched-file (Some (Branch a b names c)) h = absurd (false≢true h)
 untouched-file (Some (Leaf content a u c)) h = refl
-
--- a directory stands alone
-folder-alone : (o : Option Node) → is_folder o ≡ true → stands_alone o ≡ true
-folder-alone None h = h
-folder-alone (Some (Branch a b names c)) h = refl
-folder-alone (Some (Leaf content a u c)) h = absurd (false≢true h)
 
 -- where a name leads, there is a directory
 name-node :
@@ -64,6 +58,28 @@ path-spot p object.Lower h = inr refl
 path-spot p (object.Upper key last) h = cc
 path-spot p object.Other h = absurd h
 
+-- a rename that moves something leads what was at p, and below it, to q
+pub leads-elsewhere :
+    (U V : Layer) (lowers : List Layer) (s : State) (c : ℕ) (p q : Path) →
+    Passes U V lowers s c (Rename p q) → same_found (look s.tree p) (look s.tree q) ≡ false →
+    LeadsElsewhere s.tree (tree_after s c (Rename p q)) p q
+leads-elsewhere U V lowers s c p q passes two =
+    subst (λ b. LeadsIfMoved b s.tree (tree_after s c (Rename p q)) p q) two
+    (law_of_paths s c (Rename p q) passes.before.kept (law_of_one_path U lowers s passes.before).directories passes.allowed)
+
+module _ (t u : Tree) (p q : Path) (leads : LeadsElsewhere t u p q) where
+  -- a path that is not q, and leads somewhere, is outside q
+  pub outside-new : (x : Path) → x ≢ q → (d : NodeId) → node_at t x ≡ Some d → IsOutside q x
+  outside-new x other d at [] b = other b
+  outside-new x other d at (k ∷ r) b = let z : None ≡ Some d = sym (leads.bare k r) ∙ ap (node_at t) (sym b) ∙ at in cc
+
+  -- so one is that follows it
+  pub goes-on : (x : Path) → x ≢ q → (d : NodeId) → node_at t x ≡ Some d → (y : Path) × (node_at u y ≡ Some d)
+  goes-on x other d at = elim (place p x) [
+    | inl b ↦ (b.0 ++ q, leads.follows x (b.0 ++ q) (Goes b.0 b.1 refl) ∙ at)
+    | inr out ↦ (x, leads.follows x x (Stays out (outside-new x other d at) refl) ∙ at)
+  ]
+
 -- something moved from p, where o stood, to q, where e stood
 module _ (U V : Layer) (lowers : List Layer) (s : State) (c : ℕ) (p q : Path)
     (passes : Passes U V lowers s c (Rename p q)) (two : same_found (look s.tree p) (look s.tree q) ≡ false)
@@ -75,9 +91,7 @@ module _ (U V : Layer) (lowers : List Layer) (s : State) (c : ℕ) (p q : Path)
   u = tree_after s c (Rename p q)
 
   leads : LeadsElsewhere t u p q
-  leads =
-      subst (λ b. LeadsIfMoved b t u p q) two
-      (law_of_paths s c (Rename p q) passes.before.kept (law_of_one_path U lowers s passes.before).directories passes.allowed)
+  leads = leads-elsewhere U V lowers s c p q passes two
 
   -- what is touched is what moves, and what loses a name is what was replaced
   touches-moved : touched_by s (Rename p q) ≡ node_at t p
@@ -96,18 +110,6 @@ module _ (U V : Layer) (lowers : List Layer) (s : State) (c : ℕ) (p q : Path)
       not-new : (x y : Path) → Follows p q x y → x ≡ q → ⊥
       not-new x y (Goes r a b) same = leads.apart r (sym same ∙ a)
       not-new x y (Stays a b stays) same = b [] same
-
-  -- a path that is not q, and leads somewhere, is outside q
-  outside-new : (x : Path) → x ≢ q → (d : NodeId) → node_at t x ≡ Some d → IsOutside q x
-  outside-new x other d at [] b = other b
-  outside-new x other d at (k ∷ r) b = let z : None ≡ Some d = sym (leads.bare k r) ∙ ap (node_at t) (sym b) ∙ at in cc
-
-  -- so one is that follows it
-  goes-on : (x : Path) → x ≢ q → (d : NodeId) → node_at t x ≡ Some d → (y : Path) × (node_at u y ≡ Some d)
-  goes-on x other d at = elim (place p x) [
-    | inl b ↦ (b.0 ++ q, leads.follows x (b.0 ++ q) (Goes b.0 b.1 refl) ∙ at)
-    | inr out ↦ (x, leads.follows x x (Stays out (outside-new x other d at) refl) ∙ at)
-  ]
 
   -- a directory goes along with what is below
   goes-place : o ≡ object.Directory → (r : Path) (d : NodeId) → IsAt U t (At (r ++ p)) d → IsAt V u (At (r ++ q)) d
@@ -167,9 +169,9 @@ module _ (U V : Layer) (lowers : List Layer) (s : State) (c : ℕ) (p q : Path)
             let out = outside-old x d here.0 here.1 stays low in
             law_of_alone U V lowers s c (Rename p q) passes d x x here.0 here.1
             (λ under same. out [] ((law_of_one_path U lowers s passes.before).untouched x p d under here.0 (sym touches-moved ∙ same)))
-            (leads.follows x x (Stays out (outside-new x other d here.0) refl) ∙ here.0)
+            (leads.follows x x (Stays out (outside-new t u p q leads x other d here.0) refl) ∙ here.0)
         by (Upper key) stays low other here =
-            let now = goes-on other.0 other.1 d other.2 in
+            let now = goes-on t u p q leads other.0 other.1 d other.2 in
             (passes.named d key now.0 here.0 now.1, now.0, now.1)
         by Nowhere stays low other here =
             law_of_nowhere U V lowers s c (Rename p q) passes d here (λ i. k.borne.given n i (ap is_some there))

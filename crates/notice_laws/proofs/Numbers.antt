@@ -14,14 +14,24 @@ use Rattle.mount_laws.proofs.OnePath.{law_of_one_path}
 use Rattle.mount_laws.proofs.OpenFiles.{law_of_live_one, law_of_live_shown}
 use Rattle.open_handles.specs.declared.tracked_client.Way.{Way}
 use Rattle.open_handles.specs.Tracked.{Tracked, Spot, At, Upper, Nowhere, spot_of, IsVacant}
+use Rattle.notice_laws.specs.declared.object.Object.{Object}
 use Rattle.notice_laws.specs.declared.object.Object.TheVariants as object
 use Rattle.notice_laws.specs.Notified.{Bearers, stands_alone, IsAt, AreBorne}
 use Rattle.notice_laws.specs.Objects.{IsUpper, IsLower, IsNumberOf, IsWayTo, Means, MeansWay, LawOfNumbers, LawOfWayNumbers}
+use Rattle.notice_laws.specs.Steps.{IsSpotOf}
 
 -- what is there is something
 pub some-is : {A : Type 0} (o : Option A) → IsSome o → (x : A) × (o ≡ Some x)
 some-is None h = absurd (false≢true h)
 some-is (Some x) h = (x, refl)
+
+-- the number of what is tracked at its spot
+pub number-at : (objects : Tracked) (p : Path) (o : Object) (spot : Spot) (n : ℕ) → IsSpotOf p o spot → spot_of objects n ≡ Some spot →
+    IsNumberOf objects p o (Some n)
+number-at objects p object.Directory spot n is at = at ∙ ap Some is
+number-at objects p object.Lower spot n is at = at ∙ ap Some is
+number-at objects p (object.Upper key last) spot n is at = at ∙ ap Some is
+number-at objects p object.Other spot n is at = absurd is
 
 -- what stands alone is a directory or untouched
 pub alone-sort : (o : Option Node) → stands_alone o ≡ true → (is_folder o ≡ true) ⊎ (is_untouched o ≡ true)

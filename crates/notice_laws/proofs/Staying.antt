@@ -1,16 +1,17 @@
 -- What is kept for watches stays right in another upper, and by calls that tell nothing.
-use Rattle.std.proofs.Common.{◌≡◌, ℕ, ◌<◌, Bool, true, false, not, cond, List, [], ◌∷◌, Some, refl, sym, ap, subst, ◌∙◌, arith}
+use Rattle.std.proofs.Common.{◌≡◌, ℕ, ◌<◌, Bool, true, false, not, cond, List, [], Some, refl, sym, ap, subst, ◌∙◌, arith}
 use Rattle.std.proofs.lemmas.Bool.{false≢true}
 use Rattle.ov_base.specs.declared.call.Call.{Call}
 use Rattle.ov_base.specs.declared.call.Call.TheVariants.{Rename, Arm, TakeNotices}
 use Rattle.ov_base.specs.declared.node_id.NodeId.{NodeId}
 use Rattle.plain_model.specs.Layers.{Path, Layer}
 use Rattle.plain_model.specs.Tree.{Tree, node_at}
-use Rattle.plain_model.specs.Watching.{Instance, Rule, AllHear}
+use Rattle.plain_model.specs.Watching.{AllHear, Rule}
 use Rattle.plain_model.specs.Machine.{State, handle_of}
 use Rattle.plain_model.specs.Changes.{makes, moves, next_if, re_ways, way_of, settled, renamed, tree_after, tables_after, instances_after}
 use Rattle.plain_model.specs.Settling as settling
 use Rattle.plain_model.specs.Subjects.{subjects, rename_subjects}
+use Rattle.plain_model.proofs.Watching.{AllHear-none}
 use Rattle.mount_laws.specs.OpenFiles.{IsLive}
 use Rattle.open_handles.specs.Tracked.{Spot, At, Upper, Nowhere}
 use Rattle.notice_laws.specs.Notified.{Notified, IsAt, IsSlotOn, Tracks, Passes, Resumes}
@@ -53,11 +54,6 @@ pub moves-nothing : (s : State) (call : Call) → keeps_handles call ≡ true �
 moves-nothing s (Rename old new) h = absurd (false≢true h)
 moves-nothing s _ h = refl
 
--- nothing is heard of nothing
-hears-nothing : (shows : Rule) (es : List Instance) → AllHear shows [] es es
-hears-nothing shows [] = tt
-hears-nothing shows (e ∷ es) = (record { watches = refl; queue = refl }, hears-nothing shows es)
-
 -- a serial that was given is given still
 pub still-given : (b : Bool) (i n : ℕ) → i < n → i < next_if b n
 still-given true i n h = omega arith
@@ -79,7 +75,7 @@ quiet shows U V lowers s c call is passes k t = record {
   heard = s.instances;
   hears =
       subst (λ ss. AllHear shows ss (instances_after s c call) s.instances) (sym is.tells)
-      (subst (λ es. AllHear shows [] es s.instances) (sym is.instances) (hears-nothing shows s.instances));
+      (subst (λ es. AllHear shows [] es s.instances) (sym is.instances) (AllHear-none shows s.instances));
   tracks = record {
     bearers = t.bearers;
     borne = record {

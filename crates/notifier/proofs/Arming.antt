@@ -15,11 +15,10 @@ use Rattle.watch_table.proofs.Clients.{IsAbsent, above-absent, absent-at_client,
 use Rattle.watch_table.proofs.Indexing.{armed-on}
 use Rattle.notice_laws.specs.Notified.{Notified}
 use Rattle.notice_laws.specs.declared.object.Object.{Object}
-use Rattle.notice_laws.specs.declared.object.Object.TheVariants as object
-use Rattle.notice_laws.specs.Objects.{IsNumberOf}
 use Rattle.notice_laws.specs.Opens.{AreFewer}
-use Rattle.notice_laws.specs.Steps.{IsSpotOf}
-use Rattle.notifier.specs.Arming.{ArmsAt, HoldsAt, IsArmRefused, refusal_of, watch_of}
+use Rattle.notice_laws.proofs.Numbers.{number-at}
+use Rattle.notifier.specs.Arming.{ArmsAt, IsArmRefused, refusal_of, watch_of}
+use Rattle.notifier.specs.Opening.{HoldsObject}
 use Rattle.notifier.specs.Notifying.{watchers}
 use Rattle.notifier.proofs.Hearing.{one-more}
 
@@ -165,16 +164,8 @@ module _ (old held new : Tracked) (spot : Spot) (o less : ℕ) (holds : Holds ol
           ap (λ m. spot_left m (spot_of held o)) left ∙ ap (spot_left (holders_of old o)) holds.sets.here
           ∙ back (spot_of old o) (counted o) was
 
--- the number of what is held at its spot
-number-at : (objects : Tracked) (p : Path) (o : Object) (spot : Spot) (n : ℕ) → IsSpotOf p o spot → spot_of objects n ≡ Some spot →
-    IsNumberOf objects p o (Some n)
-number-at objects p object.Directory spot n is at = at ∙ ap Some is
-number-at objects p object.Lower spot n is at = at ∙ ap Some is
-number-at objects p (object.Upper key last) spot n is at = at ∙ ap Some is
-number-at objects p object.Other spot n is at = absurd is
-
 -- a slot is armed on what is held
-pub arms-at : (old new : Notified) (held : Tracked) (c slot mask number : ℕ) (p : Path) (o : Object) → HoldsAt old.objects held p o number →
+pub arms-at : (old new : Notified) (held : Tracked) (c slot mask number : ℕ) (p : Path) (o : Object) → HoldsObject old.objects held p o number →
     AreFewer held new.objects → new.handles ≡ old.handles → new.renames ≡ old.renames → (r : Result (Result ℕ Errno) AllocError) →
     IfOk r (λ outcome. IfOk outcome (λ n. n ≡ watch_of old c number)) →
     IfOk r (λ outcome. OnOk outcome (new.instances ≡ at_client c (armed_on slot (Some (New number)) mask) old.instances)) →
@@ -197,7 +188,7 @@ arms-at old new held c slot mask number p o at fewer handles renames (Ok (Err e)
 arms-at old new held c slot mask number p o at fewer handles renames (Err f) given armed allowed = tt
 
 -- or refused
-pub refused-at : (old : Notified) (held : Tracked) (c slot number : ℕ) (p : Path) (o : Object) → HoldsAt old.objects held p o number →
+pub refused-at : (old : Notified) (held : Tracked) (c slot number : ℕ) (p : Path) (o : Object) → HoldsObject old.objects held p o number →
     (r : Result (Result ℕ Errno) AllocError) → IfOk r (λ outcome. IfErr outcome (λ e. refusal_of old c slot number ≡ Some e)) →
     IfOk r (λ outcome. IfErr outcome (IsArmRefused old c slot p o))
 refused-at old held c slot number p o at (Ok (Ok n)) refused = tt

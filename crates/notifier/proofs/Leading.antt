@@ -1,5 +1,5 @@
 -- Handles that a rename leads to another way, and what is held for them.
-use Rattle.std.proofs.Common.{◌≡◌, ◌≢◌, ℕ, zero, suc, ◌+◌, ◌<◌, ◌≤◌, Bool, true, false, cond, List, [], ◌∷◌, Option, None, Some, count_by, refl, sym, ap, subst, subst₂, ◌∙◌, inl, inr, arith, nat_eq}
+use Rattle.std.proofs.Common.{◌≡◌, ◌≢◌, ℕ, zero, suc, ◌+◌, ◌<◌, ◌≤◌, Bool, true, false, cond, List, [], ◌∷◌, Option, None, Some, option_map, count_by, refl, sym, ap, subst, subst₂, ◌∙◌, inl, inr, arith, nat_eq}
 use Rattle.std.proofs.lemmas.Bool.{cases_Bool}
 use Rattle.std.proofs.lemmas.List.Sums.{sum_by-cons}
 use Rattle.plain_model.specs.Layers.{Name, Path}
@@ -7,7 +7,7 @@ use Rattle.open_handles.specs.declared.tracked_client.TrackedHandle.{TrackedHand
 use Rattle.open_handles.specs.declared.tracked_client.Way.{Way}
 use Rattle.open_handles.specs.Descriptors.{opened}
 use Rattle.open_handles.specs.Tracked.{Tracked, Spot, At, Upper, Nowhere, SameSpots, spot_of}
-use Rattle.open_handles.specs.TrackedHandles.{TrackedTable, TrackedTables, came_by, handles_by, slot_came_by, slots_of, tracked_by}
+use Rattle.open_handles.specs.TrackedHandles.{TrackedTable, TrackedTables, came_by, handles_by, re_way_of, slot_came_by, slots_of, tracked_by}
 use Rattle.notice_laws.specs.Moves.{NoneCame, ReWays}
 use Rattle.notice_laws.specs.Notified.{Notified}
 use Rattle.notice_laws.specs.Objects.{IsNumberAt, IsNumberOf, IsWayTo}
@@ -61,6 +61,21 @@ none-led ks pin (Some n) (Some v) is = (none-came ks n v (none (handles_by ks n 
     none : (m : ℕ) → IsPin None m pin → m ≡ 0
     none zero is = refl
     none (suc m) is = absurd is
+
+-- where nothing is held, no handle came by the old way, so none is led to another
+pub never-led : (ks : TrackedTables) (number : Option ℕ) (from to : Option Way) → IsPin to (led_by ks number from) None → ReWays ks ks number from to
+never-led ks None from to is = λ c fd. refl
+never-led ks (Some n) None to is = λ c fd. refl
+never-led ks (Some n) (Some v) None is = none-led ks None (Some n) (Some v) is
+never-led ks (Some n) (Some v) (Some w) is = λ c fd. by c fd (tracked_by ks c fd) refl
+  where
+    none : (m : ℕ) → IsPin (Some w) m None → m ≡ 0
+    none zero h = refl
+    none (suc m) h = absurd (let z : None ≡ Some (record { number = w.directory; count = suc m }) = h in cc)
+
+    by : (c fd : ℕ) (o : Option TrackedHandle) → tracked_by ks c fd ≡ o → o ≡ option_map (re_way_of n v w) o
+    by c fd None e = refl
+    by c fd (Some h) e = ap Some (sym (ap (λ b. cond b (record h { way = Some w }) h) (none-came ks n v (none (handles_by ks n v) is) c fd h e)))
 
 same-way : (v w : Way) → v.directory ≡ w.directory → v.name ≡ w.name → v ≡ w
 same-way v w d n i = record { directory = d i; name = n i }
@@ -117,6 +132,12 @@ module _ (old new : Tracked) (kept : (n : ℕ) (spot : Spot) → spot_of old n �
   way-kept : (p : Path) (w : Way) → IsWayTo old p (Some w) → IsWayTo new p (Some w)
   way-kept [] w x = x
   way-kept (n ∷ p) w x = (kept w.directory (At p) x.0, x.1)
+
+-- so is what some handle came by
+pub led-kept : (old new : Tracked) → ((n : ℕ) (spot : Spot) → spot_of old n ≡ Some spot → spot_of new n ≡ Some spot) → (p : Path) (o : Object)
+    (number : Option ℕ) (ks : TrackedTables) (from : Option Way) → 0 < led_by ks number from → IsNumberOf old p o number → IsNumberOf new p o number
+led-kept old new kept p o None ks from some found = absurd (omega arith)
+led-kept old new kept p o (Some n) ks from some found = number-kept old new kept p o n found
 
 -- where no handle came by the old way, nothing has to be held
 pub none-pinned : (k : Notified) (p q : Path) (o : Object) (number : Option ℕ) (from : Option Way) → IsNumberOf k.objects p o number →

@@ -1,16 +1,25 @@
 -- Where what is tracked is after a rename.
-use Rattle.std.proofs.Common.{◌≡◌, ◌≢◌, ℕ, [], ◌∷◌, ◌++◌, Option, None, Some, refl, sym, ap, subst, ◌∙◌, inl, inr}
-use Rattle.std.specs.Prelude.{◌⊎◌}
+use Rattle.std.proofs.Common.{◌≡◌, ◌≢◌, ℕ, [], ◌∷◌, ◌++◌, Option, None, Some, IsSome, is_some, refl, sym, ap, subst, ◌∙◌, inl, inr}
+use Rattle.std.specs.Prelude.{◌⊎◌, IfSome}
+use Rattle.std.proofs.lemmas.Bool.{cases_eq}
 use Rattle.plain_model.specs.Layers.{Path}
 use Rattle.plain_model.specs.Laws.{IsOutside}
 use Rattle.plain_model.proofs.Paths.{place}
-use Rattle.open_handles.specs.Tracked.{Tracked, Spot, At, Upper, Nowhere, IsVacant, MovesSpots, NoneBelow, SameSpots, spot_of}
+use Rattle.open_handles.specs.Tracked.{Tracked, Spot, At, Upper, Nowhere, IsVacant, MovesSpots, NoneBelow, SameSpots, SetsSpot, holders_of, spot_of}
 use Rattle.notice_laws.specs.declared.object.Object.{Object}
 use Rattle.notice_laws.specs.declared.object.Object.TheVariants as object
 use Rattle.notice_laws.specs.Moves.{Moves, Goes, Rises, Lost, Rests}
+use Rattle.notice_laws.specs.Objects.{IsNumberAt, IsNumberOf}
 use Rattle.notice_laws.specs.Steps.{IsSpotOf, Lifts, Loses, is_last_name}
-use Rattle.notifier.specs.Notifying.{Becomes, IsFree}
+use Rattle.notifier.specs.Notifying.{Becomes}
 use Rattle.notifier.specs.Moving.{IsFreeFor, MayHold}
+
+-- what has a number is tracked
+pub number-there : (t : Tracked) (p : Path) (o : Object) (r : Option ℕ) (n : ℕ) → r ≡ Some n → IsNumberOf t p o r → IsSome (spot_of t n)
+number-there t p object.Directory r n is h = ap is_some (subst (IsNumberAt t (At p)) is h)
+number-there t p object.Lower r n is h = ap is_some (subst (IsNumberAt t (At p)) is h)
+number-there t p (object.Upper key last) r n is h = ap is_some (subst (IsNumberAt t (Upper key)) is h)
+number-there t p object.Other r n is h = absurd (let z : Some n ≡ None = sym is ∙ h in cc)
 
 -- what loses a name was where it is, or is nowhere
 lost-there : (q : Path) (e : Object) (old mid : Tracked) → Becomes (Loses q e) old mid → (n : ℕ) (spot : Spot) → spot ≢ Nowhere →
@@ -21,21 +30,6 @@ lost-there q e old mid lost n spot there is =
       | inl gone ↦ absurd (there gone.2)
       | inr same ↦ was.1 ∙ ap Some (sym same.1)
     ]
-
--- so a key is free then that was another's at most if that is nowhere now
-pub free-then : (q : Path) (e : Object) (old mid : Tracked) → Becomes (Loses q e) old mid → (p : Path) (o : Object) (key : ℕ) →
-    IsFreeFor old p q o e key → IsFree mid p o key
-free-then q e old mid lost p object.Lower key free = λ n at m up.
-    let was = lost m (Upper key) up in
-    elim was.2 [
-      | inl gone ↦ (let z : Upper key ≡ Nowhere = gone.2 in cc)
-      | inr same ↦
-          (let here = free n (lost-there q e old mid lost n (At p) (λ x. cc) at) m (was.1 ∙ ap Some (sym same.1)) in
-          same.0 here.0 (subst (IsSpotOf q e) same.1 here.1))
-    ]
-free-then q e old mid lost p object.Directory key free = free
-free-then q e old mid lost p (object.Upper k last) key free = free
-free-then q e old mid lost p object.Other key free = free
 
 -- a file moves: what is replaced loses a name, and a file of a lower layer is in the upper
 file-spot : (p q : Path) (o e : Object) (key : ℕ) (was mid spot : Spot) → o ≢ object.Directory → Loses q e was mid → Lifts p o key mid spot →
@@ -51,12 +45,61 @@ file-spot p q (object.Upper k last) e key was mid spot file (inr there) same = R
 file-spot p q object.Other e key was mid spot file (inl gone) same = Lost gone.0 gone.1 (same ∙ gone.2)
 file-spot p q object.Other e key was mid spot file (inr there) same = Rests (λ x. cc) (λ x. cc) there.0 (same ∙ there.1)
 
-pub file-spots : (p q : Path) (o e : Object) (key : ℕ) (old mid new : Tracked) → o ≢ object.Directory → Becomes (Loses q e) old mid →
-    Becomes (Lifts p o key) mid new → Becomes (Moves p q o e key) old new
-file-spots p q o e key old mid new file lost lifts n spot is =
-    let between = lifts n spot is in
-    let was = lost n between.0 between.1 in
-    (was.0, was.1, file-spot p q o e key was.0 between.0 spot file was.2 between.2)
+-- what moves has the number that was found
+module _ (p q : Path) (e : Object) (key : ℕ) (old mid : Tracked) (lost : Becomes (Loses q e) old mid) where
+  -- a file that isn't copied up, or isn't tracked, stays where it is
+  pub left-spots : (o : Object) → o ≢ object.Directory → (o ≡ object.Lower → IsVacant old (At p)) → Becomes (Moves p q o e key) old mid
+  left-spots o file none n spot is =
+      let was = lost n spot is in
+      (was.0, was.1, file-spot p q o e key was.0 spot spot file was.2 (by o none))
+    where
+      by : (x : Object) → (x ≡ object.Lower → IsVacant old (At p)) → Lifts p x key spot spot
+      by object.Lower free = inr (λ at. free refl n (lost-there q e old mid lost n (At p) (λ x. cc) (is ∙ ap Some at)), refl)
+      by object.Directory free = refl
+      by (object.Upper k last) free = refl
+      by object.Other free = refl
+
+  -- its key is free then
+  pub free-risen : IsFreeFor old p q object.Lower e key → (n : ℕ) → spot_of old n ≡ Some (At p) → IsVacant mid (Upper key)
+  free-risen free n at m up =
+      let was = lost m (Upper key) up in
+      elim was.2 [
+        | inl gone ↦ (let z : Upper key ≡ Nowhere = gone.2 in cc)
+        | inr same ↦
+            (let here = free n at m (was.1 ∙ ap Some (sym same.1)) in
+            same.0 here.0 (subst (IsSpotOf q e) same.1 here.1))
+      ]
+
+  -- one of a lower layer is in the upper
+  pub risen-spots :
+      (m : ℕ) → spot_of old m ≡ Some (At p) → ((n : ℕ) → spot_of old n ≡ Some (At p) → n ≡ m) → (new : Tracked) (count : ℕ) →
+      SetsSpot mid new m (Some (Upper key)) count → Becomes (Moves p q object.Lower e key) old new
+  risen-spots m at one new count sets n spot is = elim (cases_eq n m) [
+    | inl same ↦
+        (let z : Some spot ≡ Some (Upper key) = sym is ∙ ap (spot_of new) same ∙ sets.here in
+        (At p, ap (spot_of old) same ∙ at, Rises refl refl cc))
+    | inr off ↦
+        (let there = sym (sets.other_spots n off) ∙ is in
+        let was = lost n spot there in (
+          was.0,
+          was.1,
+          file-spot p q object.Lower e key was.0 spot spot (λ x. cc) was.2
+              (inr (λ up. off (one n (lost-there q e old mid lost n (At p) (λ x. cc) (there ∙ ap Some up))), refl)),
+        ))
+  ]
+
+-- one of a lower layer moved, tracked or not
+pub lifted :
+    (p q : Path) (e : Object) (key : ℕ) (old mid new : Tracked) → Becomes (Loses q e) old mid →
+    ((spot : Spot) (m n : ℕ) → spot ≢ Nowhere → spot_of old m ≡ Some spot → spot_of old n ≡ Some spot → m ≡ n) →
+    (number : Option ℕ) → IsNumberOf old p object.Lower number →
+    IfSome number (λ m. SetsSpot mid new m (Some (Upper key)) (holders_of mid m)) → (number ≡ None → new ≡ mid) →
+    Becomes (Moves p q object.Lower e key) old new
+lifted p q e key old mid new lost one None found rises none =
+    subst (Becomes (Moves p q object.Lower e key) old) (sym (none refl))
+    (left-spots p q e key old mid lost object.Lower (λ x. cc) (λ _. found))
+lifted p q e key old mid new lost one (Some m) found rises none =
+    risen-spots p q e key old mid lost m found (λ n at. one (At p) n m (λ x. cc) at found) new (holders_of mid m) rises
 
 -- A DIRECTORY MOVES with what is below it, and a directory is replaced, or nothing
 module _ (old new : Tracked) (p q : Path) (e : Object) (key : ℕ) (moves : MovesSpots old new p q) (below : NoneBelow old q)

@@ -5,18 +5,12 @@ use Rattle.ov_base.specs.declared.node_id.NodeId.TheVariants.{New}
 use Rattle.plain_model.specs.Layers.{Path}
 use Rattle.plain_model.specs.Machine.{instance_of, watches_of, armed_of, watch_on}
 use Rattle.plain_model.specs.Replies.{number_of, next_number}
-use Rattle.open_handles.specs.Tracked.{Tracked, Spot, Holds, spot_of}
+use Rattle.open_handles.specs.Tracked.{Tracked, spot_of}
 use Rattle.watch_table.specs.Listening.{arm_refusal}
 use Rattle.notice_laws.specs.declared.object.Object.{Object}
 use Rattle.notice_laws.specs.Clients.{Armed}
 use Rattle.notice_laws.specs.Notified.{Notified}
-use Rattle.notice_laws.specs.Steps.{IsSpotOf}
-
--- one more holds what stands at p, under a number
-pub record HoldsAt (old new : Tracked) (p : Path) (o : Object) (number : ℕ) : Type 0 where
-  pub spot : Spot
-  pub stands : IsSpotOf p o spot
-  pub holds : Holds old new spot number
+use Rattle.notifier.specs.Opening.{HoldsObject}
 
 -- the refusal of an arm of the object of a number through a client's slot
 abbrev pub refusal_of : Notified → ℕ → ℕ → ℕ → Option Errno
@@ -31,7 +25,7 @@ watch_of k c number = number_of (watch_on (watches_of (instance_of k.instances c
 pub record ArmsAt (old new : Notified) (c slot mask : ℕ) (p : Path) (o : Object) (n : ℕ) : Type 0 where
   pub held : Tracked
   pub arms : Armed (record old { objects = held }) new c slot mask p o
-  pub holds : HoldsAt old.objects held p o arms.number
+  pub holds : HoldsObject old.objects held p o arms.number
   pub allowed : refusal_of old c slot arms.number ≡ None
   pub given : n ≡ watch_of old c arms.number
 
@@ -39,7 +33,7 @@ pub record ArmsAt (old new : Notified) (c slot mask : ℕ) (p : Path) (o : Objec
 pub record IsArmRefused (old : Notified) (c slot : ℕ) (p : Path) (o : Object) (e : Errno) : Type 0 where
   pub held : Tracked
   pub number : ℕ
-  pub holds : HoldsAt old.objects held p o number
+  pub holds : HoldsObject old.objects held p o number
   pub refused : refusal_of old c slot number ≡ Some e
 
 -- each object is where it was; a number may have been given and let go again

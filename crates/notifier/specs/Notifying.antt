@@ -50,6 +50,10 @@ IsFree objects p object.Directory key = Unit {0}
 IsFree objects p (object.Upper k last) key = Unit {0}
 IsFree objects p object.Other key = Unit {0}
 
+-- a file of a lower layer that is tracked at a path may come into the upper under a key
+abbrev pub MayLift : Tracked → Path → Object → ℕ → Type 0
+MayLift objects p o key = HasRoom objects p o × IsFree objects p o key
+
 -- each object that is tracked still was tracked, and its spot became what a change makes of it
 abbrev pub Becomes : (Spot → Spot → Type 0) → Tracked → Tracked → Type 0
 Becomes becomes old new = (n : ℕ) (spot : Spot) → spot_of new n ≡ Some spot → (was : Spot) × (spot_of old n ≡ Some was) × becomes was spot

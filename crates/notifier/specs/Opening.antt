@@ -7,6 +7,7 @@ use Rattle.open_handles.specs.Tracked.{Tracked, Spot, At, Nowhere, spot_of, hold
 use Rattle.open_handles.specs.TrackedHandles.{SetsTracked, clients_of, handle_uses, tracked_by}
 use Rattle.notice_laws.specs.declared.object.Object.{Object}
 use Rattle.notice_laws.specs.Notified.{Notified}
+use Rattle.notice_laws.specs.Objects.{IsNumberOf}
 use Rattle.notice_laws.specs.Opens.{AreFewer}
 use Rattle.notice_laws.specs.Steps.{IsSpotOf}
 
@@ -69,6 +70,10 @@ pub record IsReadyNew (old new : Notified) (c fd : ℕ) (p : Path) : Type 0 wher
   pub handle : TrackedHandle
   pub holds : HoldsNew old.objects new.objects p handle
   pub readies : Readies old new c fd handle
+
+-- a client's descriptor is on what stands at p, o
+abbrev pub IsOpenAt : Notified → ℕ → ℕ → Path → Object → Type 0
+IsOpenAt k c fd p o = (h : TrackedHandle) × (tracked_by k.handles c fd ≡ Some h) × IsNumberOf k.objects p o (Some h.object)
 
 -- what is tracked was tracked, where it is and by as many held
 pub record AreNoMore (old new : Tracked) : Type 0 where

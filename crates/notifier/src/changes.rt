@@ -1,9 +1,10 @@
 // What changes of attributes and further names tell.
-ghost use Rattle.std.specs.Prelude.{◌≡◌, OnOk};
+ghost use Rattle.std.specs.Prelude.{◌≡◌, OnOk, Some};
+ghost use Rattle.plain_model.specs.Layers.{Path as Names};
 ghost use Rattle.open_handles.specs.Tracked.{SameSpots};
 ghost use Rattle.notice_laws.specs.Objects.{IsNumberOf};
 ghost use Rattle.notice_laws.specs.Steps.{Altered, Lifts, Linked};
-ghost use Rattle.notifier.specs.Notifying.{Becomes, HasRoom, IsFree};
+ghost use Rattle.notifier.specs.Notifying.{Becomes, HasRoom, IsFree, MayLift};
 
 use crate::bits::{ATTRIB, CREATE};
 use crate::kept::Notifier;
@@ -36,14 +37,24 @@ impl<F: Callback, R: Rule> Notifier<F, R> {
         ensures lifted { Becomes (Lifts path.now object key) self.old.objects self.new.objects }
         ensures rest { self.new ≡ record self.old { objects = self.new.objects } }
     {
-        self.lawful();
         let number = self.number_of(path, object);
-        if let Object::Lower = object {
-            if let Some(risen) = number {
-                self.rise(risen, key);
-            }
+        if let Some(risen) = number {
+            self.lift_number(risen, object, key);
         }
         number
+    }
+
+    // Notes that the object of a number, where it is a file of a lower layer, is in the upper under
+    // a key now.
+    pub(crate) fn lift_number(&mut self, number: u64, object: Object, key: usize)
+        requires { (p : Names) × IsNumberOf self.old.objects p object (Some number) × MayLift self.old.objects p object key }
+        ensures lifted { (p : Names) → IsNumberOf self.old.objects p object (Some number) → Becomes (Lifts p object key) self.old.objects self.new.objects }
+        ensures rest { self.new ≡ record self.old { objects = self.new.objects } }
+    {
+        self.lawful();
+        if let Object::Lower = object {
+            self.rise(number, key);
+        }
     }
 
     /// Notifies that attributes of what stands at a path changed; a file of a lower layer is in the

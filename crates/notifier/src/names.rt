@@ -1,6 +1,7 @@
 // What names that come and go tell.
-ghost use Rattle.std.specs.Prelude.{◌≡◌, ◌≤◌};
-ghost use Rattle.open_handles.specs.Tracked.{room};
+ghost use Rattle.std.specs.Prelude.{◌≡◌, ◌≤◌, ℕ, Some, IsSome};
+ghost use Rattle.plain_model.specs.Layers.{Path as Names};
+ghost use Rattle.open_handles.specs.Tracked.{room, spot_of};
 ghost use Rattle.notice_laws.specs.Objects.{IsNumberOf};
 ghost use Rattle.notice_laws.specs.Steps.{Loses, Made, Removed, Unlinked, is_last_name};
 ghost use Rattle.notice_laws.specs.Telling.{IsEnd};
@@ -46,12 +47,23 @@ impl<F: Callback, R: Rule> Notifier<F, R> {
         let number = self.number_of(path, object);
         let is_last = is_last_name(object);
         let ended = self.end_of(number, is_last);
+        self.lose_number(number, object);
+        (number, ended)
+    }
+
+    // Notifies that what has this number loses a name.
+    pub(crate) fn lose_number(&mut self, number: Option<u64>, object: Object)
+        requires { (n : ℕ) → number ≡ Some n → IsSome (spot_of self.old.objects n) }
+        ensures lost { (path : Names) → IsNumberOf self.old.objects path object number → Becomes (Loses path object) self.old.objects self.new.objects }
+        ensures there { (n : ℕ) → IsSome (spot_of self.old.objects n) → IsSome (spot_of self.new.objects n) }
+        ensures room { room self.old.objects ≤ room self.new.objects }
+        ensures rest { self.new ≡ record self.old { objects = self.new.objects } }
+    {
+        self.lawful();
+        let is_last = is_last_name(object);
         match number {
-            Some(lost) if is_last => {
-                self.lose(lost);
-                (number, ended)
-            }
-            _ => (number, ended),
+            Some(lost) if is_last => self.lose(lost),
+            _ => (),
         }
     }
 

@@ -4,12 +4,14 @@ ghost use Rattle.open_handles.specs.declared.tracked_client.TrackedHandle.{Track
 ghost use Rattle.open_handles.specs.Tracked.{Upper, IsVacant, SameSpots, holders_of, room};
 ghost use Rattle.open_handles.specs.TrackedHandles.{handle_uses, is_tracked, tracked_by, way_uses};
 ghost use Rattle.notice_laws.specs.declared.object.Object.TheVariants as stands;
-ghost use Rattle.notifier.specs.Opening.{AreHeld, AreNoMore, HoldsBoth, HoldsFor, HoldsNew, HoldsObject, HoldsWay, IsBack, IsReady, IsReadyNew, Readies};
+ghost use Rattle.notifier.specs.Opening.{AreHeld, AreNoMore, HoldsBoth, HoldsFor, HoldsNew, HoldsObject, HoldsWay, IsBack, IsOpenAt, IsReady, IsReadyNew, Readies};
+ghost use Rattle.plain_model.specs.Layers.{Path as Names};
 ghost use Rattle.notice_laws.specs.Notified.{Notified};
+ghost use Rattle.notice_laws.specs.Objects.{IsNumberOf};
 ghost use Rattle.notice_laws.specs.Opens.{AreFewer, Opened, OpenedNew, opens_to};
 ghost use Rattle.notice_laws.specs.Telling.{of_both};
 ghost use Rattle.plain_model.specs.Watching.{MODIFY};
-ghost use Rattle.notifier.specs.Notifying.{Becomes, HasRoom, IsFree, IsTold};
+ghost use Rattle.notifier.specs.Notifying.{Becomes, HasRoom, IsTold, MayLift};
 
 use crate::bits::{self, CREATE, OPEN};
 use crate::kept::Notifier;
@@ -38,8 +40,13 @@ fn hold_way(objects: &mut TrackedObjects, path: &Path) -> Result<Option<Way>, Al
     }))
 }
 
-// Holds what stands at a path, which is a directory or a file.
-fn hold_object(objects: &mut TrackedObjects, path: &Path, object: Object) -> Result<u64, AllocError>
+// Holds what stands at a path for one holder more, and gives its number. It fails only when memory
+// or numbers run out, or where as many hold it as can be counted, and changes nothing then.
+pub(crate) fn hold_object(
+    objects: &mut TrackedObjects,
+    path: &Path,
+    object: Object,
+) -> Result<u64, AllocError>
     requires { object ≢ stands.Other }
     ensures holds { IfOk result (λ n. HoldsObject objects.old objects.new path.now object n) }
     ensures held { IfOk result (λ n. HoldsFor objects.old objects.new (λ m. cond (nat_eq n m) 1 0)) }
@@ -172,15 +179,15 @@ impl<F: Callback, R: Rule> Notifier<F, R> {
         self.lawful();
     }
 
-    // Tells what becomes of a file of a lower layer that is opened: for writing it is in the upper under a key now.
-    fn lift_for(&mut self, writes: bool, path: &Path, object: Object, key: usize)
-        requires room { HasRoom self.old.objects path.now object }
-        requires free { writes ≡ true → IsFree self.old.objects path.now object key }
-        ensures lifted { Becomes (opens_to writes path.now object key) self.old.objects self.new.objects }
+    // Notes what becomes of a file of a lower layer that is opened: for writing it is in the upper
+    // under a key now.
+    fn lift_for(&mut self, writes: bool, number: u64, object: Object, key: usize)
+        requires { (p : Names) × IsNumberOf self.old.objects p object (Some number) × (writes ≡ true → MayLift self.old.objects p object key) }
+        ensures lifted { (p : Names) → IsNumberOf self.old.objects p object (Some number) → Becomes (opens_to writes p object key) self.old.objects self.new.objects }
         ensures rest { self.new ≡ record self.old { objects = self.new.objects } }
     {
         if writes {
-            let _ = self.lift(path, object, key);
+            self.lift_number(number, object, key);
         }
     }
 
@@ -193,35 +200,32 @@ impl<F: Callback, R: Rule> Notifier<F, R> {
         }
     }
 
-    /// Notifies that a client opened what stands at a path, which was prepared; a file of a lower
-    /// layer that is opened for writing is in the upper under a key by that. It takes no memory.
+    /// Notifies that a client opened what was prepared for it; a file of a lower layer that is
+    /// opened for writing is in the upper under a key by that. It takes no memory.
     pub fn opened(
         &mut self,
         client: u64,
         descriptor: u32,
-        path: &Path,
         object: Object,
         key: usize,
         flags: OpenFlags,
     )
-        requires open { IsSome (tracked_by self.old.handles client descriptor) }
-        requires room { HasRoom self.old.objects path.now object }
-        requires free { flags.writes ≡ true → IsFree self.old.objects path.now object key }
-        ensures { (before : Notified) → IsReady before self.old client descriptor path.now object → Opened R.shows (record before { objects = self.old.objects }) self.new client descriptor path.now object key flags }
+        requires { (p : Names) × IsOpenAt self.old client descriptor p object × (flags.writes ≡ true → MayLift self.old.objects p object key) }
+        ensures { (before : Notified) (p : Names) → IsReady before self.old client descriptor p object → Opened R.shows (record before { objects = self.old.objects }) self.new client descriptor p object key flags }
     {
         let handle = self.handle(client, descriptor);
-        self.lift_for(flags.writes, path, object, key);
+        self.lift_for(flags.writes, handle.object, object, key);
         self.tell_emptied(flags.truncate, &handle.way, handle.object);
         self.tell_both(&handle.way, Some(handle.object), marks(object, OPEN));
     }
 
-    /// Notifies that a client opened a file that was made at a path for it, which was prepared; the
-    /// file is in the upper under a key. It takes no memory.
-    pub fn opened_new(&mut self, client: u64, descriptor: u32, path: &Path, key: usize)
+    /// Notifies that a client opened a file that was made for it, which was prepared; the file is in
+    /// the upper under a key. It takes no memory.
+    pub fn opened_new(&mut self, client: u64, descriptor: u32, key: usize)
         requires open { IsSome (tracked_by self.old.handles client descriptor) }
         requires room { 0 < room self.old.objects }
         requires vacant { IsVacant self.old.objects (Upper key) }
-        ensures { (before : Notified) → (ready : IsReadyNew before self.old client descriptor path.now) → OpenedNew R.shows (record before { objects = ready.holds.mid }) self.new client descriptor path.now key }
+        ensures { (before : Notified) (p : Names) → (ready : IsReadyNew before self.old client descriptor p) → OpenedNew R.shows (record before { objects = ready.holds.mid }) self.new client descriptor p key }
     {
         self.lawful();
         let handle = self.handle(client, descriptor);

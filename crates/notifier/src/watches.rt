@@ -3,32 +3,16 @@ ghost use Rattle.std.specs.Prelude.{◌≡◌, ◌≢◌, ◌<◌, ◌^◌, None
 ghost use Rattle.std.specs.List.{list_any};
 ghost use Rattle.plain_model.specs.Machine.{hooks_of, instance_of, watches_of};
 ghost use Rattle.plain_model.specs.Watching.{is_numbered};
-ghost use Rattle.open_handles.specs.Tracked.{SameSpots};
 ghost use Rattle.notice_laws.specs.Clients.{Disarmed};
-ghost use Rattle.notifier.specs.Arming.{ArmsAt, HoldsAt, IsArmRefused, IsLeft};
+ghost use Rattle.notifier.specs.Arming.{ArmsAt, IsArmRefused, IsLeft};
 ghost use Rattle.watch_table.specs.Listening.{slot_refusal};
 
 use crate::kept::Notifier;
+use crate::opens::hold_object;
 use notice_laws::Object;
-use open_handles::TrackedObjects;
 use ov_base::{Errno, Path};
 use std::alloc::{AllocError, Global};
 use watch_table::{Aim, Callback, IGNORED, Rule, Subject};
-
-// Holds what stands at a path for one holder more, and gives its number. It fails only when memory
-// or numbers run out, or where as many hold it as can be counted, and changes nothing then.
-fn hold(objects: &mut TrackedObjects, path: &Path, object: Object) -> Result<u64, AllocError>
-    requires { object ≢ Object.Other }
-    ensures holds { IfOk result (HoldsAt objects.old objects.new path.now object) }
-    ensures err { OnErr result (SameSpots objects.old objects.new) }
-{
-    match object {
-        Object::Directory => objects.hold_at(path),
-        Object::Lower => objects.hold_at(path),
-        Object::Upper { key, last: _ } => objects.hold_key(key),
-        Object::Other => unreachable!(),
-    }
-}
 
 impl<F: Callback, R: Rule> Notifier<F, R> {
     /// Whether a slot of a client has a hook, and the mask an event and no bit that no arm takes; else it is EINVAL.
@@ -71,7 +55,7 @@ impl<F: Callback, R: Rule> Notifier<F, R> {
     {
         self.objects.lawful();
         self.watches.lawful();
-        let number = hold(&mut self.objects, path, object)?;
+        let number = hold_object(&mut self.objects, path, object)?;
         let before = self.watches.watchers(number);
         let outcome = self.watches.arm(alloc, client, slot, number, mask);
         let more = self.watches.watchers(number) - before;

@@ -4,13 +4,13 @@ use Rattle.std.proofs.lemmas.Bool.{cases_eq}
 use Rattle.ov_base.specs.declared.attributes.Attributes.{Attributes}
 use Rattle.plain_model.specs.Layers.{Name, Path}
 use Rattle.plain_model.specs.Laws.{IsOutside}
-use Rattle.plain_model.proofs.Paths.{outside-parent, parent-outside, place}
+use Rattle.plain_model.proofs.Paths.{outside-parent, parent-outside, place, cases_pair}
 use Rattle.open_handles.specs.declared.dentry.Place.{Place}
 use Rattle.open_handles.specs.declared.dentry.Place.TheVariants.{Root, In, Removed}
 use Rattle.open_handles.specs.Dentries.{Dentries, ROOT, place_at, child, StandsAt, Stands, IsTree}
 use Rattle.open_handles.specs.Steps.{IsListed, Exchanges, Displaces, Relists}
 use Rattle.open_handles.proofs.Standing.{one_path, one_there}
-use Rattle.open_handles.proofs.Moving.{cases_pair, no_parent}
+use Rattle.open_handles.proofs.Moving.{no_parent}
 use Rattle.open_handles.proofs.Walking.{step_up}
 
 -- nothing stands below a directory without children

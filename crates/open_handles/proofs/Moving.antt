@@ -6,31 +6,13 @@ use Rattle.std.proofs.lemmas.Bool.{cases_eq}
 use Rattle.slab.specs.Slab.{get}
 use Rattle.ov_base.specs.declared.attributes.Attributes.{Attributes}
 use Rattle.plain_model.specs.Layers.{Name, Path}
+use Rattle.plain_model.proofs.Paths.{cases_pair}
 use Rattle.open_handles.specs.declared.dentry.Dentry.{Dentry}
 use Rattle.open_handles.specs.declared.dentry.Place.{Place}
 use Rattle.open_handles.specs.declared.dentry.Place.TheVariants.{Root, In, Removed}
 use Rattle.open_handles.specs.Dentries.{Dentries, ROOT, place_at, held, child_in, child, StandsAt, Stands, HasChild, IsTree}
 use Rattle.open_handles.specs.Steps.{SameEntries, Adds, Unlinks, Counts, KeepsPaths}
 use Rattle.open_handles.proofs.Entries.{Drops}
-
--- two names are one or not
-same_name : (m n : Name) → (m ≡ n) ⊎ (m ≢ n)
-same_name [] [] = inl refl
-same_name [] (y ∷ ys) = inr (λ e. cc)
-same_name (x ∷ xs) [] = inr (λ e. cc)
-same_name (x ∷ xs) (y ∷ ys) =
-    elim (cases_eq x y) [
-      | inl same ↦ elim (same_name xs ys) [ inl tail ↦ inl (cc) | inr differs ↦ inr (λ e. differs (cc)) ]
-      | inr differs ↦ inr (λ e. differs (cc))
-    ]
-
--- a name of an entry is this one of that entry, or not
-pub cases_pair : (e d : ℕ) (m n : Name) → ((e ≡ d) × (m ≡ n)) ⊎ ((e ≡ d) → (m ≡ n) → ⊥)
-cases_pair e d m n =
-    elim (cases_eq e d) [
-      | inl same ↦ elim (same_name m n) [ inl f ↦ inl (same, f) | inr g ↦ inr (λ _ f. g f) ]
-      | inr g ↦ inr (λ h _. g h)
-    ]
 
 -- a tree in which nothing is idle may have something idle
 pub tree-any : (t : Dentries) (k : ℕ) → IsTree t ROOT → IsTree t k

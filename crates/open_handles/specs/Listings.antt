@@ -1,14 +1,14 @@
 -- What descriptors lead to, and the listings of open directories.
-use Rattle.std.specs.Prelude.{◌≡◌, ℕ, List, [], Option, Some, None, Result, IfOk, IfErr, OnOk, OnErr, IsSome, option_map, take, drop, unwrap_or, ◌<◌, ◌⊎◌, vec_len, vec_capacity}
+use Rattle.std.specs.Prelude.{◌≡◌, ℕ, List, [], Option, Some, None, Result, IfOk, IfErr, OnOk, OnErr, option_map, take, drop, unwrap_or, ◌<◌, ◌⊎◌, vec_len, vec_capacity}
 use Rattle.std.specs.declared.alloc.AllocError.{AllocError}
 use Rattle.ov_base.specs.declared.errno.Errno.{Errno}
-use Rattle.ov_base.specs.declared.errno.Errno.TheVariants.{EBADF, EMFILE}
+use Rattle.ov_base.specs.declared.errno.Errno.TheVariants.{EBADF}
 use Rattle.open_handles.specs.declared.handle.Handle.{Handle}
 use Rattle.open_handles.specs.declared.handle.Handle.TheVariants.{Directory, File}
 use Rattle.open_handles.specs.declared.handle.OpenDirectory.{OpenDirectory}
 use Rattle.open_handles.specs.declared.open_file.OpenFile.{OpenFile}
 use Rattle.open_handles.specs.declared.descriptors.Descriptors.{Descriptors}
-use Rattle.open_handles.specs.Descriptors.{opened, SetsSlot, IsLowestFree, IsFull}
+use Rattle.open_handles.specs.Descriptors.{opened, SetsSlot, IsLowestFree}
 
 -- the directory that a handle is on, and the file
 abbrev pub directory_in : Option Handle → Option OpenDirectory
@@ -53,23 +53,20 @@ abbrev pub ChangesSlot : List (Option Handle) → List (Option Handle) → ℕ �
 ChangesSlot old new d change = SetsSlot old new d (option_map change (opened old d))
 
 -- there is room for a handle under the lowest free descriptor
-pub record HasRoom (d : Descriptors) : Type 0 where
-  pub slot : ℕ
-  pub lowest : IsLowestFree d.slots.items slot
-  pub room : (slot < vec_len d.slots) ⊎ (vec_len d.slots < vec_capacity d.slots)
+pub record HasRoom (ds : Descriptors) (d : ℕ) : Type 0 where
+  pub lowest : IsLowestFree ds.slots.items d
+  pub room : (d < vec_len ds.slots) ⊎ (vec_len ds.slots < vec_capacity ds.slots)
 
--- a handle is opened under the lowest free descriptor, or refused where 64 are open; any failure changes nothing
-pub record Opens (old new : List (Option Handle)) (handle : Handle) (result : Result (Result ℕ Errno) AllocError) : Type 0 where
-  pub lowest : IfOk result (λ opening. IfOk opening (IsLowestFree old))
-  pub opens : IfOk result (λ opening. IfOk opening (λ d. SetsSlot old new d (Some handle)))
-  pub full : IfOk result (λ opening. IfErr opening (λ errno. (errno ≡ EMFILE) × IsFull old))
-  pub refused : IfOk result (λ opening. OnErr opening (new ≡ old))
+-- a handle is opened under the lowest free descriptor; an allocation failure changes nothing
+pub record Opens (old new : List (Option Handle)) (d : ℕ) (handle : Handle) (result : Result (Unit {0}) AllocError) : Type 0 where
+  pub lowest : IsLowestFree old d
+  pub opens : OnOk result (SetsSlot old new d (Some handle))
   pub err : OnErr result (new ≡ old)
 
--- an open descriptor is closed, and no other
-pub record Closes (old new : List (Option Handle)) (d : ℕ) (result : Result (Unit {0}) Errno) : Type 0 where
+-- an open descriptor is closed, and no other; the result is what it led to
+pub record Closes (old new : List (Option Handle)) (d : ℕ) (result : Result Handle Errno) : Type 0 where
   pub closes : OnOk result (SetsSlot old new d None)
-  pub was_open : OnOk result (IsSome (opened old d))
+  pub was_open : IfOk result (λ h. opened old d ≡ Some h)
   pub not_open : IfErr result (λ errno. (errno ≡ EBADF) × (opened old d ≡ None))
   pub refused : OnErr result (new ≡ old)
 

@@ -1,10 +1,10 @@
 // The descriptors of a client.
-ghost use Rattle.std.specs.Prelude.{◌≡◌, ◌≤◌, ◌<◌, [], Some, None, true, Ok, Err, IfOk, OnOk, OnErr, IfSome, IfErr, ℕ, MatchOption, MatchResult, option_copied, is_some, length, take, IsSome, option_map, vec_len};
+ghost use Rattle.std.specs.Prelude.{◌≡◌, ◌≤◌, ◌<◌, [], Some, None, true, Ok, OnOk, IfSome, IfNone, ℕ, option_copied, is_some, length, take, IsSome, vec_len};
 ghost use Rattle.open_handles.specs.Descriptors.{opened, SetsSlot, IsFull, IsLowestFree};
 
 use crate::handle::{Handle, OpenDirectory};
 use dir_listing::Cursor;
-use ov_base::{Errno, NameList};
+use ov_base::NameList;
 use std::alloc::{AllocError, Global};
 
 /// The most descriptors of a client.
@@ -18,7 +18,7 @@ pub struct Descriptors {
 }
 
 impl Descriptors {
-    ghost use Rattle.open_handles.specs.Listings.{HasRoom, ChangesSlot, Opens, Closes, GivesNames, with_listing, with_place, open_directory, open_file};
+    ghost use Rattle.open_handles.specs.Listings.{HasRoom, ChangesSlot, Opens, GivesNames, with_listing, with_place, open_directory, open_file};
 
     /// No descriptors.
     pub fn new(alloc: Global) -> Descriptors
@@ -29,51 +29,57 @@ impl Descriptors {
         }
     }
 
-    /// Opens a handle under the lowest free descriptor and gives it. Where 64 are open it is EMFILE. Any failure changes nothing.
-    pub fn open(&mut self, handle: Handle) -> Result<Result<u32, Errno>, AllocError>
-        ensures { Opens self.old.slots.items self.new.slots.items handle result }
+    /// The lowest free descriptor, unless all 64 are open.
+    pub fn lowest_free(&self) -> Option<u32>
+        ensures free { IfSome result (IsLowestFree self.now.slots.items) }
+        ensures full { IfNone result (IsFull self.now.slots.items) }
     {
         let slot = first_free(self.slots.as_slice());
-        if slot >= DESCRIPTORS_MAX {
-            return Ok(Err(Errno::EMFILE));
+        if slot < DESCRIPTORS_MAX {
+            Some(slot as u32)
+        } else {
+            None
         }
+    }
+
+    /// Opens a handle under the lowest free descriptor. An allocation failure changes nothing.
+    pub fn open(&mut self, descriptor: u32, handle: Handle) -> Result<(), AllocError>
+        requires { IsLowestFree self.old.slots.items descriptor }
+        ensures { Opens self.old.slots.items self.new.slots.items descriptor handle result }
+    {
+        let slot = descriptor as usize;
         if slot < self.slots.len() {
             self.slots[slot] = Some(handle);
         } else {
             self.slots.push(Some(handle))?;
         }
-        Ok(Ok(slot as u32))
+        Ok(())
     }
 
-    /// Makes room for a handle, so that the next `open_reserved` takes no memory. Where 64 are open it is EMFILE. Nothing is opened.
-    pub fn reserve(&mut self) -> Result<Result<(), Errno>, AllocError>
+    /// Makes room for a handle under the lowest free descriptor, so that the next `open_reserved`
+    /// takes no memory. Nothing is opened.
+    pub fn reserve(&mut self, descriptor: u32) -> Result<(), AllocError>
+        requires { IsLowestFree self.old.slots.items descriptor }
         ensures same { self.new.slots.items ≡ self.old.slots.items }
-        ensures room { IfOk result (λ reserving. OnOk reserving (HasRoom self.new)) }
-        ensures full { IfOk result (λ reserving. IfErr reserving (λ errno. (errno ≡ Errno.EMFILE) × IsFull self.old.slots.items)) }
+        ensures room { OnOk result (HasRoom self.new descriptor) }
     {
-        let slot = first_free(self.slots.as_slice());
-        if slot >= DESCRIPTORS_MAX {
-            return Ok(Err(Errno::EMFILE));
-        }
-        if slot == self.slots.len() {
+        if descriptor as usize == self.slots.len() {
             self.slots.reserve(1)?;
         }
-        Ok(Ok(()))
+        Ok(())
     }
 
-    /// Opens a handle under the lowest free descriptor, for which there is room, and gives it.
-    pub fn open_reserved(&mut self, handle: Handle) -> u32
-        requires { HasRoom self.old }
-        ensures lowest { IsLowestFree self.old.slots.items result }
-        ensures opens { SetsSlot self.old.slots.items self.new.slots.items result (Some handle) }
+    /// Opens a handle under the lowest free descriptor, for which there is room.
+    pub fn open_reserved(&mut self, descriptor: u32, handle: Handle)
+        requires { HasRoom self.old descriptor }
+        ensures { SetsSlot self.old.slots.items self.new.slots.items descriptor (Some handle) }
     {
-        let slot = first_free(self.slots.as_slice());
+        let slot = descriptor as usize;
         if slot < self.slots.len() {
             self.slots[slot] = Some(handle);
         } else {
             self.slots.push_reserved(Some(handle));
         }
-        slot as u32
     }
 
     /// What stands open under a descriptor.
@@ -143,29 +149,18 @@ impl Descriptors {
         }
     }
 
-    /// Takes what stands open under a descriptor out, which is free then.
+    /// Takes what stands open under a descriptor out, which is free then. Where nothing
+    /// does, nothing changes.
     pub fn take(&mut self, descriptor: u32) -> Option<Handle>
         ensures value { result ≡ opened self.old.slots.items descriptor }
         ensures slot { SetsSlot self.old.slots.items self.new.slots.items descriptor None }
+        ensures none { IfNone result (self.new.slots.items ≡ self.old.slots.items) }
     {
         let slot = descriptor as usize;
         if slot < self.slots.len() {
             self.slots[slot].take()
         } else {
             None
-        }
-    }
-
-    /// Closes a descriptor. One that isn't open is EBADF.
-    pub fn close(&mut self, descriptor: u32) -> Result<(), Errno>
-        ensures { Closes self.old.slots.items self.new.slots.items descriptor result }
-    {
-        let slot = descriptor as usize;
-        if slot < self.slots.len() && self.slots[slot].is_some() {
-            self.slots[slot] = None;
-            Ok(())
-        } else {
-            Err(Errno::EBADF)
         }
     }
 }

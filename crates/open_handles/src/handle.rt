@@ -1,6 +1,6 @@
 // What a descriptor leads to.
 ghost use Rattle.std.specs.Prelude.{◌≡◌, IfOk, OnOk, OnErr, Some, option_map, drop, take};
-ghost use Rattle.open_handles.specs.Listings.{names_left};
+ghost use Rattle.open_handles.specs.Listings.{file_in, names_left};
 
 use crate::open_file::OpenFile;
 use dir_listing::Cursor;
@@ -19,6 +19,18 @@ pub struct OpenDirectory {
 pub enum Handle {
     Directory(OpenDirectory),
     File(OpenFile),
+}
+
+impl Handle {
+    /// The file, if it is on one.
+    pub fn file(&self) -> Option<OpenFile>
+        ensures { result ≡ file_in (Some self.now) }
+    {
+        match self {
+            Handle::File(file) => Some(*file),
+            Handle::Directory(_) => None,
+        }
+    }
 }
 
 impl OpenDirectory {

@@ -1,7 +1,8 @@
 -- How the pieces of a path text follow one another, and a path by its last name.
-use Rattle.std.proofs.Common.{◌≡◌, ◌++◌, ◌+◌, ◌<◌, ℕ, List, [], ◌∷◌, Option, Some, None, Bool, true, false, cond, Result, Ok, Err, nat_eq, nat_lt, ◌≤◌, position, take, drop, length, reverse, MatchOption, refl, sym, ap, ◌∙◌, arith}
-use Rattle.std.specs.List.{position_or_len}
-use Rattle.std.proofs.lemmas.Bool.{ltb-true, ltb-false}
+use Rattle.std.proofs.Common.{◌≡◌, ◌++◌, ◌+◌, ◌<◌, ℕ, List, [], ◌∷◌, Option, Some, None, Bool, true, false, cond, Result, Ok, Err, nat_eq, position, take, drop, length, reverse, MatchOption, refl, sym, ap, ◌∙◌, arith, inl, inr, lt-ltb}
+use Rattle.std.specs.List.{All, position_or_len}
+use Rattle.std.proofs.lemmas.Bool.{cases_lt, ltb-true}
+use Rattle.std.proofs.lemmas.Option.{cond_some, none-some}
 use Rattle.std.proofs.lemmas.List.{reverse-reverse, reverse-append, length-reverse}
 use Rattle.std.proofs.lemmas.List.Sums.{fails_before_first}
 use Rattle.std.proofs.lemmas.List.Splits.{slice_split_none, slice_split_first}
@@ -9,25 +10,16 @@ use Rattle.ov_base.specs.declared.errno.Errno.{Errno}
 use Rattle.ov_base.specs.Names.{is_name, name_fault, name_of}
 use Rattle.ov_base.specs.Paths.{pieces, path_below}
 
--- where a test lets a value through
-some_of_cond : (b : Bool) (i k : ℕ) → cond b (Some i) None ≡ Some k → (b ≡ true) × (i ≡ k)
-some_of_cond true i k e = (refl, cc)
-some_of_cond false i k e = cc
-
--- the same for a test that is known
-not_some_of_test : (a b i : ℕ) (t : Bool) → nat_lt a b ≡ t → cond t (Some i) None ≡ None → b ≤ a
-not_some_of_test a b i true is e = cc
-not_some_of_test a b i false is e = ltb-false a b is
-
--- where a test lets nothing through
-not_some_of_cond : (a b i : ℕ) → cond (nat_lt a b) (Some i) None ≡ None → b ≤ a
-not_some_of_cond a b i e = not_some_of_test a b i (nat_lt a b) refl e
+-- where a search finds nothing, nothing passes
+pub none-passes : {X : Type 0} (p : X → Bool) (xs : List X) → position p xs ≡ None → All (λ x. p x ≡ false) xs
+none-passes p xs none k d lt = elim (cases_lt (position_or_len p xs) (length xs)) [
+  | inl inside ↦ absurd (none-some (position_or_len p xs) (sym (rw (lt-ltb (position_or_len p xs) (length xs) inside) at none)))
+  | inr past ↦ fails_before_first p xs k d (omega arith)
+]
 
 -- a text without '/' is one piece
 pub pieces-whole : (text : List ℕ) → position (λ b. nat_eq b 47) text ≡ None → pieces text ≡ text ∷ []
-pieces-whole text none =
-    let not_below : length text ≤ position_or_len (λ b. nat_eq b 47) text = not_some_of_cond _ _ _ none in
-    slice_split_none _ text (λ k d lt. let before : k < position_or_len (λ b. nat_eq b 47) text = omega arith in fails_before_first _ text k d before)
+pieces-whole text none = slice_split_none _ text (none-passes _ text none)
 
 -- the same of a search that finds no '/'
 pub pieces-none : (found : Option ℕ) (text : List ℕ) → found ≡ position (λ b. nat_eq b 47) text → ((place : ℕ) → found ≡ Some place → ⊥) → pieces text ≡ text ∷ []
@@ -37,7 +29,7 @@ pieces-none (Some place) text e never = absurd (never place refl)
 -- a text is the piece before its first '/', and the pieces of what follows
 pub pieces-first : (text : List ℕ) (place : ℕ) → position (λ b. nat_eq b 47) text ≡ Some place → pieces text ≡ take place text ∷ pieces (drop (place + 1) text)
 pieces-first text place found =
-    let there = some_of_cond _ _ _ found in
+    let there = cond_some _ _ _ found in
     let within : position_or_len (λ b. nat_eq b 47) text < length text = ltb-true _ _ there.0 in
     let zero : ℕ = 0 in
     slice_split_first (λ b. nat_eq b 47) text zero within ∙ ap (λ k. take k text ∷ pieces (drop (k + 1) text)) there.1

@@ -4,5 +4,7 @@ pub mod Framed
 pub mod Joined
 pub mod Kept
 pub mod Pieces
+pub mod Replied
 pub mod Spelled
+pub mod Values
 pub mod WorkedRows

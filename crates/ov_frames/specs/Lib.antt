@@ -5,8 +5,10 @@ pub mod Frames
 pub mod Fronts
 pub mod Gives
 pub mod Kept
+pub mod Reading
 pub mod Replies
 pub mod Requests
 pub mod Streams
 pub mod Told
+pub mod Values
 pub mod Rows

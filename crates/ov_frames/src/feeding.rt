@@ -110,7 +110,8 @@ pub(crate) fn feed_piece(alloc: Global, held: &mut Vec<u8>, piece: &[u8]) -> Res
     requires { streams.front_of held.old.items ≡ Begun }
     ensures ok { IfOk result (λ fed. Spells (held.old.items ++ piece.now) fed.requests.items
         (left_of fed.fault held.new.items)) }
-    ensures begun { IfOk result (λ fed. ForNone fed.fault (streams.front_of held.new.items ≡ Begun)) }
+    ensures begun { IfOk result (λ fed.
+        ForNone fed.fault (streams.front_of held.new.items ≡ Begun)) }
     ensures err { OnErr result (take (length held.old.items) held.new.items ≡ held.old.items) }
 {
     let mut requests = Vec::new(alloc);

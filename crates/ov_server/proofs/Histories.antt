@@ -12,16 +12,17 @@ use Rattle.std.proofs.lemmas.Map.Steps.{length-le_from_keys}
 use Rattle.ov_base.specs.declared.errno.Errno.{Errno}
 use Rattle.ov_base.specs.declared.errno.Errno.TheVariants.{EINVAL, ENFILE, ENOSPC}
 use Rattle.ov_base.specs.declared.options.Options.{Options}
-use Rattle.mount_calls.specs.Attaching.{Attaches, Detaches, KeepsAttached, is_attached}
+use Rattle.mount_calls.specs.Attaching.{Attaches, Detaches, KeepsAttached}
 use Rattle.overlay_core.specs.Jobs.{finished_after}
 use Rattle.overlay_core.specs.Mounting.{mount_fault}
+use Rattle.overlay_core.specs.Views.{client_count, core_clients, core_finished, core_options, core_room, has_client, next_client}
 use Rattle.overlay_core.specs.declared.mounted.Core.{Core}
 use Rattle.watch_table.specs.declared.hook.Callback.{Ghosts as Callback}
 use Rattle.watch_table.specs.declared.hook.Rule.{Ghosts as Rule}
 use Rattle.overlay_core.specs.declared.mounted.MountFault.TheVariants.{NoLower, TooManyLowers, BadHistory}
 use Rattle.overlay_core.specs.declared.mounted.Turn.{Turn}
 use Rattle.overlay_core.specs.declared.mounted.Turn.TheVariants.{More, Done, NoMemory}
-use Rattle.ov_server.specs.Histories.{AreAttached, HasPlaces, attach_refusal, room}
+use Rattle.ov_server.specs.Histories.{AreAttached, HasPlaces, attach_refusal}
 use Rattle.ov_server.specs.Plays.{IsRosterOf}
 use Rattle.ov_server.specs.Rosters.{nobody}
 
@@ -61,15 +62,15 @@ most_but_one m n x ks once found =
     by q has (inr e) = rw (ne_eqb q n e) (entry_there m q (found q has e))
 
 -- clients that are attached are at most as many as the map has
-most : {F G : Type 0} {asks : Callback F} {rule : Rule G} (m : Core F G asks rule) (clients : List ℕ) → AreAttached m clients → length clients ≤ btree_map_len m.watched.mount.clients.attached
-most m clients are = most_found m.watched.mount.clients.attached clients are.once are.attached
+most : {F G : Type 0} {asks : Callback F} {rule : Rule G} (m : Core F G asks rule) (clients : List ℕ) → AreAttached m clients → length clients ≤ client_count m
+most m clients are = most_found (core_clients m).attached clients are.once are.attached
 
 -- after an attach they are at most one more
-most_with : {F G : Type 0} {asks : Callback F} {rule : Rule G} (old new : Core F G asks rule) (n : ℕ) → Attaches old.watched.mount.clients new.watched.mount.clients n → (clients : List ℕ) → AreAttached new clients → length clients ≤ btree_map_len old.watched.mount.clients.attached + 1
-most_with old new n a clients are = most_but_one old.watched.mount.clients.attached n a.descriptors clients are.once (λ q has e. ap any (sym (a.others q e)) ∙ are.attached q has)
+most_with : {F G : Type 0} {asks : Callback F} {rule : Rule G} (old new : Core F G asks rule) (n : ℕ) → Attaches (core_clients old) (core_clients new) n → (clients : List ℕ) → AreAttached new clients → length clients ≤ client_count old + 1
+most_with old new n a clients are = most_but_one (core_clients old).attached n a.descriptors clients are.once (λ q has e. ap any (sym (a.others q e)) ∙ are.attached q has)
 
 -- a client that is detached was attached beside those that are attached still
-with_detached : {F G : Type 0} {asks : Callback F} {rule : Rule G} (old new : Core F G asks rule) (n : ℕ) → is_attached old.watched.mount.clients n ≡ true → Detaches old.watched.mount.clients new.watched.mount.clients n → (clients : List ℕ) → AreAttached new clients → AreAttached old (n ∷ clients)
+with_detached : {F G : Type 0} {asks : Callback F} {rule : Rule G} (old new : Core F G asks rule) (n : ℕ) → has_client old n ≡ true → Detaches (core_clients old) (core_clients new) n → (clients : List ℕ) → AreAttached new clients → AreAttached old (n ∷ clients)
 with_detached old new n was d clients are = record {
   once = IsDistinct-cons nat_eq n clients (all_apart n clients (lacks (cases_Bool (list_any (nat_eq n) clients)))) are.once;
   attached = λ q has. by q has (cases_eq q n);
@@ -79,7 +80,7 @@ with_detached old new n was d clients are = record {
     lacks (inl e) = absurd (false≢true (sym (ap any d.gone) ∙ are.attached n e))
     lacks (inr e) = e
 
-    by : (q : ℕ) → list_any (nat_eq q) (n ∷ clients) ≡ true → (q ≡ n) ⊎ (q ≡ n → ⊥) → is_attached old.watched.mount.clients q ≡ true
+    by : (q : ℕ) → list_any (nat_eq q) (n ∷ clients) ≡ true → (q ≡ n) ⊎ (q ≡ n → ⊥) → has_client old q ≡ true
     by q has (inl e) = rw e was
     by q has (inr e) = ap any (sym (d.others q e)) ∙ are.attached q (sym (ap (λ b. b || list_any (nat_eq q) clients) (ne_eqb q n e)) ∙ has)
 
@@ -89,41 +90,50 @@ one_more More n k e = omega (arith, e)
 one_more (Done reply) n k e = omega (arith, e)
 one_more NoMemory n k e = omega (arith, e)
 
-module _ {F G : Type 0} {asks : Callback F} {rule : Rule G} (old new : Core F G asks rule) (same : new.options ≡ old.options) where
+module _ {F G : Type 0} {asks : Callback F} {rule : Rule G} (old new : Core F G asks rule) (same : core_options new ≡ core_options old) where
+  -- the history is as long as before
+  long : (core_options new).history ≡ (core_options old).history
+  long = ap (λ (o : Options). o.history) same
+
   -- clients that are attached after a call were attached before
-  were : KeepsAttached old.watched.mount.clients new.watched.mount.clients → (clients : List ℕ) → AreAttached new clients → AreAttached old clients
+  were : KeepsAttached (core_clients old) (core_clients new) → (clients : List ℕ) → AreAttached new clients → AreAttached old clients
   were kept clients are = record { once = are.once; attached = λ n has. sym (kept.attached n) ∙ are.attached n has }
 
   -- what finishes nothing leaves a place for each detach
-  pub kept_places : KeepsAttached old.watched.mount.clients new.watched.mount.clients → new.finished ≡ old.finished → HasPlaces old → HasPlaces new
-  kept_places kept none h = (rw same h.0, λ clients are. rw (same, none) (h.1 clients (were kept clients are)))
+  pub kept_places : KeepsAttached (core_clients old) (core_clients new) → core_finished new ≡ core_finished old → HasPlaces old → HasPlaces new
+  kept_places kept none h = (
+    omega (arith, long, h.0),
+    λ clients are.
+        let all = h.1 clients (were kept clients are) in
+        omega (arith, long, none, all),
+  )
 
   -- a call that has a place leaves one for each detach
-  pub step_places : (t : Turn) → KeepsAttached old.watched.mount.clients new.watched.mount.clients → 0 < room old → new.finished ≡ finished_after t old.finished → HasPlaces old → HasPlaces new
+  pub step_places : (t : Turn) → KeepsAttached (core_clients old) (core_clients new) → 0 < core_room old → core_finished new ≡ finished_after t (core_finished old) → HasPlaces old → HasPlaces new
   step_places t kept place is h = (
-    rw same h.0,
+    omega (arith, long, h.0),
     λ clients are.
         let fits = most old clients (were kept clients are) in
-        let one = one_more t old.finished new.finished is in
-        rw same (omega (arith, fits, place, one)),
+        let one = one_more t (core_finished old) (core_finished new) is in
+        omega (arith, long, fits, place, one),
   )
 
   -- an attach that has two places leaves one for each detach
-  pub attach_places : (n : ℕ) → Attaches old.watched.mount.clients new.watched.mount.clients n → 2 ≤ room old → new.finished ≡ old.finished + 1 → HasPlaces old → HasPlaces new
+  pub attach_places : (n : ℕ) → Attaches (core_clients old) (core_clients new) n → 2 ≤ core_room old → core_finished new ≡ core_finished old + 1 → HasPlaces old → HasPlaces new
   attach_places n a two one h = (
-    rw same h.0,
+    omega (arith, long, h.0),
     λ clients are.
         let fits = most_with old new n a clients are in
-        rw same (omega (arith, fits, two, one)),
+        omega (arith, long, fits, two, one),
   )
 
   -- a detach takes the place that was kept for it
-  pub detach_places : (n : ℕ) → is_attached old.watched.mount.clients n ≡ true → Detaches old.watched.mount.clients new.watched.mount.clients n → new.finished ≡ old.finished + 1 → HasPlaces old → HasPlaces new
+  pub detach_places : (n : ℕ) → has_client old n ≡ true → Detaches (core_clients old) (core_clients new) n → core_finished new ≡ core_finished old + 1 → HasPlaces old → HasPlaces new
   detach_places n was d one h = (
-    rw same h.0,
+    omega (arith, long, h.0),
     λ clients are.
         let all = h.1 (n ∷ clients) (with_detached old new n was d clients are) in
-        rw same (omega (arith, all, one)),
+        omega (arith, long, all, one),
   )
 
 -- an attach that is not refused has two places
@@ -137,8 +147,8 @@ two_left false true true e = cc
 two_left false true false e = refl
 two_left false false few_places e = cc
 
-pub two_places : {F G : Type 0} {asks : Callback F} {rule : Rule G} (m : Core F G asks rule) (hooks : ℕ) (said : Option Errno) → said ≡ attach_refusal m hooks → ((errno : Errno) → said ≡ Some errno → ⊥) → 2 ≤ room m
-two_places m hooks said is not = ltb-false (room m) 2 (two_left (nat_lt 16 hooks) (nat_lt (btree_map_len m.watched.mount.clients.attached) 64) (nat_lt (room m) 2) (sym is ∙ none_said said not))
+pub two_places : {F G : Type 0} {asks : Callback F} {rule : Rule G} (m : Core F G asks rule) (hooks : ℕ) (said : Option Errno) → said ≡ attach_refusal m hooks → ((errno : Errno) → said ≡ Some errno → ⊥) → 2 ≤ core_room m
+two_places m hooks said is not = ltb-false (core_room m) 2 (two_left (nat_lt 16 hooks) (nat_lt (client_count m) 64) (nat_lt (core_room m) 2) (sym is ∙ none_said said not))
 
 -- the history of layers that are a mount isn't too long
 not_long : (none many short long : Bool) → cond none (Some NoLower) (cond many (Some TooManyLowers) (cond (short || long) (Some BadHistory) None)) ≡ None → long ≡ false
@@ -152,18 +162,18 @@ pub bounded : (lowers : ℕ) (o : Options) → mount_fault lowers o ≡ None →
 bounded lowers o e = ltb-false 1000000 o.history (not_long (nat_eq lowers 0) (nat_lt 16 lowers) (nat_lt o.history 2) (nat_lt 1000000 o.history) e)
 
 -- a new mount has a place for each detach
-pub first_places : {F G : Type 0} {asks : Callback F} {rule : Rule G} (m : Core F G asks rule) → m.options.history ≤ 1000000 → m.finished ≡ 0 → ((n : ℕ) → is_attached m.watched.mount.clients n ≢ true) → HasPlaces m
+pub first_places : {F G : Type 0} {asks : Callback F} {rule : Rule G} (m : Core F G asks rule) → (core_options m).history ≤ 1000000 → core_finished m ≡ 0 → ((n : ℕ) → has_client m n ≢ true) → HasPlaces m
 first_places m short none nobody = (short, fits)
   where
-    fits : (clients : List ℕ) → AreAttached m clients → m.finished + length clients ≤ m.options.history
-    fits [] are = rw none (omega arith)
+    fits : (clients : List ℕ) → AreAttached m clients → core_finished m + length clients ≤ (core_options m).history
+    fits [] are = omega (arith, none)
     fits (n ∷ clients) are = absurd (nobody n (are.attached n (ap (λ b. b || list_any (nat_eq n) clients) (nat_eq_equiv.refl n))))
 
 -- nobody is attached to a new mount, and no number was given
-pub begun : {F G : Type 0} {asks : Callback F} {rule : Rule G} (m : Core F G asks rule) → m.finished ≡ 0 → ((n : ℕ) → is_attached m.watched.mount.clients n ≢ true) → IsRosterOf m nobody
-begun m none absent = record {
-  attached = λ client. none_there client (is_attached m.watched.mount.clients client) (absent client);
-  next = let given = m.given in omega (arith, given, none);
+pub begun : {F G : Type 0} {asks : Callback F} {rule : Rule G} (m : Core F G asks rule) → next_client m ≡ 0 → ((n : ℕ) → has_client m n ≢ true) → IsRosterOf m nobody
+begun m first absent = record {
+  attached = λ client. none_there client (has_client m client) (absent client);
+  next = first;
 }
   where
     none_there : (client : ℕ) (b : Bool) → b ≢ true → false ≡ b
@@ -171,7 +181,7 @@ begun m none absent = record {
     none_there client true h = absurd (h refl)
 
 -- where there is a place for each detach, the number of deeds fits
-pub few : {F G : Type 0} {asks : Callback F} {rule : Rule G} (m : Core F G asks rule) → HasPlaces m → m.finished + 1 < 2 ^ 63
+pub few : {F G : Type 0} {asks : Callback F} {rule : Rule G} (m : Core F G asks rule) → HasPlaces m → core_finished m + 1 < 2 ^ 63
 unfolding IsDistinct
 few m h =
     let fits = h.1 [] (record { once = tt; attached = λ n has. absurd (false≢true has) }) in

@@ -1,12 +1,14 @@
 -- How the play of a script goes on from line to line.
-use Rattle.std.proofs.Common.{◌≡◌, ◌+◌, ◌<◌, ◌≤◌, ℕ, List, [], ◌∷◌, ◌++◌, Option, Some, None, Bool, true, false, cond, nat_eq, nat_lt, position, get_or, take, drop, length, refl, sym, ap, ◌∙◌, arith, append_assoc, append-nil, length-append, subst, IfErr, IfSome, MatchOption, OnOk, Result, Ok, Err, inl, inr}
+use Rattle.std.proofs.Common.{◌≡◌, ◌+◌, ◌<◌, ◌≤◌, ℕ, List, [], ◌∷◌, ◌++◌, Option, Some, None, Bool, true, false, nat_eq, position, get_or, take, drop, length, refl, sym, ap, ◌∙◌, arith, append_assoc, append-nil, length-append, subst, IfErr, IfSome, MatchOption, OnOk, Result, Ok, Err, inl, inr}
 use Rattle.std.specs.List.{All, position_or_len}
 use Rattle.std.specs.Io.KnownBytes.{Consumes, IsAtEnd, Keeps}
-use Rattle.std.proofs.lemmas.Bool.{ltb-true, ltb-false}
+use Rattle.std.proofs.lemmas.Bool.{ltb-true}
+use Rattle.std.proofs.lemmas.Option.{cond_some}
 use Rattle.std.proofs.lemmas.List.{get_or-take, length-take}
 use Rattle.std.proofs.lemmas.List.Elements.{All-append, All-nil}
 use Rattle.std.proofs.lemmas.List.Sums.{fails_before_first, passes_at_first, split_at_first}
 use Rattle.std.proofs.lemmas.List.Splits.{slice_split_none, slice_split_at}
+use Rattle.ov_base.proofs.PathLemmas.{none-passes}
 use Rattle.overlay_core.specs.declared.mounted.Core.{Core}
 use Rattle.watch_table.specs.declared.hook.Callback.{Ghosts as Callback}
 use Rattle.watch_table.specs.declared.hook.Rule.{Ghosts as Rule}
@@ -30,16 +32,6 @@ pub record AtBreak (text front after : List ℕ) : Type 0 where
   pub cut : text ≡ front ++ break ∷ after
   pub front_unbroken : NoBreak front
 
--- where a test lets a value through
-some_of_cond : (b : Bool) (i k : ℕ) → Some k ≡ cond b (Some i) None → (b ≡ true) × (i ≡ k)
-some_of_cond true i k e = (refl, cc)
-some_of_cond false i k e = cc
-
--- where a search finds nothing
-none_of_cond : (a b i : ℕ) (t : Bool) → nat_lt a b ≡ t → None ≡ cond t (Some i) None → b ≤ a
-none_of_cond a b i true is e = cc
-none_of_cond a b i false is e = ltb-false a b is
-
 -- before the first line break there is none
 front_unbroken_to : (text : List ℕ) (n : ℕ) → n ≤ position_or_len (λ b. nat_eq b 10) text → n ≤ length text → NoBreak (take n text)
 front_unbroken_to text n le within k d lt =
@@ -50,7 +42,7 @@ front_unbroken_to text n le within k d lt =
 -- a text at the line break that a search finds
 pub at_break : (text : List ℕ) (place : ℕ) → Some place ≡ position (λ b. nat_eq b 10) text → AtBreak text (take place text) (drop (place + 1) text)
 at_break text place found =
-    let there = some_of_cond _ _ _ found in
+    let there = cond_some _ _ _ (sym found) in
     let p : ℕ → Bool = λ b. nat_eq b 10 in
     let within : position_or_len p text < length text = ltb-true _ _ there.0 in
     let zero : ℕ = 0 in
@@ -65,10 +57,7 @@ at_break text place found =
 
 -- a text in which a search finds no line break
 pub no_break : (text : List ℕ) → None ≡ position (λ b. nat_eq b 10) text → NoBreak text
-no_break text none k d lt =
-    let past : length text ≤ position_or_len (λ b. nat_eq b 10) text = none_of_cond _ _ _ _ refl none in
-    let before : k < position_or_len (λ b. nat_eq b 10) text = omega arith in
-    fails_before_first (λ b. nat_eq b 10) text k d before
+no_break text none = none-passes (λ b. nat_eq b 10) text (sym none)
 
 -- the begun line ends at a line break
 line_cut : (begun front after more : List ℕ) (b : ℕ) → NoBreak begun → NoBreak front → nat_eq b 10 ≡ true → script_lines (begun ++ ((front ++ b ∷ after) ++ more)) ≡ (begun ++ front) ∷ script_lines (after ++ more)

@@ -2,27 +2,30 @@
 use Rattle.std.specs.Prelude.{◌≡◌, ℕ, List, Result, Ok, Err}
 use Rattle.ov_base.specs.declared.call.Call.{Call}
 use Rattle.ov_base.specs.declared.errno.Errno.{Errno}
-use Rattle.plain_model.specs.Watching.{Rule}
 use Rattle.plain_model.specs.Runs as runs
-use Rattle.notice_laws.specs.Notified.{Notified}
-use Rattle.mount_calls.specs.declared.mount.Mount.{Mount}
-use Rattle.overlay_core.specs.Watching.{Goes, Stays}
+use Rattle.overlay_core.specs.Views.{CoreGoes, CoreStays}
+use Rattle.overlay_core.specs.declared.mounted.Core.{Core}
+use Rattle.watch_table.specs.declared.hook.Callback.{Ghosts as Callback}
+use Rattle.watch_table.specs.declared.hook.Rule.{Ghosts as Rule}
 use Rattle.ov_server.specs.declared.answers.Answer.{Answer}
 use Rattle.ov_server.specs.declared.answers.Answer.TheVariants.{Attached, NotAttached, Replied, NotTaken}
 
 -- a call's reply is the machine's, and where it isn't taken each state that agreed agrees still
-abbrev pub CallGoes : Rule → Mount → Notified → ℕ → Call → Mount → Notified → Answer → Type 0
-CallGoes shows old k client call new l (Replied c reply) = Goes shows old k client (runs.Called call reply) new l
-CallGoes shows old k client call new l (NotTaken c errno) = Stays old k new l
-CallGoes shows old k client call new l _ = ⊥
+abbrev pub CallGoes : {F G : Type 0} {asks : Callback F} {rule : Rule G} →
+    Core F G asks rule → ℕ → Call → Core F G asks rule → Answer → Type 0
+CallGoes old client call new (Replied c reply) = CoreGoes old client (runs.Called call reply) new
+CallGoes old client call new (NotTaken c errno) = CoreStays old new
+CallGoes old client call new _ = ⊥
 
 -- the same of a call that is read so; where its path text is refused nothing changes
-abbrev pub TextGoes : Rule → Mount → Notified → ℕ → Result Call Errno → Mount → Notified → Answer → Type 0
-TextGoes shows old k client (Ok call) new l answer = CallGoes shows old k client call new l answer
-TextGoes shows old k client (Err errno) new l answer = (new ≡ old) × (l ≡ k)
+abbrev pub TextGoes : {F G : Type 0} {asks : Callback F} {rule : Rule G} →
+    Core F G asks rule → ℕ → Result Call Errno → Core F G asks rule → Answer → Type 0
+TextGoes old client (Ok call) new answer = CallGoes old client call new answer
+TextGoes old client (Err errno) new answer = new ≡ old
 
 -- a client comes with hooks of these tags, or each state that agreed agrees still
-abbrev pub AttachGoes : Rule → Mount → Notified → List ℕ → Mount → Notified → Answer → Type 0
-AttachGoes shows old k tags new l (Attached client) = Goes shows old k client (runs.Attached tags) new l
-AttachGoes shows old k tags new l (NotAttached errno) = Stays old k new l
-AttachGoes shows old k tags new l _ = ⊥
+abbrev pub AttachGoes : {F G : Type 0} {asks : Callback F} {rule : Rule G} →
+    Core F G asks rule → List ℕ → Core F G asks rule → Answer → Type 0
+AttachGoes old tags new (Attached client) = CoreGoes old client (runs.Attached tags) new
+AttachGoes old tags new (NotAttached errno) = CoreStays old new
+AttachGoes old tags new _ = ⊥

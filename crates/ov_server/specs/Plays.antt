@@ -1,10 +1,9 @@
 -- The place that a play of a script has come to.
-use Rattle.std.specs.Prelude.{◌≡◌, ℕ, Bool, true, false, List, ◌++◌, length, nat_eq, is_some, Result, Ok, Err, ◌⊎◌}
-use Rattle.std.specs.BTreeMap.{get}
+use Rattle.std.specs.Prelude.{◌≡◌, ℕ, Bool, true, false, List, ◌++◌, length, nat_eq, Result, Ok, Err, ◌⊎◌}
 use Rattle.std.specs.List.{All}
-use Rattle.std.specs.Ordering.{nat_cmp}
 use Rattle.merged_lookup.specs.Merged.{trees}
 use Rattle.ov_script.specs.declared.script.Command.{Command}
+use Rattle.overlay_core.specs.Views.{core_layers, has_client, next_client}
 use Rattle.overlay_core.specs.declared.mounted.Core.{Core}
 use Rattle.watch_table.specs.declared.hook.Callback.{Ghosts as Callback}
 use Rattle.watch_table.specs.declared.hook.Rule.{Ghosts as Rule}
@@ -23,12 +22,12 @@ use Rattle.ov_server.specs.Scripts.{IsBadLine, script_lines}
 
 -- how many layers a mount has
 abbrev pub layers_in : {F G : Type 0} {asks : Callback F} {rule : Rule G} → Core F G asks rule → ℕ
-layers_in m = length (trees m.watched.mount.layers)
+layers_in m = length (trees (core_layers m))
 
 -- the clients of a mount are those of a roster, and its next number is the same
 pub record IsRosterOf {F G : Type 0} {asks : Callback F} {rule : Rule G} (m : Core F G asks rule) (r : Roster) : Type 0 where
-  pub attached : (client : ℕ) → is_attached r client ≡ is_some (get nat_cmp m.watched.mount.clients.attached client)
-  pub next : m.watched.mount.clients.next ≡ r.next
+  pub attached : (client : ℕ) → is_attached r client ≡ has_client m client
+  pub next : next_client m ≡ r.next
 
 -- at the beginning nobody is attached
 abbrev pub BeginsOn : {F G : Type 0} {asks : Callback F} {rule : Rule G} → Core F G asks rule → Type 0
@@ -36,8 +35,8 @@ BeginsOn m = IsRosterOf m nobody
 
 -- a call leaves who is attached, and how many layers there are
 pub record KeepsClients {F G : Type 0} {asks : Callback F} {rule : Rule G} (old new : Core F G asks rule) : Type 0 where
-  pub attached : (client : ℕ) → is_some (get nat_cmp new.watched.mount.clients.attached client) ≡ is_some (get nat_cmp old.watched.mount.clients.attached client)
-  pub next : new.watched.mount.clients.next ≡ old.watched.mount.clients.next
+  pub attached : (client : ℕ) → has_client new client ≡ has_client old client
+  pub next : next_client new ≡ next_client old
   pub layers : layers_in new ≡ layers_in old
 
 -- a command was played: it is good, and the mount goes on as it says

@@ -1,13 +1,12 @@
 // One line of a script on a mount.
 ghost use Rattle.std.specs.Prelude.{◌≡◌, ◌+◌, ◌<◌, ◌≤◌, true, Some, None, Ok, IfErr, IfOk, OnErr, OnOk, length, map};
-ghost use Rattle.mount_calls.specs.Attaching.{is_attached};
 ghost use Rattle.ov_script.specs.declared.script.Command.TheVariants as asked;
 ghost use Rattle.ov_script.specs.Commands.{call_of};
-ghost use Rattle.overlay_core.specs.Watching.{Goes};
+ghost use Rattle.overlay_core.specs.Views.{CoreGoes, core_finished, core_room, has_client, next_client};
 ghost use Rattle.plain_model.specs.Runs as runs;
 ghost use Rattle.ov_server.specs.Deeds.{AttachGoes, CallGoes, TextGoes};
 ghost use Rattle.ov_server.specs.Histories as histories;
-ghost use Rattle.ov_server.specs.Histories.{AnswersAttach, AnswersCall, HasPlaces, call_refusal, room};
+ghost use Rattle.ov_server.specs.Histories.{AnswersAttach, AnswersCall, HasPlaces, call_refusal};
 ghost use Rattle.ov_server.specs.Rosters as rosters;
 ghost use Rattle.ov_server.specs.Plays as plays;
 ghost use Rattle.ov_server.specs.Plays.{CannotPlay, IsRefusal, PlaysCommand, PlaysLine, TellsLine};
@@ -40,7 +39,7 @@ pub fn play_line<W: Write, F: Callback + Copy, H: Rule>(
 ) -> Result<(), LineFault>
     requires { HasPlaces core.old }
     ensures places { HasPlaces core.new }
-    ensures counted { core.new.finished ≤ core.old.finished + 1 }
+    ensures counted { core_finished core.new ≤ core_finished core.old + 1 }
     ensures ok { OnOk result (PlaysLine core.old line.now core.new) }
     ensures err { IfErr result (IsRefusal core.old line.now) }
     ensures stream { TellsLine output.old.failed output.new.failed result }
@@ -72,7 +71,7 @@ fn play_command<W: Write, F: Callback + Copy, H: Rule>(
 ) -> Result<(), LineFault>
     requires { HasPlaces core.old }
     ensures places { HasPlaces core.new }
-    ensures counted { core.new.finished ≤ core.old.finished + 1 }
+    ensures counted { core_finished core.new ≤ core_finished core.old + 1 }
     ensures ok { OnOk result (PlaysCommand core.old command.entry core.new) }
     ensures err { IfErr result (plays.IsCommandRefusal core.old command.entry) }
     ensures stream { TellsLine output.old.failed output.new.failed result }
@@ -133,11 +132,13 @@ fn attached<F: Callback + Copy, H: Rule>(
 ) -> Answer
     requires { HasPlaces core.old }
     ensures places { HasPlaces core.new }
-    ensures counted { core.new.finished ≤ core.old.finished + 1 }
+    ensures counted { core_finished core.new ≤ core_finished core.old + 1 }
     ensures plays { PlaysCommand core.old asked.Attach core.new }
-    ensures answer { AnswersAttach (histories.attach_refusal core.old (length hooks.now)) core.old.watched.mount.clients.next result }
-    ensures refused { (errno : Errno) → histories.attach_refusal core.old (length hooks.now) ≡ Some errno → core.new ≡ core.old }
-    ensures goes { AttachGoes H.shows core.old.watched.mount core.old.watched.notifier (map (λ h. h.tag) hooks.now) core.new.watched.mount core.new.watched.notifier result }
+    ensures answer { AnswersAttach (histories.attach_refusal core.old (length hooks.now))
+        (next_client core.old) result }
+    ensures refused { (errno : Errno) →
+        histories.attach_refusal core.old (length hooks.now) ≡ Some errno → core.new ≡ core.old }
+    ensures goes { AttachGoes core.old (map (λ h. h.tag) hooks.now) core.new result }
 {
     if let Some(errno) = attach_refusal(core, hooks.len()) {
         return Answer::NotAttached { errno };
@@ -191,10 +192,10 @@ fn detached<F: Callback + Drop, H: Rule>(
 ) -> Result<Answer, BadCommand>
     requires { HasPlaces core.old }
     ensures places { HasPlaces core.new }
-    ensures counted { core.new.finished ≤ core.old.finished + 1 }
+    ensures counted { core_finished core.new ≤ core_finished core.old + 1 }
     ensures ok { OnOk result (PlaysCommand core.old (asked.Detach client) core.new) }
     ensures err { OnErr result (CannotPlay core.old (asked.Detach client)) }
-    ensures goes { OnOk result (Goes H.shows core.old.watched.mount core.old.watched.notifier client runs.Detached core.new.watched.mount core.new.watched.notifier) }
+    ensures goes { OnOk result (CoreGoes core.old client runs.Detached core.new) }
     ensures refused { OnErr result (core.new ≡ core.old) }
 {
     if !core.is_attached(client as u64) {
@@ -212,13 +213,14 @@ fn called<F: Callback, H: Rule>(
 ) -> Result<Answer, BadCommand>
     requires { HasPlaces core.old }
     ensures places { HasPlaces core.new }
-    ensures counted { core.new.finished ≤ core.old.finished + 1 }
+    ensures counted { core_finished core.new ≤ core_finished core.old + 1 }
     ensures ok { OnOk result (PlaysCommand core.old (asked.Call client text.now) core.new) }
     ensures err { OnErr result (CannotPlay core.old (asked.Call client text.now)) }
-    ensures answer { IfOk result (AnswersCall (call_refusal (room core.old) (call_of text.now)) client) }
-    ensures goes { IfOk result (TextGoes H.shows core.old.watched.mount core.old.watched.notifier client (call_of text.now) core.new.watched.mount core.new.watched.notifier) }
+    ensures answer { IfOk result (
+        AnswersCall (call_refusal (core_room core.old) (call_of text.now)) client) }
+    ensures goes { IfOk result (TextGoes core.old client (call_of text.now) core.new) }
     ensures refused { OnErr result (core.new ≡ core.old) }
-    ensures full { room core.old ≡ 0 → core.new ≡ core.old }
+    ensures full { core_room core.old ≡ 0 → core.new ≡ core.old }
 {
     if core.is_attached(client as u64) {
         Ok(call_answer(alloc, core, client, text))
@@ -234,14 +236,14 @@ fn call_answer<F: Callback, H: Rule>(
     client: u32,
     text: &CallText<'_>,
 ) -> Answer
-    requires attached { is_attached core.old.watched.mount.clients client ≡ true }
+    requires attached { has_client core.old client ≡ true }
     requires places { HasPlaces core.old }
     ensures places { HasPlaces core.new }
-    ensures counted { core.new.finished ≤ core.old.finished + 1 }
+    ensures counted { core_finished core.new ≤ core_finished core.old + 1 }
     ensures keeps { plays.KeepsClients core.old core.new }
-    ensures answer { AnswersCall (call_refusal (room core.old) (call_of text.now)) client result }
-    ensures goes { TextGoes H.shows core.old.watched.mount core.old.watched.notifier client (call_of text.now) core.new.watched.mount core.new.watched.notifier result }
-    ensures full { room core.old ≡ 0 → core.new ≡ core.old }
+    ensures answer { AnswersCall (call_refusal (core_room core.old) (call_of text.now)) client result }
+    ensures goes { TextGoes core.old client (call_of text.now) core.new result }
+    ensures full { core_room core.old ≡ 0 → core.new ≡ core.old }
 {
     match text.call(alloc) {
         Ok(Ok(call)) => answer_in_room(core, client, call),
@@ -255,14 +257,14 @@ fn call_answer<F: Callback, H: Rule>(
 
 // The answer to a call, which is not taken where the history has no place left.
 fn answer_in_room<F: Callback, H: Rule>(core: &mut Core<F, H>, client: u32, call: Call) -> Answer
-    requires attached { is_attached core.old.watched.mount.clients client ≡ true }
+    requires attached { has_client core.old client ≡ true }
     requires places { HasPlaces core.old }
     ensures places { HasPlaces core.new }
-    ensures counted { core.new.finished ≤ core.old.finished + 1 }
+    ensures counted { core_finished core.new ≤ core_finished core.old + 1 }
     ensures keeps { plays.KeepsClients core.old core.new }
-    ensures answer { AnswersCall (call_refusal (room core.old) (Ok call)) client result }
-    ensures goes { CallGoes H.shows core.old.watched.mount core.old.watched.notifier client call core.new.watched.mount core.new.watched.notifier result }
-    ensures full { room core.old ≡ 0 → core.new ≡ core.old }
+    ensures answer { AnswersCall (call_refusal (core_room core.old) (Ok call)) client result }
+    ensures goes { CallGoes core.old client call core.new result }
+    ensures full { core_room core.old ≡ 0 → core.new ≡ core.old }
 {
     if core.room() == 0 {
         return Answer::NotTaken {
@@ -275,14 +277,14 @@ fn answer_in_room<F: Callback, H: Rule>(core: &mut Core<F, H>, client: u32, call
 
 // The answer to a call for which there is a place. It is made in one step.
 fn made<F: Callback, H: Rule>(core: &mut Core<F, H>, client: u32, call: Call) -> Answer
-    requires attached { is_attached core.old.watched.mount.clients client ≡ true }
+    requires attached { has_client core.old client ≡ true }
     requires places { HasPlaces core.old }
-    requires room { 0 < room core.old }
+    requires room { 0 < core_room core.old }
     ensures places { HasPlaces core.new }
-    ensures counted { core.new.finished ≤ core.old.finished + 1 }
+    ensures counted { core_finished core.new ≤ core_finished core.old + 1 }
     ensures keeps { plays.KeepsClients core.old core.new }
     ensures answer { AnswersCall None client result }
-    ensures goes { CallGoes H.shows core.old.watched.mount core.old.watched.notifier client call core.new.watched.mount core.new.watched.notifier result }
+    ensures goes { CallGoes core.old client call core.new result }
 {
     let mut job = Job::new(client as u64, call);
     let turn = core.advance(&mut job);

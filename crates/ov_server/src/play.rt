@@ -1,5 +1,6 @@
 // `play`: a script on a mount.
 ghost use Rattle.std.specs.Prelude.{◌≡◌, ℕ, ◌+◌, ◌*◌, ◌<◌, ◌≤◌, ◌^◌, [], length, nat_eq, position, IfErr, IfOk, IfSome, OnOk};
+ghost use Rattle.overlay_core.specs.Views.{core_finished};
 ghost use Rattle.ov_server.specs.Faults.{AnswersManifest, IsManifestFault, layers_told};
 ghost use Rattle.ov_server.specs.Histories.{HasPlaces};
 ghost use Rattle.ov_server.specs.Plays as plays;
@@ -77,7 +78,7 @@ fn core_of<F: Callback + Drop, H: Rule>(
     ensures err { IfErr result IsManifestFault }
     ensures count { IfOk result (λ core. layers_in core ≡ layers_told manifest.now) }
     ensures begins { IfOk result BeginsOn }
-    ensures finished { IfOk result (λ core. core.finished ≡ 0) }
+    ensures finished { IfOk result (λ core. core_finished core ≡ 0) }
     ensures places { IfOk result HasPlaces }
 {
     let (upper, lowers, options) = manifest_of(alloc, keys, manifest)?;

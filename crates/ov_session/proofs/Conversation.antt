@@ -12,7 +12,9 @@ use Rattle.ov_frames.specs.declared.fault.FrameFault.{FrameFault}
 use Rattle.ov_frames.specs.declared.request.Request.{Request}
 use Rattle.ov_frames.proofs.Pieces.{goes_on}
 use Rattle.ov_session.specs.Conversing.{Stands, Conversed, IsTurn, IsUnfed, ended, is_faulty}
-use Rattle.ov_session.specs.Devices.{Gains, InputAt, IsFrontOf, IsInputEnd, IsSent}
+use Rattle.ov_session.specs.Devices.{Gains, InputAt, IsFrontOf, IsInputEnd, IsSent, is_write}
+use Rattle.ov_session.specs.Doors.{Goes}
+use Rattle.ov_session.specs.Heard.{Heard}
 use Rattle.ov_session.specs.Serving.{frames}
 use Rattle.ov_session.specs.Sessions.{StandsLast, IsSession}
 use Rattle.ov_session.specs.Talks.{Place, Talked, Breaks, IsServed, HandedOn}
@@ -25,8 +27,10 @@ use Rattle.ov_session.proofs.Gaining.{front_of_all, gains_then, written_of, writ
 use Rattle.ov_session.proofs.Talking.{Doorway, talked_nothing, talked_then, broke_then}
 
 -- a further piece was served
-pub so_far_more : {D : Type 0} (goes : D → List Exchange → D → Type 0) (i j k : Option (List ℕ)) (o m n : Place D) (left new : Left) (piece : List ℕ) (rs : List Request) → Doorway goes
-    → SoFar goes i j o m left → Consumes j k piece → Continues left piece rs new → Talked goes m n rs → SoFar goes i k o n new
+pub so_far_more : {D : Type 0} (goes : Goes D) (i j k : Option (List ℕ)) (o m n : Place D)
+    (left new : Left) (piece : List ℕ) (rs : List Request) → Doorway goes
+    → SoFar goes i j o m left → Consumes j k piece → Continues left piece rs new
+    → Talked goes m n rs → SoFar goes i k o n new
 so_far_more goes i j k o m n left new piece rs laws s c h talk = record {
   taken = s.taken ++ piece;
   consumed = Consumes-trans i j k s.taken piece s.consumed c;
@@ -46,13 +50,12 @@ all_fed ending.Read = refl
 all_fed ending.Write = refl
 all_fed ending.Stopped = refl
 
--- all requests are served, and their answers given to the output; some bytes may be unread
-ends_with : {D : Type 0} (goes : D → List Exchange → D → Type 0) (i j k : Option (List ℕ)) (o n : Place D) (left : Left) (piece : List ℕ) (end : Ending)
-    → (s : SoFar goes i j o n left) → Consumes j k piece → IsUnfed end piece → Stands end k [] left [] (frames s.talked.answers) (frames s.talked.answers) → Conversed goes i k o n end
-ends_with goes i j k o n left piece end s c u h = record {
+-- what was heard so far, where all requests are served and some bytes may be unread
+abbrev pub all_heard : {D : Type 0} (goes : Goes D) (i j k : Option (List ℕ)) (o n : Place D) (left : Left)
+    (piece : List ℕ) → SoFar goes i j o n left → Consumes j k piece → Heard i k
+all_heard goes i j k o n left piece s c = record {
   taken = s.taken;
   unread = piece;
-  unfed = u;
   consumed = Consumes-trans i j k s.taken piece s.consumed c;
   requests = s.requests;
   left = left;
@@ -61,84 +64,128 @@ ends_with goes i j k o n left piece end s c u h = record {
   later = [];
   parts = sym (append-nil s.requests);
   told = s.talked.told;
-  stopped = [];
-  added = s.talked.added ∙ ap (λ (l : List Exchange). o.told ++ l) (sym (append-nil s.talked.told));
-  went = subst (λ (l : List Exchange). goes o.door l n.door) (sym (append-nil s.talked.told)) s.talked.went;
   answers = s.talked.answers;
   served = s.talked.served;
+  stopped = [];
+}
+
+-- all requests are served, and their answers given to the output
+ends_with : {D : Type 0} (goes : Goes D) (i j k : Option (List ℕ)) (o n : Place D) (left : Left)
+    (piece : List ℕ) (end : Ending) (s : SoFar goes i j o n left) (c : Consumes j k piece) →
+    IsUnfed end piece →
+    Stands i k end (all_heard goes i j k o n left piece s c) (frames s.talked.answers) →
+    Conversed goes i k o n end
+ends_with goes i j k o n left piece end s c u h = record {
+  heard = all_heard goes i j k o n left piece s c;
+  unfed = u;
+  added = s.talked.added ∙ ap (λ (l : List Exchange). o.told ++ l) (sym (append-nil s.talked.told));
+  went =
+      subst (λ (l : List Exchange). goes o.door l n.door) (sym (append-nil s.talked.told))
+      s.talked.went;
   given = frames s.talked.answers;
   gained = s.talked.gained;
   stands = h;
 }
 
 -- all requests are served, and nothing is unread
-pub all_served : {D : Type 0} (goes : D → List Exchange → D → Type 0) (i j : Option (List ℕ)) (o n : Place D) (left : Left) (end : Ending)
-    → (s : SoFar goes i j o n left) → Stands end j [] left [] (frames s.talked.answers) (frames s.talked.answers) → Conversed goes i j o n end
-all_served goes i j o n left end s h = ends_with goes i j j o n left [] end s (Consumes-nil j) (all_fed end) h
+pub all_served : {D : Type 0} (goes : Goes D) (i j : Option (List ℕ)) (o n : Place D) (left : Left)
+    (end : Ending) (s : SoFar goes i j o n left) →
+    Stands i j end (all_heard goes i j j o n left [] s (Consumes-nil j)) (frames s.talked.answers) →
+    Conversed goes i j o n end
+all_served goes i j o n left end s h =
+    ends_with goes i j j o n left [] end s (Consumes-nil j) (all_fed end) h
 
-broken_stands : (e : Ending) (k : Option (List ℕ)) (later : List Request) (left : Left) (stopped : List Exchange) (given : List ℕ) (answers : List Answer) → Breaks e later stopped given answers → Stands e k later left stopped given (frames answers)
-broken_stands ending.Detached k later left stopped given answers h = (h.2, h.0, h.1)
-broken_stands ending.Write k later left stopped given answers h = h
-broken_stands ending.Memory k later left stopped given answers h = h
-broken_stands ending.Stopped k later left stopped given answers h = h
-broken_stands ending.Ended k later left stopped given answers h = absurd h
-broken_stands ending.Cut k later left stopped given answers h = absurd h
-broken_stands (ending.Frame f) k later left stopped given answers h = absurd h
-broken_stands ending.Read k later left stopped given answers h = absurd h
+-- what broke off stands so
+broken_stands : (e : Ending) (i j : Option (List ℕ)) (h : Heard i j) (given : List ℕ) →
+    Breaks e h.later h.stopped given h.answers → Stands i j e h given
+broken_stands ending.Detached i j h given b = (b.2, b.0, b.1)
+broken_stands ending.Write i j h given b = b
+broken_stands ending.Memory i j h given b = b
+broken_stands ending.Stopped i j h given b = b
+broken_stands ending.Ended i j h given b = absurd b
+broken_stands ending.Cut i j h given b = absurd b
+broken_stands (ending.Frame f) i j h given b = absurd b
+broken_stands ending.Read i j h given b = absurd b
 
 -- a request was not served, or its answer not handed on
-broken_off : {D : Type 0} (goes : D → List Exchange → D → Type 0) (i j k : Option (List ℕ)) (o m n : Place D) (left new : Left) (piece : List ℕ) (rs : List Request) (e : Ending) → Doorway goes
-    → SoFar goes i j o m left → Consumes j k piece → Continues left piece rs new → IsServed goes m n rs (Err e) → Conversed goes i k o n e
+broken_off : {D : Type 0} (goes : Goes D) (i j k : Option (List ℕ)) (o m n : Place D)
+    (left new : Left) (piece : List ℕ) (rs : List Request) (e : Ending) → Doorway goes
+    → SoFar goes i j o m left → Consumes j k piece → Continues left piece rs new
+    → IsServed goes m n rs (Err e) → Conversed goes i k o n e
 broken_off goes i j k o m n left new piece rs e laws s c h broke =
     let b = broke_then goes o m n s.requests broke.0 broke.1 e laws s.talked broke.3 in
-    record {
+    let all = Consumes-trans i j k s.taken piece s.consumed c in
+    let heard : Heard i k = record {
       taken = s.taken ++ piece;
       unread = [];
-      unfed = all_fed e;
-      consumed = subst (Consumes i k) (sym (append-nil (s.taken ++ piece))) (Consumes-trans i j k s.taken piece s.consumed c);
+      consumed = subst (Consumes i k) (sym (append-nil (s.taken ++ piece))) all;
       requests = s.requests ++ rs;
       left = new;
       spelled = goes_on s.taken piece s.requests rs left new s.spelled h;
       front = s.requests ++ broke.0;
       later = broke.1;
-      parts = ap (λ (l : List Request). s.requests ++ l) broke.2 ∙ sym (append_assoc s.requests broke.0 broke.1);
+      parts =
+          ap (λ (l : List Request). s.requests ++ l) broke.2
+          ∙ sym (append_assoc s.requests broke.0 broke.1);
       told = b.told;
-      stopped = b.stopped;
-      added = b.added;
-      went = b.went;
       answers = b.answers;
       served = b.served;
+      stopped = b.stopped;
+    } in
+    record {
+      heard = heard;
+      unfed = all_fed e;
+      added = b.added;
+      went = b.went;
       given = b.given;
       gained = b.gained;
-      stands = broken_stands e k broke.1 new b.stopped b.given b.answers b.how;
+      stands = broken_stands e i k heard b.given b.how;
     }
 
 -- memory ran out, and the last piece was not taken
-not_taken : {D : Type 0} (goes : D → List Exchange → D → Type 0) (i j k : Option (List ℕ)) (o m n : Place D) (left : Left) (piece : List ℕ) → Doorway goes
-    → SoFar goes i j o m left → Consumes j k piece → Talked goes m n [] → Conversed goes i k o n ending.Memory
+not_taken : {D : Type 0} (goes : Goes D) (i j k : Option (List ℕ)) (o m n : Place D) (left : Left)
+    (piece : List ℕ) → Doorway goes
+    → SoFar goes i j o m left → Consumes j k piece → Talked goes m n []
+    → Conversed goes i k o n ending.Memory
 not_taken goes i j k o m n left piece laws s c t =
-    let talked = subst (λ (l : List Request). Talked goes o n l) (append-nil s.requests) (talked_then goes o m n s.requests [] laws s.talked t) in
-    let s' : SoFar goes i j o n left = record { taken = s.taken; consumed = s.consumed; requests = s.requests; spelled = s.spelled; talked = talked } in
-    ends_with goes i j k o n left piece ending.Memory s' c tt (inl refl, front_of_all (frames talked.answers))
+    let talked = subst (λ (l : List Request). Talked goes o n l) (append-nil s.requests)
+    (talked_then goes o m n s.requests [] laws s.talked t) in
+    let s' : SoFar goes i j o n left = record {
+      taken = s.taken;
+      consumed = s.consumed;
+      requests = s.requests;
+      spelled = s.spelled;
+      talked = talked;
+    } in
+    ends_with goes i j k o n left piece ending.Memory s' c tt
+    (inl refl, front_of_all (frames talked.answers))
 
 -- a turn that ends the session
-pub turn_ends : {D : Type 0} (goes : D → List Exchange → D → Type 0) (i j k : Option (List ℕ)) (o m n : Place D) (left new : Left) (piece : List ℕ) (e : Ending) → Doorway goes
-    → SoFar goes i j o m left → Consumes j k piece → IsTurn goes left piece new m n (Err e) → Conversed goes i k o n e
-turn_ends goes i j k o m n left new piece e laws s c (inl h) = broken_off goes i j k o m n left new piece h.0 e laws s c h.1 h.2
+pub turn_ends : {D : Type 0} (goes : Goes D) (i j k : Option (List ℕ)) (o m n : Place D)
+    (left new : Left) (piece : List ℕ) (e : Ending) → Doorway goes
+    → SoFar goes i j o m left → Consumes j k piece → IsTurn goes left piece new m n (Err e)
+    → Conversed goes i k o n e
+turn_ends goes i j k o m n left new piece e laws s c (inl h) =
+    broken_off goes i j k o m n left new piece h.0 e laws s c h.1 h.2
 turn_ends goes i j k o m n left new piece e laws s c (inr (inl h)) =
     let more = so_far_more goes i j k o m n left new piece h.1 laws s c h.2 h.5 in
-    subst (λ (x : Ending). Conversed goes i k o n x) (sym h.4) (all_served goes i k o n new (ending.Frame h.0) more (refl, refl, refl, h.3))
+    subst (λ (x : Ending). Conversed goes i k o n x) (sym h.4)
+    (all_served goes i k o n new (ending.Frame h.0) more ((refl, refl, refl), h.3))
 turn_ends goes i j k o m n left new piece e laws s c (inr (inr h)) =
-    subst (λ (x : Ending). Conversed goes i k o n x) (sym h.0) (not_taken goes i j k o m n left piece laws s c h.1)
+    subst (λ (x : Ending). Conversed goes i k o n x) (sym h.0)
+    (not_taken goes i j k o m n left piece laws s c h.1)
 
 -- a turn ends by no failed read
-pub turn_no_read : {D : Type 0} (goes : D → List Exchange → D → Type 0) (left new : Left) (piece : List ℕ) (m n : Place D) (e : Ending) → IsTurn goes left piece new m n (Err e) → e ≡ ending.Read → ⊥
-turn_no_read goes left new piece m n e (inl h) k = let b = h.2.3 in subst (λ (x : Ending). Breaks x h.2.1 b.stopped b.given b.answers) k b.how
+pub turn_no_read : {D : Type 0} (goes : Goes D) (left new : Left) (piece : List ℕ) (m n : Place D)
+    (e : Ending) → IsTurn goes left piece new m n (Err e) → e ≡ ending.Read → ⊥
+turn_no_read goes left new piece m n e (inl h) k = let b =
+    h.2.3 in subst (λ (x : Ending). Breaks x h.2.1 b.stopped b.given b.answers) k b.how
 turn_no_read goes left new piece m n e (inr (inl h)) k = absurd cc
 turn_no_read goes left new piece m n e (inr (inr h)) k = absurd cc
 
 -- an input without failure, where a session ends by no failed read
-pub input_well : (failed : Bool) (reads : ℕ) (e : Ending) → failed ≡ false → (e ≡ ending.Read → ⊥) → InputAt failed reads e
+pub input_well : (failed : Bool) (reads : ℕ) (e : Ending) → failed ≡ false → (e ≡ ending.Read → ⊥)
+    → InputAt failed reads e
 input_well failed reads ending.Read h differs = absurd (differs refl)
 input_well failed reads ending.Detached h differs = h
 input_well failed reads ending.Ended h differs = h
@@ -149,7 +196,8 @@ input_well failed reads ending.Memory h differs = h
 input_well failed reads ending.Stopped h differs = h
 
 -- a read that ended a session
-pub input_at : (failed : Bool) (reads : ℕ) (e : Ending) → IsInputEnd failed reads e → InputAt failed reads e
+pub input_at : (failed : Bool) (reads : ℕ) (e : Ending) → IsInputEnd failed reads e
+    → InputAt failed reads e
 input_at failed reads ending.Read h = h
 input_at failed reads ending.Memory h = h
 input_at failed reads ending.Detached h = absurd h
@@ -160,8 +208,15 @@ input_at failed reads ending.Write h = absurd h
 input_at failed reads ending.Stopped h = absurd h
 
 -- nothing was read yet
-pub so_far_nothing : {D : Type 0} (goes : D → List Exchange → D → Type 0) (i : Option (List ℕ)) (o : Place D) (left : Left) → Doorway goes → Spells [] [] left → SoFar goes i i o o left
-so_far_nothing goes i o left laws h = record { taken = []; consumed = Consumes-nil i; requests = []; spelled = h; talked = talked_nothing goes o laws }
+pub so_far_nothing : {D : Type 0} (goes : Goes D) (i : Option (List ℕ)) (o : Place D) (left : Left)
+    → Doorway goes → Spells [] [] left → SoFar goes i i o o left
+so_far_nothing goes i o left laws h = record {
+  taken = [];
+  consumed = Consumes-nil i;
+  requests = [];
+  spelled = h;
+  talked = talked_nothing goes o laws;
+}
 
 -- what a decoder told
 pub told_requests : (rs told : List Request) (new : Left) → answer_of rs new ≡ Ok told → rs ≡ told
@@ -169,7 +224,8 @@ told_requests [] told (Held held) h = cc
 told_requests [] told (Faulty fault) h = absurd cc
 told_requests (r ∷ rs) told new h = cc
 
-pub told_fault : (rs : List Request) (fault : FrameFault) (new : Left) → answer_of rs new ≡ Err fault → (rs ≡ []) × (new ≡ Faulty fault)
+pub told_fault : (rs : List Request) (fault : FrameFault) (new : Left)
+    → answer_of rs new ≡ Err fault → (rs ≡ []) × (new ≡ Faulty fault)
 told_fault [] fault (Held held) h = absurd cc
 told_fault [] fault (Faulty f) h = (refl, cc)
 told_fault (r ∷ rs) fault new h = absurd cc
@@ -179,22 +235,41 @@ unfolding front_of
 nothing_spelled = (refl, refl)
 
 -- a read that gave nothing
-pub so_far_same : {D : Type 0} (goes : D → List Exchange → D → Type 0) (i j k : Option (List ℕ)) (o n : Place D) (left : Left) (piece : List ℕ) → SoFar goes i j o n left → Consumes j k piece → piece ≡ [] → SoFar goes i k o n left
+pub so_far_same : {D : Type 0} (goes : Goes D) (i j k : Option (List ℕ)) (o n : Place D)
+    (left : Left) (piece : List ℕ) → SoFar goes i j o n left → Consumes j k piece → piece ≡ []
+    → SoFar goes i k o n left
 so_far_same goes i j k o n left piece s c e = record {
   taken = s.taken;
-  consumed = subst (Consumes i k) (ap (λ (l : List ℕ). s.taken ++ l) e ∙ append-nil s.taken) (Consumes-trans i j k s.taken piece s.consumed c);
+  consumed = subst (Consumes i k) (ap (λ (l : List ℕ). s.taken ++ l) e ∙ append-nil s.taken)
+      (Consumes-trans i j k s.taken piece s.consumed c);
   requests = s.requests;
   spelled = s.spelled;
   talked = s.talked;
 }
 
 -- a read that failed
-pub read_ended : {D : Type 0} (goes : D → List Exchange → D → Type 0) (i j k : Option (List ℕ)) (o n : Place D) (left : Left) (failed : Bool) (reads : ℕ) (e : Ending) → SoFar goes i j o n left → is_faulty left ≡ false → Keeps j k → IsInputEnd failed reads e → Conversed goes i k o n e
+pub read_ended : {D : Type 0} (goes : Goes D) (i j k : Option (List ℕ)) (o n : Place D)
+    (left : Left) (failed : Bool) (reads : ℕ) (e : Ending) → SoFar goes i j o n left
+    → is_faulty left ≡ false → Keeps j k → IsInputEnd failed reads e → Conversed goes i k o n e
 read_ended goes i j k o n left failed reads ending.Read s b c h =
-    let s' : SoFar goes i k o n left = record { taken = s.taken; consumed = Consumes-kept i j k s.taken s.consumed c; requests = s.requests; spelled = s.spelled; talked = s.talked } in
-    all_served goes i k o n left ending.Read s' (refl, refl, refl, b)
+    let s' : SoFar goes i k o n left =
+    record {
+      taken = s.taken;
+      consumed = Consumes-kept i j k s.taken s.consumed c;
+      requests = s.requests;
+      spelled = s.spelled;
+      talked = s.talked;
+    } in
+    all_served goes i k o n left ending.Read s' ((refl, refl, refl), b)
 read_ended goes i j k o n left failed reads ending.Memory s b c h =
-    let s' : SoFar goes i k o n left = record { taken = s.taken; consumed = Consumes-kept i j k s.taken s.consumed c; requests = s.requests; spelled = s.spelled; talked = s.talked } in
+    let s' : SoFar goes i k o n left =
+    record {
+      taken = s.taken;
+      consumed = Consumes-kept i j k s.taken s.consumed c;
+      requests = s.requests;
+      spelled = s.spelled;
+      talked = s.talked;
+    } in
     all_served goes i k o n left ending.Memory s' (inl refl, front_of_all (frames s.talked.answers))
 read_ended goes i j k o n left failed reads ending.Detached s b c h = absurd h
 read_ended goes i j k o n left failed reads ending.Ended s b c h = absurd h
@@ -203,104 +278,180 @@ read_ended goes i j k o n left failed reads (ending.Frame f) s b c h = absurd h
 read_ended goes i j k o n left failed reads ending.Write s b c h = absurd h
 read_ended goes i j k o n left failed reads ending.Stopped s b c h = absurd h
 
+-- such a read marks no failure of the output
+pub read_unmarked : (failed : Bool) (reads : ℕ) (e : Ending) → IsInputEnd failed reads e →
+    is_write e ≡ false
+read_unmarked failed reads ending.Read h = refl
+read_unmarked failed reads ending.Memory h = refl
+read_unmarked failed reads ending.Detached h = absurd h
+read_unmarked failed reads ending.Ended h = absurd h
+read_unmarked failed reads ending.Cut h = absurd h
+read_unmarked failed reads (ending.Frame f) h = absurd h
+read_unmarked failed reads ending.Write h = absurd h
+read_unmarked failed reads ending.Stopped h = absurd h
+
+-- nor does the end of the input, which is no failure of its own
+pub end_unmarked : (left : Left) → is_write (ended (end_of left)) ≡ false
+end_unmarked (Held []) = refl
+end_unmarked (Held (b ∷ bytes)) = refl
+end_unmarked (Faulty f) = refl
+
+pub end_input : (left : Left) (failed : Bool) (reads : ℕ) → failed ≡ false →
+    InputAt failed reads (ended (end_of left))
+end_input (Held []) failed reads h = h
+end_input (Held (b ∷ bytes)) failed reads h = h
+end_input (Faulty f) failed reads h = h
+
 -- a stream that ends at no fault has none
-pub begun_of : (left : Left) (e : End) → e ≡ end_of left → ((f : FrameFault) → e ≡ ends.Frame f → ⊥) → is_faulty left ≡ false
+pub begun_of : (left : Left) (e : End) → e ≡ end_of left → ((f : FrameFault) → e ≡ ends.Frame f → ⊥)
+    → is_faulty left ≡ false
 begun_of (Held bytes) e h differs = refl
 begun_of (Faulty f) e h differs = absurd (differs f h)
 
 -- the end of the input
-pub input_ended : {D : Type 0} (goes : D → List Exchange → D → Type 0) (i j : Option (List ℕ)) (o n : Place D) (left : Left) → SoFar goes i j o n left → IsAtEnd j → Conversed goes i j o n (ended (end_of left))
-input_ended goes i j o n (Held []) s h = all_served goes i j o n (Held []) ending.Ended s (refl, refl, refl, refl, h)
-input_ended goes i j o n (Held (b ∷ bytes)) s h = all_served goes i j o n (Held (b ∷ bytes)) ending.Cut s (refl, refl, refl, (b, bytes, refl), h)
-input_ended goes i j o n (Faulty f) s h = all_served goes i j o n (Faulty f) (ending.Frame f) s (refl, refl, refl, refl)
+pub input_ended : {D : Type 0} (goes : Goes D) (i j : Option (List ℕ)) (o n : Place D) (left : Left)
+    → SoFar goes i j o n left → IsAtEnd j → Conversed goes i j o n (ended (end_of left))
+input_ended goes i j o n (Held []) s h = all_served goes i j o n (Held []) ending.Ended s
+    ((refl, refl, refl), refl, h)
+input_ended goes i j o n (Held (b ∷ bytes)) s h = all_served goes i j o n (Held (b ∷ bytes))
+    ending.Cut s ((refl, refl, refl), (b, bytes, refl), h)
+input_ended goes i j o n (Faulty f) s h = all_served goes i j o n (Faulty f) (ending.Frame f) s
+    ((refl, refl, refl), refl)
 
 -- memory ran out at the beginning
-pub nothing_done : {D : Type 0} (goes : D → List Exchange → D → Type 0) (i : Option (List ℕ)) (o : Place D) → Doorway goes → Conversed goes i i o o ending.Memory
+pub nothing_done : {D : Type 0} (goes : Goes D) (i : Option (List ℕ)) (o : Place D) → Doorway goes
+    → Conversed goes i i o o ending.Memory
 nothing_done goes i o laws =
     let s = so_far_nothing goes i o (Held []) laws nothing_spelled in
-    all_served goes i i o o (Held []) ending.Memory s (inl refl, front_of_all (frames s.talked.answers))
+    all_served goes i i o o (Held []) ending.Memory s (
+      inl refl,
+      front_of_all
+          (frames s.talked.answers),
+    )
 
 -- ---- the detach
 
 -- a beginning of bytes is one of them and more
 front_longer : (given all last : List ℕ) → IsFrontOf given all → IsFrontOf given (all ++ last)
-front_longer given all last h = (h.0 ++ last, ap (λ (l : List ℕ). l ++ last) h.1 ∙ append_assoc given h.0 last)
+front_longer given all last h = (
+  h.0 ++ last,
+  ap (λ (l : List ℕ). l ++ last) h.1
+      ∙ append_assoc given h.0 last,
+)
 
 -- what was written of a beginning
-front_shorter : (given all written held : List ℕ) → given ≡ written ++ held → IsFrontOf given all → IsFrontOf written all
-front_shorter given all written held e h = (held ++ h.0, h.1 ∙ ap (λ (l : List ℕ). l ++ h.0) e ∙ append_assoc written held h.0)
+front_shorter : (given all written held : List ℕ) → given ≡ written ++ held → IsFrontOf given all
+    → IsFrontOf written all
+front_shorter given all written held e h = (
+  held ++ h.0,
+  h.1 ∙ ap (λ (l : List ℕ). l ++ h.0) e
+      ∙ append_assoc written held h.0,
+)
 
 -- what was written, and how things stand with it
-last_written : (e : Ending) (k a b : Option (List ℕ)) (later : List Request) (left : Left) (stopped : List Exchange) (p q given all last : List ℕ) → (e ≡ ending.Detached → ⊥) → Gains a b p q given → p ≡ [] → HandedOn e q
-    → Stands e k later left stopped given all → (written : List ℕ) × Appends a b written × StandsLast e k later left stopped written all last
-last_written ending.Detached k a b later left stopped p q given all last differs g z hand h = absurd (differs refl)
-last_written ending.Write k a b later left stopped p q given all last differs g z hand h =
-    let w = written_of a b p q given g z in (w.0, w.1, (h.0, front_longer w.0 all last (front_shorter given all w.0 q w.2 h.1)))
-last_written ending.Memory k a b later left stopped p q given all last differs g z hand h =
-    let w = written_of a b p q given g z in (w.0, w.1, (h.0, front_longer w.0 all last (front_shorter given all w.0 q w.2 h.1)))
-last_written ending.Stopped k a b later left stopped p q given all last differs g z hand h = (given, written_all a b p q given g z hand, h)
-last_written ending.Ended k a b later left stopped p q given all last differs g z hand h = (given, written_all a b p q given g z hand, h)
-last_written ending.Cut k a b later left stopped p q given all last differs g z hand h = (given, written_all a b p q given g z hand, h)
-last_written (ending.Frame f) k a b later left stopped p q given all last differs g z hand h = (given, written_all a b p q given g z hand, h)
-last_written ending.Read k a b later left stopped p q given all last differs g z hand h = (given, written_all a b p q given g z hand, h)
+last_written : (e : Ending) (i j a b : Option (List ℕ)) (heard : Heard i j)
+    (p q given last : List ℕ) → (e ≡ ending.Detached → ⊥) → Gains a b p q given → p ≡ [] →
+    HandedOn e q → Stands i j e heard given →
+    (written : List ℕ) × Appends a b written × StandsLast i j e heard written last
+last_written ending.Detached i j a b heard p q given last differs g z hand h =
+    absurd (differs refl)
+last_written ending.Write i j a b heard p q given last differs g z hand h =
+    let w = written_of a b p q given g z in
+    let all = frames heard.answers in
+    (w.0, w.1, (h.0, front_longer w.0 all last (front_shorter given all w.0 q w.2 h.1)))
+last_written ending.Memory i j a b heard p q given last differs g z hand h =
+    let w = written_of a b p q given g z in
+    let all = frames heard.answers in
+    (w.0, w.1, (h.0, front_longer w.0 all last (front_shorter given all w.0 q w.2 h.1)))
+last_written ending.Stopped i j a b heard p q given last differs g z hand h =
+    (given, written_all a b p q given g z hand, h)
+last_written ending.Ended i j a b heard p q given last differs g z hand h =
+    (given, written_all a b p q given g z hand, h)
+last_written ending.Cut i j a b heard p q given last differs g z hand h =
+    (given, written_all a b p q given g z hand, h)
+last_written (ending.Frame f) i j a b heard p q given last differs g z hand h =
+    (given, written_all a b p q given g z hand, h)
+last_written ending.Read i j a b heard p q given last differs g z hand h =
+    (given, written_all a b p q given g z hand, h)
 
 -- the client is detached, and this was written
-departed : {D : Type 0} (goes : D → List Exchange → D → Type 0) (i j : Option (List ℕ)) (o n : Place D) (p : Option (List ℕ)) (told : List Exchange) (door : D) (was end : Ending) (a : Answer) (written : List ℕ) → Doorway goes
-    → (c : Conversed goes i j o n was) → IsUnfed end c.unread → told ≡ n.told ++ Departed a ∷ [] → goes n.door (Departed a ∷ []) door → Appends o.contents p written
-    → StandsLast end j c.later c.left c.stopped written (frames c.answers) (answer_frame a) → IsSession goes i j o.contents p o.told told o.door door end
-departed goes i j o n p told door was end a written laws c fed t d w s = record {
-  taken = c.taken;
-  unread = c.unread;
-  unfed = fed;
-  consumed = c.consumed;
-  requests = c.requests;
-  left = c.left;
-  spelled = c.spelled;
-  front = c.front;
-  later = c.later;
-  parts = c.parts;
-  told = c.told;
-  stopped = c.stopped;
-  answers = c.answers;
-  served = c.served;
-  farewell = a;
-  added = t ∙ ap (λ (l : List Exchange). l ++ Departed a ∷ []) c.added ∙ append_assoc o.told (c.told ++ c.stopped) (Departed a ∷ []);
-  went = laws.joins o.door n.door door (c.told ++ c.stopped) (Departed a ∷ []) c.went d;
-  written = written;
-  appended = w;
-  stands = s;
-}
+departed : {D : Type 0} (goes : Goes D) (i j : Option (List ℕ)) (o n : Place D)
+    (p : Option (List ℕ)) (told : List Exchange) (door : D) (was end : Ending) (a : Answer)
+    (written : List ℕ) → Doorway goes → (c : Conversed goes i j o n was) →
+    IsUnfed end c.heard.unread → told ≡ n.told ++ Departed a ∷ [] →
+    goes n.door (Departed a ∷ []) door → Appends o.contents p written →
+    StandsLast i j end c.heard written (answer_frame a) →
+    IsSession goes i j o.contents p o.told told o.door door end
+departed goes i j o n p told door was end a written laws c fed t d w s =
+    let before = c.heard.told ++ c.heard.stopped in
+    record {
+      heard = c.heard;
+      unfed = fed;
+      farewell = a;
+      added =
+          t ∙ ap (λ (l : List Exchange). l ++ Departed a ∷ []) c.added
+          ∙ append_assoc o.told before (Departed a ∷ []);
+      went = laws.joins o.door n.door door before (Departed a ∷ []) c.went d;
+      written = written;
+      appended = w;
+      stands = s;
+    }
 
 -- nothing more is written
-pub parted : {D : Type 0} (goes : D → List Exchange → D → Type 0) (i j : Option (List ℕ)) (o n : Place D) (told : List Exchange) (door : D) (e : Ending) (a : Answer) → Doorway goes
-    → Conversed goes i j o n e → o.held ≡ [] → HandedOn e n.held → told ≡ n.told ++ Departed a ∷ [] → goes n.door (Departed a ∷ []) door → (e ≡ ending.Detached → ⊥)
+pub parted : {D : Type 0} (goes : Goes D) (i j : Option (List ℕ)) (o n : Place D)
+    (told : List Exchange) (door : D) (e : Ending) (a : Answer) → Doorway goes
+    → Conversed goes i j o n e → o.held ≡ [] → HandedOn e n.held → told ≡ n.told ++ Departed a ∷ []
+    → goes n.door (Departed a ∷ []) door → (e ≡ ending.Detached → ⊥)
     → IsSession goes i j o.contents n.contents o.told told o.door door e
 parted goes i j o n told door e a laws c z hand t d differs =
-    let w = last_written e j o.contents n.contents c.later c.left c.stopped o.held n.held c.given (frames c.answers) (answer_frame a) differs c.gained z hand c.stands in
+    let w =
+    last_written e i j o.contents n.contents c.heard o.held n.held c.given (answer_frame a)
+    differs c.gained z hand c.stands in
     departed goes i j o n n.contents told door e e a w.0 laws c c.unfed t d w.1 w.2
 
 -- the farewell, behind all answers
-farewell_front : (given all last front : List ℕ) → given ≡ all → IsFrontOf front last → IsFrontOf (given ++ front) (all ++ last)
-farewell_front given all last front e h = (h.0, ap (λ (l : List ℕ). all ++ l) h.1 ∙ sym (append_assoc all front h.0) ∙ ap (λ (l : List ℕ). (l ++ front) ++ h.0) (sym e))
+farewell_front : (given all last front : List ℕ) → given ≡ all → IsFrontOf front last
+    → IsFrontOf (given ++ front) (all ++ last)
+farewell_front given all last front e h = (
+  h.0,
+  ap (λ (l : List ℕ). all ++ l) h.1
+      ∙ sym (append_assoc all front h.0) ∙ ap (λ (l : List ℕ). (l ++ front) ++ h.0) (sym e),
+)
 
 -- the answer to the detach was sent, or a beginning of it
-pub left_so : {D : Type 0} (goes : D → List Exchange → D → Type 0) (i j : Option (List ℕ)) (o n : Place D) (p : Option (List ℕ)) (held : List ℕ) (told : List Exchange) (door : D) (a : Answer) (e : Ending) → Doorway goes
-    → Conversed goes i j o n ending.Detached → o.held ≡ [] → told ≡ n.told ++ Departed a ∷ [] → goes n.door (Departed a ∷ []) door → IsSent n.contents p n.held held a e
+pub left_so : {D : Type 0} (goes : Goes D) (i j : Option (List ℕ)) (o n : Place D)
+    (p : Option (List ℕ)) (held : List ℕ) (told : List Exchange) (door : D) (a : Answer)
+    (e : Ending) → Doorway goes
+    → Conversed goes i j o n ending.Detached → o.held ≡ [] → told ≡ n.told ++ Departed a ∷ []
+    → goes n.door (Departed a ∷ []) door → IsSent n.contents p n.held held a e
     → IsSession goes i j o.contents p o.told told o.door door e
 left_so goes i j o n p held told door a ending.Detached laws c z t d h =
-    let all = gains_then o.contents n.contents p o.held n.held held c.given (answer_frame a) c.gained h.0 in
-    departed goes i j o n p told door ending.Detached ending.Detached a (c.given ++ answer_frame a) laws c c.unfed t d (written_all o.contents p o.held held (c.given ++ answer_frame a) all z h.1)
+    let all = gains_then o.contents n.contents p o.held n.held held c.given
+    (answer_frame a) c.gained h.0 in
+    departed goes i j o n p told door ending.Detached ending.Detached a
+    (c.given ++ answer_frame a) laws c c.unfed t d (written_all o.contents p o.held held
+    (c.given ++ answer_frame a) all z h.1)
     (c.stands.0, c.stands.1, ap (λ (l : List ℕ). l ++ answer_frame a) c.stands.2)
 left_so goes i j o n p held told door a ending.Write laws c z t d h =
-    let all = gains_then o.contents n.contents p o.held n.held held c.given (answer_frame a) c.gained h in
+    let all = gains_then o.contents n.contents p o.held n.held held c.given
+    (answer_frame a) c.gained h in
     let w = written_of o.contents p o.held held (c.given ++ answer_frame a) all z in
-    departed goes i j o n p told door ending.Detached ending.Write a w.0 laws c c.unfed t d w.1
-    (inl c.stands.1, front_shorter (c.given ++ answer_frame a) (frames c.answers ++ answer_frame a) w.0 held w.2 (farewell_front c.given (frames c.answers) (answer_frame a) (answer_frame a) c.stands.2 (front_of_all (answer_frame a))))
+    departed goes i j o n p told door ending.Detached ending.Write a w.0 laws c c.unfed t d w.1 (
+      inl c.stands.1,
+      front_shorter (c.given ++ answer_frame a)
+          (frames c.heard.answers ++ answer_frame a) w.0 held w.2
+          (farewell_front c.given (frames c.heard.answers) (answer_frame a)
+          (answer_frame a) c.stands.2 (front_of_all (answer_frame a))),
+    )
 left_so goes i j o n p held told door a ending.Memory laws c z t d h =
     let all = gains_then o.contents n.contents p o.held n.held held c.given h.0 c.gained h.2 in
     let w = written_of o.contents p o.held held (c.given ++ h.0) all z in
-    departed goes i j o n p told door ending.Detached ending.Memory a w.0 laws c tt t d w.1
-    (inl c.stands.1, front_shorter (c.given ++ h.0) (frames c.answers ++ answer_frame a) w.0 held w.2 (farewell_front c.given (frames c.answers) (answer_frame a) h.0 c.stands.2 h.1))
+    departed goes i j o n p told door ending.Detached ending.Memory a w.0 laws c tt t d w.1 (
+      inl c.stands.1,
+      front_shorter (c.given ++ h.0) (frames c.heard.answers ++ answer_frame a) w.0
+          held w.2 (farewell_front c.given (frames c.heard.answers)
+          (answer_frame a) h.0 c.stands.2 h.1),
+    )
 left_so goes i j o n p held told door a ending.Ended laws c z t d h = absurd h
 left_so goes i j o n p held told door a ending.Cut laws c z t d h = absurd h
 left_so goes i j o n p held told door a (ending.Frame f) laws c z t d h = absurd h

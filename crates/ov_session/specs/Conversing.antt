@@ -1,72 +1,105 @@
 -- A session from piece to piece, until its client is detached.
 use Rattle.std.specs.Prelude.{◌≡◌, ℕ, Bool, true, false, List, [], ◌∷◌, ◌++◌, Option, Result, Ok, Err, ◌⊎◌}
-use Rattle.std.specs.Io.KnownBytes.{Consumes, IsAtEnd}
-use Rattle.ov_frames.specs.Streams.{Left, Held, Faulty, Spells, Continues}
-use Rattle.ov_frames.specs.declared.answer.Answer.{Answer}
+use Rattle.std.specs.Io.KnownBytes.{IsAtEnd}
+use Rattle.ov_frames.specs.Streams.{Left, Held, Faulty, Continues}
 use Rattle.ov_frames.specs.declared.decoder.End.{End}
 use Rattle.ov_frames.specs.declared.decoder.End.TheVariants as ends
 use Rattle.ov_frames.specs.declared.fault.FrameFault.{FrameFault}
 use Rattle.ov_frames.specs.declared.request.Request.{Request}
-use Rattle.ov_session.specs.Devices.{IsFrontOf}
-use Rattle.ov_session.specs.Serving.{Serves, IsLeaving, IsHeldBack, frames}
-use Rattle.ov_session.specs.Talks.{Place, Gained, Talked, IsServed, MayBeHeldBack}
+use Rattle.ov_session.specs.Devices.{InputAt, IsFrontOf, is_write, write_failed}
+use Rattle.ov_session.specs.Doors.{Goes}
+use Rattle.ov_session.specs.Heard.{Heard}
+use Rattle.ov_session.specs.Serving.{IsLeaving, IsHeldBack, frames}
+use Rattle.ov_session.specs.Talks.{HandedOn, IsHandedOn, Place, Gained, Talked, IsServed, MayBeHeldBack}
 use Rattle.ov_session.specs.declared.ending.Ending.{Ending}
 use Rattle.ov_session.specs.declared.ending.Ending.TheVariants as ending
-use Rattle.ov_session.specs.declared.exchange.Exchange.{Exchange}
 
 -- what is left of a stream is a fault, so that no more of it is read
 abbrev pub is_faulty : Left → Bool
 is_faulty (Held bytes) = false
 is_faulty (Faulty fault) = true
 
--- how things stand at each end: of the input what remains, the requests that are not served, what is left of the stream behind its
--- whole frames, the call held back, the bytes given to the output, and the frames of the answers
-abbrev pub Stands : Ending → Option (List ℕ) → List Request → Left → List Exchange → List ℕ → List ℕ → Type 0
-Stands ending.Detached input later left stopped given all = IsLeaving later × (stopped ≡ []) × (given ≡ all)
-Stands ending.Ended input later left stopped given all = (later ≡ []) × (stopped ≡ []) × (given ≡ all) × (left ≡ Held []) × IsAtEnd input
-Stands ending.Cut input later left stopped given all =
-    (later ≡ []) × (stopped ≡ []) × (given ≡ all) × ((b : ℕ) × (bytes : List ℕ) × (left ≡ Held (b ∷ bytes))) × IsAtEnd input
-Stands (ending.Frame fault) input later left stopped given all = (later ≡ []) × (stopped ≡ []) × (given ≡ all) × (left ≡ Faulty fault)
-Stands ending.Read input later left stopped given all = (later ≡ []) × (stopped ≡ []) × (given ≡ all) × (is_faulty left ≡ false)
-Stands ending.Write input later left stopped given all = MayBeHeldBack later stopped × IsFrontOf given all
-Stands ending.Memory input later left stopped given all = MayBeHeldBack later stopped × IsFrontOf given all
-Stands ending.Stopped input later left stopped given all = IsHeldBack later stopped × (given ≡ all)
+-- each request was served, and the frames of all answers given to the output
+abbrev pub IsAnswered : (i j : Option (List ℕ)) → Heard i j → List ℕ → Type 0
+IsAnswered i j heard given =
+    (heard.later ≡ []) × (heard.stopped ≡ []) × (given ≡ frames heard.answers)
+
+-- a beginning of the frames was given to the output
+abbrev pub IsBrokenOff : (i j : Option (List ℕ)) → Heard i j → List ℕ → Type 0
+IsBrokenOff i j heard given =
+    MayBeHeldBack heard.later heard.stopped × IsFrontOf given (frames heard.answers)
+
+-- how things stand at each end, by the bytes that were given to the output
+abbrev pub Stands : (i j : Option (List ℕ)) → Ending → Heard i j → List ℕ → Type 0
+Stands i j ending.Detached heard given =
+    IsLeaving heard.later × (heard.stopped ≡ []) × (given ≡ frames heard.answers)
+Stands i j ending.Ended heard given =
+    IsAnswered i j heard given × (heard.left ≡ Held []) × IsAtEnd j
+Stands i j ending.Cut heard given =
+    IsAnswered i j heard given
+    × ((b : ℕ) × (bytes : List ℕ) × (heard.left ≡ Held (b ∷ bytes))) × IsAtEnd j
+Stands i j (ending.Frame fault) heard given =
+    IsAnswered i j heard given × (heard.left ≡ Faulty fault)
+Stands i j ending.Read heard given =
+    IsAnswered i j heard given × (is_faulty heard.left ≡ false)
+Stands i j ending.Write heard given = IsBrokenOff i j heard given
+Stands i j ending.Memory heard given = IsBrokenOff i j heard given
+Stands i j ending.Stopped heard given =
+    IsHeldBack heard.later heard.stopped × (given ≡ frames heard.answers)
 
 -- all that was read was fed, but for a piece that memory was wanting for
 abbrev pub IsUnfed : Ending → List ℕ → Type 0
 IsUnfed ending.Memory unread = Unit {0}
 IsUnfed _ unread = unread ≡ []
 
--- a session until its end: what was read is what spells the requests and, where memory ran out, some bytes more; a front of them was served
-pub record Conversed {D : Type 0} (goes : D → List Exchange → D → Type 0) (in_old in_new : Option (List ℕ)) (old new : Place D) (end : Ending) : Type 0 where
-  pub taken : List ℕ
-  pub unread : List ℕ
-  pub unfed : IsUnfed end unread
-  pub consumed : Consumes in_old in_new (taken ++ unread)
-  pub requests : List Request
-  pub left : Left
-  pub spelled : Spells taken requests left
-  pub front : List Request
-  pub later : List Request
-  pub parts : requests ≡ front ++ later
-  pub told : List Exchange
-  pub stopped : List Exchange
-  pub added : new.told ≡ old.told ++ (told ++ stopped)
-  pub went : goes old.door (told ++ stopped) new.door
-  pub answers : List Answer
-  pub served : Serves front told answers
+-- a session until its end
+pub record Conversed {D : Type 0} (goes : Goes D) (in_old in_new : Option (List ℕ))
+    (old new : Place D) (end : Ending) : Type 0 where
+  pub heard : Heard in_old in_new
+  pub unfed : IsUnfed end heard.unread
+  pub added : new.told ≡ old.told ++ (heard.told ++ heard.stopped)
+  pub went : goes old.door (heard.told ++ heard.stopped) new.door
   pub given : List ℕ
   pub gained : Gained old new given
-  pub stands : Stands end in_new later left stopped given (frames answers)
+  pub stands : Stands in_old in_new end heard given
 
--- a piece was fed and what it made whole was served, or the session ends: at a request, at a fault behind all of them, or for want of
--- memory with nothing taken
-abbrev pub IsTurn : {D : Type 0} → (D → List Exchange → D → Type 0) → Left → List ℕ → Left → Place D → Place D → Result (Unit {0}) Ending → Type 0
-IsTurn goes old piece new o n (Ok x) = (rs : List Request) × Continues old piece rs new × Talked goes o n rs
+-- all that a conversation leaves: the marks of input and output, what the output still holds, and
+-- that the door takes calls of the session still
+pub record Converses {D S : Type 0} (goes : Goes D) (admits : D → S → Type 0)
+    (in_old in_new : Option (List ℕ)) (old new : Place D) (session : S)
+    (input_failed : Bool) (reads_left : ℕ) (output_failed : Bool) (end : Ending) : Type 0 where
+  pub conversed : Conversed goes in_old in_new old new end
+  pub input : InputAt input_failed reads_left end
+  pub handed_on : HandedOn end new.held
+  pub mark : output_failed ≡ is_write end
+  pub admitted : admits new.door session
+
+-- a piece was fed and what it made whole was served, or the session ends: at a request, at a fault
+-- behind all of them, or for want of memory with nothing taken
+abbrev pub IsTurn : {D : Type 0} → Goes D → Left → List ℕ → Left → Place D → Place D
+    → Result (Unit {0}) Ending → Type 0
+IsTurn goes old piece new o n (Ok x) =
+    (rs : List Request) × Continues old piece rs new × Talked goes o n rs
 IsTurn goes old piece new o n (Err e) =
     ((rs : List Request) × Continues old piece rs new × IsServed goes o n rs (Err e))
-    ⊎ (((fault : FrameFault) × (rs : List Request) × Continues old piece rs new × (new ≡ Faulty fault) × (e ≡ ending.Frame fault) × Talked goes o n rs)
+    ⊎ (((fault : FrameFault) × (rs : List Request) × Continues old piece rs new
+    × (new ≡ Faulty fault) × (e ≡ ending.Frame fault) × Talked goes o n rs)
     ⊎ ((e ≡ ending.Memory) × Talked goes o n []))
+
+-- where a turn doesn't end the session, nothing is at fault
+abbrev pub IsBegun : Left → Result (Unit {0}) Ending → Type 0
+IsBegun left (Ok x) = is_faulty left ≡ false
+IsBegun left (Err end) = Unit {0}
+
+-- all that a turn leaves
+pub record Turns {D S : Type 0} (goes : Goes D) (admits : D → S → Type 0) (left : Left)
+    (piece : List ℕ) (next : Left) (old new : Place D) (session : S) (output_failed : Bool)
+    (result : Result (Unit {0}) Ending) : Type 0 where
+  pub turn : IsTurn goes left piece next old new result
+  pub begun : IsBegun next result
+  pub handed_on : IsHandedOn result new.held
+  pub mark : output_failed ≡ write_failed result
+  pub admitted : admits new.door session
 
 -- the end of the input, as a session's
 abbrev pub ended : End → Ending

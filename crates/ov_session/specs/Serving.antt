@@ -15,7 +15,8 @@ use Rattle.ov_session.specs.declared.exchange.Exchange.TheVariants.{Called, Held
 abbrev pub frames : List Answer → List ℕ
 frames answers = flat_map answer_frame answers
 
--- one request: its call is asked of the door once and has the door's answer, or its path text is refused and nothing is asked
+-- one request: its call is asked of the door once and has the door's answer, or its path text is
+-- refused and nothing is asked
 abbrev pub Answers : Option (Result Call Errno) → List Exchange → Answer → Type 0
 Answers (Some (Ok call)) told answer = told ≡ Called call answer ∷ []
 Answers (Some (Err errno)) told answer = (told ≡ []) × (answer ≡ NotTaken errno)
@@ -26,11 +27,13 @@ abbrev pub Serves : List Request → List Exchange → List Answer → Type 0
 Serves [] told answers = (told ≡ []) × (answers ≡ [])
 Serves (r ∷ rs) told answers =
     (one : List Exchange) × (more : List Exchange) × (answer : Answer) × (others : List Answer)
-    × (told ≡ one ++ more) × (answers ≡ answer ∷ others) × Answers (asked_of r) one answer × Serves rs more others
+    × (told ≡ one ++ more) × (answers ≡ answer ∷ others)
+    × Answers (asked_of r) one answer × Serves rs more others
 
 -- the first of the requests is a detach
 abbrev pub IsLeaving : List Request → Type 0
-IsLeaving later = (r : Request) × (more : List Request) × (later ≡ r ∷ more) × (asked_of r ≡ None)
+IsLeaving later =
+    (r : Request) × (more : List Request) × (later ≡ r ∷ more) × (asked_of r ≡ None)
 
 -- the first of the requests asks for a call that the door held back
 abbrev pub IsHeldBack : List Request → List Exchange → Type 0

@@ -1,29 +1,40 @@
 -- A session on its way: what it has asked and answered.
-use Rattle.std.specs.Prelude.{◌≡◌, ℕ, List, [], ◌++◌, Option, Result, Ok, Err, ◌⊎◌}
+use Rattle.std.specs.Prelude.{◌≡◌, ℕ, Bool, List, [], ◌++◌, Option, Result, Ok, Err, ◌⊎◌}
 use Rattle.ov_frames.specs.declared.answer.Answer.{Answer}
 use Rattle.ov_frames.specs.declared.request.Request.{Request}
-use Rattle.ov_session.specs.Devices.{Gains, IsFrontOf}
+use Rattle.ov_session.specs.Devices.{Gains, IsFrontOf, write_failed}
+use Rattle.ov_session.specs.Doors.{Goes}
 use Rattle.ov_session.specs.Serving.{Serves, IsLeaving, IsHeldBack, frames}
 use Rattle.ov_session.specs.declared.ending.Ending.{Ending}
 use Rattle.ov_session.specs.declared.ending.Ending.TheVariants as ending
 use Rattle.ov_session.specs.declared.exchange.Exchange.{Exchange}
+use Rattle.ov_session.specs.declared.output.SessionOutput.{SessionOutput}
 
--- where a session stands: the bytes of its writer and those held for it, what the session tells, and the door
+-- where a session stands: the bytes of its writer and those held for it, what the session tells,
+-- and the door
 pub record Place (D : Type 0) : Type 0 where
   pub contents : Option (List ℕ)
   pub held : List ℕ
   pub told : List Exchange
   pub door : D
 
-abbrev pub place : {D : Type 0} → Option (List ℕ) → List ℕ → List Exchange → D → Place D
-place contents held told door = record { contents = contents; held = held; told = told; door = door }
+-- so by what is known of its writer's bytes and of what the session tells
+abbrev pub place : {W S D : Type 0} → (W → Option (List ℕ)) → (S → List Exchange)
+    → SessionOutput W → S → D → Place D
+place contents told output session door = record {
+  contents = contents output.writer;
+  held = output.held.items;
+  told = told session;
+  door = door;
+}
 
 -- between two places the output gained these bytes
 abbrev pub Gained : {D : Type 0} → Place D → Place D → List ℕ → Type 0
 Gained old new bytes = Gains old.contents new.contents old.held new.held bytes
 
 -- these requests were served, and their answers given to the output
-pub record Talked {D : Type 0} (goes : D → List Exchange → D → Type 0) (old new : Place D) (rs : List Request) : Type 0 where
+pub record Talked {D : Type 0} (goes : Goes D) (old new : Place D) (rs : List Request) :
+    Type 0 where
   pub told : List Exchange
   pub added : new.told ≡ old.told ++ told
   pub went : goes old.door told new.door
@@ -35,16 +46,22 @@ pub record Talked {D : Type 0} (goes : D → List Exchange → D → Type 0) (ol
 abbrev pub MayBeHeldBack : List Request → List Exchange → Type 0
 MayBeHeldBack later stopped = (stopped ≡ []) ⊎ IsHeldBack later stopped
 
--- why no more was served: the later requests, the call held back, the bytes given to the output, and the answers
+-- why no more was served: the later requests, the call held back, the bytes given to the output,
+-- and the answers
 abbrev pub Breaks : Ending → List Request → List Exchange → List ℕ → List Answer → Type 0
-Breaks ending.Detached later stopped given answers = (stopped ≡ []) × (given ≡ frames answers) × IsLeaving later
-Breaks ending.Write later stopped given answers = MayBeHeldBack later stopped × IsFrontOf given (frames answers)
-Breaks ending.Memory later stopped given answers = MayBeHeldBack later stopped × IsFrontOf given (frames answers)
-Breaks ending.Stopped later stopped given answers = IsHeldBack later stopped × (given ≡ frames answers)
+Breaks ending.Detached later stopped given answers =
+    (stopped ≡ []) × (given ≡ frames answers) × IsLeaving later
+Breaks ending.Write later stopped given answers =
+    MayBeHeldBack later stopped × IsFrontOf given (frames answers)
+Breaks ending.Memory later stopped given answers =
+    MayBeHeldBack later stopped × IsFrontOf given (frames answers)
+Breaks ending.Stopped later stopped given answers =
+    IsHeldBack later stopped × (given ≡ frames answers)
 Breaks _ later stopped given answers = ⊥
 
 -- these requests were served and the later ones not
-pub record BrokeOff {D : Type 0} (goes : D → List Exchange → D → Type 0) (old new : Place D) (rs later : List Request) (e : Ending) : Type 0 where
+pub record BrokeOff {D : Type 0} (goes : Goes D) (old new : Place D) (rs later : List Request)
+    (e : Ending) : Type 0 where
   pub told : List Exchange
   pub stopped : List Exchange
   pub added : new.told ≡ old.told ++ (told ++ stopped)
@@ -56,9 +73,21 @@ pub record BrokeOff {D : Type 0} (goes : D → List Exchange → D → Type 0) (
   pub how : Breaks e later stopped given answers
 
 -- the requests were served, or a front of them
-abbrev pub IsServed : {D : Type 0} → (D → List Exchange → D → Type 0) → Place D → Place D → List Request → Result (Unit {0}) Ending → Type 0
+abbrev pub IsServed : {D : Type 0} → Goes D → Place D → Place D → List Request
+    → Result (Unit {0}) Ending → Type 0
 IsServed goes old new rs (Ok x) = Talked goes old new rs
-IsServed goes old new rs (Err e) = (front : List Request) × (later : List Request) × (rs ≡ front ++ later) × BrokeOff goes old new front later e
+IsServed goes old new rs (Err e) =
+    (front : List Request) × (later : List Request) × (rs ≡ front ++ later)
+    × BrokeOff goes old new front later e
+
+-- all that serving requests leaves: the mark of the output, and that the door takes calls of the
+-- session still
+pub record ServesThem {D S : Type 0} (goes : Goes D) (admits : D → S → Type 0) (old new : Place D)
+    (session : S) (output_failed : Bool) (rs : List Request) (result : Result (Unit {0}) Ending) :
+    Type 0 where
+  pub served : IsServed goes old new rs result
+  pub mark : output_failed ≡ write_failed result
+  pub admitted : admits new.door session
 
 -- nothing is held for the writer, unless it failed or memory ran out
 abbrev pub HandedOn : Ending → List ℕ → Type 0
@@ -69,3 +98,10 @@ HandedOn _ held = held ≡ []
 abbrev pub IsHandedOn : Result (Unit {0}) Ending → List ℕ → Type 0
 IsHandedOn (Ok x) held = held ≡ []
 IsHandedOn (Err e) held = HandedOn e held
+
+-- so of the requests of a piece, whose answers are handed on
+pub record ServesPiece {D S : Type 0} (goes : Goes D) (admits : D → S → Type 0) (old new : Place D)
+    (session : S) (output_failed : Bool) (rs : List Request) (result : Result (Unit {0}) Ending) :
+    Type 0 where
+  pub them : ServesThem goes admits old new session output_failed rs result
+  pub handed_on : IsHandedOn result new.held

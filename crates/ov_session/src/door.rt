@@ -38,7 +38,8 @@ pub trait Door {
     /// Makes a call of a session.
     fn call(&mut self, session: &mut Self::Session, call: Call) -> CallOutcome
         requires { admits self.old session.old }
-        ensures told { IsAsked goes self.old self.new (told session.old) (told session.new) call result }
+        ensures told { IsAsked goes self.old self.new
+            (told session.old) (told session.new) call result }
         ensures admitted { admits self.new session.new };
 
     /// The answer to the last call of a session.
@@ -56,5 +57,6 @@ pub trait Door {
     ghost stays: { (d : Self) → goes d [] d };
 
     /// What passed one after the other passed together.
-    ghost joins: { (a b c : Self) (xs ys : List Exchange) → goes a xs b → goes b ys c → goes a (xs ++ ys) c };
+    ghost joins: { (a b c : Self) (xs ys : List Exchange) →
+        goes a xs b → goes b ys c → goes a (xs ++ ys) c };
 }

@@ -1,5 +1,6 @@
 // How sessions end.
 ghost use Rattle.std.specs.Prelude.{◌≡◌};
+ghost use Rattle.std.specs.IoError.{error_kind};
 ghost use Rattle.ov_session.specs.Devices.{Notes};
 
 use ov_frames::FrameFault;
@@ -28,7 +29,7 @@ pub enum Ending {
 
 /// How the fault of a device ends a session: with `failure`, which is noted, or out of memory.
 pub(crate) fn noted(fault: io::Error, failure: Ending, failed: &mut bool) -> Ending
-    ensures { Notes failed.old failed.new failure result }
+    ensures { Notes (error_kind fault) failed.old failed.new failure result }
 {
     match fault.kind() {
         io::ErrorKind::OutOfMemory => Ending::Memory,

@@ -35,11 +35,13 @@ impl<R: Read> SessionInput<R> {
     pub(crate) fn read(&mut self, piece: &mut [u8]) -> Result<usize, Ending>
         requires room { 0 < length piece.old }
         requires well { self.old.failed ≡ false }
-        ensures ok { IfOk result (λ count. Reads (R.remaining self.old.reader) (R.remaining self.new.reader) count piece.new) }
+        ensures ok { IfOk result (λ count.
+            Reads (R.remaining self.old.reader) (R.remaining self.new.reader) count piece.new) }
         ensures room { length piece.new ≡ length piece.old }
         ensures fewer { OnOk result (self.new.reads_left < self.old.reads_left) }
         ensures well { OnOk result (self.new.failed ≡ false) }
-        ensures kept { OnErr result (Keeps (R.remaining self.old.reader) (R.remaining self.new.reader)) }
+        ensures kept { OnErr result (
+            Keeps (R.remaining self.old.reader) (R.remaining self.new.reader)) }
         ensures end { IfErr result (IsInputEnd self.new.failed self.new.reads_left) }
     {
         'tries: while self.reads_left > 0 {

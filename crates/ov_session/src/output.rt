@@ -98,9 +98,11 @@ impl<W: Write> SessionOutput<W> {
         requires well { self.old.failed ≡ false }
         requires some { 0 < length self.old.held.items }
         ensures some { IfOk result (λ count. (0 < count) × (count ≤ length self.new.held.items)) }
-        ensures ok { IfOk result (λ count. Appends (W.contents self.old.writer) (W.contents self.new.writer)
+        ensures ok { IfOk result (λ count.
+            Appends (W.contents self.old.writer) (W.contents self.new.writer)
             (take count self.old.held.items)) }
-        ensures err { OnErr result (Keeps (W.contents self.old.writer) (W.contents self.new.writer)) }
+        ensures err { OnErr result (
+            Keeps (W.contents self.old.writer) (W.contents self.new.writer)) }
         ensures held { self.new.held.items ≡ self.old.held.items }
         ensures end { IfErr result IsOutputEnd }
         ensures mark { self.new.failed ≡ write_failed result }

@@ -1,8 +1,7 @@
 // Serving requests: each is asked of the door, and its answer given to the output.
-ghost use Rattle.std.specs.Prelude.{◌≡◌, ◌∷◌, [], false, OnOk};
-ghost use Rattle.ov_session.specs.Conversing.{IsTurn, is_faulty};
-ghost use Rattle.ov_session.specs.Devices.{write_failed};
-ghost use Rattle.ov_session.specs.Talks.{IsHandedOn, IsServed, place};
+ghost use Rattle.std.specs.Prelude.{◌≡◌, ◌∷◌, [], false};
+ghost use Rattle.ov_session.specs.Conversing.{Turns};
+ghost use Rattle.ov_session.specs.Talks.{ServesPiece, ServesThem, place};
 
 use crate::door::{CallOutcome, Door};
 use crate::ending::Ending;
@@ -21,12 +20,10 @@ fn serve_one<W: Write, D: Door>(
 ) -> Result<(), Ending>
     requires well { output.old.failed ≡ false }
     requires admitted { D.admits door.old session.old }
-    ensures served { IsServed D.goes
-        (place (W.contents output.old.writer) output.old.held.items (D.told session.old) door.old)
-        (place (W.contents output.new.writer) output.new.held.items (D.told session.new) door.new)
-        (request.now ∷ []) result }
-    ensures mark { output.new.failed ≡ write_failed result }
-    ensures admitted { D.admits door.new session.new }
+    ensures { ServesThem D.goes D.admits
+        (place W.contents D.told output.old session.old door.old)
+        (place W.contents D.told output.new session.new door.new)
+        session.new output.new.failed (request.now ∷ []) result }
 {
     match request.call(alloc) {
         Err(_) => Err(Ending::Memory),
@@ -50,12 +47,10 @@ fn serve_all<W: Write, D: Door>(
 ) -> Result<(), Ending>
     requires well { output.old.failed ≡ false }
     requires admitted { D.admits door.old session.old }
-    ensures served { IsServed D.goes
-        (place (W.contents output.old.writer) output.old.held.items (D.told session.old) door.old)
-        (place (W.contents output.new.writer) output.new.held.items (D.told session.new) door.new)
-        requests.now result }
-    ensures mark { output.new.failed ≡ write_failed result }
-    ensures admitted { D.admits door.new session.new }
+    ensures { ServesThem D.goes D.admits
+        (place W.contents D.told output.old session.old door.old)
+        (place W.contents D.told output.new session.new door.new)
+        session.new output.new.failed requests.now result }
 {
     for request in requests {
         if let Err(end) = serve_one(alloc, request, output, door, session) {
@@ -65,7 +60,8 @@ fn serve_all<W: Write, D: Door>(
     Ok(())
 }
 
-// Serves requests in order, and hands their answers on, also those before one that ends the session.
+// Serves requests in order, and hands their answers on, also those before one that ends the
+// session.
 fn serve_piece<W: Write, D: Door>(
     alloc: Global,
     requests: &[Request],
@@ -75,13 +71,10 @@ fn serve_piece<W: Write, D: Door>(
 ) -> Result<(), Ending>
     requires well { output.old.failed ≡ false }
     requires admitted { D.admits door.old session.old }
-    ensures served { IsServed D.goes
-        (place (W.contents output.old.writer) output.old.held.items (D.told session.old) door.old)
-        (place (W.contents output.new.writer) output.new.held.items (D.told session.new) door.new)
-        requests.now result }
-    ensures handed_on { IsHandedOn result output.new.held.items }
-    ensures mark { output.new.failed ≡ write_failed result }
-    ensures admitted { D.admits door.new session.new }
+    ensures { ServesPiece D.goes D.admits
+        (place W.contents D.told output.old session.old door.old)
+        (place W.contents D.told output.new session.new door.new)
+        session.new output.new.failed requests.now result }
 {
     let served = serve_all(alloc, requests, output, door, session);
     if output.has_failed() {
@@ -105,14 +98,10 @@ pub(crate) fn take_piece<W: Write, D: Door>(
     requires well { output.old.failed ≡ false }
     requires held { output.old.held.items ≡ [] }
     requires admitted { D.admits door.old session.old }
-    ensures turn { IsTurn D.goes decoder.old piece.now decoder.new
-        (place (W.contents output.old.writer) output.old.held.items (D.told session.old) door.old)
-        (place (W.contents output.new.writer) output.new.held.items (D.told session.new) door.new)
-        result }
-    ensures begun { OnOk result (is_faulty decoder.new ≡ false) }
-    ensures handed_on { IsHandedOn result output.new.held.items }
-    ensures mark { output.new.failed ≡ write_failed result }
-    ensures admitted { D.admits door.new session.new }
+    ensures { Turns D.goes D.admits decoder.old piece.now decoder.new
+        (place W.contents D.told output.old session.old door.old)
+        (place W.contents D.told output.new session.new door.new)
+        session.new output.new.failed result }
 {
     let requests = match decoder.feed(alloc, piece) {
         Ok(Ok(requests)) => requests,

@@ -1,9 +1,10 @@
-// Sessions: a client's stream is read, its requests are served, and in the end the client is detached.
+// Sessions: a client's stream is read, its requests are served, and in the end the client is
+// detached.
 ghost use Rattle.std.specs.Prelude.{◌≡◌, ◌<◌, [], false, length, IfOk};
-ghost use Rattle.ov_session.specs.Conversing.{Conversed, ended};
+ghost use Rattle.ov_session.specs.Conversing.{Converses, ended};
 ghost use Rattle.ov_session.specs.Devices.{InputAt, IsSent, is_write};
 ghost use Rattle.ov_session.specs.Sessions.{IsSession};
-ghost use Rattle.ov_session.specs.Talks.{HandedOn, place};
+ghost use Rattle.ov_session.specs.Talks.{place};
 
 use crate::door::Door;
 use crate::ending::Ending;
@@ -47,14 +48,11 @@ fn converse<R: Read, W: Write, D: Door>(
     requires well { output.old.failed ≡ false }
     requires held { output.old.held.items ≡ [] }
     requires admitted { D.admits door.old session.old }
-    ensures conversed { Conversed D.goes (R.remaining input.old.reader) (R.remaining input.new.reader)
-        (place (W.contents output.old.writer) output.old.held.items (D.told session.old) door.old)
-        (place (W.contents output.new.writer) output.new.held.items (D.told session.new) door.new)
-        result }
-    ensures input { InputAt input.new.failed input.new.reads_left result }
-    ensures handed_on { HandedOn result output.new.held.items }
-    ensures mark { output.new.failed ≡ is_write result }
-    ensures admitted { D.admits door.new session.new }
+    ensures { Converses D.goes D.admits
+        (R.remaining input.old.reader) (R.remaining input.new.reader)
+        (place W.contents D.told output.old session.old door.old)
+        (place W.contents D.told output.new session.new door.new)
+        session.new input.new.failed input.new.reads_left output.new.failed result }
 {
     let Ok(mut buffer) = buffer_of(alloc) else {
         return Ending::Memory;
@@ -75,14 +73,11 @@ fn pieces_of<R: Read, W: Write, D: Door>(
     requires well { output.old.failed ≡ false }
     requires held { output.old.held.items ≡ [] }
     requires admitted { D.admits door.old session.old }
-    ensures conversed { Conversed D.goes (R.remaining input.old.reader) (R.remaining input.new.reader)
-        (place (W.contents output.old.writer) output.old.held.items (D.told session.old) door.old)
-        (place (W.contents output.new.writer) output.new.held.items (D.told session.new) door.new)
-        result }
-    ensures input { InputAt input.new.failed input.new.reads_left result }
-    ensures handed_on { HandedOn result output.new.held.items }
-    ensures mark { output.new.failed ≡ is_write result }
-    ensures admitted { D.admits door.new session.new }
+    ensures { Converses D.goes D.admits
+        (R.remaining input.old.reader) (R.remaining input.new.reader)
+        (place W.contents D.told output.old session.old door.old)
+        (place W.contents D.told output.new session.new door.new)
+        session.new input.new.failed input.new.reads_left output.new.failed result }
 {
     let mut decoder = Decoder::new(alloc);
     'pieces: loop {
@@ -115,7 +110,8 @@ fn send_farewell<W: Write>(output: &mut SessionOutput<W>, farewell: &Answer) -> 
     }
 }
 
-/// Runs a session: serves what its client's bytes ask for, and detaches it once, whatever ends the session.
+/// Runs a session: serves what its client's bytes ask for, and detaches it once, whatever ends the
+/// session.
 pub fn session_run<R: Read, W: Write, D: Door>(
     alloc: Global,
     input: &mut SessionInput<R>,

@@ -12,6 +12,7 @@ use Rattle.ov_base.specs.Names.{is_name, name_fault}
 use Rattle.ov_base.specs.Paths.{pieces, path_below, path_spelled, path_of_text}
 use Rattle.plain_model.specs.Layers.{Name, Path, same_path}
 use Rattle.plain_model.proofs.Paths.{names_tell, paths_tell}
+use Rattle.layer_tree.proofs.Walks.{bound}
 use Rattle.ov_wire.specs.ManifestEntries.{text_at, kind_of, path_of, item_of, checked, read}
 use Rattle.ov_wire.specs.ManifestLayers.{Entry, put_at, is_further, with_entry}
 use Rattle.ov_wire.specs.Drafts.{Lists, Tells, has_text}
@@ -20,7 +21,7 @@ use Rattle.ov_wire.specs.declared.manifest.entry.Item.{Item}
 use Rattle.ov_wire.specs.declared.manifest.entry.Item.TheVariants as put
 use Rattle.ov_wire.specs.declared.manifest.fault.EntryFault.TheVariants as fault
 use Rattle.ov_wire.proofs.Placing.{placed-is, was-free}
-use Rattle.ov_wire.proofs.Said.{ok, then-ok, ok_or-ok, result_ok-some, bound, link-item}
+use Rattle.ov_wire.proofs.Said.{ok, then-ok, ok_or-ok, result_ok-some, link-item}
 
 -- a path has the pieces of its text as names
 below-reverse : (p : Path) (xs : List Name) (q : Path) → path_below p xs ≡ Ok q → q ≡ reverse xs ++ p

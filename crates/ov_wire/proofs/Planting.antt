@@ -4,13 +4,13 @@ use Rattle.std.specs.Option.{option_and_then}
 use Rattle.std.proofs.lemmas.List.{reverse-reverse}
 use Rattle.plain_model.specs.Layers as layers
 use Rattle.plain_model.specs.Layers.{Name, Path, Object, Layer, Inode, IsLayer, held, holds_directory}
+use Rattle.plain_model.proofs.Paths.{place}
 use Rattle.layer_tree.specs.Table.{object_key}
 use Rattle.layer_tree.specs.Tree.{Tree, ROOT, inode_of, entry, entry_at, child, key_at, seen_at, seen_entry, seen_object, new_inode, inode_at, layer_of, IsTree, IsUnmarked, IsDirectory, HoldsNoObjects, SetsPath, CoversPath, Inserts, Unbinds}
 use Rattle.layer_tree.specs.declared.name_table.Entry.{Entry}
 use Rattle.layer_tree.specs.declared.name_table.Entry.TheVariants as to
 use Rattle.layer_tree.specs.declared.node.Object.{Object as NewObject}
 use Rattle.layer_tree.specs.declared.node.Object.TheVariants as object
-use Rattle.layer_tree.proofs.Walks.{cases_ends}
 use Rattle.layer_tree.proofs.Changing.{key_of_entry, kind_seen, presence_seen}
 use Rattle.layer_tree.proofs.Following.{follow, follow-path}
 use Rattle.ov_wire.specs.ManifestLayers.{Stands}
@@ -88,7 +88,7 @@ pub puts-whiteout : (old new : Tree) (dir : ℕ) (name : Name) (path : Path) →
 puts-whiteout old new dir name path layer at none c u = record {
   there = c.there;
   fresh = λ k h. let no : Some layers.Whiteout ≡ Some (layers.Named k) = sym c.there ∙ h in absurd (cc);
-  elsewhere = λ other off. elsewhere other off (cases_ends other (name ∷ path));
+  elsewhere = λ other off. elsewhere other off (place (name ∷ path) other);
   inodes = λ k x is. u.inodes k (λ led. absurd (unled k led)) ∙ is;
 }
   where

@@ -1,6 +1,6 @@
 -- What an entry that is not at fault says.
 use Rattle.std.proofs.Common.{◌≡◌, ℕ, List, Option, Some, None, Result, Ok, Err, refl, sym, subst}
-use Rattle.std.specs.Option.{option_and_then, ok_or}
+use Rattle.std.specs.Option.{ok_or}
 use Rattle.std.specs.Result.{result_ok}
 use Rattle.toml.specs.Data.{Data, Members, as_table}
 use Rattle.plain_model.specs.Layers.{Path}
@@ -30,11 +30,6 @@ ok_or-ok (Some y) e x h = cc
 pub result_ok-some : {T E : Type 0} (r : Result T E) (x : T) → result_ok r ≡ Some x → r ≡ Ok x
 result_ok-some (Ok y) x h = cc
 result_ok-some (Err e) x h = absurd (cc)
-
--- what a chain of two options gave came through both
-pub bound : {A B : Type 0} (f : A → Option B) (o : Option A) (y : B) → option_and_then f o ≡ Some y → (x : A) × (o ≡ Some x) × (f x ≡ Some y)
-bound f None y e = absurd (cc)
-bound f (Some x) y e = (x, refl, e)
 
 -- an entry that is not at fault: its table, its kind, its path and what it puts there
 pub record Says (before : List Entry) (d : Data) (after : List Entry) : Type 0 where

@@ -25,6 +25,7 @@ use Rattle.plain_model.specs.Refusals.{has_nul, bad_attribute, when, ◌or_else�
 use Rattle.plain_model.proofs.Paths.{names_tell, paths_tell}
 use Rattle.layer_tree.specs.declared.node.Marks.{Marks}
 use Rattle.layer_tree.specs.declared.node.Object.TheVariants as object
+use Rattle.layer_tree.proofs.Walks.{bound}
 use Rattle.ov_wire.specs.ManifestEntries.{items_at, pair_of, is_settable, with_attribute, attributes_from, user_of, bytes_given, path_to, text_at, within, number_in, number_at, path_of, attributes_of, bytes_of, target_of, redirect_to, redirect_spelled, redirect_in, opaque_of, marks_of, item_of}
 use Rattle.ov_wire.specs.Manifests.{entries_in}
 use Rattle.ov_wire.specs.ManifestLayers.{Entry, put_at, is_inode, further_names, with_spelled, numbered, entries_from, root_of, Stands, IsAsSaid, AreSpelled}
@@ -37,7 +38,7 @@ use Rattle.ov_wire.proofs.PathTexts.{IsSpelledPath, spelled-path}
 use Rattle.ov_wire.proofs.Placing.{placed-is}
 use Rattle.ov_wire.proofs.Listing.{bytes-flip}
 use Rattle.ov_wire.proofs.Pairs.{IsSettable, settable}
-use Rattle.ov_wire.proofs.Said.{ok, then-ok, ok_or-ok, result_ok-some, bound, says, unnumbered}
+use Rattle.ov_wire.proofs.Said.{ok, then-ok, ok_or-ok, result_ok-some, says, unnumbered}
 
 -- what an answer says of its value
 said : {T : Type 0} (P : T → Type 0) (x y : T) → ok x ≡ Ok y → P x → P y

@@ -21,18 +21,18 @@ use Rattle.mount_laws.specs.Attributes.{chown_fault}
 use Rattle.mount_laws.specs.Looks.{IsMountOf, absent, or_else as first, parents_fault, shows_link, walk_fault}
 use Rattle.mount_laws.proofs.Links.{first-none, second-none}
 use Rattle.mount_laws.proofs.Looks.{found-at}
-use Rattle.open_handles.specs.Tracked.{Spot, Tracked, next_of, spot_of}
+use Rattle.open_handles.specs.Tracked.{Tracked, next_of, spot_of}
 use Rattle.notice_laws.specs.declared.object.Object.{Object}
 use Rattle.notice_laws.specs.declared.object.Object.TheVariants as object
 use Rattle.notice_laws.specs.Notified.{AreKnown, Notified, Tracks, stands_for}
-use Rattle.notice_laws.specs.Objects.{IsNumberOf, IsObject, Means}
-use Rattle.notice_laws.specs.Steps.{IsSpotOf}
+use Rattle.notice_laws.specs.Objects.{IsObject, Means}
 use Rattle.notice_laws.proofs.ArmedWatches.{law_of_armed}
 use Rattle.notice_laws.proofs.Clients.{law_of_asked}
 use Rattle.notice_laws.proofs.FewerObjects.{law_of_fewer_numbers}
 use Rattle.notice_laws.proofs.GivenNumbers.{law_of_held_number}
-use Rattle.notice_laws.proofs.Numbers.{law_of_numbers}
-use Rattle.notifier.specs.Arming.{ArmsAt, HoldsAt, IsArmRefused, IsLeft, refusal_of, watch_of}
+use Rattle.notice_laws.proofs.Numbers.{number-at, law_of_numbers}
+use Rattle.notifier.specs.Arming.{ArmsAt, IsArmRefused, IsLeft, refusal_of, watch_of}
+use Rattle.notifier.specs.Opening.{HoldsObject}
 use Rattle.watch_table.specs.Listening.{slot_refusal}
 use Rattle.mount_calls.specs.declared.mount.Mount.{Mount}
 use Rattle.mount_calls.specs.Attaching.{is_attached}
@@ -63,18 +63,10 @@ is-tracked U lowers p mask o h is other = elim (subst (IsObject U lowers p) othe
     shown None h none = let no : Some ENOENT ≡ None = h in cc
     shown (Some x) h none = let no : false ≡ true = none in cc
 
--- the number of what is tracked at its spot
-number-held : (objects : Tracked) (p : Path) (o : Object) (spot : Spot) (n : ℕ) → IsSpotOf p o spot → spot_of objects n ≡ Some spot →
-    IsNumberOf objects p o (Some n)
-number-held objects p object.Directory spot n is at = at ∙ ap Some is
-number-held objects p object.Lower spot n is at = at ∙ ap Some is
-number-held objects p (object.Upper key last) spot n is at = at ∙ ap Some is
-number-held objects p object.Other spot n is at = absurd is
-
 module _ (U : Layer) (lowers : List Layer) (s : State) (m : IsMountOf U lowers s) (k : Notified) (t : Tracks U s k)
     (below : (n : ℕ) → IsSome (spot_of k.objects n) → n < next_of k.objects)
     (p : Path) (o : Object) (is : IsObject U lowers p o) (file : shows_link (shows 0 (U ∷ lowers) p) ≡ false)
-    (held : Tracked) (number : ℕ) (at : HoldsAt k.objects held p o number) where
+    (held : Tracked) (number : ℕ) (at : HoldsObject k.objects held p o number) where
   -- what is held is tracked
   pub tracks-held : Tracks U s (record k { objects = held })
   tracks-held = law_of_held_number U lowers s m k t below p o at.spot is file at.stands held number at.holds
@@ -83,7 +75,7 @@ module _ (U : Layer) (lowers : List Layer) (s : State) (m : IsMountOf U lowers s
   means-held : Means held tracks-held.bearers (Some number) (node_at s.tree p)
   means-held =
       law_of_numbers U lowers s m held tracks-held.bearers tracks-held.borne p o (Some number) is
-      (number-held held p o at.spot number at.stands at.holds.sets.here)
+      (number-at held p o at.spot number at.stands at.holds.sets.here)
 
   -- a client's instance answers with it as the state's does
   asked-held : (c : ℕ) → AnswersAlike (stands_for held tracks-held.bearers) (instance_of k.instances c) (instance_of s.instances c)
@@ -170,7 +162,7 @@ module _ (shows : Rule) (m : Mount) (old new : Notified) (c slot : ℕ) (p : Pat
     (below : (n : ℕ) → IsSome (spot_of old.objects n) → n < next_of old.objects)
     (known : AreKnown new) where
   -- an arm that passes its path is refused as the object of its number is
-  refusal-held : (s : State) → Agrees m old s → (held : Tracked) (number : ℕ) → HoldsAt old.objects held p o number →
+  refusal-held : (s : State) → Agrees m old s → (held : Tracked) (number : ℕ) → HoldsObject old.objects held p o number →
       refusal s c (Arm slot p mask) ≡ refusal_of old c slot number
   refusal-held s a held number at =
       refusal-by m old s a c slot p mask None None (refusal_of old c slot number) slots fault

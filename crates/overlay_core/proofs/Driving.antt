@@ -7,15 +7,16 @@ use Rattle.std.proofs.lemmas.List.Folds.{list_any-append}
 use Rattle.std.proofs.lemmas.Option.{same_Some, slice_get-map, slice_get_within}
 use Rattle.std.proofs.lemmas.List.{take_more}
 use Rattle.std.proofs.lemmas.Bool.{and_cases, and_left, and_parts, and_right, cases_Bool, false≢true, or_parts}
-use Rattle.plain_model.specs.Watching.{Rule}
+use Rattle.plain_model.specs.Watching as watching
 use Rattle.plain_model.specs.Runs.{Called, Entry, Does, Run}
 use Rattle.mount_calls.specs.declared.clients.Clients.{Clients}
 use Rattle.overlay_core.specs.declared.job.Job.{Job}
 use Rattle.overlay_core.specs.declared.job.Standing.{Standing}
 use Rattle.overlay_core.specs.declared.job.Standing.TheVariants.{Open, Answered, GivenUp}
-use Rattle.mount_calls.specs.declared.mount.Mount.{Mount}
-use Rattle.notice_laws.specs.Notified.{Notified}
-use Rattle.overlay_core.specs.Watching.{Stays}
+use Rattle.overlay_core.specs.declared.mounted.Core.{Core}
+use Rattle.overlay_core.specs.Views.{CoreKeeps, CoreStays}
+use Rattle.watch_table.specs.declared.hook.Callback.{Ghosts as Callback}
+use Rattle.watch_table.specs.declared.hook.Rule.{Ghosts as Rule}
 use Rattle.mount_calls.specs.Attaching.{KeepsAttached, is_attached}
 use Rattle.overlay_core.specs.Drives.{call_of, calls_of, AreEntries, Drives, Answers, one_if_open, one_if_answered, open_count, answered, replies_to, asks_for, is_due, is_open, is_over, GivesNoStep, PassesOver}
 use Rattle.mount_calls.proofs.Serving.{get-set, get-others}
@@ -27,22 +28,43 @@ entries-more calls [] (x ∷ es) i r e call h at is = absurd h
 entries-more calls (x ∷ rs) [] i r e call h at is = absurd h
 entries-more calls (x ∷ rs) (y ∷ es) i r e call h at is = (h.0, h.1, h.2, entries-more calls rs es i r e call h.3 at is)
 
-run-more : (shows : Rule) (s : State) (es : List Entry) (t u : State) (e : Entry) → Run shows s es t → Does shows t e.client e.deed u → Run shows s (es ++ e ∷ []) u
+run-more : (shows : watching.Rule) (s : State) (es : List Entry) (t u : State) (e : Entry) → Run shows s es t → Does shows t e.client e.deed u → Run shows s (es ++ e ∷ []) u
 run-more shows s [] t u e h does = (u, subst (λ (x : State). Does shows x e.client e.deed u) h does, refl)
 run-more shows s (x ∷ es) t u e h does = (h.0, h.1, run-more shows h.0 es t u e h.2 does)
 
-pub drives-none : (shows : Rule) (calls : List (ℕ × Call)) (m : Mount) (k : Notified) (rs : List (ℕ × Reply)) → rs ≡ [] → Drives shows calls m k rs m k
-drives-none shows calls m k rs none s a = ([], subst (λ l. AreEntries calls l []) (sym none) tt, (s, refl, a))
+module _ {F G : Type 0} {asks : Callback F} {rule : Rule G} (calls : List (ℕ × Call)) where
+  -- no reply is none of a run
+  pub drives-none : (m : Core F G asks rule) (rs : List (ℕ × Reply)) → rs ≡ [] → Drives calls m rs m
+  drives-none m rs none s a = ([], subst (λ l. AreEntries calls l []) (sym none) tt, (s, refl, a))
 
-pub drives-more : (shows : Rule) (calls : List (ℕ × Call)) (l m n : Mount) (i j k : Notified) (rs : List (ℕ × Reply)) (at : ℕ) (r : Reply) → Drives shows calls l i rs m j → Answers shows calls m j at r n k → Drives shows calls l i (rs ++ (at, r) ∷ []) n k
-drives-more shows calls l m n i j k rs at r d a s h =
-    let x = d s h in
-    let y = a.3 x.2.0 x.2.2 in
-    let e : Entry = record { client = a.0; number = 0; deed = Called a.1 r } in
-    (x.0 ++ e ∷ [], entries-more calls rs x.0 at r e a.1 x.1 a.2 refl, (y.0, run-more shows s x.0 x.2.0 y.0 e x.2.1 y.1, y.2))
+  -- one more reply is one more deed of the run
+  pub drives-more : (l m n : Core F G asks rule) (rs : List (ℕ × Reply)) (at : ℕ) (r : Reply) →
+      Drives calls l rs m → Answers calls m at r n → Drives calls l (rs ++ (at, r) ∷ []) n
+  drives-more l m n rs at r d a s h =
+      let x = d s h in
+      let y = a.3 x.2.0 x.2.2 in
+      let e : Entry = record { client = a.0; number = 0; deed = Called a.1 r } in (
+        x.0 ++ e ∷ [],
+        entries-more calls rs x.0 at r e a.1 x.1 a.2 refl,
+        (y.0, run-more rule.shows s x.0 x.2.0 y.0 e x.2.1 y.1, y.2),
+      )
 
-pub drives-stay : (shows : Rule) (calls : List (ℕ × Call)) (l m n : Mount) (i j k : Notified) (rs : List (ℕ × Reply)) → Drives shows calls l i rs m j → Stays m j n k → Drives shows calls l i rs n k
-drives-stay shows calls l m n i j k rs d h s a = let x = d s a in (x.0, x.1, (x.2.0, x.2.1, h x.2.0 x.2.2))
+  -- a step that leaves each state leaves the run
+  pub drives-stay : (l m n : Core F G asks rule) (rs : List (ℕ × Reply)) →
+      Drives calls l rs m → CoreStays m n → Drives calls l rs n
+  drives-stay l m n rs d h s a = let x = d s a in (x.0, x.1, (x.2.0, x.2.1, h x.2.0 x.2.2))
+
+module _ {F G : Type 0} {asks : Callback F} {rule : Rule G} where
+  -- a core keeps what it has, and what is kept twice is kept
+  pub kept-same : (m : Core F G asks rule) → CoreKeeps m m
+  kept-same m = record { options = refl; lowers = refl; thin = λ thin. thin }
+
+  pub kept-on : (l m n : Core F G asks rule) → CoreKeeps l m → CoreKeeps m n → CoreKeeps l n
+  kept-on l m n h g = record {
+    options = g.options ∙ h.options;
+    lowers = g.lowers ∙ h.lowers;
+    thin = λ thin. g.thin (h.thin thin);
+  }
 
 at-most : (x : Standing) (n m : ℕ) → n ≤ m → one_if_open x + n ≤ suc m
 at-most x n m h = grind arith

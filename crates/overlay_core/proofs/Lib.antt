@@ -6,7 +6,9 @@ pub mod Arriving
 pub mod Leaving
 pub mod Names
 pub mod Lifted
+pub mod Altering
 pub mod Uses
+pub mod Making
 pub mod WatchCalls
 pub mod ArmCalls
 pub mod Arming

@@ -1,8 +1,6 @@
 -- Opens: which descriptor is given, what is refused, and what is kept for watches when one is prepared and taken back.
 use Rattle.std.proofs.Common.{◌≡◌, ◌≢◌, ◌∷◌, ◌&&◌, ◌||◌, ℕ, true, false, not, List, [], Option, None, Some, is_some, is_none, nat_eq, refl, sym, ap, subst, ◌∙◌, inl, inr}
 use Rattle.std.specs.List.{list_any}
-use Rattle.std.specs.BTreeMap.{get}
-use Rattle.std.specs.Ordering.{nat_cmp}
 use Rattle.std.proofs.lemmas.Bool.{false≢true}
 use mathlib.Core.Logic.{∥∥₁_elim}
 use mathlib.Core.Bool.{Bool-set}
@@ -16,14 +14,15 @@ use Rattle.ov_base.specs.declared.node_id.NodeId.{NodeId}
 use Rattle.ov_base.specs.declared.node_id.NodeId.TheVariants.{New}
 use Rattle.plain_model.specs.Layers.{Layer, Path, Shown, is_directory, shows}
 use Rattle.plain_model.specs.Tree.{node_at}
-use Rattle.plain_model.specs.Watching.{On}
+use Rattle.ov_base.specs.declared.reply.Reply.TheVariants.{Refused}
+use Rattle.plain_model.specs.Watching.{On, Rule}
+use Rattle.plain_model.specs.Runs.{Called}
 use Rattle.plain_model.specs.Machine.{State, handle_of, lowest_free}
 use Rattle.plain_model.specs.Refusals.{bad_flags, bad_mode, refusal, when}
 use Rattle.plain_model.specs.Settling as settling
 use Rattle.plain_model.specs.Alike.{AreAllAlike, is_watched}
 use Rattle.plain_model.proofs.Clients.{attached-is}
 use Rattle.plain_model.proofs.Looking.{when-not}
-use Rattle.merged_lookup.specs.Merged.{lowers_of}
 use Rattle.mount_laws.specs.Looks.{IsMountOf, or_else, parents_fault, shows_link}
 use Rattle.mount_laws.specs.Opening.{shown_fault}
 use Rattle.mount_laws.proofs.Links.{first-none, second-none}
@@ -39,39 +38,26 @@ use Rattle.notice_laws.specs.Notified.{AreKnown, IsSlotOn, Notified, Tracks, sta
 use Rattle.notice_laws.specs.Objects.{IsObject, IsShownIn}
 use Rattle.notice_laws.proofs.FewerObjects.{law_of_fewer_numbers}
 use Rattle.notice_laws.proofs.GivenNumbers.{law_of_held_number}
-use Rattle.notice_laws.proofs.Numbers.{some-is}
 use Rattle.notice_laws.proofs.ShownParents.{walked-shown}
 use Rattle.notifier.specs.Opening.{AreGiven, HoldsBoth, HoldsWay, IsBack}
 use Rattle.mount_calls.specs.declared.mount.Mount.{Mount}
 use Rattle.mount_calls.specs.Attaching.{is_attached, opened_by}
 use Rattle.mount_calls.specs.States.{IsStateOf}
-use Rattle.mount_calls.proofs.Serving.{free-lowest, free-none, opened-is, slot-closed}
-use Rattle.overlay_core.specs.Opens.{IsFull, IsLowestFree}
-use Rattle.overlay_core.specs.Watching.{Agrees, HasState}
+use Rattle.mount_calls.proofs.Answering.{serve-refused}
+use Rattle.mount_calls.proofs.Openings.{lowest-there}
+use Rattle.mount_calls.proofs.Serving.{slot-closed}
+use Rattle.mount_calls.specs.FreeDescriptors.{IsLowestFree}
+use Rattle.overlay_core.specs.Watching.{Agrees, Goes, HasState}
 use Rattle.overlay_core.proofs.Arriving.{any-forth}
 use Rattle.overlay_core.proofs.Leaving.{free-tracked}
-use Rattle.overlay_core.proofs.Performing.{known-room}
+use Rattle.overlay_core.proofs.Performing.{goes-never, known-room}
 use Rattle.overlay_core.proofs.Shown.{directory-no-link, directory-some, none-some}
 use Rattle.overlay_core.proofs.Watching.{upper_of}
 
 -- THE DESCRIPTOR: the lowest that is free for the mount is the lowest that is free for the machine
 pub lowest-given : (m : Mount) (s : State) (c d : ℕ) → IsStateOf m s → is_attached m.clients c ≡ true → IsLowestFree m.clients c d →
     lowest_free s.tables c ≡ Some d
-lowest-given m s c d st there low =
-    let ds = some-is (get nat_cmp m.clients.attached c) there in
-    free-lowest _ m.clients s.tables st.tables c d ds.0 ds.1
-    (record {
-      in_range = low.in_range;
-      free = sym (opened-is m.clients c d ds.0 ds.1) ∙ low.free;
-      lowest = λ k below. ap is_some (sym (opened-is m.clients c k ds.0 ds.1)) ∙ low.lowest k below;
-    })
-
--- and where the mount has none, the machine has none
-pub none-given : (m : Mount) (s : State) (c : ℕ) → IsStateOf m s → is_attached m.clients c ≡ true → IsFull m.clients c →
-    lowest_free s.tables c ≡ None
-none-given m s c st there full =
-    let ds = some-is (get nat_cmp m.clients.attached c) there in
-    free-none _ m.clients s.tables st.tables c ds.0 ds.1 (λ k below. ap is_some (sym (opened-is m.clients c k ds.0 ds.1)) ∙ full k below)
+lowest-given m s c d st there low = lowest-there m s st c d there low
 
 -- a client that is attached has places for what its handles are on
 pub attached-tracked : (m : Mount) (k : Notified) (c : ℕ) → ∥ HasState m k ∥₁ → is_attached m.clients c ≡ true → is_tracked k.handles c ≡ true
@@ -105,7 +91,7 @@ last-none v w x y z h =
     let end = second-none x (or_else y z) later in
     (first-none x (or_else y z) later, first-none y z end, second-none y z end)
 
--- WHAT IS REFUSED, and what an open says that isn't
+-- WHAT AN OPEN SAYS that isn't refused
 module _ (U : Layer) (lowers : List Layer) (s : State) (m : IsMountOf U lowers s) (c : ℕ) (p : Path) (f : OpenFlags) (mode : ℕ)
     (fine : refusal s c (Open p f mode) ≡ None) where
   -- what is shown at the path
@@ -117,19 +103,6 @@ module _ (U : Layer) (lowers : List Layer) (s : State) (m : IsMountOf U lowers s
   unfaulted =
       last-none (when (bad_flags f) EINVAL) (bad_mode mode) (parents_fault (U ∷ lowers) p) (shown_fault f here)
       (when (is_none (lowest_free s.tables c)) EMFILE) (sym (law_of_open_refusal U lowers s m c p f mode) ∙ fine)
-
-  -- something is shown, or is made
-  unmissed : when (is_none here && not f.create) ENOENT ≡ None
-  unmissed =
-      first-none (when (is_none here && not f.create) ENOENT)
-      (or_else (when (is_some here && f.create && f.exclusive) EEXIST)
-      (or_else (when (shows_link here) ELOOP)
-      (or_else (when (is_some here && f.directory && not (is_directory here)) ENOTDIR) (when (is_directory here && (f.writes || f.create)) EISDIR))))
-      unfaulted.1
-
-  -- a descriptor is free
-  pub open-free : lowest_free s.tables c ≢ None
-  open-free none = false≢true (sym (when-not (is_none (lowest_free s.tables c)) EMFILE unfaulted.2) ∙ ap is_none none)
 
   -- no link is shown
   pub open-no-link : shows_link here ≡ false
@@ -147,13 +120,6 @@ module _ (U : Layer) (lowers : List Layer) (s : State) (m : IsMountOf U lowers s
   pub open-absent : IsObject U lowers p object.Other → node_at s.tree p ≡ None
   open-absent (inl none) = some-none (node_at s.tree p) (at-some U lowers s m p ∙ none-some here none)
   open-absent (inr link) = absurd (false≢true (sym open-no-link ∙ link))
-
-  -- and that is made
-  pub open-creates : IsObject U lowers p object.Other → f.create ≡ false → ⊥
-  open-creates (inl none) creates =
-      let no = when-not (is_none here && not f.create) ENOENT unmissed in
-      false≢true (sym no ∙ ap (λ b. b && not f.create) none ∙ ap not creates)
-  open-creates (inr link) creates = false≢true (sym open-no-link ∙ link)
 
 -- what stands at a path, and isn't nothing, is shown
 pub object-some : (U : Layer) (lowers : List Layer) (p : Path) (o : Object) → IsObject U lowers p o → o ≢ object.Other →
@@ -211,15 +177,16 @@ back-agrees m s from to known back a = record {
   tracks = back-tracks (upper_of m) s from to known back a.tracks;
 }
 
--- an open where all descriptors are open is refused in each state
-pub never-full : (m : Mount) (k : Notified) (c : ℕ) (p : Path) (f : OpenFlags) (mode : ℕ) (call : Call) → call ≡ Open p f mode →
-    is_attached m.clients c ≡ true → IsFull m.clients c → (s : State) → Agrees m k s → refusal s c call ≢ None
-never-full m k c p f mode call is there full s a fine =
-    open-free (upper_of m) (lowers_of m.layers) s a.stands.layers c p f mode (subst (λ j. refusal s c j ≡ None) is fine)
-    (none-given m s c a.stands there full)
-
--- and one of nothing that makes nothing
-pub never-made : (m : Mount) (k : Notified) (c : ℕ) (p : Path) (f : OpenFlags) (mode : ℕ) (call : Call) → call ≡ Open p f mode →
-    IsObject (upper_of m) (lowers_of m.layers) p object.Other → f.create ≡ false → (s : State) → Agrees m k s → refusal s c call ≢ None
-never-made m k c p f mode call is nothing creates s a fine =
-    open-creates (upper_of m) (lowers_of m.layers) s a.stands.layers c p f mode (subst (λ j. refusal s c j ≡ None) is fine) nothing creates
+-- an open that the machine refuses in each state, and the mount too, goes so
+pub goes-refused-open : (rule : Rule) (c : ℕ) (k : Call) (e : Errno) (m : Mount) (from : Notified) → is_attached m.clients c ≡ true →
+    ((s : State) → IsStateOf m s → refusal s c k ≡ Some e) → Goes rule m from c (Called k (Refused e)) m from
+goes-refused-open rule c k e m from there refused =
+    goes-never rule c k (Refused e) m m from
+    (record {
+      there = there;
+      serves = λ s st. serve-refused (refusal s c k) s c k e m (refused s st) st;
+      lowers = refl;
+      named = λ s st fine. absurd (let no : Some e ≡ None = sym (refused s st) ∙ fine in cc);
+      refused = λ f is. refl;
+    })
+    (λ s a fine. let no : Some e ≡ None = sym (refused s a.stands) ∙ fine in cc)

@@ -9,14 +9,13 @@ use Rattle.ov_base.specs.declared.call.OpenFlags.{OpenFlags}
 use Rattle.ov_base.specs.declared.errno.Errno.{Errno}
 use Rattle.ov_base.specs.declared.node_id.NodeId.{NodeId}
 use Rattle.ov_base.specs.declared.reply.Reply.{Reply}
-use Rattle.ov_base.specs.declared.reply.Reply.TheVariants.{Descriptor, Refused}
+use Rattle.ov_base.specs.declared.reply.Reply.TheVariants.{Refused}
 use Rattle.plain_model.specs.Layers.{Layer, Path}
 use Rattle.plain_model.specs.Tree.{node_at, node_of}
 use Rattle.plain_model.specs.Watching.{Rule}
-use Rattle.plain_model.specs.Machine.{DESCRIPTORS_MAX, Live, State, lowest_free}
+use Rattle.plain_model.specs.Machine.{Live, State}
 use Rattle.plain_model.specs.Refusals.{refusal}
 use Rattle.plain_model.specs.Changes.{after, opens, view_of}
-use Rattle.plain_model.specs.Replies.{reply_of}
 use Rattle.plain_model.specs.Runs.{Called}
 use Rattle.layer_tree.specs.Tree.{layer_of}
 use Rattle.merged_lookup.specs.Merged.{lowers_of}
@@ -30,17 +29,17 @@ use Rattle.notice_laws.proofs.Numbers.{node-shown}
 use Rattle.notice_laws.proofs.OpenNewTold.{law_of_opened_new}
 use Rattle.notice_laws.proofs.OpenTold.{law_of_opened}
 use Rattle.notifier.specs.Notifying.{IsFree}
-use Rattle.notifier.specs.Opening.{AreGiven, IsBack, IsReady, IsReadyNew}
+use Rattle.notifier.specs.Opening.{AreGiven, IsReady, IsReadyNew}
 use Rattle.mount_calls.specs.declared.mount.Mount.{Mount}
 use Rattle.mount_calls.specs.Attaching.{file_by}
 use Rattle.mount_calls.specs.Files.{upper_of as key_of}
 use Rattle.mount_calls.specs.States.{IsStateOf, Serves}
-use Rattle.overlay_core.specs.Opens.{IsLowestFree}
+use Rattle.mount_calls.specs.FreeDescriptors.{IsLowestFree}
 use Rattle.overlay_core.specs.Watching.{Agrees, Goes, HasState}
 use Rattle.overlay_core.proofs.Lifted.{free-key, free-squashed, lifted-key}
 use Rattle.overlay_core.proofs.Performing.{Performed, passing}
-use Rattle.overlay_core.proofs.Watching.{allowed-by, goes, tracks-same, upper_of}
-use Rattle.overlay_core.proofs.Opens.{back-tracks, lowest-given, object-some, open-absent, open-no-link, open-shown, ready-tracks, way-tracks}
+use Rattle.overlay_core.proofs.Watching.{allowed-by, goes, upper_of}
+use Rattle.overlay_core.proofs.Opens.{lowest-given, object-some, open-absent, open-no-link, open-shown, ready-tracks, way-tracks}
 use Rattle.overlay_core.proofs.OpenedKeys.{opened-key, writes-live}
 use Rattle.overlay_core.proofs.OpenedNodes.{held-vacant, new-here, new-key, new-vacant, opened-file, opened-leads, opened-touches}
 
@@ -71,15 +70,6 @@ module _ (rule : Rule) (c : ℕ) (p : Path) (f : OpenFlags) (mode : ℕ) (k : Ca
       (subst (λ x. IsStateOf new (after s c x)) is (subst (λ o. Serves o s c k r new) fine (done.serves s a.stands)).1)
       (lowest-given old s c fd a.stands done.there low) here sees j last
       (subst (λ (x : List Layer). IsObject V x p (object.Upper j last)) (sym (ap (λ x. map layer_of x.items) done.lowers)) at)
-
-  -- refused, and what was prepared taken back
-  pub goes-unopened : (to : Notified) → ((d : ℕ) → r ≢ Descriptor d) → IsBack from to → AreKnown to → Goes rule old from c (Called k r) new to
-  goes-unopened to isnt back known =
-      goes rule c k r old new from to done.there done.serves
-      (λ s a e at. tracks-same old new s to (done.refused e at) (back-tracks U s from to known back a.tracks))
-      (λ s a fine.
-      let answer = (subst (λ o. Serves o s c k r new) fine (done.serves s a.stands)).0 in
-      absurd (isnt (unwrap_or (lowest_free s.tables c) DESCRIPTORS_MAX) (answer ∙ ap (reply_of s c) is)))
 
   -- OF WHAT STANDS THERE
   module _ (o : Object) (stands : IsObject U L p o) (something : o ≢ object.Other) (known : AreKnown from) (given : AreGiven from.objects)

@@ -3,12 +3,10 @@ use Rattle.std.proofs.Common.{◌≡◌, ◌≢◌, ℕ, true, None, IsSome, is_
 use Rattle.std.specs.Prelude.{IfOk, OnErr, Result, Ok, Err}
 use mathlib.Core.Logic.{∥∥₁_map}
 use Rattle.ov_base.specs.declared.call.Call.{Call}
-use Rattle.ov_base.specs.declared.call.Call.TheVariants.{Unlink}
 use Rattle.ov_base.specs.declared.errno.Errno.{Errno}
 use Rattle.ov_base.specs.declared.reply.Reply.{Reply}
 use Rattle.ov_base.specs.declared.reply.Reply.TheVariants.{Done, Refused}
 use Rattle.plain_model.specs.Watching.{Rule}
-use Rattle.plain_model.specs.Layers.{Path}
 use Rattle.plain_model.specs.Machine.{State}
 use Rattle.plain_model.specs.Refusals.{refusal}
 use Rattle.plain_model.specs.Replies.{reply_of}
@@ -22,7 +20,6 @@ use Rattle.notice_laws.proofs.FewerObjects.{law_of_fewer_numbers}
 use Rattle.mount_calls.specs.declared.mount.Mount.{Mount}
 use Rattle.mount_calls.specs.Attaching.{is_attached}
 use Rattle.mount_calls.specs.Living.{KeepsNamed, StaysLive}
-use Rattle.mount_calls.specs.Offers.{is_offered}
 use Rattle.mount_calls.specs.States.{HasStateOf, IsStateOf, Serves, StaysState}
 use Rattle.mount_calls.specs.Status.{outcome_reply}
 use Rattle.mount_calls.proofs.Frames.{same-layers}
@@ -76,11 +73,7 @@ goes-never rule c k r old new from done never =
     goes rule c k r old new from from done.there done.serves (λ s a e at. tracks-same old new s from (done.refused e at) a.tracks)
     (λ s a fine. absurd (never s a fine))
 
--- so a call says that it made
-pub performed : (c : ℕ) (k : Call) (r : Reply) (old new : Mount) → is_offered k ≡ true → is_attached old.clients c ≡ true → (is_offered k ≡ true → (s : State) → IsStateOf old s → Serves (refusal s c k) s c k r new) → new.layers.lowers ≡ old.layers.lowers → (is_offered k ≡ true → (s : State) → IsStateOf old s → refusal s c k ≡ None → KeepsNamed s c old.layers new.layers k) → ((e : Errno) → r ≡ Refused e → new.layers ≡ old.layers) → Performed c k r old new
-performed c k r old new offered there serves lowers named refused = record { there = there; serves = serves offered; lowers = lowers; named = named offered; refused = refused }
-
--- and one of which it tells an outcome
+-- a call that the mount made, of which it tells an outcome
 pub performed-outcome : {A : Type 0} (c : ℕ) (k : Call) (outcome : Result A Errno) (old new : Mount) → is_attached old.clients c ≡ true →
     ((s : State) → IsStateOf old s → (d : ℕ) → Serves (refusal s d k) s d k (outcome_reply outcome) new) →
     new.layers.lowers ≡ old.layers.lowers →
@@ -98,48 +91,19 @@ performed-outcome {A} c k outcome old new there serves lowers named refused = re
     by (Ok b) h e is = absurd (let no : Done ≡ Refused e = is in cc)
     by (Err f) h e is = h
 
--- an unlink so, whose outcome is this one
-pub unlinked-so : {A : Type 0} (c : ℕ) (p : Path) (is outcome : Result A Errno) (old new : Mount) → is ≡ outcome → is_attached old.clients c ≡ true →
-    ((s : State) → IsStateOf old s → (d : ℕ) → Serves (refusal s d (Unlink p)) s d (Unlink p) (outcome_reply outcome) new) →
+-- a call so, whose outcome is this one
+pub outcome-so : {A : Type 0} (c : ℕ) (k : Call) (is outcome : Result A Errno) (old new : Mount) → is ≡ outcome → is_attached old.clients c ≡ true →
+    ((s : State) → IsStateOf old s → (d : ℕ) → Serves (refusal s d k) s d k (outcome_reply outcome) new) →
     new.layers.lowers ≡ old.layers.lowers →
-    ((s : State) → IsStateOf old s → (d : ℕ) → refusal s d (Unlink p) ≡ None → KeepsNamed s d old.layers new.layers (Unlink p)) →
-    OnErr outcome (new.layers ≡ old.layers) → Performed c (Unlink p) (outcome_reply is) old new
-unlinked-so c p is outcome old new same there serves lowers named refused =
-    subst (λ o. Performed c (Unlink p) (outcome_reply o) old new) (sym same) (performed-outcome c (Unlink p) outcome old new there serves lowers named refused)
-
--- a call that is refused in each state goes so, whatever the mount says of it, where memory doesn't run out
-pub goes-never-each : {E : Type 0} (rule : Rule) (c : ℕ) (k : Call) (old new : Mount) (from : Notified) (result : Result Reply E) →
-    is_attached old.clients c ≡ true → IfOk result (λ r. (s : State) → IsStateOf old s → Serves (refusal s c k) s c k r new) →
-    new.layers.lowers ≡ old.layers.lowers →
-    IfOk result (λ r. (s : State) → IsStateOf old s → refusal s c k ≡ None → KeepsNamed s c old.layers new.layers k) →
-    IfOk result (λ r. (e : Errno) → r ≡ Refused e → new.layers ≡ old.layers) →
-    ((s : State) → Agrees old from s → refusal s c k ≢ None) → IfOk result (λ r. Goes rule old from c (Called k r) new from)
-goes-never-each rule c k old new from (Ok r) there serves lowers named refused never =
-    goes-never rule c k r old new from (record { there = there; serves = serves; lowers = lowers; named = named; refused = refused }) never
-goes-never-each rule c k old new from (Err e) there serves lowers named refused never = tt
-
--- and one of which it says so for calls that are offered
-pub goes-refused-each : {E : Type 0} (rule : Rule) (c : ℕ) (k : Call) (old new : Mount) (from : Notified) (result : Result Reply E) →
-    is_offered k ≡ true → is_attached old.clients c ≡ true →
-    IfOk result (λ r. is_offered k ≡ true → (s : State) → IsStateOf old s → Serves (refusal s c k) s c k r new) →
-    new.layers.lowers ≡ old.layers.lowers →
-    IfOk result (λ r. is_offered k ≡ true → (s : State) → IsStateOf old s → refusal s c k ≡ None → KeepsNamed s c old.layers new.layers k) →
-    IfOk result (λ r. (e : Errno) → r ≡ Refused e → new.layers ≡ old.layers) →
-    ((s : State) → Agrees old from s → refusal s c k ≢ None) → IfOk result (λ r. Goes rule old from c (Called k r) new from)
-goes-refused-each {E} rule c k old new from (Ok r) offered there serves lowers named refused never =
-    goes-never-each {E = E} rule c k old new from (Ok r) there (serves offered) lowers (named offered) refused never
-goes-refused-each {E} rule c k old new from (Err e) offered there serves lowers named refused never = tt
+    ((s : State) → IsStateOf old s → (d : ℕ) → refusal s d k ≡ None → KeepsNamed s d old.layers new.layers k) →
+    OnErr outcome (new.layers ≡ old.layers) → Performed c k (outcome_reply is) old new
+outcome-so c k is outcome old new same there serves lowers named refused =
+    subst (λ o. Performed c k (outcome_reply o) old new) (sym same) (performed-outcome c k outcome old new there serves lowers named refused)
 
 -- a call goes as what it is
 pub goes-as : {E : Type 0} (rule : Rule) (c : ℕ) (k j : Call) (result : Result Reply E) (old new : Mount) (from to : Notified) → k ≡ j →
     IfOk result (λ r. Goes rule old from c (Called j r) new to) → IfOk result (λ r. Goes rule old from c (Called k r) new to)
 goes-as rule c k j result old new from to is h = subst (λ i. IfOk result (λ r. Goes rule old from c (Called i r) new to)) (sym is) h
-
--- and where it does, each state that agreed agrees still
-pub stays-err : {A E : Type 0} (result : Result A E) (old new : Mount) (from : Notified) → OnErr result (StaysState old new) →
-    OnErr result (StaysLive old.layers new.layers) → OnErr result (Stays old from new from)
-stays-err (Ok a) old new from states live = tt
-stays-err (Err e) old new from states live = stays old new from from states live (λ s t. t)
 
 -- what holds where a call wanted memory
 pub on-err : {A E : Type 0} (r : Result A E) (P : Type 0) → P → OnErr r P

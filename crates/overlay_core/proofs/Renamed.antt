@@ -1,5 +1,5 @@
 -- What a rename that moves something asks of what is kept for watches: a place for a directory, and a key for a file of a lower layer.
-use Rattle.std.proofs.Common.{◌≡◌, ◌≢◌, ◌∷◌, ◌++◌, ◌⊎◌, ◌||◌, inl, inr, ℕ, suc, nat_eq, eqb-true, eq-eqb, Bool, true, false, not, ◌&&◌, cond, [], List, Option, None, Some, refl, sym, ap, subst, ◌∙◌, is_some}
+use Rattle.std.proofs.Common.{◌≡◌, ◌∷◌, ◌++◌, ◌⊎◌, ◌||◌, inl, inr, ℕ, suc, nat_eq, eqb-true, eq-eqb, Bool, true, false, not, ◌&&◌, cond, [], List, Option, None, Some, refl, sym, ap, subst, ◌∙◌, is_some}
 use Rattle.std.specs.Prelude.{option_and_then}
 use Rattle.std.proofs.lemmas.Bool.{cases_Bool, false≢true}
 use Rattle.ov_base.specs.declared.bytes.Content.TheVariants.{File, SymbolicLink}
@@ -15,13 +15,10 @@ use Rattle.plain_model.specs.Refusals.{there, unless_same, walked, when}
 use Rattle.plain_model.specs.Changes.{after, meta_touched, one_fewer, renamed, settled, tree_after, way_of}
 use Rattle.plain_model.proofs.Kept.{by-path}
 use Rattle.plain_model.proofs.Looking.{or-first, or-second, when-not}
-use Rattle.plain_model.proofs.Paths.{place}
-use Rattle.mount_laws.specs.Moving.{Goes, Stays}
+use Rattle.mount_laws.specs.Moving.{Goes}
 use Rattle.mount_laws.specs.OpenFiles.{IsLive}
-use Rattle.mount_laws.specs.Paths.{LeadsElsewhere, LeadsIfMoved}
-use Rattle.mount_laws.proofs.Leading.{law_of_paths}
+use Rattle.mount_laws.specs.Paths.{LeadsElsewhere}
 use Rattle.mount_laws.proofs.Looks.{at-some, finds, found-at, node-some}
-use Rattle.mount_laws.proofs.OnePath.{law_of_one_path}
 use Rattle.mount_laws.proofs.OpenFiles.{law_of_live_one, law_of_live_shown}
 use Rattle.mount_laws.proofs.Opens.{folder-at}
 use Rattle.mount_laws.proofs.Sorts.{change-fact, law_of_sorts, settled-left, way-fact}
@@ -31,6 +28,7 @@ use Rattle.notice_laws.specs.declared.object.Object.TheVariants as object
 use Rattle.notice_laws.specs.Notified.{Notified, Passes, Tracks, stands_alone}
 use Rattle.notice_laws.specs.Objects.{IsLower, IsObject}
 use Rattle.notice_laws.specs.Steps.{IsSpotOf, is_last_name}
+use Rattle.notice_laws.proofs.MovedPlaces.{goes-on, leads-elsewhere}
 use Rattle.notice_laws.proofs.NamesLost.{other-path}
 use Rattle.notice_laws.proofs.Numbers.{live-apart, looks-as}
 use Rattle.overlay_core.proofs.Lifted.{alone-file, is_file, named-file, own-shown}
@@ -81,9 +79,7 @@ module _ (U V : Layer) (lowers : List Layer) (s : State) (c : ℕ) (p q : Path)
   u = tree_after s c (Rename p q)
 
   leads : LeadsElsewhere t u p q
-  leads =
-      subst (λ b. LeadsIfMoved b t u p q) two
-      (law_of_paths s c (Rename p q) passes.before.kept (law_of_one_path U lowers s passes.before).directories passes.allowed)
+  leads = leads-elsewhere U V lowers s c p q passes two
 
   -- neither path is below the other
   pub moved-apart : IsOutside p q
@@ -111,18 +107,6 @@ module _ (U V : Layer) (lowers : List Layer) (s : State) (c : ℕ) (p q : Path)
     pub nothing-there : is_some (shows 0 (U ∷ lowers) q) ≡ false → IsVacant k.objects (At q)
     nothing-there none n at =
         false≢true (sym none ∙ sym (at-some U lowers s passes.before q) ∙ ap is_some (tracks.borne.places n (At q) at).0)
-
-  -- a path that is not the new one, and leads somewhere, is outside it
-  outside-new : (x : Path) → x ≢ q → (d : NodeId) → node_at t x ≡ Some d → IsOutside q x
-  outside-new x other d at [] b = other b
-  outside-new x other d at (n ∷ r) b = let z : None ≡ Some d = sym (leads.bare n r) ∙ ap (node_at t) (sym b) ∙ at in cc
-
-  -- so what it leads to has a path then
-  goes-on : (x : Path) → x ≢ q → (d : NodeId) → node_at t x ≡ Some d → (y : Path) × (node_at u y ≡ Some d)
-  goes-on x other d at = elim (place p x) [
-    | inl b ↦ (b.0 ++ q, leads.follows x (b.0 ++ q) (Goes b.0 b.1 refl) ∙ at)
-    | inr out ↦ (x, leads.follows x x (Stays out (outside-new x other d at) refl) ∙ at)
-  ]
 
   -- what moved is at the new place
   comes : (d : NodeId) → node_at t p ≡ Some d → node_at u q ≡ Some d
@@ -174,7 +158,7 @@ module _ (U V : Layer) (lowers : List Layer) (s : State) (c : ℕ) (p q : Path)
           (let held = tracks.borne.places m (Upper key) up in
           let y = tracks.bearers m in
           let other = other-path U lowers s passes.before passes.one q e was_there (Upper key) rests y held in
-          let now = goes-on other.0 other.1 y other.2 in
+          let now = goes-on t u p q leads other.0 other.1 y other.2 in
           let live = passes.named y key now.0 held.0 now.1 in
           let mine = law_of_live_shown V lowers (after s c (Rename p q)) passes.now q key is.inode is.bytes d is.shown is.file (comes d here) in
           let same : d ≡ y = (law_of_live_one V u q d y key key (comes d here) mine live).1 refl in

@@ -1,6 +1,6 @@
 -- Renames of a mount: what is kept for watches agrees with each state where one is told, where nothing moved, and where one is given up.
 use Rattle.std.proofs.Common.{◌≡◌, ◌≢◌, ◌*◌, ◌<◌, ◌≤◌, ◌^◌, ◌⊎◌, inl, inr, ℕ, Bool, true, false, not, List, [], Option, None, Some, is_some, refl, sym, ap, subst, ◌∙◌, length, map, arith}
-use Rattle.std.specs.Prelude.{IfOk, MatchOption, OnErr, Result, Ok, Err}
+use Rattle.std.specs.Prelude.{IfOk, IfSome, MatchOption, OnErr, Result, Ok, Err}
 use Rattle.std.proofs.lemmas.Bool.{cases_lt, false≢true}
 use mathlib.Core.Logic.{∥∥₁_elim}
 use mathlib.Core.HLevel.{⊥_prop}
@@ -45,8 +45,12 @@ as-called rule c k p q r x old new from to call is goes =
     subst (λ j. Goes rule old from c (Called j x) new to) (sym call) (subst (λ y. Goes rule old from c (Called (Rename p q) y) new to) is goes)
 
 -- whether something moved is told by whether both paths are one object
-pub moved-told : (x : Result Bool Errno) (b d o : Bool) → x ≡ Ok b → b ≡ d → IfOk x (λ m. o ≡ not m) → o ≡ not d
-moved-told x b d o is same h = subst (λ e. o ≡ not e) same (subst (λ y. IfOk y (λ m. o ≡ not m)) is h)
+pub moved-told : {A : Type 0} (x : Result (Option A) Errno) (b d : Option A) (o : Bool) → x ≡ Ok b → b ≡ d → IfOk x (λ m. o ≡ not (is_some m)) → o ≡ not (is_some d)
+moved-told x b d o is same h = subst (λ e. o ≡ not (is_some e)) same (subst (λ y. IfOk y (λ m. o ≡ not (is_some m))) is h)
+
+-- so is the key
+pub key-told : {A : Type 0} (x : Result (Option A) Errno) (b : Option A) (k : A) (P : A → Type 0) → x ≡ Ok b → b ≡ Some k → IfOk x (λ m. IfSome m P) → P k
+key-told x b k P is same h = subst (λ m. IfSome m P) same (subst (λ y. IfOk y (λ m. IfSome m P)) is h)
 
 -- a path without a last name is the root
 pub split-empty : {A : Type 0} (q : Path) (P : A → Type 0) (o : Option A) → is_some o ≡ false → MatchOption o (q ≡ []) P → q ≡ []

@@ -1,6 +1,5 @@
 -- Calls that tell nothing, and uses of open files that are told: each goes as the machine's call.
 use Rattle.std.proofs.Common.{◌≡◌, ◌≢◌, ℕ, ◌∷◌, Bool, true, false, cond, not, List, [], length, nat_eq, Option, None, Some, IsSome, is_none, refl, sym, ap, subst, ◌∙◌, suc, arith, eqb-true}
-use Rattle.std.specs.Prelude.{IfOk, Result, Ok, Err}
 use Rattle.std.proofs.lemmas.Bool.{false≢true}
 use mathlib.Core.Logic.{∥∥₁_elim}
 use mathlib.Core.Bool.{Bool-set}
@@ -32,14 +31,11 @@ use Rattle.notice_laws.proofs.Making.{law_of_read}
 use Rattle.notice_laws.proofs.Staying.{law_of_silent}
 use Rattle.notice_laws.proofs.Writing.{law_of_truncated, law_of_written}
 use Rattle.mount_calls.specs.declared.mount.Mount.{Mount}
-use Rattle.mount_calls.specs.Attaching.{is_attached, opened_by}
-use Rattle.mount_calls.specs.Living.{KeepsNamed}
-use Rattle.mount_calls.specs.Offers.{is_offered}
-use Rattle.mount_calls.specs.States.{IsOpenAs, IsSlot, IsStateOf, Serves}
+use Rattle.mount_calls.specs.Attaching.{opened_by}
+use Rattle.mount_calls.specs.States.{IsOpenAs, IsSlot, IsStateOf}
 use Rattle.mount_calls.proofs.FileSight.{file-not-folder}
-use Rattle.overlay_core.specs.Silence.{is_quiet}
 use Rattle.overlay_core.specs.Watching.{Agrees, Goes, HasState}
-use Rattle.overlay_core.proofs.Performing.{Performed, answered, passing, performed}
+use Rattle.overlay_core.proofs.Performing.{Performed, answered, passing}
 use Rattle.overlay_core.proofs.Watching.{allowed-by, goes, tracks-same, upper_of}
 
 module _ (shows : Rule) (c : ℕ) (k : Call) (r : Reply) (old new : Mount) (from : Notified) (done : Performed c k r old new) where
@@ -76,39 +72,6 @@ module _ (shows : Rule) (c : ℕ) (k : Call) (r : Reply) (old new : Mount) (from
       by None None objects bearers on some = absurd (false≢true (sym some))
       by None (Some h) objects bearers on some = absurd on
       by (Some o) h objects bearers on some = refl
-
--- a quiet call tells nothing
-pub quiet-silent : (s : State) (c : ℕ) (k : Call) → is_quiet k ≡ true → IsSilent s c k
-quiet-silent s c (call.Stat p) q = record { tells = refl; tree = refl }
-quiet-silent s c (call.Readlink p) q = record { tells = refl; tree = refl }
-quiet-silent s c (call.GetAttribute p n) q = record { tells = refl; tree = refl }
-quiet-silent s c (call.ListAttributes p) q = record { tells = refl; tree = refl }
-quiet-silent s c (call.Seek d offset whence) q = record { tells = refl; tree = refl }
-quiet-silent s c (call.Fstat d) q = record { tells = refl; tree = refl }
-quiet-silent s c (call.ListNames d n) q = record { tells = refl; tree = refl }
-quiet-silent s c _ q = absurd (false≢true q)
-
--- it is offered by every mount
-pub quiet-offered : (k : Call) → is_quiet k ≡ true → is_offered k ≡ true
-quiet-offered (call.Stat p) q = refl
-quiet-offered (call.Readlink p) q = refl
-quiet-offered (call.GetAttribute p n) q = refl
-quiet-offered (call.ListAttributes p) q = refl
-quiet-offered (call.Seek d offset whence) q = refl
-quiet-offered (call.Fstat d) q = refl
-quiet-offered (call.ListNames d n) q = refl
-quiet-offered _ q = absurd (false≢true q)
-
--- it leaves what descriptors are on
-pub quiet-keeps : (k : Call) → is_quiet k ≡ true → keeps_handles k ≡ true
-quiet-keeps (call.Stat p) q = refl
-quiet-keeps (call.Readlink p) q = refl
-quiet-keeps (call.GetAttribute p n) q = refl
-quiet-keeps (call.ListAttributes p) q = refl
-quiet-keeps (call.Seek d offset whence) q = refl
-quiet-keeps (call.Fstat d) q = refl
-quiet-keeps (call.ListNames d n) q = refl
-quiet-keeps _ q = absurd (false≢true q)
 
 -- a handle that may write is on a file
 writer-file : (m : Mount) (s : State) → IsStateOf m s → (c fd : ℕ) → can_write (handle_of s.tables c fd) ≡ true →
@@ -242,16 +205,3 @@ module _ (shows : Rule) (c : ℕ) (k : Call) (r : Reply) (old new : Mount) (from
   goes-refused keeps other =
       goes-silent shows c k r old new from done keeps
       (λ s st fine. absurd (other s (answered s c k r new fine (done.serves s st))))
-
--- so a quiet call goes as the machine's
-pub goes-quiet : {E : Type 0} (shows : Rule) (c : ℕ) (k : Call) (old new : Mount) (from : Notified) (result : Result Reply E) → is_quiet k ≡ true →
-    is_attached old.clients c ≡ true →
-    IfOk result (λ r. is_offered k ≡ true → (s : State) → IsStateOf old s → Serves (refusal s c k) s c k r new) →
-    new.layers.lowers ≡ old.layers.lowers →
-    IfOk result (λ r. is_offered k ≡ true → (s : State) → IsStateOf old s → refusal s c k ≡ None → KeepsNamed s c old.layers new.layers k) →
-    IfOk result (λ r. (e : Errno) → r ≡ reply.Refused e → new.layers ≡ old.layers) →
-    IfOk result (λ r. Goes shows old from c (Called k r) new from)
-goes-quiet shows c k old new from (Ok r) quiet there serves lowers named refused =
-    goes-silent shows c k r old new from (performed c k r old new (quiet-offered k quiet) there serves lowers named refused)
-    (quiet-keeps k quiet) (λ s st fine. quiet-silent s c k quiet)
-goes-quiet shows c k old new from (Err e) quiet there serves lowers named refused = tt

@@ -3,17 +3,17 @@ use Rattle.std.specs.Prelude.{◌≡◌, ℕ, ◌+◌, ◌&&◌, Bool, true, fal
 use Rattle.std.specs.List.{list_any}
 use Rattle.ov_base.specs.declared.call.Call.{Call}
 use Rattle.ov_base.specs.declared.reply.Reply.{Reply}
-use Rattle.plain_model.specs.Watching.{Rule}
 use Rattle.plain_model.specs.Machine.{State}
 use Rattle.plain_model.specs.Runs.{Called, Entry, Run}
-use Rattle.notice_laws.specs.Notified.{Notified}
 use Rattle.mount_calls.specs.declared.clients.Clients.{Clients}
 use Rattle.overlay_core.specs.declared.job.Job.{Job}
 use Rattle.overlay_core.specs.declared.job.Standing.{Standing}
 use Rattle.overlay_core.specs.declared.job.Standing.TheVariants.{Open, Answered, GivenUp}
-use Rattle.mount_calls.specs.declared.mount.Mount.{Mount}
-use Rattle.overlay_core.specs.Watching.{Agrees, Goes}
+use Rattle.overlay_core.specs.declared.mounted.Core.{Core}
+use Rattle.overlay_core.specs.Views.{CoreAgrees, CoreGoes}
 use Rattle.mount_calls.specs.Attaching.{is_attached}
+use Rattle.watch_table.specs.declared.hook.Callback.{Ghosts as Callback}
+use Rattle.watch_table.specs.declared.hook.Rule.{Ghosts as Rule}
 
 abbrev pub call_of : Job → ℕ × Call
 call_of j = (j.client, j.call)
@@ -28,15 +28,22 @@ AreEntries calls (r ∷ rs) (e ∷ es) = (call : Call) × (slice_get calls r.0 �
 AreEntries calls [] (e ∷ es) = ⊥
 AreEntries calls (r ∷ rs) [] = ⊥
 
--- THE REPLIES, in the order of finishing, are those of a run of the plain machine, and what the clients are told is what the run tells
-abbrev pub Drives : Rule → List (ℕ × Call) → Mount → Notified → List (ℕ × Reply) → Mount → Notified → Type 0
-Drives shows calls old k replies new l =
-    (s : State) → Agrees old k s → (es : List Entry) × AreEntries calls replies es × ((t : State) × Run shows s es t × Agrees new l t)
+module _ {F G : Type 0} {asks : Callback F} {rule : Rule G} where
+  -- THE REPLIES, in the order of finishing, are those of a run of the plain machine, and what the
+  -- clients are told is what the run tells
+  abbrev pub Drives : List (ℕ × Call) → Core F G asks rule → List (ℕ × Reply) →
+      Core F G asks rule → Type 0
+  Drives calls old replies new =
+      (s : State) → CoreAgrees old s →
+      (es : List Entry) × AreEntries calls replies es
+      × ((t : State) × Run rule.shows s es t × CoreAgrees new t)
 
--- one job's step, where it finishes the job's call
-abbrev pub Answers : Rule → List (ℕ × Call) → Mount → Notified → ℕ → Reply → Mount → Notified → Type 0
-Answers shows calls old k index reply new l =
-    (client : ℕ) × (call : Call) × (slice_get calls index ≡ Some (client, call)) × Goes shows old k client (Called call reply) new l
+  -- one job's step, where it finishes the job's call
+  abbrev pub Answers : List (ℕ × Call) → Core F G asks rule → ℕ → Reply →
+      Core F G asks rule → Type 0
+  Answers calls old index reply new =
+      (client : ℕ) × (call : Call) × (slice_get calls index ≡ Some (client, call))
+      × CoreGoes old client (Called call reply) new
 
 abbrev pub one_if_open : Standing → ℕ
 one_if_open Open = 1

@@ -1,21 +1,23 @@
 -- What one step of a job says.
 use Rattle.std.specs.Prelude.{◌≡◌, ℕ, ◌+◌}
-use Rattle.plain_model.specs.Watching.{Rule}
 use Rattle.plain_model.specs.Runs.{Called}
-use Rattle.notice_laws.specs.Notified.{Notified}
-use Rattle.overlay_core.specs.declared.mounted.Turn.{Turn}
-use Rattle.overlay_core.specs.declared.mounted.Turn.TheVariants.{More, Done, NoMemory}
 use Rattle.overlay_core.specs.declared.job.Job.{Job}
 use Rattle.overlay_core.specs.declared.job.Standing.TheVariants as standing
-use Rattle.mount_calls.specs.declared.mount.Mount.{Mount}
-use Rattle.overlay_core.specs.Watching.{Stays, Goes}
+use Rattle.overlay_core.specs.declared.mounted.Core.{Core}
+use Rattle.overlay_core.specs.declared.mounted.Turn.{Turn}
+use Rattle.overlay_core.specs.declared.mounted.Turn.TheVariants.{More, Done, NoMemory}
+use Rattle.overlay_core.specs.Views.{CoreGoes, CoreStays}
+use Rattle.watch_table.specs.declared.hook.Callback.{Ghosts as Callback}
+use Rattle.watch_table.specs.declared.hook.Rule.{Ghosts as Rule}
 
--- ONE STEP OF A JOB: it stays open and each state that agreed agrees still, or its call is one of the plain machine, or memory ran out and
--- each state that agreed agrees still
-abbrev pub TurnsTo : Rule → Mount → Notified → Job → Mount → Notified → Job → Turn → Type 0
-TurnsTo shows old k job new l next More = Stays old k new l × (next.standing ≡ standing.Open)
-TurnsTo shows old k job new l next (Done reply) = Goes shows old k job.client (Called job.call reply) new l × (next.standing ≡ standing.Answered)
-TurnsTo shows old k job new l next NoMemory = Stays old k new l × (next.standing ≡ standing.GivenUp)
+-- ONE STEP OF A JOB: it stays open and each state that agreed agrees still, or its call is one of
+-- the plain machine, or memory ran out and each state that agreed agrees still
+abbrev pub TurnsTo : {F G : Type 0} {asks : Callback F} {rule : Rule G} →
+    Core F G asks rule → Job → Core F G asks rule → Job → Turn → Type 0
+TurnsTo old job new next More = CoreStays old new × (next.standing ≡ standing.Open)
+TurnsTo old job new next (Done reply) =
+    CoreGoes old job.client (Called job.call reply) new × (next.standing ≡ standing.Answered)
+TurnsTo old job new next NoMemory = CoreStays old new × (next.standing ≡ standing.GivenUp)
 
 -- how many deeds were finished after a step
 abbrev pub finished_after : Turn → ℕ → ℕ

@@ -1,8 +1,8 @@
-pub mod Silence
 pub mod Watching
+pub mod Performing
 pub mod Leaving
-pub mod Opens
 pub mod PathFaults
 pub mod Mounting
+pub mod Views
 pub mod Jobs
 pub mod Drives

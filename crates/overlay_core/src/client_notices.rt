@@ -1,15 +1,16 @@
 // Clients that come and go, and their closes.
-ghost use Rattle.std.specs.Prelude.{◌≡◌, ◌+◌, ◌<◌, ◌^◌, ℕ, false, Some, None, IfErr, IfOk, IfSome, OnErr, length, map, option_copied, option_map, true};
+ghost use Rattle.std.specs.Prelude.{◌≡◌, ◌+◌, ◌<◌, ◌^◌, ℕ, false, Some, None, Ok, IfErr, IfOk, IfSome, OnErr, length, map, option_copied, option_map, true};
 ghost use Rattle.std.specs.BTreeMap.{btree_map_len, get};
 ghost use Rattle.std.specs.Ordering.{nat_cmp};
 ghost use Rattle.plain_model.specs.Layers.{AreLayers};
 ghost use Rattle.plain_model.specs.Machine.{State, instance_of};
 ghost use Rattle.merged_lookup.specs.Merged.{layers_of};
-ghost use Rattle.plain_model.specs.Runs.{Attached, Called, Detached};
+ghost use Rattle.plain_model.specs.Runs.{Attached, Detached};
 ghost use Rattle.mount_calls.specs.Attaching.{Attaches, Detaches, KeepsAttached, KeepsOthers, attach_refusal, is_attached};
 ghost use Rattle.mount_calls.specs.Living.{KeepsPaths};
 ghost use Rattle.overlay_core.specs.Leaving.{ClosesEach, Follows, IsFollowed, Shuts, closing};
-ghost use Rattle.overlay_core.specs.Watching.{BeginsWith, Goes, HasState, Keeps, Stays};
+ghost use Rattle.overlay_core.specs.Performing.{Performs};
+ghost use Rattle.overlay_core.specs.Watching.{BeginsWith, Goes, HasState, Stays};
 ghost use Rattle.copy_up.specs.Showing.{StaysThin};
 
 use crate::watched::Watched;
@@ -119,9 +120,7 @@ impl<F: Callback, R: Rule> Watched<F, R> {
     pub(crate) fn close(&mut self, client: u64, descriptor: u32) -> Reply
         requires there { is_attached self.old.mount.clients client ≡ true }
         requires state { ∥ HasState self.old.mount self.old.notifier ∥₁ }
-        ensures goes { Goes R.shows self.old.mount self.old.notifier client (Called (Call.Close descriptor) result) self.new.mount self.new.notifier }
-        ensures kept { Keeps (Call.Close descriptor) self.old.mount self.new.mount }
-        ensures refused { (errno : Errno) → result ≡ Reply.Refused errno → self.new.mount.layers ≡ self.old.mount.layers }
+        ensures { Performs R.shows client (Call.Close descriptor) self.old self.new (Ok result) }
     {
         self.shut(client, descriptor)
     }

@@ -1,19 +1,15 @@
 // The core of a mount: what is done to it, each deed one of the plain machine.
 ghost use Rattle.std.specs.Prelude.{◌≡◌, ◌≢◌, ◌+◌, ◌-◌, ◌<◌, ◌≤◌, ◌^◌, ℕ, true, ◌∷◌, map, Some, None, All, IfOk, IfErr, IfSome, OnOk, OnErr, length, nat_lt, unwrap_or, vec_len};
-ghost use Rattle.std.specs.BTreeMap.{btree_map_len};
 ghost use Rattle.plain_model.specs.Layers.{AreLayers};
 ghost use Rattle.plain_model.specs.Limits.{IsWithinLimits};
 ghost use Rattle.plain_model.specs.Runs.{Attached, Detached};
 ghost use Rattle.plain_model.specs.Machine.{instance_of};
 ghost use Rattle.layer_tree.specs.Tree.{layer_of};
-ghost use Rattle.overlay_core.specs.Watching.{BeginsUntil, BeginsWith, Goes, HasState, Stays};
-ghost use Rattle.mount_calls.specs.Attaching as attaching;
+ghost use Rattle.overlay_core.specs.Watching.{BeginsUntil, HasState};
 ghost use Rattle.mount_calls.specs.Attaching.{attach_refusal, Attaches, Detaches, KeepsAttached};
 ghost use Rattle.mount_calls.specs.Keeping.{KeepsLayers, takes_no_memory};
 ghost use Rattle.mount_calls.specs.Living.{KeepsPaths};
-ghost use Rattle.overlay_core.specs.Mounting.{machine_options, mount_fault, places_left};
-ghost use Rattle.overlay_core.specs.Jobs.{TurnsTo, finished_after};
-ghost use Rattle.copy_up.specs.Showing.{StaysThin};
+ghost use Rattle.overlay_core.specs.Mounting.{machine_options, mount_fault};
 
 use crate::job::{Job, Standing};
 use crate::watched::Watched;
@@ -33,7 +29,8 @@ const HISTORY_MIN: u32 = 2;
 
 const HISTORY_MAX: u32 = 1_000_000;
 
-/// Why layers are no mount, the first of these: no lower layer, over 16, or a history that isn't 2 to 1,000,000 long.
+/// Why layers are no mount, the first of these: no lower layer, over 16, or a history that isn't 2
+/// to 1,000,000 long.
 #[derive(Clone, Copy, Debug, PartialEq, Eq)]
 pub enum MountFault {
     NoLower,
@@ -57,8 +54,9 @@ pub enum Turn {
     NoMemory,
 }
 
-/// A mount, its clients and what is kept for their watches. Its type keeps that some state of the plain machine agrees with it, and that
-/// one that begins with the merge of its layers does as long as nothing was done.
+/// A mount, its clients and what is kept for their watches. Its type keeps that some state of the
+/// plain machine agrees with it, and that one that begins with the merge of its layers does as long
+/// as nothing was done.
 #[derive(Drop)]
 pub struct Core<F: Callback, R: Rule> {
     watched: Watched<F, R>,
@@ -70,8 +68,15 @@ pub struct Core<F: Callback, R: Rule> {
 }
 
 impl<F: Callback, R: Rule> Core<F, R> {
-    /// Mounts lower layers, the nearest first, under an upper. The names of open directories and the numbers of watched objects are hashed
-    /// with these keys. A fault needs no memory and hands the layers back.
+    ghost use Rattle.overlay_core.specs.Views.{CoreBegins, CoreGoes, CoreKeeps, CoreStays};
+    ghost use Rattle.overlay_core.specs.Views.{core_finished, core_layers, core_options, core_room};
+    ghost use Rattle.overlay_core.specs.Views.{client_count, core_clients, has_client, next_client};
+    ghost use Rattle.overlay_core.specs.Views.{core_watches};
+    ghost use Rattle.overlay_core.specs.Jobs.{TurnsTo, finished_after};
+
+    /// Mounts lower layers, the nearest first, under an upper. The names of open directories and the
+    /// numbers of watched objects are hashed with these keys. A fault needs no memory and hands the
+    /// layers back.
     pub fn mount(
         alloc: Global,
         keys: RandomState,
@@ -81,15 +86,25 @@ impl<F: Callback, R: Rule> Core<F, R> {
     ) -> Result<Result<Core<F, R>, Unmounted>, AllocError>
         requires layers { AreLayers (layer_of upper ∷ map layer_of lowers.items) }
         requires limits { All IsWithinLimits (layer_of upper ∷ map layer_of lowers.items) }
-        ensures fault { IfOk result (λ mounting. IfErr mounting (λ unmounted. mount_fault (vec_len lowers) options ≡ Some unmounted.fault)) }
-        ensures handed_back { IfOk result (λ mounting. IfErr mounting (λ unmounted. (unmounted.upper ≡ upper) × (unmounted.lowers ≡ lowers))) }
-        ensures mounted { IfOk result (λ mounting. OnOk mounting (mount_fault (vec_len lowers) options ≡ None)) }
+        ensures fault { IfOk result (λ mounting. IfErr mounting (λ unmounted.
+            mount_fault (vec_len lowers) options ≡ Some unmounted.fault)) }
+        ensures handed_back { IfOk result (λ mounting. IfErr mounting (λ unmounted.
+            (unmounted.upper ≡ upper) × (unmounted.lowers ≡ lowers))) }
+        ensures mounted { IfOk result (λ mounting.
+            OnOk mounting (mount_fault (vec_len lowers) options ≡ None)) }
         ensures no_memory { OnErr result (mount_fault (vec_len lowers) options ≡ None) }
-        ensures layers { IfOk result (λ mounting. IfOk mounting (λ core. (core.watched.mount.layers.upper ≡ upper) × (core.watched.mount.layers.lowers ≡ lowers))) }
-        ensures options { IfOk result (λ mounting. IfOk mounting (λ core. core.options ≡ options)) }
-        ensures finished { IfOk result (λ mounting. IfOk mounting (λ core. core.finished ≡ 0)) }
-        ensures nobody { IfOk result (λ mounting. IfOk mounting (λ core. (n : ℕ) → attaching.is_attached core.watched.mount.clients n ≢ true)) }
-        ensures begins { IfOk result (λ mounting. IfOk mounting (λ core. BeginsWith core.watched.mount.layers (machine_options options) core.watched.mount core.watched.notifier)) }
+        ensures layers { IfOk result (λ mounting. IfOk mounting (λ core.
+            ((core_layers core).upper ≡ upper) × ((core_layers core).lowers ≡ lowers))) }
+        ensures options { IfOk result (λ mounting. IfOk mounting (λ core.
+            core_options core ≡ options)) }
+        ensures finished { IfOk result (λ mounting. IfOk mounting (λ core.
+            core_finished core ≡ 0)) }
+        ensures nobody { IfOk result (λ mounting. IfOk mounting (λ core.
+            (n : ℕ) → has_client core n ≢ true)) }
+        ensures first { IfOk result (λ mounting. IfOk mounting (λ core.
+            next_client core ≡ 0)) }
+        ensures begins { IfOk result (λ mounting. IfOk mounting (λ core.
+            CoreBegins core options)) }
     {
         if let Some(fault) = fault_of(lowers.len(), options) {
             return Ok(Err(Unmounted {
@@ -110,17 +125,25 @@ impl<F: Callback, R: Rule> Core<F, R> {
     /// start at 0, rise and aren't used again. Over 16 hooks are EINVAL, where 64 are attached it
     /// is ENFILE, and out of memory is ENOMEM. The hooks are handed back then.
     pub fn attach(&mut self, hooks: Vec<Hook<F, R>>) -> Result<u64, NotAttached<F, R>>
-        requires { self.old.finished + 1 < 2 ^ 63 }
-        ensures attached { IfOk result (λ n. Goes R.shows self.old.watched.mount self.old.watched.notifier n (Attached (map (λ h. h.tag) hooks.items)) self.new.watched.mount self.new.watched.notifier) }
-        ensures room { OnOk result (attach_refusal (length hooks.items) (btree_map_len self.old.watched.mount.clients.attached) ≡ None) }
-        ensures refusal { IfErr result (λ fault. fault.errno ≡ unwrap_or (attach_refusal (length hooks.items) (btree_map_len self.old.watched.mount.clients.attached)) Errno.ENOMEM) }
+        requires { core_finished self.old + 1 < 2 ^ 63 }
+        ensures attached { IfOk result (λ n.
+            CoreGoes self.old n (Attached (map (λ h. h.tag) hooks.items)) self.new) }
+        ensures room { OnOk result (
+            attach_refusal (length hooks.items) (client_count self.old) ≡ None) }
+        ensures refusal { IfErr result (λ fault. fault.errno ≡
+            unwrap_or (attach_refusal (length hooks.items) (client_count self.old)) Errno.ENOMEM) }
         ensures back { IfErr result (λ fault. fault.hooks ≡ hooks) }
-        ensures refused { OnErr result (attach_refusal (length hooks.items) (btree_map_len self.old.watched.mount.clients.attached) ≢ None → self.new ≡ self.old) }
-        ensures stays { OnErr result (Stays self.old.watched.mount self.old.watched.notifier self.new.watched.mount self.new.watched.notifier × KeepsAttached self.old.watched.mount.clients self.new.watched.mount.clients × (self.new.finished ≡ self.old.finished)) }
-        ensures clients { IfOk result (Attaches self.old.watched.mount.clients self.new.watched.mount.clients) }
-        ensures finished { OnOk result (self.new.finished ≡ self.old.finished + 1) }
-        ensures layers { self.new.watched.mount.layers ≡ self.old.watched.mount.layers }
-        ensures options { self.new.options ≡ self.old.options }
+        ensures refused { OnErr result (
+            attach_refusal (length hooks.items) (client_count self.old) ≢ None →
+            self.new ≡ self.old) }
+        ensures stays { OnErr result (CoreStays self.old self.new
+            × KeepsAttached (core_clients self.old) (core_clients self.new)
+            × (core_finished self.new ≡ core_finished self.old)) }
+        ensures clients { IfOk result (
+            Attaches (core_clients self.old) (core_clients self.new)) }
+        ensures finished { OnOk result (core_finished self.new ≡ core_finished self.old + 1) }
+        ensures layers { core_layers self.new ≡ core_layers self.old }
+        ensures kept { CoreKeeps self.old self.new }
     {
         if let Some(errno) = refusal_of(hooks.len(), self.watched.mount.clients_attached()) {
             return Err(NotAttached { errno, hooks });
@@ -134,15 +157,15 @@ impl<F: Callback, R: Rule> Core<F, R> {
     /// Detaches a client, which closes its descriptors in rising order: a file without a name goes
     /// with its last handle. Gives as many hooks as it has, with the same tags in the same order.
     pub fn detach(&mut self, client: u64) -> Vec<Hook<F, R>>
-        requires attached { attaching.is_attached self.old.watched.mount.clients client ≡ true }
-        requires bound { self.old.finished + 1 < 2 ^ 63 }
-        ensures detached { Goes R.shows self.old.watched.mount self.old.watched.notifier client Detached self.new.watched.mount self.new.watched.notifier }
-        ensures hooks { IfSome (instance_of self.old.watched.notifier.instances client) (λ e. map (λ h. h.tag) result.items ≡ e.tags) }
-        ensures clients { Detaches self.old.watched.mount.clients self.new.watched.mount.clients client }
-        ensures finished { self.new.finished ≡ self.old.finished + 1 }
-        ensures layers { KeepsPaths self.old.watched.mount.layers self.new.watched.mount.layers }
-        ensures thin { StaysThin self.old.watched.mount.layers self.new.watched.mount.layers }
-        ensures options { self.new.options ≡ self.old.options }
+        requires attached { has_client self.old client ≡ true }
+        requires bound { core_finished self.old + 1 < 2 ^ 63 }
+        ensures detached { CoreGoes self.old client Detached self.new }
+        ensures hooks { IfSome (instance_of (core_watches self.old).instances client) (λ e.
+            map (λ h. h.tag) result.items ≡ e.tags) }
+        ensures clients { Detaches (core_clients self.old) (core_clients self.new) client }
+        ensures finished { core_finished self.new ≡ core_finished self.old + 1 }
+        ensures layers { KeepsPaths (core_layers self.old) (core_layers self.new) }
+        ensures kept { CoreKeeps self.old self.new }
     {
         self.finished += 1;
         self.watched.detach(client)
@@ -150,7 +173,7 @@ impl<F: Callback, R: Rule> Core<F, R> {
 
     /// Whether a client of this number is attached.
     pub fn is_attached(&self, client: u64) -> bool
-        ensures { result ≡ attaching.is_attached self.now.watched.mount.clients client }
+        ensures { result ≡ has_client self.now client }
     {
         self.watched.mount.is_attached(client)
     }
@@ -160,19 +183,18 @@ impl<F: Callback, R: Rule> Core<F, R> {
     /// that is shown as it was.
     pub fn advance(&mut self, job: &mut Job) -> Turn
         requires open { job.old.standing ≡ Standing.Open }
-        requires attached { attaching.is_attached self.old.watched.mount.clients job.old.client ≡ true }
-        requires bound { self.old.finished + 1 < 2 ^ 63 }
+        requires attached { has_client self.old job.old.client ≡ true }
+        requires bound { core_finished self.old + 1 < 2 ^ 63 }
         ensures job { (job.new.client ≡ job.old.client) × (job.new.call ≡ job.old.call) }
-        ensures turn { TurnsTo R.shows self.old.watched.mount self.old.watched.notifier job.old self.new.watched.mount self.new.watched.notifier job.new result }
+        ensures turn { TurnsTo self.old job.old self.new job.new result }
         ensures at_once { result ≢ Turn.More }
         ensures memory { takes_no_memory job.old.call ≡ true → result ≢ Turn.NoMemory }
-        ensures finished { self.new.finished ≡ finished_after result self.old.finished }
-        ensures clients { KeepsAttached self.old.watched.mount.clients self.new.watched.mount.clients }
-        ensures layers { KeepsLayers job.old.call self.old.watched.mount.layers self.new.watched.mount.layers }
-        ensures refused { (errno : Errno) → result ≡ Turn.Done (Reply.Refused errno) → self.new.watched.mount.layers ≡ self.old.watched.mount.layers }
-        ensures lowers { self.new.watched.mount.layers.lowers ≡ self.old.watched.mount.layers.lowers }
-        ensures thin { StaysThin self.old.watched.mount.layers self.new.watched.mount.layers }
-        ensures options { self.new.options ≡ self.old.options }
+        ensures finished { core_finished self.new ≡ finished_after result (core_finished self.old) }
+        ensures clients { KeepsAttached (core_clients self.old) (core_clients self.new) }
+        ensures layers { KeepsLayers job.old.call (core_layers self.old) (core_layers self.new) }
+        ensures refused { (errno : Errno) → result ≡ Turn.Done (Reply.Refused errno) →
+            core_layers self.new ≡ core_layers self.old }
+        ensures kept { CoreKeeps self.old self.new }
     {
         let outcome = self.watched.perform(job.client(), job.call());
         match outcome {
@@ -207,14 +229,15 @@ impl<F: Callback, R: Rule> Core<F, R> {
 
     /// How many attaches, finished calls and detaches there were.
     pub fn finished(&self) -> u64
-        ensures { result ≡ self.now.finished }
+        ensures { result ≡ core_finished self.now }
     {
         self.finished
     }
 
-    /// How many more deeds the history has room for, if each attached client keeps a place for its detach.
+    /// How many more deeds the history has room for, if each attached client keeps a place for its
+    /// detach.
     pub fn room(&self) -> u64
-        ensures { result ≡ places_left self.now.options self.now.finished (btree_map_len self.now.watched.mount.clients.attached) }
+        ensures { result ≡ core_room self.now }
     {
         let kept = self
             .finished
@@ -224,14 +247,14 @@ impl<F: Callback, R: Rule> Core<F, R> {
 
     /// The layers as they are now.
     pub fn layers(&self) -> &Layers
-        ensures { result.now ≡ self.now.watched.mount.layers }
+        ensures { result.now ≡ core_layers self.now }
     {
         self.watched.mount.layers()
     }
 
     /// Whether a further client can be attached: fewer than 64 are.
     pub fn admits(&self) -> bool
-        ensures { result ≡ nat_lt (btree_map_len self.now.watched.mount.clients.attached) 64 }
+        ensures { result ≡ nat_lt (client_count self.now) 64 }
     {
         self.watched.mount.clients_attached() < CLIENTS_MAX as u64
     }

@@ -1,5 +1,5 @@
 // What renames tell: both directories, what is replaced, and what moved.
-ghost use Rattle.std.specs.Prelude.{◌≡◌, true, IfOk, OnErr};
+ghost use Rattle.std.specs.Prelude.{◌≡◌, [], true, IfOk, OnErr};
 ghost use Rattle.plain_model.specs.Runs.{Called};
 ghost use Rattle.mount_calls.specs.Attaching.{is_attached};
 ghost use Rattle.overlay_core.specs.Watching.{Goes, HasState, Keeps, Stays};
@@ -10,6 +10,24 @@ use std::alloc::AllocError;
 use watch_table::{Callback, Rule};
 
 impl<F: Callback, R: Rule> Watched<F, R> {
+    // Makes a rename onto the root, which the mount refuses, and of which nobody is notified.
+    fn rename_onto_root(&mut self, client: u64, old: &Path, new: &Path) -> Result<Reply, AllocError>
+        requires there { is_attached self.old.mount.clients client ≡ true }
+        requires state { ∥ HasState self.old.mount self.old.notifier ∥₁ }
+        requires root { new.now ≡ [] }
+        ensures goes { IfOk result (λ reply. Goes R.shows self.old.mount self.old.notifier client (Called (Call.Rename old.now new.now) reply) self.new.mount self.new.notifier) }
+        ensures err { OnErr result (Stays self.old.mount self.old.notifier self.new.mount self.new.notifier) }
+        ensures kept { Keeps (Call.Rename old.now new.now) self.old.mount self.new.mount }
+        ensures refused { IfOk result (λ reply. (errno : Errno) → reply ≡ Reply.Refused errno → self.new.mount.layers ≡ self.old.mount.layers) }
+    {
+        let from = self.mount.look(old);
+        let onto = self.mount.look(new);
+        match self.mount.rename_moving(old, new, from, onto)? {
+            Ok(_) => Ok(Reply::Done),
+            Err(errno) => Ok(Reply::Refused(errno)),
+        }
+    }
+
     /// Moves what stands at the old path to the new one, and notifies both directories, what was
     /// replaced, and what moved. Nobody is notified where both paths are one object.
     pub(crate) fn rename(
@@ -28,28 +46,28 @@ impl<F: Callback, R: Rule> Watched<F, R> {
         ensures refused { IfOk result (λ reply. (errno : Errno) → reply ≡ Reply.Refused errno → self.new.mount.layers ≡ self.old.mount.layers) }
     {
         if new.split_last().is_none() {
-            return self.mount.perform(client, call);
+            return self.rename_onto_root(client, old, new);
         }
-        let object = self.mount.object_at(old);
-        let replaced = self.mount.object_at(new);
+        let from = self.mount.look(old);
+        let onto = self.mount.look(new);
+        let object = self.mount.object_seen(&from);
+        let replaced = self.mount.object_seen(&onto);
         self.notifier.cancel_move();
         self.notifier.lawful();
-        let alloc = self.mount.alloc();
-        let prepared = self.notifier.prepare_move(alloc, old, new, object);
+        let prepared = self.notifier.prepare_move(old, new, object);
         self.notifier.lawful();
         if let Err(fault) = prepared {
             self.notifier.cancel_move();
             self.notifier.lawful();
             return Err(fault);
         }
-        match self.mount.rename_moving(old, new) {
-            Ok(Ok(true)) => {
-                let key = self.key_lifted(new, object);
+        match self.mount.rename_moving(old, new, from, onto) {
+            Ok(Ok(Some(key))) => {
                 self.notifier.moved(old, new, object, replaced, key);
                 self.notifier.lawful();
                 Ok(Reply::Done)
             }
-            Ok(Ok(false)) => {
+            Ok(Ok(None)) => {
                 self.notifier.cancel_move();
                 self.notifier.lawful();
                 Ok(Reply::Done)

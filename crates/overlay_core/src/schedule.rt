@@ -1,7 +1,6 @@
 // Jobs that are given steps in the order of a schedule.
 ghost use Rattle.std.specs.Prelude.{◌≡◌, ◌+◌, ◌<◌, ◌≤◌, ◌^◌, ℕ, false, None, IfOk, IfSome, OnErr, OnOk, slice_get, length, nat_eq};
-ghost use Rattle.copy_up.specs.Showing.{StaysThin};
-ghost use Rattle.overlay_core.specs.Watching.{Stays};
+ghost use Rattle.overlay_core.specs.Views.{CoreKeeps, CoreStays, core_clients, core_finished};
 ghost use Rattle.mount_calls.specs.Attaching.{KeepsAttached};
 ghost use Rattle.overlay_core.specs.Drives.{Answers, Drives, GivesNoStep, PassesOver, answered, asks_for, calls_of, count_some, is_due, one_if_some, open_count, replies_to};
 
@@ -21,19 +20,21 @@ pub fn drive<F: Callback, R: Rule>(
     jobs: &mut [Job],
     schedule: &[usize],
 ) -> Result<Vec<(usize, Reply)>, AllocError>
-    requires { core.old.finished + length schedule.now < 2 ^ 63 }
-    ensures run { IfOk result (λ replies. Drives R.shows (calls_of jobs.old) core.old.watched.mount core.old.watched.notifier replies.items core.new.watched.mount core.new.watched.notifier) }
+    requires { core_finished core.old + length schedule.now < 2 ^ 63 }
+    ensures run { IfOk result (λ replies.
+        Drives (calls_of jobs.old) core.old replies.items core.new) }
     ensures calls { calls_of jobs.new ≡ calls_of jobs.old }
-    ensures once { IfOk result (λ replies. (i : ℕ) → answered jobs.new i ≡ answered jobs.old i + replies_to i replies.items) }
+    ensures once { IfOk result (λ replies. (i : ℕ) →
+        answered jobs.new i ≡ answered jobs.old i + replies_to i replies.items) }
     ensures passed { OnOk result ((i : ℕ) →
-        PassesOver core.old.watched.mount.clients (slice_get jobs.old i) (slice_get jobs.new i)
+        PassesOver (core_clients core.old) (slice_get jobs.old i) (slice_get jobs.new i)
         (asks_for schedule.now i)) }
     ensures idle { OnOk result (
-        GivesNoStep core.old.watched.mount.clients jobs.old schedule.now → core.new ≡ core.old) }
-    ensures finished { IfOk result (λ replies. core.new.finished ≡ core.old.finished + length replies.items) }
-    ensures clients { KeepsAttached core.old.watched.mount.clients core.new.watched.mount.clients }
-    ensures lowers { core.new.watched.mount.layers.lowers ≡ core.old.watched.mount.layers.lowers }
-    ensures thin { StaysThin core.old.watched.mount.layers core.new.watched.mount.layers }
+        GivesNoStep (core_clients core.old) jobs.old schedule.now → core.new ≡ core.old) }
+    ensures finished { IfOk result (λ replies.
+        core_finished core.new ≡ core_finished core.old + length replies.items) }
+    ensures clients { KeepsAttached (core_clients core.old) (core_clients core.new) }
+    ensures kept { CoreKeeps core.old core.new }
     ensures err { OnErr result ((core.new ≡ core.old) × (jobs.new ≡ jobs.old)) }
 {
     let mut replies = Vec::with_capacity(alloc, jobs.len())?;
@@ -48,19 +49,22 @@ pub fn drive<F: Callback, R: Rule>(
 
 // One step of the job of this index, and the reply where it finishes.
 fn one<F: Callback, R: Rule>(core: &mut Core<F, R>, jobs: &mut [Job], index: usize) -> Option<Reply>
-    requires { core.old.finished + 1 < 2 ^ 63 }
+    requires { core_finished core.old + 1 < 2 ^ 63 }
     ensures calls { calls_of jobs.new ≡ calls_of jobs.old }
-    ensures answers { IfSome result (λ reply. Answers R.shows (calls_of jobs.old) core.old.watched.mount core.old.watched.notifier index reply core.new.watched.mount core.new.watched.notifier) }
-    ensures stays { result ≡ None → Stays core.old.watched.mount core.old.watched.notifier core.new.watched.mount core.new.watched.notifier }
+    ensures answers { IfSome result (λ reply.
+        Answers (calls_of jobs.old) core.old index reply core.new) }
+    ensures stays { result ≡ None → CoreStays core.old core.new }
     ensures room { open_count jobs.new + count_some result ≤ open_count jobs.old }
-    ensures once { (i : ℕ) → answered jobs.new i ≡ answered jobs.old i + one_if_some result index i }
-    ensures passed { (i : ℕ) → PassesOver core.old.watched.mount.clients (slice_get jobs.old i) (slice_get jobs.new i) (nat_eq index i) }
-    ensures idle { is_due core.old.watched.mount.clients (slice_get jobs.old index) ≡ false →
+    ensures once { (i : ℕ) →
+        answered jobs.new i ≡ answered jobs.old i + one_if_some result index i }
+    ensures passed { (i : ℕ) →
+        PassesOver (core_clients core.old) (slice_get jobs.old i) (slice_get jobs.new i)
+        (nat_eq index i) }
+    ensures idle { is_due (core_clients core.old) (slice_get jobs.old index) ≡ false →
         core.new ≡ core.old }
-    ensures finished { core.new.finished ≡ core.old.finished + count_some result }
-    ensures clients { KeepsAttached core.old.watched.mount.clients core.new.watched.mount.clients }
-    ensures lowers { core.new.watched.mount.layers.lowers ≡ core.old.watched.mount.layers.lowers }
-    ensures thin { StaysThin core.old.watched.mount.layers core.new.watched.mount.layers }
+    ensures finished { core_finished core.new ≡ core_finished core.old + count_some result }
+    ensures clients { KeepsAttached (core_clients core.old) (core_clients core.new) }
+    ensures kept { CoreKeeps core.old core.new }
 {
     if index >= jobs.len() {
         return None;

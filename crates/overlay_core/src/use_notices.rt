@@ -1,14 +1,12 @@
-// What uses of open files tell, and the calls that tell nothing.
-ghost use Rattle.std.specs.Prelude.{◌≡◌, ℕ, true, IsOk, IfOk, OnErr};
-ghost use Rattle.plain_model.specs.Runs.{Called};
+// What uses of open files tell.
+ghost use Rattle.std.specs.Prelude.{◌≡◌, true};
 ghost use Rattle.mount_calls.specs.Attaching.{is_attached};
-ghost use Rattle.mount_calls.specs.Keeping.{takes_no_memory};
-ghost use Rattle.overlay_core.specs.Watching.{Goes, HasState, Keeps, Stays};
-ghost use Rattle.overlay_core.specs.Silence.{is_quiet};
+ghost use Rattle.overlay_core.specs.Performing.{Performs};
+ghost use Rattle.overlay_core.specs.Watching.{HasState};
 
 use crate::watched::Watched;
 use notifier::{ACCESS, MODIFY};
-use ov_base::{Bytes, Call, Errno, Reply};
+use ov_base::{Bytes, Call, Reply};
 use std::alloc::AllocError;
 use watch_table::{Callback, Rule};
 
@@ -18,17 +16,13 @@ impl<F: Callback, R: Rule> Watched<F, R> {
         &mut self,
         client: u64,
         descriptor: u32,
-        call: &Call,
+        count: u32,
     ) -> Result<Reply, AllocError>
         requires there { is_attached self.old.mount.clients client ≡ true }
         requires state { ∥ HasState self.old.mount self.old.notifier ∥₁ }
-        requires call { (count : ℕ) × (call.now ≡ Call.Read descriptor count) }
-        ensures goes { IfOk result (λ reply. Goes R.shows self.old.mount self.old.notifier client (Called call.now reply) self.new.mount self.new.notifier) }
-        ensures err { OnErr result (Stays self.old.mount self.old.notifier self.new.mount self.new.notifier) }
-        ensures kept { Keeps call.now self.old.mount self.new.mount }
-        ensures refused { IfOk result (λ reply. (errno : Errno) → reply ≡ Reply.Refused errno → self.new.mount.layers ≡ self.old.mount.layers) }
+        ensures { Performs R.shows client (Call.Read descriptor count) self.old self.new result }
     {
-        let reply = self.mount.perform(client, call)?;
+        let reply = self.mount.read(client, descriptor, count)?;
         if let Reply::Read(bytes) = &reply {
             if !bytes.as_slice().is_empty() {
                 self.notifier.used(client, descriptor, ACCESS);
@@ -44,17 +38,12 @@ impl<F: Callback, R: Rule> Watched<F, R> {
         client: u64,
         descriptor: u32,
         bytes: &Bytes,
-        call: &Call,
     ) -> Result<Reply, AllocError>
         requires there { is_attached self.old.mount.clients client ≡ true }
         requires state { ∥ HasState self.old.mount self.old.notifier ∥₁ }
-        requires call { call.now ≡ Call.Write descriptor bytes.now }
-        ensures goes { IfOk result (λ reply. Goes R.shows self.old.mount self.old.notifier client (Called call.now reply) self.new.mount self.new.notifier) }
-        ensures err { OnErr result (Stays self.old.mount self.old.notifier self.new.mount self.new.notifier) }
-        ensures kept { Keeps call.now self.old.mount self.new.mount }
-        ensures refused { IfOk result (λ reply. (errno : Errno) → reply ≡ Reply.Refused errno → self.new.mount.layers ≡ self.old.mount.layers) }
+        ensures { Performs R.shows client (Call.Write descriptor bytes.now) self.old self.new result }
     {
-        let reply = self.mount.perform(client, call)?;
+        let reply = self.mount.write(client, descriptor, bytes)?;
         if let Reply::Written(_) = reply {
             if !bytes.as_slice().is_empty() {
                 self.notifier.used(client, descriptor, MODIFY);
@@ -69,36 +58,17 @@ impl<F: Callback, R: Rule> Watched<F, R> {
         &mut self,
         client: u64,
         descriptor: u32,
-        call: &Call,
+        size: u64,
     ) -> Result<Reply, AllocError>
         requires there { is_attached self.old.mount.clients client ≡ true }
         requires state { ∥ HasState self.old.mount self.old.notifier ∥₁ }
-        requires call { (size : ℕ) × (call.now ≡ Call.Truncate descriptor size) }
-        ensures goes { IfOk result (λ reply. Goes R.shows self.old.mount self.old.notifier client (Called call.now reply) self.new.mount self.new.notifier) }
-        ensures err { OnErr result (Stays self.old.mount self.old.notifier self.new.mount self.new.notifier) }
-        ensures kept { Keeps call.now self.old.mount self.new.mount }
-        ensures refused { IfOk result (λ reply. (errno : Errno) → reply ≡ Reply.Refused errno → self.new.mount.layers ≡ self.old.mount.layers) }
+        ensures { Performs R.shows client (Call.Truncate descriptor size) self.old self.new result }
     {
-        let reply = self.mount.perform(client, call)?;
+        let reply = self.mount.truncate(client, descriptor, size)?;
         if let Reply::Done = reply {
             self.notifier.used(client, descriptor, MODIFY);
             self.notifier.lawful();
         }
         Ok(reply)
-    }
-
-    /// Makes a call that notifies nobody.
-    pub(crate) fn quiet(&mut self, client: u64, call: &Call) -> Result<Reply, AllocError>
-        requires there { is_attached self.old.mount.clients client ≡ true }
-        requires state { ∥ HasState self.old.mount self.old.notifier ∥₁ }
-        requires quiet { is_quiet call.now ≡ true }
-        ensures goes { IfOk result (λ reply. Goes R.shows self.old.mount self.old.notifier client (Called call.now reply) self.new.mount self.new.notifier) }
-        ensures err { OnErr result (Stays self.old.mount self.old.notifier self.new.mount self.new.notifier) }
-        ensures memory { takes_no_memory call.now ≡ true → IsOk result }
-        ensures kept { Keeps call.now self.old.mount self.new.mount }
-        ensures refused { IfOk result (λ reply. (errno : Errno) → reply ≡ Reply.Refused errno → self.new.mount.layers ≡ self.old.mount.layers) }
-        ensures untold { self.new.notifier ≡ self.old.notifier }
-    {
-        self.mount.perform(client, call)
     }
 }

@@ -67,7 +67,7 @@ pub change-kept : (f : Node → Node) → IsMild f → (t : Tree) (i : ℕ) (d :
 change-kept f mild t i d = like-kept t (change f t d) i (change-like f mild t d)
 
 -- a node without a name has none, by its count
-unnamed : (o : Option Node) → is_named o ≡ false → count_of o ≡ 0
+pub unnamed : (o : Option Node) → is_named o ≡ false → count_of o ≡ 0
 unnamed None h = refl
 unnamed (Some (Branch a b names c)) h = grind (arith, nat_tests)
 unnamed (Some (Leaf content a u c)) h = grind (arith, nat_tests)
@@ -125,7 +125,7 @@ with-counts n e None = refl
 with-counts n e (Some (Branch a b names c)) = refl
 with-counts n e (Some (Leaf content a u c)) = refl
 
-with-folders : (n : Name) (e : Option NodeId) (o : Option Node) → is_folder (with_name n e o) ≡ is_folder o
+pub with-folders : (n : Name) (e : Option NodeId) (o : Option Node) → is_folder (with_name n e o) ≡ is_folder o
 with-folders n e None = refl
 with-folders n e (Some (Branch a b names c)) = refl
 with-folders n e (Some (Leaf content a u c)) = refl
@@ -135,7 +135,7 @@ with-stands n e None = refl
 with-stands n e (Some (Branch a b names c)) = refl
 with-stands n e (Some (Leaf content a u c)) = refl
 
-with-untouched : (n : Name) (e : Option NodeId) (o : Option Node) → is_untouched (with_name n e o) ≡ is_untouched o
+pub with-untouched : (n : Name) (e : Option NodeId) (o : Option Node) → is_untouched (with_name n e o) ≡ is_untouched o
 with-untouched n e None = refl
 with-untouched n e (Some (Branch a b names c)) = refl
 with-untouched n e (Some (Leaf content a u c)) = refl

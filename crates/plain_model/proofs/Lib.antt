@@ -30,6 +30,7 @@ pub mod Calls
 pub mod Clients
 pub mod Settled
 pub mod Told
+pub mod Watching
 pub mod Masks
 pub mod Instances
 pub mod Alike

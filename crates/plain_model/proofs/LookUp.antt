@@ -30,7 +30,8 @@ pub hides-cuts : (L : Layer) (p : Path) → hides (held L p) ≡ true → cuts L
 hides-cuts L [] h = grind arith
 hides-cuts L (n ∷ p) h = hides-cut (held L (n ∷ p)) (cuts L p) h
 
-parent-step : (i : ℕ) (inodes : ℕ → Option Inode) (o u : Option Object) (n : Name) (c : Bool) (q : Path) (s : Path → Option Shown) → (is_some o ≡ true → holds_directory u ≡ true) → (hides u ≡ true → c ≡ true) → (is_some (s (n ∷ q)) ≡ true → is_directory (s q) ≡ true) → is_some (over i inodes o (unless (cut o c) (s (spell o n q)))) ≡ true → is_directory (over i inodes u (unless c (s q))) ≡ true
+-- one layer's step of that: where n in p is held, p is, and what hides p cuts what is below
+pub parent-step : (i : ℕ) (inodes : ℕ → Option Inode) (o u : Option Object) (n : Name) (c : Bool) (q : Path) (s : Path → Option Shown) → (is_some o ≡ true → holds_directory u ≡ true) → (hides u ≡ true → c ≡ true) → (is_some (s (n ∷ q)) ≡ true → is_directory (s q) ≡ true) → is_some (over i inodes o (unless (cut o c) (s (spell o n q)))) ≡ true → is_directory (over i inodes u (unless c (s q))) ≡ true
 parent-step i inodes o u n c q s held_up reached rest e = grind arith
 
 -- where n in p shows something, p shows a directory

@@ -1,7 +1,7 @@
 -- Tests of names, paths and nodes, and where paths stand to each other.
-use Rattle.std.proofs.Common.{◌≡◌, Bool, [], ◌∷◌, ◌++◌, refl, sym, ap, arith, ◌⊎◌, inl, inr, Decides, length, length-append, eqb-true, eq-eqb}
+use Rattle.std.proofs.Common.{◌≡◌, ◌≢◌, ℕ, Bool, [], ◌∷◌, ◌++◌, refl, sym, ap, arith, ◌⊎◌, inl, inr, Decides, length, length-append, eqb-true, eq-eqb}
 use Rattle.std.proofs.lemmas.Slice.Eq.{bytes_eq-Decides, slice_eq-Decides}
-use Rattle.std.proofs.lemmas.Bool.{false≢true, cases_Bool, both_ways}
+use Rattle.std.proofs.lemmas.Bool.{false≢true, cases_Bool, cases_eq, both_ways}
 use mathlib.Core.List.{tail-eq_of_cons-eq}
 use Rattle.plain_model.specs.Layers.{Name, Path, same_name, same_path}
 use Rattle.plain_model.specs.Laws.{IsOutside}
@@ -23,6 +23,20 @@ ids_tell (At p) (At q) = (λ h. ap At ((paths_tell p q).0 h), λ e. (paths_tell 
 ids_tell (New i) (New j) = (λ h. ap New (eqb-true i j h), λ e. eq-eqb i j cc)
 ids_tell (At p) (New j) = (λ h. absurd (false≢true h), λ e. cc)
 ids_tell (New i) (At q) = (λ h. absurd (false≢true h), λ e. cc)
+
+-- so two are one or not
+pub one_or_not : {A : Type 0} {test : A → A → Bool} → Tells test → (x y : A) → (x ≡ y) ⊎ (x ≢ y)
+one_or_not {A} {test} tells x y = elim (cases_Bool (test x y)) [
+  | inl h ↦ inl ((tells x y).0 h)
+  | inr h ↦ inr (λ e. both_ways (test x y) h ((tells x y).1 e))
+]
+
+-- a name in a directory is the name in that directory, or not
+pub cases_pair : (d e : ℕ) (m n : Name) → ((d ≡ e) × (m ≡ n)) ⊎ ((d ≡ e) → (m ≡ n) → ⊥)
+cases_pair d e m n = elim (cases_eq d e) [
+  | inl same ↦ elim (one_or_not names_tell m n) [ inl f ↦ inl (same, f) | inr g ↦ inr (λ _ f. g f) ]
+  | inr g ↦ inr (λ h _. g h)
+]
 
 pub outside-parent : (p : Path) (k : Name) (x : Path) → IsOutside p (k ∷ x) → IsOutside p x
 outside-parent p k x h r e = h (k ∷ r) (ap (λ y. k ∷ y) e)

@@ -16,6 +16,5 @@ pub mod HearingLemmas
 pub mod RisingLemmas
 pub mod AloneLemmas
 pub mod LeavingLemmas
-pub mod LastLemmas
 pub mod ArmLemmas
 pub mod EndLemmas

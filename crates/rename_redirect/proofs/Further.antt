@@ -7,6 +7,7 @@ use Rattle.slab.specs.Slab.{get}
 use Rattle.ov_base.specs.declared.attributes.Attributes.{Attributes}
 use Rattle.ov_base.specs.declared.bytes.Content.{Content}
 use Rattle.plain_model.specs.Layers.{Name, Path, Object, Directory, Named, Inode, Layer, held, IsLayer}
+use Rattle.plain_model.proofs.Paths.{cases_pair}
 use Rattle.mount_laws.specs.Leaves.{PlacesLeaf}
 use Rattle.mount_laws.specs.Linking.{AddsName}
 use Rattle.mount_laws.proofs.Places.{longer}
@@ -20,7 +21,6 @@ use Rattle.layer_tree.specs.declared.node.Object.TheVariants as object
 use Rattle.layer_tree.proofs.Changing.{same_presence}
 use Rattle.layer_tree.proofs.Keeping.{named_key}
 use Rattle.layer_tree.proofs.Nameless.{nameless_apart, keeps_same, keeps_leaf, keeps_then}
-use Rattle.layer_tree.proofs.Walks.{cases_pair}
 use Rattle.merged_lookup.proofs.Descending.{key-of}
 use Rattle.copy_up.specs.Showing.{is_object, HasPlace}
 use Rattle.copy_up.proofs.Copying.{leaf_of, leaf-placed}
@@ -176,6 +176,10 @@ module _ (start old new : Tree) (same : SameTree start old) (alike : SameObjects
             lawful = keep;
             further = adds-name new last to m key l q second-place (n ∷ p) first-sets.there together second-sets;
           }
+
+      -- the first name stays
+      pub keeps-first : held (layer_of last) (n ∷ p) ≡ Some (Named key)
+      keeps-first = second-sets.elsewhere (n ∷ p) (λ e. off (sym e)) ∙ first-sets.there
 
       pub copies-kept : KeepsObjects start last (Some key)
       copies-kept = keeps-both start new last key first-kept (keeps-linked new last to m key l q second-place (n ∷ p) first-sets.there)

@@ -1,5 +1,5 @@
 -- What the upper holds once parents of one path, or of two, were gained.
-use Rattle.std.proofs.Common.{◌≡◌, ◌≢◌, ◌⊎◌, false, [], ◌∷◌, ◌++◌, None, Some, refl, sym, ap, ◌∙◌, subst, inl, inr}
+use Rattle.std.proofs.Common.{◌≡◌, ◌≢◌, ◌⊎◌, false, [], ◌∷◌, ◌++◌, None, Some, sym, ◌∙◌, subst, inl, inr}
 use Rattle.ov_base.specs.declared.attributes.Attributes.{Attributes}
 use Rattle.ov_base.specs.declared.bytes.Content.{Content}
 use Rattle.plain_model.specs.Layers.{Name, Path, Directory, Layer, held}
@@ -7,48 +7,11 @@ use Rattle.plain_model.specs.Laws.{IsOutside}
 use Rattle.plain_model.proofs.Paths.{place}
 use Rattle.mount_laws.specs.Linking.{AddsName}
 use Rattle.layer_tree.specs.Tree.{Tree, layer_of}
-use Rattle.layer_tree.specs.Nameless.{KeepsObjects}
-use Rattle.layer_tree.proofs.Nameless.{vacant_before}
 use Rattle.merged_lookup.specs.declared.layers.Layers.{Layers}
-use Rattle.copy_up.specs.Showing.{is_object, ShowsSame, PlacedParent, KeepsPath}
-use Rattle.copy_up.proofs.Frames.{lacking, through-same}
+use Rattle.copy_up.specs.Showing.{is_object, KeepsPath}
 use Rattle.copy_up.proofs.Placing.{free-directory, nothing-held}
+use Rattle.copy_up.proofs.Frames.{parent-since, path-then}
 use Rattle.rename_redirect.specs.Linking.{GainsBoth, CopiesName}
-
--- a parent that is gained after others were
-pub parent-since : (a b c : Layers) (t x : Path) → ShowsSame a b → KeepsObjects a.upper b.upper None → held (layer_of a.upper) x ≡ None → PlacedParent b c t x → PlacedParent a c t x
-parent-since a b c t x same kept none g = record {
-  parent = g.parent;
-  lacked = none;
-  layer = g.layer;
-  key = g.key;
-  attributes = g.attributes;
-  shown = lacking a x none ∙ sym (through-same a b x same) ∙ sym (lacking b x g.lacked) ∙ g.shown;
-  number = g.number;
-  vacant = vacant_before a.upper b.upper None kept g.number g.vacant;
-  gained = g.gained;
-}
-
--- and one that stays where it is gained
-pub parent-then : (a b c : Layers) (t x y : Path) → y ≡ x → held (layer_of c.upper) y ≡ held (layer_of b.upper) x → PlacedParent a b t x → PlacedParent a c t x
-parent-then a b c t x y at e g = record {
-  parent = g.parent;
-  lacked = g.lacked;
-  layer = g.layer;
-  key = g.key;
-  attributes = g.attributes;
-  shown = g.shown;
-  number = g.number;
-  vacant = g.vacant;
-  gained = sym (ap (held (layer_of c.upper)) at) ∙ e ∙ g.gained;
-}
-
--- what a path holds is kept where it holds the same afterwards
-pub path-then :
-    (a b c : Layers) (p x : Path) → held (layer_of c.upper) x ≡ held (layer_of b.upper) x →
-    KeepsPath a b p x → KeepsPath a c p x
-path-then a b c p x e (inl f) = inl (e ∙ f)
-path-then a b c p x e (inr g) = inr (parent-then a b c p x x refl e g)
 
 -- parents of two paths that are gained one after the other are parents of either
 pub gains-paths :

@@ -19,10 +19,10 @@ use Rattle.layer_tree.proofs.Nameless.{keeps_then}
 use Rattle.merged_lookup.specs.declared.layers.Layers.{Layers}
 use Rattle.merged_lookup.specs.Merged.{layers_of, lowers_of}
 use Rattle.copy_up.specs.Showing.{ShowsSame, Stays, StaysThin, GainsParents}
-use Rattle.copy_up.proofs.Frames.{gains-self, gains-then, gains-unchanged}
+use Rattle.copy_up.proofs.Frames.{gains-self, gains-then, gains-unchanged, path-then}
 use Rattle.copy_up.proofs.Keeping.{lowers-same, linked-by, lift, same-self, same-then, same-unchanged, stays-then, stays-unchanged}
 use Rattle.rename_redirect.specs.Linking.{GivesName, GainsBoth, CopiesName, KeepsDirectories, LinkSteps}
-use Rattle.rename_redirect.proofs.Gained.{gains-paths, path-then}
+use Rattle.rename_redirect.proofs.Gained.{gains-paths}
 use Rattle.rename_redirect.proofs.Shown.{still-absent, thin-linked}
 
 -- parents of the second path alone

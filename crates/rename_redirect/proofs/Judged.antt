@@ -1,6 +1,7 @@
 -- What may move where: the faults of rename by what both paths show.
-use Rattle.std.proofs.Common.{◌≡◌, Bool, true, false, not, ◌&&◌, ◌||◌, List, [], ◌∷◌, ◌++◌, length, reverse, nat_eq, inl, Option, None, is_some, refl, sym, ap, ap₂, ◌∙◌, subst, arith}
+use Rattle.std.proofs.Common.{◌≡◌, Bool, true, false, not, ◌&&◌, ◌||◌, List, [], ◌∷◌, ◌++◌, length, reverse, nat_eq, inl, Option, None, Some, is_some, refl, sym, ap, ap₂, ◌∙◌, subst, arith}
 use Rattle.std.proofs.lemmas.Bool.{false≢true}
+use Rattle.ov_base.specs.declared.errno.Errno.{Errno}
 use Rattle.ov_base.specs.declared.errno.Errno.TheVariants as errno
 use Rattle.plain_model.specs.Machine.{is_root, is_below}
 use Rattle.plain_model.specs.Layers.{Name, Path, same_path, held, Shown, over, shows, through, base, is_directory}
@@ -15,7 +16,7 @@ use Rattle.mount_laws.proofs.Looks.{shown-there}
 use Rattle.layer_tree.specs.Tree.{layer_of}
 use Rattle.merged_lookup.specs.declared.layers.Layers.{Layers}
 use Rattle.merged_lookup.specs.declared.found.Found.{Found}
-use Rattle.merged_lookup.specs.Merged.{trees, layers_of, lowers_of, parents_fault, walk_fault, parent, IsStackOf, IsAnswer, ShowsNothing}
+use Rattle.merged_lookup.specs.Merged.{trees, layers_of, lowers_of, parents_fault, walk_fault, parent, IsStackOf, IsFound, IsAnswer, ShowsNothing}
 use Rattle.merged_lookup.specs.declared.stack.Stack.{Stack}
 use Rattle.copy_up.proofs.Keeping.{or-first}
 use Rattle.copy_up.proofs.Placing.{parents-shown}
@@ -66,6 +67,24 @@ nothing-beneath l q empty k (m ∷ r) some = nothing-beneath l q empty m r (fold
     folder-some : (s : Option Shown) → is_directory s ≡ true → is_some s ≡ true
     folder-some s h = grind arith
 
+-- the walk of the first path is refused, and then the way to the second
+module _ (l : Layers) (redirects : Bool) (p q : Path) (first : is_root p ≡ false) (second : is_root q ≡ false) (full : Bool) (e : Errno) where
+  pub fault-walk : walk_fault (layers_of l) p ≡ Some e → rename_fault (layer_of l.upper) (lowers_of l) redirects p q full ≡ Some e
+  fault-walk walk = λ i.
+      or_else (when (first i || second i) errno.EBUSY)
+      (or_else (walk i)
+      (or_else (parents_fault (layers_of l) q)
+      (unless_same (is_one (layer_of l.upper) p q)
+      (move_fault (is_below p q) (shows 0 (layers_of l) p) (shows 0 (layers_of l) q) (base (layer_of l.upper) (lowers_of l) p && not redirects) full))))
+
+  pub fault-way : walk_fault (layers_of l) p ≡ None → parents_fault (layers_of l) q ≡ Some e → rename_fault (layer_of l.upper) (lowers_of l) redirects p q full ≡ Some e
+  fault-way walk way = λ i.
+      or_else (when (first i || second i) errno.EBUSY)
+      (or_else (walk i)
+      (or_else (way i)
+      (unless_same (is_one (layer_of l.upper) p q)
+      (move_fault (is_below p q) (shows 0 (layers_of l) p) (shows 0 (layers_of l) q) (base (layer_of l.upper) (lowers_of l) p && not redirects) full))))
+
 -- what isn't refused on the way, of two objects, is refused as what is found there
 module _ (l : Layers) (redirects : Bool) (p q : Path) (first : is_root p ≡ false) (second : is_root q ≡ false) (walk : walk_fault (layers_of l) p ≡ None) (way : parents_fault (layers_of l) q ≡ None) (two : is_one (layer_of l.upper) p q ≡ false) (beside : is_below p q ≡ false) where
   pub fault-fit : (full : Bool) → rename_fault (layer_of l.upper) (lowers_of l) redirects p q full ≡ fit_fault l redirects p q full
@@ -84,12 +103,13 @@ module _ (l : Layers) (redirects : Bool) (p q : Path) (first : is_root p ≡ fal
   apart (k ∷ r) e = false≢true (sym beside ∙ ap (is_below p) e ∙ below-told p k r)
 
   -- may move
-  pub may-move : (s : Stack) → IsStackOf l (parent p) s → Fits l redirects p q → MayMove l redirects p q s
-  may-move s at fits = record {
+  pub may-move : (s : Stack) (f : Found) (t : Stack) → IsStackOf l (parent p) s → IsFound l p f → IsStackOf l (parent q) t → Fits l redirects p q → MayMove l redirects p q s f t
+  may-move s f t at is onto fits = record {
     fine = fault-fit false ∙ fits.fine;
     directory = at;
     way = or-first (parents_fault (layers_of l) p) (absent (shows 0 (layers_of l) p)) walk;
-    shown = shown;
+    shown = is;
+    onto = onto;
     parents = way;
     empty = fits.empty;
     apart = two;

@@ -12,3 +12,4 @@ pub mod Further
 pub mod Given
 pub mod Shown
 pub mod Gained
+pub mod Sights

@@ -4,6 +4,7 @@ use Rattle.std.proofs.lemmas.Bool.{false≢true}
 use Rattle.slab.specs.Slab.{get}
 use Rattle.std.specs.Option.{option_and_then}
 use Rattle.plain_model.specs.Layers.{Name, Path, Object, Directory, Named, Whiteout, Inode, Layer, held, IsLayer}
+use Rattle.plain_model.proofs.Paths.{cases_pair}
 use Rattle.layer_tree.specs.Table.{object_key}
 use Rattle.layer_tree.specs.Tree.{Tree, IsTree, layer_of, key_at, entry, child, seen_at, inode_at, seen_entry, with_less, IsDirectory, HoldsNoObjects, SameObjects, SameTree, SetsPath, IsHeldTogether, Inserts, directory_number, seen_object}
 use Rattle.layer_tree.specs.Move.{Moves, MovesPath, left_object, left_entry}
@@ -12,7 +13,6 @@ use Rattle.layer_tree.specs.declared.name_table.Entry.{Entry}
 use Rattle.layer_tree.specs.declared.name_table.Entry.TheVariants as bound
 use Rattle.layer_tree.specs.declared.node.Object.{Object as NewObject}
 use Rattle.layer_tree.proofs.Nameless.{keeps_same, keeps_then, keeps_leaf, vacant_before}
-use Rattle.layer_tree.proofs.Walks.{cases_pair}
 use Rattle.merged_lookup.proofs.Descending.{held-in, key-of}
 use Rattle.make_remove.specs.Removing.{released_by, last_named, has_more}
 use Rattle.copy_up.specs.Showing.{is_object, number_of}

@@ -8,7 +8,7 @@ use Rattle.ov_base.specs.declared.redirect.Redirect.TheVariants.{Absolute}
 use Rattle.plain_model.specs.Layers.{Name, Path, Object, Directory, Named, Whiteout, Layer, held, holds_directory, below, shows, under, base, reaches_directory, is_directory, IsLayer, AreLayers}
 use Rattle.plain_model.specs.Laws.{IsOutside, left_at}
 use Rattle.plain_model.specs.Tree.{AreLinked, IsThin}
-use Rattle.plain_model.proofs.Paths.{outside-parent, parent-outside}
+use Rattle.plain_model.proofs.Paths.{outside-parent, parent-outside, one_or_not, paths_tell}
 use Rattle.plain_model.proofs.Uppers.{AgreeTo, agree-where, under-agree}
 use Rattle.mount_laws.specs.Moving.{Follows, Goes, Stays, MovesTo, MovesName, MovesDirectory, NamesNoInode}
 use Rattle.mount_laws.specs.Renaming.{MovesLink}
@@ -22,7 +22,6 @@ use Rattle.layer_tree.specs.Nameless.{IsNameless}
 use Rattle.layer_tree.specs.Move.{MovesPath, left_object}
 use Rattle.layer_tree.specs.MarkChange.{MarksDirectory, SetsMarks}
 use Rattle.layer_tree.specs.declared.node.Marks.{Marks}
-use Rattle.layer_tree.proofs.Walks.{same_path}
 use Rattle.merged_lookup.specs.declared.layers.Layers.{Layers}
 use Rattle.merged_lookup.specs.declared.stack.Place.{Place}
 use Rattle.merged_lookup.specs.Merged.{layers_of, lowers_of}
@@ -89,7 +88,7 @@ module _ (u w v : Tree) (lowers : List Layer) (n : Name) (p : Path) (m : Name) (
 
   -- an inode that the upper had has the same names
   same-named : (j : ℕ) → is_some (inode_at u j) ≡ true → (x : Path) → (held (layer_of w) x ≡ Some (Named j)) ↔ (held (layer_of u) x ≡ Some (Named j))
-  same-named j is x = elim (same_path x (n ∷ p)) [
+  same-named j is x = elim (one_or_not paths_tell x (n ∷ p)) [
     | inl z ↦ (
       λ h. ap (held (layer_of u)) z ∙ ready.named j is (sym (ap (held (layer_of w)) z) ∙ h),
       λ h. ap (held (layer_of w)) z ∙ ready.kept (Named j) (sym (ap (held (layer_of u)) z) ∙ h),
@@ -111,7 +110,7 @@ module _ (u w v : Tree) (lowers : List Layer) (n : Name) (p : Path) (m : Name) (
   directory-follows x y f k a (o, r, h) = (o, r, follows-held (layer_of w) (layer_of v) (n ∷ p) (m ∷ q) (left_object covered) e.path x y f ∙ kept x (Directory k a o r) h)
     where
       kept : (x : Path) (z : Object) → held (layer_of u) x ≡ Some z → held (layer_of w) x ≡ Some z
-      kept x z h = elim (same_path x (n ∷ p)) [
+      kept x z h = elim (one_or_not paths_tell x (n ∷ p)) [
         | inl i ↦ ap (held (layer_of w)) i ∙ ready.kept z (sym (ap (held (layer_of u)) i) ∙ h)
         | inr ne ↦ ready.elsewhere x ne ∙ h
       ]
@@ -204,7 +203,7 @@ module _ (u w v : Tree) (lowers : List Layer) (n : Name) (p : Path) (m : Name) (
     marked-follows x y f k b h = by (directory-follows x y f k b h)
       where
         by : HoldsDirectory (layer_of v) y k b → HoldsDirectory (layer_of t) y k b
-        by (o, r, g) = elim (same_path y (m ∷ q)) [
+        by (o, r, g) = elim (one_or_not paths_tell y (m ∷ q)) [
           | inl z ↦
               let same : Some (Directory key marks.attributes marks.was_opaque marks.had_redirect) ≡ Some (Directory k b o r) = sym marks.before ∙ sym (ap (held (layer_of v)) z) ∙ g in
               let one : key ≡ k = cc in

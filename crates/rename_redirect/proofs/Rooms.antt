@@ -1,6 +1,6 @@
 -- Room that is made in two directories of a layer, one after the other.
-use Rattle.std.proofs.Common.{◌≢◌, ◌≤◌, ◌<◌, ◌+◌, ℕ, ◌∙◌, ap, inl, inr, arith, Result, Ok, Err, OnErr, IsOk}
-use Rattle.std.proofs.lemmas.Bool.{false≢true, cases_eq}
+use Rattle.std.proofs.Common.{◌≢◌, ◌≤◌, ◌<◌, ◌+◌, ℕ, ◌∙◌, ap, inl, inr, arith}
+use Rattle.std.proofs.lemmas.Bool.{cases_eq}
 use Rattle.layer_tree.specs.Tree.{Tree, SameTree, names_room}
 
 -- a tree that is the same after a tree that is the same
@@ -20,8 +20,3 @@ room-left old new from to two here there = elim (cases_eq to from) [
   | inl e ↦ let x = ap (names_room old) e in let y = ap (names_room new) e in omega (arith, two, here, x, y)
   | inr off ↦ let x = there to off in omega (arith, two, x)
 ]
-
--- what succeeds doesn't fail
-pub never : {A E : Type 0} (P : Type 0) (r : Result A E) → IsOk r → OnErr r P
-never P (Ok x) h = tt
-never P (Err e) h = absurd (false≢true h)

@@ -64,6 +64,10 @@ outside-shown l p q j k x way none shown (n ∷ r) e =
     through [] h is = let z : Some (Folder 0 0 (layer_of l.upper).root) ≡ Some (Contents j k x) = is in cc
     through (m ∷ p) h is = false≢true (sym (ap is_directory is) ∙ way-directory (layers_of l) p m h)
 
+-- what is shown is not at a path that shows nothing
+pub shown-apart : (Ls : List Layer) (p q : Path) (j k : ℕ) (x : Option Inode) → shows 0 Ls p ≡ Some (Contents j k x) → shows 0 Ls q ≡ None → p ≢ q
+shown-apart Ls p q j k x shown none e = let z : None ≡ Some (Contents j k x) = sym none ∙ ap (shows 0 Ls) (sym e) ∙ shown in cc
+
 -- and what is shown is outside of what shows nothing
 pub outside-unshown : (l : Layers) (p q : Path) (j k : ℕ) (x : Option Inode) → parents_fault (layers_of l) p ≡ None → shows 0 (layers_of l) q ≡ None → shows 0 (layers_of l) p ≡ Some (Contents j k x) → IsOutside q p
 outside-unshown l p q j k x way none shown [] e = let z : None ≡ Some (Contents j k x) = sym none ∙ ap (shows 0 (layers_of l)) (sym e) ∙ shown in cc

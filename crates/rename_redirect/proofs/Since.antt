@@ -2,7 +2,7 @@
 use Rattle.std.proofs.Common.{◌≡◌, ◌↔◌, ℕ, Bool, true, false, not, ◌&&◌, ◌||◌, [], ◌∷◌, ◌++◌, ◌⊎◌, length, length-append, append_assoc, arith, Option, None, Some, is_some, refl, sym, ap, ap₂, ◌∙◌, subst, inl, inr, cond}
 use Rattle.std.proofs.lemmas.Bool.{false≢true}
 use Rattle.ov_base.specs.declared.redirect.Redirect.TheVariants.{Absolute}
-use Rattle.plain_model.specs.Layers.{Path, Object, Directory, Named, Whiteout, Inode, Layer, held, Shown, over, shows, through, base, reaches_directory, is_directory, same_path}
+use Rattle.plain_model.specs.Layers.{Path, Object, Directory, Named, Whiteout, Inode, Layer, held, Shown, Contents, over, shows, through, base, reaches_directory, is_directory, same_path}
 use Rattle.plain_model.specs.Laws.{IsOutside, left_at}
 use Rattle.plain_model.specs.Tree.{merged, AreLinked}
 use Rattle.mount_laws.specs.Moving.{Follows, Goes, Stays as StaysPut, MovesTo, NamesNoInode}
@@ -14,10 +14,12 @@ use Rattle.layer_tree.specs.Nameless.{KeepsObjects}
 use Rattle.layer_tree.proofs.Changing.{same_presence}
 use Rattle.layer_tree.proofs.Nameless.{keeps_then}
 use Rattle.merged_lookup.specs.declared.layers.Layers.{Layers}
-use Rattle.merged_lookup.specs.Merged.{layers_of, lowers_of}
-use Rattle.copy_up.specs.Showing.{ShowsSame, Stays, GainsParents, PlacedParent, KeepsPath, IsParent}
-use Rattle.copy_up.proofs.Frames.{through-same}
-use Rattle.copy_up.proofs.Keeping.{lowers-same, linked-by}
+use Rattle.merged_lookup.specs.declared.found.Found.{Found}
+use Rattle.merged_lookup.specs.declared.found.Found.TheVariants as found
+use Rattle.merged_lookup.specs.Merged.{layers_of, lowers_of, places_at, IsFound}
+use Rattle.copy_up.specs.Showing.{ShowsSame, Stays, GainsParents, KeepsPath, IsParent}
+use Rattle.copy_up.proofs.Frames.{through-same, parent-since, parent-then}
+use Rattle.copy_up.proofs.Keeping.{lowers-same, linked-by, places-agree}
 use Rattle.make_remove.specs.Making.{shown_under}
 use Rattle.make_remove.specs.Removing.{last_named}
 use Rattle.make_remove.proofs.Making.{under-same}
@@ -26,7 +28,6 @@ use Rattle.rename_redirect.specs.declared.renames.Renamed.{Renamed}
 use Rattle.rename_redirect.specs.declared.renames.Renamed.TheVariants as renamed
 use Rattle.rename_redirect.specs.Linking.{GainsBoth}
 use Rattle.rename_redirect.specs.Renaming.{HasMarks, KeepsMoved, MovesMarks, MovesOver, Replaces, Moves, DoesRename}
-use Rattle.rename_redirect.proofs.Gained.{parent-since, parent-then}
 use Rattle.rename_redirect.proofs.Overs.{last-alike}
 
 -- a path that is no parent of the other holds what it held
@@ -53,13 +54,14 @@ lacked-before : (x : Option Object) (y : Option Object) → ((o : Object) → x 
 lacked-before None y keep none = refl
 lacked-before (Some o) y keep none = let z : Some o ≡ None = sym (keep o refl) ∙ none in absurd (cc)
 
--- whether something is shown, and whether that is a directory, is told without the inodes
-some-over : (f g : ℕ → Option Inode) (o : Option Object) (s : Option Shown) → is_some (over 0 f o s) ≡ is_some (over 0 g o s)
-some-over f g None s = refl
-some-over f g (Some Whiteout) s = refl
-some-over f g (Some (Directory k a o r)) s = refl
-some-over f g (Some (Named k)) s = refl
+-- the same inodes show the same
+over-alike : (f g : ℕ → Option Inode) → ((k : ℕ) → f k ≡ g k) → (o : Option Object) (s : Option Shown) → over 0 f o s ≡ over 0 g o s
+over-alike f g e None s = refl
+over-alike f g e (Some Whiteout) s = refl
+over-alike f g e (Some (Directory k a o r)) s = refl
+over-alike f g e (Some (Named k)) s = ap (λ x. Some (Contents 0 k x)) (e k)
 
+-- whether a directory is shown is told without the inodes
 folder-over : (f g : ℕ → Option Inode) (o : Option Object) (s : Option Shown) → is_directory (over 0 f o s) ≡ is_directory (over 0 g o s)
 folder-over f g None s = refl
 folder-over f g (Some Whiteout) s = refl
@@ -89,8 +91,17 @@ module _ (a b : Layers) (p q : Path) (same : ShowsSame a b) (stays : Stays a b) 
   shown-over : shows 0 (layers_of b) p ≡ over 0 B.inodes (held A p) (through A (lowers_of a) p)
   shown-over = ap₂ (λ o s. over 0 B.inodes o s) old-held (through-same a b p same)
 
-  pub still-some : is_some (shows 0 (layers_of b) p) ≡ is_some (shows 0 (layers_of a) p)
-  still-some = ap is_some shown-over ∙ some-over B.inodes A.inodes (held A p) (through A (lowers_of a) p)
+  -- what the first path shows stays
+  still-shows : shows 0 (layers_of b) p ≡ shows 0 (layers_of a) p
+  still-shows = shown-over ∙ over-alike B.inodes A.inodes stays.inodes (held A p) (through A (lowers_of a) p)
+
+  still-places : places_at 0 (layers_of b) p ≡ places_at 0 (layers_of a) p
+  still-places = ap (λ Ls. places_at 0 (B ∷ Ls) p) low ∙ places-agree 0 A B (lowers_of a) p old-held (same.passes.cuts p) (same.passes.spelling p)
+
+  -- so it is found as before
+  pub still-found : (f : Found) → IsFound a p f → IsFound b p f
+  still-found (found.Directory s) h = record { attributes = h.attributes; shown = still-shows ∙ h.shown; places = h.places ∙ sym still-places }
+  still-found (found.Inode d) h = record { inode = h.inode; shown = still-shows ∙ h.shown }
 
   pub still-folder : is_directory (shows 0 (layers_of b) p) ≡ is_directory (shows 0 (layers_of a) p)
   still-folder = ap is_directory shown-over ∙ folder-over B.inodes A.inodes (held A p) (through A (lowers_of a) p)
@@ -171,4 +182,4 @@ module _ (a b : Layers) (p q : Path) (same : ShowsSame a b) (stays : Stays a b) 
     pub does-since : (r : Renamed) → is_one A p q ≡ false → DoesRename b c p q r → DoesRename a c p q r
     does-since renamed.Unchanged apart d = absurd (false≢true (sym apart ∙ sym still-one ∙ d.0))
     does-since (renamed.Directory released) apart d = kept-since true released d
-    does-since (renamed.Inode released) apart d = kept-since false released d
+    does-since (renamed.Inode key released) apart d = (kept-since false released d.0, d.1)

@@ -26,7 +26,7 @@ use Rattle.rename_redirect.specs.Renaming.{MovesOver, DoesRename, RenameSteps}
 pub renamed-over : (a b : Layers) (p q : Path) (r : Renamed) → is_one (layer_of a.upper) p q ≡ false → DoesRename a b p q r → MovesOver a b p q
 renamed-over a b p q renamed.Unchanged apart d = absurd (false≢true (sym apart ∙ d.0))
 renamed-over a b p q (renamed.Directory released) apart d = d.over
-renamed-over a b p q (renamed.Inode released) apart d = d.over
+renamed-over a b p q (renamed.Inode key released) apart d = d.0.over
 
 -- and that is the machine's step
 pub rename-steps : (a b : Layers) (redirects : Bool) (p q : Path) → rename_fault (layer_of a.upper) (lowers_of a) redirects p q false ≡ None → ShowsNoName (layers_of a) q → is_one (layer_of a.upper) p q ≡ false → MovesOver a b p q → RenameSteps a b redirects p q

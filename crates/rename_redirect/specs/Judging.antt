@@ -1,15 +1,36 @@
 -- What rename finds at its two paths, and whether it may go on (rename(2)).
-use Rattle.std.specs.Prelude.{◌≡◌, ℕ, Bool, true, false, not, ◌&&◌, Option, None, Some, is_some}
+use Rattle.std.specs.Prelude.{◌≡◌, ℕ, Bool, true, false, not, ◌&&◌, Option, None, Some, Result, IfErr, IfOk, OnOk}
 use Rattle.ov_base.specs.declared.errno.Errno.{Errno}
 use Rattle.plain_model.specs.Layers.{Path, Object, Named, shows, base, is_directory}
 use Rattle.plain_model.specs.Laws.{IsOutside}
+use Rattle.mount_laws.specs.Linking.{link_fault}
 use Rattle.mount_laws.specs.Moving.{NamesNoInode}
 use Rattle.mount_laws.specs.Removals.{ShowsNoName}
 use Rattle.mount_laws.specs.Renaming.{is_one, move_fault, rename_fault}
 use Rattle.layer_tree.specs.Tree.{layer_of}
 use Rattle.merged_lookup.specs.declared.layers.Layers.{Layers}
+use Rattle.merged_lookup.specs.declared.found.Found.{Found}
+use Rattle.merged_lookup.specs.declared.found.Topmost.{Topmost}
+use Rattle.merged_lookup.specs.declared.stack.Place.{Place}
 use Rattle.merged_lookup.specs.declared.stack.Stack.{Stack}
-use Rattle.merged_lookup.specs.Merged.{layers_of, lowers_of, parents_fault, parent, IsStackOf}
+use Rattle.merged_lookup.specs.Merged.{layers_of, lowers_of, parents_fault, parent, IsFound, IsStackOf, IsTopmost, ShowsInode}
+
+-- what was seen at p is what the layers show there and the directory in which that stands, or why the way there is refused
+pub record IsSeen (l : Layers) (p : Path) (seen : Result (Stack × Option Topmost) Errno) : Type 0 where
+  pub refused : IfErr seen (λ e. parents_fault (layers_of l) p ≡ Some e)
+  pub way : OnOk seen (parents_fault (layers_of l) p ≡ None)
+  pub directory : IfOk seen (λ shown. IsStackOf l (parent p) shown.0)
+  pub top : IfOk seen (λ shown. IsTopmost l p shown.1)
+
+-- what p shows, in this merged directory and at this place, may get the further name q, in the other directory
+pub record MayLink (l : Layers) (p q : Path) (s t : Stack) (d : Place) : Type 0 where
+  pub fine : link_fault (layers_of l) p q ≡ None
+  pub way : parents_fault (layers_of l) p ≡ None
+  pub directory : IsStackOf l (parent p) s
+  pub shown : ShowsInode l p d
+  pub parents : parents_fault (layers_of l) q ≡ None
+  pub onto : IsStackOf l (parent q) t
+  pub absent : shows 0 (layers_of l) q ≡ None
 
 -- the number of the inode that is named
 abbrev pub named_key : Option Object → Option ℕ
@@ -31,12 +52,13 @@ pub record Fits (l : Layers) (redirects : Bool) (p q : Path) : Type 0 where
   pub empty : ShowsNoName (layers_of l) q
   pub kind : is_directory (shows 0 (layers_of l) p) ≡ true → NamesNoInode (layer_of l.upper) q
 
--- what p shows, in this merged directory, may move to q
-pub record MayMove (l : Layers) (redirects : Bool) (p q : Path) (s : Stack) : Type 0 where
+-- what was found at p, in this merged directory, may move to q, in the other one
+pub record MayMove (l : Layers) (redirects : Bool) (p q : Path) (s : Stack) (found : Found) (t : Stack) : Type 0 where
   pub fine : rename_fault (layer_of l.upper) (lowers_of l) redirects p q false ≡ None
   pub directory : IsStackOf l (parent p) s
   pub way : parents_fault (layers_of l) p ≡ None
-  pub shown : is_some (shows 0 (layers_of l) p) ≡ true
+  pub shown : IsFound l p found
+  pub onto : IsStackOf l (parent q) t
   pub parents : parents_fault (layers_of l) q ≡ None
   pub empty : ShowsNoName (layers_of l) q
   pub apart : is_one (layer_of l.upper) p q ≡ false

@@ -4,7 +4,7 @@ use Rattle.slab.specs.Slab.{get}
 use Rattle.ov_base.specs.declared.attributes.Attributes.{Attributes}
 use Rattle.ov_base.specs.declared.redirect.Redirect.{Redirect}
 use Rattle.ov_base.specs.declared.redirect.Redirect.TheVariants.{Absolute}
-use Rattle.plain_model.specs.Layers.{Path, Directory, Layer, held, below, shows, is_directory, base, AreLayers}
+use Rattle.plain_model.specs.Layers.{Path, Directory, Named, Layer, held, below, shows, is_directory, base, AreLayers}
 use Rattle.plain_model.specs.Laws.{left_at}
 use Rattle.plain_model.specs.Machine.{State}
 use Rattle.mount_laws.specs.Looks.{IsMountOf}
@@ -75,11 +75,11 @@ pub record Moves (old new : Layers) (p q : Path) (directory : Bool) (released : 
   pub over : MovesOver old new p q
   pub replaces : Replaces old new q released
 
--- both paths were one object and nothing changed, or the object moved
+-- both paths were one object and nothing changed, or the object moved; an inode stands under the key that is handed on
 abbrev pub DoesRename : Layers → Layers → Path → Path → Renamed → Type 0
 DoesRename old new p q renamed.Unchanged = (is_one (layer_of old.upper) p q ≡ true) × (new ≡ old)
 DoesRename old new p q (renamed.Directory released) = Moves old new p q true released
-DoesRename old new p q (renamed.Inode released) = Moves old new p q false released
+DoesRename old new p q (renamed.Inode key released) = Moves old new p q false released × (held (layer_of new.upper) q ≡ Some (Named key))
 
 -- every state of the machine with this option whose mount has the old layers goes on to one with the new layers by rename
 abbrev pub RenameSteps : Layers → Layers → Bool → Path → Path → Type 0

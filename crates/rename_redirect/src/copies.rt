@@ -1,6 +1,6 @@
 // `link` of what a lower layer has, which is copied up first.
 ghost use Rattle.std.specs.Prelude.{◌≡◌, ◌<◌, ◌∷◌, Option, Some, None, IfOk, OnOk, OnErr};
-ghost use Rattle.plain_model.specs.Layers.{Name as NameOf, Path as Names, Inode, Contents, shows};
+ghost use Rattle.plain_model.specs.Layers.{Name as NameOf, Path as Names, Inode, Contents, Named, held, shows};
 ghost use Rattle.layer_tree.specs.Tree.{layer_of};
 ghost use Rattle.merged_lookup.specs.Merged.{layers_of, parents_fault, parent, IsStackOf, ShowsInode};
 ghost use Rattle.copy_up.specs.Showing.{ShowsSame, HasPlace, Stays, StaysLayers, StaysMount, StaysThin};
@@ -12,21 +12,24 @@ use merged_lookup::{Layers, Place, Stack};
 use ov_base::{Attributes, Content, Path};
 use std::alloc::AllocError;
 
-// `link` of what a path shows of a lower layer: all that needs memory comes before the first change that shows.
+// `link` of what a path shows of a lower layer, which gives the copy's key: all that needs memory comes before the first change that shows.
 pub(crate) fn link_copy(
     layers: &mut Layers,
     old: &Path,
     new: &Path,
     directory: Stack,
+    onto: Stack,
     place: Place,
-) -> Result<(), AllocError>
+) -> Result<usize, AllocError>
     requires way { parents_fault (layers_of layers.old) old.now ≡ None }
     requires directory { IsStackOf layers.old (parent old.now) directory }
     requires shown { ShowsInode layers.old old.now place }
     requires lower { 0 < place.layer }
     requires parents { parents_fault (layers_of layers.old) new.now ≡ None }
+    requires onto { IsStackOf layers.old (parent new.now) onto }
     requires absent { shows 0 (layers_of layers.old) new.now ≡ None }
     ensures linked { OnOk result (GivesName layers.old layers.new old.now new.now) }
+    ensures key { IfOk result (λ key. held (layer_of layers.new.upper) old.now ≡ Some (Named key)) }
     ensures lowers { layers.new.lowers ≡ layers.old.lowers }
     ensures no_memory { OnErr result (ShowsSame layers.old layers.new) }
     ensures mounts { OnErr result (StaysMount layers.old layers.new) }
@@ -41,9 +44,9 @@ pub(crate) fn link_copy(
         unreachable!()
     };
     let copy = copy_of(layers, place)?;
-    let (from, onto) = place_both(layers, old, new, directory, place)?;
-    insert_in_upper(layers, from, name, onto, further, copy)?;
-    Ok(())
+    let (from, onto) = place_both(layers, old, new, directory, onto, place)?;
+    let key = insert_in_upper(layers, from, name, onto, further, copy)?;
+    Ok(key)
 }
 
 // A copy of the file or symbolic link that is shown at a place: what it holds, and its attributes.
@@ -64,6 +67,7 @@ fn place_both(
     old: &Path,
     new: &Path,
     directory: Stack,
+    onto: Stack,
     place: Place,
 ) -> Result<(usize, usize), AllocError>
     requires way { parents_fault (layers_of layers.old) old.now ≡ None }
@@ -71,6 +75,7 @@ fn place_both(
     requires shown { ShowsInode layers.old old.now place }
     requires lower { 0 < place.layer }
     requires parents { parents_fault (layers_of layers.old) new.now ≡ None }
+    requires onto { IsStackOf layers.old (parent new.now) onto }
     requires absent { shows 0 (layers_of layers.old) new.now ≡ None }
     ensures same { ShowsSame layers.old layers.new }
     ensures stays { Stays layers.old layers.new }
@@ -79,6 +84,6 @@ fn place_both(
     ensures onto { IfOk result (λ dirs. (n : NameOf) (p : Names) → new.now ≡ n ∷ p → HasPlace (layer_of layers.new.upper) dirs.1 n p) }
     ensures shown { (x : Option Inode) → shows 0 (layers_of layers.old) old.now ≡ Some (Contents place.layer place.key x) → shows 0 (layers_of layers.new) old.now ≡ Some (Contents place.layer place.key x) }
 {
-    let (from, onto) = place_ways(layers, old, new, directory)?;
+    let (from, onto) = place_ways(layers, old, new, directory, onto)?;
     Ok((from.top().key, onto.top().key))
 }

@@ -38,22 +38,10 @@ pub(crate) fn move_in_upper(
     ensures same { OnErr result (KeepsObjects layers.old.upper layers.new.upper None) }
     ensures keeps { IsLayer (layer_of layers.old.upper) → IsLayer (layer_of layers.new.upper) }
 {
-    move_entry(layers.upper_mut(), route)
-}
-
-// `move_in_upper`, of a layer.
-fn move_entry(upper: &mut Layer, route: &Route<'_>) -> Result<Option<usize>, AllocError>
-    requires route { (p q : Names) × IsRoute (layer_of upper.old) p q route.now }
-    requires leads { Leads upper.old route.now }
-    ensures moved { IfOk result (λ released. (p q : Names) → IsRoute (layer_of upper.old) p q route.now → MovesEntry upper.old upper.new (route.now.name.now ∷ p) (route.now.further.now ∷ q) (left_object route.now.covered) released) }
-    ensures unchanged { OnErr result (SameObjects (layer_of upper.old) (layer_of upper.new)) }
-    ensures same { OnErr result (KeepsObjects upper.old upper.new None) }
-    ensures keeps { IsLayer (layer_of upper.old) → IsLayer (layer_of upper.new) }
-{
-    upper.lawful();
+    layers.lawful();
     let further = route.further.clone()?;
-    upper.room(route.to, 1, 0)?;
-    Ok(move_reserved(upper, route, further))
+    layers.upper_mut().room(route.to, 1, 0)?;
+    Ok(move_reserved(layers.upper_mut(), route, further))
 }
 
 // Moves an entry along a route whose last name is given, for which there is room.
@@ -87,30 +75,13 @@ pub(crate) fn insert_and_move(
     ensures same { OnErr result (KeepsObjects layers.old.upper layers.new.upper None) }
     ensures keeps { IsLayer (layer_of layers.old.upper) → IsLayer (layer_of layers.new.upper) }
 {
-    insert_entry(layers.upper_mut(), route, object)
-}
-
-// `insert_and_move`, of a layer.
-fn insert_entry(
-    upper: &mut Layer,
-    route: &Route<'_>,
-    object: Object,
-) -> Result<(usize, Option<usize>), AllocError>
-    requires route { (p q : Names) × IsRoute (layer_of upper.old) p q route.now }
-    requires free { child upper.old route.now.from route.now.name.now ≡ None }
-    requires redirect { IsTrue (leads_on (Some (seen_object 0 object))) }
-    ensures moved { IfOk result (λ keys. (p q : Names) → IsRoute (layer_of upper.old) p q route.now → MovesNew upper.old upper.new (route.now.name.now ∷ p) (route.now.further.now ∷ q) object (left_object route.now.covered) keys.0 keys.1) }
-    ensures unchanged { OnErr result (SameObjects (layer_of upper.old) (layer_of upper.new)) }
-    ensures same { OnErr result (KeepsObjects upper.old upper.new None) }
-    ensures keeps { IsLayer (layer_of upper.old) → IsLayer (layer_of upper.new) }
-{
-    upper.lawful();
+    layers.lawful();
     let name = route.name.clone()?;
     let further = route.further.clone()?;
-    room_for_both(upper, route.from, route.to)?;
-    upper.lawful();
-    let key = upper.insert_reserved(route.from, name, object);
-    Ok((key, move_reserved(upper, route, further)))
+    room_for_both(layers.upper_mut(), route.from, route.to)?;
+    layers.lawful();
+    let key = layers.upper_mut().insert_reserved(route.from, name, object);
+    Ok((key, move_reserved(layers.upper_mut(), route, further)))
 }
 
 // Gives the directory under a key of the upper these marks; the lower layers stay.

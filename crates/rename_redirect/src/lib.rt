@@ -8,6 +8,8 @@ mod moves;
 mod names;
 mod relation;
 mod renames;
+mod seen;
 
 pub use links::link;
 pub use renames::{Renamed, rename};
+pub use seen::Seen;

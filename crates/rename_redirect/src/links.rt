@@ -1,29 +1,42 @@
 // `link`.
 ghost use Rattle.std.specs.Prelude.{◌≡◌, Some, None, IfOk, IfErr, OnOk, OnErr};
-ghost use Rattle.plain_model.specs.Layers.{shows};
+ghost use Rattle.plain_model.specs.Layers.{Path as Names, Named, held, shows};
 ghost use Rattle.mount_laws.specs.Linking.{link_fault};
+ghost use Rattle.layer_tree.specs.Tree.{layer_of};
+ghost use Rattle.merged_lookup.specs.declared.layers.Layers.{Layers as LayersOf};
 ghost use Rattle.merged_lookup.specs.Merged.{layers_of, parents_fault, parent, IsStackOf, ShowsInode};
 ghost use Rattle.copy_up.specs.Showing.{ShowsSame, StaysLayers, StaysMount, StaysThin};
+ghost use Rattle.rename_redirect.specs.Judging.{IsSeen, MayLink};
 ghost use Rattle.rename_redirect.specs.Linking.{GainsBoth, GivesName, LinkSteps};
 
 use crate::copies::link_copy;
 use crate::names::link_in_upper;
+use crate::seen::{Seen, free, there};
 use copy_up::place_parents;
-use make_remove::vacant;
-use merged_lookup::{Found, Layers, Place, Stack};
+use merged_lookup::{Layers, Place, Stack, Topmost};
 use ov_base::{Errno, Path};
 use std::alloc::AllocError;
 
 /// Gives the file or symbolic link that a path shows a further name, as link(2); one of a lower
 /// layer is copied up first (overlayfs.rst, "Non-directories"). The walk of the old path is refused
 /// first, then the way to the new one, as `mkdir`'s; where something is shown there it is EEXIST,
-/// and a directory at the old path is EPERM. A refusal changes nothing, and an allocation failure
-/// changes nothing that is shown.
-pub fn link(layers: &mut Layers, old: &Path, new: &Path) -> Result<Result<(), Errno>, AllocError>
+/// and a directory at the old path is EPERM. All that is judged by what was seen at the two paths.
+/// Returns the key under which the upper has it then. A refusal changes nothing, and an allocation
+/// failure changes nothing that is shown.
+pub fn link(
+    layers: &mut Layers,
+    old: &Path,
+    new: &Path,
+    from: Seen,
+    onto: Seen,
+) -> Result<Result<usize, Errno>, AllocError>
+    requires from { IsSeen layers.old old.now from }
+    requires onto { IsSeen layers.old new.now onto }
     ensures refused { IfOk result (λ r. IfErr r (λ e. link_fault (layers_of layers.old) old.now new.now ≡ Some e)) }
     ensures unchanged { IfOk result (λ r. OnErr r (layers.new ≡ layers.old)) }
     ensures allowed { IfOk result (λ r. OnOk r (link_fault (layers_of layers.old) old.now new.now ≡ None)) }
     ensures linked { IfOk result (λ r. OnOk r (GivesName layers.old layers.new old.now new.now)) }
+    ensures key { IfOk result (λ r. IfOk r (λ key. held (layer_of layers.new.upper) old.now ≡ Some (Named key))) }
     ensures steps { IfOk result (λ r. OnOk r (LinkSteps layers.old layers.new old.now new.now)) }
     ensures lowers { layers.new.lowers ≡ layers.old.lowers }
     ensures no_memory { OnErr result (ShowsSame layers.old layers.new) }
@@ -32,22 +45,35 @@ pub fn link(layers: &mut Layers, old: &Path, new: &Path) -> Result<Result<(), Er
     ensures keeps { StaysLayers layers.old layers.new }
     ensures thin { StaysThin layers.old layers.new }
 {
-    let (directory, found) = match layers.walk_in(old) {
-        Ok(walked) => walked,
+    let (directory, onto, place) = match linkable(from, onto) {
+        Ok(found) => found,
         Err(errno) => return Ok(Err(errno)),
     };
-    let onto = match vacant(layers, new) {
-        Ok(onto) => onto,
-        Err(errno) => return Ok(Err(errno)),
-    };
-    let Found::Inode(place) = found else {
-        return Ok(Err(Errno::EPERM));
-    };
-    give_name(layers, old, new, directory, onto, place)?;
-    Ok(Ok(()))
+    let key = give_name(layers, old, new, directory, onto, place)?;
+    Ok(Ok(key))
 }
 
-// `link` of what a path shows, at a path in this merged directory that shows nothing.
+// What link finds at its two paths: the merged directories in which they stand, and the place of the
+// file or symbolic link that gets a further name; or why it is refused.
+fn linkable(from: Seen, onto: Seen) -> Result<(Stack, Stack, Place), Errno>
+    ensures refused { IfErr result (λ e. (l : LayersOf) (p q : Names) → IsSeen l p from → IsSeen l q onto → link_fault (layers_of l) p q ≡ Some e) }
+    ensures may { IfOk result (λ w. (l : LayersOf) (p q : Names) → IsSeen l p from → IsSeen l q onto → MayLink l p q w.0 w.1 w.2) }
+{
+    let (directory, top) = match there(from) {
+        Ok(shown) => shown,
+        Err(errno) => return Err(errno),
+    };
+    let onto = match free(onto) {
+        Ok(onto) => onto,
+        Err(errno) => return Err(errno),
+    };
+    match top {
+        Topmost::Inode(place) => Ok((directory, onto, place)),
+        Topmost::Directory(_) => Err(Errno::EPERM),
+    }
+}
+
+// `link` of what a path shows, at a path in this merged directory that shows nothing; it gives the key.
 fn give_name(
     layers: &mut Layers,
     old: &Path,
@@ -55,7 +81,7 @@ fn give_name(
     directory: Stack,
     onto: Stack,
     place: Place,
-) -> Result<(), AllocError>
+) -> Result<usize, AllocError>
     requires way { parents_fault (layers_of layers.old) old.now ≡ None }
     requires directory { IsStackOf layers.old (parent old.now) directory }
     requires shown { ShowsInode layers.old old.now place }
@@ -63,6 +89,7 @@ fn give_name(
     requires onto { IsStackOf layers.old (parent new.now) onto }
     requires absent { shows 0 (layers_of layers.old) new.now ≡ None }
     ensures linked { OnOk result (GivesName layers.old layers.new old.now new.now) }
+    ensures key { IfOk result (λ key. held (layer_of layers.new.upper) old.now ≡ Some (Named key)) }
     ensures lowers { layers.new.lowers ≡ layers.old.lowers }
     ensures no_memory { OnErr result (ShowsSame layers.old layers.new) }
     ensures mounts { OnErr result (StaysMount layers.old layers.new) }
@@ -73,7 +100,7 @@ fn give_name(
     if place.layer == 0 {
         return link_own(layers, old, new, onto, place);
     }
-    link_copy(layers, old, new, directory, place)
+    link_copy(layers, old, new, directory, onto, place)
 }
 
 // `link` of an inode of the upper.
@@ -83,13 +110,14 @@ fn link_own(
     new: &Path,
     onto: Stack,
     place: Place,
-) -> Result<(), AllocError>
+) -> Result<usize, AllocError>
     requires shown { ShowsInode layers.old old.now place }
     requires own { place.layer ≡ 0 }
     requires parents { parents_fault (layers_of layers.old) new.now ≡ None }
     requires onto { IsStackOf layers.old (parent new.now) onto }
     requires absent { shows 0 (layers_of layers.old) new.now ≡ None }
     ensures linked { OnOk result (GivesName layers.old layers.new old.now new.now) }
+    ensures key { IfOk result (λ key. held (layer_of layers.new.upper) old.now ≡ Some (Named key)) }
     ensures lowers { layers.new.lowers ≡ layers.old.lowers }
     ensures no_memory { OnErr result (ShowsSame layers.old layers.new) }
     ensures mounts { OnErr result (StaysMount layers.old layers.new) }
@@ -103,5 +131,5 @@ fn link_own(
     let parent = place_parents(layers, onto, parents)?;
     let dir = parent.top();
     link_in_upper(layers, dir.key, name, place.key)?;
-    Ok(())
+    Ok(place.key)
 }

@@ -1,14 +1,14 @@
 // What a path shows moves to another path.
-ghost use Rattle.std.specs.Prelude.{◌≡◌, ◌∷◌, Bool, true, false, Some, None, is_some, IfOk, OnOk, OnErr};
+ghost use Rattle.std.specs.Prelude.{◌≡◌, ◌∷◌, Bool, true, false, Some, None, IfOk, OnOk, OnErr};
 ghost use Rattle.ov_base.specs.declared.redirect.Redirect.TheVariants.{Absolute};
-ghost use Rattle.plain_model.specs.Layers.{Path as Names, below, shows, is_directory, base, under, IsLayer, AreLayers};
+ghost use Rattle.plain_model.specs.Layers.{Path as Names, Named, held, below, shows, is_directory, base, under, IsLayer, AreLayers};
 ghost use Rattle.plain_model.specs.Laws.{IsOutside};
 ghost use Rattle.mount_laws.specs.Removals.{ShowsNoName};
 ghost use Rattle.mount_laws.specs.Moving.{NamesNoInode};
 ghost use Rattle.mount_laws.specs.Renaming.{is_one};
 ghost use Rattle.layer_tree.specs.Nameless.{KeepsObjects};
 ghost use Rattle.layer_tree.specs.Tree.{layer_of, SameObjects};
-ghost use Rattle.merged_lookup.specs.Merged.{layers_of, lowers_of, parents_fault, parent, top_of, IsStackOf, ShowsDirectory, ShowsInode};
+ghost use Rattle.merged_lookup.specs.Merged.{layers_of, lowers_of, parents_fault, parent, top_of, IsFound, IsStackOf, ShowsDirectory, ShowsInode};
 ghost use Rattle.copy_up.specs.Showing.{ShowsSame, Stays, StaysLayers, StaysMount, StaysThin};
 ghost use Rattle.rename_redirect.specs.Linking.{GainsBoth};
 ghost use Rattle.rename_redirect.specs.Renaming.{MovesOver, Replaces, DoesRename};
@@ -23,7 +23,7 @@ use merged_lookup::{Found, Layers, Place, Stack};
 use ov_base::{Name, Path, Redirect};
 use std::alloc::{AllocError, Global};
 
-// Moves what a path shows in this merged directory to another path, whose parents are shown, over what stands there, in which no name is
+// Moves what was found at a path in this merged directory to another path in the other one, over what stands there, in which no name is
 // shown. All that needs memory comes before the first change that shows.
 pub(crate) fn move_object(
     alloc: Global,
@@ -31,11 +31,14 @@ pub(crate) fn move_object(
     old: &Path,
     new: &Path,
     directory: Stack,
+    found: Found,
+    onto: Stack,
 ) -> Result<Renamed, AllocError>
     requires way { parents_fault (layers_of layers.old) old.now ≡ None }
     requires directory { IsStackOf layers.old (parent old.now) directory }
-    requires shown { is_some (shows 0 (layers_of layers.old) old.now) ≡ true }
+    requires shown { IsFound layers.old old.now found }
     requires parents { parents_fault (layers_of layers.old) new.now ≡ None }
+    requires onto { IsStackOf layers.old (parent new.now) onto }
     requires empty { ShowsNoName (layers_of layers.old) new.now }
     requires apart { is_one (layer_of layers.old.upper) old.now new.now ≡ false }
     requires kind { is_directory (shows 0 (layers_of layers.old) old.now) ≡ true → NamesNoInode (layer_of layers.old.upper) new.now }
@@ -49,13 +52,47 @@ pub(crate) fn move_object(
     ensures keeps { StaysLayers layers.old layers.new }
     ensures thin { AreLayers (layers_of layers.old) → StaysThin layers.old layers.new }
 {
-    let (from, onto) = place_ways(layers, old, new, directory)?;
-    let renamed = move_placed(alloc, layers, old, new, from, onto)?;
+    let (from, onto) = place_ways(layers, old, new, directory, onto)?;
+    let renamed = move_placed(alloc, layers, old, new, from, found, onto)?;
     Ok(renamed)
 }
 
-// The merged directories in which the last names of two paths stand; those that the upper lacks are placed.
+// The merged directories in which the last names of two paths stand; those that the upper lacks are placed. The new path is walked again
+// only where parents of the old one were placed.
 pub(crate) fn place_ways(
+    layers: &mut Layers,
+    old: &Path,
+    new: &Path,
+    directory: Stack,
+    onto: Stack,
+) -> Result<(Stack, Stack), AllocError>
+    requires way { parents_fault (layers_of layers.old) old.now ≡ None }
+    requires directory { IsStackOf layers.old (parent old.now) directory }
+    requires parents { parents_fault (layers_of layers.old) new.now ≡ None }
+    requires onto { IsStackOf layers.old (parent new.now) onto }
+    requires out { IsOutside old.now new.now }
+    requires within { IsOutside new.now old.now }
+    ensures same { ShowsSame layers.old layers.new }
+    ensures stays { Stays layers.old layers.new }
+    ensures gains { GainsBoth layers.old layers.new old.now new.now }
+    ensures from { IfOk result (λ ways. IsStackOf layers.new (parent old.now) ways.0) }
+    ensures from_upper { IfOk result (λ ways. (top_of ways.0.places.items).layer ≡ 0) }
+    ensures onto { IfOk result (λ ways. IsStackOf layers.new (parent new.now) ways.1) }
+    ensures onto_upper { IfOk result (λ ways. (top_of ways.1.places.items).layer ≡ 0) }
+{
+    let top = directory.top();
+    if top.layer == 0 {
+        let Some((_, parents)) = new.split_last() else {
+            unreachable!()
+        };
+        let onto = place_parents(layers, onto, parents)?;
+        return Ok((directory, onto));
+    }
+    place_old_way(layers, old, new, directory)
+}
+
+// `place_ways`, where the upper lacks parents of the old path: those of the new one may be there once they are placed, so it is walked.
+fn place_old_way(
     layers: &mut Layers,
     old: &Path,
     new: &Path,
@@ -95,13 +132,14 @@ fn move_placed(
     old: &Path,
     new: &Path,
     from: Stack,
+    found: Found,
     onto: Stack,
 ) -> Result<Renamed, AllocError>
     requires from { IsStackOf layers.old (parent old.now) from }
     requires from_upper { (top_of from.places.items).layer ≡ 0 }
     requires onto { IsStackOf layers.old (parent new.now) onto }
     requires onto_upper { (top_of onto.places.items).layer ≡ 0 }
-    requires shown { is_some (shows 0 (layers_of layers.old) old.now) ≡ true }
+    requires shown { IsFound layers.old old.now found }
     requires empty { ShowsNoName (layers_of layers.old) new.now }
     requires apart { is_one (layer_of layers.old.upper) old.now new.now ≡ false }
     requires kind { is_directory (shows 0 (layers_of layers.old) old.now) ≡ true → NamesNoInode (layer_of layers.old.upper) new.now }
@@ -120,7 +158,6 @@ fn move_placed(
     let Some((further, _)) = new.split_last() else {
         unreachable!()
     };
-    let found = layers.step(&from, name);
     let route = Route {
         from: from.top().key,
         name,
@@ -129,16 +166,15 @@ fn move_placed(
         covered: layers.lowers_show(&from, name),
     };
     match found {
-        Some(Found::Directory(stack)) => {
+        Found::Directory(stack) => {
             let marks = moved_marks(alloc, layers, old, &stack, &onto, further)?;
             let released = move_directory(layers, &route, stack.top(), marks)?;
             Ok(Renamed::Directory(released))
         }
-        Some(Found::Inode(place)) => {
-            let released = move_inode(layers, &route, place)?;
-            Ok(Renamed::Inode(released))
+        Found::Inode(place) => {
+            let (key, released) = move_inode(layers, &route, place)?;
+            Ok(Renamed::Inode { key, released })
         }
-        None => unreachable!(),
     }
 }
 
@@ -202,15 +238,17 @@ fn move_directory(
     Ok(released)
 }
 
-// Moves a file or symbolic link, and gives the key of what lost its last name by it.
+// Moves a file or symbolic link, and gives the key under which the upper has it, and that of what lost
+// its last name by it.
 fn move_inode(
     layers: &mut Layers,
     route: &Route<'_>,
     place: Place,
-) -> Result<Option<usize>, AllocError>
+) -> Result<(usize, Option<usize>), AllocError>
     requires goes { (p q : Names) × IsMove layers.old p q route.now × ShowsInode layers.old (route.now.name.now ∷ p) place }
     ensures lowers { layers.new.lowers ≡ layers.old.lowers }
-    ensures moved { IfOk result (λ released. (p q : Names) → IsMove layers.old p q route.now → ShowsInode layers.old (route.now.name.now ∷ p) place → MovesOver layers.old layers.new (route.now.name.now ∷ p) (route.now.further.now ∷ q) × Replaces layers.old layers.new (route.now.further.now ∷ q) released) }
+    ensures moved { IfOk result (λ keys. (p q : Names) → IsMove layers.old p q route.now → ShowsInode layers.old (route.now.name.now ∷ p) place → MovesOver layers.old layers.new (route.now.name.now ∷ p) (route.now.further.now ∷ q) × Replaces layers.old layers.new (route.now.further.now ∷ q) keys.1) }
+    ensures key { IfOk result (λ keys. (p q : Names) → IsMove layers.old p q route.now → ShowsInode layers.old (route.now.name.now ∷ p) place → held (layer_of layers.new.upper) (route.now.further.now ∷ q) ≡ Some (Named keys.0)) }
     ensures unchanged { OnErr result (SameObjects (layer_of layers.old.upper) (layer_of layers.new.upper)) }
     ensures same { OnErr result (KeepsObjects layers.old.upper layers.new.upper None) }
     ensures keeps { IsLayer (layer_of layers.old.upper) → IsLayer (layer_of layers.new.upper) }
@@ -219,9 +257,9 @@ fn move_inode(
     layers.lawful();
     if place.layer == 0 {
         let released = move_in_upper(layers, route)?;
-        return Ok(released);
+        return Ok((place.key, released));
     }
     let (content, attributes) = copy_of(layers, place)?;
-    let (_, released) = insert_and_move(layers, route, Object::Inode(content, attributes))?;
-    Ok(released)
+    let (key, released) = insert_and_move(layers, route, Object::Inode(content, attributes))?;
+    Ok((key, released))
 }

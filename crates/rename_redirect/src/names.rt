@@ -1,5 +1,5 @@
 // Further names in the upper, of an inode that it has and of a new one.
-ghost use Rattle.std.specs.Prelude.{◌≡◌, ◌≢◌, ◌<◌, ◌≤◌, ◌∷◌, ℕ, Some, None, OnOk, OnErr};
+ghost use Rattle.std.specs.Prelude.{◌≡◌, ◌≢◌, ◌<◌, ◌≤◌, ◌∷◌, ℕ, Some, None, IfOk, OnOk, OnErr};
 ghost use Rattle.slab.specs.Slab.{HasRoomFor};
 ghost use Rattle.plain_model.specs.Layers.{Path as Names, Named, held, IsLayer};
 ghost use Rattle.mount_laws.specs.Linking.{AddsName};
@@ -30,28 +30,14 @@ pub(crate) fn link_in_upper(
     ensures same { OnErr result (KeepsObjects layers.old.upper layers.new.upper None) }
     ensures keeps { IsLayer (layer_of layers.old.upper) → IsLayer (layer_of layers.new.upper) }
 {
-    link_inode(layers.upper_mut(), dir, name, key)
-}
-
-// Gives an inode of a layer a further name, in a directory in which no object stands at it.
-fn link_inode(upper: &mut Layer, dir: usize, name: &Name, key: usize) -> Result<(), AllocError>
-    requires place { (q : Names) × HasPlace (layer_of upper.old) dir name.now q }
-    requires source { (p : Names) × (held (layer_of upper.old) p ≡ Some (Named key)) }
-    ensures added { OnOk result ((p q : Names) → held (layer_of upper.old) p ≡ Some (Named key) → HasPlace (layer_of upper.old) dir name.now q → AddsName (layer_of upper.old) (layer_of upper.new) p (name.now ∷ q)) }
-    ensures directories { OnOk result (KeepsDirectories (layer_of upper.old) (layer_of upper.new)) }
-    ensures objects { OnOk result (KeepsObjects upper.old upper.new (Some key)) }
-    ensures unchanged { OnErr result (SameObjects (layer_of upper.old) (layer_of upper.new)) }
-    ensures same { OnErr result (KeepsObjects upper.old upper.new None) }
-    ensures keeps { IsLayer (layer_of upper.old) → IsLayer (layer_of upper.new) }
-{
-    upper.lawful();
+    layers.lawful();
     let name = name.clone()?;
-    upper.link(dir, name, key)?;
+    layers.upper_mut().link(dir, name, key)?;
     Ok(())
 }
 
 // Puts a new file or symbolic link at a name of a directory of the upper, and gives it a further name, in that directory or another; no
-// object stands at either. The lower layers stay.
+// object stands at either. It gives the key; the lower layers stay.
 pub(crate) fn insert_in_upper(
     layers: &mut Layers,
     from: usize,
@@ -59,9 +45,10 @@ pub(crate) fn insert_in_upper(
     to: usize,
     further: &Name,
     object: (Content, Attributes),
-) -> Result<(), AllocError>
+) -> Result<usize, AllocError>
     requires places { (p q : Names) × HasPlace (layer_of layers.old.upper) from name.now p × HasPlace (layer_of layers.old.upper) to further.now q × (further.now ∷ q ≢ name.now ∷ p) }
     ensures lowers { layers.new.lowers ≡ layers.old.lowers }
+    ensures key { IfOk result (λ key. (p q : Names) → HasPlace (layer_of layers.old.upper) from name.now p → HasPlace (layer_of layers.old.upper) to further.now q → further.now ∷ q ≢ name.now ∷ p → held (layer_of layers.new.upper) (name.now ∷ p) ≡ Some (Named key)) }
     ensures copied { OnOk result ((p q : Names) → HasPlace (layer_of layers.old.upper) from name.now p → HasPlace (layer_of layers.old.upper) to further.now q → further.now ∷ q ≢ name.now ∷ p → CopiesName (layer_of layers.old.upper) (layer_of layers.new.upper) (name.now ∷ p) (further.now ∷ q) object.0 object.1) }
     ensures directories { OnOk result (KeepsDirectories (layer_of layers.old.upper) (layer_of layers.new.upper)) }
     ensures objects { OnOk result ((key : ℕ) × KeepsObjects layers.old.upper layers.new.upper (Some key)) }
@@ -69,35 +56,17 @@ pub(crate) fn insert_in_upper(
     ensures same { OnErr result (KeepsObjects layers.old.upper layers.new.upper None) }
     ensures keeps { IsLayer (layer_of layers.old.upper) → IsLayer (layer_of layers.new.upper) }
 {
-    insert_linked(layers.upper_mut(), from, name, to, further, object)
-}
-
-// Puts a new file or symbolic link at a name of a directory of a layer, and gives it a further name, in that directory or another; no
-// object stands at either.
-fn insert_linked(
-    upper: &mut Layer,
-    from: usize,
-    name: &Name,
-    to: usize,
-    further: &Name,
-    object: (Content, Attributes),
-) -> Result<(), AllocError>
-    requires places { (p q : Names) × HasPlace (layer_of upper.old) from name.now p × HasPlace (layer_of upper.old) to further.now q × (further.now ∷ q ≢ name.now ∷ p) }
-    ensures copied { OnOk result ((p q : Names) → HasPlace (layer_of upper.old) from name.now p → HasPlace (layer_of upper.old) to further.now q → further.now ∷ q ≢ name.now ∷ p → CopiesName (layer_of upper.old) (layer_of upper.new) (name.now ∷ p) (further.now ∷ q) object.0 object.1) }
-    ensures directories { OnOk result (KeepsDirectories (layer_of upper.old) (layer_of upper.new)) }
-    ensures objects { OnOk result ((key : ℕ) × KeepsObjects upper.old upper.new (Some key)) }
-    ensures unchanged { OnErr result (SameObjects (layer_of upper.old) (layer_of upper.new)) }
-    ensures same { OnErr result (KeepsObjects upper.old upper.new None) }
-    ensures keeps { IsLayer (layer_of upper.old) → IsLayer (layer_of upper.new) }
-{
-    upper.lawful();
+    layers.lawful();
     let name = name.clone()?;
     let further = further.clone()?;
-    room_for_both(upper, from, to)?;
+    room_for_both(layers.upper_mut(), from, to)?;
     let (content, attributes) = object;
-    let key = upper.insert_reserved(from, name, Object::Inode(content, attributes));
-    upper.lawful();
-    upper.link(to, further, key)
+    let key = layers
+        .upper_mut()
+        .insert_reserved(from, name, Object::Inode(content, attributes));
+    layers.lawful();
+    layers.upper_mut().link(to, further, key)?;
+    Ok(key)
 }
 
 // Makes room for a new object, for a name of it in one directory, and for one more in a directory that may be the same.

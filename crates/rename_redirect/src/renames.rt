@@ -14,23 +14,25 @@ ghost use Rattle.merged_lookup.specs.Merged.{layers_of, lowers_of, IsFound, IsAn
 ghost use Rattle.copy_up.specs.Showing.{ShowsSame, StaysLayers, StaysMount, StaysThin};
 ghost use Rattle.make_remove.specs.Removing.{TellsNames};
 ghost use Rattle.rename_redirect.specs.Linking.{GainsBoth};
-ghost use Rattle.rename_redirect.specs.Judging.{named_key, fit_fault, IsFaultOf, Fits, MayMove};
+ghost use Rattle.rename_redirect.specs.Judging.{IsSeen, named_key, fit_fault, IsFaultOf, Fits, MayMove};
 ghost use Rattle.rename_redirect.specs.Renaming.{is_one, rename_fault, DoesRename, RenameSteps};
 
 use crate::moves::move_object;
 use crate::relation::{is_below, same_path};
+use crate::seen::{Seen, answer_in, found_in, there};
 use dir_listing::shows_names;
 use merged_lookup::{Found, Layers, Stack};
 use ov_base::{Errno, Path};
 use std::alloc::{AllocError, Global};
 
-/// What a rename did: nothing, where both paths are one object, or it moved a directory, or a file or symbolic link. With it, the key of
-/// the upper's object that lost its last name by it, which stays until it is freed.
+/// What a rename did: nothing, where both paths are one object, or it moved a directory, or a file or
+/// symbolic link, which the upper has under this key now. With it, the key of the upper's object that
+/// lost its last name by it, which stays until it is freed.
 #[derive(Clone, Copy)]
 pub enum Renamed {
     Unchanged,
     Directory(Option<usize>),
-    Inode(Option<usize>),
+    Inode { key: usize, released: Option<usize> },
 }
 
 /// Moves what a path shows to another path, as rename(2), over a file, a symbolic link or a
@@ -40,15 +42,19 @@ pub enum Renamed {
 /// then the way to the new one. Where both are one object nothing is done; else a directory is not
 /// moved below itself (EINVAL), nor over what is no directory (ENOTDIR), nor anything else over a
 /// directory (EISDIR), nor one that lower layers have if redirects aren't made (EXDEV), nor any
-/// over one that shows a name (ENOTEMPTY). A refusal changes nothing, and an allocation failure
-/// changes nothing that is shown.
+/// over one that shows a name (ENOTEMPTY). All that is judged by what was seen at the two paths. A
+/// refusal changes nothing, and an allocation failure changes nothing that is shown.
 pub fn rename(
     alloc: Global,
     layers: &mut Layers,
     old: &Path,
     new: &Path,
     redirects: bool,
+    from: Seen,
+    onto: Seen,
 ) -> Result<Result<Renamed, Errno>, AllocError>
+    requires from { IsSeen layers.old old.now from }
+    requires onto { IsSeen layers.old new.now onto }
     ensures refused { IfOk result (λ r. IfErr r (λ e. (full : Bool) → TellsNames (layers_of layers.old) new.now full → rename_fault (layer_of layers.old.upper) (lowers_of layers.old) redirects old.now new.now full ≡ Some e)) }
     ensures refuses { IfOk result (λ r. IfErr r (λ e. (s : State) → IsMountOf (layer_of layers.old.upper) (lowers_of layers.old) s → s.options.redirects ≡ redirects → (c : ℕ) → refusal s c (call.Rename old.now new.now) ≡ Some e)) }
     ensures unchanged { IfOk result (λ r. OnErr r (layers.new ≡ layers.old)) }
@@ -64,30 +70,45 @@ pub fn rename(
     ensures keeps { StaysLayers layers.old layers.new }
     ensures thin { AreLayers (layers_of layers.old) → StaysThin layers.old layers.new }
 {
-    let directory = match movable(layers, old, new, redirects) {
-        Ok(Some(directory)) => directory,
+    let (directory, found, onto) = match movable(layers, old, new, redirects, from, onto) {
+        Ok(Some(found)) => found,
         Ok(None) => return Ok(Ok(Renamed::Unchanged)),
         Err(errno) => return Ok(Err(errno)),
     };
-    let renamed = move_object(alloc, layers, old, new, directory)?;
+    let renamed = move_object(alloc, layers, old, new, directory, found, onto)?;
     Ok(Ok(renamed))
 }
 
-// The merged directory from which a name is to move; none where both paths are one object.
-fn movable(layers: &Layers, old: &Path, new: &Path, redirects: bool) -> Result<Option<Stack>, Errno>
+// The merged directory from which a name is to move, what was found there, and the merged directory that it goes to; none where both
+// paths are one object.
+fn movable(
+    layers: &Layers,
+    old: &Path,
+    new: &Path,
+    redirects: bool,
+    from: Seen,
+    onto: Seen,
+) -> Result<Option<(Stack, Found, Stack)>, Errno>
+    requires from { IsSeen layers.now old.now from }
+    requires onto { IsSeen layers.now new.now onto }
     ensures refused { IfErr result (λ e. IsFaultOf layers.now new.now (rename_fault (layer_of layers.now.upper) (lowers_of layers.now) redirects old.now new.now) e) }
     ensures one { IfOk result (λ o. o ≡ None → is_one (layer_of layers.now.upper) old.now new.now ≡ true) }
     ensures fine { OnOk result (rename_fault (layer_of layers.now.upper) (lowers_of layers.now) redirects old.now new.now false ≡ None) }
-    ensures moves { IfOk result (λ o. IfSome o (λ s. MayMove layers.now redirects old.now new.now s)) }
+    ensures moves { IfOk result (λ o. IfSome o (λ w. MayMove layers.now redirects old.now new.now w.0 w.1 w.2)) }
 {
     if old.names().is_empty() || new.names().is_empty() {
         return Err(Errno::EBUSY);
     }
-    let (directory, found) = layers.walk_in(old)?;
-    let Some(onto) = layers.parent_of(new)? else {
-        unreachable!()
+    let (directory, top) = match there(from) {
+        Ok(shown) => shown,
+        Err(errno) => return Err(errno),
     };
-    let target = layers.step(&onto.stack, onto.name);
+    let (onto, target) = match onto {
+        Ok(shown) => shown,
+        Err(errno) => return Err(errno),
+    };
+    let found = found_in(layers, &directory, old, top);
+    let target = answer_in(layers, &onto, new, target);
     if same_path(old, new) || same_inode(&found, &target) {
         return Ok(None);
     }
@@ -95,7 +116,7 @@ fn movable(layers: &Layers, old: &Path, new: &Path, redirects: bool) -> Result<O
         return Err(Errno::EINVAL);
     }
     match fits(layers, &found, &target, redirects) {
-        Ok(()) => Ok(Some(directory)),
+        Ok(()) => Ok(Some((directory, found, onto))),
         Err(errno) => Err(errno),
     }
 }

@@ -26,6 +26,16 @@ impl Pieces<'_> {
         }
     }
 
+    /// Pieces of at most so many bytes.
+    pub fn most(bytes: &[u8], most: usize) -> Pieces<'_> {
+        Pieces {
+            left: bytes,
+            until_cut: 0,
+            most,
+            reads_left: ENDLESS,
+        }
+    }
+
     /// A byte at a time, and after so many reads a failure.
     pub fn single(bytes: &[u8], reads: usize) -> Pieces<'_> {
         Pieces {

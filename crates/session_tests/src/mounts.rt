@@ -36,15 +36,26 @@ pub fn ending<I: Read, O: Write>(
     reader: &mut I,
     writer: &mut O,
 ) -> Result<Ending, Fail> {
-    ending_with::<Silent, AnyAnswer, I, O>(alloc, keys, reader, writer)
+    let (end, _session) = served(alloc, keys, reader, writer)?;
+    Ok(end)
 }
 
-fn ending_with<F: Callback + Copy, H: Rule, I: Read, O: Write>(
+/// The same, and what was asked and answered.
+pub fn served<I: Read, O: Write>(
     alloc: Global,
     keys: RandomState,
     reader: &mut I,
     writer: &mut O,
-) -> Result<Ending, Fail> {
+) -> Result<(Ending, CoreSession), Fail> {
+    served_with::<Silent, AnyAnswer, I, O>(alloc, keys, reader, writer)
+}
+
+fn served_with<F: Callback + Copy, H: Rule, I: Read, O: Write>(
+    alloc: Global,
+    keys: RandomState,
+    reader: &mut I,
+    writer: &mut O,
+) -> Result<(Ending, CoreSession), Fail> {
     let core: Core<F, H> = mounted(alloc, keys)?;
     attach_and_serve(alloc, core, reader, writer)
 }
@@ -65,7 +76,7 @@ fn attach_and_serve<F: Callback + Copy, H: Rule, I: Read, O: Write>(
     mut core: Core<F, H>,
     reader: &mut I,
     writer: &mut O,
-) -> Result<Ending, Fail> {
+) -> Result<(Ending, CoreSession), Fail> {
     if core.finished() >= DEEDS_MAX {
         return Err(Fail::from("too many deeds"));
     }
@@ -81,7 +92,7 @@ fn serve<F: Callback + Copy, H: Rule, I: Read, O: Write>(
     client: u64,
     reader: &mut I,
     writer: &mut O,
-) -> Result<Ending, Fail> {
+) -> Result<(Ending, CoreSession), Fail> {
     if core.finished() >= DEEDS_MAX || !core.is_attached(client) {
         return Err(Fail::from("not attached"));
     }
@@ -93,5 +104,5 @@ fn serve<F: Callback + Copy, H: Rule, I: Read, O: Write>(
     if door.into_core().is_attached(client) {
         return Err(Fail::from("still attached"));
     }
-    Ok(end)
+    Ok((end, session))
 }

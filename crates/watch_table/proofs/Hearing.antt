@@ -6,6 +6,7 @@ use Rattle.ov_base.specs.declared.notice.Event.{Event}
 use Rattle.ov_base.specs.declared.notice.Notice.{Notice}
 use Rattle.plain_model.specs.Watching.{Rule, Watch, Subject, Instance, Puts, Hears, AllHear, asked, passed, all_asked, all_passed}
 use Rattle.plain_model.specs.Tree.{same_id}
+use Rattle.plain_model.proofs.Watching.{AllHear-none}
 use Rattle.watch_table.specs.Clients.{AllHearOne}
 use Rattle.watch_table.specs.Listening.{HearsOne, IsWatch, IsInstance}
 use Rattle.watch_table.proofs.Keys.{distinct_filter}
@@ -25,9 +26,6 @@ all_asked-push e [] s = append-nil (asked e s)
 all_asked-push e (t ∷ ss) s = ap (λ xs. asked e t ++ xs) (all_asked-push (passed e t) ss s)
     ∙ sym (append_assoc (asked e t) (all_asked (passed e t) ss) (asked (all_passed (passed e t) ss) s))
 
-pub Hears-none : (shows : Rule) (e : Instance) → Hears shows [] e e
-Hears-none shows e = record { watches = refl; queue = refl }
-
 -- one subject more
 pub Hears-push : (shows : Rule) (ss : List Subject) (s : Subject) (a b c : Instance) → Hears shows ss a b → HearsOne shows s b c →
     Hears shows (ss ++ s ∷ []) a c
@@ -41,12 +39,7 @@ Hears-push shows ss s a b c h k = record {
       (subst (λ e. Puts shows (asked e s) b.queue c.queue) h.watches k.queue));
 }
 
--- all hear no subjects
-pub AllHear-none : (shows : Rule) (es : List Instance) → AllHear shows [] es es
-AllHear-none shows [] = tt
-AllHear-none shows (e ∷ es) = (Hears-none shows e, AllHear-none shows es)
-
--- and one subject more
+-- all hear one subject more
 pub AllHear-push : (shows : Rule) (ss : List Subject) (s : Subject) (es fs gs : List Instance) → AllHear shows ss es fs →
     AllHearOne shows s fs gs → AllHear shows (ss ++ s ∷ []) es gs
 AllHear-push shows ss s [] [] [] h k = tt

@@ -1,4 +1,3 @@
-pub mod Lasts
 pub mod Hearing
 pub mod Keys
 pub mod Arming

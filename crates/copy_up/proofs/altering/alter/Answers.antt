@@ -2,7 +2,7 @@ use Rattle.std.proofs.Common.{◌<◌, arith, subst}
 use Rattle.std.proofs.lemmas.Result.{on_ok_weaker}
 use Rattle.merged_lookup.specs.declared.stack.Place.{Place}
 use Rattle.copy_up.proofs.OtherAttributes.{thin-either}
-use Rattle.copy_up.proofs.OwnAttributes.{is-own, own-there, own-alters, own-object, own-thin, changes-key}
+use Rattle.copy_up.proofs.OwnAttributes.{is-own, own-there, own-alters, own-key, own-object, own-thin, changes-key, key-given}
 use Rattle.copy_up.proofs.altering.alter.Goals as goal
 
 pub alter_upper-requires : goal.alter_upper-requires
@@ -36,5 +36,11 @@ returns-then-place-eq0-clause-thin c =
     (changes-key old c.alter_upper.new.layers c.place-place.result.key c.args.change c.alter_upper.result c.alter_upper.ensures.sets c.alter_upper.ensures.inode c.alter_upper.ensures.directory))
     c.alter_upper.ensures.unchanged
 
-pub alter_lower-requires-clause-lower : goal.alter_lower-requires-clause-lower
-alter_lower-requires-clause-lower c = (c.args.top, c.requires.shown, subst (λ (d : Place). 0 < d.layer) c.place-place.ensures (omega (arith, c.if-place-eq0.false)))
+pub returns-then-place-eq0-clause-key : goal.returns-then-place-eq0-clause-key
+returns-then-place-eq0-clause-key c =
+    let old = c.args.layers.now in
+    let own = is-own old c.lawful.ensures.tree c.lawful.ensures.together c.args.path.now c.args.top c.place-place.result c.place-place.ensures c.if-place-eq0.true c.requires.shown in
+    key-given c.alter_upper.result c.place-place.result.key _
+    (changes-key old c.alter_upper.new.layers c.place-place.result.key c.args.change c.alter_upper.result c.alter_upper.ensures.sets c.alter_upper.ensures.inode c.alter_upper.ensures.directory)
+    (λ made. own-key old c.alter_upper.new.layers c.args.path.now c.place-place.result c.alter_upper.ensures.lowers c.args.change made own)
+    c.alter_upper.ensures.same

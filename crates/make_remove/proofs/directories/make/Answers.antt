@@ -21,9 +21,9 @@ pub returns-clause-made : goal.returns-clause-made
 returns-clause-made c =
     let q = reverse c.in-Some.parents.now in
     let made = c.in_ok-insert_directory.ensures.sets q (absent-place c.args.layers.now c.place_parents.new.layers c.args.path.now (reverse c.in-Some.parents.now) c.in-Some.name.now c.in_ok-parent.parent c.top-dir.result c.in-Some.ensures c.place_parents.ensures.same c.requires.absent c.in_ok-parent.ensures.stack c.in_ok-parent.ensures.upper c.top-dir.ensures) in
-    let made_with : Attributes → Type 0 = λ a. SetsPath (layer_of c.place_parents.new.layers.upper) (layer_of c.insert_directory.new.layers.upper) (c.in-Some.name.now ∷ q) (Directory made.0 a c.lowers_show_directory-opaque.result None) in
-    makes c.args.layers.now c.place_parents.new.layers _ c.args.path.now q c.in-Some.name.now made.0 c.args.mode c.lowers_show_directory-opaque.result c.in-Some.ensures c.place_parents.ensures.same (c.place_parents.ensures.gains c.in-Some.name.now) made.2 c.insert_directory.ensures.objects c.insert_directory.ensures.lowers c.insert_directory.ensures.inodes c.requires.absent
-    (c.lowers_show_directory-opaque.ensures q c.in_ok-parent.ensures.stack) (subst made_with c.new_attributes-attributes.ensures made.1)
+    let made_with : Attributes → Type 0 = λ a. SetsPath (layer_of c.place_parents.new.layers.upper) (layer_of c.insert_directory.new.layers.upper) (c.in-Some.name.now ∷ q) (Directory c.in_ok-insert_directory.field-0 a c.lowers_show_directory-opaque.result None) in
+    makes c.args.layers.now c.place_parents.new.layers _ c.args.path.now q c.in-Some.name.now c.in_ok-insert_directory.field-0 c.args.mode c.lowers_show_directory-opaque.result c.in-Some.ensures c.place_parents.ensures.same (c.place_parents.ensures.gains c.in-Some.name.now) made.1 c.insert_directory.ensures.objects c.insert_directory.ensures.lowers c.insert_directory.ensures.inodes c.requires.absent
+    (c.lowers_show_directory-opaque.ensures q c.in_ok-parent.ensures.stack) (subst made_with c.new_attributes-attributes.ensures made.0)
 
 pub returns-in_err-insert_directory-clause-mounts : goal.returns-in_err-insert_directory-clause-mounts
 returns-in_err-insert_directory-clause-mounts c = on-err _ c.from_residual-in_err-insert_directory.result (λ s h. (stays-unchanged c.place_parents.new.layers c.insert_directory.new.layers c.insert_directory.ensures.lowers c.in_err-insert_directory.ensures.unchanged c.insert_directory.ensures.inodes c.insert_directory.ensures.keeps).mounts s (c.place_parents.ensures.mounts s h))
@@ -38,15 +38,15 @@ pub returns-clause-steps : goal.returns-clause-steps
 returns-clause-steps c =
     let q = reverse c.in-Some.parents.now in
     let made = c.in_ok-insert_directory.ensures.sets q (absent-place c.args.layers.now c.place_parents.new.layers c.args.path.now (reverse c.in-Some.parents.now) c.in-Some.name.now c.in_ok-parent.parent c.top-dir.result c.in-Some.ensures c.place_parents.ensures.same c.requires.absent c.in_ok-parent.ensures.stack c.in_ok-parent.ensures.upper c.top-dir.ensures) in
-    let made_with : Attributes → Type 0 = λ a. SetsPath (layer_of c.place_parents.new.layers.upper) (layer_of c.insert_directory.new.layers.upper) (c.in-Some.name.now ∷ q) (Directory made.0 a c.lowers_show_directory-opaque.result None) in
-    mkdir-steps c.args.layers.now c.place_parents.new.layers c.insert_directory.new.layers c.place_parents.ensures.same c.place_parents.ensures.mounts c.insert_directory.ensures.lowers c.insert_directory.ensures.inodes c.insert_directory.ensures.keeps c.args.path.now q c.in-Some.name.now made.0 c.args.mode c.lowers_show_directory-opaque.result c.in-Some.ensures c.requires.absent (c.lowers_show_directory-opaque.ensures q c.in_ok-parent.ensures.stack) (subst made_with c.new_attributes-attributes.ensures made.1) c.requires.allowed
+    let made_with : Attributes → Type 0 = λ a. SetsPath (layer_of c.place_parents.new.layers.upper) (layer_of c.insert_directory.new.layers.upper) (c.in-Some.name.now ∷ q) (Directory c.in_ok-insert_directory.field-0 a c.lowers_show_directory-opaque.result None) in
+    mkdir-steps c.args.layers.now c.place_parents.new.layers c.insert_directory.new.layers c.place_parents.ensures.same c.place_parents.ensures.mounts c.insert_directory.ensures.lowers c.insert_directory.ensures.inodes c.insert_directory.ensures.keeps c.args.path.now q c.in-Some.name.now c.in_ok-insert_directory.field-0 c.args.mode c.lowers_show_directory-opaque.result c.in-Some.ensures c.requires.absent (c.lowers_show_directory-opaque.ensures q c.in_ok-parent.ensures.stack) (subst made_with c.new_attributes-attributes.ensures made.0) c.requires.allowed
 
 pub returns-clause-thin : goal.returns-clause-thin
 returns-clause-thin c =
     let q = reverse c.in-Some.parents.now in
     let made = c.in_ok-insert_directory.ensures.sets q (absent-place c.args.layers.now c.place_parents.new.layers c.args.path.now (reverse c.in-Some.parents.now) c.in-Some.name.now c.in_ok-parent.parent c.top-dir.result c.in-Some.ensures c.place_parents.ensures.same c.requires.absent c.in_ok-parent.ensures.stack c.in_ok-parent.ensures.upper c.top-dir.ensures) in
-    let made_with : Attributes → Type 0 = λ a. SetsPath (layer_of c.place_parents.new.layers.upper) (layer_of c.insert_directory.new.layers.upper) (c.in-Some.name.now ∷ q) (Directory made.0 a c.lowers_show_directory-opaque.result None) in
-    mkdir-thin c.args.layers.now c.place_parents.new.layers c.insert_directory.new.layers c.place_parents.ensures.same c.place_parents.ensures.mounts c.insert_directory.ensures.lowers c.insert_directory.ensures.inodes c.insert_directory.ensures.keeps c.args.path.now q c.in-Some.name.now made.0 c.args.mode c.lowers_show_directory-opaque.result c.in-Some.ensures c.requires.absent (c.lowers_show_directory-opaque.ensures q c.in_ok-parent.ensures.stack) (subst made_with c.new_attributes-attributes.ensures made.1) c.place_parents.ensures.thin
+    let made_with : Attributes → Type 0 = λ a. SetsPath (layer_of c.place_parents.new.layers.upper) (layer_of c.insert_directory.new.layers.upper) (c.in-Some.name.now ∷ q) (Directory c.in_ok-insert_directory.field-0 a c.lowers_show_directory-opaque.result None) in
+    mkdir-thin c.args.layers.now c.place_parents.new.layers c.insert_directory.new.layers c.place_parents.ensures.same c.place_parents.ensures.mounts c.insert_directory.ensures.lowers c.insert_directory.ensures.inodes c.insert_directory.ensures.keeps c.args.path.now q c.in-Some.name.now c.in_ok-insert_directory.field-0 c.args.mode c.lowers_show_directory-opaque.result c.in-Some.ensures c.requires.absent (c.lowers_show_directory-opaque.ensures q c.in_ok-parent.ensures.stack) (subst made_with c.new_attributes-attributes.ensures made.0) c.place_parents.ensures.thin
 
 pub returns-in_err-parent-clause-parents : goal.returns-in_err-parent-clause-parents
 returns-in_err-parent-clause-parents c = on-err _ c.from_residual.result (subst (GainsParents c.args.layers.now c.place_parents.new.layers) (sym c.in-Some.ensures) (c.place_parents.ensures.gains c.in-Some.name.now))

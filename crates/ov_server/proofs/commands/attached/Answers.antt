@@ -11,7 +11,7 @@ pub returns-clause-places : goal.returns-clause-places
 returns-clause-places g c =
     let old = c.args.core.now in
     let new = c.attach.new.self in
-    let same = c.attach.ensures.options in
+    let same = c.attach.ensures.kept.options in
     let two = two_places old (length c.args.hooks.now) c.attach_refusal.result c.attach_refusal.ensures c.in_default.not-Some in
     elim c.match-attach.branch [
       | in-Ok-attach w ↦ attach_places old new same w.in-Ok-attach.client w.in-Ok-attach.ensures.clients two w.in-Ok-attach.ensures.finished c.requires

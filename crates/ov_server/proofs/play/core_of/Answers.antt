@@ -1,6 +1,7 @@
 use Rattle.std.proofs.Common.{◌≡◌}
 use Rattle.std.specs.Vec.{vec_len}
 use Rattle.std.proofs.lemmas.Result.{err_from_is_err_and}
+use Rattle.overlay_core.specs.Views.{core_finished, core_options, next_client}
 use Rattle.ov_server.proofs.Histories.{begun, bounded, first_places}
 use Rattle.ov_server.proofs.Manifests.{counted, refuses_none, refuses_told}
 use Rattle.ov_server.proofs.play.core_of.Goals as goal
@@ -24,11 +25,11 @@ returns-clause-manifest g c =
 
 pub returns-clause-places : goal.returns-clause-places
 returns-clause-places g c =
-    let options : c.in-Ok.core.options ≡ c.in_ok-upper.options = rw c.in-Ok.is at c.in_ok-core.ensures.options in
-    let finished : c.in-Ok.core.finished ≡ 0 = rw c.in-Ok.is at c.in_ok-core.ensures.finished in
+    let options : core_options c.in-Ok.core ≡ c.in_ok-upper.options = rw c.in-Ok.is at c.in_ok-core.ensures.options in
+    let finished : core_finished c.in-Ok.core ≡ 0 = rw c.in-Ok.is at c.in_ok-core.ensures.finished in
     first_places c.in-Ok.core (rw options (bounded (vec_len c.in_ok-upper.lowers) c.in_ok-upper.options (rw c.in-Ok.is at c.in_ok-core.ensures.mounted))) finished (rw c.in-Ok.is at c.in_ok-core.ensures.nobody)
 
 pub returns-clause-begins : goal.returns-clause-begins
 returns-clause-begins g c =
-    let finished : c.in-Ok.core.finished ≡ 0 = rw c.in-Ok.is at c.in_ok-core.ensures.finished in
-    begun c.in-Ok.core finished (rw c.in-Ok.is at c.in_ok-core.ensures.nobody)
+    let first : next_client c.in-Ok.core ≡ 0 = rw c.in-Ok.is at c.in_ok-core.ensures.first in
+    begun c.in-Ok.core first (rw c.in-Ok.is at c.in_ok-core.ensures.nobody)

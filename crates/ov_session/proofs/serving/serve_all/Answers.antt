@@ -9,36 +9,62 @@ pub loop-request-preserved : goal.loop-request-preserved
 loop-request-preserved g c =
     let contents = g.W.Write.contents in
     let told = g.D.Door.told in
-    let laws : Doorway g.D.Door.goes = record { stays = g.met.D.Door.stays; joins = g.met.D.Door.joins } in
-    let o = place (contents c.args.output.now.writer) c.args.output.now.held.items (told c.args.session.now) c.args.door.now in
-    let m = place (contents c.loop-request.output.writer) c.loop-request.output.held.items (told c.loop-request.session) c.loop-request.door in
-    let n = place (contents c.serve_one.new.output.writer) c.serve_one.new.output.held.items (told c.serve_one.new.session) c.serve_one.new.door in
+    let laws : Doorway g.D.Door.goes = record {
+      stays = g.met.D.Door.stays;
+      joins = g.met.D.Door.joins;
+    } in
+    let loop = c.loop-request in
+    let next = c.serve_one.new in
+    let o = place contents told c.args.output.now c.args.session.now c.args.door.now in
+    let m = place contents told loop.output loop.session loop.door in
+    let n = place contents told next.output next.session next.door in
     let rs = c.args.requests.now in
-    let i = c.loop-request.request-index in
+    let i = loop.request-index in
     let r = c.request-item.result in
-    let one : take (i + 1) rs ≡ take i rs ++ r ∷ [] = take_more rs i r c.loop-request-test.true ∙ ap (λ (x : Request). take i rs ++ x ∷ []) (sym c.request-item.is) in
+    let one : take (i + 1) rs ≡ take i rs ++ r ∷ []
+    = take_more rs i r c.loop-request-test.true
+    ∙ ap (λ (x : Request). take i rs ++ x ∷ []) (sym c.request-item.is) in
     record {
-      talked = subst (λ (all : List Request). Talked g.D.Door.goes o n all) (sym one) (talked_then g.D.Door.goes o m n (take i rs) (r ∷ []) laws c.loop-request.invariant.talked c.in_default.ensures.served);
+      talked =
+          subst (λ (all : List Request). Talked g.D.Door.goes o n all) (sym one)
+          (talked_then g.D.Door.goes o m n (take i rs) (r ∷ []) laws loop.invariant.talked
+          c.in_default.ensures.served);
       well = c.in_default.ensures.mark;
       admitted = c.in_default.ensures.admitted;
     }
 
-pub returns-in-Err-clause-served : goal.returns-in-Err-clause-served
-returns-in-Err-clause-served g c =
+pub returns-in-Err : goal.returns-in-Err
+returns-in-Err g c =
     let contents = g.W.Write.contents in
     let told = g.D.Door.told in
-    let laws : Doorway g.D.Door.goes = record { stays = g.met.D.Door.stays; joins = g.met.D.Door.joins } in
-    let o = place (contents c.args.output.now.writer) c.args.output.now.held.items (told c.args.session.now) c.args.door.now in
-    let m = place (contents c.loop-request.output.writer) c.loop-request.output.held.items (told c.loop-request.session) c.loop-request.door in
-    let n = place (contents c.serve_one.new.output.writer) c.serve_one.new.output.held.items (told c.serve_one.new.session) c.serve_one.new.door in
+    let laws : Doorway g.D.Door.goes = record {
+      stays = g.met.D.Door.stays;
+      joins = g.met.D.Door.joins;
+    } in
+    let loop = c.loop-request in
+    let next = c.serve_one.new in
+    let o = place contents told c.args.output.now c.args.session.now c.args.door.now in
+    let m = place contents told loop.output loop.session loop.door in
+    let n = place contents told next.output next.session next.door in
     let rs = c.args.requests.now in
-    let i = c.loop-request.request-index in
+    let i = loop.request-index in
     let r = c.request-item.result in
     let h = c.in-Err.ensures.served in
-    let one : take (i + 1) rs ≡ take i rs ++ r ∷ [] = take_more rs i r c.loop-request-test.true ∙ ap (λ (x : Request). take i rs ++ x ∷ []) (sym c.request-item.is) in
-    let all : rs ≡ (take i rs ++ r ∷ []) ++ drop (i + 1) rs = sym (take-append-drop (i + 1) rs) ∙ ap (λ (l : List Request). l ++ drop (i + 1) rs) one in (
-      take i rs ++ h.0,
-      h.1 ++ drop (i + 1) rs,
-      regrouped rs (take i rs) r h.0 h.1 (drop (i + 1) rs) all h.2,
-      broke_before g.D.Door.goes o n (take i rs ++ h.0) h.1 (drop (i + 1) rs) c.in-Err.end (broke_then g.D.Door.goes o m n (take i rs) h.0 h.1 c.in-Err.end laws c.loop-request.invariant.talked h.3),
-    )
+    let rest = drop (i + 1) rs in
+    let one : take (i + 1) rs ≡ take i rs ++ r ∷ []
+    = take_more rs i r c.loop-request-test.true
+    ∙ ap (λ (x : Request). take i rs ++ x ∷ []) (sym c.request-item.is) in
+    let all : rs ≡ (take i rs ++ r ∷ []) ++ rest
+    = sym (take-append-drop (i + 1) rs) ∙ ap (λ (l : List Request). l ++ rest) one in
+    record {
+      served = (
+        take i rs ++ h.0,
+        h.1 ++ rest,
+        regrouped rs (take i rs) r h.0 h.1 rest all h.2,
+        broke_before g.D.Door.goes o n (take i rs ++ h.0) h.1 rest c.in-Err.end
+            (broke_then g.D.Door.goes o m n (take i rs) h.0 h.1 c.in-Err.end laws loop.invariant.talked
+            h.3),
+      );
+      mark = c.in-Err.ensures.mark;
+      admitted = c.in-Err.ensures.admitted;
+    }

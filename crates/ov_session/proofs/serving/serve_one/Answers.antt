@@ -11,60 +11,113 @@ use Rattle.ov_session.specs.declared.exchange.Exchange.TheVariants.{Called, Held
 use Rattle.ov_session.proofs.Talking.{one_unasked, one_put}
 use Rattle.ov_session.proofs.serving.serve_one.Goals as goal
 
-pub returns-in-Err-clause-served : goal.returns-in-Err-clause-served
-returns-in-Err-clause-served g c =
-    let told = g.D.Door.told c.args.session.now in
-    let o = place (g.W.Write.contents c.args.output.now.writer) c.args.output.now.held.items told c.args.door.now in
-    one_unasked g.D.Door.goes o o c.args.request.now [] ending.Memory refl refl (sym (append-nil told)) (g.met.D.Door.stays c.args.door.now) (inl refl, ([], refl))
+pub returns-in-Err : goal.returns-in-Err
+returns-in-Err g c =
+    let told = g.D.Door.told in
+    let o = place g.W.Write.contents told c.args.output.now c.args.session.now c.args.door.now in
+    record {
+      served =
+          one_unasked g.D.Door.goes o o c.args.request.now [] ending.Memory refl refl
+          (sym (append-nil o.told)) (g.met.D.Door.stays c.args.door.now) (inl refl, ([], refl));
+      mark = c.requires.well;
+      admitted = c.requires.admitted;
+    }
 
-pub returns-in-Ok-None-clause-served : goal.returns-in-Ok-None-clause-served
-returns-in-Ok-None-clause-served g c =
-    let told = g.D.Door.told c.args.session.now in
-    let o = place (g.W.Write.contents c.args.output.now.writer) c.args.output.now.held.items told c.args.door.now in
-    one_unasked g.D.Door.goes o o c.args.request.now [] ending.Detached refl refl (sym (append-nil told)) (g.met.D.Door.stays c.args.door.now)
-    (refl, refl, (c.args.request.now, [], refl, sym c.in-Ok-None.ensures ∙ c.in-Ok-None.field-0-is))
+pub returns-in-Ok-None : goal.returns-in-Ok-None
+returns-in-Ok-None g c =
+    let told = g.D.Door.told in
+    let o = place g.W.Write.contents told c.args.output.now c.args.session.now c.args.door.now in
+    let leaves = sym c.in-Ok-None.ensures ∙ c.in-Ok-None.field-0-is in
+    record {
+      served =
+          one_unasked g.D.Door.goes o o c.args.request.now [] ending.Detached refl refl
+          (sym (append-nil o.told)) (g.met.D.Door.stays c.args.door.now)
+          (refl, refl, (c.args.request.now, [], refl, leaves));
+      mark = c.requires.well;
+      admitted = c.requires.admitted;
+    }
 
-pub returns-in-Ok-Some-Err-clause-served : goal.returns-in-Ok-Some-Err-clause-served
-returns-in-Ok-Some-Err-clause-served g c =
-    let contents = g.W.Write.contents in
-    let told = g.D.Door.told c.args.session.now in
-    let o = place (contents c.args.output.now.writer) c.args.output.now.held.items told c.args.door.now in
-    let n = place (contents c.put.new.self.writer) c.put.new.self.held.items told c.args.door.now in
-    let refused = NotTaken c.in-Ok-Some-Err.errno in
-    let asked : asked_of c.args.request.now ≡ Some (Err c.in-Ok-Some-Err.errno) = cc (c.in-Ok-Some-Err.ensures, c.in-Ok-Some-Err.field-0-is, c.in-Ok-Some-Err.field-0-0-is) in
-    one_put g.D.Door.goes o n [] c.args.request.now refused c.put.result (sym (append-nil told)) (g.met.D.Door.stays c.args.door.now)
-    (subst (λ (x : Option (Result Call Errno)). Answers x [] refused) (sym asked) (refl, refl)) c.put.ensures.put
-
-pub returns-in-Answered-clause-served : goal.returns-in-Answered-clause-served
-returns-in-Answered-clause-served g c =
+pub returns-in-Ok-Some-Err : goal.returns-in-Ok-Some-Err
+returns-in-Ok-Some-Err g c =
     let contents = g.W.Write.contents in
     let told = g.D.Door.told in
-    let old = told c.args.session.now in
-    let o = place (contents c.args.output.now.writer) c.args.output.now.held.items old c.args.door.now in
-    let n = place (contents c.put-in-Answered.new.self.writer) c.put-in-Answered.new.self.held.items (told c.call-in-Ok-Some-Ok.new.session) c.call-in-Ok-Some-Ok.new.self in
+    let o = place contents told c.args.output.now c.args.session.now c.args.door.now in
+    let n = place contents told c.put.new.self c.args.session.now c.args.door.now in
+    let refused = NotTaken c.in-Ok-Some-Err.errno in
+    let asked : asked_of c.args.request.now ≡ Some (Err c.in-Ok-Some-Err.errno)
+    = cc (
+      c.in-Ok-Some-Err.ensures,
+      c.in-Ok-Some-Err.field-0-is,
+      c.in-Ok-Some-Err.field-0-0-is,
+    ) in
+    record {
+      served =
+          one_put g.D.Door.goes o n [] c.args.request.now refused c.put.result
+          (sym (append-nil o.told)) (g.met.D.Door.stays c.args.door.now)
+          (subst (λ (x : Option (Result Call Errno)). Answers x [] refused) (sym asked)
+          (refl, refl))
+          c.put.ensures.put;
+      mark = c.put.ensures.mark;
+      admitted = c.requires.admitted;
+    }
+
+pub returns-in-Answered : goal.returns-in-Answered
+returns-in-Answered g c =
+    let contents = g.W.Write.contents in
+    let told = g.D.Door.told in
+    let asks = c.call-in-Ok-Some-Ok.new in
+    let o = place contents told c.args.output.now c.args.session.now c.args.door.now in
+    let n = place contents told c.put-in-Answered.new.self asks.session asks.self in
     let call = c.in-Ok-Some-Ok.call in
     let h = c.in-Answered.ensures.told in
-    let last = c.answer.ensures old call h.0 h.1 in
-    let asked : asked_of c.args.request.now ≡ Some (Ok call) = cc (c.in-Ok-Some-Ok.ensures, c.in-Ok-Some-Ok.field-0-is, c.in-Ok-Some-Ok.field-0-0-is) in
-    one_put g.D.Door.goes o n (Called call h.0 ∷ []) c.args.request.now c.answer.result.now c.put-in-Answered.result h.1 h.2
-    (subst (λ (x : Option (Result Call Errno)). Answers x (Called call h.0 ∷ []) c.answer.result.now) (sym asked) (ap (λ (a : Answer). Called call a ∷ []) (sym last))) c.put-in-Answered.ensures.put
+    let answer = c.answer.result.now in
+    let last = c.answer.ensures o.told call h.0 h.1 in
+    let asked : asked_of c.args.request.now ≡ Some (Ok call)
+    = cc (c.in-Ok-Some-Ok.ensures, c.in-Ok-Some-Ok.field-0-is, c.in-Ok-Some-Ok.field-0-0-is)
+    in
+    record {
+      served =
+          one_put g.D.Door.goes o n (Called call h.0 ∷ []) c.args.request.now answer
+          c.put-in-Answered.result h.1 h.2
+          (subst (λ (x : Option (Result Call Errno)). Answers x (Called call h.0 ∷ []) answer)
+          (sym asked) (ap (λ (a : Answer). Called call a ∷ []) (sym last)))
+          c.put-in-Answered.ensures.put;
+      mark = c.put-in-Answered.ensures.mark;
+      admitted = c.in-Answered.ensures.admitted;
+    }
 
-pub returns-in-HeldBack-clause-served : goal.returns-in-HeldBack-clause-served
-returns-in-HeldBack-clause-served g c =
+pub returns-in-HeldBack : goal.returns-in-HeldBack
+returns-in-HeldBack g c =
+    let contents = g.W.Write.contents in
     let told = g.D.Door.told in
-    let out = g.W.Write.contents c.args.output.now.writer in
-    let o = place out c.args.output.now.held.items (told c.args.session.now) c.args.door.now in
-    let n = place out c.args.output.now.held.items (told c.call-in-Ok-Some-Ok.new.session) c.call-in-Ok-Some-Ok.new.self in
+    let asks = c.call-in-Ok-Some-Ok.new in
+    let o = place contents told c.args.output.now c.args.session.now c.args.door.now in
+    let n = place contents told c.args.output.now asks.session asks.self in
     let call = c.in-Ok-Some-Ok.call in
     let h = c.in-HeldBack.ensures.told in
-    let asked : asked_of c.args.request.now ≡ Some (Ok call) = cc (c.in-Ok-Some-Ok.ensures, c.in-Ok-Some-Ok.field-0-is, c.in-Ok-Some-Ok.field-0-0-is) in
-    one_unasked g.D.Door.goes o n c.args.request.now (HeldBack call ∷ []) ending.Stopped refl refl h.0 h.1 ((c.args.request.now, [], call, refl, asked, refl), refl)
+    let asked : asked_of c.args.request.now ≡ Some (Ok call)
+    = cc (c.in-Ok-Some-Ok.ensures, c.in-Ok-Some-Ok.field-0-is, c.in-Ok-Some-Ok.field-0-0-is)
+    in
+    record {
+      served =
+          one_unasked g.D.Door.goes o n c.args.request.now (HeldBack call ∷ []) ending.Stopped
+          refl refl h.0 h.1 ((c.args.request.now, [], call, refl, asked, refl), refl);
+      mark = c.requires.well;
+      admitted = c.in-HeldBack.ensures.admitted;
+    }
 
-pub returns-in-OutOfMemory-clause-served : goal.returns-in-OutOfMemory-clause-served
-returns-in-OutOfMemory-clause-served g c =
+pub returns-in-OutOfMemory : goal.returns-in-OutOfMemory
+returns-in-OutOfMemory g c =
+    let contents = g.W.Write.contents in
     let told = g.D.Door.told in
-    let out = g.W.Write.contents c.args.output.now.writer in
-    let o = place out c.args.output.now.held.items (told c.args.session.now) c.args.door.now in
-    let n = place out c.args.output.now.held.items (told c.call-in-Ok-Some-Ok.new.session) c.call-in-Ok-Some-Ok.new.self in
+    let asks = c.call-in-Ok-Some-Ok.new in
+    let o = place contents told c.args.output.now c.args.session.now c.args.door.now in
+    let n = place contents told c.args.output.now asks.session asks.self in
     let h = c.in-OutOfMemory.ensures.told in
-    one_unasked g.D.Door.goes o n c.args.request.now [] ending.Memory refl refl (h.0 ∙ sym (append-nil (told c.args.session.now))) h.1 (inl refl, ([], refl))
+    record {
+      served =
+          one_unasked g.D.Door.goes o n c.args.request.now [] ending.Memory refl refl
+          (h.0 ∙ sym (append-nil o.told)) h.1 (inl refl, ([], refl));
+      mark = c.requires.well;
+      admitted = c.in-OutOfMemory.ensures.admitted;
+    }

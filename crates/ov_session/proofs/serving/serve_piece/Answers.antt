@@ -1,22 +1,44 @@
-use Rattle.std.proofs.Common.{refl}
+use Rattle.std.proofs.Common.{refl, sym, ◌∙◌}
 use Rattle.ov_session.specs.Talks.{place}
-use Rattle.ov_session.proofs.Talking.{served_on, served_badly}
+use Rattle.ov_session.proofs.Talking.{served_on, served_badly, handed_empty, handed_badly}
 use Rattle.ov_session.proofs.serving.serve_piece.Goals as goal
 
-pub returns-in-Ok-clause-served : goal.returns-in-Ok-clause-served
-returns-in-Ok-clause-served g c =
+pub returns-in-Ok : goal.returns-in-Ok
+returns-in-Ok g c =
     let contents = g.W.Write.contents in
     let told = g.D.Door.told in
-    let o = place (contents c.args.output.now.writer) c.args.output.now.held.items (told c.args.session.now) c.args.door.now in
-    let m = place (contents c.serve_all-served.new.output.writer) c.serve_all-served.new.output.held.items (told c.serve_all-served.new.session) c.serve_all-served.new.door in
-    let n = place (contents c.flush.new.self.writer) c.flush.new.self.held.items (told c.serve_all-served.new.session) c.serve_all-served.new.door in
-    served_on g.D.Door.goes o m n c.args.requests.now c.serve_all-served.result c.serve_all-served.ensures.served c.flush.ensures.bytes refl refl
+    let all = c.serve_all-served in
+    let o = place contents told c.args.output.now c.args.session.now c.args.door.now in
+    let m = place contents told all.new.output all.new.session all.new.door in
+    let n = place contents told c.flush.new.self all.new.session all.new.door in
+    record {
+      them = record {
+        served =
+            served_on g.D.Door.goes o m n c.args.requests.now all.result all.ensures.served
+            c.flush.ensures.bytes refl refl;
+        mark =
+            c.in-Ok.ensures.mark
+            ∙ sym (sym all.ensures.mark ∙ sym c.has_failed.ensures ∙ c.if-has_failed.false);
+        admitted = all.ensures.admitted;
+      };
+      handed_on = handed_empty all.result n.held c.in-Ok.ensures.held;
+    }
 
-pub returns-in-Err-clause-served : goal.returns-in-Err-clause-served
-returns-in-Err-clause-served g c =
+pub returns-in-Err : goal.returns-in-Err
+returns-in-Err g c =
     let contents = g.W.Write.contents in
     let told = g.D.Door.told in
-    let o = place (contents c.args.output.now.writer) c.args.output.now.held.items (told c.args.session.now) c.args.door.now in
-    let m = place (contents c.serve_all-served.new.output.writer) c.serve_all-served.new.output.held.items (told c.serve_all-served.new.session) c.serve_all-served.new.door in
-    let n = place (contents c.flush.new.self.writer) c.flush.new.self.held.items (told c.serve_all-served.new.session) c.serve_all-served.new.door in
-    served_badly g.D.Door.goes o m n c.args.requests.now c.serve_all-served.result c.in-Err.end c.serve_all-served.ensures.served c.in-Err.ensures.end c.flush.ensures.bytes refl refl
+    let all = c.serve_all-served in
+    let o = place contents told c.args.output.now c.args.session.now c.args.door.now in
+    let m = place contents told all.new.output all.new.session all.new.door in
+    let n = place contents told c.flush.new.self all.new.session all.new.door in
+    record {
+      them = record {
+        served =
+            served_badly g.D.Door.goes o m n c.args.requests.now all.result c.in-Err.end
+            all.ensures.served c.in-Err.ensures.end c.flush.ensures.bytes refl refl;
+        mark = c.in-Err.ensures.mark;
+        admitted = all.ensures.admitted;
+      };
+      handed_on = handed_badly c.in-Err.end n.held c.in-Err.ensures.end;
+    }

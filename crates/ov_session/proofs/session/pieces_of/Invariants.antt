@@ -5,18 +5,22 @@ use Rattle.ov_session.specs.Talks.{place}
 use Rattle.ov_session.proofs.session.pieces_of.Given as goal
 
 abbrev pub invariant-pieces : goal.invariant-pieces
-invariant-pieces g l = record {
-  so_far : SoFar g.D.Door.goes (g.R.Read.remaining l.fn.input.reader) (g.R.Read.remaining l.input.reader)
-      (place (g.W.Write.contents l.fn.output.writer) l.fn.output.held.items (g.D.Door.told l.fn.session) l.fn.door)
-      (place (g.W.Write.contents l.output.writer) l.output.held.items (g.D.Door.told l.session) l.door)
-      l.decoder;
-  begun : is_faulty l.decoder ≡ false;
-  room : 0 < length l.piece;
-  input : l.input.failed ≡ false;
-  well : l.output.failed ≡ false;
-  held : l.output.held.items ≡ [];
-  admitted : g.D.Door.admits l.door l.session;
-}
+invariant-pieces g l =
+    let remaining = g.R.Read.remaining in
+    let contents = g.W.Write.contents in
+    let told = g.D.Door.told in
+    record {
+      so_far : SoFar g.D.Door.goes (remaining l.fn.input.reader) (remaining l.input.reader)
+          (place contents told l.fn.output l.fn.session l.fn.door)
+          (place contents told l.output l.session l.door)
+          l.decoder;
+      begun : is_faulty l.decoder ≡ false;
+      room : 0 < length l.piece;
+      input : l.input.failed ≡ false;
+      well : l.output.failed ≡ false;
+      held : l.output.held.items ≡ [];
+      admitted : g.D.Door.admits l.door l.session;
+    }
 
 abbrev pub decreases-pieces : goal.decreases-pieces
 decreases-pieces g l = l.input.reads_left

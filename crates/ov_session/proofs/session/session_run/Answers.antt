@@ -8,24 +8,39 @@ returns-in-Detached-clause-session g c =
     let remaining = g.R.Read.remaining in
     let contents = g.W.Write.contents in
     let told = g.D.Door.told in
-    let laws : Doorway g.D.Door.goes = record { stays = g.met.D.Door.stays; joins = g.met.D.Door.joins } in
-    let o = place (contents c.args.output.now.writer) c.args.output.now.held.items (told c.args.session.now) c.args.door.now in
-    let n = place (contents c.converse-end.new.output.writer) c.converse-end.new.output.held.items (told c.converse-end.new.session) c.converse-end.new.door in
-    left_so g.D.Door.goes (remaining c.args.input.now.reader) (remaining c.converse-end.new.input.reader) o n (contents c.send_farewell.new.output.writer) c.send_farewell.new.output.held.items
-    (told c.detach-farewell.new.session) c.detach-farewell.new.self c.detach-farewell.result c.send_farewell.result
-    laws c.in-Detached.ensures.conversed c.requires.held c.detach-farewell.ensures.told c.detach-farewell.ensures.goes c.send_farewell.ensures.sent
+    let laws : Doorway g.D.Door.goes = record {
+      stays = g.met.D.Door.stays;
+      joins = g.met.D.Door.joins;
+    } in
+    let talk = c.converse-end.new in
+    let sent = c.send_farewell.new.output in
+    let part = c.detach-farewell in
+    let o = place contents told c.args.output.now c.args.session.now c.args.door.now in
+    let n = place contents told talk.output talk.session talk.door in
+    left_so g.D.Door.goes (remaining c.args.input.now.reader) (remaining talk.input.reader) o n
+    (contents sent.writer) sent.held.items (told part.new.session) part.new.self part.result
+    c.send_farewell.result laws c.in-Detached.ensures.conversed c.requires.held part.ensures.told
+    part.ensures.goes c.send_farewell.ensures.sent
 
 pub returns : goal.returns
 returns g c =
     let remaining = g.R.Read.remaining in
     let contents = g.W.Write.contents in
     let told = g.D.Door.told in
-    let laws : Doorway g.D.Door.goes = record { stays = g.met.D.Door.stays; joins = g.met.D.Door.joins } in
-    let o = place (contents c.args.output.now.writer) c.args.output.now.held.items (told c.args.session.now) c.args.door.now in
-    let n = place (contents c.converse-end.new.output.writer) c.converse-end.new.output.held.items (told c.converse-end.new.session) c.converse-end.new.door in
+    let laws : Doorway g.D.Door.goes = record {
+      stays = g.met.D.Door.stays;
+      joins = g.met.D.Door.joins;
+    } in
+    let talk = c.converse-end.new in
+    let h = c.converse-end.ensures in
+    let part = c.detach-farewell in
+    let o = place contents told c.args.output.now c.args.session.now c.args.door.now in
+    let n = place contents told talk.output talk.session talk.door in
     record {
-      session = parted g.D.Door.goes (remaining c.args.input.now.reader) (remaining c.converse-end.new.input.reader) o n (told c.detach-farewell.new.session) c.detach-farewell.new.self c.converse-end.result c.detach-farewell.result
-          laws c.converse-end.ensures.conversed c.requires.held c.converse-end.ensures.handed_on c.detach-farewell.ensures.told c.detach-farewell.ensures.goes c.in_default.not-Detached;
-      input = c.converse-end.ensures.input;
-      output = c.converse-end.ensures.mark;
+      session =
+          parted g.D.Door.goes (remaining c.args.input.now.reader) (remaining talk.input.reader) o n
+          (told part.new.session) part.new.self c.converse-end.result part.result laws h.conversed
+          c.requires.held h.handed_on part.ensures.told part.ensures.goes c.in_default.not-Detached;
+      input = h.input;
+      output = h.mark;
     }

@@ -2,7 +2,7 @@ use Rattle.std.proofs.Common.{arith, rules, ◌≡◌, true, Some, slice_get, ge
 use Rattle.std.proofs.lemmas.Option.{slice_get-get_or}
 use Rattle.overlay_core.specs.declared.job.Job.{Job}
 use Rattle.overlay_core.specs.declared.job.Standing.TheVariants.{Open}
-use Rattle.mount_calls.specs.Attaching.{is_attached}
+use Rattle.overlay_core.specs.Views.{core_clients, has_client}
 use Rattle.overlay_core.specs.Drives.{is_due, is_open, one_if_open}
 use Rattle.overlay_core.proofs.Driving.{calls-set, call-here, once-done, once-none, room-less, passes-end}
 use Rattle.overlay_core.proofs.schedule.one.Given.{Over}
@@ -21,9 +21,9 @@ stands g c = search rules
 
 -- and gets a step
 due : (g : Over) (c : After-advance g) →
-    is_due c.args.core.now.watched.mount.clients (slice_get c.args.jobs.now c.args.index) ≡ true
+    is_due (core_clients c.args.core.now) (slice_get c.args.jobs.now c.args.index) ≡ true
 due g c =
-    let at : is_attached c.args.core.now.watched.mount.clients (job g c).client ≡ true = search rules in
+    let at : has_client c.args.core.now (job g c).client ≡ true = search rules in
     rw (here g c, stands g c, at) refl
 
 pub returns-in-Done-clause-calls : goal.returns-in-Done-clause-calls
@@ -49,7 +49,7 @@ returns-in-Done-clause-once g c =
 pub returns-in-Done-clause-passed : goal.returns-in-Done-clause-passed
 returns-in-Done-clause-passed g c =
     let x = (goal.at.returns-in-Done-clause-passed g c).After-advance in
-    passes-end c.args.core.now.watched.mount.clients c.args.jobs.now c.args.index (job g x)
+    passes-end (core_clients c.args.core.now) c.args.jobs.now c.args.index (job g x)
     c.advance.new.job (here g x) (due g x) (ap is_open c.in-Done.ensures.turn.1)
 
 pub returns-in-NoMemory-clause-calls : goal.returns-in-NoMemory-clause-calls
@@ -70,5 +70,5 @@ returns-in-NoMemory-clause-once g c =
 pub returns-in-NoMemory-clause-passed : goal.returns-in-NoMemory-clause-passed
 returns-in-NoMemory-clause-passed g c =
     let x = (goal.at.returns-in-NoMemory-clause-passed g c).After-advance in
-    passes-end c.args.core.now.watched.mount.clients c.args.jobs.now c.args.index (job g x)
+    passes-end (core_clients c.args.core.now) c.args.jobs.now c.args.index (job g x)
     c.advance.new.job (here g x) (due g x) (ap is_open c.in-NoMemory.ensures.turn.1)

@@ -1,5 +1,5 @@
 use Rattle.std.proofs.Common.{sym, ap, ◌∙◌}
-use Rattle.plain_reference.proofs.LastLemmas.{is_it, last_is-last_item}
+use Rattle.plain_model.proofs.Watching.{is_it, last_is-last_item}
 use Rattle.plain_reference.proofs.queue.ends_with.Goals as goal
 
 pub returns-in-Some : goal.returns-in-Some

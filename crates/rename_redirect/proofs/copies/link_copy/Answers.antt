@@ -1,7 +1,7 @@
 use Rattle.std.proofs.Common.{[], ◌∷◌, Some, reverse, sym, ap, ◌∙◌, subst}
 use Rattle.ov_base.specs.declared.attributes.Attributes.{Attributes}
 use Rattle.ov_base.specs.declared.bytes.Content.{Content}
-use Rattle.plain_model.specs.Layers.{Path, Contents, shows}
+use Rattle.plain_model.specs.Layers.{Path, Contents, held, shows}
 use Rattle.layer_tree.specs.Tree.{layer_of}
 use Rattle.merged_lookup.specs.Merged.{layers_of}
 use Rattle.copy_up.proofs.Frames.{gains-self}
@@ -26,45 +26,45 @@ insert_in_upper-requires c =
     let out = outside-split c.args.layers.now c.args.old.now c.args.new.now n t m u c.in-Some.ensures c.in-Some-split_last.ensures c.args.place.layer c.args.place.key c.requires.shown.inode c.requires.parents c.requires.absent c.requires.shown.shown in
     record { places = (t, u, from, onto, λ e. out [] e) }
 
-pub returns-in_err-insert_in_upper-clause-no_memory : goal.returns-in_err-insert_in_upper-clause-no_memory
-returns-in_err-insert_in_upper-clause-no_memory c =
+pub returns-in_err-key-clause-no_memory : goal.returns-in_err-key-clause-no_memory
+returns-in_err-key-clause-no_memory c =
     let l0 = c.args.layers.now in
     let l1 = c.place_both.new.layers in
     let l2 = c.insert_in_upper.new.layers in
     let p = c.place_both.ensures in
-    on-err _ c.from_residual-in_err-insert_in_upper.result (fails-same l0 l1 l2 p.same p.stays c.insert_in_upper.ensures.lowers c.in_err-insert_in_upper.ensures.unchanged c.in_err-insert_in_upper.ensures.same)
+    on-err _ c.from_residual-in_err-key.result (fails-same l0 l1 l2 p.same p.stays c.insert_in_upper.ensures.lowers c.in_err-key.ensures.unchanged c.in_err-key.ensures.same)
 
-pub returns-in_err-insert_in_upper-clause-mounts : goal.returns-in_err-insert_in_upper-clause-mounts
-returns-in_err-insert_in_upper-clause-mounts c =
+pub returns-in_err-key-clause-mounts : goal.returns-in_err-key-clause-mounts
+returns-in_err-key-clause-mounts c =
     let l0 = c.args.layers.now in
     let l1 = c.place_both.new.layers in
     let l2 = c.insert_in_upper.new.layers in
     let p = c.place_both.ensures in
-    on-err _ c.from_residual-in_err-insert_in_upper.result (fails-stays l0 l1 l2 p.same p.stays c.insert_in_upper.ensures.lowers c.in_err-insert_in_upper.ensures.unchanged c.in_err-insert_in_upper.ensures.same c.insert_in_upper.ensures.keeps).mounts
+    on-err _ c.from_residual-in_err-key.result (fails-stays l0 l1 l2 p.same p.stays c.insert_in_upper.ensures.lowers c.in_err-key.ensures.unchanged c.in_err-key.ensures.same c.insert_in_upper.ensures.keeps).mounts
 
-pub returns-in_err-insert_in_upper-clause-parents : goal.returns-in_err-insert_in_upper-clause-parents
-returns-in_err-insert_in_upper-clause-parents c =
+pub returns-in_err-key-clause-parents : goal.returns-in_err-key-clause-parents
+returns-in_err-key-clause-parents c =
     let l0 = c.args.layers.now in
     let l1 = c.place_both.new.layers in
     let l2 = c.insert_in_upper.new.layers in
     let p = c.place_both.ensures in
-    on-err _ c.from_residual-in_err-insert_in_upper.result (fails-both l0 l1 l2 p.same p.stays c.insert_in_upper.ensures.lowers c.in_err-insert_in_upper.ensures.unchanged c.in_err-insert_in_upper.ensures.same c.args.old.now c.args.new.now p.gains)
+    on-err _ c.from_residual-in_err-key.result (fails-both l0 l1 l2 p.same p.stays c.insert_in_upper.ensures.lowers c.in_err-key.ensures.unchanged c.in_err-key.ensures.same c.args.old.now c.args.new.now p.gains)
 
-pub returns-in_err-insert_in_upper-clause-keeps : goal.returns-in_err-insert_in_upper-clause-keeps
-returns-in_err-insert_in_upper-clause-keeps c =
+pub returns-in_err-key-clause-keeps : goal.returns-in_err-key-clause-keeps
+returns-in_err-key-clause-keeps c =
     let l0 = c.args.layers.now in
     let l1 = c.place_both.new.layers in
     let l2 = c.insert_in_upper.new.layers in
     let p = c.place_both.ensures in
-    (fails-stays l0 l1 l2 p.same p.stays c.insert_in_upper.ensures.lowers c.in_err-insert_in_upper.ensures.unchanged c.in_err-insert_in_upper.ensures.same c.insert_in_upper.ensures.keeps).layers
+    (fails-stays l0 l1 l2 p.same p.stays c.insert_in_upper.ensures.lowers c.in_err-key.ensures.unchanged c.in_err-key.ensures.same c.insert_in_upper.ensures.keeps).layers
 
-pub returns-in_err-insert_in_upper-clause-thin : goal.returns-in_err-insert_in_upper-clause-thin
-returns-in_err-insert_in_upper-clause-thin c =
+pub returns-in_err-key-clause-thin : goal.returns-in_err-key-clause-thin
+returns-in_err-key-clause-thin c =
     let l0 = c.args.layers.now in
     let l1 = c.place_both.new.layers in
     let l2 = c.insert_in_upper.new.layers in
     let p = c.place_both.ensures in
-    (fails-stays l0 l1 l2 p.same p.stays c.insert_in_upper.ensures.lowers c.in_err-insert_in_upper.ensures.unchanged c.in_err-insert_in_upper.ensures.same c.insert_in_upper.ensures.keeps).thin
+    (fails-stays l0 l1 l2 p.same p.stays c.insert_in_upper.ensures.lowers c.in_err-key.ensures.unchanged c.in_err-key.ensures.same c.insert_in_upper.ensures.keeps).thin
 
 pub returns-clause-linked : goal.returns-clause-linked
 returns-clause-linked c =
@@ -86,8 +86,8 @@ returns-clause-linked c =
     let absent = p.same.absent (m ∷ u) (sym (ap (shows 0 (layers_of l0)) c.in-Some-split_last.ensures) ∙ c.requires.absent) in
     let copy = subst (λ (z : Content). CopiesName (layer_of l1.upper) (layer_of l2.upper) (n ∷ t) (m ∷ u) z i.attributes) found.2
     (subst (λ (z : Attributes). CopiesName (layer_of l1.upper) (layer_of l2.upper) (n ∷ t) (m ∷ u) c.in_ok-copy.copy.0 z) found.3
-    (c.in_ok-insert_in_upper.ensures.copied t u from onto (λ e. out [] e))) in
-    let objects = c.in_ok-insert_in_upper.ensures.objects in
+    (c.in_ok-key.ensures.copied t u from onto (λ e. out [] e))) in
+    let objects = c.in_ok-key.ensures.objects in
     let gains = subst (λ (z : Path). GainsBoth l0 l1 z (m ∷ u)) c.in-Some.ensures (subst (GainsBoth l0 l1 c.args.old.now) c.in-Some-split_last.ensures p.gains) in
     subst (λ (z : Path). GivesName l0 l2 z c.args.new.now) (sym c.in-Some.ensures)
     (subst (λ (z : Path). GivesName l0 l2 (n ∷ t) z) (sym c.in-Some-split_last.ensures)
@@ -95,7 +95,7 @@ returns-clause-linked c =
     (copy-name l1 l2 c.insert_in_upper.ensures.lowers c.insert_in_upper.ensures.keeps n t m u s.0 c.args.place.key i shown absent out copy)
     (copy-links l1 l2 c.insert_in_upper.ensures.lowers c.insert_in_upper.ensures.keeps n t m u s.0 c.args.place.key i shown absent out copy)
     (beside-copy l1.upper (layer_of l2.upper) (n ∷ t) (m ∷ u) i.content i.attributes from.free onto.free copy)
-    c.in_ok-insert_in_upper.ensures.directories objects.0 objects.1))
+    c.in_ok-key.ensures.directories objects.0 objects.1))
 
 pub returns-clause-keeps : goal.returns-clause-keeps
 returns-clause-keeps c = then-layers c.args.layers.now c.place_both.new.layers c.insert_in_upper.new.layers c.place_both.ensures.stays.layers c.insert_in_upper.ensures.lowers c.insert_in_upper.ensures.keeps
@@ -120,5 +120,17 @@ returns-clause-thin c = λ h.
     let absent = p.same.absent (m ∷ u) (sym (ap (shows 0 (layers_of l0)) c.in-Some-split_last.ensures) ∙ c.requires.absent) in
     let copy = subst (λ (z : Content). CopiesName (layer_of l1.upper) (layer_of l2.upper) (n ∷ t) (m ∷ u) z i.attributes) found.2
     (subst (λ (z : Attributes). CopiesName (layer_of l1.upper) (layer_of l2.upper) (n ∷ t) (m ∷ u) c.in_ok-copy.copy.0 z) found.3
-    (c.in_ok-insert_in_upper.ensures.copied t u from onto (λ e. out [] e))) in
+    (c.in_ok-key.ensures.copied t u from onto (λ e. out [] e))) in
     copy-thin l1 l2 c.insert_in_upper.ensures.lowers c.insert_in_upper.ensures.keeps n t m u s.0 c.args.place.key i shown absent out copy (p.stays.thin h)
+
+pub returns-clause-key : goal.returns-clause-key
+returns-clause-key c =
+    let p = c.place_both.ensures in
+    let n = c.in-Some.name.now in
+    let t = reverse c.in-Some.field-0-1.now in
+    let m = c.in-Some-split_last.further.now in
+    let u = reverse c.in-Some-split_last.field-0-1.now in
+    let from = c.in_ok-from.ensures.from n t c.in-Some.ensures in
+    let onto = c.in_ok-from.ensures.onto m u c.in-Some-split_last.ensures in
+    let out = outside-split c.args.layers.now c.args.old.now c.args.new.now n t m u c.in-Some.ensures c.in-Some-split_last.ensures c.args.place.layer c.args.place.key c.requires.shown.inode c.requires.parents c.requires.absent c.requires.shown.shown in
+    ap (held (layer_of c.insert_in_upper.new.layers.upper)) c.in-Some.ensures ∙ c.in_ok-key.ensures.key t u from onto (λ e. out [] e)

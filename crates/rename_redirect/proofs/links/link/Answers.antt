@@ -1,14 +1,32 @@
-use Rattle.std.proofs.Common.{refl, ap}
-use Rattle.plain_model.specs.Layers.{is_directory}
-use Rattle.merged_lookup.specs.Merged.{layers_of}
-use Rattle.copy_up.proofs.OtherAttributes.{found-inode}
-use Rattle.rename_redirect.proofs.Given.{link-fine, link-steps}
+use Rattle.rename_redirect.specs.Judging.{MayLink}
+use Rattle.rename_redirect.proofs.Given.{link-steps}
 use Rattle.rename_redirect.proofs.links.link.Goals as goal
+
+pub returns-in-Err-clause-refused : goal.returns-in-Err-clause-refused
+returns-in-Err-clause-refused c = c.in-Err.ensures.refused c.args.layers.now c.args.old.now c.args.new.now c.requires.from c.requires.onto
+
+pub give_name-requires-clause-way : goal.give_name-requires-clause-way
+give_name-requires-clause-way c = (c.in-Ok.ensures.may c.args.layers.now c.args.old.now c.args.new.now c.requires.from c.requires.onto).way
+
+pub give_name-requires-clause-directory : goal.give_name-requires-clause-directory
+give_name-requires-clause-directory c = (c.in-Ok.ensures.may c.args.layers.now c.args.old.now c.args.new.now c.requires.from c.requires.onto).directory
+
+pub give_name-requires-clause-shown : goal.give_name-requires-clause-shown
+give_name-requires-clause-shown c = (c.in-Ok.ensures.may c.args.layers.now c.args.old.now c.args.new.now c.requires.from c.requires.onto).shown
+
+pub give_name-requires-clause-parents : goal.give_name-requires-clause-parents
+give_name-requires-clause-parents c = (c.in-Ok.ensures.may c.args.layers.now c.args.old.now c.args.new.now c.requires.from c.requires.onto).parents
+
+pub give_name-requires-clause-onto : goal.give_name-requires-clause-onto
+give_name-requires-clause-onto c = (c.in-Ok.ensures.may c.args.layers.now c.args.old.now c.args.new.now c.requires.from c.requires.onto).onto
+
+pub give_name-requires-clause-absent : goal.give_name-requires-clause-absent
+give_name-requires-clause-absent c = (c.in-Ok.ensures.may c.args.layers.now c.args.old.now c.args.new.now c.requires.from c.requires.onto).absent
+
+pub returns-clause-allowed : goal.returns-clause-allowed
+returns-clause-allowed c = (c.in-Ok.ensures.may c.args.layers.now c.args.old.now c.args.new.now c.requires.from c.requires.onto).fine
 
 pub returns-clause-steps : goal.returns-clause-steps
 returns-clause-steps c =
-    let l = c.args.layers.now in
-    let file = found-inode l c.args.old.now c.in-Ok.walked.1 c.in-Inode.place c.in-Inode.is c.in-Ok.ensures.found in
-    link-steps l c.give_name.new.layers c.args.old.now c.args.new.now c.give_name.ensures.lowers
-    (link-fine (layers_of l) c.args.old.now c.args.new.now (c.in-Ok.ensures.answers.0 refl) c.in-Ok-vacant.ensures.parents c.in-Ok-vacant.ensures.absent (ap is_directory file.shown))
-    c.in_ok-give_name.ensures.linked
+    let may : MayLink c.args.layers.now c.args.old.now c.args.new.now c.in-Ok.found.0 c.in-Ok.found.1 c.in-Ok.found.2 = c.in-Ok.ensures.may c.args.layers.now c.args.old.now c.args.new.now c.requires.from c.requires.onto in
+    link-steps c.args.layers.now c.give_name.new.layers c.args.old.now c.args.new.now c.give_name.ensures.lowers may.fine c.in_ok-key.ensures.linked

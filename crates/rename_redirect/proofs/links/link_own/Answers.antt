@@ -9,6 +9,7 @@ use Rattle.make_remove.proofs.Making.{absent-place}
 use Rattle.rename_redirect.specs.Linking.{GivesName}
 use Rattle.rename_redirect.proofs.Gained.{beside-name}
 use Rattle.rename_redirect.proofs.Given.{gains-second, gives-name, fails-same, fails-stays, fails-both, own-name, own-links, own-thin}
+use Rattle.rename_redirect.proofs.Shown.{shown-apart}
 use Rattle.rename_redirect.proofs.links.link_own.Goals as goal
 
 pub returns-in_err-parent-clause-parents : goal.returns-in_err-parent-clause-parents
@@ -106,3 +107,18 @@ returns-clause-thin c = λ h.
     let absent = p.same.absent (n ∷ t) (sym (ap (shows 0 (layers_of l0)) c.in-Some.ensures) ∙ c.requires.absent) in
     let adds = c.in_ok-link_in_upper.ensures.added c.args.old.now t ((p.names c.args.old.now c.args.place.key).1 named.named) place in
     own-thin l1 l2 c.link_in_upper.ensures.lowers c.link_in_upper.ensures.keeps c.args.old.now n t absent adds (p.thin h)
+
+pub returns-clause-key : goal.returns-clause-key
+returns-clause-key c =
+    let p = c.place_parents.ensures in
+    let l0 = c.args.layers.now in
+    let l1 = c.place_parents.new.layers in
+    let l2 = c.link_in_upper.new.layers in
+    let n = c.in-Some.name.now in
+    let t = reverse c.in-Some.parents.now in
+    let place = absent-place l0 l1 c.args.new.now t n c.in_ok-parent.parent c.top-dir.result c.in-Some.ensures p.same c.requires.absent c.in_ok-parent.ensures.stack c.in_ok-parent.ensures.upper c.top-dir.ensures in
+    let named = upper-named l0 c.args.old.now c.args.place c.requires.shown.inode c.requires.own c.requires.shown.shown in
+    let still = (p.names c.args.old.now c.args.place.key).1 named.named in
+    let adds = c.in_ok-link_in_upper.ensures.added c.args.old.now t still place in
+    let off = shown-apart (layers_of l0) c.args.old.now c.args.new.now c.args.place.layer c.args.place.key c.requires.shown.inode c.requires.shown.shown c.requires.absent in
+    beside-name l1.upper (layer_of l2.upper) c.args.old.now (n ∷ t) place.free adds c.args.old.now (λ e. off (e ∙ sym c.in-Some.ensures)) ∙ still

@@ -1,4 +1,4 @@
-use Rattle.std.proofs.Common.{◌≡◌, ◌<◌, ◌∷◌, ℕ, Option, Some, ap, ap₂, ◌∙◌, arith}
+use Rattle.std.proofs.Common.{◌≡◌, ◌<◌, [], ◌∷◌, ℕ, Option, Some, ap, ap₂, ◌∙◌, arith}
 use Rattle.ov_base.specs.declared.attributes.Attributes.{Attributes}
 use Rattle.ov_base.specs.declared.bytes.Content.{Content}
 use Rattle.plain_model.specs.Layers.{Path, Contents, Inode, Named, is_directory, held, shows}
@@ -45,6 +45,12 @@ returns-then-place-eq0-clause-moved c = λ p q move shown.
       replaces-inode l c.move_in_upper.new.layers l.upper p q r c.in_ok-released.released move c.lawful.ensures.together c.move_in_upper.ensures.lowers c.move_in_upper.ensures.keeps ready c.args.place.key named.named e,
     )
 
+pub returns-then-place-eq0-clause-key : goal.returns-then-place-eq0-clause-key
+returns-then-place-eq0-clause-key c = λ p q move shown.
+    let l = c.args.layers.now in
+    let named = upper-named l (c.args.route.now.name.now ∷ p) c.args.place shown.inode c.if-place-eq0.true shown.shown in
+    (c.in_ok-released.ensures.moved p q move.route).path.inside [] ∙ named.named
+
 pub returns-then-place-eq0-clause-thin : goal.returns-then-place-eq0-clause-thin
 returns-then-place-eq0-clause-thin c =
     let l = c.args.layers.now in
@@ -84,21 +90,26 @@ copied-as l new p q r key released d content a lower i shown one two m =
       there = leaf-there l.upper new (lowers_of l) r.name.now p (r.further.now ∷ q) (object.Inode content a) (left_object r.covered) key released m none i leaf s.0 d.key at;
     }
 
-copied : (c : goal.In_ok-released-2) (p q : Path) → IsMove c.args.layers.now p q c.args.route.now → ShowsInode c.args.layers.now (c.args.route.now.name.now ∷ p) c.args.place → Copied c.args.layers.now c.insert_and_move.new.layers.upper p q c.args.route.now c.in_ok-released-2.field-0-0 c.in_ok-released-2.released
+copied : (c : goal.In_ok-key) (p q : Path) → IsMove c.args.layers.now p q c.args.route.now → ShowsInode c.args.layers.now (c.args.route.now.name.now ∷ p) c.args.place → Copied c.args.layers.now c.insert_and_move.new.layers.upper p q c.args.route.now c.in_ok-key.key c.in_ok-key.released
 copied c p q move shown =
     let l = c.args.layers.now in
     let found = c.in_ok-content.ensures (c.args.route.now.name.now ∷ p) shown in
-    copied-as l c.insert_and_move.new.layers.upper p q c.args.route.now c.in_ok-released-2.field-0-0 c.in_ok-released-2.released c.args.place c.in_ok-content.content c.in_ok-content.attributes (omega (arith, c.if-place-eq0.false)) found.0 found.1 found.2 found.3
-    (c.in_ok-released-2.ensures.moved p q move.route)
+    copied-as l c.insert_and_move.new.layers.upper p q c.args.route.now c.in_ok-key.key c.in_ok-key.released c.args.place c.in_ok-content.content c.in_ok-content.attributes (omega (arith, c.if-place-eq0.false)) found.0 found.1 found.2 found.3
+    (c.in_ok-key.ensures.moved p q move.route)
 
 pub returns-clause-moved : goal.returns-clause-moved
 returns-clause-moved c = λ p q move shown.
     let l = c.args.layers.now in
     let r = c.args.route.now in
     let x = copied c p q move shown in (
-      over-inode l c.insert_and_move.new.layers x.m.mid p q r c.in_ok-released-2.released move c.lawful.ensures.together c.insert_and_move.ensures.lowers c.insert_and_move.ensures.keeps x.ready c.in_ok-released-2.field-0-0 x.there x.m.moves (ap is_directory shown.shown),
-      replaces-inode l c.insert_and_move.new.layers x.m.mid p q r c.in_ok-released-2.released move c.lawful.ensures.together c.insert_and_move.ensures.lowers c.insert_and_move.ensures.keeps x.ready c.in_ok-released-2.field-0-0 x.there x.m.moves,
+      over-inode l c.insert_and_move.new.layers x.m.mid p q r c.in_ok-key.released move c.lawful.ensures.together c.insert_and_move.ensures.lowers c.insert_and_move.ensures.keeps x.ready c.in_ok-key.key x.there x.m.moves (ap is_directory shown.shown),
+      replaces-inode l c.insert_and_move.new.layers x.m.mid p q r c.in_ok-key.released move c.lawful.ensures.together c.insert_and_move.ensures.lowers c.insert_and_move.ensures.keeps x.ready c.in_ok-key.key x.there x.m.moves,
     )
+
+pub returns-clause-key : goal.returns-clause-key
+returns-clause-key c = λ p q move shown.
+    let x = copied c p q move shown in
+    x.m.moves.path.inside [] ∙ x.there
 
 pub returns-clause-thin : goal.returns-clause-thin
 returns-clause-thin c =
@@ -106,4 +117,4 @@ returns-clause-thin c =
     let p = c.requires.goes.0 in
     let q = c.requires.goes.1 in
     let x = copied c p q c.requires.goes.2 c.requires.goes.3 in
-    thin-inode l c.insert_and_move.new.layers x.m.mid p q c.args.route.now c.in_ok-released-2.released c.requires.goes.2 c.lawful.ensures.together c.insert_and_move.ensures.lowers c.insert_and_move.ensures.keeps x.ready c.in_ok-released-2.field-0-0 x.there x.m.moves
+    thin-inode l c.insert_and_move.new.layers x.m.mid p q c.args.route.now c.in_ok-key.released c.requires.goes.2 c.lawful.ensures.together c.insert_and_move.ensures.lowers c.insert_and_move.ensures.keeps x.ready c.in_ok-key.key x.there x.m.moves

@@ -1,11 +1,11 @@
 use Rattle.std.proofs.Common.{◌∙◌, ◌∷◌, sym}
 use Rattle.copy_up.proofs.Keeping.{on-err, then-layers}
 use Rattle.rename_redirect.proofs.Given.{fails-same, fails-stays, fails-both}
-use Rattle.rename_redirect.proofs.Since.{does-since, still-one, still-some, still-folder, still-unnamed}
+use Rattle.rename_redirect.proofs.Since.{does-since, still-found, still-one, still-folder, still-unnamed}
 use Rattle.rename_redirect.proofs.moves.move_object.Goals as goal
 
 pub move_placed-requires-clause-shown : goal.move_placed-requires-clause-shown
-move_placed-requires-clause-shown c = still-some c.args.layers.now c.place_ways.new.layers c.args.old.now c.args.new.now c.place_ways.ensures.same c.place_ways.ensures.stays c.place_ways.ensures.gains c.requires.out c.requires.within ∙ c.requires.shown
+move_placed-requires-clause-shown c = still-found c.args.layers.now c.place_ways.new.layers c.args.old.now c.args.new.now c.place_ways.ensures.same c.place_ways.ensures.stays c.place_ways.ensures.gains c.requires.out c.requires.within c.args.found c.requires.shown
 
 pub move_placed-requires-clause-kind : goal.move_placed-requires-clause-kind
 move_placed-requires-clause-kind c = λ h. still-unnamed c.args.layers.now c.place_ways.new.layers c.args.old.now c.args.new.now c.place_ways.ensures.same c.place_ways.ensures.stays c.place_ways.ensures.gains c.requires.out c.requires.within (c.requires.kind (sym (still-folder c.args.layers.now c.place_ways.new.layers c.args.old.now c.args.new.now c.place_ways.ensures.same c.place_ways.ensures.stays c.place_ways.ensures.gains c.requires.out c.requires.within) ∙ h))

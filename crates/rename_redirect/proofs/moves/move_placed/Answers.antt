@@ -1,7 +1,8 @@
-use Rattle.std.proofs.Common.{◌∷◌, false, true, reverse, ap, subst}
-use Rattle.plain_model.specs.Layers.{is_directory}
+use Rattle.std.proofs.Common.{◌∷◌, ◌∙◌, false, true, reverse, ap, subst}
+use Rattle.plain_model.specs.Layers.{held, is_directory}
+use Rattle.layer_tree.specs.Tree.{layer_of}
 use Rattle.merged_lookup.specs.declared.stack.Place.{Place}
-use Rattle.merged_lookup.specs.Merged.{parent, IsStackOf}
+use Rattle.merged_lookup.specs.Merged.{parent, IsFound, IsStackOf}
 use Rattle.copy_up.proofs.OtherAttributes.{found-inode}
 use Rattle.make_remove.proofs.Removing.{found-directory}
 use Rattle.rename_redirect.specs.declared.entries.Route.{Route}
@@ -22,8 +23,8 @@ move_directory-requires c =
     let r : Route = record { from = c.top.result.key; name = c.in-Some.name; to = c.top-2.result.key; further = c.in-Some-split_last.further; covered = c.lowers_show.result } in
     let at = subst (λ x. IsStackOf l (parent x) c.args.from) c.in-Some.ensures c.requires.from in
     let move = is-move l c.args.old.now c.args.new.now t u r c.in-Some.ensures c.in-Some-split_last.ensures c.args.from c.args.onto c.requires.from c.requires.from_upper (ap (λ (d : Place). d.key) c.top.ensures) c.requires.onto c.requires.onto_upper (ap (λ (d : Place). d.key) c.top-2.ensures) c.requires.empty c.requires.apart c.requires.out c.requires.within (c.lowers_show.ensures t at) in
-    let shown = found-directory l (c.in-Some.name.now ∷ t) c.in-Some-Directory.field-0 c.in-Some-Directory.stack c.in-Some-Directory.field-0-is (c.in-Some-Directory.ensures t at) in
-    let folder = is-folder l c.args.old.now c.args.new.now t u r c.in-Some.ensures c.in-Some-split_last.ensures c.in-Some-Directory.stack c.top-in-Some-Directory.result c.in_ok-marks-in-Some-Directory.marks shown c.top-in-Some-Directory.ensures c.requires.kind c.in_ok-marks-in-Some-Directory.ensures.when_base c.args.onto c.requires.onto c.in_ok-marks-in-Some-Directory.ensures.when_not in
+    let shown = found-directory l (c.in-Some.name.now ∷ t) c.args.found c.in-Directory.stack c.in-Directory.is (subst (λ x. IsFound l x c.args.found) c.in-Some.ensures c.requires.shown) in
+    let folder = is-folder l c.args.old.now c.args.new.now t u r c.in-Some.ensures c.in-Some-split_last.ensures c.in-Directory.stack c.top-in-Directory.result c.in_ok-marks-in-Directory.marks shown c.top-in-Directory.ensures c.requires.kind c.in_ok-marks-in-Directory.ensures.when_base c.args.onto c.requires.onto c.in_ok-marks-in-Directory.ensures.when_not in
     record { goes = (t, u, move, folder) }
 
 pub move_inode-requires : goal.move_inode-requires
@@ -34,27 +35,29 @@ move_inode-requires c =
     let r : Route = record { from = c.top.result.key; name = c.in-Some.name; to = c.top-2.result.key; further = c.in-Some-split_last.further; covered = c.lowers_show.result } in
     let at = subst (λ x. IsStackOf l (parent x) c.args.from) c.in-Some.ensures c.requires.from in
     let move = is-move l c.args.old.now c.args.new.now t u r c.in-Some.ensures c.in-Some-split_last.ensures c.args.from c.args.onto c.requires.from c.requires.from_upper (ap (λ (d : Place). d.key) c.top.ensures) c.requires.onto c.requires.onto_upper (ap (λ (d : Place). d.key) c.top-2.ensures) c.requires.empty c.requires.apart c.requires.out c.requires.within (c.lowers_show.ensures t at) in
-    record { goes = (t, u, move, found-inode l (c.in-Some.name.now ∷ t) c.in-Some-Inode.field-0 c.in-Some-Inode.place c.in-Some-Inode.field-0-is (c.in-Some-Inode.ensures t at)) }
+    record { goes = (t, u, move, found-inode l (c.in-Some.name.now ∷ t) c.args.found c.in-Inode.place c.in-Inode.is (subst (λ x. IsFound l x c.args.found) c.in-Some.ensures c.requires.shown)) }
 
-pub returns-in_ok-released-in-Some-Directory-clause-does : goal.returns-in_ok-released-in-Some-Directory-clause-does
-returns-in_ok-released-in-Some-Directory-clause-does c =
+pub returns-in_ok-released-in-Directory-clause-does : goal.returns-in_ok-released-in-Directory-clause-does
+returns-in_ok-released-in-Directory-clause-does c =
     let l = c.args.layers.now in
     let t = reverse c.in-Some.field-0-1.now in
     let u = reverse c.in-Some-split_last.field-0-1.now in
     let r : Route = record { from = c.top.result.key; name = c.in-Some.name; to = c.top-2.result.key; further = c.in-Some-split_last.further; covered = c.lowers_show.result } in
     let at = subst (λ x. IsStackOf l (parent x) c.args.from) c.in-Some.ensures c.requires.from in
     let move = is-move l c.args.old.now c.args.new.now t u r c.in-Some.ensures c.in-Some-split_last.ensures c.args.from c.args.onto c.requires.from c.requires.from_upper (ap (λ (d : Place). d.key) c.top.ensures) c.requires.onto c.requires.onto_upper (ap (λ (d : Place). d.key) c.top-2.ensures) c.requires.empty c.requires.apart c.requires.out c.requires.within (c.lowers_show.ensures t at) in
-    let shown = found-directory l (c.in-Some.name.now ∷ t) c.in-Some-Directory.field-0 c.in-Some-Directory.stack c.in-Some-Directory.field-0-is (c.in-Some-Directory.ensures t at) in
-    let folder = is-folder l c.args.old.now c.args.new.now t u r c.in-Some.ensures c.in-Some-split_last.ensures c.in-Some-Directory.stack c.top-in-Some-Directory.result c.in_ok-marks-in-Some-Directory.marks shown c.top-in-Some-Directory.ensures c.requires.kind c.in_ok-marks-in-Some-Directory.ensures.when_base c.args.onto c.requires.onto c.in_ok-marks-in-Some-Directory.ensures.when_not in
-    moves-as l c.args.old.now c.args.new.now t u r c.in-Some.ensures c.in-Some-split_last.ensures c.move_directory.new.layers true c.in_ok-released-in-Some-Directory.released c.requires.apart (ap is_directory shown.shown) (c.in_ok-released-in-Some-Directory.ensures.moved t u move folder)
+    let shown = found-directory l (c.in-Some.name.now ∷ t) c.args.found c.in-Directory.stack c.in-Directory.is (subst (λ x. IsFound l x c.args.found) c.in-Some.ensures c.requires.shown) in
+    let folder = is-folder l c.args.old.now c.args.new.now t u r c.in-Some.ensures c.in-Some-split_last.ensures c.in-Directory.stack c.top-in-Directory.result c.in_ok-marks-in-Directory.marks shown c.top-in-Directory.ensures c.requires.kind c.in_ok-marks-in-Directory.ensures.when_base c.args.onto c.requires.onto c.in_ok-marks-in-Directory.ensures.when_not in
+    moves-as l c.args.old.now c.args.new.now t u r c.in-Some.ensures c.in-Some-split_last.ensures c.move_directory.new.layers true c.in_ok-released-in-Directory.released c.requires.apart (ap is_directory shown.shown) (c.in_ok-released-in-Directory.ensures.moved t u move folder)
 
-pub returns-in_ok-released-in-Some-Inode-clause-does : goal.returns-in_ok-released-in-Some-Inode-clause-does
-returns-in_ok-released-in-Some-Inode-clause-does c =
+pub returns-in_ok-key-in-Inode-clause-does : goal.returns-in_ok-key-in-Inode-clause-does
+returns-in_ok-key-in-Inode-clause-does c =
     let l = c.args.layers.now in
     let t = reverse c.in-Some.field-0-1.now in
     let u = reverse c.in-Some-split_last.field-0-1.now in
     let r : Route = record { from = c.top.result.key; name = c.in-Some.name; to = c.top-2.result.key; further = c.in-Some-split_last.further; covered = c.lowers_show.result } in
     let at = subst (λ x. IsStackOf l (parent x) c.args.from) c.in-Some.ensures c.requires.from in
     let move = is-move l c.args.old.now c.args.new.now t u r c.in-Some.ensures c.in-Some-split_last.ensures c.args.from c.args.onto c.requires.from c.requires.from_upper (ap (λ (d : Place). d.key) c.top.ensures) c.requires.onto c.requires.onto_upper (ap (λ (d : Place). d.key) c.top-2.ensures) c.requires.empty c.requires.apart c.requires.out c.requires.within (c.lowers_show.ensures t at) in
-    let shown = found-inode l (c.in-Some.name.now ∷ t) c.in-Some-Inode.field-0 c.in-Some-Inode.place c.in-Some-Inode.field-0-is (c.in-Some-Inode.ensures t at) in
-    moves-as l c.args.old.now c.args.new.now t u r c.in-Some.ensures c.in-Some-split_last.ensures c.move_inode.new.layers false c.in_ok-released-in-Some-Inode.released c.requires.apart (ap is_directory shown.shown) (c.in_ok-released-in-Some-Inode.ensures.moved t u move shown)
+    let shown = found-inode l (c.in-Some.name.now ∷ t) c.args.found c.in-Inode.place c.in-Inode.is (subst (λ x. IsFound l x c.args.found) c.in-Some.ensures c.requires.shown) in (
+      moves-as l c.args.old.now c.args.new.now t u r c.in-Some.ensures c.in-Some-split_last.ensures c.move_inode.new.layers false c.in_ok-key-in-Inode.released c.requires.apart (ap is_directory shown.shown) (c.in_ok-key-in-Inode.ensures.moved t u move shown),
+      ap (held (layer_of c.move_inode.new.layers.upper)) c.in-Some-split_last.ensures ∙ c.in_ok-key-in-Inode.ensures.key t u move shown,
+    )

@@ -1,13 +1,27 @@
-use Rattle.std.proofs.Common.{sym}
+use Rattle.std.proofs.Common.{refl, sym}
+use Rattle.ov_base.specs.declared.call.Call.TheVariants as call
+use Rattle.ov_base.specs.declared.reply.Reply.TheVariants as reply
 use Rattle.mount_calls.proofs.Answering.{list-done, list-refused, unrefused-list}
+use Rattle.mount_calls.proofs.MakingCalls.{attached-same, makes-out-same, makes-read}
 use Rattle.mount_calls.proofs.mount.Mount.list.Goals as goal
 
-pub returns-in-Some-clause-serves : goal.returns-in-Some-clause-serves
-returns-in-Some-clause-serves c = λ s st. list-refused c.args.self.now s st c.args.client c.args.descriptor c.args.count c.in-Some.errno (sym c.in-Some.ensures)
+pub returns-in-Some : goal.returns-in-Some
+returns-in-Some c =
+    let m = c.args.self.now in
+    makes-read c.args.client (call.ListNames c.args.descriptor c.args.count) m m (attached-same m.clients) refl (reply.Refused c.in-Some.errno) (λ s. refl)
+    (λ s st. list-refused m s st c.args.client c.args.descriptor c.args.count c.in-Some.errno (sym c.in-Some.ensures))
 
 pub page-requires : goal.page-requires
 page-requires c = unrefused-list _ c.args.count (sym c.in_default.ensures)
 
-pub returns-clause-serves : goal.returns-clause-serves
-returns-clause-serves c = λ s st.
-    list-done c.args.self.now s st c.args.client c.args.descriptor c.args.count c.page.new.self c.in_ok-names.names (sym c.in_default.ensures) c.in_ok-names.ensures.pages
+pub returns : goal.returns
+returns c =
+    let m = c.args.self.now in
+    makes-read c.args.client (call.ListNames c.args.descriptor c.args.count) m c.page.new.self c.page.ensures.clients c.page.ensures.layers
+    (reply.Names c.in_ok-names.names) (λ s. refl)
+    (λ s st. list-done m s st c.args.client c.args.descriptor c.args.count c.page.new.self c.in_ok-names.names (sym c.in_default.ensures) c.in_ok-names.ensures.pages)
+
+pub returns-in_err-names : goal.returns-in_err-names
+returns-in_err-names c =
+    makes-out-same c.args.client (call.ListNames c.args.descriptor c.args.count) c.args.self.now c.page.new.self c.page.ensures.clients c.page.ensures.layers
+    c.from_residual.result c.from_residual.ensures.0 c.in_err-names.ensures.err

@@ -1,66 +1,54 @@
-use Rattle.ov_base.specs.declared.call.Call.TheVariants as call
-use Rattle.mount_laws.proofs.Looks.{law_of_mkdir}
 use Rattle.std.proofs.Common.{◌∙◌, refl}
+use Rattle.ov_base.specs.declared.call.Call.TheVariants as call
 use Rattle.layer_tree.specs.Tree.{layer_of}
 use Rattle.merged_lookup.specs.Merged.{lowers_of}
-use Rattle.mount_calls.proofs.Parsed.{mode-fault}
-use Rattle.mount_calls.proofs.Changing.{mkdir-done, no-memory, refused}
+use Rattle.mount_laws.proofs.Looks.{law_of_mkdir}
+use Rattle.mount_calls.proofs.Changing.{mkdir-done}
+use Rattle.mount_calls.proofs.Frames.{around-others, around-parents}
 use Rattle.mount_calls.proofs.Lasting.{mkdir-live, mkdir-leaves, parents-live}
-use Rattle.mount_calls.proofs.Named.{keeps-named, refused-named}
-use Rattle.mount_calls.proofs.Frames.{around-same, around-others, around-parents}
+use Rattle.mount_calls.proofs.MakingCalls.{makes-done, makes-unmade, makes-unshown}
+use Rattle.mount_calls.proofs.Named.{keeps-named}
+use Rattle.mount_calls.proofs.Parsed.{mode-fault}
 use Rattle.mount_calls.proofs.mount.Mount.mkdir.Goals as goal
 
-pub returns-in-Err-clause-serves : goal.returns-in-Err-clause-serves
-returns-in-Err-clause-serves c = λ s st client.
-    refused c.args.self.now s st c.args.self.now.layers client (call.Mkdir c.args.path.now c.args.mode) c.in-Err.errno
-    (law_of_mkdir (layer_of c.args.self.now.layers.upper) (lowers_of c.args.self.now.layers) s st.layers client c.args.path.now c.args.mode ∙ mode-fault c.args.mode c.in-Err.errno _ (rw c.in-Err.is at c.parse.ensures.told))
-    refl
+pub returns-in-Err-clause-makes : goal.returns-in-Err-clause-makes
+returns-in-Err-clause-makes c = λ client.
+    let m = c.args.self.now in
+    let p = c.args.path.now in
+    makes-unmade client (call.Mkdir p c.args.mode) m m.layers c.in-Err.errno (λ s. refl)
+    (λ s st. law_of_mkdir (layer_of m.layers.upper) (lowers_of m.layers) s st.layers client p c.args.mode
+    ∙ mode-fault c.args.mode c.in-Err.errno _ (rw c.in-Err.is at c.parse.ensures.told)) refl
 
-pub returns-in-Ok-2-clause-serves : goal.returns-in-Ok-2-clause-serves
-returns-in-Ok-2-clause-serves c = λ s st client.
+pub returns-in-Ok-2-clause-makes : goal.returns-in-Ok-2-clause-makes
+returns-in-Ok-2-clause-makes c = λ client.
+    let m = c.args.self.now in
+    let p = c.args.path.now in
+    let new = c.mkdir.new.layers in
     let same = rw c.in-Ok.is at c.parse.ensures.same in
     let allowed = rw (c.in-Ok-2.is, same) at c.in_ok-mkdir.ensures.allowed in
     let made = rw (c.in-Ok-2.is, same) at c.in_ok-mkdir.ensures.made in
     let steps = rw (c.in-Ok-2.is, same) at c.in_ok-mkdir.ensures.steps in
-    mkdir-done c.args.self.now s st c.mkdir.new.layers client c.args.path.now c.args.mode allowed made.lowers (steps s st.layers client)
-    (mkdir-live c.args.self.now.layers c.mkdir.new.layers c.args.path.now c.args.mode c.mkdir.ensures.keeps made steps)
-    (mkdir-leaves c.args.path.now c.args.mode)
+    let live = mkdir-live m.layers new p c.args.mode c.mkdir.ensures.keeps made steps in
+    makes-done client (call.Mkdir p c.args.mode) m new
+    (λ s st. mkdir-done m s st new client p c.args.mode allowed made.lowers (steps s st.layers client) live (mkdir-leaves p c.args.mode))
+    (λ s st fine. keeps-named m.layers new (call.Mkdir p c.args.mode) live s st.layers client)
+    (around-others m.layers new p made.others) made.lowers c.mkdir.ensures.thin
 
-pub returns-in-Err-2-clause-serves : goal.returns-in-Err-2-clause-serves
-returns-in-Err-2-clause-serves c = λ s st client.
+pub returns-in-Err-2-clause-makes : goal.returns-in-Err-2-clause-makes
+returns-in-Err-2-clause-makes c = λ client.
+    let m = c.args.self.now in
+    let p = c.args.path.now in
     let same = rw c.in-Ok.is at c.parse.ensures.same in
-    refused c.args.self.now s st c.mkdir.new.layers client (call.Mkdir c.args.path.now c.args.mode) c.in-Err-2.errno
-    (law_of_mkdir (layer_of c.args.self.now.layers.upper) (lowers_of c.args.self.now.layers) s st.layers client c.args.path.now c.args.mode ∙ (rw (c.in-Err-2.is, same) at c.in_ok-mkdir.ensures.refused))
+    makes-unmade client (call.Mkdir p c.args.mode) m c.mkdir.new.layers c.in-Err-2.errno (λ s. refl)
+    (λ s st. law_of_mkdir (layer_of m.layers.upper) (lowers_of m.layers) s st.layers client p c.args.mode
+    ∙ (rw (c.in-Err-2.is, same) at c.in_ok-mkdir.ensures.refused))
     (rw c.in-Err-2.is at c.in_ok-mkdir.ensures.unchanged)
 
-pub returns-in_err-mkdir-clause-err : goal.returns-in_err-mkdir-clause-err
-returns-in_err-mkdir-clause-err c =
-    let parents = c.in_err-mkdir.ensures.parents in
-    no-memory c.from_residual.result c.args.self.now c.mkdir.new.layers c.in_err-mkdir.ensures.mounts parents.lowers (parents-live c.args.self.now.layers c.mkdir.new.layers c.args.path.now parents)
-
-pub returns-in-Err-clause-named : goal.returns-in-Err-clause-named
-returns-in-Err-clause-named c = λ s st client fine. refused-named c.args.self.now.layers s client (call.Mkdir c.args.path.now c.args.mode) c.in-Err.errno (c.args.self.now) refl (returns-in-Err-clause-serves c s st client) fine
-
-pub returns-in-Ok-2-clause-named : goal.returns-in-Ok-2-clause-named
-returns-in-Ok-2-clause-named c = λ s st client fine.
-    let same = rw c.in-Ok.is at c.parse.ensures.same in
-    let made = rw (c.in-Ok-2.is, same) at c.in_ok-mkdir.ensures.made in
-    let steps = rw (c.in-Ok-2.is, same) at c.in_ok-mkdir.ensures.steps in
-    keeps-named c.args.self.now.layers c.mkdir.new.layers (call.Mkdir c.args.path.now c.args.mode) (mkdir-live c.args.self.now.layers c.mkdir.new.layers c.args.path.now c.args.mode c.mkdir.ensures.keeps made steps) s st.layers client
-
-pub returns-in-Err-2-clause-named : goal.returns-in-Err-2-clause-named
-returns-in-Err-2-clause-named c = λ s st client fine. refused-named c.args.self.now.layers s client (call.Mkdir c.args.path.now c.args.mode) c.in-Err-2.errno (record c.args.self.now { layers = c.mkdir.new.layers }) refl (returns-in-Err-2-clause-serves c s st client) fine
-
-pub returns-in-Err-clause-layers : goal.returns-in-Err-clause-layers
-returns-in-Err-clause-layers c = around-same c.args.self.now.layers c.args.self.now.layers c.args.path.now refl
-
-pub returns-in-Ok-2-clause-layers : goal.returns-in-Ok-2-clause-layers
-returns-in-Ok-2-clause-layers c =
-    let made = rw c.in-Ok-2.is at c.in_ok-mkdir.ensures.made in
-    around-others c.args.self.now.layers c.mkdir.new.layers c.args.path.now made.others
-
-pub returns-in-Err-2-clause-layers : goal.returns-in-Err-2-clause-layers
-returns-in-Err-2-clause-layers c = around-same c.args.self.now.layers c.mkdir.new.layers c.args.path.now (rw c.in-Err-2.is at c.in_ok-mkdir.ensures.unchanged)
-
-pub returns-in_err-mkdir-clause-layers : goal.returns-in_err-mkdir-clause-layers
-returns-in_err-mkdir-clause-layers c = around-parents c.args.self.now.layers c.mkdir.new.layers c.args.path.now c.in_err-mkdir.ensures.parents
+pub returns-in_err-mkdir-clause-makes : goal.returns-in_err-mkdir-clause-makes
+returns-in_err-mkdir-clause-makes c = λ client.
+    let m = c.args.self.now in
+    let p = c.args.path.now in
+    let new = c.mkdir.new.layers in
+    let kept = c.in_err-mkdir.ensures in
+    makes-unshown client (call.Mkdir p c.args.mode) m new c.from_residual.result c.from_residual.ensures.0 kept.mounts
+    (parents-live m.layers new p kept.parents) (around-parents m.layers new p kept.parents) kept.parents.lowers c.mkdir.ensures.thin

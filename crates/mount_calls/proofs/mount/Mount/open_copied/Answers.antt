@@ -4,30 +4,27 @@ use Rattle.mount_calls.specs.declared.mount.Mount.{Mount}
 use Rattle.mount_calls.specs.Files.{HasFileRoom, file_at}
 use Rattle.mount_calls.specs.Opening.{OpensFile}
 use Rattle.mount_calls.proofs.Answering.{on-err}
-use Rattle.mount_calls.proofs.Makings.{none-holds, reserved-state, reserve-full, wanted-state}
+use Rattle.mount_calls.proofs.Makings.{none-holds, reserved-state, wanted-state}
 use Rattle.mount_calls.proofs.CopiedOpens.{vacant, copied-files, copied-kept, copied-emptied}
 use Rattle.ov_base.specs.declared.call.Call.TheVariants as call
 use Rattle.ov_base.specs.declared.reply.Reply.TheVariants as reply
 use Rattle.mount_calls.specs.Living.{KeepsFiles}
-use Rattle.mount_calls.proofs.Named.{open-paths, refused-named, stays-named}
+use Rattle.mount_calls.proofs.Named.{open-paths, stays-named}
 use Rattle.mount_calls.proofs.Stating.{the_lowers, the_upper}
 use Rattle.mount_calls.proofs.Frames.{around-same, around-then}
 use Rattle.mount_calls.proofs.Lasting.{parents-live}
 use Rattle.mount_calls.proofs.mount.Mount.open_copied.Goals as goal
 use Rattle.mount_calls.proofs.mount.Mount.open_copied.Goals.{then-flags+in_ok-resize_file, else-flags}
 
-pub returns-in_err-errno-clause-err : goal.returns-in_err-errno-clause-err
-returns-in_err-errno-clause-err c = on-err c.from_residual.result _ (λ s st. reserved-state c.args.self.now s st c.args.client c.reserve_file.new.self c.in_err-errno.ensures.same)
-
-pub returns-in-Err-clause-serves : goal.returns-in-Err-clause-serves
-returns-in-Err-clause-serves c = λ s st. reserve-full c.args.self.now s st c.args.client c.reserve_file.new.self c.in_ok-errno.ensures.same c.args.path.now c.args.flags c.args.mode c.requires.allowed c.in-Err.errno (rw c.in-Err.is at c.in_ok-errno.ensures.full)
+pub returns-in_err-reserve_file-clause-err : goal.returns-in_err-reserve_file-clause-err
+returns-in_err-reserve_file-clause-err c = on-err c.from_residual.result _ (λ s st. reserved-state c.args.self.now s st c.args.client c.reserve_file.new.self c.reserve_file.ensures.same)
 
 pub returns-in_err-key-clause-err : goal.returns-in_err-key-clause-err
-returns-in_err-key-clause-err c = on-err c.from_residual-in_err-key.result _ (λ s st. wanted-state c.args.self.now s st c.args.client c.reserve_file.new.self c.in_ok-errno.ensures.same c.bring_up.new.layers c.args.path.now c.in_err-key.ensures.mounts c.in_err-key.ensures.parents)
+returns-in_err-key-clause-err c = on-err c.from_residual-in_err-key.result _ (λ s st. wanted-state c.args.self.now s st c.args.client c.reserve_file.new.self c.reserve_file.ensures.same c.bring_up.new.layers c.args.path.now c.in_err-key.ensures.mounts c.in_err-key.ensures.parents)
 
 pub open_reserved-requires-clause-room : goal.open_reserved-requires-clause-room
 open_reserved-requires-clause-room c =
-    let room : HasFileRoom c.reserve_file.new.self c.args.client = search rules in
+    let room : HasFileRoom c.reserve_file.new.self c.args.client c.args.descriptor = search rules in
     elim c.if-flags.branch [
       | then-flags+in_ok-resize_file w ↦ rw w.self-is room
       | else-flags w ↦ rw w.self-is room
@@ -35,8 +32,8 @@ open_reserved-requires-clause-room c =
 
 pub open_reserved-requires-clause-fresh : goal.open_reserved-requires-clause-fresh
 open_reserved-requires-clause-fresh c = λ k of.
-    let none = none-holds c.args.self.now c.args.client c.reserve_file.new.self c.in_ok-errno.ensures.same c.requires.state c.lawful.ensures.files c.in_ok-key.key
-    (λ s st. vacant c.args.self.now s st c.args.client c.reserve_file.new.self c.in_ok-errno.ensures.same c.args.path.now c.args.flags c.args.mode c.requires.allowed c.requires.writes c.args.place c.requires.shown c.requires.lower c.bring_up.new.layers c.in_ok-key.key c.in_ok-key.ensures.copied)
+    let none = none-holds c.args.self.now c.args.client c.reserve_file.new.self c.reserve_file.ensures.same c.requires.state c.lawful.ensures.files c.in_ok-key.key
+    (λ s st. vacant c.args.self.now s st c.args.client c.reserve_file.new.self c.reserve_file.ensures.same c.args.path.now c.args.flags c.args.mode c.requires.allowed c.requires.writes c.args.place c.requires.shown c.requires.lower c.bring_up.new.layers c.in_ok-key.key c.in_ok-key.ensures.copied)
     k (ap (λ (x : OpenFile). x.source) (sym c.file_at-file.ensures) ∙ of) in
     elim c.if-flags.branch [
       | then-flags+in_ok-resize_file w ↦ rw w.self-is none
@@ -45,39 +42,33 @@ open_reserved-requires-clause-fresh c = λ k of.
 
 pub returns-clause-serves : goal.returns-clause-serves
 returns-clause-serves c = λ s st.
-    let opens : OpensFile c.if-flags.self.clients c.open_reserved.new.self c.args.client (file_at (record { layer = 0; key = c.in_ok-key.key }) c.args.flags) (Ok (Ok c.open_reserved.result)) = rw c.file_at-file.ensures at c.open_reserved.ensures in
+    let opens : OpensFile c.if-flags.self.clients c.open_reserved.new.self c.args.client c.args.descriptor (file_at (record { layer = 0; key = c.in_ok-key.key }) c.args.flags) (Ok tt) = rw c.file_at-file.ensures at c.open_reserved.ensures in
     elim c.if-flags.branch [
       | then-flags+in_ok-resize_file w ↦
           rw w.self-is
-          (copied-emptied c.args.self.now s st c.args.client c.reserve_file.new.self c.in_ok-errno.ensures.same c.args.path.now c.args.flags c.args.mode c.requires.allowed c.requires.writes c.args.place c.requires.shown c.requires.lower c.bring_up.new.layers c.in_ok-key.key c.in_ok-key.ensures.copied
-          c.open_reserved.result c.open_reserved.new.self (subst (λ (x : Mount). OpensFile x.clients c.open_reserved.new.self c.args.client (file_at (record { layer = 0; key = c.in_ok-key.key }) c.args.flags) (Ok (Ok c.open_reserved.result))) w.self-is opens)
+          (copied-emptied c.args.self.now s st c.args.client c.reserve_file.new.self c.reserve_file.ensures.same c.args.path.now c.args.flags c.args.mode c.requires.allowed c.requires.writes c.args.place c.requires.shown c.requires.lower c.bring_up.new.layers c.in_ok-key.key c.in_ok-key.ensures.copied
+          c.args.descriptor c.open_reserved.new.self (subst (λ (x : Mount). OpensFile x.clients c.open_reserved.new.self c.args.client c.args.descriptor (file_at (record { layer = 0; key = c.in_ok-key.key }) c.args.flags) (Ok tt)) w.self-is opens)
           w.if-flags.true w.resize_file.new.layers w.resize_file.ensures.keeps (λ k old is. w.in_ok-resize_file.ensures.sets k old (ap (λ (x : OpenFile). x.source) c.file_at-file.ensures ∙ is)))
       | else-flags w ↦
           rw w.self-is
-          (copied-kept c.args.self.now s st c.args.client c.reserve_file.new.self c.in_ok-errno.ensures.same c.args.path.now c.args.flags c.args.mode c.requires.allowed c.requires.writes c.args.place c.requires.shown c.requires.lower c.bring_up.new.layers c.in_ok-key.key c.in_ok-key.ensures.copied
-          c.open_reserved.result c.open_reserved.new.self (subst (λ (x : Mount). OpensFile x.clients c.open_reserved.new.self c.args.client (file_at (record { layer = 0; key = c.in_ok-key.key }) c.args.flags) (Ok (Ok c.open_reserved.result))) w.self-is opens)
+          (copied-kept c.args.self.now s st c.args.client c.reserve_file.new.self c.reserve_file.ensures.same c.args.path.now c.args.flags c.args.mode c.requires.allowed c.requires.writes c.args.place c.requires.shown c.requires.lower c.bring_up.new.layers c.in_ok-key.key c.in_ok-key.ensures.copied
+          c.args.descriptor c.open_reserved.new.self (subst (λ (x : Mount). OpensFile x.clients c.open_reserved.new.self c.args.client c.args.descriptor (file_at (record { layer = 0; key = c.in_ok-key.key }) c.args.flags) (Ok tt)) w.self-is opens)
           w.if-flags.false)
     ]
 
-pub returns-in-Err-clause-named : goal.returns-in-Err-clause-named
-returns-in-Err-clause-named c = λ s st fine. refused-named c.args.self.now.layers s c.args.client (call.Open c.args.path.now c.args.flags c.args.mode) c.in-Err.errno (record c.args.self.now { clients = c.reserve_file.new.self }) refl (returns-in-Err-clause-serves c s st) fine
-
 pub returns-clause-named : goal.returns-clause-named
 returns-clause-named c = λ s st fine.
-    let copied = copied-files c.args.self.now s st c.args.client c.reserve_file.new.self c.in_ok-errno.ensures.same c.args.path.now c.args.flags c.args.mode c.requires.allowed c.requires.writes c.args.place c.requires.shown c.requires.lower c.bring_up.new.layers c.in_ok-key.key c.in_ok-key.ensures.copied in
+    let copied = copied-files c.args.self.now s st c.args.client c.reserve_file.new.self c.reserve_file.ensures.same c.args.path.now c.args.flags c.args.mode c.requires.allowed c.requires.writes c.args.place c.requires.shown c.requires.lower c.bring_up.new.layers c.in_ok-key.key c.in_ok-key.ensures.copied in
     let files : KeepsFiles c.args.self.now.layers c.if-flags.self.layers = elim c.if-flags.branch [
       | then-flags+in_ok-resize_file w ↦ rw w.self-is (λ q j f. w.resize_file.ensures.files q j (copied q j f))
       | else-flags w ↦ rw w.self-is copied
     ] in
-    stays-named c.args.self.now.layers (record c.if-flags.self { clients = c.open_reserved.new.self }) s c.args.client (call.Open c.args.path.now c.args.flags c.args.mode) (reply.Descriptor c.open_reserved.result) (returns-clause-serves c s st) fine
+    stays-named c.args.self.now.layers (record c.if-flags.self { clients = c.open_reserved.new.self }) s c.args.client (call.Open c.args.path.now c.args.flags c.args.mode) (reply.Descriptor c.args.descriptor) (returns-clause-serves c s st) fine
     (open-paths (the_upper c.args.self.now) (the_lowers c.args.self.now) s st.layers c.args.client c.args.path.now c.args.flags c.args.mode fine (ap is_some c.requires.shown.shown))
     files
 
-pub returns-in_err-errno-clause-around : goal.returns-in_err-errno-clause-around
-returns-in_err-errno-clause-around c = around-same c.args.self.now.layers c.args.self.now.layers c.args.path.now refl
-
-pub returns-in-Err-clause-around : goal.returns-in-Err-clause-around
-returns-in-Err-clause-around c = around-same c.args.self.now.layers c.args.self.now.layers c.args.path.now refl
+pub returns-in_err-reserve_file-clause-around : goal.returns-in_err-reserve_file-clause-around
+returns-in_err-reserve_file-clause-around c = around-same c.args.self.now.layers c.args.self.now.layers c.args.path.now refl
 
 pub returns-clause-around : goal.returns-clause-around
 returns-clause-around c = elim c.if-flags.branch [

@@ -1,15 +1,29 @@
-use Rattle.std.proofs.Common.{ℕ, List, sym, subst}
+use Rattle.std.proofs.Common.{ℕ, List, refl, sym, subst}
 use Rattle.ov_base.specs.declared.call.Call.TheVariants as call
 use Rattle.ov_base.specs.declared.reply.Reply.TheVariants as reply
-use Rattle.plain_model.specs.Refusals.{refusal}
-use Rattle.mount_calls.specs.States.{Serves}
+use Rattle.mount_calls.specs.Making.{ServesEach}
 use Rattle.mount_calls.proofs.FileReads.{read-refused, read-done}
+use Rattle.mount_calls.proofs.MakingCalls.{attached-same, makes-nothing, makes-read}
+use Rattle.mount_calls.proofs.Serving.{keeps-attached}
 use Rattle.mount_calls.proofs.mount.Mount.read.Goals as goal
 
-pub returns-in-Err-clause-serves : goal.returns-in-Err-clause-serves
-returns-in-Err-clause-serves c = λ s st. read-refused c.args.self.now s st c.args.client c.args.descriptor c.args.count c.in-Err.errno c.in-Err.ensures.refused
+pub returns-in-Err : goal.returns-in-Err
+returns-in-Err c =
+    let m = c.args.self.now in
+    makes-read c.args.client (call.Read c.args.descriptor c.args.count) m m (attached-same m.clients) refl (reply.Refused c.in-Err.errno) (λ s. refl)
+    (λ s st. read-refused m s st c.args.client c.args.descriptor c.args.count c.in-Err.errno c.in-Err.ensures.refused)
 
-pub returns-clause-serves : goal.returns-clause-serves
-returns-clause-serves c = λ s st.
-    subst (λ (copy : List ℕ). Serves (refusal s c.args.client (call.Read c.args.descriptor c.args.count)) s c.args.client (call.Read c.args.descriptor c.args.count) (reply.Read copy) (record c.args.self.now { clients = c.move_to.new.self })) (sym c.in_ok-copy.ensures)
-    (read-done c.args.self.now s st c.args.client c.args.descriptor c.args.count c.in-Ok.file c.in-Ok.ensures.file.0 c.in-Ok.ensures.file.1 c.bytes_in.result.now c.read_at-bytes.result.now c.bytes_in.ensures c.read_at-bytes.ensures c.move_to.new.self c.move_to.ensures)
+pub returns-in_err-copy : goal.returns-in_err-copy
+returns-in_err-copy c =
+    makes-nothing c.args.client (call.Read c.args.descriptor c.args.count) c.args.self.now c.from_residual.result c.from_residual.ensures.0
+
+pub returns : goal.returns
+returns c =
+    let m = c.args.self.now in
+    let client = c.args.client in
+    let k = call.Read c.args.descriptor c.args.count in
+    let new = record m { clients = c.move_to.new.self } in
+    makes-read client k m new (keeps-attached m.clients c.move_to.new.self client _ c.move_to.ensures) refl (reply.Read c.in_ok-copy.copy) (λ s. refl)
+    (subst (λ (copy : List ℕ). ServesEach client k m new (reply.Read copy)) (sym c.in_ok-copy.ensures)
+    (λ s st. read-done m s st client c.args.descriptor c.args.count c.in-Ok.file c.in-Ok.ensures.file.0 c.in-Ok.ensures.file.1
+    c.bytes_in.result.now c.read_at-bytes.result.now c.bytes_in.ensures c.read_at-bytes.ensures c.move_to.new.self c.move_to.ensures))

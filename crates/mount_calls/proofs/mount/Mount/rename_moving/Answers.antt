@@ -17,44 +17,44 @@ returns-in_err-prepare_rename-clause-err c =
 
 pub rename-requires-clause-apart : goal.rename-requires-clause-apart
 rename-requires-clause-apart c =
-    let allowed = rw c.in-Ok-Ok-true.field-0-is at c.in-Ok-Ok-true.ensures.allowed in
-    let moved = rw (c.in-Ok-Ok-true.field-0-is, c.in-Ok-Ok-true.field-0-0-test) at c.in-Ok-Ok-true.ensures.does in
-    outside c.args.self.now c.requires c.args.old.now c.args.new.now moved.bare allowed moved.apart
+    let allowed = rw c.in-Ok-Ok-Some.field-0-is at c.in-Ok-Ok-Some.ensures.allowed in
+    let moved = rw (c.in-Ok-Ok-Some.field-0-is, c.in-Ok-Ok-Some.field-0-0-is) at c.in-Ok-Ok-Some.ensures.does in
+    outside c.args.self.now c.requires.state c.args.old.now c.args.new.now moved.bare allowed moved.apart
 
 pub rename-requires-clause-below : goal.rename-requires-clause-below
 rename-requires-clause-below c =
-    let moved = rw (c.in-Ok-Ok-true.field-0-is, c.in-Ok-Ok-true.field-0-0-test) at c.in-Ok-Ok-true.ensures.does in
+    let moved = rw (c.in-Ok-Ok-Some.field-0-is, c.in-Ok-Ok-Some.field-0-0-is) at c.in-Ok-Ok-Some.ensures.does in
     let same = c.in_ok-prepare_rename.ensures.same in
-    bare-below c.args.self.now c.requires c.prepare_rename.new.self same c.lawful.ensures.held c.args.new.now moved.bare
+    bare-below c.args.self.now c.requires.state c.prepare_rename.new.self same c.lawful.ensures.held c.args.new.now moved.bare
 
 pub rename-requires-clause-replaced : goal.rename-requires-clause-replaced
 rename-requires-clause-replaced c =
-    let allowed = rw c.in-Ok-Ok-true.field-0-is at c.in-Ok-Ok-true.ensures.allowed in
+    let allowed = rw c.in-Ok-Ok-Some.field-0-is at c.in-Ok-Ok-Some.ensures.allowed in
     let same = c.in_ok-prepare_rename.ensures.same in
-    replaced-copied c.args.self.now c.requires c.prepare_rename.new.self same c.lawful.ensures.held c.args.new.now
+    replaced-copied c.args.self.now c.requires.state c.prepare_rename.new.self same c.lawful.ensures.held c.args.new.now
     (to-path (the_upper c.args.self.now) (the_lowers c.args.self.now) c.args.self.now.redirects c.args.old.now c.args.new.now allowed)
     c.in_ok-replaced.replaced c.in_ok-replaced.ensures.none
 
-pub returns-in-Ok-Ok-true-clause-serves : goal.returns-in-Ok-Ok-true-clause-serves
-returns-in-Ok-Ok-true-clause-serves c = λ s st client.
-    let allowed = rw c.in-Ok-Ok-true.field-0-is at c.in-Ok-Ok-true.ensures.allowed in
-    let moved = rw (c.in-Ok-Ok-true.field-0-is, c.in-Ok-Ok-true.field-0-0-test) at c.in-Ok-Ok-true.ensures.does in
+pub returns-in-Ok-Ok-Some-clause-serves : goal.returns-in-Ok-Ok-Some-clause-serves
+returns-in-Ok-Ok-Some-clause-serves c = λ s st client.
+    let allowed = rw c.in-Ok-Ok-Some.field-0-is at c.in-Ok-Ok-Some.ensures.allowed in
+    let moved = rw (c.in-Ok-Ok-Some.field-0-is, c.in-Ok-Ok-Some.field-0-0-is) at c.in-Ok-Ok-Some.ensures.does in
     let same = c.in_ok-prepare_rename.ensures.same in
     let stands = same-state c.args.self.now s st c.prepare_rename.new.self same in
     rename-done (record c.args.self.now { clients = c.prepare_rename.new.self }) s stands client c.args.old.now c.args.new.now allowed
     c.rename_and_free.new.layers c.rename_and_free.ensures.lowers moved c.lawful.ensures.files
-    (bare-below c.args.self.now c.requires c.prepare_rename.new.self same c.lawful.ensures.held c.args.new.now moved.bare)
+    (bare-below c.args.self.now c.requires.state c.prepare_rename.new.self same c.lawful.ensures.held c.args.new.now moved.bare)
     c.in_ok-replaced.replaced
-    (replaced-copied c.args.self.now c.requires c.prepare_rename.new.self same c.lawful.ensures.held c.args.new.now
+    (replaced-copied c.args.self.now c.requires.state c.prepare_rename.new.self same c.lawful.ensures.held c.args.new.now
     (to-path (the_upper c.args.self.now) (the_lowers c.args.self.now) c.args.self.now.redirects c.args.old.now c.args.new.now allowed)
     c.in_ok-replaced.replaced c.in_ok-replaced.ensures.none)
     (λ a e. subst (λ z. IfSome z (HasAttributes (layers_of c.args.self.now.layers) c.args.new.now)) e c.in_ok-replaced.ensures.left)
     c.rename.new.self c.rename.ensures.renames
 
-pub returns-in-Ok-Ok-false-clause-serves : goal.returns-in-Ok-Ok-false-clause-serves
-returns-in-Ok-Ok-false-clause-serves c = λ s st client.
-    let allowed = rw c.in-Ok-Ok-false.field-0-is at c.in-Ok-Ok-false.ensures.allowed in
-    let does = rw (c.in-Ok-Ok-false.field-0-is, c.in-Ok-Ok-false.field-0-0-test) at c.in-Ok-Ok-false.ensures.does in
+pub returns-in-Ok-Ok-None-clause-serves : goal.returns-in-Ok-Ok-None-clause-serves
+returns-in-Ok-Ok-None-clause-serves c = λ s st client.
+    let allowed = rw c.in-Ok-Ok-None.field-0-is at c.in-Ok-Ok-None.ensures.allowed in
+    let does = rw (c.in-Ok-Ok-None.field-0-is, c.in-Ok-Ok-None.field-0-0-is) at c.in-Ok-Ok-None.ensures.does in
     let same = same-then c.args.self.now.clients _ _ c.in_ok-prepare_rename.ensures.same c.cancel_rename.ensures.same in
     rename-same c.args.self.now s st client c.args.old.now c.args.new.now allowed does.0 _
     (subst (λ z. IsStateOf (record c.args.self.now { layers = z; clients = c.cancel_rename.new.self }) s) (sym does.1)
@@ -74,21 +74,21 @@ returns-in-Err-clause-err c =
     (same-then _ _ _ c.in_ok-prepare_rename.ensures.same c.cancel_rename-in-Err.ensures.same)
     c.in-Err.ensures.mounts c.rename_and_free.ensures.lowers c.in-Err.ensures.stays
 
-pub returns-in-Ok-Ok-true-clause-thin : goal.returns-in-Ok-Ok-true-clause-thin
-returns-in-Ok-Ok-true-clause-thin c = thin-on c.args.self.now c.rename_and_free.new.layers c.requires c.rename_and_free.ensures.thin
+pub returns-in-Ok-Ok-Some-clause-thin : goal.returns-in-Ok-Ok-Some-clause-thin
+returns-in-Ok-Ok-Some-clause-thin c = thin-on c.args.self.now c.rename_and_free.new.layers c.requires.state c.rename_and_free.ensures.thin
 
 pub returns-in-Err-clause-thin : goal.returns-in-Err-clause-thin
-returns-in-Err-clause-thin c = thin-on c.args.self.now c.rename_and_free.new.layers c.requires c.rename_and_free.ensures.thin
+returns-in-Err-clause-thin c = thin-on c.args.self.now c.rename_and_free.new.layers c.requires.state c.rename_and_free.ensures.thin
 
-pub returns-in-Ok-Ok-true-clause-named : goal.returns-in-Ok-Ok-true-clause-named
-returns-in-Ok-Ok-true-clause-named c = λ s st client fine.
-    let moved = rw (c.in-Ok-Ok-true.field-0-is, c.in-Ok-Ok-true.field-0-0-test) at c.in-Ok-Ok-true.ensures.does in
+pub returns-in-Ok-Ok-Some-clause-named : goal.returns-in-Ok-Ok-Some-clause-named
+returns-in-Ok-Ok-Some-clause-named c = λ s st client fine.
+    let moved = rw (c.in-Ok-Ok-Some.field-0-is, c.in-Ok-Ok-Some.field-0-0-is) at c.in-Ok-Ok-Some.ensures.does in
     moved.named s st.layers st.redirects client
 
-pub returns-in-Ok-Ok-false-clause-named : goal.returns-in-Ok-Ok-false-clause-named
-returns-in-Ok-Ok-false-clause-named c = λ s st client fine.
-    let allowed = rw c.in-Ok-Ok-false.field-0-is at c.in-Ok-Ok-false.ensures.allowed in
-    let does = rw (c.in-Ok-Ok-false.field-0-is, c.in-Ok-Ok-false.field-0-0-test) at c.in-Ok-Ok-false.ensures.does in
+pub returns-in-Ok-Ok-None-clause-named : goal.returns-in-Ok-Ok-None-clause-named
+returns-in-Ok-Ok-None-clause-named c = λ s st client fine.
+    let allowed = rw c.in-Ok-Ok-None.field-0-is at c.in-Ok-Ok-None.ensures.allowed in
+    let does = rw (c.in-Ok-Ok-None.field-0-is, c.in-Ok-Ok-None.field-0-0-is) at c.in-Ok-Ok-None.ensures.does in
     rename-same-named c.args.self.now s st client c.args.old.now c.args.new.now allowed does.0 c.rename_and_free.new.layers does.1
 
 pub returns-in-Ok-Err-clause-named : goal.returns-in-Ok-Err-clause-named

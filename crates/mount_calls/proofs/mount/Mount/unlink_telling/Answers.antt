@@ -1,19 +1,18 @@
-use Rattle.mount_calls.proofs.Changing.{no-memory}
-use Rattle.mount_calls.proofs.Unlinking.{unlink-named, unlink-served}
+use Rattle.ov_base.specs.declared.call.Call.TheVariants as call
+use Rattle.mount_calls.specs.Status.{outcome_result}
+use Rattle.mount_calls.proofs.MakingCalls.{makes-unshown}
+use Rattle.mount_calls.proofs.Unlinking.{outcome-err, unlink-made}
 use Rattle.mount_calls.proofs.mount.Mount.unlink_telling.Goals as goal
 
-pub returns-clause-serves : goal.returns-clause-serves
-returns-clause-serves c =
+pub returns-clause-makes : goal.returns-clause-makes
+returns-clause-makes c = λ client.
     let said = c.in_ok-outcome.ensures in
-    unlink-served c.args.self.now c.unlink_and_free.new.layers c.args.path.now c.in_ok-outcome.outcome c.lawful.ensures.files said.refused said.unchanged
-    said.allowed said.takes said.steps said.live
+    unlink-made c.args.self.now c.unlink_and_free.new.layers c.args.path.now c.in_ok-outcome.outcome client c.lawful.ensures.files said.refused said.unchanged
+    said.allowed said.takes said.steps said.live c.unlink_and_free.ensures.around c.unlink_and_free.ensures.thin
 
-pub returns-clause-named : goal.returns-clause-named
-returns-clause-named c =
-    let said = c.in_ok-outcome.ensures in
-    unlink-named c.args.self.now c.unlink_and_free.new.layers c.args.path.now c.in_ok-outcome.outcome said.takes said.steps (returns-clause-serves c)
-
-pub returns-in_err-outcome-clause-err : goal.returns-in_err-outcome-clause-err
-returns-in_err-outcome-clause-err c =
+pub returns-in_err-outcome-clause-makes : goal.returns-in_err-outcome-clause-makes
+returns-in_err-outcome-clause-makes c = λ client.
     let kept = c.in_err-outcome.ensures in
-    no-memory c.from_residual.result c.args.self.now c.unlink_and_free.new.layers kept.mounts kept.no_memory.lowers kept.stays
+    makes-unshown client (call.Unlink c.args.path.now) c.args.self.now c.unlink_and_free.new.layers
+    (outcome_result c.from_residual.result) (outcome-err c.from_residual.result c.from_residual.ensures.0) kept.mounts kept.stays
+    c.unlink_and_free.ensures.around kept.no_memory.lowers c.unlink_and_free.ensures.thin

@@ -1,48 +1,63 @@
-use Rattle.std.proofs.Common.{refl, sym, ap, ◌∙◌, length, nat_eq, take}
-use Rattle.mount_calls.proofs.Changing.{no-memory}
-use Rattle.mount_calls.proofs.Writings.{write-refused, write-nothing, write-unfitting, write-done}
+use Rattle.std.proofs.Common.{◌≡◌, refl, sym, ap, ◌∙◌, length, nat_eq, take}
 use Rattle.ov_base.specs.declared.call.Call.TheVariants as call
 use Rattle.ov_base.specs.declared.reply.Reply.TheVariants as reply
-use Rattle.mount_calls.proofs.Named.{refused-named, stay-files, stays-named, write-paths}
+use Rattle.mount_calls.specs.Making.{ServesEach}
+use Rattle.mount_calls.proofs.MakingCalls.{attached-same, makes-changed, makes-refused, makes-same, makes-unshown}
+use Rattle.mount_calls.proofs.Named.{stay-files, stays-named, write-paths}
+use Rattle.mount_calls.proofs.Serving.{keeps-attached}
+use Rattle.mount_calls.proofs.Writings.{write-refused, write-nothing, write-unfitting, write-done}
 use Rattle.mount_calls.proofs.mount.Mount.write.Goals as goal
 
-pub returns-in-Err-clause-serves : goal.returns-in-Err-clause-serves
-returns-in-Err-clause-serves c = λ s st. write-refused c.args.self.now s st c.args.client c.args.descriptor c.args.bytes.now c.in-Err.errno (rw c.as_slice-bytes.ensures at c.in-Err.ensures.refused)
+pub returns-in-Err : goal.returns-in-Err
+returns-in-Err c =
+    let m = c.args.self.now in
+    makes-refused c.args.client (call.Write c.args.descriptor c.args.bytes.now) m m (attached-same m.clients) refl c.in-Err.errno (λ s. refl)
+    (λ s st. write-refused m s st c.args.client c.args.descriptor c.args.bytes.now c.in-Err.errno (rw c.as_slice-bytes.ensures at c.in-Err.ensures.refused))
 
-pub returns-then-is_empty-clause-serves : goal.returns-then-is_empty-clause-serves
-returns-then-is_empty-clause-serves c =
+pub returns-then-is_empty : goal.returns-then-is_empty
+returns-then-is_empty c =
+    let m = c.args.self.now in
+    let client = c.args.client in
+    let fd = c.args.descriptor in
+    let k = call.Write fd c.args.bytes.now in
     let file = rw c.as_slice-bytes.ensures at c.in-Ok.ensures.file in
-    λ s st. write-nothing c.args.self.now s st c.args.client c.args.descriptor c.args.bytes.now c.in-Ok.file file.0 file.1 (sym (ap (λ z. nat_eq (length z) 0) c.as_slice-bytes.ensures) ∙ sym c.is_empty.ensures ∙ c.if-is_empty.true)
+    let served : ServesEach client k m m (reply.Written 0) = λ s st. write-nothing m s st client fd c.args.bytes.now c.in-Ok.file file.0 file.1
+    (sym (ap (λ z. nat_eq (length z) 0) c.as_slice-bytes.ensures) ∙ sym c.is_empty.ensures ∙ c.if-is_empty.true) in
+    makes-same client k m m (attached-same m.clients) refl (reply.Written 0) served
+    (λ s st fine. stays-named m.layers m s client k (reply.Written 0) (served s st) fine (write-paths s client fd c.args.bytes.now) (stay-files m.layers m.layers refl))
 
-pub returns-in-Err-fitting-clause-serves : goal.returns-in-Err-fitting-clause-serves
-returns-in-Err-fitting-clause-serves c =
+pub returns-in-Err-fitting : goal.returns-in-Err-fitting
+returns-in-Err-fitting c =
+    let m = c.args.self.now in
     let file = rw c.as_slice-bytes.ensures at c.in-Ok.ensures.file in
-    λ s st. write-unfitting c.args.self.now s st c.args.client c.args.descriptor c.args.bytes.now c.in-Ok.file file.0 file.1 c.bytes_in.result.now c.bytes_in.ensures c.write_place-start.result c.write_place-start.ensures.machine c.in-Err-fitting.errno (sym (rw c.as_slice-bytes.ensures at c.in-Err-fitting.ensures.count))
+    makes-refused c.args.client (call.Write c.args.descriptor c.args.bytes.now) m m (attached-same m.clients) refl c.in-Err-fitting.errno (λ s. refl)
+    (λ s st. write-unfitting m s st c.args.client c.args.descriptor c.args.bytes.now c.in-Ok.file file.0 file.1 c.bytes_in.result.now c.bytes_in.ensures
+    c.write_place-start.result c.write_place-start.ensures.machine c.in-Err-fitting.errno (sym (rw c.as_slice-bytes.ensures at c.in-Err-fitting.ensures.count)))
 
-pub returns-in_err-write_file-clause-err : goal.returns-in_err-write_file-clause-err
-returns-in_err-write_file-clause-err c =
+pub returns-in_err-write_file : goal.returns-in_err-write_file
+returns-in_err-write_file c =
     let made = c.in_err-write_file.ensures in
-    no-memory c.from_residual.result c.args.self.now c.write_file.new.layers made.mounts made.lowers made.stays
+    makes-unshown c.args.client (call.Write c.args.descriptor c.args.bytes.now) c.args.self.now c.write_file.new.layers
+    c.from_residual.result c.from_residual.ensures.0 made.mounts made.stays made.objects made.lowers made.thin
 
-pub returns-clause-serves : goal.returns-clause-serves
-returns-clause-serves c =
+pub returns : goal.returns
+returns c =
+    let m = c.args.self.now in
+    let client = c.args.client in
+    let fd = c.args.descriptor in
+    let bytes = c.args.bytes.now in
+    let count = c.in-Ok-fitting.count in
+    let k = call.Write fd bytes in
+    let now = record m { layers = c.write_file.new.layers; clients = c.move_to.new.self } in
     let file = rw c.as_slice-bytes.ensures at c.in-Ok.ensures.file in
     let made = c.in_ok-write_file.ensures in
-    let fit = ap (take c.in-Ok-fitting.count) c.as_slice-bytes.ensures ∙ c.in-Ok-fitting.ensures.machine c.args.bytes.now (ap length (sym c.as_slice-bytes.ensures)) in
-    λ s st. write-done c.args.self.now s st c.args.client c.args.descriptor c.args.bytes.now c.in-Ok.file file.0 file.1 c.bytes_in.result.now c.bytes_in.ensures c.write_place-start.result c.write_place-start.ensures.machine (sym (ap (λ z. nat_eq (length z) 0) c.as_slice-bytes.ensures) ∙ sym c.is_empty.ensures ∙ c.if-is_empty.false) c.in-Ok-fitting.count (sym (rw c.as_slice-bytes.ensures at c.in-Ok-fitting.ensures.count)) (take c.in-Ok-fitting.count c.as_slice-bytes.result.now) fit c.write_file.new.layers made.keeps made.sets c.move_to.new.self c.move_to.ensures
-
-pub returns-in-Err-clause-named : goal.returns-in-Err-clause-named
-returns-in-Err-clause-named c = λ s st fine. refused-named c.args.self.now.layers s c.args.client (call.Write c.args.descriptor c.args.bytes.now) c.in-Err.errno (c.args.self.now) refl (returns-in-Err-clause-serves c s st) fine
-
-pub returns-then-is_empty-clause-named : goal.returns-then-is_empty-clause-named
-returns-then-is_empty-clause-named c = λ s st fine.
-    stays-named c.args.self.now.layers c.args.self.now s c.args.client (call.Write c.args.descriptor c.args.bytes.now) (reply.Written 0) (returns-then-is_empty-clause-serves c s st) fine
-    (write-paths s c.args.client c.args.descriptor c.args.bytes.now) (stay-files c.args.self.now.layers c.args.self.now.layers refl)
-
-pub returns-in-Err-fitting-clause-named : goal.returns-in-Err-fitting-clause-named
-returns-in-Err-fitting-clause-named c = λ s st fine. refused-named c.args.self.now.layers s c.args.client (call.Write c.args.descriptor c.args.bytes.now) c.in-Err-fitting.errno (c.args.self.now) refl (returns-in-Err-fitting-clause-serves c s st) fine
-
-pub returns-clause-named : goal.returns-clause-named
-returns-clause-named c = λ s st fine.
-    stays-named c.args.self.now.layers (record c.args.self.now { layers = c.write_file.new.layers; clients = c.move_to.new.self }) s c.args.client (call.Write c.args.descriptor c.args.bytes.now) (reply.Written c.in-Ok-fitting.count) (returns-clause-serves c s st) fine
-    (write-paths s c.args.client c.args.descriptor c.args.bytes.now) c.write_file.ensures.files
+    let fit = ap (take count) c.as_slice-bytes.ensures ∙ c.in-Ok-fitting.ensures.machine bytes (ap length (sym c.as_slice-bytes.ensures)) in
+    let served : ServesEach client k m now (reply.Written count) = λ s st.
+    write-done m s st client fd bytes c.in-Ok.file file.0 file.1 c.bytes_in.result.now c.bytes_in.ensures
+    c.write_place-start.result c.write_place-start.ensures.machine
+    (sym (ap (λ z. nat_eq (length z) 0) c.as_slice-bytes.ensures) ∙ sym c.is_empty.ensures ∙ c.if-is_empty.false)
+    count (sym (rw c.as_slice-bytes.ensures at c.in-Ok-fitting.ensures.count)) (take count c.as_slice-bytes.result.now) fit
+    c.write_file.new.layers made.keeps made.sets c.move_to.new.self c.move_to.ensures in
+    makes-changed client k m now (reply.Written count) (λ e is. let no : reply.Written count ≡ reply.Refused e = is in cc) served
+    (λ s st fine. stays-named m.layers now s client k (reply.Written count) (served s st) fine (write-paths s client fd bytes) c.write_file.ensures.files)
+    (keeps-attached m.clients c.move_to.new.self client _ c.move_to.ensures) made.objects made.lowers made.thin

@@ -31,7 +31,7 @@ invariant_of-self-2 g c =
     let more = more-armed c.args.client c.args.slot o c.args.mask es fs c.lawful-2.ensures done in
     let at = c.in_ok-number.ensures.holds in
     let pins = pinned_times inside.pinned in
-    let counts = counted-armed inside.objects c.hold.new.objects c.release.new.self at.spot o _ at.holds c.release.ensures.releases
+    let counts = counted-armed inside.objects c.hold_object.new.objects c.release.new.self at.spot o _ at.holds c.release.ensures.releases
     (λ n. uses inside.handles n + pins n) es fs
     (λ n. c.self.invariant n ∙ last-first (uses inside.handles n) (watchers es n) (pins n))
     more
@@ -44,9 +44,9 @@ returns-clause-armed g c =
     let old : Notified = record { objects = inside.objects; handles = inside.handles; instances = inside.watches; renames = inside.renames; pinned = inside.pinned } in
     let new : Notified = record { objects = c.release.new.self; handles = inside.handles; instances = c.arm-outcome.new.self; renames = inside.renames; pinned = inside.pinned } in
     let at = c.in_ok-number.ensures.holds in
-    let fewer = lets-fewer inside.objects c.hold.new.objects c.release.new.self at.spot c.in_ok-number.number _ at.holds c.release.ensures.releases in
+    let fewer = lets-fewer inside.objects c.hold_object.new.objects c.release.new.self at.spot c.in_ok-number.number _ at.holds c.release.ensures.releases in
     rw (← c.self.view_is)
-    (arms-at old new c.hold.new.objects c.args.client c.args.slot c.args.mask c.in_ok-number.number c.args.path.now c.args.object at fewer refl refl
+    (arms-at old new c.hold_object.new.objects c.args.client c.args.slot c.args.mask c.in_ok-number.number c.args.path.now c.args.object at fewer refl refl
     c.arm-outcome.result c.arm-outcome.ensures.armed c.arm-outcome.ensures.arms c.arm-outcome.ensures.allowed)
 
 pub returns-clause-refused : goal.returns-clause-refused
@@ -54,5 +54,5 @@ returns-clause-refused g c =
     let inside = c.self.inside in
     let old : Notified = record { objects = inside.objects; handles = inside.handles; instances = inside.watches; renames = inside.renames; pinned = inside.pinned } in
     rw (← c.self.view_is)
-    (refused-at old c.hold.new.objects c.args.client c.args.slot c.in_ok-number.number c.args.path.now c.args.object c.in_ok-number.ensures.holds
+    (refused-at old c.hold_object.new.objects c.args.client c.args.slot c.in_ok-number.number c.args.path.now c.args.object c.in_ok-number.ensures.holds
     c.arm-outcome.result c.arm-outcome.ensures.refused)

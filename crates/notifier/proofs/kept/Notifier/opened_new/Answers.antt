@@ -11,10 +11,9 @@ use Rattle.notifier.proofs.Told.{told-append}
 use Rattle.notifier.proofs.kept.Notifier.opened_new.Goals as goal
 
 pub returns : goal.returns
-returns g c = λ before ready.
+returns g c = λ before path ready.
     let shows = g.R.Rule.shows in
     let old = c.args.self.now in
-    let path = c.args.path.now in
     let client = c.args.client in
     let descriptor = c.args.descriptor in
     let risen = c.rise.new.self in

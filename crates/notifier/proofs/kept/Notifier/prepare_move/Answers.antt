@@ -14,7 +14,10 @@ returns-clause-ready g c =
     let renamed = ap (λ (k : Notified). k.renames) c.prepare_spots.ensures.rest ∙ ap (λ (k : Notified). k.renames) c.pin_ways.ensures.rest
     ∙ sym (ap (λ (k : Notified). k.renames) c.self.view_is) in
     let held = subst (λ (k : Notified). IsPinned k p q c.args.object) (sym c.prepare_spots.ensures.rest)
-    (same-pinned mid new.objects p q c.args.object c.prepare_spots.ensures.same c.in_ok-pin_ways.ensures.pinned) in
+    (same-pinned mid new.objects p q c.args.object c.prepare_spots.ensures.same (c.in_ok-pin_ways.ensures.pinned c.args.object c.number_of-number.ensures)) in
     ok-both c.prepare_spots.result
     (λ room prepared. record { pinned = held; counted = omega (arith, renamed, c.self.ranges); room = room; prepared = prepared })
     c.prepare_spots.ensures.room c.prepare_spots.ensures.prepared
+
+pub prepare_spots-requires : goal.prepare_spots-requires
+prepare_spots-requires g c = c.pin_ways.ensures.known c.args.object c.number_of-number.ensures

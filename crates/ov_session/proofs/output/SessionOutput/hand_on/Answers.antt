@@ -12,7 +12,9 @@ parts-preserved g c =
     let count = c.in_ok-count.count in
     let h = c.in_ok-count.ensures in
     record {
-      bytes = gains_last (contents o.writer) (contents m.writer) (contents n.writer) o.held.items m.held.items rest [] c.parts.invariant.bytes
-          (gains_written (contents m.writer) (contents n.writer) m.held.items rest count h.ok (c.drop_front.ensures ∙ ap (λ (l : List ℕ). drop count l) h.held));
+      bytes = gains_last (contents o.writer) (contents m.writer)
+          (contents n.writer) o.held.items m.held.items rest [] c.parts.invariant.bytes
+          (gains_written (contents m.writer) (contents n.writer) m.held.items rest count h.ok
+          (c.drop_front.ensures ∙ ap (λ (l : List ℕ). drop count l) h.held));
       well = h.mark;
     }

@@ -4,7 +4,8 @@ use Rattle.ov_session.proofs.output.SessionOutput.hand_on.Given as goal
 
 abbrev pub invariant-parts : goal.invariant-parts
 invariant-parts g l = record {
-  bytes : Gains (g.W.Write.contents l.fn.self.writer) (g.W.Write.contents l.self.writer) l.fn.self.held.items l.self.held.items [];
+  bytes : Gains (g.W.Write.contents l.fn.self.writer) (g.W.Write.contents l.self.writer)
+      l.fn.self.held.items l.self.held.items [];
   well : l.self.failed ≡ false;
 }
 

@@ -10,9 +10,9 @@ invariant_of-self g c =
     let new = c.perform-outcome.new.self in
     let job = c.args.job.now in
     record {
-      agrees = goes-on g.R.Rule.shows old.mount new.mount old.notifier new.notifier job.client (Called job.call c.in-Ok.reply) c.args.self.now.agrees (rw (c.client.ensures, c.call.ensures) at c.in-Ok.ensures.goes);
+      agrees = goes-on g.R.Rule.shows old.mount new.mount old.notifier new.notifier job.client (Called job.call c.in-Ok.reply) c.args.self.now.agrees (rw (c.client.ensures, c.call.ensures) at c.in-Ok.ensures.performs.goes);
       begins = has-begun (c.args.self.now.finished + 1) (machine_options c.args.self.now.options) new.mount new.notifier (some-more c.args.self.now.finished);
-      given = given-more old.mount.clients.next new.mount.clients.next c.args.self.now.finished c.args.self.now.given c.in-Ok.ensures.kept.clients.next;
+      given = given-more old.mount.clients.next new.mount.clients.next c.args.self.now.finished c.args.self.now.given c.in-Ok.ensures.performs.kept.clients.next;
     }
 
 pub invariant_of-self-in-Err : goal.invariant_of-self-in-Err
@@ -22,13 +22,13 @@ invariant_of-self-in-Err g c =
     let before = c.args.self.now.given in
     let there = old.mount.clients.rising c.args.job.now.client c.requires.attached in
     record {
-      agrees = stays-on old.mount new.mount old.notifier new.notifier c.args.self.now.agrees c.in-Err.ensures.err;
+      agrees = stays-on old.mount new.mount old.notifier new.notifier c.args.self.now.agrees c.in-Err.ensures.performs.no_memory;
       begins = has-begun c.args.self.now.finished (machine_options c.args.self.now.options) new.mount new.notifier (some-finished c.args.job.now.client old.mount.clients.next c.args.self.now.finished there before);
-      given = given-same old.mount.clients.next new.mount.clients.next c.args.self.now.finished before c.in-Err.ensures.kept.clients.next;
+      given = given-same old.mount.clients.next new.mount.clients.next c.args.self.now.finished before c.in-Err.ensures.performs.kept.clients.next;
     }
 
 pub returns-in-Ok-clause-turn : goal.returns-in-Ok-clause-turn
-returns-in-Ok-clause-turn g c = (rw (c.client.ensures, c.call.ensures) at c.in-Ok.ensures.goes, c.end.ensures.standing)
+returns-in-Ok-clause-turn g c = (rw (c.client.ensures, c.call.ensures) at c.in-Ok.ensures.performs.goes, c.end.ensures.standing)
 
 pub returns-in-Err-clause-turn : goal.returns-in-Err-clause-turn
-returns-in-Err-clause-turn g c = (c.in-Err.ensures.err, c.end-in-Err.ensures.standing)
+returns-in-Err-clause-turn g c = (c.in-Err.ensures.performs.no_memory, c.end-in-Err.ensures.standing)

@@ -1,17 +1,22 @@
-use Rattle.std.proofs.Common.{List, ap, map, subst, sym, ◌∙◌}
+use Rattle.std.proofs.Common.{List, Ok, Err, ap, map, refl, subst, sym}
+use Rattle.ov_base.specs.declared.reply.Reply.TheVariants.{Done, Refused}
 use Rattle.plain_model.specs.Layers.{Layer}
-use Rattle.plain_model.specs.Runs.{Called}
 use Rattle.layer_tree.specs.Tree.{layer_of}
 use Rattle.merged_lookup.specs.Merged.{lowers_of}
 use Rattle.notice_laws.specs.declared.object.Object.TheVariants as object
 use Rattle.notice_laws.specs.Objects.{IsObject}
-use Rattle.overlay_core.specs.Watching.{Agrees, Goes, HasState, Stays}
-use Rattle.overlay_core.proofs.Performing.{agrees-room, goes-done, goes-refused, on-err, passing, performed, state-of, keeps-same}
-use Rattle.overlay_core.proofs.Watching.{allowed-by, stays, upper_of}
 use Rattle.notice_laws.proofs.Lifting.{law_of_altered}
+use Rattle.mount_calls.specs.AttributeCalls.{call_at}
+use Rattle.overlay_core.specs.Watching.{Agrees, HasState, Stays}
+use Rattle.overlay_core.proofs.Altering.{asked-alters, held-key}
+use Rattle.overlay_core.proofs.Performing.{agrees-room, goes-done, goes-refused, on-err, outcome-so, passing, keeps-same}
+use Rattle.overlay_core.proofs.Watching.{allowed-by, stays, upper_of}
 use Rattle.overlay_core.proofs.Lifted.{altered-file, altered-leads, altered-touches, free-key, free-squashed, lifted-key}
-use Rattle.overlay_core.proofs.Names.{altering-answers, altering-offered}
+use Rattle.overlay_core.proofs.Names.{altering-answers}
 use Rattle.overlay_core.proofs.watched.Watched.alter.Goals as goal
+
+pub object_seen-object-requires : goal.object_seen-object-requires
+object_seen-object-requires g c = (c.args.path.now, c.look-look.ensures)
 
 pub returns-in_err-prepare_lift-clause-err : goal.returns-in_err-prepare_lift-clause-err
 returns-in_err-prepare_lift-clause-err g c =
@@ -20,58 +25,64 @@ returns-in_err-prepare_lift-clause-err g c =
     let mid = c.prepare_lift.new.self in
     on-err c.from_residual.result (Stays old from old mid) (λ s a. subst (λ k. Agrees old k s) (sym c.prepare_lift.ensures.rest) (agrees-room from mid.objects c.prepare_lift.ensures.same c.lawful.ensures.known old s a))
 
-pub perform-requires-clause-state : goal.perform-requires-clause-state
-perform-requires-clause-state g c = state-of c.args.self.now.mount c.args.self.now.notifier c.requires.state
-
-pub returns-in_err-reply-clause-err : goal.returns-in_err-reply-clause-err
-returns-in_err-reply-clause-err g c =
+pub returns-in_err-key-clause-err : goal.returns-in_err-key-clause-err
+returns-in_err-key-clause-err g c =
     let old = c.args.self.now.mount in
     let from = c.args.self.now.notifier in
     let mid = c.prepare_lift.new.self in
-    let new = c.perform.new.self in
-    on-err c.from_residual-in_err-reply.result (Stays old from new mid) (λ s a. stays old new mid mid c.in_err-reply.ensures.err c.in_err-reply.ensures.stays_live (λ s t. t) s (subst (λ k. Agrees old k s) (sym c.prepare_lift.ensures.rest) (agrees-room from mid.objects c.prepare_lift.ensures.same c.lawful.ensures.known old s a)))
+    let new = c.alter.new.self in
+    on-err c.from_residual-in_err-key.result (Stays old from new mid) (λ s a. stays old new mid mid c.in_err-key.ensures.err c.in_err-key.ensures.stays_live (λ s t. t) s (subst (λ k. Agrees old k s) (sym c.prepare_lift.ensures.rest) (agrees-room from mid.objects c.prepare_lift.ensures.same c.lawful.ensures.known old s a)))
 
-pub returns-in_default-clause-goes : goal.returns-in_default-clause-goes
-returns-in_default-clause-goes g c = λ s a.
-    let said = c.in_ok-reply.ensures in
+pub returns-in-Err-clause-goes : goal.returns-in-Err-clause-goes
+returns-in-Err-clause-goes g c = λ s a.
+    let said = c.in_ok-key.ensures in
     let old = c.args.self.now.mount in
     let mid = c.prepare_lift.new.self in
-    goes-refused g.R.Rule.shows c.args.client c.args.call.now c.in_ok-reply.reply old c.perform.new.self mid
-    (performed c.args.client c.args.call.now c.in_ok-reply.reply old c.perform.new.self (altering-offered c.args.path.now c.args.call.now c.requires.call) c.requires.there said.serves said.lowers said.named said.refused)
-    (λ s. altering-answers s c.args.client c.args.path.now c.args.call.now c.requires.call) c.in_default.not-Done s
+    let call = call_at c.args.path.now c.args.call in
+    goes-refused g.R.Rule.shows c.args.client call (Refused c.in-Err.errno) old c.alter.new.self mid
+    (outcome-so c.args.client call (Err c.in-Err.errno) _ old c.alter.new.self (sym c.in-Err.is) c.requires.there said.serves said.lowers said.named said.refused)
+    (λ s. altering-answers s c.args.client c.args.path.now call (asked-alters c.args.path.now c.args.call)) (λ same. cc) s
     (subst (λ k. Agrees old k s) (sym c.prepare_lift.ensures.rest) (agrees-room c.args.self.now.notifier mid.objects c.prepare_lift.ensures.same c.lawful.ensures.known old s a))
 
 pub altered-requires-clause-free : goal.altered-requires-clause-free
 altered-requires-clause-free g c =
-    let said = c.in_ok-reply.ensures in
+    let said = c.in_ok-key.ensures in
     let old = c.args.self.now.mount in
-    let new = c.perform.new.self in
+    let new = c.alter.new.self in
     let mid = c.prepare_lift.new.self in
-    let done = performed c.args.client c.args.call.now c.in_ok-reply.reply old new (altering-offered c.args.path.now c.args.call.now c.requires.call) c.requires.there said.serves said.lowers said.named said.refused in
-    free-squashed mid.objects c.args.path.now c.object_at-object.result c.key_lifted-key.result c.requires.state
+    let path = c.args.path.now in
+    let call = call_at path c.args.call in
+    let asks = asked-alters path c.args.call in
+    let done = outcome-so c.args.client call (Ok c.in-Ok.key) _ old new (sym c.in-Ok.is) c.requires.there said.serves said.lowers said.named said.refused in
+    free-squashed mid.objects path c.object_seen-object.result c.in-Ok.key c.requires.state
     (λ (x : HasState old c.args.self.now.notifier).
     let s = x.0 in
     let a : Agrees old mid s = subst (λ k. Agrees old k s) (sym c.prepare_lift.ensures.rest) (agrees-room c.args.self.now.notifier mid.objects c.prepare_lift.ensures.same c.lawful.ensures.known old s x.1) in
-    let fine = allowed-by s c.args.client c.args.call.now c.in_ok-reply.reply new (done.serves s a.stands) (λ e refused. let z = sym c.in-Done.is ∙ refused in cc) in
-    let passes = passing g.R.Rule.shows c.args.client c.args.call.now c.in_ok-reply.reply old new mid done s a fine in
-    free-key (upper_of old) (upper_of new) (lowers_of old.layers) s c.args.client c.args.call.now passes c.args.path.now (altered-touches s c.args.path.now c.args.call.now c.requires.call) (altered-file s c.args.client c.args.path.now c.args.call.now c.requires.call) (altered-leads (upper_of old) (upper_of new) (lowers_of old.layers) s c.args.client c.args.path.now c.args.call.now c.requires.call passes) mid a.tracks c.key_lifted-key.result
-    c.object_at-object.result c.object_at-object.ensures (λ lower j last is. c.key_lifted-key.ensures lower j last (subst (λ (x : List Layer). IsObject (upper_of new) x c.args.path.now (object.Upper j last)) (sym (ap (λ x. map layer_of x.items) said.lowers)) is)))
+    let fine = allowed-by s c.args.client call Done new (done.serves s a.stands) (λ e refused. cc) in
+    let passes = passing g.R.Rule.shows c.args.client call Done old new mid done s a fine in
+    free-key (upper_of old) (upper_of new) (lowers_of old.layers) s c.args.client call passes path (altered-touches s path call asks) (altered-file s c.args.client path call asks)
+    (altered-leads (upper_of old) (upper_of new) (lowers_of old.layers) s c.args.client path call asks passes) mid a.tracks c.in-Ok.key
+    c.object_seen-object.result (c.object_seen-object.ensures path c.look-look.ensures)
+    (λ lower j last is. held-key new.layers path c.in-Ok.key (rw c.in-Ok.is at said.key) j last (subst (λ (x : List Layer). IsObject (upper_of new) x path (object.Upper j last)) (sym (ap (λ x. map layer_of x.items) said.lowers)) is)))
 
-pub returns-clause-goes : goal.returns-clause-goes
-returns-clause-goes g c = λ s a.
-    let said = c.in_ok-reply.ensures in
+pub returns-in-Ok-clause-goes : goal.returns-in-Ok-clause-goes
+returns-in-Ok-clause-goes g c = λ s a.
+    let said = c.in_ok-key.ensures in
     let old = c.args.self.now.mount in
-    let new = c.perform.new.self in
+    let new = c.alter.new.self in
     let mid = c.prepare_lift.new.self in
     let to = c.altered.new.self in
-    let done = performed c.args.client c.args.call.now c.in_ok-reply.reply old new (altering-offered c.args.path.now c.args.call.now c.requires.call) c.requires.there said.serves said.lowers said.named said.refused in
-    let goes : Goes g.R.Rule.shows old mid c.args.client (Called c.args.call.now c.in_ok-reply.reply) new to =
-    goes-done g.R.Rule.shows c.args.client c.args.call.now c.in_ok-reply.reply old new mid done to c.in-Done.is (λ s a passes. law_of_altered g.R.Rule.shows (upper_of old) (upper_of new) (lowers_of old.layers) s c.args.client c.args.path.now c.args.call.now c.requires.call passes
-    c.object_at-object.result c.key_lifted-key.result c.object_at-object.ensures mid to
-    (lifted-key (upper_of old) (upper_of new) (lowers_of old.layers) s c.args.client c.args.call.now passes c.args.path.now (altered-touches s c.args.path.now c.args.call.now c.requires.call) (altered-file s c.args.client c.args.path.now c.args.call.now c.requires.call) (altered-leads (upper_of old) (upper_of new) (lowers_of old.layers) s c.args.client c.args.path.now c.args.call.now c.requires.call passes) mid a.tracks c.key_lifted-key.result c.object_at-object.result c.object_at-object.ensures (λ lower j last is. c.key_lifted-key.ensures lower j last (subst (λ (x : List Layer). IsObject (upper_of new) x c.args.path.now (object.Upper j last)) (sym (ap (λ x. map layer_of x.items) said.lowers)) is)))
-    a.tracks c.lawful-2.ensures.known c.altered.ensures) in
-    subst (λ r. Goes g.R.Rule.shows old mid c.args.client (Called c.args.call.now r) new to) c.in-Done.is goes s
+    let path = c.args.path.now in
+    let call = call_at path c.args.call in
+    let asks = asked-alters path c.args.call in
+    let done = outcome-so c.args.client call (Ok c.in-Ok.key) _ old new (sym c.in-Ok.is) c.requires.there said.serves said.lowers said.named said.refused in
+    goes-done g.R.Rule.shows c.args.client call Done old new mid done to refl (λ s a passes. law_of_altered g.R.Rule.shows (upper_of old) (upper_of new) (lowers_of old.layers) s c.args.client path call asks passes
+    c.object_seen-object.result c.in-Ok.key (c.object_seen-object.ensures path c.look-look.ensures) mid to
+    (lifted-key (upper_of old) (upper_of new) (lowers_of old.layers) s c.args.client call passes path (altered-touches s path call asks) (altered-file s c.args.client path call asks)
+    (altered-leads (upper_of old) (upper_of new) (lowers_of old.layers) s c.args.client path call asks passes) mid a.tracks c.in-Ok.key c.object_seen-object.result (c.object_seen-object.ensures path c.look-look.ensures)
+    (λ lower j last is. held-key new.layers path c.in-Ok.key (rw c.in-Ok.is at said.key) j last (subst (λ (x : List Layer). IsObject (upper_of new) x path (object.Upper j last)) (sym (ap (λ x. map layer_of x.items) said.lowers)) is)))
+    a.tracks c.lawful-in-Ok.ensures.known c.altered.ensures) s
     (subst (λ k. Agrees old k s) (sym c.prepare_lift.ensures.rest) (agrees-room c.args.self.now.notifier mid.objects c.prepare_lift.ensures.same c.lawful.ensures.known old s a))
 
 pub returns-in_err-prepare_lift-clause-kept : goal.returns-in_err-prepare_lift-clause-kept
-returns-in_err-prepare_lift-clause-kept g c = keeps-same c.args.call.now c.args.self.now.mount
+returns-in_err-prepare_lift-clause-kept g c = keeps-same (call_at c.args.path.now c.args.call) c.args.self.now.mount

@@ -1,51 +1,46 @@
-use Rattle.std.proofs.Common.{◌≡◌, ap, subst, sym, ◌∙◌, None}
-use Rattle.plain_model.specs.Refusals.{refusal}
-use Rattle.mount_calls.specs.Offers.{is_offered}
-use Rattle.overlay_core.proofs.Performing.{performed, state-of}
+use Rattle.std.proofs.Common.{refl, sym, ◌∙◌}
+use Rattle.ov_base.specs.declared.call.Call.TheVariants.{Read}
+use Rattle.overlay_core.proofs.Making.{performed-by, performs-out, performs-told}
 use Rattle.overlay_core.proofs.Uses.{goes-read, goes-unread, none-bytes, open-tracked, read-open, same-bytes, some-bytes}
 use Rattle.overlay_core.proofs.watched.Watched.read.Goals as goal
 use Rattle.overlay_core.proofs.watched.Watched.read.Goals.{in-Read+then-not-is_empty, in-Read+else-not-is_empty, in_default}
 
-pub perform-requires-clause-state : goal.perform-requires-clause-state
-perform-requires-clause-state g c = state-of c.args.self.now.mount c.args.self.now.notifier c.requires.state
+pub returns-in_err-reply : goal.returns-in_err-reply
+returns-in_err-reply g c = performs-out c.in_err-reply.ensures c.from_residual.result c.from_residual.ensures.0
 
 pub used-requires-clause-open : goal.used-requires-clause-open
 used-requires-clause-open g c =
     let client = c.args.client in
-    let call = c.args.call.now in
-    let reply = c.in_ok-reply.reply in
-    let old = c.args.self.now.mount in
-    let new = c.perform.new.self in
-    let said = c.in_ok-reply.ensures in
-    let done = performed client call reply old new (ap is_offered c.requires.call.1) c.requires.there said.serves said.lowers said.named said.refused in
-    open-tracked g.R.Rule.shows client call reply old new c.args.self.now.notifier done c.args.descriptor
+    let d = c.args.descriptor in
+    open-tracked g.R.Rule.shows client (Read d c.args.count) c.in_ok-reply.reply c.args.self.now.mount c.read.new.self c.args.self.now.notifier
+    (performed-by c.requires.there c.in_ok-reply.ensures) d
     (λ e refused. let z = sym c.in-Read.is ∙ refused in cc)
-    (λ s fine. read-open client c.args.descriptor c.requires.call.0 s (subst (λ j. refusal s client j ≡ None) c.requires.call.1 fine))
+    (λ s fine. read-open client d c.args.count s fine)
     c.requires.state
 
-pub returns-clause-goes : goal.returns-clause-goes
-returns-clause-goes g c =
+pub returns : goal.returns
+returns g c =
+    let shows = g.R.Rule.shows in
     let client = c.args.client in
-    let call = c.args.call.now in
+    let d = c.args.descriptor in
+    let count = c.args.count in
+    let k = Read d count in
     let reply = c.in_ok-reply.reply in
     let old = c.args.self.now.mount in
     let from = c.args.self.now.notifier in
-    let new = c.perform.new.self in
-    let said = c.in_ok-reply.ensures in
-    let done = performed client call reply old new (ap is_offered c.requires.call.1) c.requires.there said.serves said.lowers said.named said.refused in
-    let count = c.requires.call.0 in
-    let is = c.requires.call.1 in
-    let shows = g.R.Rule.shows in
+    let new = c.read.new.self in
+    let made = c.in_ok-reply.ensures in
+    let done = performed-by c.requires.there made in
     elim c.match-reply.branch [
       | in-Read+then-not-is_empty w ↦
-          rw w.self-is (goes-read shows client call reply old new from done c.args.descriptor count is w.in-Read.bytes w.in-Read.is
+          rw w.self-is (performs-told made (goes-read shows client k reply old new from done d count refl w.in-Read.bytes w.in-Read.is
           (some-bytes w.as_slice.result.now w.in-Read.bytes w.as_slice.ensures w.is_empty.result w.is_empty.ensures w.if-not-is_empty.true)
-          w.used.new.self w.lawful.ensures.known w.used.ensures)
+          w.used.new.self w.lawful.ensures.known w.used.ensures))
       | in-Read+else-not-is_empty w ↦
-          rw w.self-is (goes-unread shows client call reply old new from done c.args.descriptor count is (λ bytes answer.
+          rw w.self-is (performs-told made (goes-unread shows client k reply old new from done d count refl (λ bytes answer.
           none-bytes w.as_slice.result.now bytes (w.as_slice.ensures ∙ same-bytes w.in-Read.bytes bytes (sym w.in-Read.is ∙ answer))
-          w.is_empty.result w.is_empty.ensures w.if-not-is_empty.false))
+          w.is_empty.result w.is_empty.ensures w.if-not-is_empty.false)))
       | in_default w ↦
-          rw w.self-is (goes-unread shows client call reply old new from done c.args.descriptor count is
-          (λ bytes answer. absurd (w.in_default.not-Read bytes answer)))
+          rw w.self-is (performs-told made (goes-unread shows client k reply old new from done d count refl
+          (λ bytes answer. absurd (w.in_default.not-Read bytes answer))))
     ]

@@ -25,7 +25,8 @@ returns-clause-shuts g c =
     let d = c.args.descriptor in
     let o = opened_by m.clients client d in
     let is : option_map closing o ≡ c.closing_of-bits.result = ap (option_map closing) (sym c.opened.ensures) ∙ sym c.closing_of-bits.ensures in
-    let served = c.close-reply.ensures.serves in
+    let made = c.close-reply.ensures.makes in
+    let served = made.answers.serves in
     elim c.match-bits.branch [
       | in-Some w ↦
           let h = closing-from o w.in-Some.bits (is ∙ w.in-Some.is) in
@@ -33,8 +34,28 @@ returns-clause-shuts g c =
           let closed = subst (Closed shows from w.closed.new.self client d) (sym h.2) w.closed.ensures in
           rw w.self-is
           (shuts-open shows m c.close-reply.new.self from w.closed.new.self client d c.close-reply.result h.0 h.1 served
-          c.close-reply.ensures.paths.lowers c.close-reply.ensures.named known closed)
+          made.lowers made.answers.named known closed)
       | in_default w ↦
           let none = closing-none o (is ∙ w.in_default.is) in
-          rw w.self-is (shuts-free shows m c.close-reply.new.self from client d c.close-reply.result none served c.close-reply.ensures.refused)
+          rw w.self-is (shuts-free shows m c.close-reply.new.self from client d c.close-reply.result none served made.answers.refused)
     ]
+
+pub returns-clause-clients : goal.returns-clause-clients
+returns-clause-clients g c =
+    let kept = c.close-reply.ensures.makes.attached in
+    elim c.match-bits.branch [ in-Some w ↦ rw w.self-is kept | in_default w ↦ rw w.self-is kept ]
+
+pub returns-clause-paths : goal.returns-clause-paths
+returns-clause-paths g c =
+    let kept = c.close-reply.ensures.makes.layers in
+    elim c.match-bits.branch [ in-Some w ↦ rw w.self-is kept | in_default w ↦ rw w.self-is kept ]
+
+pub returns-clause-thin : goal.returns-clause-thin
+returns-clause-thin g c =
+    let kept = c.close-reply.ensures.makes.thin in
+    elim c.match-bits.branch [ in-Some w ↦ rw w.self-is kept | in_default w ↦ rw w.self-is kept ]
+
+pub returns-clause-refused : goal.returns-clause-refused
+returns-clause-refused g c =
+    let kept = c.close-reply.ensures.makes.answers.refused in
+    elim c.match-bits.branch [ in-Some w ↦ rw w.self-is kept | in_default w ↦ rw w.self-is kept ]

@@ -1,62 +1,45 @@
-use Rattle.std.proofs.Common.{◌≡◌, ap, subst, sym, ◌∙◌, None}
-use Rattle.ov_base.specs.declared.call.Call.TheVariants as call
-use Rattle.plain_model.specs.Refusals.{refusal}
-use Rattle.plain_model.specs.Replies.{reply_of}
-use Rattle.mount_calls.specs.Offers.{is_offered}
-use Rattle.notice_laws.specs.Steps.{keeps_handles}
-use Rattle.overlay_core.specs.Watching.{Stays}
-use Rattle.overlay_core.proofs.Performing.{on-err, performed, state-of}
+use Rattle.std.proofs.Common.{ap, refl, sym, ◌∙◌}
+use Rattle.ov_base.specs.declared.call.Call.TheVariants.{Write}
+use Rattle.overlay_core.proofs.Making.{performed-by, performs-out, performs-told}
 use Rattle.overlay_core.proofs.Uses.{goes-refused, goes-unwritten, goes-written, none-bytes, open-tracked, some-bytes, write-open}
-use Rattle.overlay_core.proofs.Watching.{stays}
 use Rattle.overlay_core.proofs.watched.Watched.write.Goals as goal
 use Rattle.overlay_core.proofs.watched.Watched.write.Goals.{in-Written+then-not-is_empty, in-Written+else-not-is_empty, in_default}
 
-pub perform-requires-clause-state : goal.perform-requires-clause-state
-perform-requires-clause-state g c = state-of c.args.self.now.mount c.args.self.now.notifier c.requires.state
-
-pub returns-in_err-reply-clause-err : goal.returns-in_err-reply-clause-err
-returns-in_err-reply-clause-err g c =
-    let old = c.args.self.now.mount in
-    let from = c.args.self.now.notifier in
-    let new = c.perform.new.self in
-    on-err c.from_residual.result (Stays old from new from) (stays old new from from c.in_err-reply.ensures.err c.in_err-reply.ensures.stays_live (λ s t. t))
+pub returns-in_err-reply : goal.returns-in_err-reply
+returns-in_err-reply g c = performs-out c.in_err-reply.ensures c.from_residual.result c.from_residual.ensures.0
 
 pub used-requires-clause-open : goal.used-requires-clause-open
 used-requires-clause-open g c =
     let client = c.args.client in
-    let made = c.args.call.now in
-    let reply = c.in_ok-reply.reply in
-    let old = c.args.self.now.mount in
-    let new = c.perform.new.self in
-    let said = c.in_ok-reply.ensures in
-    let done = performed client made reply old new (ap is_offered c.requires.call) c.requires.there said.serves said.lowers said.named said.refused in
-    open-tracked g.R.Rule.shows client made reply old new c.args.self.now.notifier done c.args.descriptor
+    let d = c.args.descriptor in
+    open-tracked g.R.Rule.shows client (Write d c.args.bytes.now) c.in_ok-reply.reply c.args.self.now.mount c.write.new.self c.args.self.now.notifier
+    (performed-by c.requires.there c.in_ok-reply.ensures) d
     (λ e refused. let z = sym c.in-Written.is ∙ refused in cc)
-    (λ s fine. write-open client c.args.descriptor c.args.bytes.now s (subst (λ j. refusal s client j ≡ None) c.requires.call fine))
+    (λ s fine. write-open client d c.args.bytes.now s fine)
     c.requires.state
 
-pub returns-clause-goes : goal.returns-clause-goes
-returns-clause-goes g c =
+pub returns : goal.returns
+returns g c =
+    let shows = g.R.Rule.shows in
     let client = c.args.client in
-    let made = c.args.call.now in
+    let d = c.args.descriptor in
+    let bytes = c.args.bytes.now in
+    let k = Write d bytes in
     let reply = c.in_ok-reply.reply in
     let old = c.args.self.now.mount in
     let from = c.args.self.now.notifier in
-    let new = c.perform.new.self in
-    let said = c.in_ok-reply.ensures in
-    let done = performed client made reply old new (ap is_offered c.requires.call) c.requires.there said.serves said.lowers said.named said.refused in
-    let is = c.requires.call in
-    let shows = g.R.Rule.shows in
+    let new = c.write.new.self in
+    let made = c.in_ok-reply.ensures in
+    let done = performed-by c.requires.there made in
     elim c.match-reply.branch [
       | in-Written+then-not-is_empty w ↦
-          rw w.self-is (goes-written shows client made reply old new from done c.args.descriptor c.args.bytes.now is w.in-Written.field-0 w.in-Written.is
-          (some-bytes w.as_slice.result.now c.args.bytes.now w.as_slice.ensures w.is_empty.result w.is_empty.ensures w.if-not-is_empty.true)
-          w.used.new.self w.lawful.ensures.known w.used.ensures)
+          rw w.self-is (performs-told made (goes-written shows client k reply old new from done d bytes refl w.in-Written.field-0 w.in-Written.is
+          (some-bytes w.as_slice.result.now bytes w.as_slice.ensures w.is_empty.result w.is_empty.ensures w.if-not-is_empty.true)
+          w.used.new.self w.lawful.ensures.known w.used.ensures))
       | in-Written+else-not-is_empty w ↦
-          rw w.self-is (goes-unwritten shows client made reply old new from done c.args.descriptor
-          (is ∙ ap (call.Write c.args.descriptor)
-          (none-bytes w.as_slice.result.now c.args.bytes.now w.as_slice.ensures w.is_empty.result w.is_empty.ensures w.if-not-is_empty.false)))
+          rw w.self-is (performs-told made (goes-unwritten shows client k reply old new from done d
+          (ap (Write d) (none-bytes w.as_slice.result.now bytes w.as_slice.ensures w.is_empty.result w.is_empty.ensures w.if-not-is_empty.false))))
       | in_default w ↦
-          rw w.self-is (goes-refused shows client made reply old new from done c.args.descriptor (ap keeps_handles is)
-          (λ s at. w.in_default.not-Written _ (at ∙ ap (reply_of s client) is)))
+          rw w.self-is (performs-told made (goes-refused shows client k reply old new from done d refl
+          (λ s at. w.in_default.not-Written _ at)))
     ]

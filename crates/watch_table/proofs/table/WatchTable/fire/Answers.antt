@@ -3,7 +3,8 @@ use Rattle.std.proofs.lemmas.List.{map_more}
 use Rattle.std.proofs.lemmas.List.Elements.{All-get_or}
 use Rattle.plain_model.specs.Watching.{AllHear}
 use Rattle.watch_table.specs.Subjects.{IsSubject, subject_of, subjects_of}
-use Rattle.watch_table.proofs.Hearing.{AllHear-none, AllHear-push}
+use Rattle.plain_model.proofs.Watching.{AllHear-none}
+use Rattle.watch_table.proofs.Hearing.{AllHear-push}
 use Rattle.watch_table.proofs.table.WatchTable.fire.Goals as goal
 
 pub loop-subject-init : goal.loop-subject-init

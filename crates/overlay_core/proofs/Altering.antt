@@ -1,0 +1,40 @@
+-- A call on attributes that a mount made of what it had seen at a path, and the key under which that is in the upper then.
+use Rattle.std.proofs.Common.{◌≡◌, ℕ, Bool, None, Some, Result, OnErr, refl, sym, ap, subst, ◌∙◌}
+use Rattle.ov_base.specs.declared.call.Call.{Call}
+use Rattle.ov_base.specs.declared.errno.Errno.{Errno}
+use Rattle.plain_model.specs.Layers.{Path, held}
+use Rattle.plain_model.specs.Machine.{State}
+use Rattle.plain_model.specs.Refusals.{refusal}
+use Rattle.layer_tree.specs.Tree.{layer_of}
+use Rattle.merged_lookup.specs.declared.layers.Layers.{Layers}
+use Rattle.merged_lookup.specs.declared.stack.Place.{Place}
+use Rattle.merged_lookup.specs.Merged.{lowers_of}
+use Rattle.copy_up.specs.Showing.{number_of}
+use Rattle.copy_up.proofs.OtherAttributes.{upper-named}
+use Rattle.notice_laws.specs.declared.object.Object.TheVariants as object
+use Rattle.notice_laws.specs.Objects.{IsObject}
+use Rattle.notice_laws.specs.Steps.{alters}
+use Rattle.mount_calls.specs.declared.attribute_changes.AttributeCall.{AttributeCall}
+use Rattle.mount_calls.specs.declared.attribute_changes.AttributeCall.TheVariants as asks
+use Rattle.mount_calls.specs.declared.mount.Mount.{Mount}
+use Rattle.mount_calls.specs.Attaching.{is_attached}
+use Rattle.mount_calls.specs.AttributeCalls.{call_at}
+use Rattle.mount_calls.specs.Living.{KeepsNamed}
+use Rattle.mount_calls.specs.States.{IsStateOf, Serves}
+use Rattle.mount_calls.specs.Status.{outcome_reply}
+use Rattle.overlay_core.proofs.Performing.{Performed, performed-outcome}
+
+-- each alters what stands at its path
+pub asked-alters : (p : Path) (x : AttributeCall) → alters p (call_at p x)
+asked-alters p (asks.Mode mode) = refl
+asked-alters p (asks.Owner uid gid) = refl
+asked-alters p (asks.Set name value) = refl
+asked-alters p (asks.Delete name) = refl
+
+-- a file of the upper that is shown at a path is under the key of what the upper holds there
+pub held-key : (l : Layers) (p : Path) (key : ℕ) → number_of (held (layer_of l.upper) p) ≡ Some key → (j : ℕ) (last : Bool) → IsObject (layer_of l.upper) (lowers_of l) p (object.Upper j last) → key ≡ j
+held-key l p key there j last is =
+    let d : Place = record { layer = 0; key = j } in
+    let named = upper-named l p d (Some is.inode) refl is.shown in
+    let two : Some key ≡ Some j = sym there ∙ ap number_of named.named in
+    cc

@@ -1,0 +1,111 @@
+-- Calls that a mount made, and what is kept for watches then.
+use Rattle.std.proofs.Common.{◌≡◌, ◌≢◌, ℕ, true, false, Result, Ok, Err, refl, sym, ap, subst}
+use Rattle.std.specs.Prelude.{IfOk, IsErr, OnErr}
+use Rattle.std.specs.declared.alloc.AllocError.{AllocError}
+use Rattle.ov_base.specs.declared.call.Call.{Call}
+use Rattle.ov_base.specs.declared.errno.Errno.{Errno}
+use Rattle.ov_base.specs.declared.reply.Reply.{Reply}
+use Rattle.ov_base.specs.declared.reply.Reply.TheVariants.{Done, Refused}
+use Rattle.plain_model.specs.Watching.{Rule}
+use Rattle.plain_model.specs.Machine.{State}
+use Rattle.plain_model.specs.Replies.{reply_of}
+use Rattle.plain_model.specs.Runs.{Called}
+use Rattle.merged_lookup.specs.Merged.{lowers_of}
+use Rattle.notice_laws.specs.Notified.{Passes, Resumes}
+use Rattle.notice_laws.specs.Steps.{IsSilent, keeps_handles}
+use Rattle.mount_calls.specs.declared.mount.Mount.{Mount}
+use Rattle.mount_calls.specs.Attaching.{is_attached}
+use Rattle.mount_calls.specs.Making.{MakesCall, TellsCall, TellsEach}
+use Rattle.mount_calls.proofs.MakingCalls.{attached-same, makes-nothing, makes-read}
+use Rattle.overlay_core.specs.declared.watched.Watched.{Watched}
+use Rattle.overlay_core.specs.Performing.{Performs}
+use Rattle.overlay_core.specs.Watching.{Agrees, Goes, Keeps, Stays}
+use Rattle.overlay_core.proofs.Performing.{Performed, goes-done, goes-refused, keeps-same}
+use Rattle.overlay_core.proofs.Uses.{goes-silent}
+use Rattle.overlay_core.proofs.Watching.{stays, upper_of}
+
+-- what such a call keeps
+kept-by : {c : ℕ} {k : Call} {old new : Mount} {result : Result Reply AllocError} → MakesCall c k old new result → Keeps k old new
+kept-by m = record { clients = m.attached; layers = m.layers; lowers = m.lowers; thin = m.thin }
+
+-- what it says where it was answered
+pub performed-by : {c : ℕ} {k : Call} {old new : Mount} {r : Reply} → is_attached old.clients c ≡ true → MakesCall c k old new (Ok r) →
+    Performed c k r old new
+performed-by there m = record { there = there; serves = m.answers.serves; lowers = m.lowers; named = m.answers.named; refused = m.answers.refused }
+
+module _ {F G : Type 0} {shows : Rule} where
+  -- a call is made as what it is
+  pub performs-as : {c : ℕ} {k j : Call} {old new : Watched F G} {result : Result Reply AllocError} → k ≡ j →
+      Performs shows c j old new result → Performs shows c k old new result
+  performs-as {c} {k} {j} {old} {new} {result} is h = subst (λ i. Performs shows c i old new result) (sym is) h
+
+  -- one that leaves the mount the very same goes by what is told
+  pub performs-watch : {c : ℕ} {k : Call} {old new : Watched F G} (result : Result Reply AllocError) →
+      IfOk result (λ r. Goes shows old.mount old.notifier c (Called k r) new.mount new.notifier) →
+      OnErr result (Stays old.mount old.notifier new.mount new.notifier) → new.mount ≡ old.mount → Performs shows c k old new result
+  performs-watch {c} {k} {old} {new} result goes out same =
+      record { goes = goes; refused = left result; no_memory = out; kept = subst (λ (m : Mount). Keeps k old.mount m) (sym same) (keeps-same k old.mount) }
+    where
+      left : (x : Result Reply AllocError) → IfOk x (λ r. (e : Errno) → r ≡ Refused e → new.mount.layers ≡ old.mount.layers)
+      left (Ok r) = λ e is. ap (λ (m : Mount). m.layers) same
+      left (Err e) = tt
+
+  -- one that was answered goes by what is told
+  pub performs-told : {c : ℕ} {k : Call} {r : Reply} {old new : Watched F G} → MakesCall c k old.mount new.mount (Ok r) →
+      Goes shows old.mount old.notifier c (Called k r) new.mount new.notifier → Performs shows c k old new (Ok r)
+  performs-told m goes = record { goes = goes; refused = m.answers.refused; no_memory = tt; kept = kept-by m }
+
+  -- so does one that was done
+  pub performs-done : {c : ℕ} {k : Call} {old new : Watched F G} (r : Reply) → is_attached old.mount.clients c ≡ true →
+      MakesCall c k old.mount new.mount (Ok r) → r ≡ Done →
+      ((s : State) → (a : Agrees old.mount old.notifier s) →
+      Passes (upper_of old.mount) (upper_of new.mount) (lowers_of old.mount.layers) s c k → Resumes shows (upper_of new.mount) s c k new.notifier) →
+      Performs shows c k old new (Ok Done)
+  performs-done {c} {k} {old} {new} r there m is resumes =
+      subst (λ x. Performs shows c k old new (Ok x)) is
+      (performs-told m (goes-done shows c k r old.mount new.mount old.notifier (performed-by there m) new.notifier is resumes))
+
+  module _ {c : ℕ} {k : Call} {old : Watched F G} {new : Mount} where
+    -- one for which memory ran out leaves what is kept for watches
+    pub performs-out : {e : AllocError} → MakesCall c k old.mount new (Err e) → (result : Result Reply AllocError) → IsErr result →
+        Performs shows c k old (record old { mount = new }) result
+    performs-out m (Ok r) wrong = let no : false ≡ true = wrong in absurd (cc)
+    performs-out m (Err f) wrong = record {
+      goes = tt;
+      refused = tt;
+      no_memory = stays old.mount new old.notifier old.notifier m.no_memory.states m.no_memory.live (λ s t. t);
+      kept = kept-by m;
+    }
+
+    -- so does one that the machine answers that it is done, and that isn't: it was refused
+    pub performs-refused : (r : Reply) → is_attached old.mount.clients c ≡ true → MakesCall c k old.mount new (Ok r) →
+        ((s : State) → reply_of s c k ≡ Done) → r ≢ Done → Performs shows c k old (record old { mount = new }) (Ok r)
+    performs-refused r there m answers isnt =
+        performs-told m (goes-refused shows c k r old.mount new old.notifier (performed-by there m) answers isnt)
+
+    -- and one that tells nothing
+    pub performs-silent : is_attached old.mount.clients c ≡ true → keeps_handles k ≡ true → ((s : State) → IsSilent s c k) →
+        (result : Result Reply AllocError) → MakesCall c k old.mount new result → Performs shows c k old (record old { mount = new }) result
+    performs-silent there keeps silent (Ok r) m =
+        performs-told m (goes-silent shows c k r old.mount new old.notifier (performed-by there m) keeps (λ s st fine. silent s))
+    performs-silent there keeps silent (Err e) m = performs-out m (Err e) refl
+
+  -- and so does one that only asks
+  pub performs-asked : {c : ℕ} {k : Call} {old : Watched F G} → is_attached old.mount.clients c ≡ true →
+      keeps_handles k ≡ true → ((s : State) → IsSilent s c k) → (result : Result Reply AllocError) →
+      IfOk result (TellsCall c k old.mount) → Performs shows c k old old result
+  performs-asked {c} {k} {old} there keeps silent result tells = performs-silent there keeps silent result (made result tells)
+    where
+      made : (x : Result Reply AllocError) → IfOk x (TellsCall c k old.mount) → MakesCall c k old.mount old.mount x
+      made (Ok r) h = makes-read c k old.mount old.mount (attached-same old.mount.clients) refl r (λ s. (silent s).tree) h
+      made (Err e) h = makes-nothing c k old.mount (Err e) refl
+
+  -- so it is where each client is told the same
+  pub performs-each : {c : ℕ} {k : Call} {old : Watched F G} → is_attached old.mount.clients c ≡ true →
+      keeps_handles k ≡ true → ((s : State) → IsSilent s c k) → (result : Result Reply AllocError) →
+      IfOk result (TellsEach k old.mount) → Performs shows c k old old result
+  performs-each {c} {k} {old} there keeps silent result tells = performs-asked there keeps silent result (told result tells)
+    where
+      told : (x : Result Reply AllocError) → IfOk x (TellsEach k old.mount) → IfOk x (TellsCall c k old.mount)
+      told (Ok r) h = h c
+      told (Err e) h = tt

@@ -1,0 +1,83 @@
+-- What a core shows, and what a deed does to it.
+use Rattle.std.specs.Prelude.{◌≡◌, ℕ, Bool}
+use Rattle.std.specs.BTreeMap.{btree_map_len}
+use Rattle.ov_base.specs.declared.options.Options.{Options}
+use Rattle.plain_model.specs.Machine.{State}
+use Rattle.plain_model.specs.Runs.{Deed}
+use Rattle.merged_lookup.specs.declared.layers.Layers.{Layers}
+use Rattle.notice_laws.specs.Notified.{Notified}
+use Rattle.copy_up.specs.Showing.{StaysThin}
+use Rattle.mount_calls.specs.declared.clients.Clients.{Clients}
+use Rattle.mount_calls.specs.declared.mount.Mount.{Mount}
+use Rattle.mount_calls.specs.Attaching.{is_attached}
+use Rattle.overlay_core.specs.Mounting.{machine_options, places_left}
+use Rattle.overlay_core.specs.Watching.{Agrees, BeginsWith, Goes, Stays}
+use Rattle.overlay_core.specs.declared.mounted.Core.{Core}
+use Rattle.watch_table.specs.declared.hook.Callback.{Ghosts as Callback}
+use Rattle.watch_table.specs.declared.hook.Rule.{Ghosts as Rule}
+
+module _ {F G : Type 0} {asks : Callback F} {rule : Rule G} where
+  -- the mount, what is kept for its watches, and its options
+  abbrev pub core_mount : Core F G asks rule → Mount
+  core_mount core = core.watched.mount
+
+  abbrev pub core_watches : Core F G asks rule → Notified
+  core_watches core = core.watched.notifier
+
+  abbrev pub core_options : Core F G asks rule → Options
+  core_options core = core.options
+
+  -- how many attaches, finished calls and detaches there were
+  abbrev pub core_finished : Core F G asks rule → ℕ
+  core_finished core = core.finished
+
+  -- the layers as they are now
+  abbrev pub core_layers : Core F G asks rule → Layers
+  core_layers core = core.watched.mount.layers
+
+  -- the clients that are attached
+  abbrev pub core_clients : Core F G asks rule → Clients
+  core_clients core = core.watched.mount.clients
+
+  -- whether a client of this number is attached, how many are, and the number of the next
+  abbrev pub has_client : Core F G asks rule → ℕ → Bool
+  has_client core n = is_attached (core_clients core) n
+
+  abbrev pub client_count : Core F G asks rule → ℕ
+  client_count core = btree_map_len (core_clients core).attached
+
+  abbrev pub next_client : Core F G asks rule → ℕ
+  next_client core = (core_clients core).next
+
+  -- the places that the history has left, beside one for the detach of each attached client
+  abbrev pub core_room : Core F G asks rule → ℕ
+  core_room core = places_left (core_options core) (core_finished core) (client_count core)
+
+  -- a state of the plain machine agrees with the mount and with what is kept for its watches
+  abbrev pub CoreAgrees : Core F G asks rule → State → Type 0
+  CoreAgrees core s = Agrees (core_mount core) (core_watches core) s
+
+  -- every merge of the layers is a tree with which a mount of these options begins
+  abbrev pub CoreBegins : Core F G asks rule → Options → Type 0
+  CoreBegins core options =
+      BeginsWith (core_layers core) (machine_options options) (core_mount core)
+      (core_watches core)
+
+  -- each state that agreed agrees still
+  abbrev pub CoreStays : Core F G asks rule → Core F G asks rule → Type 0
+  CoreStays old new =
+      Stays (core_mount old) (core_watches old) (core_mount new) (core_watches new)
+
+  -- from each state that agreed, what the client does leads to one that agrees
+  abbrev pub CoreGoes : Core F G asks rule → ℕ → Deed → Core F G asks rule → Type 0
+  CoreGoes old client deed new =
+      Goes rule.shows (core_mount old) (core_watches old) client deed (core_mount new)
+      (core_watches new)
+
+-- What each deed leaves of a core: its options, its lower layers, and an upper without needless
+-- whiteouts.
+pub record CoreKeeps {F G : Type 0} {asks : Callback F} {rule : Rule G}
+    (old new : Core F G asks rule) : Type 0 where
+  pub options : core_options new ≡ core_options old
+  pub lowers : (core_layers new).lowers ≡ (core_layers old).lowers
+  pub thin : StaysThin (core_layers old) (core_layers new)

@@ -1,0 +1,17 @@
+use Rattle.rename_redirect.proofs.Sights.{seen-directory, seen-nothing, seen-refused, seen-way, vacancy-refused, vacancy-some}
+use Rattle.rename_redirect.proofs.seen.free.Goals as goal
+
+pub returns-in-Err-clause-refused : goal.returns-in-Err-clause-refused
+returns-in-Err-clause-refused c = λ l p h. vacancy-refused l p c.in-Err.errno (seen-refused l p c.args.seen c.in-Err.errno c.in-Err.is h)
+
+pub returns-in-Some-clause-refused : goal.returns-in-Some-clause-refused
+returns-in-Some-clause-refused c = λ l p h. vacancy-some l p c.args.seen c.in-Ok.shown c.in-Ok.is c.in-Some.field-0 c.in-Some.is h
+
+pub returns-in-None-clause-parents : goal.returns-in-None-clause-parents
+returns-in-None-clause-parents c = λ l p h. seen-way l p c.args.seen c.in-Ok.shown c.in-Ok.is h
+
+pub returns-in-None-clause-absent : goal.returns-in-None-clause-absent
+returns-in-None-clause-absent c = λ l p h. seen-nothing l p c.args.seen c.in-Ok.shown c.in-Ok.is c.in-None.is h
+
+pub returns-in-None-clause-directory : goal.returns-in-None-clause-directory
+returns-in-None-clause-directory c = λ l p h. seen-directory l p c.args.seen c.in-Ok.shown c.in-Ok.is h
