@@ -59,13 +59,6 @@ impl OpenFiles {
         self.holders(key) > 0
     }
 
-    /// Whether as many handles hold a file as can be counted.
-    pub fn is_full(&self, key: usize) -> bool
-        ensures { result ≡ nat_eq (file_holders self.now key) HOLDERS_MAX }
-    {
-        self.holders(key) == usize::MAX
-    }
-
     /// Makes room for one file more, so that the next `hold` takes no memory.
     pub fn reserve(&mut self) -> Result<(), AllocError>
         ensures same { SameCounts self.old self.new }

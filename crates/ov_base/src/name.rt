@@ -123,7 +123,10 @@ fn is_name(bytes: &[u8]) -> bool
     requires { length bytes.now ≤ 255 }
     ensures { result ≡ names.is_name bytes.now }
 {
-    !bytes.is_empty() && bytes != b".".as_slice() && bytes != b"..".as_slice() && is_plain(bytes)
+    match bytes {
+        [] | [b'.'] | [b'.', b'.'] => false,
+        _ => is_plain(bytes),
+    }
 }
 
 impl Stored {

@@ -45,7 +45,7 @@ impl Path {
         }
         match text {
             [b'/'] => Ok(Ok(Path::root(alloc))),
-            [b'/', rest @ ..] => parse_names(alloc, rest),
+            [b'/', rest @ ..] => parse_names(alloc, rest, slashes(text)),
             _ => Ok(Err(Errno::EINVAL)),
         }
     }
@@ -82,10 +82,18 @@ fn first_slash(text: &[u8]) -> Option<usize>
     text.iter().position(|b| *b == b'/')
 }
 
-fn parse_names(alloc: Global, text: &[u8]) -> Result<Result<Path, Errno>, AllocError>
+// How many `/` a text has.
+fn slashes(text: &[u8]) -> usize {
+    text.iter().filter(|b| **b == b'/').count()
+}
+
+// The path below the root; room is made for so many names at once.
+fn parse_names(alloc: Global, text: &[u8], room: usize) -> Result<Result<Path, Errno>, AllocError>
     ensures { IfOk result (λ outcome. outcome ≡ path_below [] (pieces text.now)) }
 {
-    let mut path = Path::root(alloc);
+    let mut path = Path {
+        names: Vec::with_capacity(alloc, room)?,
+    };
     let mut rest = text;
     'names: while let Some(end) = first_slash(rest) {
         match Name::parse(alloc, &rest[..end])? {

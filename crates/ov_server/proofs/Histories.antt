@@ -14,12 +14,10 @@ use Rattle.ov_base.specs.declared.errno.Errno.TheVariants.{EINVAL, ENFILE, ENOSP
 use Rattle.ov_base.specs.declared.options.Options.{Options}
 use Rattle.mount_calls.specs.Attaching.{Attaches, Detaches, KeepsAttached}
 use Rattle.overlay_core.specs.Jobs.{finished_after}
-use Rattle.overlay_core.specs.Mounting.{mount_fault}
 use Rattle.overlay_core.specs.Views.{client_count, core_clients, core_finished, core_options, core_room, has_client, next_client}
 use Rattle.overlay_core.specs.declared.mounted.Core.{Core}
 use Rattle.watch_table.specs.declared.hook.Callback.{Ghosts as Callback}
 use Rattle.watch_table.specs.declared.hook.Rule.{Ghosts as Rule}
-use Rattle.overlay_core.specs.declared.mounted.MountFault.TheVariants.{NoLower, TooManyLowers, BadHistory}
 use Rattle.overlay_core.specs.declared.mounted.Turn.{Turn}
 use Rattle.overlay_core.specs.declared.mounted.Turn.TheVariants.{More, Done, NoMemory}
 use Rattle.ov_server.specs.Histories.{AreAttached, HasPlaces, attach_refusal}
@@ -149,17 +147,6 @@ two_left false false few_places e = cc
 
 pub two_places : {F G : Type 0} {asks : Callback F} {rule : Rule G} (m : Core F G asks rule) (hooks : ℕ) (said : Option Errno) → said ≡ attach_refusal m hooks → ((errno : Errno) → said ≡ Some errno → ⊥) → 2 ≤ core_room m
 two_places m hooks said is not = ltb-false (core_room m) 2 (two_left (nat_lt 16 hooks) (nat_lt (client_count m) 64) (nat_lt (core_room m) 2) (sym is ∙ none_said said not))
-
--- the history of layers that are a mount isn't too long
-not_long : (none many short long : Bool) → cond none (Some NoLower) (cond many (Some TooManyLowers) (cond (short || long) (Some BadHistory) None)) ≡ None → long ≡ false
-not_long true many short long e = cc
-not_long false true short long e = cc
-not_long false false true long e = cc
-not_long false false false true e = cc
-not_long false false false false e = refl
-
-pub bounded : (lowers : ℕ) (o : Options) → mount_fault lowers o ≡ None → o.history ≤ 1000000
-bounded lowers o e = ltb-false 1000000 o.history (not_long (nat_eq lowers 0) (nat_lt 16 lowers) (nat_lt o.history 2) (nat_lt 1000000 o.history) e)
 
 -- a new mount has a place for each detach
 pub first_places : {F G : Type 0} {asks : Callback F} {rule : Rule G} (m : Core F G asks rule) → (core_options m).history ≤ 1000000 → core_finished m ≡ 0 → ((n : ℕ) → has_client m n ≢ true) → HasPlaces m

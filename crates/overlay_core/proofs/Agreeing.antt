@@ -1,5 +1,9 @@
 -- What clients do to a mount leaves some state that agrees, and a mount begins with the merges of its layers as long as nothing was done.
-use Rattle.std.proofs.Common.{arith, ◌≡◌, ℕ, ◌+◌, ◌<◌, ◌≤◌, List, sym, subst}
+use Rattle.std.proofs.Common.{arith, ◌≡◌, ℕ, ◌+◌, ◌<◌, ◌≤◌, Bool, true, false, ◌||◌, List, Some, None, cond, nat_eq, nat_lt, refl, sym, subst}
+use Rattle.std.proofs.lemmas.Bool.{ltb-false}
+use Rattle.ov_base.specs.declared.options.Options.{Options}
+use Rattle.overlay_core.specs.Mounting.{mount_fault}
+use Rattle.overlay_core.specs.declared.mounted.MountFault.TheVariants.{NoLower, TooManyLowers, BadHistory}
 use Rattle.std.proofs.lemmas.Grind.{merely}
 use mathlib.Core.Logic.{∥∥₁_map}
 use Rattle.plain_model.specs.Layers.{AreLayers, Layer}
@@ -63,3 +67,15 @@ some-more finished = omega arith
 -- and where a client is attached
 pub some-finished : (client next finished : ℕ) → client < next → next ≤ finished → 0 < finished
 some-finished client next finished below given = omega arith
+
+-- the history of layers that are a mount isn't too long
+not-long : (none many short long : Bool) → cond none (Some NoLower) (cond many (Some TooManyLowers) (cond (short || long) (Some BadHistory) None)) ≡ None → long ≡ false
+not-long true many short long e = cc
+not-long false true short long e = cc
+not-long false false true long e = cc
+not-long false false false true e = cc
+not-long false false false false e = refl
+
+-- so it is at most a million long
+pub bounded : (lowers : ℕ) (o : Options) → mount_fault lowers o ≡ None → o.history ≤ 1000000
+bounded lowers o e = ltb-false 1000000 o.history (not-long (nat_eq lowers 0) (nat_lt 16 lowers) (nat_lt o.history 2) (nat_lt 1000000 o.history) e)

@@ -65,6 +65,7 @@ pub struct Core<F: Callback, R: Rule> {
     ghost agrees: { ∥ HasState watched.mount watched.notifier ∥₁ },
     ghost begins: { ∥ BeginsUntil finished (machine_options options) watched.mount watched.notifier ∥₁ },
     ghost given: { watched.mount.clients.next ≤ finished },
+    ghost short: { options.history ≤ 1000000 },
 }
 
 impl<F: Callback, R: Rule> Core<F, R> {
@@ -243,6 +244,14 @@ impl<F: Callback, R: Rule> Core<F, R> {
             .finished
             .saturating_add(self.watched.mount.clients_attached());
         u64::from(self.options.history).saturating_sub(kept)
+    }
+
+    /// How long the history may get, in places.
+    pub fn history(&self) -> u32
+        ensures options { result ≡ (core_options self.now).history }
+        ensures bounded { result ≤ 1000000 }
+    {
+        self.options.history
     }
 
     /// The layers as they are now.

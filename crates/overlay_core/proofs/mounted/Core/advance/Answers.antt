@@ -13,6 +13,7 @@ invariant_of-self g c =
       agrees = goes-on g.R.Rule.shows old.mount new.mount old.notifier new.notifier job.client (Called job.call c.in-Ok.reply) c.args.self.now.agrees (rw (c.client.ensures, c.call.ensures) at c.in-Ok.ensures.performs.goes);
       begins = has-begun (c.args.self.now.finished + 1) (machine_options c.args.self.now.options) new.mount new.notifier (some-more c.args.self.now.finished);
       given = given-more old.mount.clients.next new.mount.clients.next c.args.self.now.finished c.args.self.now.given c.in-Ok.ensures.performs.kept.clients.next;
+      short = c.args.self.now.short;
     }
 
 pub invariant_of-self-in-Err : goal.invariant_of-self-in-Err
@@ -25,6 +26,7 @@ invariant_of-self-in-Err g c =
       agrees = stays-on old.mount new.mount old.notifier new.notifier c.args.self.now.agrees c.in-Err.ensures.performs.no_memory;
       begins = has-begun c.args.self.now.finished (machine_options c.args.self.now.options) new.mount new.notifier (some-finished c.args.job.now.client old.mount.clients.next c.args.self.now.finished there before);
       given = given-same old.mount.clients.next new.mount.clients.next c.args.self.now.finished before c.in-Err.ensures.performs.kept.clients.next;
+      short = c.args.self.now.short;
     }
 
 pub returns-in-Ok-clause-turn : goal.returns-in-Ok-clause-turn

@@ -12,6 +12,7 @@ invariant_of-self g c =
       agrees = stays-on old.mount new.mount old.notifier new.notifier c.args.self.now.agrees c.in_err-client.ensures.stays;
       begins = begins-on c.args.self.now.finished (machine_options c.args.self.now.options) old.mount new.mount old.notifier new.notifier c.args.self.now.begins c.attach.ensures.layers c.in_err-client.ensures.stays;
       given = given-same old.mount.clients.next new.mount.clients.next c.args.self.now.finished c.args.self.now.given c.in_err-client.ensures.kept.next;
+      short = c.args.self.now.short;
     }
 
 pub invariant_of-self-2 : goal.invariant_of-self-2
@@ -24,4 +25,5 @@ invariant_of-self-2 g c =
       agrees = goes-on g.R.Rule.shows old.mount new.mount old.notifier new.notifier c.in_ok-client.client (Attached tags) c.args.self.now.agrees c.in_ok-client.ensures.attached;
       begins = has-begun (c.args.self.now.finished + 1) (machine_options c.args.self.now.options) new.mount new.notifier (some-more c.args.self.now.finished);
       given = given-next old.mount.clients.next new.mount.clients.next c.in_ok-client.client c.args.self.now.finished c.args.self.now.given came.next came.rises;
+      short = c.args.self.now.short;
     }

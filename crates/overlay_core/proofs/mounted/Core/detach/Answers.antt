@@ -12,4 +12,5 @@ invariant_of-self g c =
       agrees = goes-on g.R.Rule.shows old.mount new.mount old.notifier new.notifier c.args.client Detached c.args.self.now.agrees c.detach.ensures.detached;
       begins = has-begun (c.args.self.now.finished + 1) (machine_options c.args.self.now.options) new.mount new.notifier (some-more c.args.self.now.finished);
       given = given-more old.mount.clients.next new.mount.clients.next c.args.self.now.finished c.args.self.now.given c.detach.ensures.clients.next;
+      short = c.args.self.now.short;
     }

@@ -1,20 +1,22 @@
-use Rattle.std.proofs.Common.{arith, subst, sym}
+use Rattle.std.proofs.Common.{arith, rules, ◌≡◌, None, subst, sym, vec_len}
 use Rattle.std.proofs.lemmas.Grind.{merely}
 use Rattle.plain_model.specs.Layers.{AreLayers}
 use Rattle.merged_lookup.specs.declared.layers.Layers.{Layers}
 use Rattle.merged_lookup.specs.Merged.{layers_of}
-use Rattle.overlay_core.specs.Mounting.{machine_options}
+use Rattle.overlay_core.specs.Mounting.{machine_options, mount_fault}
 use Rattle.overlay_core.specs.Watching.{BeginsWith}
-use Rattle.overlay_core.proofs.Agreeing.{has-state}
+use Rattle.overlay_core.proofs.Agreeing.{bounded, has-state}
 use Rattle.overlay_core.proofs.mounted.Core.mount.Goals as goal
 
 pub invariant_of-result : goal.invariant_of-result
 invariant_of-result g c =
     let w = c.in_ok-watched.watched in
     let are : AreLayers (layers_of c.new.result) = rw (c.new.ensures.upper, c.new.ensures.lowers) c.requires.layers in
+    let none : mount_fault (vec_len c.args.lowers) c.args.options ≡ None = search rules in
     let begins : BeginsWith w.mount.layers (machine_options c.args.options) w.mount w.notifier = subst (λ (l : Layers). BeginsWith l (machine_options c.args.options) w.mount w.notifier) (sym c.in_ok-watched.ensures.layers) c.in_ok-watched.ensures.begins in
     record {
       agrees = merely (has-state w.mount w.notifier c.new.result (machine_options c.args.options) c.in_ok-watched.ensures.layers are begins);
       begins = merely (λ none. begins);
       given = omega (arith, c.in_ok-watched.ensures.first);
+      short = bounded (vec_len c.args.lowers) c.args.options none;
     }
