@@ -8,7 +8,7 @@ use Rattle.ov_frames.specs.Streams.{Left, Held, Faulty, Spells, front_of}
 use Rattle.ov_frames.specs.declared.fault.FrameFault.{FrameFault}
 use Rattle.ov_frames.specs.declared.front.Front.TheVariants.{Begun, Whole, Bad}
 use Rattle.ov_frames.specs.declared.request.Request.{Request}
-use Rattle.ov_session.specs.Conversing.{IsTurn}
+use Rattle.ov_session.specs.Conversing.{IsTurn, behind}
 use Rattle.ov_session.specs.Devices.{IsOutputEnd}
 use Rattle.ov_session.specs.Doors.{Goes}
 use Rattle.ov_session.specs.Serving.{frames}
@@ -61,7 +61,7 @@ alone goes bytes used o n left s h =
 -- a begun frame follows
 pub turn_begun : {D : Type 0} (goes : Goes D) (bytes : List ℕ) (used : ℕ) (o n : Place D)
     → ServedSo goes bytes used o n → used ≤ length bytes → front_of (drop used bytes) ≡ Begun
-    → IsTurn goes bytes (λ (i : ℕ). drop i bytes) o n (Ok used)
+    → IsTurn goes bytes (behind bytes) o n (Ok used)
 turn_begun goes bytes used o n s within begun = (
   within,
   (
@@ -164,7 +164,11 @@ turn_badly goes bytes begun o m n (Err e) end (inr h) by k t d =
 pub moved : (bytes : List ℕ) (used count : ℕ) → used ≤ count → count ≤ length bytes
     → take (count - used) (copy_within bytes used count 0) ≡ drop used (take count bytes)
 moved bytes used count start within =
-    take-paste bytes 0 (drop used bytes) (count - used) (omega arith)
+    let n = count - used in
+    let none : n ≡ 0 + n = omega arith in
+    let all : used + n ≡ count = omega arith in
+    ap (λ (m : ℕ). take m (copy_within bytes used count 0)) none
+    ∙ take-paste bytes 0 (drop used bytes) n (omega arith)
     (omega (arith, length-drop used bytes))
-    ∙ sym (drop-take used (count - used) bytes)
-    ∙ ap (λ (n : ℕ). drop used (take n bytes)) (omega arith)
+    ∙ sym (drop-take used n bytes)
+    ∙ ap (λ (m : ℕ). drop used (take m bytes)) all

@@ -1,5 +1,5 @@
 -- A session from piece to piece, until its client is detached.
-use Rattle.std.specs.Prelude.{◌≡◌, ℕ, ◌≤◌, Bool, true, false, List, [], ◌∷◌, ◌++◌, length, Option, Result, Ok, Err, ◌⊎◌}
+use Rattle.std.specs.Prelude.{◌≡◌, ℕ, ◌≤◌, Bool, true, false, List, [], ◌∷◌, ◌++◌, length, take, drop, Option, Result, Ok, Err, ◌⊎◌}
 use Rattle.std.specs.Io.KnownBytes.{IsAtEnd}
 use Rattle.ov_frames.specs.Streams.{Left, Held, Faulty, Spells}
 use Rattle.ov_frames.specs.declared.fault.FrameFault.{FrameFault}
@@ -71,6 +71,13 @@ pub record Converses {D S : Type 0} (goes : Goes D) (admits : D → S → Type 0
   pub handed_on : HandedOn end new.held
   pub mark : output_failed ≡ is_write end
   pub admitted : admits new.door session
+
+-- so many bytes at the front of others, and those behind them
+abbrev pub first : List ℕ → ℕ → List ℕ
+first bytes n = take n bytes
+
+abbrev pub behind : List ℕ → ℕ → List ℕ
+behind bytes n = drop n bytes
 
 -- what bytes spell was served, and the begun frame behind it stands where a number says; or the
 -- session ends: at a request, or at a fault behind all of them

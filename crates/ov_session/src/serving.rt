@@ -1,8 +1,6 @@
 // Serving requests: each is asked of the door, and its answer given to the output.
-ghost use Rattle.std.specs.Prelude.{◌≡◌, ◌≤◌, ◌∷◌, [], drop, false, length, take};
-ghost use Rattle.ov_frames.specs.Streams as streams;
-ghost use Rattle.ov_frames.specs.declared.front.Front.TheVariants.{Begun};
-ghost use Rattle.ov_session.specs.Conversing.{ServesBytes, Turns};
+ghost use Rattle.std.specs.Prelude.{◌≡◌, ◌≤◌, ◌∷◌, [], false, length, take};
+ghost use Rattle.ov_session.specs.Conversing.{ServesBytes, Turns, behind, first};
 ghost use Rattle.ov_session.specs.Talks.{ServesThem, place};
 
 use crate::door::{CallOutcome, Door};
@@ -50,7 +48,7 @@ fn serve_frames<W: Write, D: Door>(
 ) -> Result<usize, Ending>
     requires well { output.old.failed ≡ false }
     requires admitted { D.admits door.old session.old }
-    ensures { ServesBytes D.goes D.admits bytes.now (λ used. drop used bytes.now)
+    ensures { ServesBytes D.goes D.admits bytes.now (behind bytes.now)
         (place W.contents D.told output.old session.old door.old)
         (place W.contents D.told output.new session.new door.new)
         session.new output.new.failed result }
@@ -85,7 +83,7 @@ fn serve_piece<W: Write, D: Door>(
 ) -> Result<usize, Ending>
     requires well { output.old.failed ≡ false }
     requires admitted { D.admits door.old session.old }
-    ensures { Turns D.goes D.admits bytes.now (λ used. drop used bytes.now)
+    ensures { Turns D.goes D.admits bytes.now (behind bytes.now)
         (place W.contents D.told output.old session.old door.old)
         (place W.contents D.told output.new session.new door.new)
         session.new output.new.failed result }
@@ -114,7 +112,7 @@ pub(crate) fn take_piece<W: Write, D: Door>(
     requires well { output.old.failed ≡ false }
     requires held { output.old.held.items ≡ [] }
     requires admitted { D.admits door.old session.old }
-    ensures turns { Turns D.goes D.admits (take count bytes.old) (λ left. take left bytes.new)
+    ensures turns { Turns D.goes D.admits (take count bytes.old) (first bytes.new)
         (place W.contents D.told output.old session.old door.old)
         (place W.contents D.told output.new session.new door.new)
         session.new output.new.failed result }
