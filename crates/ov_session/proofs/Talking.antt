@@ -1,12 +1,11 @@
 -- Requests served one after the other.
-use Rattle.std.proofs.Common.{◌≡◌, ℕ, true, List, [], ◌∷◌, ◌++◌, Option, Result, Ok, Err, refl, sym, ap, subst, ◌∙◌, append_assoc, append-nil, inl, inr}
-use Rattle.std.proofs.lemmas.Bool.{false≢true}
+use Rattle.std.proofs.Common.{◌≡◌, ℕ, List, [], ◌∷◌, ◌++◌, Option, Result, Ok, Err, refl, sym, ap, subst, ◌∙◌, append_assoc, append-nil, inl, inr}
 use Rattle.std.proofs.lemmas.List.Concat.{flat_map-append}
 use Rattle.ov_frames.specs.Asked.{asked_of}
 use Rattle.ov_frames.specs.Replies.{answer_frame}
 use Rattle.ov_frames.specs.declared.answer.Answer.{Answer}
 use Rattle.ov_frames.specs.declared.request.Request.{Request}
-use Rattle.ov_session.specs.Devices.{Gains, IsFrontOf, IsPut, IsOutputEnd, is_write, write_failed}
+use Rattle.ov_session.specs.Devices.{Gains, IsFrontOf, IsPut, IsOutputEnd}
 use Rattle.ov_session.specs.Doors.{Goes}
 use Rattle.ov_session.specs.Serving.{Answers, Serves, frames, IsHeldBack}
 use Rattle.ov_session.specs.Talks.{Place, Gained, Talked, MayBeHeldBack, Breaks, BrokeOff, HandedOn, IsHandedOn, IsServed}
@@ -412,19 +411,3 @@ handed_badly ending.Cut held h = absurd h
 handed_badly (ending.Frame f) held h = absurd h
 handed_badly ending.Read held h = absurd h
 handed_badly ending.Stopped held h = absurd h
-
--- so where a write failed
-pub ending_failed : (e : Ending) (held : List ℕ) → is_write e ≡ true → HandedOn e held
-ending_failed ending.Write held h = tt
-ending_failed ending.Memory held h = tt
-ending_failed ending.Detached held h = absurd (false≢true h)
-ending_failed ending.Ended held h = absurd (false≢true h)
-ending_failed ending.Cut held h = absurd (false≢true h)
-ending_failed (ending.Frame f) held h = absurd (false≢true h)
-ending_failed ending.Read held h = absurd (false≢true h)
-ending_failed ending.Stopped held h = absurd (false≢true h)
-
-pub handed_failed : {A : Type 0} (result : Result A Ending) (held : List ℕ) →
-    write_failed result ≡ true → IsHandedOn result held
-handed_failed (Ok x) held h = absurd (false≢true h)
-handed_failed (Err e) held h = ending_failed e held h

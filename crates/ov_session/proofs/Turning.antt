@@ -1,8 +1,10 @@
 -- What bytes spell, served frame by frame.
 use Rattle.std.proofs.Common.{◌≡◌, ℕ, ◌+◌, ◌-◌, ◌≤◌, List, [], ◌∷◌, ◌++◌, length, take, drop, Result, Ok, Err, refl, sym, ap, subst, ◌∙◌, append_assoc, append-nil, drop-drop, length-drop, arith, inl, inr}
-use Rattle.std.proofs.lemmas.List.{drop-take}
+use Rattle.std.proofs.lemmas.List.{drop-take, take_at, drop_at, take-append-le, length-take-le}
 use Rattle.std.proofs.lemmas.List.Edits.{take-paste}
 use Rattle.std.specs.List.{copy_within}
+use borrow.Rule.Slice.PartMut.{put_mid, post_of, same_len_mid}
+use lib.Seq.{take-add}
 use Rattle.ov_frames.proofs.Every.{spelled_always}
 use Rattle.ov_frames.specs.Streams.{Left, Held, Faulty, Spells, front_of}
 use Rattle.ov_frames.specs.declared.fault.FrameFault.{FrameFault}
@@ -172,3 +174,23 @@ moved bytes used count start within =
     (omega (arith, length-drop used bytes))
     ∙ sym (drop-take used n bytes)
     ∙ ap (λ (m : ℕ). drop used (take m bytes)) all
+
+-- what a read gave stands behind the bytes that were held
+pub filled : (bytes piece : List ℕ) (held room count : ℕ) → held ≤ length bytes
+    → count ≤ length piece
+    → take (held + count) (put_mid held room bytes piece) ≡ take held bytes ++ take count piece
+filled bytes piece held room count within fits =
+    let front : length (take held bytes) ≡ held = length-take-le held bytes within in
+    let after = piece ++ post_of held room bytes in
+    take-add held count (put_mid held room bytes piece)
+    ∙ rw (
+      take_at (take held bytes) after held front,
+      drop_at (take held bytes) after held front,
+      take-append-le count piece (post_of held room bytes) fits,
+    ) refl
+
+-- and there is room for as many bytes as before
+pub filled_long : (bytes piece : List ℕ) (held room : ℕ)
+    → length piece ≡ length (take room (drop held bytes))
+    → length (put_mid held room bytes piece) ≡ length bytes
+filled_long bytes piece held room h = same_len_mid held room bytes piece h
