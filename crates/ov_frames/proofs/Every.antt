@@ -1,5 +1,5 @@
 -- Every stream spells something.
-use Rattle.std.proofs.Common.{◌≡◌, ℕ, zero, suc, ◌+◌, ◌≤◌, List, [], ◌∷◌, length, drop, arith, length-drop, refl}
+use Rattle.std.proofs.Common.{◌≡◌, ℕ, zero, suc, ◌≤◌, List, [], ◌∷◌, length, drop, arith, length-drop, refl}
 use Rattle.ov_frames.proofs.Completing.{end_least, whole_end}
 use Rattle.ov_frames.proofs.Pieces.{whole_length}
 use Rattle.ov_frames.specs.Fronts.{front_end}

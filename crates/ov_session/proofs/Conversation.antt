@@ -7,7 +7,7 @@ use Rattle.ov_frames.specs.Streams.{Left, Held, Faulty, Spells, Continues, front
 use Rattle.ov_frames.specs.declared.answer.Answer.{Answer}
 use Rattle.ov_frames.specs.declared.request.Request.{Request}
 use Rattle.ov_frames.proofs.Pieces.{goes_on}
-use Rattle.ov_session.specs.Conversing.{Stands, Conversed, IsTurn, IsUnfed, is_faulty}
+use Rattle.ov_session.specs.Conversing.{Stands, Conversed, IsTurn, is_faulty}
 use Rattle.ov_session.specs.Devices.{Gains, InputAt, IsFrontOf, IsInputEnd, IsSent, is_write}
 use Rattle.ov_session.specs.Doors.{Goes}
 use Rattle.ov_session.specs.Heard.{Heard}
@@ -35,24 +35,12 @@ so_far_more goes i j k o m n left new piece rs laws s c h talk = record {
   talked = talked_then goes o m n s.requests rs laws s.talked talk;
 }
 
--- nothing is unread
-all_fed : (e : Ending) → IsUnfed e []
-all_fed ending.Memory = tt
-all_fed ending.Detached = refl
-all_fed ending.Ended = refl
-all_fed ending.Cut = refl
-all_fed (ending.Frame f) = refl
-all_fed ending.Read = refl
-all_fed ending.Write = refl
-all_fed ending.Stopped = refl
-
--- what was heard so far, where all requests are served and some bytes may be unread
-abbrev pub all_heard : {D : Type 0} (goes : Goes D) (i j k : Option (List ℕ)) (o n : Place D) (left : Left)
-    (piece : List ℕ) → SoFar goes i j o n left → Consumes j k piece → Heard i k
-all_heard goes i j k o n left piece s c = record {
+-- what was heard so far, where all requests are served
+abbrev pub all_heard : {D : Type 0} (goes : Goes D) (i j : Option (List ℕ)) (o n : Place D)
+    (left : Left) → SoFar goes i j o n left → Heard i j
+all_heard goes i j o n left s = record {
   taken = s.taken;
-  unread = piece;
-  consumed = Consumes-trans i j k s.taken piece s.consumed c;
+  consumed = s.consumed;
   requests = s.requests;
   left = left;
   spelled = s.spelled;
@@ -66,14 +54,12 @@ all_heard goes i j k o n left piece s c = record {
 }
 
 -- all requests are served, and their answers given to the output
-ends_with : {D : Type 0} (goes : Goes D) (i j k : Option (List ℕ)) (o n : Place D) (left : Left)
-    (piece : List ℕ) (end : Ending) (s : SoFar goes i j o n left) (c : Consumes j k piece) →
-    IsUnfed end piece →
-    Stands i k end (all_heard goes i j k o n left piece s c) (frames s.talked.answers) →
-    Conversed goes i k o n end
-ends_with goes i j k o n left piece end s c u h = record {
-  heard = all_heard goes i j k o n left piece s c;
-  unfed = u;
+pub all_served : {D : Type 0} (goes : Goes D) (i j : Option (List ℕ)) (o n : Place D) (left : Left)
+    (end : Ending) (s : SoFar goes i j o n left) →
+    Stands i j end (all_heard goes i j o n left s) (frames s.talked.answers) →
+    Conversed goes i j o n end
+all_served goes i j o n left end s h = record {
+  heard = all_heard goes i j o n left s;
   added = s.talked.added ∙ ap (λ (l : List Exchange). o.told ++ l) (sym (append-nil s.talked.told));
   went =
       subst (λ (l : List Exchange). goes o.door l n.door) (sym (append-nil s.talked.told))
@@ -82,14 +68,6 @@ ends_with goes i j k o n left piece end s c u h = record {
   gained = s.talked.gained;
   stands = h;
 }
-
--- all requests are served, and nothing is unread
-pub all_served : {D : Type 0} (goes : Goes D) (i j : Option (List ℕ)) (o n : Place D) (left : Left)
-    (end : Ending) (s : SoFar goes i j o n left) →
-    Stands i j end (all_heard goes i j j o n left [] s (Consumes-nil j)) (frames s.talked.answers) →
-    Conversed goes i j o n end
-all_served goes i j o n left end s h =
-    ends_with goes i j j o n left [] end s (Consumes-nil j) (all_fed end) h
 
 -- what broke off stands so
 broken_stands : (e : Ending) (i j : Option (List ℕ)) (h : Heard i j) (given : List ℕ) →
@@ -110,11 +88,9 @@ broken_off : {D : Type 0} (goes : Goes D) (i j k : Option (List ℕ)) (o m n : P
     → IsServed goes m n rs (Err e) → Conversed goes i k o n e
 broken_off goes i j k o m n left new piece rs e laws s c h broke =
     let b = broke_then goes o m n s.requests broke.0 broke.1 e laws s.talked broke.3 in
-    let all = Consumes-trans i j k s.taken piece s.consumed c in
     let heard : Heard i k = record {
       taken = s.taken ++ piece;
-      unread = [];
-      consumed = subst (Consumes i k) (sym (append-nil (s.taken ++ piece))) all;
+      consumed = Consumes-trans i j k s.taken piece s.consumed c;
       requests = s.requests ++ rs;
       left = new;
       spelled = goes_on s.taken piece s.requests rs left new s.spelled h;
@@ -130,7 +106,6 @@ broken_off goes i j k o m n left new piece rs e laws s c h broke =
     } in
     record {
       heard = heard;
-      unfed = all_fed e;
       added = b.added;
       went = b.went;
       given = b.given;
@@ -333,15 +308,14 @@ last_written ending.Read i j a b heard p q given last differs g z hand h =
 departed : {D : Type 0} (goes : Goes D) (i j : Option (List ℕ)) (o n : Place D)
     (p : Option (List ℕ)) (told : List Exchange) (door : D) (was end : Ending) (a : Answer)
     (written : List ℕ) → Doorway goes → (c : Conversed goes i j o n was) →
-    IsUnfed end c.heard.unread → told ≡ n.told ++ Departed a ∷ [] →
+    told ≡ n.told ++ Departed a ∷ [] →
     goes n.door (Departed a ∷ []) door → Appends o.contents p written →
     StandsLast i j end c.heard written (answer_frame a) →
     IsSession goes i j o.contents p o.told told o.door door end
-departed goes i j o n p told door was end a written laws c fed t d w s =
+departed goes i j o n p told door was end a written laws c t d w s =
     let before = c.heard.told ++ c.heard.stopped in
     record {
       heard = c.heard;
-      unfed = fed;
       farewell = a;
       added =
           t ∙ ap (λ (l : List Exchange). l ++ Departed a ∷ []) c.added
@@ -362,7 +336,7 @@ parted goes i j o n told door e a laws c z hand t d differs =
     let w =
     last_written e i j o.contents n.contents c.heard o.held n.held c.given (answer_frame a)
     differs c.gained z hand c.stands in
-    departed goes i j o n n.contents told door e e a w.0 laws c c.unfed t d w.1 w.2
+    departed goes i j o n n.contents told door e e a w.0 laws c t d w.1 w.2
 
 -- the farewell, behind all answers
 farewell_front : (given all last front : List ℕ) → given ≡ all → IsFrontOf front last
@@ -384,14 +358,14 @@ left_so goes i j o n p held told door a ending.Detached laws c z t d h =
     let all = gains_then o.contents n.contents p o.held n.held held c.given
     (answer_frame a) c.gained h.0 in
     departed goes i j o n p told door ending.Detached ending.Detached a
-    (c.given ++ answer_frame a) laws c c.unfed t d (written_all o.contents p o.held held
+    (c.given ++ answer_frame a) laws c t d (written_all o.contents p o.held held
     (c.given ++ answer_frame a) all z h.1)
     (c.stands.0, c.stands.1, ap (λ (l : List ℕ). l ++ answer_frame a) c.stands.2)
 left_so goes i j o n p held told door a ending.Write laws c z t d h =
     let all = gains_then o.contents n.contents p o.held n.held held c.given
     (answer_frame a) c.gained h in
     let w = written_of o.contents p o.held held (c.given ++ answer_frame a) all z in
-    departed goes i j o n p told door ending.Detached ending.Write a w.0 laws c c.unfed t d w.1 (
+    departed goes i j o n p told door ending.Detached ending.Write a w.0 laws c t d w.1 (
       inl c.stands.1,
       front_shorter (c.given ++ answer_frame a)
           (frames c.heard.answers ++ answer_frame a) w.0 held w.2
@@ -401,7 +375,7 @@ left_so goes i j o n p held told door a ending.Write laws c z t d h =
 left_so goes i j o n p held told door a ending.Memory laws c z t d h =
     let all = gains_then o.contents n.contents p o.held n.held held c.given h.0 c.gained h.2 in
     let w = written_of o.contents p o.held held (c.given ++ h.0) all z in
-    departed goes i j o n p told door ending.Detached ending.Memory a w.0 laws c tt t d w.1 (
+    departed goes i j o n p told door ending.Detached ending.Memory a w.0 laws c t d w.1 (
       inl c.stands.1,
       front_shorter (c.given ++ h.0) (frames c.heard.answers ++ answer_frame a) w.0
           held w.2 (farewell_front c.given (frames c.heard.answers)

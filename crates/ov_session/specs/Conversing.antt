@@ -45,16 +45,10 @@ Stands i j ending.Memory heard given = IsBrokenOff i j heard given
 Stands i j ending.Stopped heard given =
     IsHeldBack heard.later heard.stopped × (given ≡ frames heard.answers)
 
--- all that was read was fed, but for a piece that memory was wanting for
-abbrev pub IsUnfed : Ending → List ℕ → Type 0
-IsUnfed ending.Memory unread = Unit {0}
-IsUnfed _ unread = unread ≡ []
-
 -- a session until its end
 pub record Conversed {D : Type 0} (goes : Goes D) (in_old in_new : Option (List ℕ))
     (old new : Place D) (end : Ending) : Type 0 where
   pub heard : Heard in_old in_new
-  pub unfed : IsUnfed end heard.unread
   pub added : new.told ≡ old.told ++ (heard.told ++ heard.stopped)
   pub went : goes old.door (heard.told ++ heard.stopped) new.door
   pub given : List ℕ
