@@ -1,4 +1,4 @@
-use Rattle.std.proofs.Common.{◌≡◌, ◌+◌, ◌-◌, ◌≤◌, [], ◌∷◌, length, drop, arith, length-drop, length-take, ◌∙◌}
+use Rattle.std.proofs.Common.{◌≡◌, ◌-◌, length, drop, arith, length-drop, length-take, ◌∙◌}
 use Rattle.ov_frames.specs.Streams.{front_of}
 use Rattle.ov_frames.specs.declared.front.Front.TheVariants.{Begun, Whole, Bad}
 use Rattle.ov_frames.proofs.Pieces.{front_to_end, whole_within}

@@ -1,10 +1,9 @@
-use Rattle.std.proofs.Common.{◌≡◌, ◌+◌, ◌-◌, ◌<◌, ◌≤◌, ℕ, List, [], ◌++◌, length, take, drop, Err, arith, length-drop, length-take, refl, sym, ap, subst, ◌∙◌}
+use Rattle.std.proofs.Common.{◌≡◌, ◌+◌, ◌-◌, ◌<◌, ℕ, List, [], length, take, drop, arith, length-drop, length-take, refl, sym, ap, subst, ◌∙◌}
 use borrow.Rule.Slice.PartMut.{put_mid}
 use Rattle.ov_frames.proofs.Pieces.{held_short}
 use Rattle.ov_frames.specs.Streams.{Held, Spells}
 use Rattle.ov_session.specs.Conversing.{first}
 use Rattle.ov_session.specs.Talks.{place}
-use Rattle.ov_session.specs.declared.ending.Ending.TheVariants as ending
 use Rattle.ov_session.proofs.Conversation.{ended_between, ended_inside, input_at, input_well, nothing_spelled, read_ended, read_unmarked, so_far_more, so_far_nothing, so_far_same, turn_ends, turn_no_read}
 use Rattle.ov_session.proofs.Talking.{Doorway, ending_empty}
 use Rattle.ov_session.proofs.Turning.{filled, filled_long}
