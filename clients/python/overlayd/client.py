@@ -131,15 +131,19 @@ class Client:
             if batch[-1].call.op is frames.Op.DETACH:
                 self._drop("the client is detached")
         except BaseException as error:
-            # The stream is out of step, so that no later call can be made.
-            reason = str(error) or type(error).__name__
-            self._drop(f"{reason}{self._hint}")
-            kind = type(error) if isinstance(error, Disconnected) else Disconnected
-            for pending in batch[settled:]:
-                pending.fail(kind(f"{reason}{self._hint}; it was being asked: {pending.call}"))
-            if isinstance(error, Disconnected):
-                batch[settled:] and batch[settled].result()
+            unsettled = batch[settled:]
+            self._give_up(error, unsettled)
+            if isinstance(error, Disconnected) and unsettled:
+                unsettled[0].result()
             raise
+
+    def _give_up(self, error: BaseException, unsettled: Sequence[Pending[Any]]) -> None:
+        """Drops a connection that is lost or out of step, and tells each call without a reply."""
+        reason = (str(error) or type(error).__name__) + self._hint
+        self._drop(reason)
+        kind = type(error) if isinstance(error, Disconnected) else Disconnected
+        for pending in unsettled:
+            pending.fail(kind(f"{reason}; it was being asked: {pending.call}"))
 
     def _replies(self, batch: Sequence[Pending[Any]]) -> Iterator[Reply]:
         """The replies to a batch's calls, in their order."""
