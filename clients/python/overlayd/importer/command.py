@@ -96,8 +96,11 @@ class Output:
                 return cast(BinaryIO, sys.stdout.buffer)
             return cast(BinaryIO, tempfile.TemporaryFile(prefix=f"{PROGRAM}-"))
         folder, name = os.path.split(self._path)
-        descriptor, self._partial = tempfile.mkstemp(
-            prefix=f".{name}.", suffix=".part", dir=folder or ".")
+        try:
+            descriptor, self._partial = tempfile.mkstemp(
+                prefix=f".{name}.", suffix=".part", dir=folder or ".")
+        except OSError as error:
+            raise OSError(error.errno, error.strerror, self._path) from None
         return os.fdopen(descriptor, "wb", buffering=1 << 20)
 
     def identities(self) -> Set[Identity]:

@@ -200,7 +200,7 @@ class DirectoryLayer(Content):
         if fault is not None:
             self._report.leave_out(self.name, path, UNSAYABLE, fault)
             return None
-        for name, _ in self._attributes(full, follow=False):
+        for name, _ in self._marks(full, path).attrs:
             self._teller(path)(ATTRIBUTE, f"attribute {shown(name)} of a symbolic link")
         return self._maybe_shared(Symlink(status.st_uid, status.st_gid, target.decode()), status)
 

@@ -178,7 +178,7 @@ class _Reading:
 
     def _names(self, member: tarfile.TarInfo, path: str) -> Optional[Names]:
         """The names of a path in the tar from its root; None where it was left out."""
-        parts = [part for part in path.split("/") if part not in ("", ".")]
+        parts = _parts(path)
         faults = [fault for fault in (limits.name_fault(raw_of(part)) for part in parts) if fault]
         if not faults:
             too_long = limits.path_fault(path_text(tuple(parts)))
@@ -281,7 +281,7 @@ class _Reading:
         if fault is not None:
             self._leave_out(member, UNSAYABLE, fault)
             return None
-        for name, _ in _pairs(member):
+        for name, _ in self._marks(member).attrs:
             self._leave_out(member, ATTRIBUTE, f"attribute {shown(name)} of a symbolic link")
         uid, gid = self._owner(member)
         return Symlink(uid, gid, member.linkname)
@@ -373,7 +373,13 @@ class _Reading:
         return 0, 0
 
     def _leave_out(self, member: tarfile.TarInfo, group: str, why: str) -> None:
-        self._report.leave_out(self._layer.name, raw_of(member.name), group, why)
+        path = raw_of(path_text(tuple(_parts(member.name))))
+        self._report.leave_out(self._layer.name, path, group, why)
+
+
+def _parts(path: str) -> List[str]:
+    """The names in a path of a tar."""
+    return [part for part in path.split("/") if part not in ("", ".")]
 
 
 def _take_over(node: Inode, below: Inode) -> None:

@@ -164,8 +164,8 @@ class LayerWriter:
 
 
 def write_tree(layer: LayerWriter, root: Directory) -> None:
-    """Writes a whole tree: first what has no bytes, then the files in the order of their sources,
-    then further names."""
+    """Writes a whole tree: first what has no bytes, by paths; then the files of each source, as
+    they come there, the source of the first path first; then further names."""
     files: Dict[Content, Dict[File, str]] = {}
     seen: Dict[int, str] = {}
     again: List[Tuple[str, Object]] = []
