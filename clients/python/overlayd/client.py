@@ -131,11 +131,11 @@ class Client:
             if batch[-1].call.op is frames.Op.DETACH:
                 self._drop("the client is detached")
         except BaseException as error:
-            unsettled = batch[settled:]
-            self._give_up(error, unsettled)
-            if isinstance(error, Disconnected) and unsettled:
-                unsettled[0].result()
-            raise
+            self._give_up(error, batch[settled:])
+            if settled == len(batch) or not isinstance(error, Disconnected):
+                raise
+        if settled < len(batch):
+            batch[settled].result()
 
     def _give_up(self, error: BaseException, unsettled: Sequence[Pending[Any]]) -> None:
         """Drops a connection that is lost or out of step, and tells each call without a reply."""

@@ -53,7 +53,7 @@ class Pending(Generic[T]):
         if error is None:
             return self._result
         try:
-            raise error from None
+            raise error
         finally:
             del self, error  # the traceback in the error leads here, which would be a circle
 

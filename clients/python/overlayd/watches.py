@@ -37,6 +37,20 @@ class Mask(enum.IntFlag):
     MOVE = 0xC0
     ALL_EVENTS = 0xFFF
 
+    def __str__(self) -> str:
+        """The names of its bits, as `CREATE|ISDIR`; bits without one in hexadecimal."""
+        bits = {name: int(one) for name, one in Mask.__members__.items() if _is_bit(int(one))}
+        names = [name for name, bit in bits.items() if int(self) & bit]
+        rest = int(self) & ~sum(bits.values())
+        return "|".join([*names, hex(rest)] if rest or not names else names)
+
+    def __format__(self, form: str) -> str:
+        return format(int(self), form) if form else str(self)
+
+
+def _is_bit(number: int) -> bool:
+    return number & (number - 1) == 0
+
 
 class Notice(NamedTuple):
     """What a watch heard."""

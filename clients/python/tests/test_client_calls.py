@@ -282,6 +282,15 @@ class Masks(unittest.TestCase):
         self.assertEqual(Mask.CLOSE, Mask.CLOSE_WRITE | Mask.CLOSE_NOWRITE)
         self.assertEqual(Mask.MOVE, Mask.MOVED_FROM | Mask.MOVED_TO)
 
+    def test_names(self):
+        for mask, name in [
+            (Mask.CREATE, "CREATE"), (Mask.ISDIR | Mask.CREATE, "CREATE|ISDIR"),
+            (Mask.CLOSE, "CLOSE_WRITE|CLOSE_NOWRITE"), (Mask(0), "0x0"),
+            (Mask(0x2001), "ACCESS|0x2000"), (Mask(0x80000000), "ONESHOT"),
+        ]:
+            self.assertEqual((str(mask), f"{mask}"), (name, name))
+        self.assertEqual(f"{Mask.ONESHOT | Mask.ACCESS:08x}", "80000001")
+
 
 if __name__ == "__main__":
     unittest.main()

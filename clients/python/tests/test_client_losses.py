@@ -87,6 +87,12 @@ class Gone(ScriptedCase):
             self.assertEqual(str(lost.exception), "nothing can be asked any more, since the client "
                              "is detached; it was being asked: stat('/')")
 
+    def test_nothing_is_told_of_how_it_was_found(self):
+        with self.client(leaves=True) as c:
+            with self.assertRaises(Disconnected) as lost:
+                c.stat("/")
+            self.assertIsNone(lost.exception.__context__)
+
     def test_why_a_server_was_lost_is_told_later_too(self):
         with self.client(leaves=True) as c:
             self.lost(c, lambda c: c.unlink("/f"), "unlink('/f')")

@@ -4,6 +4,8 @@ import errno
 import io
 import os
 import stat
+import subprocess
+import sys
 import threading
 import unittest
 
@@ -263,6 +265,24 @@ class Refused(unittest.TestCase):
         self.refused(errno.EMFILE, lambda: self.c.open("/f"))
         files[7].close()
         self.assertEqual(self.c.open("/f").descriptor, 7)
+
+
+class Example(unittest.TestCase):
+    PYTHON = real_server.ROOT / "clients" / "python"
+
+    def test_watch_and_change(self):
+        with Server("layer = [{}, {entry = [{path = '/etc', kind = 'dir'}]}]") as server:
+            with server.client():
+                done = subprocess.run(
+                    [sys.executable, self.PYTHON / "examples" / "watch_and_change.py", server.path,
+                     "/etc"], stdout=subprocess.PIPE, text=True, timeout=60, check=True,
+                    env={**os.environ, "PYTHONPATH": str(self.PYTHON)})
+        self.assertEqual(done.stdout.splitlines(), [
+            "/etc/final has 13 bytes", "refused: File exists",
+            "watch 1 heard CREATE of draft", "watch 1 heard MODIFY of draft",
+            "watch 1 heard MOVED_FROM of draft, of rename 1",
+            "watch 1 heard MOVED_TO of final, of rename 1", "removed: True, again: False",
+            "their places in the history rise: True", "watch 1 heard DELETE of final"])
 
 
 class Scripts(unittest.TestCase):
