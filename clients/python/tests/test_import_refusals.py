@@ -13,7 +13,7 @@ from . import import_tools as tools
 from .import_tools import Member, directory, file, tar_of
 
 PYTHON = str(Path(__file__).resolve().parents[1])
-COMMAND = [sys.executable, "-m", "overlayd.importer.command"]
+COMMAND = [sys.executable, "-m", "overlayd.importer"]
 MISSING = Member("sub/lost", tarfile.LNKTYPE, link="nowhere")
 LONG = "n" * 250 + "/"
 # What is left out of a tar, and the line that tells it behind the tar's name.

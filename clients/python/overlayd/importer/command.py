@@ -168,7 +168,3 @@ def main(arguments: Optional[List[str]] = None) -> int:
     except KeyboardInterrupt:
         report.end("interrupted")
         return 130
-
-
-if __name__ == "__main__":
-    sys.exit(main())

@@ -1,26 +1,29 @@
 """Writes manifests, entry by entry."""
 
 import re
+from binascii import hexlify
 from typing import BinaryIO, Dict, List, Optional, Tuple
 
+from .limits import text_of
 from .objects import Content, Directory, File, Inode, Object, Symlink, Whiteout, walk
 from .telling import Report
 
-_CONTROLS = re.compile("[\x00-\x08\x0b-\x1f\x7f]")
+_CONTROLS = bytes(set(range(0x20)) - set(b"\n\t")) + b"\x7f"
+_ONE_CONTROL = re.compile(b"[" + re.escape(_CONTROLS) + b"]")
 
 
-def _escaped(text: str) -> str:
-    """The inside of a TOML text."""
-    text = text.replace("\\", "\\\\").replace('"', '\\"')
-    text = text.replace("\n", "\\n").replace("\t", "\\t")
-    if _CONTROLS.search(text):
-        text = _CONTROLS.sub(lambda found: "\\u%04x" % ord(found.group()), text)
-    return text
+def _escaped(raw: bytes) -> bytes:
+    """The inside of a TOML text, of bytes that are UTF-8."""
+    raw = raw.replace(b"\\", b"\\\\").replace(b'"', b'\\"')
+    raw = raw.replace(b"\n", b"\\n").replace(b"\t", b"\\t")
+    if len(raw.translate(None, _CONTROLS)) < len(raw):
+        raw = _ONE_CONTROL.sub(lambda found: b"\\u%04x" % ord(found.group()), raw)
+    return raw
 
 
 def quoted(text: str) -> str:
     """A TOML text."""
-    return f'"{_escaped(text)}"'
+    return f'"{_escaped(text.encode("utf-8")).decode("utf-8")}"'
 
 
 def bytes_line(data: bytes) -> bytes:
@@ -29,13 +32,11 @@ def bytes_line(data: bytes) -> bytes:
         return b""
     if not data.strip(b"\0"):
         return b"zeros = %d\n" % len(data)
-    try:
-        text = _escaped(data.decode("utf-8")).encode("utf-8")
-    except UnicodeDecodeError:
-        text = None
-    if text is not None and len(text) <= 2 * len(data):
-        return b'text = "%b"\n' % text
-    return b'hex = "%b"\n' % data.hex().encode("ascii")
+    if text_of(data) is not None:
+        text = _escaped(data)
+        if len(text) <= 2 * len(data):
+            return b'text = "%b"\n' % text
+    return b'hex = "%b"\n' % hexlify(data)
 
 
 class ManifestWriter:
