@@ -3,6 +3,7 @@
 from __future__ import annotations
 
 import collections
+import contextlib
 import errno
 import os
 import socket
@@ -186,12 +187,9 @@ class Client:
     def close(self) -> None:
         """Detaches, unless that is done or the server is gone, which detaches the client too."""
         with self._lock:
-            if self._stream is None:
-                return
-            try:
-                self.detach()
-            except OSError:
-                self._drop("it was closed")
+            if self._stream is not None:
+                with contextlib.suppress(OSError):
+                    self.detach()
 
     # By path.
 

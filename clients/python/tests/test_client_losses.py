@@ -72,6 +72,13 @@ class Gone(ScriptedCase):
             self.lost(c, lambda _: file.close(), "close(0) on '/f'")
             self.assertTrue(file.closed)
 
+    def test_a_server_that_goes_away_between_the_pieces_of_a_write(self):
+        piece = h("00010009 11 00000000 00010000") + bytes(65_536)
+        with self.client(("0000000a 0b 02 000001a4 0002 2f66", OPENED),
+                         (piece, "0000000d 00 0000000000000004 00010000"), leaves=True) as c:
+            file = c.open("/f", os.O_RDWR)
+            self.lost(c, lambda _: file.write(bytes(70_000)), "write(0, 4464 bytes) on '/f'")
+
     def test_closing_a_client_whose_server_is_gone_is_no_error(self):
         with self.client(leaves=True) as c:
             c.close()

@@ -177,10 +177,19 @@ class Pipelines(ScriptedCase):
                 batch.add(calls.detach())
             self.assertTrue(c.closed)
 
+    def test_much_to_a_server_that_reads_all_before_it_answers(self):
+        asked = (h("00010009 11 00000001 00010000") + bytes(65_536)) * 20
+        answer = h("0000000d 00 0000000000000004 00010000") * 20
+        with self.client((asked, answer)) as c:
+            with c.pipeline() as batch:
+                noted = [batch.write(1, bytes(65_536)) for _ in range(20)]
+            self.assertEqual([pending.result() for pending in noted], [65_536] * 20)
+
     def test_much_in_both_directions(self):
         """More than the sockets hold, to a server that writes each reply before it reads on."""
         count = 60
         near, far = socket.socketpair()
+        far.setsockopt(socket.SOL_SOCKET, socket.SO_SNDBUF, 4_096)
 
         def serve():
             with far:
