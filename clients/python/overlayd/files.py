@@ -95,10 +95,9 @@ class File(io.RawIOBase):
         """All bytes from the place to the end of the file."""
         pieces: List[bytes] = []
         while True:
-            piece = self._call(calls.read(self.descriptor, READ_LIMIT))
-            if not piece:
+            pieces.append(self._call(calls.read(self.descriptor, READ_LIMIT)))
+            if len(pieces[-1]) < READ_LIMIT:
                 return b"".join(pieces)
-            pieces.append(piece)
 
     def readinto(self, buffer: Any) -> int:
         """Fills a buffer from the place, as far as the file goes; how many bytes came."""

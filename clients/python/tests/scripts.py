@@ -94,22 +94,22 @@ def played_through(attached, script):
                 lines.append(f"client {len(clients)}")
                 clients.append(attached())
                 continue
-            first, name, *words = command.split(" ")
-            number = int(first)
-            client = clients[number]
-            if name == "detach":
-                client.detach()
-                lines.append(f"{number} detached")
-                continue
-            lines.append(_line(client, number, name, words))
+            number = int(command.split(" ")[0])
+            lines.append(line_of(clients[number], command))
     finally:
         for client in clients:
             client.close()
     return lines
 
 
-def _line(client, number, name, words):
+def line_of(client, command):
+    """Makes the call of a command by a client; the line that `play` prints for it."""
+    digits, name, *words = command.split(" ")
+    number = int(digits)
     try:
+        if name == "detach":
+            client.detach()
+            return f"{number} detached"
         result = client.call(_CALLS[name](*words))
     except OSError as error:
         if isinstance(error, ConnectionError):

@@ -130,9 +130,12 @@ class Reading(FileCase):
     def test_all_bytes(self):
         data = bytes(range(256)) * 300
         for size in ((), (-1,), (None,)):
-            with self.file(reading(65_536, data[:65_536]), reading(65_536, data[65_536:]),
-                           reading(65_536, b"")) as file:
+            with self.file(reading(65_536, data[:65_536]), reading(65_536, data[65_536:])) as file:
                 self.assertEqual(file.read(*size), data)
+            with self.file(reading(65_536, data[:65_536]), reading(65_536, b"")) as file:
+                self.assertEqual(file.read(*size), data[:65_536])
+            with self.file(reading(65_536, b"")) as file:
+                self.assertEqual(file.read(*size), b"")
 
     def test_into_a_buffer(self):
         with self.file(reading(5, b"abc"), reading(2, b"de")) as file:

@@ -3,6 +3,7 @@
 import errno
 import io
 import os
+import random
 import stat
 import subprocess
 import sys
@@ -283,6 +284,51 @@ class Example(unittest.TestCase):
             "watch 1 heard MOVED_FROM of draft, of rename 1",
             "watch 1 heard MOVED_TO of final, of rename 1", "removed: True, again: False",
             "their places in the history rise: True", "watch 1 heard DELETE of final"])
+
+
+class History(unittest.TestCase):
+    """What several clients are answered at once is one run, in the order of its places."""
+
+    PATHS = ["/", "/d", "/d/x", "/e", "/e/y", "/f", "/s", "/n", "/n/x"]
+    CALLS = [
+        "stat P", "readlink P", "chmod 600 P", "chown 1 2 P", "setattr P user.a v", "attrs P",
+        "getattr P user.a", "delattr P user.a", "mkdir 755 P", "symlink t P", "link P P",
+        "rename P P", "unlink P", "rmdir P", "open b P", "open wc P", "open rd P", "open wt P",
+        "read D 9", "write D some", "seek D 1 set", "truncate D 3", "fstat D", "list D 9",
+        "close D", "arm 0 fff P", "arm 1 fff P", "disarm 1", "notices 65",
+    ]
+
+    def command(self, chance):
+        """A call that chance gives, on few names, so that clients meet."""
+        words = chance.choice(self.CALLS).split(" ")
+        given = {"P": lambda: chance.choice(self.PATHS), "D": lambda: str(chance.randrange(3))}
+        return " ".join(given[word]() if word in given else word for word in words)
+
+    def work(self, client, number, log):
+        chance = random.Random(number)
+        commands = [f"{number} {self.command(chance)}" for _ in range(300)]
+        for command in [*commands, f"{number} detach"]:
+            line = scripts.line_of(client, command)
+            log.append((client.last_place, command, line))
+
+    def test_replies_are_those_of_one_run(self):
+        log = []
+        with Server(ONE_OF_EACH) as server:
+            clients = [server.client() for _ in range(4)]
+            threads = [threading.Thread(target=self.work, args=(client, number, log))
+                       for number, client in enumerate(clients)]
+            for thread in threads:
+                thread.start()
+            for thread in threads:
+                thread.join(60)
+        log.sort()
+        self.assertEqual(len({place for place, _, _ in log}), 4 * 301)
+        script = ["attach"] * 4 + [command for _, command, _ in log]
+        printed, status = real_server.played(ONE_OF_EACH, script)
+        self.assertEqual(status, 0)
+        for (place, command, line), wanted in zip(log, printed[4:]):
+            self.assertEqual(line, wanted, f"{command} at place {place}")
+        self.assertEqual(len(printed), len(script))
 
 
 class Scripts(unittest.TestCase):
