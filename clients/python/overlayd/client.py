@@ -116,8 +116,8 @@ class Client:
                 raise RuntimeError("a call inside another one, by a signal's handler or collector")
             left = self._left_open
             closes = [Pending(calls.close(left.popleft())) for _ in range(len(left))]
-            self._busy = True
             try:
+                self._busy = True
                 self._exchange([*closes, *batch])
             finally:
                 self._busy = False
@@ -133,7 +133,8 @@ class Client:
                 self._drop("the client is detached")
         except BaseException as error:
             self._give_up(error, batch[settled:])
-            if settled == len(batch) or not isinstance(error, Disconnected):
+            # Refusals stay in their calls, so that an OSError here is the connection's.
+            if settled == len(batch) or not isinstance(error, OSError):
                 raise
         if settled < len(batch):
             batch[settled].result()

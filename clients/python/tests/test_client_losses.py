@@ -79,6 +79,12 @@ class Gone(ScriptedCase):
             file = c.open("/f", os.O_RDWR)
             self.lost(c, lambda _: file.write(bytes(70_000)), "write(0, 4464 bytes) on '/f'")
 
+    def test_a_socket_that_fails_is_no_refusal(self):
+        near, far = socket.socketpair()
+        with far, Client.from_socket(near) as c:
+            near.close()
+            self.lost(c, lambda c: c.unlink("/f"), "unlink('/f')")
+
     def test_closing_a_client_whose_server_is_gone_is_no_error(self):
         with self.client(leaves=True) as c:
             c.close()
