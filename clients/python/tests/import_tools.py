@@ -7,10 +7,12 @@ import io
 import json
 import os
 import subprocess
+import sys
 import tarfile
 import tempfile
+import unittest
 from pathlib import Path
-from typing import Any, Dict, Iterable, List, NamedTuple, Optional, Sequence, Union
+from typing import Any, Dict, Iterable, List, NamedTuple, NoReturn, Optional, Sequence, Union
 
 from overlayd.importer.command import main
 
@@ -35,6 +37,13 @@ def run_import(*words: str) -> Run:
         manifest = output.read_text("utf-8") if output.exists() else ""
         assert os.listdir(folder) == (["manifest.toml"] if status == 0 else [])
     return Run(status, manifest, errors.getvalue().splitlines())
+
+
+def import_to(manifest: Path, words: Sequence[str]) -> None:
+    """Imports what must not fail, and says nothing."""
+    with contextlib.redirect_stderr(io.StringIO()) as errors:
+        status = main([*words, "-q", "-o", str(manifest)])
+    assert status == 0, errors.getvalue()
 
 
 class Member(NamedTuple):
@@ -106,6 +115,12 @@ def write_layout(folder: Path, layers: Sequence[bytes], platform: str = "linux/a
     blobs = [put(gzip.compress(layer, mtime=0)) for layer in layers]
     manifest = put(json.dumps({"config": config, "layers": blobs}).encode())
     (folder / "index.json").write_text(json.dumps({"manifests": [manifest]}))
+
+
+def skip(test: str, reason: str) -> NoReturn:
+    """Skips a test with a line that says why."""
+    print(f"skipped: {test}: {reason}", file=sys.stderr)
+    raise unittest.SkipTest(reason)
 
 
 def overlayd() -> Optional[str]:

@@ -139,12 +139,12 @@ class UpperTest(unittest.TestCase):
     def test_upper(self) -> None:
         """Whiteouts as devices, the opaque mark, modes, owners and bytes."""
         if os.geteuid() != 0:
-            self.skipTest("only root makes whiteouts")
+            tools.skip(self.id(), "only root makes whiteouts")
         upper = self.folder / "upper"
         try:
             write_upper(changes(LOWER, MOUNTED), MOUNTED, str(upper))
         except PermissionError as error:
-            self.skipTest(f"an upper can't be made here: {error}")
+            tools.skip(self.id(), f"an upper can't be made here: {error}")
         self.assertEqual(os.listdir(self.folder), ["upper"])
         gone = (upper / "bin" / "old").stat()
         self.assertTrue(stat.S_ISCHR(gone.st_mode))
@@ -182,7 +182,7 @@ class KernelTest(unittest.TestCase):
     def setUpClass(cls) -> None:
         reason = kernel.why_not()
         if reason is not None:
-            raise unittest.SkipTest(reason)
+            tools.skip(f"{cls.__module__}.{cls.__name__}", reason)
 
     def setUp(self) -> None:
         folder = tempfile.TemporaryDirectory()
@@ -265,8 +265,7 @@ class KernelTest(unittest.TestCase):
         finally:
             kernel.unmount(base)
         manifest = base / "manifest.toml"
-        words = ["-q", "-o", str(manifest), str(base / "layer.tar"), str(base / "low")]
-        self.assertEqual(tools.main(words), 0)
+        tools.import_to(manifest, [str(base / "layer.tar"), str(base / "low")])
         program = tools.overlayd() or ""
         self.assertEqual(tools.show(program, manifest), lines)
         self.assertEqual(tools.play(program, manifest, "\n".join(answers[0])), answers[1])

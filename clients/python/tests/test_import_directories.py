@@ -5,6 +5,7 @@ import os
 import tempfile
 import unittest
 from pathlib import Path
+from typing import List
 
 from . import import_tools as tools
 
@@ -32,17 +33,20 @@ class DirectoryTest(unittest.TestCase):
         try:
             os.setxattr(path, name, value, follow_symlinks=False)
         except AttributeError:
-            self.skipTest("this system has no extended attributes")
+            tools.skip(self.id(), "this system has no extended attributes")
         except OSError as error:
             if error.errno not in (errno.ENOTSUP, errno.EPERM):
                 raise
-            self.skipTest(f"{name} can't be set here")
+            tools.skip(self.id(), f"{name} can't be set here")
 
-    def layers(self, run: tools.Run) -> list:
-        """The text of each layer; nothing failed."""
+    def layers(self, run: tools.Run) -> List[str]:
+        """The text of each layer, without the test's own owner; nothing failed."""
         self.assertEqual(run.status, 0, run.errors)
-        layers = run.manifest.split("[[layer]]\n")[1:]
-        return [layer.replace(self.owner, "").strip() for layer in layers]
+        manifest = run.manifest
+        if self.owner:
+            root = '[[layer.entry]]\npath = "/"\nkind = "dir"\n'
+            manifest = manifest.replace(self.owner, "").replace(root, "")
+        return [layer.strip() for layer in manifest.split("[[layer]]\n")[1:]]
 
     def test_plain_directory(self) -> None:
         """Modes, names by their bytes, links, and an empty upper over it."""
@@ -108,7 +112,8 @@ attrs = [["user.a", "é\n"], ["user.b", "2"]]""")
         self.assertEqual(run.errors, [
             f"{where} user.bad: its value isn't UTF-8",
             f"{where} user.long: its value is longer than 1,024 bytes",
-            "overlayd-import: 2 layers, 1 objects, 0 bytes; 2 left out (2 attributes)"])
+            f"overlayd-import: 2 layers, {3 if self.owner else 1} objects, 0 bytes; 2 left out "
+            "(2 attributes)"])
 
     def test_user_marks(self) -> None:
         """The marks of overlayfs with `user.` before them."""
@@ -183,12 +188,12 @@ text = "x\"""".replace(r'\"', '"'))
     def test_devices(self) -> None:
         """0/0 is a whiteout; other devices are told."""
         if os.getuid() != 0:
-            self.skipTest("only root makes devices")
+            tools.skip(self.id(), "only root makes devices")
         try:
             os.mknod(self.upper / "gone", 0o20000, 0)
             os.mknod(self.upper / "null", 0o20666, os.makedev(1, 3))
         except PermissionError:
-            self.skipTest("devices can't be made here")
+            tools.skip(self.id(), "devices can't be made here")
         run = tools.run_import(str(self.upper), str(self.lower))
         self.assertEqual(self.layers(run)[0], """[[layer.entry]]
 path = "/gone"
@@ -219,6 +224,6 @@ kind = "whiteout\"""".replace(r'\"', '"'))
             handle = below
         os.close(handle)
         self.addCleanup(os.removedirs, f"{self.lower}{'/d' * 1500}")
-        run = tools.run_import(str(self.lower))
-        self.assertEqual(run.manifest.count('kind = "dir"'), 1500)
-        self.assertIn(f'path = "{"/d" * 1500}"', run.manifest)
+        layer = self.layers(tools.run_import(str(self.lower)))[1]
+        self.assertEqual(layer.count('kind = "dir"'), 1500)
+        self.assertIn(f'path = "{"/d" * 1500}"', layer)

@@ -183,7 +183,7 @@ class KernelTest(unittest.TestCase):
     def setUpClass(cls) -> None:
         reason = why_not()
         if reason is not None:
-            raise unittest.SkipTest(reason)
+            tools.skip(f"{cls.__module__}.{cls.__name__}", reason)
         cls.program = tools.overlayd() or ""
 
     def stack(self, folder: Path, seed: int, uppers: int, changes: int) -> List[str]:
@@ -209,9 +209,7 @@ class KernelTest(unittest.TestCase):
         """Imports the layers, and compares what the program shows with what the kernel shows; how
         many objects there are."""
         manifest = folder / "manifest.toml"
-        words = [str(folder / layer) for layer in layers]
-        status = tools.main([*words, "--quiet", "-o", str(manifest)])
-        self.assertEqual(status, 0)
+        tools.import_to(manifest, [str(folder / layer) for layer in layers])
         root = str(folder / "m")
         self.assertEqual(mount(folder, f"lowerdir={':'.join(layers)},{OPTIONS}"), 0)
         try:

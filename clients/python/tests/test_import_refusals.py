@@ -1,6 +1,7 @@
 """What a manifest can't carry: told, or refused by --strict; and the command's own manners."""
 
 import os
+import re
 import subprocess
 import sys
 import tarfile
@@ -122,15 +123,17 @@ kind = "file"
         try:
             os.mkdir(os.fsencode(top) + b"/\xff")
         except OSError:
-            self.skipTest("this file system has UTF-8 names alone")
+            tools.skip(self.id(), "this file system has UTF-8 names alone")
         Path(os.fsdecode(os.fsencode(top) + b"/\xff/in")).touch()
         run = tools.run_import(str(top))
         where = f"overlayd-import: left out: {top}: "
+        # the roots are entries where they don't belong to 0:0
+        roots = 2 if (os.getuid(), os.getgid()) != (0, 0) else 0
         self.assertEqual(run.errors, [
             f"{where}/fifo: a fifo",
             f"{where}/large: a file of 1,048,577 bytes; at most 1,048,576 fit",
             f"{where}/\\xff: its name isn't UTF-8, and all in it",
-            "overlayd-import: 2 layers, 1 objects, 1,048,576 bytes; 3 left out "
+            f"overlayd-import: 2 layers, {roots + 1} objects, 1,048,576 bytes; 3 left out "
             "(1 names and targets, 1 of another kind, 1 over the limit)"])
         self.assertIn("zeros = 1048576", run.manifest)
         self.assertEqual(tools.run_import(str(top), "--strict").errors,
@@ -203,8 +206,7 @@ class CommandTest(unittest.TestCase):
         """The unfinished manifest is no part of the directory that is imported."""
         self.assertEqual(self.run_command(".", "-o", "m.toml").returncode, 0)
         manifest = (self.folder / "m.toml").read_text()
-        self.assertEqual(manifest.count("[[layer.entry]]"), 1)
-        self.assertIn('path = "/layer.tar"', manifest)
+        self.assertEqual(re.findall('path = "(/.+)"', manifest), ["/layer.tar"])
 
     def test_nobody_reads(self) -> None:
         """A closed standard output is a failure with one line."""

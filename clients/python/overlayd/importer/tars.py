@@ -126,6 +126,8 @@ def _read(stream: BinaryIO, size: int, stretches: Holes) -> bytes:
         return data
     whole = bytearray(size)
     for start, length in stretches:
+        if not 0 <= start <= start + length <= size:
+            raise tarfile.ReadError("a stretch of a sparse file lies outside of it")
         whole[start:start + length] = _read(stream, length, None)
     return bytes(whole)
 
