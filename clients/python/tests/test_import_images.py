@@ -2,7 +2,9 @@
 
 import bz2
 import gzip
+import io
 import lzma
+import sys
 import tarfile
 import tempfile
 import unittest
@@ -292,6 +294,66 @@ kind = "file"
 text = "4"
 """)
         self.assertEqual(run.manifest, "\n".join(expected))
+
+    def test_two_copies_of_one_file(self) -> None:
+        """Of layers that are made one, two files come from one place of a compressed tar."""
+        layers = [[file("a", b"one"), file("z", b"zzz")], [link("b", "a")],
+                  [file(".wh.a"), link("c", "a")]]
+        layers += [[directory("top/")] for _ in range(15)]
+        write_layout(self.folder / "layout", [tar_of(members) for members in layers])
+        run = tools.run_import(str(self.folder / "layout"))
+        self.assertEqual(run.status, 0, run.errors)
+        self.assertEqual(run.manifest.split("[[layer]]\n")[-1], """
+[[layer.entry]]
+path = "/b"
+kind = "file"
+text = "one"
+
+[[layer.entry]]
+path = "/c"
+kind = "file"
+text = "one"
+
+[[layer.entry]]
+path = "/z"
+kind = "file"
+text = "zzz"
+""")
+
+    def test_an_upper_over_an_image(self) -> None:
+        """The layers of an image are lower ones where it isn't the first source; a tar takes what
+        it leaves out from a directory below."""
+        image = self.put("image.tar", saved_image([tar_of([file("low")])]))
+        upper = self.put("upper.tar", tar_of([file("d/up")]))
+        (self.folder / "plain" / "d").mkdir(parents=True)
+        (self.folder / "plain" / "d").chmod(0o1777)
+        self.assertEqual(
+            tools.run_import(upper, image).manifest.split("[[layer]]\n"),
+            ["", '\n[[layer.entry]]\npath = "/d"\nkind = "dir"\n'
+                 '\n[[layer.entry]]\npath = "/d/up"\nkind = "file"\n\n',
+             '\n[[layer.entry]]\npath = "/low"\nkind = "file"\n'])
+        self.assertIn('path = "/d"\nkind = "dir"\nmode = 0o1777\n',
+                      tools.run_import(upper, str(self.folder / "plain")).manifest.split(
+                          "[[layer]]\n")[1])
+
+    def test_zstd(self) -> None:
+        """A form that Python can't read is refused by its name."""
+        if sys.version_info >= (3, 14):
+            tools.skip(self.id(), "this Python reads zstd")
+        path = self.put("layer.tar.zst", b"\x28\xb5\x2f\xfd" + b"x" * 1000)
+        self.assertEqual(tools.run_import(path), tools.Run(1, "", [
+            f"overlayd-import: {path}: compressed by zstd, which this Python can't read"]))
+
+    def test_sparse(self) -> None:
+        """The stretches of a sparse file stand at their places."""
+        info = tarfile.TarInfo("s")
+        info.size = 5
+        info.pax_headers = {"GNU.sparse.map": "2,3,7,2", "GNU.sparse.size": "10",
+                            "GNU.sparse.numblocks": "2"}
+        path = str(self.folder / "sparse.tar")
+        with tarfile.open(path, "w", format=tarfile.PAX_FORMAT) as tar:
+            tar.addfile(info, io.BytesIO(b"abcde"))
+        self.assertIn('hex = "000061626300006465' + '00"', tools.run_import(path).manifest)
 
     def test_opaque_root(self) -> None:
         """A layer whose root is opaque hides all layers below it."""

@@ -14,6 +14,7 @@ from . import import_tools as tools
 
 SEEDS = 50
 OPTIONS = "redirect_dir=on,index=off,xino=off,metacopy=off"
+USER_OPTIONS = "userxattr,index=off,xino=off"
 NAMES = ["a", "b", "c", "d", "e", "a b", "\u00e9", "f\\g"]
 
 
@@ -186,7 +187,8 @@ class KernelTest(unittest.TestCase):
             tools.skip(f"{cls.__module__}.{cls.__name__}", reason)
         cls.program = tools.overlayd() or ""
 
-    def stack(self, folder: Path, seed: int, uppers: int, changes: int) -> List[str]:
+    def stack(self, folder: Path, seed: int, uppers: int, changes: int,
+              kept: str = OPTIONS) -> List[str]:
         """Makes a base and so many uppers over it, each by changes of a mount; the layers' names,
         the highest first."""
         for name in ("m", "0"):
@@ -198,20 +200,19 @@ class KernelTest(unittest.TestCase):
             upper, work = str(number), f"w{number}"
             (folder / upper).mkdir()
             (folder / work).mkdir()
-            options = f"lowerdir={':'.join(layers)},upperdir={upper},workdir={work},{OPTIONS}"
+            options = f"lowerdir={':'.join(layers)},upperdir={upper},workdir={work},{kept}"
             self.assertEqual(mount(folder, options), 0)
             Changes(str(folder / "m"), seed * 100 + number).make(changes)
             unmount(folder)
             layers.insert(0, upper)
         return layers
 
-    def compare(self, folder: Path, layers: List[str]) -> int:
-        """Imports the layers, and compares what the program shows with what the kernel shows; how
-        many objects there are."""
+    def compare(self, folder: Path, layers: List[str], kept: str = OPTIONS) -> None:
+        """Imports the layers, and compares what the program shows with what the kernel shows."""
         manifest = folder / "manifest.toml"
         tools.import_to(manifest, [str(folder / layer) for layer in layers])
         root = str(folder / "m")
-        self.assertEqual(mount(folder, f"lowerdir={':'.join(layers)},{OPTIONS}"), 0)
+        self.assertEqual(mount(folder, f"lowerdir={':'.join(layers)},{kept}"), 0)
         try:
             paths = paths_below(root)
             lines = [object_line(root, path) for path in paths]
@@ -220,13 +221,19 @@ class KernelTest(unittest.TestCase):
             unmount(folder)
         self.assertEqual(tools.show(self.program, manifest), lines)
         self.assertEqual(tools.play(self.program, manifest, "\n".join(script)), answers)
-        return len(lines)
 
     def test_two_layers(self) -> None:
         """An upper over a base."""
         for seed in range(SEEDS):
             with self.subTest(seed=seed), tempfile.TemporaryDirectory() as name:
                 self.compare(Path(name), self.stack(Path(name), seed, 1, 60))
+
+    def test_marks_of_users(self) -> None:
+        """An upper whose marks are `user.` attributes."""
+        for seed in range(10):
+            with self.subTest(seed=seed), tempfile.TemporaryDirectory() as name:
+                layers = self.stack(Path(name), seed, 1, 60, USER_OPTIONS)
+                self.compare(Path(name), layers, USER_OPTIONS)
 
     def test_many_layers(self) -> None:
         """19 uppers over a base, of which the lowest four layers are made one."""

@@ -82,19 +82,26 @@ def _history(text: str) -> int:
 
 
 class Output:
-    """A file that appears when it is whole, or standard output."""
+    """A file that appears when it is whole; or a stream, which with `waits` gets the manifest when
+    it is whole."""
 
     def __init__(self, path: str, waits: bool) -> None:
         self._path = path
-        self._is_standard = path == "-"
-        self._waits = waits
-        self.stream = self._opened()
+        self._partial = ""
+        self._final: Optional[BinaryIO] = None
+        if path == "-":
+            self._final = cast(BinaryIO, sys.stdout.buffer)
+        elif os.path.exists(path) and not os.path.isfile(path):
+            self._final = open(path, "wb")
+        if self._final is None:
+            self.stream = self._beside()
+        elif waits:
+            self.stream = cast(BinaryIO, tempfile.TemporaryFile(prefix=f"{PROGRAM}-"))
+        else:
+            self.stream = self._final
 
-    def _opened(self) -> BinaryIO:
-        if self._is_standard:
-            if not self._waits:
-                return cast(BinaryIO, sys.stdout.buffer)
-            return cast(BinaryIO, tempfile.TemporaryFile(prefix=f"{PROGRAM}-"))
+    def _beside(self) -> BinaryIO:
+        """A file with another name in the same folder."""
         folder, name = os.path.split(self._path)
         try:
             descriptor, self._partial = tempfile.mkstemp(
@@ -105,28 +112,28 @@ class Output:
 
     def identities(self) -> Set[Identity]:
         """The unfinished file, which no source should be read to have."""
-        if self._is_standard:
+        if not self._partial:
             return set()
         status = os.fstat(self.stream.fileno())
         return {(status.st_dev, status.st_ino)}
 
     def keep(self) -> None:
         """The manifest is whole."""
-        self.stream.flush()
-        if not self._is_standard:
+        if self._final is None:
             mask = os.umask(0)
             os.umask(mask)
             os.fchmod(self.stream.fileno(), 0o666 & ~mask)
             self.stream.close()
             os.replace(self._partial, self._path)
-        elif self._waits:
+            return
+        if self.stream is not self._final:
             self.stream.seek(0)
-            shutil.copyfileobj(self.stream, sys.stdout.buffer, 1 << 20)
-            sys.stdout.buffer.flush()
+            shutil.copyfileobj(self.stream, self._final, 1 << 20)
+        self._final.flush()
 
     def drop(self) -> None:
         """It isn't; nothing of it stays."""
-        if not self._is_standard:
+        if self._partial:
             self.stream.close()
             os.unlink(self._partial)
 

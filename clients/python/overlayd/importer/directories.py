@@ -5,6 +5,7 @@ import stat
 from typing import Dict, Iterable, Iterator, List, NamedTuple, Optional, Set, Tuple, Union
 
 from . import limits, marks
+from .merging import Layer
 from .objects import WHITEOUT, Content, Directory, File, Object, Symlink
 from .telling import ATTRIBUTE, OTHER_KIND, OVER_LIMIT, UNSAYABLE, Refused, Report, shown
 from .writing import LayerWriter, write_tree
@@ -36,7 +37,7 @@ class _Open(NamedTuple):
     node: Directory
 
 
-class DirectoryLayer(Content):
+class DirectoryLayer(Content, Layer):
     """A directory of the file system as a layer."""
 
     def __init__(self, path: str, report: Report, skip: Set[Identity]) -> None:

@@ -1,12 +1,33 @@
 """What layers show together, by the rules of overlayfs."""
 
-from typing import Callable, List, Optional, Sequence, Tuple, cast
+from typing import List, Optional, Sequence, Tuple, cast
 
 from .objects import Directory, Names, Object, Whiteout
 
-Tree = Callable[[], Directory]
 Found = Tuple[int, Object]
 Place = Tuple[int, Directory]
+
+
+class Layer:
+    """What a layer has, looked for when it is needed."""
+
+    def tree(self) -> Directory:
+        """All that stands in it, without bytes."""
+        raise NotImplementedError
+
+    def root(self) -> Directory:
+        """The root, of which nothing but its own attributes is asked."""
+        return self.tree()
+
+
+class TreeLayer(Layer):
+    """A layer of which the tree is there."""
+
+    def __init__(self, root: Directory) -> None:
+        self._root = root
+
+    def tree(self) -> Directory:
+        return self._root
 
 
 class _Goal:
@@ -52,18 +73,18 @@ class _Goal:
 class Merge:
     """Layers, the highest first; their trees are asked for when they are needed."""
 
-    def __init__(self, trees: Sequence[Tree]) -> None:
-        self._trees = list(trees)
+    def __init__(self, layers: Sequence[Layer]) -> None:
+        self._layers = list(layers)
 
     def under(self, root: Directory) -> "Merge":
         """The same layers with one more above them."""
-        return Merge([lambda: root, *self._trees])
+        return Merge([TreeLayer(root), *self._layers])
 
-    def roots(self, first: int = 0) -> List[Place]:
-        """The roots of the layers from `first` on, down to one that hides those below it."""
+    def roots(self) -> List[Place]:
+        """The roots of the layers, down to one that hides those below it."""
         places = []
-        for index in range(first, len(self._trees)):
-            root = self._trees[index]()
+        for index, layer in enumerate(self._layers):
+            root = layer.tree()
             places.append((index, root))
             if root.opaque:
                 break
@@ -89,8 +110,7 @@ class Merge:
         return found
 
     def _roots_below(self, index: int) -> List[Place]:
-        above = self.roots()
-        return [place for place in above if place[0] > index]
+        return [place for place in self.roots() if place[0] > index]
 
     def places(self, names: Names) -> List[Place]:
         """The directories that are merged at these names; nothing where there is no directory."""
@@ -105,24 +125,22 @@ class Merge:
     def lookup(self, names: Names) -> Optional[Object]:
         """What the mount shows at these names."""
         if not names:
-            roots = self.roots()
-            return roots[0][1] if roots else None
+            return self._layers[0].root() if self._layers else None
         found = self.child(self.places(names[:-1]), names[-1])
         return found[0][1] if found else None
 
     def below(self, names: Names) -> Optional[Object]:
         """What the layers below the first one have where it has these names."""
         if not names:
-            roots = self.roots(1)
-            return roots[0][1] if roots else None
+            return self._layers[1].root() if len(self._layers) > 1 else None
         under = [place for place in self.places(names[:-1]) if place[0] > 0]
         found = self.child(under, names[-1])
         return found[0][1] if found else None
 
 
-def flatten(trees: Sequence[Tree]) -> Directory:
+def flatten(layers: Sequence[Layer]) -> Directory:
     """One layer that shows what these layers show, the highest first, with nothing below them."""
-    merge = Merge(trees)
+    merge = Merge(layers)
     places = merge.roots()
     root = _bare(places[0][1])
     todo = [(root, places)]

@@ -8,33 +8,14 @@ from . import limits
 from .blobs import Blob
 from .directories import DirectoryLayer, Identity
 from .images import Choice, DirectoryArchive, archive_in, layers_of
-from .merging import Merge, flatten
+from .merging import Merge, TreeLayer, flatten
 from .objects import Directory
 from .tars import TarLayer
 from .telling import Refused, Report, shown
 from .writing import LayerWriter, ManifestWriter, write_tree
 
 
-class TreeLayer:
-    """A layer that was put together here."""
-
-    def __init__(self, root: Directory) -> None:
-        self._root = root
-
-    def tree(self) -> Directory:
-        """All that stands in it."""
-        return self._root
-
-    def root(self) -> Directory:
-        """The root."""
-        return self._root
-
-    def write(self, layer: LayerWriter) -> None:
-        """Writes the layer."""
-        write_tree(layer, self._root)
-
-
-Layer = Union[DirectoryLayer, TarLayer, TreeLayer]
+Writable = Union[DirectoryLayer, TarLayer, TreeLayer]
 Source = Union[str, Blob]
 
 
@@ -72,7 +53,7 @@ def _sources(text: str, choice: Choice) -> Tuple[List[Source], bool]:
     return [blob], False
 
 
-def plan(wish: Wish, report: Report, skip: Set[Identity]) -> List[Layer]:
+def plan(wish: Wish, report: Report, skip: Set[Identity]) -> List[Writable]:
     """The layers of the manifest: an upper and 1 to 16 lower ones."""
     found: List[Source] = []
     needs_upper = wish.empty_upper
@@ -85,8 +66,7 @@ def plan(wish: Wish, report: Report, skip: Set[Identity]) -> List[Layer]:
     if lowers > limits.LOWERS_MOST:
         count = lowers - limits.LOWERS_MOST + 1
         report.note(f"{lowers} lower layers, of which 16 fit: the lowest {count} are made one")
-        trees = [layer.tree for layer in layers[-count:]]
-        layers[-count:] = [TreeLayer(flatten(trees))]
+        layers[-count:] = [TreeLayer(flatten(layers[-count:]))]
     if needs_upper or len(layers) == 1:
         layers.insert(0, TreeLayer(_empty_over(layers[:1])))
     if len(layers) == 1:
@@ -94,13 +74,13 @@ def plan(wish: Wish, report: Report, skip: Set[Identity]) -> List[Layer]:
     return layers
 
 
-def _layers(sources: List[Source], report: Report, skip: Set[Identity]) -> List[Layer]:
+def _layers(sources: List[Source], report: Report, skip: Set[Identity]) -> List[Writable]:
     """The layers of the sources, the highest first, down to one that hides all below it."""
-    layers: List[Layer] = []
+    layers: List[Writable] = []
     for source in reversed(sources):
-        layer: Layer
+        layer: Writable
         if isinstance(source, Blob):
-            layer = TarLayer(source, report, Merge([layer.tree for layer in layers]))
+            layer = TarLayer(source, report, Merge(layers))
         else:
             layer = DirectoryLayer(source, report, skip)
         layer.covers = bool(layers)
@@ -112,7 +92,7 @@ def _layers(sources: List[Source], report: Report, skip: Set[Identity]) -> List[
     return layers
 
 
-def _empty_over(below: List[Layer]) -> Directory:
+def _empty_over(below: List[Writable]) -> Directory:
     """A directory with nothing in it and the attributes of the root below."""
     if not below:
         return Directory(0o755, 0, 0)
@@ -120,8 +100,11 @@ def _empty_over(below: List[Layer]) -> Directory:
     return Directory(root.mode, root.uid, root.gid, root.attrs)
 
 
-def write(layers: List[Layer], writer: ManifestWriter, report: Report) -> None:
+def write(layers: List[Writable], writer: ManifestWriter, report: Report) -> None:
     """Writes the layers one after the other."""
     for number, layer in enumerate(layers, 1):
         out = LayerWriter(writer, f"layer {number} of {len(layers)}", report)
-        layer.write(out)
+        if isinstance(layer, TreeLayer):
+            write_tree(out, layer.tree())
+        else:
+            layer.write(out)

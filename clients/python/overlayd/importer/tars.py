@@ -5,7 +5,7 @@ from typing import BinaryIO, Dict, Iterable, Iterator, List, Optional, Tuple, Un
 
 from . import limits, marks
 from .blobs import Blob, reading, skip
-from .merging import Merge
+from .merging import Layer, Merge
 from .objects import (WHITEOUT, Content, Directory, File, Inode, Names, Object, Symlink, at,
                       path_text)
 from .telling import ATTRIBUTE, LOST, OTHER_KIND, OVER_LIMIT, UNSAYABLE, Refused, Report, shown
@@ -20,7 +20,7 @@ _XATTR = "SCHILY.xattr."
 _MARK = ".wh."
 _META = ".wh..wh."
 _OPAQUE = ".wh..wh..opq"
-Holes = Optional[List[Tuple[int, int]]]
+Stretches = Optional[List[Tuple[int, int]]]
 
 
 class Unresolved(Object):
@@ -64,7 +64,7 @@ def raw_of(text: str) -> bytes:
     return text.encode("utf-8", "surrogateescape")
 
 
-class TarLayer(Content):
+class TarLayer(Content, Layer):
     """A tar as a layer; `below` has the layers under it."""
 
     def __init__(self, blob: Blob, report: Report, below: Merge) -> None:
@@ -81,31 +81,26 @@ class TarLayer(Content):
             self._tree = _Reading(self, self._blob, self._report, self._below).tree()
         return self._tree
 
-    def root(self) -> Directory:
-        """The root."""
-        return self.tree()
-
     def write(self, layer: LayerWriter) -> None:
         """Writes the layer; the tar is read once more, for the bytes."""
         write_tree(layer, self.tree())
 
     def read_each(self, files: Iterable[File]) -> Iterator[Tuple[File, bytes]]:
-        """The files with their bytes, as they come in the tar."""
-        place = 0
+        """The files with their bytes, as they come in the tar; some may have the same place."""
+        here, last, data = 0, -1, b""
         with reading(self.name), self._blob.plain() as stream:
             for file in sorted(files, key=_offset):
-                offset, holes = _place(file)
-                if file.size:
-                    skip(stream, offset - place)
-                    data = _read(stream, file.size, holes)
-                    stored = sum(size for _, size in holes) if holes is not None else len(data)
-                    place = offset + stored
-                    yield file, data
-                else:
-                    yield file, b""
+                offset, stretches = _place(file)
+                if file.size and offset != last:
+                    skip(stream, offset - here)
+                    data = _read(stream, file.size, stretches)
+                    here = offset + (len(data) if stretches is None
+                                     else sum(length for _, length in stretches))
+                    last = offset
+                yield file, data if file.size else b""
 
 
-def _place(file: File) -> Tuple[int, Holes]:
+def _place(file: File) -> Tuple[int, Stretches]:
     place = file.place
     if isinstance(place, int):
         return place, None
@@ -117,7 +112,7 @@ def _offset(file: File) -> int:
     return _place(file)[0]
 
 
-def _read(stream: BinaryIO, size: int, stretches: Holes) -> bytes:
+def _read(stream: BinaryIO, size: int, stretches: Stretches) -> bytes:
     """The bytes of a file that begins here; of a sparse one its stretches follow each other."""
     if stretches is None:
         data = stream.read(size)
@@ -178,15 +173,15 @@ class _Reading:
         if node is not None:
             parent.children[names[-1]] = node
 
-    def _names(self, member: tarfile.TarInfo, path: str) -> Optional[Names]:
-        """The names of a path in the tar from its root; None where it was left out."""
+    def _names(self, member: tarfile.TarInfo, path: str, what: str = "") -> Optional[Names]:
+        """The names of a path in the tar from its root; None where the member was left out."""
         parts = _parts(path)
         faults = [fault for fault in (limits.name_fault(raw_of(part)) for part in parts) if fault]
         if not faults:
             too_long = limits.path_fault(path_text(tuple(parts)))
             faults = [too_long] if too_long else []
         if faults:
-            self._leave_out(member, UNSAYABLE, faults[0])
+            self._leave_out(member, UNSAYABLE, what + faults[0])
             return None
         return tuple(parts)
 
@@ -274,8 +269,8 @@ class _Reading:
         uid, gid = self._owner(member)
         file = File(member.mode & limits.MODE_BITS, uid, gid, found.attrs, member.size)
         file.source = self._layer
-        holes = getattr(member, "sparse", None)
-        file.place = member.offset_data if holes is None else (member.offset_data, list(holes))
+        sparse = getattr(member, "sparse", None)
+        file.place = member.offset_data if sparse is None else (member.offset_data, list(sparse))
         return file
 
     def _symlink(self, member: tarfile.TarInfo) -> Optional[Object]:
@@ -289,7 +284,7 @@ class _Reading:
         return Symlink(uid, gid, member.linkname)
 
     def _link(self, member: tarfile.TarInfo, names: Names) -> Optional[Object]:
-        target = self._names(member, member.linkname)
+        target = self._names(member, member.linkname, "a hard link, and of what it leads to ")
         if target is None:
             return None
         there = at(self._root, target)
