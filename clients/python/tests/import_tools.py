@@ -57,6 +57,7 @@ class Member(NamedTuple):
     gid: int = 0
     link: str = ""
     attrs: Optional[Dict[str, str]] = None
+    headers: Optional[Dict[str, str]] = None
     device: Sequence[int] = (0, 0)
 
 
@@ -86,6 +87,7 @@ def tar_of(members: Iterable[Member]) -> bytes:
             info.devmajor, info.devminor = member.device
             info.pax_headers = {f"SCHILY.xattr.{key}": value
                                 for key, value in (member.attrs or {}).items()}
+            info.pax_headers.update(member.headers or {})
             tar.addfile(info, io.BytesIO(member.data))
     return out.getvalue()
 

@@ -1,5 +1,6 @@
 """What a manifest can't carry: told, or refused by --strict; and the command's own manners."""
 
+import io
 import os
 import re
 import subprocess
@@ -9,6 +10,9 @@ import tempfile
 import unittest
 from pathlib import Path
 from typing import List
+from unittest import mock
+
+from overlayd.importer.telling import Report
 
 from . import import_tools as tools
 from .import_tools import Member, directory, file, tar_of
@@ -32,7 +36,9 @@ LEFT_OUT = [
      "/way: a symbolic link to a path longer than 4,095 bytes"),
     (file("caps", attrs={"security.capability": "x"}),
      "/caps: attribute security.capability: no user attribute"),
-    (file("acl", attrs={"user.": "x"}), "/acl: attribute user.: no user attribute"),
+    (file("acl", headers={"SCHILY.acl.access": "user::rw-"}),
+     "/acl: attribute SCHILY.acl.access: no user attribute"),
+    (file("bare", attrs={"user.": "x"}), "/bare: attribute user.: no user attribute"),
     (file("big", attrs={"user.v": "x" * 1025}),
      "/big: attribute user.v: its value is longer than 1,024 bytes"),
     (MISSING, "/sub/lost: a hard link to /nowhere, which is no file of this layer or one below"),
@@ -208,6 +214,18 @@ class CommandTest(unittest.TestCase):
         manifest = (self.folder / "m.toml").read_text()
         self.assertEqual(re.findall('path = "(/.+)"', manifest), ["/layer.tar"])
 
+    def test_a_stream_as_output(self) -> None:
+        """What is no file is written to, and stays what it is."""
+        fifo = self.folder / "fifo"
+        os.mkfifo(fifo)
+        for words in ([], ["--strict"]):
+            with subprocess.Popen(["cat", str(fifo)], stdout=subprocess.PIPE) as cat:
+                done = self.run_command("layer.tar", "-o", "fifo", *words)
+                got = cat.communicate()[0]
+            self.assertEqual(done.returncode, 0, done.stderr)
+            self.assertEqual(got.count(b"[[layer.entry]]"), 3)
+        self.assertTrue(fifo.is_fifo())
+
     def test_nobody_reads(self) -> None:
         """A closed standard output is a failure with one line."""
         reader, writer = os.pipe()
@@ -217,4 +235,39 @@ class CommandTest(unittest.TestCase):
                                   stderr=subprocess.PIPE,
                                   env={**os.environ, "PYTHONPATH": PYTHON})
         self.assertEqual(done.returncode, 1)
-        self.assertEqual(done.stderr, b"overlayd-import: nobody reads standard output any more\n")
+        self.assertEqual(done.stderr, b"overlayd-import: nobody reads the output any more\n")
+
+
+class Terminal(io.StringIO):
+    """A standard error that is a terminal."""
+
+    def isatty(self) -> bool:
+        return True
+
+
+class ReportTest(unittest.TestCase):
+    """What is said on the way."""
+
+    def test_progress(self) -> None:
+        """On a terminal a line that is drawn over, at most five times a second, and wiped."""
+        out = Terminal()
+        with mock.patch("time.monotonic", side_effect=[0.0, 0.4, 0.6, 0.6, 0.7, 0.9, 0.9]):
+            report = Report(out)
+            report.progress("layer 1 of 2", 10)
+            report.progress("layer 1 of 2", 2000, 5_000_000)
+            report.progress("layer 1 of 2", 2001, 5_000_000)
+            report.progress("layer 2 of 2", 3, 6_000_000)
+        report.sum_up(2, 3, 4)
+        first = "\roverlayd-import: layer 1 of 2: 2,000 objects, 5 MB"
+        second = "\roverlayd-import: layer 2 of 2: 3 objects, 6 MB    "
+        self.assertEqual(out.getvalue(), first + second + "\r" + " " * 46 + "\r"
+                         "overlayd-import: 2 layers, 3 objects, 4 bytes; nothing left out but "
+                         "times\n")
+
+    def test_no_terminal(self) -> None:
+        """Elsewhere there is no progress."""
+        out = io.StringIO()
+        with mock.patch("time.monotonic", return_value=9.0):
+            report = Report(out)
+        report.progress("layer 1 of 2", 10)
+        self.assertEqual(out.getvalue(), "")

@@ -165,8 +165,9 @@ def main(arguments: Optional[List[str]] = None) -> int:
     except Refused as refused:
         return report.end(str(refused))
     except BrokenPipeError:
+        # what is left in the buffer must not fail once more at the end
         os.dup2(os.open(os.devnull, os.O_WRONLY), sys.stdout.fileno())
-        return report.end("nobody reads standard output any more")
+        return report.end("nobody reads the output any more")
     except OSError as error:
         name = error.filename if error.filename is not None else words.output
         return report.end(f"{shown(name) if name else 'stream'}: {error.strerror or error}")

@@ -12,7 +12,7 @@ from .telling import Refused, shown
 
 _INDEXES = ("application/vnd.oci.image.index.v1+json",
             "application/vnd.docker.distribution.manifest.list.v2+json")
-_REF_NAME = "org.opencontainers.image.ref.name"
+_NAMES = ("org.opencontainers.image.ref.name", "io.containerd.image.name")
 _REFERENCE = "vnd.docker.reference.type"
 _JSON_BYTES = 1 << 26
 _DEPTH = 3
@@ -158,6 +158,9 @@ def _are_texts(found: Any) -> bool:
 def _saved_layers(archive: Archive, images: List[Dict[str, Any]], choice: Choice) -> List[str]:
     if choice.image is not None:
         images = [image for image in images if choice.image in (image.get("RepoTags") or [])]
+    if choice.platform is not None:
+        images = [image for image in images
+                  if _is_for(archive.json(str(image.get("Config"))), choice.platform)]
     _one_of(archive, images, [tag for image in images for tag in image.get("RepoTags") or []])
     layers: List[str] = images[0]["Layers"]
     return layers
@@ -177,14 +180,14 @@ def _layout_layers(archive: Archive, choice: Choice) -> List[str]:
     index = archive.json("index.json")
     images = _manifests(archive, index)
     if choice.image is not None:
-        images = [image for image in images if _ref_name(image) == choice.image]
+        images = [image for image in images if choice.image in _names(image)]
     nested = [image for image in images if image.get("mediaType") in _INDEXES]
     images = [image for image in images if image not in nested]
     for image in nested:
         images += _manifests(archive, archive.json(_blob_name(archive, image)))
     if choice.platform is not None:
         images = [image for image in images if _has_platform(archive, image, choice.platform)]
-    names = [" ".join(filter(None, (_ref_name(image), _platform(image)))) for image in images]
+    names = [" ".join(filter(None, (*_names(image)[:1], _platform(image)))) for image in images]
     _one_of(archive, images, [name for name in names if name])
     manifest = archive.json(_blob_name(archive, images[0]))
     layers = manifest.get("layers") if isinstance(manifest, dict) else None
@@ -201,27 +204,36 @@ def _manifests(archive: Archive, index: Any) -> List[Dict[str, Any]]:
     return [item for item in found if _REFERENCE not in (item.get("annotations") or {})]
 
 
-def _ref_name(image: Dict[str, Any]) -> Optional[str]:
-    return (image.get("annotations") or {}).get(_REF_NAME)
+def _names(image: Dict[str, Any]) -> List[str]:
+    """The names that the index gives an image."""
+    annotations = image.get("annotations") or {}
+    return [annotations[key] for key in _NAMES if isinstance(annotations.get(key), str)]
 
 
 def _platform(image: Dict[str, Any]) -> Optional[str]:
-    """`OS/ARCHITECTURE` or `OS/ARCHITECTURE/VARIANT`, where it is said."""
+    """`OS/ARCHITECTURE` or `OS/ARCHITECTURE/VARIANT`, where the index says it."""
     platform = image.get("platform")
-    if not isinstance(platform, dict):
-        return None
+    return _platform_text(platform) if isinstance(platform, dict) else None
+
+
+def _platform_text(platform: Dict[str, Any]) -> str:
     parts = [platform.get(key) for key in ("os", "architecture", "variant")]
     return "/".join(part for part in parts if isinstance(part, str) and part)
 
 
+def _is_for(config: Any, wanted: str) -> bool:
+    """Whether an image's configuration says that it is for a platform."""
+    said = _platform_text(config) if isinstance(config, dict) else ""
+    return said == wanted or said.startswith(wanted + "/")
+
+
 def _has_platform(archive: Archive, image: Dict[str, Any], wanted: str) -> bool:
     """Whether an image is for a platform, as its descriptor or else its configuration says."""
-    said = _platform(image)
-    if said is None:
-        manifest = archive.json(_blob_name(archive, image)) or {}
-        config = archive.json(_blob_name(archive, manifest.get("config") or {})) or {}
-        said = _platform({"platform": config}) or ""
-    return said == wanted or said.startswith(wanted + "/")
+    if isinstance(image.get("platform"), dict):
+        return _is_for(image["platform"], wanted)
+    manifest = archive.json(_blob_name(archive, image))
+    config = manifest.get("config") if isinstance(manifest, dict) else None
+    return _is_for(archive.json(_blob_name(archive, config)), wanted)
 
 
 def _blob_name(archive: Archive, descriptor: Any) -> str:

@@ -17,6 +17,8 @@ _KINDS = {
     tarfile.BLKTYPE: "a block device",
 }
 _XATTR = "SCHILY.xattr."
+_LIBARCHIVE = "LIBARCHIVE.xattr."
+_OTHERS = ("SCHILY.acl.", "SCHILY.fflags", "RHT.security.")
 _MARK = ".wh."
 _META = ".wh..wh."
 _OPAQUE = ".wh..wh..opq"
@@ -384,6 +386,15 @@ def _take_over(node: Inode, below: Inode) -> None:
 
 
 def _pairs(member: tarfile.TarInfo) -> List[Tuple[bytes, bytes]]:
-    """The extended attributes of a member."""
-    return [(raw_of(key[len(_XATTR):]), raw_of(value))
-            for key, value in member.pax_headers.items() if key.startswith(_XATTR)]
+    """The extended attributes of a member, and others under the names that tars give them."""
+    found = {}
+    for key, value in member.pax_headers.items():
+        if key.startswith(_XATTR):
+            found[key[len(_XATTR):]] = value
+        elif key.startswith(_LIBARCHIVE):
+            # beside one of the same name it says the same in another form
+            if _XATTR + key[len(_LIBARCHIVE):] not in member.pax_headers:
+                found[key] = value
+        elif key.startswith(_OTHERS):
+            found[key] = value
+    return [(raw_of(name), raw_of(value)) for name, value in found.items()]
