@@ -9,6 +9,42 @@ from typing import List
 
 from . import import_tools as tools
 
+# The layer of an upper with all marks, by hand.
+MARKED = """
+[[layer.entry]]
+path = "/lost"
+kind = "dir"
+opaque = true
+
+[[layer.entry]]
+path = "/moved"
+kind = "dir"
+redirect = "/from/there"
+
+[[layer.entry]]
+path = "/near"
+kind = "dir"
+redirect = "name"
+
+[[layer.entry]]
+path = "/opaque"
+kind = "dir"
+opaque = true
+
+[[layer.entry]]
+path = "/white"
+kind = "dir"
+
+[[layer.entry]]
+path = "/white/f"
+kind = "whiteout"
+
+[[layer.entry]]
+path = "/white/not"
+kind = "file"
+text = "x"
+"""
+
 
 class DirectoryTest(unittest.TestCase):
     """Layers that are directories."""
@@ -57,7 +93,8 @@ class DirectoryTest(unittest.TestCase):
         (top / "a b").write_text("text\n")
         (top / "\u00e9").symlink_to("b/x")
         os.link(top / "b" / "x", top / "c")
-        self.assertEqual(self.layers(tools.run_import(str(top))), ["", r"""[[layer.entry]]
+        self.assertEqual(self.layers(tools.run_import(str(top))), ["", r"""
+[[layer.entry]]
 path = "/a b"
 kind = "file"
 text = "text\n"
@@ -81,7 +118,8 @@ to = "/b/x"
 [[layer.entry]]
 path = "/é"
 kind = "symlink"
-target = "b/x\"""".replace(r"\"", '"')])
+target = "b/x"
+""".strip()])
 
     def test_upper_over_lower(self) -> None:
         """The first source is the upper; options are written."""
@@ -139,38 +177,7 @@ attrs = [["user.a", "é\n"], ["user.b", "2"]]""")
         self.set(self.upper / "white" / "not", f"{prefix}overlay.whiteout", b"y")
         self.set(self.upper / "near", f"{prefix}overlay.origin", b"\0\xff")
         run = tools.run_import(str(self.upper), str(self.lower))
-        self.assertEqual(self.layers(run)[0], """[[layer.entry]]
-path = "/lost"
-kind = "dir"
-opaque = true
-
-[[layer.entry]]
-path = "/moved"
-kind = "dir"
-redirect = "/from/there"
-
-[[layer.entry]]
-path = "/near"
-kind = "dir"
-redirect = "name"
-
-[[layer.entry]]
-path = "/opaque"
-kind = "dir"
-opaque = true
-
-[[layer.entry]]
-path = "/white"
-kind = "dir"
-
-[[layer.entry]]
-path = "/white/f"
-kind = "whiteout"
-
-[[layer.entry]]
-path = "/white/not"
-kind = "file"
-text = "x\"""".replace(r'\"', '"'))
+        self.assertEqual(self.layers(run)[0], MARKED.strip())
         self.assertEqual(len(run.errors), 2, run.errors)
         self.assertEqual(run.errors[0], f"overlayd-import: left out: {self.upper}: /lost: redirect "
                          "\\xff: none that a manifest can say; nothing below is shown")
@@ -195,13 +202,15 @@ text = "x\"""".replace(r'\"', '"'))
         except PermissionError:
             tools.skip(self.id(), "devices can't be made here")
         run = tools.run_import(str(self.upper), str(self.lower))
-        self.assertEqual(self.layers(run)[0], """[[layer.entry]]
+        self.assertEqual(self.layers(run)[0], """
+[[layer.entry]]
 path = "/gone"
 kind = "whiteout"
 
 [[layer.entry]]
 path = "/null"
-kind = "whiteout\"""".replace(r'\"', '"'))
+kind = "whiteout"
+""".strip())
         self.assertEqual(
             run.errors[0],
             f"overlayd-import: left out: {self.upper}: /null: a character device")

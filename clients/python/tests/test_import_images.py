@@ -15,54 +15,8 @@ from . import import_tools as tools
 from .import_tools import Member, directory, file, saved_image, tar_of, write_layout
 
 EMPTY = "[[layer]]\n"
-
-
-def link(name: str, to: str) -> Member:
-    """A hard link."""
-    return Member(name, tarfile.LNKTYPE, link=to)
-
-
-def symlink(name: str, to: str) -> Member:
-    """A symbolic link."""
-    return Member(name, tarfile.SYMTYPE, link=to, mode=0o777)
-
-
-class ImageTest(unittest.TestCase):
-    """Whole images and single layers."""
-
-    maxDiff = None
-
-    def setUp(self) -> None:
-        folder = tempfile.TemporaryDirectory()
-        self.addCleanup(folder.cleanup)
-        self.folder = Path(folder.name)
-
-    def put(self, name: str, data: bytes) -> str:
-        """A file of the test's folder; its path."""
-        path = self.folder / name
-        path.write_bytes(data)
-        return str(path)
-
-    def manifest_of(self, layers: Sequence[Sequence[Member]]) -> str:
-        """The manifest of an image of these layers, from the lowest; nothing is left out."""
-        run = tools.run_import(self.put("image.tar", saved_image([tar_of(m) for m in layers])))
-        self.assertEqual(run.status, 0, run.errors)
-        self.assertIn("nothing left out but times", run.errors[-1])
-        return run.manifest
-
-    def test_all_that_an_image_keeps(self) -> None:
-        """Modes, owners, user attributes, links, and bytes in their three forms."""
-        layer = [
-            directory("./", mode=0o700, uid=7),
-            directory("./bin/", attrs={"user.b": "1", "user.a": "\u00e9\n"}),
-            file("./bin/tool", b"\x7fELF", mode=0o4755, uid=1, gid=4294967295),
-            file("./bin/text", b'say "hi\\"\tthere\n\x01'),
-            file("./bin/none"),
-            file("./bin/holes", b"\0" * 5),
-            link("./bin/other", "./bin/tool"),
-            symlink("./bin/sh", "tool"),
-        ]
-        self.assertEqual(self.manifest_of([layer]), r"""[[layer]]
+# What the manifests should be, by hand.
+KEPT = r"""[[layer]]
 
 [[layer.entry]]
 path = "/"
@@ -114,7 +68,170 @@ zeros = 5
 path = "/bin/tool"
 kind = "link"
 to = "/bin/other"
-""")
+"""
+LEFT_OUT_PARENTS = """
+[[layer.entry]]
+path = "/usr"
+kind = "dir"
+mode = 0o750
+uid = 3
+
+[[layer.entry]]
+path = "/usr/lib"
+kind = "dir"
+attrs = [["user.k", "v"]]
+
+[[layer.entry]]
+path = "/usr/lib/x"
+kind = "dir"
+
+[[layer.entry]]
+path = "/usr/new"
+kind = "dir"
+opaque = true
+
+[[layer.entry]]
+path = "/usr/opq"
+kind = "dir"
+mode = 0o500
+opaque = true
+
+[[layer.entry]]
+path = "/usr/lib/x/y"
+kind = "file"
+
+[[layer.entry]]
+path = "/usr/new/z"
+kind = "file"
+"""
+LINKED = """
+[[layer.entry]]
+path = "/bin"
+kind = "dir"
+mode = 0o751
+
+[[layer.entry]]
+path = "/bin/gone"
+kind = "whiteout"
+
+[[layer.entry]]
+path = "/sbin"
+kind = "dir"
+
+[[layer.entry]]
+path = "/bin/a"
+kind = "file"
+mode = 0o755
+text = "tool"
+
+[[layer.entry]]
+path = "/sbin/d"
+kind = "file"
+mode = 0o600
+text = "g"
+
+[[layer.entry]]
+path = "/sbin/b"
+kind = "link"
+to = "/bin/a"
+
+[[layer.entry]]
+path = "/sbin/c"
+kind = "link"
+to = "/bin/a"
+"""
+BOTH = """[[layer]]
+
+[[layer]]
+
+[[layer.entry]]
+path = "/a"
+kind = "dir"
+
+[[layer.entry]]
+path = "/a/b"
+kind = "file"
+text = "high"
+
+[[layer]]
+
+[[layer.entry]]
+path = "/a"
+kind = "dir"
+
+[[layer.entry]]
+path = "/a/b"
+kind = "file"
+text = "low"
+"""
+LOWEST = """[[layer]]
+
+[[layer.entry]]
+path = "/d3"
+kind = "dir"
+
+[[layer.entry]]
+path = "/d4"
+kind = "dir"
+
+[[layer.entry]]
+path = "/d3/f"
+kind = "file"
+text = "3"
+
+[[layer.entry]]
+path = "/d4/f"
+kind = "file"
+text = "4"
+"""
+
+
+def link(name: str, to: str) -> Member:
+    """A hard link."""
+    return Member(name, tarfile.LNKTYPE, link=to)
+
+
+def symlink(name: str, to: str) -> Member:
+    """A symbolic link."""
+    return Member(name, tarfile.SYMTYPE, link=to, mode=0o777)
+
+
+class ImageTest(unittest.TestCase):
+    """Whole images and single layers."""
+
+    maxDiff = None
+
+    def setUp(self) -> None:
+        folder = tempfile.TemporaryDirectory()
+        self.addCleanup(folder.cleanup)
+        self.folder = Path(folder.name)
+
+    def put(self, name: str, data: bytes) -> str:
+        """A file of the test's folder; its path."""
+        path = self.folder / name
+        path.write_bytes(data)
+        return str(path)
+
+    def manifest_of(self, layers: Sequence[Sequence[Member]]) -> str:
+        """The manifest of an image of these layers, from the lowest; nothing is left out."""
+        run = tools.run_import(self.put("image.tar", saved_image([tar_of(m) for m in layers])))
+        self.assertEqual(run.status, 0, run.errors)
+        self.assertIn("nothing left out but times", run.errors[-1])
+        return run.manifest
+
+    def test_all_that_an_image_keeps(self) -> None:
+        """Modes, owners, user attributes, links, and bytes in their three forms."""
+        layer = [
+            directory("./", mode=0o700, uid=7),
+            directory("./bin/", attrs={"user.b": "1", "user.a": "\u00e9\n"}),
+            file("./bin/tool", b"\x7fELF", mode=0o4755, uid=1, gid=4294967295),
+            file("./bin/text", b'say "hi\\"\tthere\n\x01'),
+            file("./bin/none"),
+            file("./bin/holes", b"\0" * 5),
+            link("./bin/other", "./bin/tool"),
+            symlink("./bin/sh", "tool"),
+        ]
+        self.assertEqual(self.manifest_of([layer]), KEPT)
 
     def test_marks(self) -> None:
         """Whiteouts, opaque directories, and whiteouts beside what the layer itself has."""
@@ -171,41 +288,8 @@ mode = 0o711
 gid = 9
 """
         manifest = self.manifest_of([base, top])
-        self.assertEqual(manifest.split("\n[[layer]]\n")[:2], ["[[layer]]\n" + upper, upper + """
-[[layer.entry]]
-path = "/usr"
-kind = "dir"
-mode = 0o750
-uid = 3
-
-[[layer.entry]]
-path = "/usr/lib"
-kind = "dir"
-attrs = [["user.k", "v"]]
-
-[[layer.entry]]
-path = "/usr/lib/x"
-kind = "dir"
-
-[[layer.entry]]
-path = "/usr/new"
-kind = "dir"
-opaque = true
-
-[[layer.entry]]
-path = "/usr/opq"
-kind = "dir"
-mode = 0o500
-opaque = true
-
-[[layer.entry]]
-path = "/usr/lib/x/y"
-kind = "file"
-
-[[layer.entry]]
-path = "/usr/new/z"
-kind = "file"
-"""])
+        self.assertEqual(manifest.split("\n[[layer]]\n")[:2],
+                         ["[[layer]]\n" + upper, upper + LEFT_OUT_PARENTS])
 
     def test_hard_links_into_lower_layers(self) -> None:
         """The file is copied up to its own name, unless the layer hides that, and linked; a file
@@ -216,42 +300,7 @@ kind = "file"
         top = [directory("sbin/"), link("sbin/b", "bin/a"), link("sbin/c", "bin/a"),
                file("bin/.wh.gone"), link("sbin/d", "bin/gone")]
         manifest = self.manifest_of([base, middle, top])
-        self.assertEqual(manifest.split("\n[[layer]]\n")[1], """
-[[layer.entry]]
-path = "/bin"
-kind = "dir"
-mode = 0o751
-
-[[layer.entry]]
-path = "/bin/gone"
-kind = "whiteout"
-
-[[layer.entry]]
-path = "/sbin"
-kind = "dir"
-
-[[layer.entry]]
-path = "/bin/a"
-kind = "file"
-mode = 0o755
-text = "tool"
-
-[[layer.entry]]
-path = "/sbin/d"
-kind = "file"
-mode = 0o600
-text = "g"
-
-[[layer.entry]]
-path = "/sbin/b"
-kind = "link"
-to = "/bin/a"
-
-[[layer.entry]]
-path = "/sbin/c"
-kind = "link"
-to = "/bin/a"
-""")
+        self.assertEqual(manifest.split("\n[[layer]]\n")[1], LINKED)
 
     def test_twenty_layers(self) -> None:
         """Layer N adds /dN and takes away what layer N-2 added; of the lowest five one is made."""
@@ -273,26 +322,7 @@ to = "/bin/a"
             plain = added + hidden if number in (10, 11) else hidden + added
             expected.append(EMPTY + plain + f'\n[[layer.entry]]\npath = "/d{number}/f"\n'
                             f'kind = "file"\ntext = "{number}"\n')
-        expected.append("""[[layer]]
-
-[[layer.entry]]
-path = "/d3"
-kind = "dir"
-
-[[layer.entry]]
-path = "/d4"
-kind = "dir"
-
-[[layer.entry]]
-path = "/d3/f"
-kind = "file"
-text = "3"
-
-[[layer.entry]]
-path = "/d4/f"
-kind = "file"
-text = "4"
-""")
+        expected.append(LOWEST)
         self.assertEqual(run.manifest, "\n".join(expected))
 
     def test_two_copies_of_one_file(self) -> None:
@@ -394,33 +424,9 @@ kind = "file"
         for name, form in (("gz", gzip.compress), ("bz2", bz2.compress), ("xz", lzma.compress)):
             self.put(f"saved.tar.{name}", form(saved))
             sources.append(f"saved.tar.{name}")
-        expected = """[[layer]]
-
-[[layer]]
-
-[[layer.entry]]
-path = "/a"
-kind = "dir"
-
-[[layer.entry]]
-path = "/a/b"
-kind = "file"
-text = "high"
-
-[[layer]]
-
-[[layer.entry]]
-path = "/a"
-kind = "dir"
-
-[[layer.entry]]
-path = "/a/b"
-kind = "file"
-text = "low"
-"""
         for source in sources:
             with self.subTest(source=source):
-                self.assertEqual(tools.run_import(str(self.folder / source)).manifest, expected)
+                self.assertEqual(tools.run_import(str(self.folder / source)).manifest, BOTH)
 
     def test_choice_of_an_image(self) -> None:
         """An archive of several images needs a name."""

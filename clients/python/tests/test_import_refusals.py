@@ -45,6 +45,39 @@ LEFT_OUT = [
     (file(".wh..wh.plnk"), "/.wh..wh.plnk: a mark that says nothing of the layer"),
     (file("plain/below"), "/plain/below: what is above it in this layer is no directory"),
 ]
+# What hides the same things of a lower layer.
+COVERED = """[[layer]]
+
+[[layer.entry]]
+path = "/fifo"
+kind = "whiteout"
+
+[[layer.entry]]
+path = "/large"
+kind = "whiteout"
+
+[[layer.entry]]
+path = "/sub"
+kind = "dir"
+
+[[layer.entry]]
+path = "/sub/lost"
+kind = "whiteout"
+
+[[layer]]
+
+[[layer.entry]]
+path = "/sub"
+kind = "dir"
+
+[[layer.entry]]
+path = "/fifo"
+kind = "file"
+
+[[layer.entry]]
+path = "/large"
+kind = "file"
+"""
 BASE = [directory("sub/"), file("plain"), file("kept", b"kept")]
 
 
@@ -83,38 +116,7 @@ class RefusalTest(unittest.TestCase):
         upper = self.tar("upper.tar", [*members, MISSING])
         lower = self.tar("lower.tar", [directory("sub/"), file("fifo"), file("large"), *members])
         run = tools.run_import(upper, lower, "--quiet")
-        self.assertEqual(run.manifest, """[[layer]]
-
-[[layer.entry]]
-path = "/fifo"
-kind = "whiteout"
-
-[[layer.entry]]
-path = "/large"
-kind = "whiteout"
-
-[[layer.entry]]
-path = "/sub"
-kind = "dir"
-
-[[layer.entry]]
-path = "/sub/lost"
-kind = "whiteout"
-
-[[layer]]
-
-[[layer.entry]]
-path = "/sub"
-kind = "dir"
-
-[[layer.entry]]
-path = "/fifo"
-kind = "file"
-
-[[layer.entry]]
-path = "/large"
-kind = "file"
-""")
+        self.assertEqual(run.manifest, COVERED)
         self.assertEqual(run.errors, [
             "overlayd-import: 2 layers, 7 objects, 0 bytes; 5 left out (2 of another kind, "
             "2 over the limit, 1 without what they lead to)"])
