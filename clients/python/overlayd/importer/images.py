@@ -16,6 +16,7 @@ _NAMES = ("org.opencontainers.image.ref.name", "io.containerd.image.name")
 _REFERENCE = "vnd.docker.reference.type"
 _JSON_BYTES = 1 << 26
 _DEPTH = 3
+_MEMBERS = 10_000
 
 
 class Choice(NamedTuple):
@@ -114,13 +115,15 @@ def archive_in(blob: Blob) -> Optional[Archive]:
 
 
 def _may_be_image(blob: Blob) -> bool:
-    """Whether a tar has what an image has: nothing is more than three names deep."""
+    """Whether a tar has what an image has, few members and nothing more than three names deep."""
     tops = set()
     for member in members(blob):
         name = _plain_name(member.name)
         if name.count("/") >= _DEPTH or name.rpartition("/")[2].startswith(".wh."):
             return False
         tops.add(name)
+        if len(tops) > _MEMBERS:
+            return False
     return "manifest.json" in tops or {"oci-layout", "index.json"} <= tops
 
 
