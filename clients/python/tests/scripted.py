@@ -7,6 +7,8 @@ import unittest
 
 from overlayd import Client
 
+# How long an end waits for the other one, on a machine that may be busy; none is ever needed.
+WAIT = 60.0
 DETACH = bytes.fromhex("000000011a")
 DETACHED = bytes.fromhex("00000009 00 00000000000000ff")
 
@@ -72,7 +74,7 @@ class ScriptedCase(unittest.TestCase):
     """A test whose clients speak to such servers."""
 
     @contextlib.contextmanager
-    def client(self, *steps, piece=0, leaves=False, timeout=10.0):
+    def client(self, *steps, piece=0, leaves=False, timeout=WAIT):
         """A client; at its end the server must have seen all that it expected, and no more."""
         near, far = socket.socketpair()
         server = Scripted(far, steps, piece, leaves)
@@ -82,6 +84,6 @@ class ScriptedCase(unittest.TestCase):
             yield client
         finally:
             client.close()
-            server.join(10.0)
+            server.join(WAIT)
         self.assertFalse(server.is_alive())
         self.assertIsNone(server.fault)

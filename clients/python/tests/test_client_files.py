@@ -11,7 +11,7 @@ import unittest
 
 from overlayd import Client, Stat
 
-from .scripted import ScriptedCase, h, take
+from .scripted import WAIT, ScriptedCase, h, take
 
 DONE = "00000009 00 0000000000000002"
 OPEN = ("0000000a 0b 02 000001a4 0002 2f66", "0000000d 00 0000000000000003 00000001")
@@ -252,9 +252,9 @@ class OverFiles(unittest.TestCase):
         near, far = socket.socketpair()
         server = Memory(far, data, limit)
         server.start()
-        with Client.from_socket(near, timeout=10) as client:
+        with Client.from_socket(near, timeout=WAIT) as client:
             yield client.open("/f", os.O_RDWR), server.file
-        server.join(10)
+        server.join(WAIT)
 
     def test_a_buffered_reader(self):
         data = b"".join(b"%d\n" % number for number in range(20_000))

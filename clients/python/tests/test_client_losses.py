@@ -9,7 +9,7 @@ import unittest
 
 from overlayd import BadReply, Client, Disconnected, Mask, NoReply, calls
 
-from .scripted import DETACH, DETACHED, ScriptedCase, h, take
+from .scripted import DETACH, DETACHED, WAIT, ScriptedCase, h, take
 
 DONE = h("00000009 00 0000000000000002")
 OPENED = "0000000d 00 0000000000000003 00000000"
@@ -32,10 +32,10 @@ CALLS = [
 
 
 class Gone(ScriptedCase):
-    def lost(self, client, call, told, kind=Disconnected):
-        with self.assertRaises(kind) as lost:
+    def lost(self, client, call, told):
+        with self.assertRaises(ConnectionError) as lost:
             call(client)
-        self.assertIsInstance(lost.exception, ConnectionError)
+        self.assertIs(type(lost.exception), Disconnected)
         self.assertIn(f"it was being asked: {told}", str(lost.exception))
         self.assertTrue(client.closed)
 
@@ -233,9 +233,9 @@ class Connecting(unittest.TestCase):
 
             server = threading.Thread(target=serve)
             server.start()
-            with Client(path, timeout=10) as c:
+            with Client(path, timeout=WAIT) as c:
                 self.assertFalse(c.closed)
-            server.join(10)
+            server.join(WAIT)
             self.assertEqual(c.last_place, 255)
 
     def test_where_no_server_is(self):

@@ -10,7 +10,7 @@ import unittest
 
 from overlayd import Client, Disconnected, File, Mask, Stat, calls
 
-from .scripted import DETACH, DETACHED, ScriptedCase, h, take
+from .scripted import DETACH, DETACHED, WAIT, ScriptedCase, h, take
 
 DONE = h("00000009 00 0000000000000002")
 ROOT = "00000022 00 0000000000000001 01 000001ed 00000000 00000000 0000000000000000 00000001"
@@ -85,7 +85,7 @@ class Pipelines(ScriptedCase):
             with client.pipeline() as batch:
                 for name in "abc":
                     batch.mkdir("/" + name)
-        server.join(10)
+        server.join(WAIT)
         self.assertEqual(seen, [h("00000009 09 000001ed 0002 2f61 00000009 09 000001ed 0002 2f62"
                                   "00000009 09 000001ed 0002 2f63")])
 
@@ -201,12 +201,12 @@ class Pipelines(ScriptedCase):
 
         server = threading.Thread(target=serve)
         server.start()
-        with Client.from_socket(near, timeout=30) as client:
+        with Client.from_socket(near, timeout=WAIT) as client:
             with client.pipeline() as batch:
                 # By its own request a write would be answered otherwise; only the bytes count.
                 noted = [batch.add(calls.Call(calls.Op.READ, calls.write(0, bytes(65_536)).frame,
                                               (), "read", len)) for _ in range(count)]
-        server.join(10)
+        server.join(WAIT)
         self.assertEqual([pending.result() for pending in noted], [65_536] * count)
 
 
@@ -229,7 +229,7 @@ class Threads(ScriptedCase):
         server = threading.Thread(target=self.answer, args=(far,))
         server.start()
         wrong = []
-        with Client.from_socket(near, timeout=30) as client:
+        with Client.from_socket(near, timeout=WAIT) as client:
             def work(first):
                 for number in range(first, first + 100):
                     size = client.stat(f"/{number}").st_size
@@ -240,9 +240,9 @@ class Threads(ScriptedCase):
             for thread in threads:
                 thread.start()
             for thread in threads:
-                thread.join(30)
+                thread.join(WAIT)
             self.assertIsNone(client.last_place)
-        server.join(10)
+        server.join(WAIT)
         self.assertEqual(wrong, [])
 
 
