@@ -1,17 +1,25 @@
 """What a mount changed, as an upper directory of overlayfs or as a layer of an image.
 
-    from overlayd.exporter import changes, write_layer, write_upper
+    from overlayd import Client
+    from overlayd.exporter import LowerTree, MountTree, changes, write_layer, write_upper
 
-    found = changes(lower, mounted)      # two trees: see `Tree`
-    write_upper(found, mounted, "upper")
-    write_layer(found, mounted, stream)
+    lower = LowerTree("mount.toml")
+    with Client("/run/overlay.socket") as client:
+        mounted = MountTree(client)
+        found = changes(lower, mounted)
+        write_upper(found, mounted, "upper")
+        write_layer(found, mounted, stream)
+
+Trees of other kinds can be compared too: see `Tree`.
 """
 
 from .comparing import Change, changes
 from .layers import write_layer
+from .manifests import LowerTree
+from .mounts import MountTree
 from .trees import DirectoryTree, Entry, MemoryTree, Tree
-from .uppers import write_upper
 from .unsayable import Unsayable
+from .uppers import write_upper
 
-__all__ = ["Change", "DirectoryTree", "Entry", "MemoryTree", "Tree", "Unsayable", "changes",
-           "write_layer", "write_upper"]
+__all__ = ["Change", "DirectoryTree", "Entry", "LowerTree", "MemoryTree", "MountTree", "Tree",
+           "Unsayable", "changes", "write_layer", "write_upper"]
