@@ -9,7 +9,8 @@ import time
 from overlayd import Client
 
 ROOT = pathlib.Path(__file__).resolve().parents[3]
-WAIT = 30.0
+# How long anything may take, on a machine that may be busy.
+WAIT = 120.0
 
 
 def program():

@@ -207,7 +207,7 @@ class Operations(unittest.TestCase):
         for thread in threads:
             thread.start()
         for thread in threads:
-            thread.join(30)
+            thread.join(real_server.WAIT)
         self.assertEqual((len(places), len(set(places))), (204, 204))
         self.assertEqual(max(places), 208)
 
@@ -276,7 +276,8 @@ class Example(unittest.TestCase):
             with server.client():
                 done = subprocess.run(
                     [sys.executable, self.PYTHON / "examples" / "watch_and_change.py", server.path,
-                     "/etc"], stdout=subprocess.PIPE, text=True, timeout=60, check=True,
+                     "/etc"], stdout=subprocess.PIPE, text=True, check=True,
+                    timeout=real_server.WAIT,
                     env={**os.environ, "PYTHONPATH": str(self.PYTHON)})
         self.assertEqual(done.stdout.splitlines(), [
             "/etc/final has 13 bytes", "refused: File exists",
@@ -320,7 +321,7 @@ class History(unittest.TestCase):
             for thread in threads:
                 thread.start()
             for thread in threads:
-                thread.join(60)
+                thread.join(real_server.WAIT)
         log.sort()
         self.assertEqual(len({place for place, _, _ in log}), 4 * 301)
         script = ["attach"] * 4 + [command for _, command, _ in log]
