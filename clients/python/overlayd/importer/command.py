@@ -1,12 +1,14 @@
 """The command `overlayd-import`."""
 
 import argparse
+import contextlib
 import os
 import shutil
 import signal
 import sys
 import tempfile
-from typing import BinaryIO, List, Optional, Set, cast
+import threading
+from typing import BinaryIO, Iterator, List, Optional, Set, cast
 
 from . import limits
 from .directories import Identity
@@ -154,13 +156,26 @@ def run(words: argparse.Namespace, report: Report) -> None:
     report.sum_up(writer.layers, writer.objects, writer.bytes)
 
 
+@contextlib.contextmanager
+def _unwound_by_sigterm() -> Iterator[None]:
+    """Lets SIGTERM end the process so that unfinished files go."""
+    if threading.current_thread() is not threading.main_thread():
+        yield
+        return
+    before = signal.signal(signal.SIGTERM, lambda number, frame: sys.exit(128 + number))
+    try:
+        yield
+    finally:
+        signal.signal(signal.SIGTERM, before)
+
+
 def main(arguments: Optional[List[str]] = None) -> int:
     """Runs the command; the exit status."""
     words = parser().parse_args(arguments)
     report = Report(sys.stderr, words.strict, words.quiet)
-    signal.signal(signal.SIGTERM, lambda number, frame: sys.exit(128 + number))
     try:
-        run(words, report)
+        with _unwound_by_sigterm():
+            run(words, report)
         return 0
     except Refused as refused:
         return report.end(str(refused))

@@ -105,7 +105,6 @@ class DirectoryLayer(Content, Layer):
             status = os.lstat(full)
             if (status.st_dev, status.st_ino) in self._skip:
                 continue
-            path = here.base + os.fsdecode(raw)
             fault = limits.name_fault(raw)
             if fault is not None:
                 below = ", and all in it" if stat.S_ISDIR(status.st_mode) else ""
@@ -236,7 +235,7 @@ class DirectoryLayer(Content, Layer):
         most = limits.FILE_BYTES + 1
         with open(self._raw(file), "rb", buffering=0) as stream:
             data = stream.read(min(file.size + 1, most))
-            while data and file.size < len(data) < most:
+            while len(data) != file.size and len(data) < most:
                 more = stream.read(most - len(data))
                 if not more:
                     break

@@ -45,7 +45,7 @@ class Archive:
         with blob.raw() as stream:
             try:
                 return json.loads(stream.read())
-            except ValueError:
+            except (ValueError, RecursionError):
                 raise Refused(f"{shown(blob.name)}: no JSON") from None
 
     def is_image(self) -> bool:
@@ -160,13 +160,19 @@ def _are_texts(found: Any) -> bool:
 
 def _saved_layers(archive: Archive, images: List[Dict[str, Any]], choice: Choice) -> List[str]:
     if choice.image is not None:
-        images = [image for image in images if choice.image in (image.get("RepoTags") or [])]
+        images = [image for image in images if choice.image in _tags(image)]
     if choice.platform is not None:
         images = [image for image in images
                   if _is_for(archive.json(str(image.get("Config"))), choice.platform)]
-    _one_of(archive, images, [tag for image in images for tag in image.get("RepoTags") or []])
+    _one_of(archive, images, [tag for image in images for tag in _tags(image)])
     layers: List[str] = images[0]["Layers"]
     return layers
+
+
+def _tags(image: Dict[str, Any]) -> List[str]:
+    """The names that `docker save` gives an image."""
+    tags = image.get("RepoTags")
+    return tags if _are_texts(tags) else []
 
 
 def _one_of(archive: Archive, found: List[Any], names: List[str]) -> None:
@@ -204,12 +210,17 @@ def _manifests(archive: Archive, index: Any) -> List[Dict[str, Any]]:
     found = index.get("manifests") if isinstance(index, dict) else None
     if not isinstance(found, list) or not all(isinstance(item, dict) for item in found):
         raise Refused(f"{shown(archive.name)}: its index has no manifests")
-    return [item for item in found if _REFERENCE not in (item.get("annotations") or {})]
+    return [item for item in found if _REFERENCE not in _annotations(item)]
+
+
+def _annotations(image: Dict[str, Any]) -> Dict[str, Any]:
+    found = image.get("annotations")
+    return found if isinstance(found, dict) else {}
 
 
 def _names(image: Dict[str, Any]) -> List[str]:
     """The names that the index gives an image."""
-    annotations = image.get("annotations") or {}
+    annotations = _annotations(image)
     return [annotations[key] for key in _NAMES if isinstance(annotations.get(key), str)]
 
 

@@ -14,7 +14,6 @@ from .tars import TarLayer
 from .telling import Refused, Report, shown
 from .writing import LayerWriter, ManifestWriter, write_tree
 
-
 Writable = Union[DirectoryLayer, TarLayer, TreeLayer]
 Source = Union[str, Blob]
 
@@ -78,7 +77,7 @@ def _layers(sources: List[Source], report: Report, skip: Set[Identity]) -> List[
     """The layers of the sources, the highest first, down to one that hides all below it."""
     layers: List[Writable] = []
     for source in reversed(sources):
-        layer: Writable
+        layer: Union[DirectoryLayer, TarLayer]
         if isinstance(source, Blob):
             layer = TarLayer(source, report, Merge(layers))
         else:
