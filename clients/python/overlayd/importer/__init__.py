@@ -1,0 +1,1 @@
+"""`overlayd-import`: manifests from directories, layer tars and container images."""

@@ -1,0 +1,193 @@
+"""The command `overlayd-import`."""
+
+import argparse
+import contextlib
+import os
+import shutil
+import signal
+import sys
+import tempfile
+import threading
+from typing import BinaryIO, Iterator, List, Optional, Set, cast
+
+from . import limits
+from .directories import Identity
+from .images import Choice
+from .plan import Wish, plan, write
+from .telling import PROGRAM, Refused, Report, shown
+from .writing import ManifestWriter
+
+_ABOUT = "Writes a manifest for overlayd from directories, layer tars and container images."
+_MORE = """\
+sources, the highest layer first:
+  a directory        a plain one, or an upper or lower directory of the kernel's overlayfs:
+                     0/0 character devices, and empty files with the attribute overlay.whiteout,
+                     are whiteouts; overlay.opaque and overlay.redirect are read with trusted. and
+                     user. before them (trusted. only by root)
+  a tar              one layer, also compressed by gzip, bzip2 or xz, with whiteouts as images
+                     have them (.wh.NAME, .wh..wh..opq) or as overlayfs has them
+  an image           an archive of docker save or an OCI layout, as a directory or a tar, with all
+                     its layers; a compressed one is unpacked into a temporary file first
+  -                  a tar or an image on standard input, kept in a temporary file
+What a source is is guessed from it; dir:SOURCE, tar:SOURCE or image:SOURCE says it.
+
+layers: the first source is the upper layer. An empty upper is put above it where it is an image,
+where it is the only layer, and with --empty-upper. Of more than 16 lower layers the lowest are
+made one. A directory that a tar leaves out has the attributes that the layers below give it, or
+else mode 0755 and owner 0:0. A hard link to a file of a lower layer makes a copy of that file.
+
+left out, each in one line on standard error (--quiet: not), with a sum at the end:
+  fifos, sockets and devices; files of more than 1,048,576 bytes; names, targets and attributes
+  that aren't UTF-8 or are longer than a manifest takes (name 255 bytes, path and target 4,095,
+  value 1,024; 64 attributes); attributes other than user. ones. Times are never kept.
+In the place of what is left out stands a whiteout where there are layers below, so that nothing
+older shows there. With --strict the first such thing ends the import, and nothing is written.
+Refused in any case: files whose bytes are in a lower layer (metacopy); tars that aren't whole.
+
+memory: one file at a time; besides, for tars and for directories that are made one, some 500
+bytes for each object. A tar is read twice, in its order.
+
+exit status: 0 done; 1 refused or failed, with one line on standard error; 2 wrong usage.
+"""
+
+
+def parser() -> argparse.ArgumentParser:
+    """The command line."""
+    words = argparse.ArgumentParser(
+        prog=PROGRAM, description=_ABOUT, epilog=_MORE,
+        formatter_class=argparse.RawDescriptionHelpFormatter)
+    words.add_argument("sources", nargs="+", metavar="SOURCE", help="a layer or an image")
+    words.add_argument("-o", "--output", metavar="FILE", default="-",
+                       help="the manifest, which appears when it is whole; - is standard output "
+                            "(the default)")
+    words.add_argument("--strict", action="store_true",
+                       help="refuse what a manifest can't carry, and write nothing then")
+    words.add_argument("-q", "--quiet", action="store_true",
+                       help="no line for each thing that is left out, the sum alone")
+    words.add_argument("--empty-upper", action="store_true",
+                       help="put an empty upper layer above the sources")
+    words.add_argument("--image", metavar="NAME", help="the image of an archive that has several")
+    words.add_argument("--platform", metavar="OS/ARCH",
+                       help="the platform of an OCI image that has several")
+    words.add_argument("--redirect-dir", choices=("on", "off"),
+                       help="the manifest's redirect_dir (off where it isn't said)")
+    words.add_argument("--history", type=_history, metavar="N",
+                       help="the manifest's history, 2 to 1000000 (100000 where it isn't said)")
+    return words
+
+
+def _history(text: str) -> int:
+    count = int(text)
+    if not limits.HISTORY_LEAST <= count <= limits.HISTORY_MOST:
+        raise argparse.ArgumentTypeError("not from 2 to 1000000")
+    return count
+
+
+class Output:
+    """A file that appears when it is whole; or a stream, which with `waits` gets the manifest when
+    it is whole."""
+
+    def __init__(self, path: str, waits: bool) -> None:
+        self._path = path
+        self._partial = ""
+        self._final: Optional[BinaryIO] = None
+        if path == "-":
+            self._final = cast(BinaryIO, sys.stdout.buffer)
+        elif os.path.exists(path) and not os.path.isfile(path):
+            self._final = open(path, "wb")
+        if self._final is None:
+            self.stream = self._beside()
+        elif waits:
+            self.stream = cast(BinaryIO, tempfile.TemporaryFile(prefix=f"{PROGRAM}-"))
+        else:
+            self.stream = self._final
+
+    def _beside(self) -> BinaryIO:
+        """A file with another name in the same folder."""
+        folder, name = os.path.split(self._path)
+        try:
+            descriptor, self._partial = tempfile.mkstemp(
+                prefix=f".{name}.", suffix=".part", dir=folder or ".")
+        except OSError as error:
+            raise OSError(error.errno, error.strerror, self._path) from None
+        return os.fdopen(descriptor, "wb", buffering=1 << 20)
+
+    def identities(self) -> Set[Identity]:
+        """The unfinished file, which no source should be read to have."""
+        if not self._partial:
+            return set()
+        status = os.fstat(self.stream.fileno())
+        return {(status.st_dev, status.st_ino)}
+
+    def keep(self) -> None:
+        """The manifest is whole."""
+        if self._final is None:
+            mask = os.umask(0)
+            os.umask(mask)
+            os.fchmod(self.stream.fileno(), 0o666 & ~mask)
+            self.stream.close()
+            os.replace(self._partial, self._path)
+            return
+        if self.stream is not self._final:
+            self.stream.seek(0)
+            shutil.copyfileobj(self.stream, self._final, 1 << 20)
+        self._final.flush()
+
+    def drop(self) -> None:
+        """It isn't; nothing of it stays."""
+        if self._partial:
+            self.stream.close()
+            os.unlink(self._partial)
+
+
+def run(words: argparse.Namespace, report: Report) -> None:
+    """Imports what the command line says."""
+    wish = Wish(words.sources, Choice(words.image, words.platform), words.empty_upper,
+                words.redirect_dir, words.history)
+    output = Output(words.output, waits=words.strict)
+    try:
+        layers = plan(wish, report, output.identities())
+        writer = ManifestWriter(output.stream, wish.redirect_dir, wish.history)
+        write(layers, writer, report)
+        output.keep()
+    except BaseException:
+        output.drop()
+        raise
+    report.sum_up(writer.layers, writer.objects, writer.bytes)
+
+
+@contextlib.contextmanager
+def _unwound_by_sigterm() -> Iterator[None]:
+    """Lets SIGTERM end the process so that unfinished files go."""
+    if threading.current_thread() is not threading.main_thread():
+        yield
+        return
+    before = signal.signal(signal.SIGTERM, lambda number, frame: sys.exit(128 + number))
+    try:
+        yield
+    finally:
+        signal.signal(signal.SIGTERM, before)
+
+
+def main(arguments: Optional[List[str]] = None) -> int:
+    """Runs the command; the exit status."""
+    words = parser().parse_args(arguments)
+    report = Report(sys.stderr, words.strict, words.quiet)
+    try:
+        with _unwound_by_sigterm():
+            run(words, report)
+        return 0
+    except Refused as refused:
+        return report.end(str(refused))
+    except BrokenPipeError:
+        # what is left in the buffer must not fail once more at the end
+        os.dup2(os.open(os.devnull, os.O_WRONLY), sys.stdout.fileno())
+        return report.end("nobody reads the output any more")
+    except OSError as error:
+        name = error.filename if error.filename is not None else words.output
+        return report.end(f"{shown(name) if name else 'stream'}: {error.strerror or error}")
+    except MemoryError:
+        return report.end("out of memory")
+    except KeyboardInterrupt:
+        report.end("interrupted")
+        return 130

@@ -1,0 +1,127 @@
+"""What stands in a layer, in the terms of a manifest."""
+
+from typing import Dict, Iterable, Iterator, List, Optional, Tuple
+
+Attributes = Tuple[Tuple[str, str], ...]
+Names = Tuple[str, ...]
+
+
+class Object:
+    """What a name of a layer leads to."""
+
+    __slots__ = ()
+
+
+class Whiteout(Object):
+    """The mark that hides what the layers below have at a name."""
+
+    __slots__ = ()
+
+
+WHITEOUT = Whiteout()
+
+
+class Inode(Object):
+    """An object with an owner; all but symbolic links have a mode and user attributes too."""
+
+    __slots__ = ("mode", "uid", "gid", "attrs")
+
+    def __init__(self, mode: int, uid: int, gid: int, attrs: Attributes = ()) -> None:
+        self.mode = mode
+        self.uid = uid
+        self.gid = gid
+        self.attrs = attrs
+
+
+class Directory(Inode):
+    """A directory; `opaque` and `redirect` are the marks of overlayfs.
+
+    `implied` says that its source didn't describe it: what is in it did. `fresh` says that it
+    stands beside a whiteout of its own name, and so has nothing in common with what is below.
+    """
+
+    __slots__ = ("children", "opaque", "redirect", "implied", "fresh")
+
+    def __init__(self, mode: int, uid: int, gid: int, attrs: Attributes = ()) -> None:
+        super().__init__(mode, uid, gid, attrs)
+        self.children: Dict[str, Object] = {}
+        self.opaque = False
+        self.redirect: Optional[str] = None
+        self.implied = False
+        self.fresh = False
+
+
+class Content:
+    """Where the bytes of files come from."""
+
+    def read_each(self, files: Iterable["File"]) -> Iterator[Tuple["File", bytes]]:
+        """Each of the files with its bytes, in the order that suits the source."""
+        raise NotImplementedError
+
+
+class File(Inode):
+    """A file. `place` tells its source where the bytes are; `linked`, that it may have more names.
+    """
+
+    __slots__ = ("source", "place", "size", "linked")
+
+    def __init__(self, mode: int, uid: int, gid: int, attrs: Attributes, size: int) -> None:
+        super().__init__(mode, uid, gid, attrs)
+        self.size = size
+        self.source: Content = Content()
+        self.place: object = None
+        self.linked = False
+
+    def copied_up(self) -> "File":
+        """A file of another layer with the same bytes and attributes."""
+        copy = File(self.mode, self.uid, self.gid, self.attrs, self.size)
+        copy.source = self.source
+        copy.place = self.place
+        return copy
+
+
+class Symlink(Inode):
+    """A symbolic link."""
+
+    __slots__ = ("target", "linked")
+
+    def __init__(self, uid: int, gid: int, target: str) -> None:
+        super().__init__(0o777, uid, gid)
+        self.target = target
+        self.linked = False
+
+    def copied_up(self) -> "Symlink":
+        """A symbolic link of another layer that leads to the same place."""
+        return Symlink(self.uid, self.gid, self.target)
+
+
+def at(root: Directory, names: Names) -> Optional[Object]:
+    """What stands at these names from the root of one layer."""
+    found: Optional[Object] = root
+    for name in names:
+        if not isinstance(found, Directory):
+            return None
+        found = found.children.get(name)
+    return found
+
+
+def path_text(names: Names) -> str:
+    """The path of these names from the root."""
+    return "/" + "/".join(names)
+
+
+def walk(root: Directory) -> Iterator[Tuple[str, Object]]:
+    """Each path of a tree with what stands there: a directory before what is in it, names by
+    their bytes."""
+    yield "/", root
+    stack: List[Tuple[str, Iterator[str], Directory]] = [("/", iter(sorted(root.children)), root)]
+    while stack:
+        base, names, directory = stack[-1]
+        name = next(names, None)
+        if name is None:
+            stack.pop()
+            continue
+        node = directory.children[name]
+        yield base + name, node
+        if isinstance(node, Directory):
+            stack.append((base + name + "/", iter(sorted(node.children)), node))

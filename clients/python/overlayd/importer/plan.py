@@ -1,0 +1,109 @@
+"""From sources to a manifest: which layers there are, and writing them."""
+
+import os
+import sys
+from typing import List, NamedTuple, Optional, Set, Tuple, Union
+
+from . import limits
+from .blobs import Blob
+from .directories import DirectoryLayer, Identity
+from .images import Choice, DirectoryArchive, archive_in, layers_of
+from .merging import Merge, TreeLayer, flatten
+from .objects import Directory
+from .tars import TarLayer
+from .telling import Refused, Report, shown
+from .writing import LayerWriter, ManifestWriter, write_tree
+
+Writable = Union[DirectoryLayer, TarLayer, TreeLayer]
+Source = Union[str, Blob]
+
+
+class Wish(NamedTuple):
+    """What is asked for: sources from the top, and how to read them."""
+
+    sources: List[str]
+    choice: Choice = Choice()
+    empty_upper: bool = False
+    redirect_dir: Optional[str] = None
+    history: Optional[int] = None
+
+
+def _sources(text: str, choice: Choice) -> Tuple[List[Source], bool]:
+    """The layers of one source, the highest first, and whether it is an image."""
+    kind, colon, rest = text.partition(":")
+    if not (colon and kind in ("dir", "tar", "image")):
+        kind, rest = "", text
+    if rest != "-" and os.path.isdir(rest):
+        archive = DirectoryArchive(rest)
+        if kind == "image" or (kind == "" and archive.is_image()):
+            return list(layers_of(archive, choice)), True
+        if kind == "tar":
+            raise Refused(f"{shown(rest)}: a directory and no tar")
+        return [rest], False
+    if kind == "dir":
+        raise Refused(f"{shown(rest)}: no directory")
+    stdin = sys.stdin.buffer
+    blob = Blob.of_stream("standard input", stdin) if rest == "-" else Blob.of_path(rest)
+    found = None if kind == "tar" else archive_in(blob)
+    if found is not None and (kind == "image" or found.is_image()):
+        return list(layers_of(found, choice)), True
+    if kind == "image":
+        raise Refused(f"{shown(blob.name)}: no archive of docker save and no OCI layout")
+    return [blob], False
+
+
+def plan(wish: Wish, report: Report, skip: Set[Identity]) -> List[Writable]:
+    """The layers of the manifest: an upper and 1 to 16 lower ones."""
+    found: List[Source] = []
+    needs_upper = wish.empty_upper
+    for number, text in enumerate(wish.sources):
+        sources, is_image = _sources(text, wish.choice)
+        found += sources
+        needs_upper = needs_upper or (number == 0 and is_image)
+    layers = _layers(found, report, skip)
+    lowers = len(layers) - (0 if needs_upper or len(layers) == 1 else 1)
+    if lowers > limits.LOWERS_MOST:
+        count = lowers - limits.LOWERS_MOST + 1
+        report.note(f"{lowers} lower layers, of which 16 fit: the lowest {count} are made one")
+        layers[-count:] = [TreeLayer(flatten(layers[-count:]))]
+    if needs_upper or len(layers) == 1:
+        layers.insert(0, TreeLayer(_empty_over(layers[:1])))
+    if len(layers) == 1:
+        layers.append(TreeLayer(Directory(0o755, 0, 0)))
+    return layers
+
+
+def _layers(sources: List[Source], report: Report, skip: Set[Identity]) -> List[Writable]:
+    """The layers of the sources, the highest first, down to one that hides all below it."""
+    layers: List[Writable] = []
+    for source in reversed(sources):
+        layer: Union[DirectoryLayer, TarLayer]
+        if isinstance(source, Blob):
+            layer = TarLayer(source, report, Merge(layers))
+        else:
+            layer = DirectoryLayer(source, report, skip)
+        layer.covers = bool(layers)
+        if isinstance(layer, TarLayer) and layer.tree().opaque:
+            report.note(f"{shown(layer.name)}: its root is opaque: what is below it is left away")
+            layers = []
+            layer.tree().opaque = False
+        layers.insert(0, layer)
+    return layers
+
+
+def _empty_over(below: List[Writable]) -> Directory:
+    """A directory with nothing in it and the attributes of the root below."""
+    if not below:
+        return Directory(0o755, 0, 0)
+    root = below[0].root()
+    return Directory(root.mode, root.uid, root.gid, root.attrs)
+
+
+def write(layers: List[Writable], writer: ManifestWriter, report: Report) -> None:
+    """Writes the layers one after the other."""
+    for number, layer in enumerate(layers, 1):
+        out = LayerWriter(writer, f"layer {number} of {len(layers)}", report)
+        if isinstance(layer, TreeLayer):
+            write_tree(out, layer.tree())
+        else:
+            layer.write(out)

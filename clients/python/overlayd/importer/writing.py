@@ -1,0 +1,187 @@
+"""Writes manifests, entry by entry."""
+
+import re
+from binascii import hexlify
+from typing import BinaryIO, Dict, List, Optional, Tuple
+
+from .limits import text_of
+from .objects import Content, Directory, File, Inode, Object, Symlink, Whiteout, walk
+from .telling import Report
+
+_CONTROLS = bytes(set(range(0x20)) - set(b"\n\t")) + b"\x7f"
+_ONE_CONTROL = re.compile(b"[" + re.escape(_CONTROLS) + b"]")
+
+
+def _escaped(raw: bytes) -> bytes:
+    """The inside of a TOML text, of bytes that are UTF-8."""
+    raw = raw.replace(b"\\", b"\\\\").replace(b'"', b'\\"')
+    raw = raw.replace(b"\n", b"\\n").replace(b"\t", b"\\t")
+    if len(raw.translate(None, _CONTROLS)) < len(raw):
+        raw = _ONE_CONTROL.sub(lambda found: b"\\u%04x" % ord(found.group()), raw)
+    return raw
+
+
+def quoted(text: str) -> str:
+    """A TOML text."""
+    return f'"{_escaped(text.encode("utf-8")).decode("utf-8")}"'
+
+
+def bytes_line(data: bytes) -> bytes:
+    """The line of an entry that says a file's bytes, in the shortest of the three forms."""
+    if not data:
+        return b""
+    if not data.strip(b"\0"):
+        return b"zeros = %d\n" % len(data)
+    if text_of(data) is not None:
+        text = _escaped(data)
+        if len(text) <= 2 * len(data):
+            return b'text = "%b"\n' % text
+    return b'hex = "%b"\n' % hexlify(data)
+
+
+class ManifestWriter:
+    """Writes a manifest to a binary stream: options first, then layers and their entries."""
+
+    def __init__(self, out: BinaryIO, redirect_dir: Optional[str], history: Optional[int]) -> None:
+        self._out = out
+        self._began = False
+        self.layers = 0
+        self.objects = 0
+        self.bytes = 0
+        if redirect_dir is not None:
+            self._line(f"redirect_dir = {quoted(redirect_dir)}")
+        if history is not None:
+            self._line(f"history = {history}")
+
+    def layer(self) -> None:
+        """Begins a layer."""
+        if self._began:
+            self._out.write(b"\n")
+        self._line("[[layer]]")
+        self.layers += 1
+
+    def root(self, node: Directory) -> None:
+        """Says what the root of the layer is like, where it isn't as a root is by default."""
+        if (node.mode, node.uid, node.gid, node.attrs) != (0o755, 0, 0, ()):
+            self._entry("/", "dir", self._inode_lines(node, 0o755))
+
+    def directory(self, path: str, node: Directory) -> None:
+        """A directory other than the root."""
+        lines = self._inode_lines(node, 0o755)
+        if node.opaque:
+            lines.append("opaque = true")
+        if node.redirect is not None:
+            lines.append(f"redirect = {quoted(node.redirect)}")
+        self._entry(path, "dir", lines)
+
+    def file(self, path: str, node: File, data: bytes) -> None:
+        """A file with its bytes."""
+        self._entry(path, "file", self._inode_lines(node, 0o644))
+        self._out.write(bytes_line(data))
+        self.bytes += len(data)
+
+    def symlink(self, path: str, node: Symlink) -> None:
+        """A symbolic link."""
+        lines = [f"target = {quoted(node.target)}"]
+        self._entry(path, "symlink", self._owner_lines(node) + lines)
+
+    def whiteout(self, path: str) -> None:
+        """The mark that hides what is below."""
+        self._entry(path, "whiteout", [])
+
+    def link(self, path: str, to: str) -> None:
+        """A further name of what was written at `to`."""
+        self._entry(path, "link", [f"to = {quoted(to)}"])
+
+    def _line(self, line: str) -> None:
+        self._out.write(line.encode("utf-8") + b"\n")
+        self._began = True
+
+    def _entry(self, path: str, kind: str, lines: List[str]) -> None:
+        head = f'\n[[layer.entry]]\npath = {quoted(path)}\nkind = "{kind}"\n'
+        self._out.write((head + "".join(f"{line}\n" for line in lines)).encode("utf-8"))
+        self.objects += 1
+
+    @staticmethod
+    def _owner_lines(node: Inode) -> List[str]:
+        lines = []
+        if node.uid:
+            lines.append(f"uid = {node.uid}")
+        if node.gid:
+            lines.append(f"gid = {node.gid}")
+        return lines
+
+    def _inode_lines(self, node: Inode, mode: int) -> List[str]:
+        lines = [f"mode = 0o{node.mode:o}"] if node.mode != mode else []
+        lines += self._owner_lines(node)
+        if node.attrs:
+            pairs = (f"[{quoted(name)}, {quoted(value)}]" for name, value in node.attrs)
+            lines.append(f"attrs = [{', '.join(pairs)}]")
+        return lines
+
+
+class LayerWriter:
+    """Writes what one layer has; a second name of one object becomes a link."""
+
+    def __init__(self, writer: ManifestWriter, what: str, report: Report) -> None:
+        self._writer = writer
+        self._what = what
+        self._report = report
+        self._first: Dict[int, Tuple[Object, str]] = {}
+        writer.layer()
+
+    def again(self, path: str, node: Object) -> bool:
+        """Writes a further name of what stands already; False where this is its first."""
+        first = self._first.get(id(node))
+        if first is None:
+            return False
+        self._writer.link(path, first[1])
+        return True
+
+    def first(self, path: str, node: Object) -> None:
+        """Keeps the first name of an object that may have more."""
+        if isinstance(node, (File, Symlink)) and node.linked:
+            self._first[id(node)] = (node, path)
+
+    def plain(self, path: str, node: Object) -> None:
+        """Writes what has no bytes: a directory, a symbolic link or a whiteout."""
+        self._report.progress(self._what, self._writer.objects, self._writer.bytes)
+        if isinstance(node, Directory):
+            if path == "/":
+                self._writer.root(node)
+            else:
+                self._writer.directory(path, node)
+        elif isinstance(node, Symlink):
+            self._writer.symlink(path, node)
+            self.first(path, node)
+        elif isinstance(node, Whiteout):
+            self._writer.whiteout(path)
+
+    def file(self, path: str, node: File, data: bytes) -> None:
+        """Writes a file under its first name."""
+        self._report.progress(self._what, self._writer.objects, self._writer.bytes)
+        self._writer.file(path, node, data)
+        self.first(path, node)
+
+
+def write_tree(layer: LayerWriter, root: Directory) -> None:
+    """Writes a whole tree: first what has no bytes, by paths; then the files of each source, as
+    they come there, the source of the first path first; then further names."""
+    files: Dict[Content, Dict[File, str]] = {}
+    seen: Dict[int, str] = {}
+    again: List[Tuple[str, Object]] = []
+    for path, node in walk(root):
+        if isinstance(node, (File, Symlink)) and node.linked:
+            if id(node) in seen:
+                again.append((path, node))
+                continue
+            seen[id(node)] = path
+        if isinstance(node, File):
+            files.setdefault(node.source, {})[node] = path
+        else:
+            layer.plain(path, node)
+    for source, paths in files.items():
+        for file, data in source.read_each(paths):
+            layer.file(paths[file], file, data)
+    for path, node in again:
+        layer.again(path, node)

@@ -1,0 +1,83 @@
+"""The program itself, for tests that need it: where it is, and a server of it."""
+
+import os
+import pathlib
+import subprocess
+import tempfile
+import time
+
+from overlayd import Client
+
+ROOT = pathlib.Path(__file__).resolve().parents[3]
+# How long anything may take, on a machine that may be busy.
+WAIT = 120.0
+
+
+def program():
+    """The program that OVERLAYD names, or that was built here; None without one."""
+    named = os.environ.get("OVERLAYD")
+    if named:
+        return named
+    built = ROOT / "crates" / "overlayd" / "out" / "overlayd"
+    return str(built) if built.is_file() else None
+
+
+def why_not():
+    """Why there can be no server; None where there can be one."""
+    found = program()
+    if found is None:
+        return "overlayd isn't built, and OVERLAYD doesn't name it"
+    asked = subprocess.run([found, "serve", "--help"], stdin=subprocess.DEVNULL,
+                           stdout=subprocess.DEVNULL, stderr=subprocess.DEVNULL, timeout=WAIT)
+    return None if asked.returncode == 0 else f"{found} has no serve"
+
+
+def played(manifest, script):
+    """What the program prints for a script, and its exit status."""
+    with tempfile.TemporaryDirectory() as folder:
+        path = os.path.join(folder, "m.toml")
+        pathlib.Path(path).write_text(manifest)
+        done = subprocess.run([program(), "play", path], input="\n".join(script) + "\n",
+                              stdout=subprocess.PIPE, stderr=subprocess.PIPE, text=True,
+                              timeout=WAIT)
+    return done.stdout.splitlines(), done.returncode
+
+
+class Server:
+    """A running `serve` of a manifest; at the end of its block it is ended.
+
+    With `sessions`, each worker ends after so many, and `status` waits for the program's own end.
+    """
+
+    def __init__(self, manifest, workers=64, sessions=None):
+        self._folder = tempfile.TemporaryDirectory()
+        self.path = os.path.join(self._folder.name, "s")
+        described = os.path.join(self._folder.name, "m.toml")
+        pathlib.Path(described).write_text(manifest)
+        command = [program(), "serve", described, self.path, "--workers", str(workers)]
+        if sessions is not None:
+            command += ["--sessions", str(sessions)]
+        self.process = subprocess.Popen(command, stdin=subprocess.DEVNULL)
+
+    def __enter__(self):
+        return self
+
+    def __exit__(self, kind, error, trace):
+        self.process.kill()
+        self.process.wait()
+        self._folder.cleanup()
+
+    def client(self):
+        """A client, once the server listens."""
+        limit = time.monotonic() + WAIT
+        while True:
+            try:
+                return Client(self.path, timeout=WAIT)
+            except (FileNotFoundError, ConnectionRefusedError):
+                if time.monotonic() > limit or self.process.poll() is not None:
+                    raise
+                time.sleep(0.005)
+
+    def status(self):
+        """The program's exit status, once it has ended by itself."""
+        return self.process.wait(WAIT)
