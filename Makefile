@@ -1,5 +1,5 @@
 # What can be made; `make` alone lists it.
-.PHONY: help show play build test
+.PHONY: help show play build test test-clients
 
 EXAMPLE := examples/change-layer
 
@@ -8,6 +8,7 @@ help:
 	@echo "make play    play $(EXAMPLE).script on it, likewise"
 	@echo "make build   prove the program and leave it at out/overlayd: about an hour, interruptible"
 	@echo "make test    the gate: every proof, test, refused edit and program run"
+	@echo "make test-clients  tests the Python tools, with the program where it is built"
 
 show:
 	@tools/need-kit && tools/try show $(EXAMPLE).toml
@@ -23,3 +24,6 @@ build:
 test:
 	@tools/need-kit
 	RT_JOBS=$$(($$(nproc) < 4 ? $$(nproc) : 4)) rt ci
+
+test-clients:
+	python3 -m unittest discover -s clients/python/tests -t clients/python
