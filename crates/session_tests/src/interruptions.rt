@@ -1,7 +1,7 @@
 // Reads and writes that are interrupted, flushes that fail, and devices that are out of memory.
 use crate::devices::{Pieces, Taker};
 use crate::mounts::ending;
-use crate::rows::{replies_to, requests};
+use crate::rows::{ROWS, first_replies, replies_to, requests};
 use crate::shaky::{Failing, ShakyReader, ShakyWriter, Unflushed};
 use ov_session::Ending;
 use std::hash::RandomState;
@@ -60,36 +60,36 @@ fn a_write_is_interrupted_too_often(rt: HostRuntime) -> Result<(), Fail> {
     Ok(())
 }
 
-// Each byte that comes is followed by a flush, and a detach by one more, behind its reply. Where the
-// last byte's flush fails, the detach that this byte ends is not answered.
+// Each request is followed by a flush behind its reply. A detach is followed by one before its reply,
+// and by one behind it; where the first fails, the detach is not answered.
 #[test]
 fn a_flush_fails(rt: HostRuntime) -> Result<(), Fail> {
     let alloc = rt.alloc();
     let keys = RandomState::new(&rt)?;
     let bytes = requests(alloc)?;
-    let len = bytes.len();
+    let asked = ROWS.len();
     for (kind, wanted) in [
         (ErrorKind::BrokenPipe, Ending::Write),
         (ErrorKind::OutOfMemory, Ending::Memory),
     ] {
-        for flushes in 0..=len {
-            let mut reader = Pieces::single(bytes.as_slice(), len);
+        for flushes in 0..=asked {
+            let mut reader = Pieces::single(bytes.as_slice(), bytes.len());
             let mut writer = Unflushed::new(Taker::new(alloc), flushes, kind);
             let end = ending(alloc, keys, &mut reader, &mut writer)?;
             assert_eq!(rt; end, wanted, "{flushes}");
-            let served = if flushes + 1 == len {
-                flushes
-            } else {
+            let answered = if flushes + 1 < asked {
                 flushes + 1
+            } else {
+                flushes
             };
-            let replies = replies_to(alloc, served)?;
+            let replies = first_replies(alloc, answered)?;
             assert!(rt;
                 writer.taker.taken.as_slice() == replies.as_slice(),
                 "{flushes}"
             );
         }
-        let mut reader = Pieces::single(bytes.as_slice(), len);
-        let mut writer = Unflushed::new(Taker::new(alloc), len + 1, kind);
+        let mut reader = Pieces::single(bytes.as_slice(), bytes.len());
+        let mut writer = Unflushed::new(Taker::new(alloc), asked + 1, kind);
         let end = ending(alloc, keys, &mut reader, &mut writer)?;
         assert_eq!(rt; end, Ending::Detached);
     }

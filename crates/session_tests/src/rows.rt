@@ -52,3 +52,12 @@ pub fn replies_to(alloc: Global, len: usize) -> Result<Vec<u8>, AllocError> {
     }
     Ok(bytes)
 }
+
+/// The replies to the first so many requests.
+pub fn first_replies(alloc: Global, count: usize) -> Result<Vec<u8>, AllocError> {
+    let mut bytes = Vec::new(alloc);
+    for (_, reply) in &ROWS[..count.min(ROWS.len())] {
+        bytes.extend_from_slice(reply)?;
+    }
+    Ok(bytes)
+}
