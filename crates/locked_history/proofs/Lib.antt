@@ -1,0 +1,6 @@
+pub mod Beginning
+pub mod Numbering
+pub mod Boxes
+pub mod Growing
+pub mod Standing
+mod Histories
