@@ -8,7 +8,9 @@ use Rattle.clap.specs.declared.error.Error.{Error}
 use Rattle.clap.specs.declared.error.kind.ErrorKind.TheVariants as kind
 use Rattle.clap.specs.declared.parser.matches.ArgMatches.{ArgMatches}
 use Rattle.ov_server.specs.declared.arguments.Invocation.{Invocation}
-use Rattle.ov_server.specs.declared.arguments.Invocation.TheVariants.{Show, Play}
+use Rattle.clap.specs.declared.builder.action.ArgAction.TheVariants as action
+use Rattle.clap.specs.declared.builder.value_parser.ValueParser.TheVariants as vp
+use Rattle.ov_server.specs.declared.arguments.Invocation.TheVariants.{Show, Play, Serve}
 
 -- the argument that names the manifest's file
 abbrev pub manifest_rule : Rule
@@ -23,20 +25,60 @@ abbrev pub bare_app : App
 bare_app = on_top (λ s. record s { has_version = true; subcommand_required = true })
     (new_app (codes "overlayd"))
 
--- THE COMMAND LINE: `overlayd show MANIFEST`, `overlayd play MANIFEST`, `overlayd --version` or
--- `overlayd --help`
+-- the argument that names the socket
+abbrev pub socket_rule : Rule
+socket_rule = record (new_rule (codes "SOCKET")) { required = true }
+
+-- `--workers N`: 1 to 64, and 8 where it is left out
+abbrev pub workers_rule : Rule
+workers_rule = record (new_rule (codes "workers")) {
+  long = Some (codes "workers");
+  value_names = 1;
+  parser = Some (vp.Unsigned 1 64);
+  defaults = codes "8" ∷ [];
+}
+
+-- `--sessions K`: 1 to 1,000,000
+abbrev pub sessions_rule : Rule
+sessions_rule = record (new_rule (codes "sessions")) {
+  long = Some (codes "sessions");
+  value_names = 1;
+  parser = Some (vp.Unsigned 1 1000000);
+}
+
+-- `--verbose`, or `-v`
+abbrev pub verbose_rule : Rule
+verbose_rule = record (new_rule (codes "verbose")) {
+  long = Some (codes "verbose");
+  short = Some 118;
+  action = Some action.SetTrue;
+}
+
+-- the subcommand that serves
+abbrev pub serve_app : App
+serve_app = with_rule (with_rule (with_rule (with_rule (app_named (codes "serve")) socket_rule)
+    workers_rule) sessions_rule) verbose_rule
+
+-- THE COMMAND LINE: `overlayd show MANIFEST`, `overlayd play MANIFEST`, `overlayd serve MANIFEST
+-- SOCKET` with its options, `overlayd --version` or `overlayd --help`
 abbrev pub overlayd_app : App
-overlayd_app = with_subcommand (with_subcommand bare_app (app_named (codes "show")).top) (app_named (codes "play")).top
+overlayd_app =
+    with_subcommand
+    (with_subcommand (with_subcommand bare_app (app_named (codes "show")).top)
+    (app_named (codes "play")).top)
+    serve_app.top
 
 -- the name of the subcommand
 abbrev pub name_of : Invocation → List ℕ
 name_of (Show manifest) = codes "show"
 name_of (Play manifest) = codes "play"
+name_of (Serve manifest socket workers sessions verbose) = codes "serve"
 
 -- the name of the manifest's file
 abbrev pub manifest_named : Invocation → List ℕ
 manifest_named (Show manifest) = manifest.now
 manifest_named (Play manifest) = manifest.now
+manifest_named (Serve manifest socket workers sessions verbose) = manifest.now
 
 -- a parse met the subcommand of this name, whose argument names this manifest
 pub record Names (matches : ArgMatches) (asked : Invocation) : Type 0 where

@@ -1,0 +1,3 @@
+pub mod Telling
+pub mod Sessions
+pub mod Joining

@@ -1,0 +1,14 @@
+//! The server of a mount on a Unix socket: worker threads, each of which serves one connection at a
+//! time as a client of the mount.
+#![tactic(auto)]
+
+mod client;
+mod endings;
+mod reports;
+mod serving;
+mod worker;
+
+pub use client::{Parting, serve_client};
+pub use reports::Reports;
+pub use serving::{Served, ServeOptions, serve_on};
+pub use worker::WorkerEnd;

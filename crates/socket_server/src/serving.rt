@@ -1,0 +1,86 @@
+// All workers of a server.
+use crate::reports::Reports;
+use crate::worker::{WorkerEnd, work};
+use locked_history::{Blank, Mount, MountName, Receipt};
+use std::alloc::{AllocError, Global};
+use std::io::Eprint;
+use std::os::unix::net::UnixListener;
+use std::sync::Wait;
+use std::thread;
+use std::thread::Threads;
+use watch_table::{Callback, Hook, Rule};
+
+/// How a server serves.
+#[derive(Clone, Copy, Debug, PartialEq, Eq)]
+pub struct ServeOptions<'a> {
+    /// The path of its socket, which is told where it listens.
+    pub socket: &'a str,
+    /// How many connections it serves at once.
+    pub workers: usize,
+    /// After how many sessions each worker ends; none where they never do.
+    pub sessions: Option<u64>,
+    /// Whether it tells what it does.
+    pub verbose: bool,
+}
+
+/// How a server ended.
+#[derive(Clone, Copy, Debug, PartialEq, Eq)]
+pub enum Served {
+    /// Each worker served its sessions.
+    Done,
+    /// A worker could not go on, which was told.
+    Failed,
+}
+
+// All receipts of the workers.
+fn gathered<N: MountName>(
+    alloc: Global,
+    ends: Vec<WorkerEnd<N>>,
+) -> Result<Vec<Receipt<N>>, AllocError> {
+    let mut all = Vec::new(alloc);
+    for end in ends {
+        let mut receipts = end.receipts;
+        all.append(&mut receipts)?;
+    }
+    Ok(all)
+}
+
+/// Serves the clients of a blank mount on a socket, each with copies of these hooks, until all
+/// workers have ended. It is called in a function that is generic in the mount's name.
+pub fn serve_on<N, F, R, H>(
+    rt: &H,
+    alloc: Global,
+    listener: &UnixListener,
+    blank: Blank<F, R>,
+    hooks: &[Hook<F, R>],
+    options: &ServeOptions<'_>,
+) -> Result<Served, AllocError>
+where
+    N: MountName,
+    F: Callback + Copy + Send + Sync,
+    R: Rule + Send + Sync,
+    H: Threads + Wait + Eprint + Sync,
+{
+    let mount: Mount<N, F, R> = Mount::open(blank);
+    let reports = Reports::new(rt, alloc, options.verbose);
+    reports.listens(options.socket, options.workers);
+    let ends = thread::map_indices(rt, alloc, options.workers, &|_| {
+        work(
+            rt,
+            alloc,
+            listener,
+            &mount,
+            hooks,
+            &reports,
+            options.sessions,
+        )
+    })?;
+    let receipts = gathered(alloc, ends)?;
+    let (past, _) = mount.finish(receipts);
+    reports.sums_up(past.len());
+    if reports.has_failed() {
+        Ok(Served::Failed)
+    } else {
+        Ok(Served::Done)
+    }
+}
