@@ -1,12 +1,15 @@
 # What can be made; `make` alone lists it.
-.PHONY: help show play build test
+.PHONY: help show play build serve test-serve test
 
 EXAMPLE := examples/change-layer
+SOCKET := out/overlay.socket
 
 help:
 	@echo "make show    print the merged tree of $(EXAMPLE).toml: an unproved build, within 2 minutes"
 	@echo "make play    play $(EXAMPLE).script on it, likewise"
 	@echo "make build   prove the program and leave it at out/overlayd: about an hour, interruptible"
+	@echo "make serve   build, then serve $(EXAMPLE).toml on the socket $(SOCKET) until interrupted"
+	@echo "make test-serve  test the built server over sockets of its own; needs python3"
 	@echo "make test    the gate: every proof, test, refused edit and program run"
 
 show:
@@ -17,6 +20,14 @@ play:
 
 build:
 	@tools/need-kit && tools/build
+
+# The server leaves its socket's file behind, and takes no path that is taken.
+serve: build
+	@rm -f $(SOCKET)
+	out/overlayd serve $(EXAMPLE).toml $(SOCKET) --verbose
+
+test-serve:
+	@tools/test-serve
 
 # The gate has at most four proofs side by side, with one job each: several jobs on one proof take
 # up to half as much processor time again.

@@ -1,3 +1,4 @@
+pub mod Exchanges
 pub mod Telling
 pub mod Sessions
 pub mod Joining

@@ -48,8 +48,5 @@ fn texts_like(alloc: Global, texts: &Texts) -> Result<Texts, AllocError>
 fn notices_like(alloc: Global, notices: &Notices) -> Result<Notices, AllocError>
     ensures { IfOk result (λ copy. copy ≡ notices.now) }
 {
-    Ok(Notices::from_vec(Vec::from_slice(
-        alloc,
-        notices.as_slice(),
-    )?))
+    Ok(Notices::from_vec(Vec::from_slice(alloc, notices.as_slice())?))
 }

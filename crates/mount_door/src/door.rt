@@ -70,8 +70,7 @@ impl<'m, N: MountName, F: Callback, R: Rule, G: Gate, H: Wait> MountDoor<'m, N, 
 }
 
 impl<N: MountName, F: Callback + Drop, R: Rule, G: Gate, H: Wait> Door
-    for MountDoor<'_, N, F, R, G, H>
-{
+    for MountDoor<'_, N, F, R, G, H> {
     type Session = MountSession<N, F, R>;
 
     ghost use Rattle.std.specs.Prelude.{◌≡◌, ◌<◌};
@@ -79,7 +78,7 @@ impl<N: MountName, F: Callback + Drop, R: Rule, G: Gate, H: Wait> Door
     ghost use Rattle.mount_door.specs.Telling.{AreAnswered};
     ghost use Rattle.mount_door.specs.Joining.{answered_on};
 
-    ghost told = { λ s. s.told.items };
+    ghost told = { λ s. s.told };
 
     ghost goes = { λ d told e. AreAnswered told };
 
@@ -92,7 +91,7 @@ impl<N: MountName, F: Callback + Drop, R: Rule, G: Gate, H: Wait> Door
     fn call(&mut self, session: &mut MountSession<N, F, R>, call: Call) -> CallOutcome {
         let asked = Snapshot::of(&call);
         if session.reserve().is_err() {
-            session.refuse(&asked, Errno::ENOMEM);
+            session.refuse(asked, Errno::ENOMEM);
             return CallOutcome::Answered;
         }
         let mut next = session.session();
@@ -101,7 +100,7 @@ impl<N: MountName, F: Callback + Drop, R: Rule, G: Gate, H: Wait> Door
                 let mut receipt = receipt;
                 match self.answer_in(&mut receipt) {
                     Ok(answer) => {
-                        session.tell(next, &asked, receipt, answer);
+                        session.tell(next, asked, receipt, answer);
                         CallOutcome::Answered
                     }
                     Err(_) => {
@@ -111,11 +110,11 @@ impl<N: MountName, F: Callback + Drop, R: Rule, G: Gate, H: Wait> Door
                 }
             }
             Err(Refused::Stopped) => {
-                session.hold_back(&asked);
+                session.hold_back(asked);
                 CallOutcome::HeldBack
             }
             Err(why) => {
-                session.refuse(&asked, errno_of(why));
+                session.refuse(asked, errno_of(why));
                 CallOutcome::Answered
             }
         }

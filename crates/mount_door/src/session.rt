@@ -26,11 +26,11 @@ pub struct MountSession<N: MountName, F: Callback, R: Rule> {
     told: Told,
     hooks: Option<Vec<Hook<F, R>>>,
     calls: u64,
-    ghost claimed: { ∥ Tells session.client told.items receipts.items ∥₁ },
-    ghost last: { IfSome (last_answer told.items) (λ last. last ≡ answer) },
+    ghost claimed: { ∥ Tells session.client told receipts.items ∥₁ },
+    ghost last: { IfSome (last_answer told) (λ last. last ≡ answer) },
 }
 
-impl<N: MountName, F: Callback, R: Rule> MountSession<N, F, R> {
+impl<N: MountName, F: Callback + Drop, R: Rule> MountSession<N, F, R> {
     ghost use Rattle.mount_door.specs.Sessions.{Keeps};
 
     /// A session in which nothing was asked yet, of a client that was just attached. Its receipts go
@@ -38,7 +38,7 @@ impl<N: MountName, F: Callback, R: Rule> MountSession<N, F, R> {
     pub fn new(session: Session, receipts: Vec<Receipt<N>>) -> MountSession<N, F, R>
         ensures session { result.session ≡ session }
         ensures receipts { result.receipts ≡ receipts }
-        ensures nothing { result.told.items ≡ [] }
+        ensures nothing { result.told ≡ [] }
     {
         MountSession {
             session,
@@ -81,7 +81,7 @@ impl<N: MountName, F: Callback, R: Rule> MountSession<N, F, R> {
 
     // The answer to the last call that was told.
     pub(crate) fn answer(&self) -> &Answer
-        ensures { IfSome (last_answer self.now.told.items) (λ last. last ≡ result.now) }
+        ensures { IfSome (last_answer self.now.told) (λ last. last ≡ result.now) }
     {
         &self.answer
     }
@@ -113,10 +113,10 @@ impl<N: MountName, F: Callback, R: Rule> MountSession<N, F, R> {
     }
 
     // Tells a call that was refused its place, and why.
-    pub(crate) fn refuse(&mut self, call: &Snapshot<Call>, errno: Errno)
+    pub(crate) fn refuse(&mut self, call: Snapshot<Call>, errno: Errno)
         ensures keeps { Keeps self.old self.new }
-        ensures told { self.new.told.items
-            ≡ self.old.told.items ++ Called call.now.value (NotTaken errno) ∷ [] }
+        ensures told { self.new.told
+            ≡ self.old.told ++ Called call.value (NotTaken errno) ∷ [] }
         ensures room { self.new.receipts ≡ self.old.receipts }
     {
         self.calls = self.calls.saturating_add(1);
@@ -130,17 +130,17 @@ impl<N: MountName, F: Callback, R: Rule> MountSession<N, F, R> {
     pub(crate) fn tell(
         &mut self,
         next: Session,
-        call: &Snapshot<Call>,
+        call: Snapshot<Call>,
         receipt: Receipt<N>,
         answer: Answer,
     )
         requires room { vec_len self.old.receipts + 1 < vec_capacity self.old.receipts }
         requires client { next.client ≡ self.old.session.client }
         requires claims { ∥ (reply : _) × (answer ≡ Replied receipt.place reply)
-            × Claims receipt receipt.place self.old.session.client (deed.Called call.now.value reply) ∥₁ }
+            × Claims receipt receipt.place self.old.session.client (deed.Called call.value reply) ∥₁ }
         ensures session { self.new.session ≡ next }
-        ensures told { self.new.told.items
-            ≡ self.old.told.items ++ Called call.now.value answer ∷ [] }
+        ensures told { self.new.told
+            ≡ self.old.told ++ Called call.value answer ∷ [] }
         ensures spare { vec_len self.new.receipts < vec_capacity self.new.receipts }
     {
         self.session = next;
@@ -151,10 +151,10 @@ impl<N: MountName, F: Callback, R: Rule> MountSession<N, F, R> {
     }
 
     // Tells a call that was held back.
-    pub(crate) fn hold_back(&mut self, call: &Snapshot<Call>)
+    pub(crate) fn hold_back(&mut self, call: Snapshot<Call>)
         ensures keeps { Keeps self.old self.new }
-        ensures told { self.new.told.items
-            ≡ self.old.told.items ++ HeldBack call.now.value ∷ [] }
+        ensures told { self.new.told
+            ≡ self.old.told ++ HeldBack call.value ∷ [] }
         ensures room { self.new.receipts ≡ self.old.receipts }
     {
         self.told = self.told.and_held_back(call);
@@ -163,10 +163,9 @@ impl<N: MountName, F: Callback, R: Rule> MountSession<N, F, R> {
     // Tells that the client was detached, which needs no memory, and keeps the receipt and the hooks.
     pub(crate) fn part(&mut self, receipt: Receipt<N>, hooks: Vec<Hook<F, R>>)
         requires room { vec_len self.old.receipts < vec_capacity self.old.receipts }
-        requires claims {
-            Claims receipt receipt.place self.old.session.client deed.Detached }
-        ensures { self.new.told.items
-            ≡ self.old.told.items ++ Departed (Replied receipt.place Done) ∷ [] }
+        requires claims { Claims receipt receipt.place self.old.session.client deed.Detached }
+        ensures { self.new.told
+            ≡ self.old.told ++ Departed (Replied receipt.place Done) ∷ [] }
     {
         let answer = Answer::Replied {
             place: receipt.place() as u64,
@@ -179,7 +178,7 @@ impl<N: MountName, F: Callback, R: Rule> MountSession<N, F, R> {
 
     // Tells why the client was not detached.
     pub(crate) fn stay(&mut self, errno: Errno)
-        ensures { self.new.told.items ≡ self.old.told.items ++ Departed (NotTaken errno) ∷ [] }
+        ensures { self.new.told ≡ self.old.told ++ Departed (NotTaken errno) ∷ [] }
     {
         self.told = self.told.and_departed(&Answer::NotTaken(errno));
     }

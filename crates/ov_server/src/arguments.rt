@@ -22,9 +22,13 @@ pub const VERSION: &str = "0.3.0";
 #[derive(Clone, Copy, Debug, PartialEq, Eq)]
 pub enum Invocation<'a> {
     /// The merged tree of a manifest is printed.
-    Show { manifest: &'a str },
+    Show {
+        manifest: &'a str,
+    },
     /// A script is played on the mount of a manifest.
-    Play { manifest: &'a str },
+    Play {
+        manifest: &'a str,
+    },
     /// The mount of a manifest is served on a socket.
     Serve {
         manifest: &'a str,

@@ -1,17 +1,16 @@
 //! The program: shows the merged tree of a manifest, plays a script on its mount, or serves it.
 #![tactic(auto)]
 
-use locked_history::{Blank, MountName};
-use ov_server::{ByTag, ProgramRule};
+use locked_history::Blank;
 use ov_server::{
-    Fault, Input, Invocation, Output, command_line, core_of, hooks_by_slot, play_run, show_run,
+    ByTag, Fault, Input, Invocation, Output, ProgramRule, command_line, core_of, hooks_by_slot,
+    play_run, show_run,
 };
 use socket_server::{ServeOptions, Served, serve_on};
-use std::hash::RandomState;
 use std::env::Env;
 use std::fs::Files;
+use std::hash::RandomState;
 use std::io::{Eprint, Print};
-use std::marker::Brand;
 use std::net::Net;
 use std::os::unix::net::UnixListener;
 use std::process::ExitCode;
@@ -20,7 +19,6 @@ use std::rt::Runtime;
 use std::sync::Wait;
 use std::thread::Threads;
 use std::{env, fs, io};
-use watch_table::Hook;
 
 fn main(rt: HostRuntime) -> ExitCode {
     match run(&rt) {
@@ -30,7 +28,9 @@ fn main(rt: HostRuntime) -> ExitCode {
 }
 
 // The exit status, where nothing is to be told any more.
-fn run<R: Runtime + AllocGlobal + RandomSource + Net + Threads + Wait + Sync>(rt: &R) -> Result<u8, Fault> {
+fn run<R: Runtime + AllocGlobal + RandomSource + Net + Threads + Wait + Sync>(
+    rt: &R,
+) -> Result<u8, Fault> {
     let words = words(rt)?;
     let invocation = command_line(rt.alloc(), words.as_slice())?;
     let keys = keys(rt)?;
@@ -114,25 +114,7 @@ fn serve<R: Runtime + AllocGlobal + Net + Threads + Wait + Sync>(
         Err(fault) if fault.kind() == io::ErrorKind::OutOfMemory => return Err(Fault::Memory),
         Err(_) => return Err(Fault::Socket),
     };
-    serve_named::<Brand, R>(rt, &listener, blank, hooks.as_slice(), options)
-}
-
-// Serves under the name of the mount.
-fn serve_named<N: MountName, R: Runtime + AllocGlobal + Threads + Wait + Sync>(
-    rt: &R,
-    listener: &UnixListener,
-    blank: Blank<ByTag, ProgramRule>,
-    hooks: &[Hook<ByTag, ProgramRule>],
-    options: &ServeOptions<'_>,
-) -> Result<u8, Fault> {
-    match serve_on::<N, ByTag, ProgramRule, R>(
-        rt,
-        rt.alloc(),
-        listener,
-        blank,
-        hooks,
-        options,
-    )? {
+    match serve_on(rt, rt.alloc(), &listener, blank, hooks.as_slice(), options)? {
         Served::Done => Ok(0),
         Served::Failed => Ok(Fault::Socket.status()),
     }

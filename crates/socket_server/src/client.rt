@@ -56,8 +56,8 @@ where
     F: Callback + Copy,
     R: Rule,
     H: Wait + Eprint,
-    I: Read,
-    O: Write,
+    I: Read + Drop,
+    O: Write + Drop,
 {
     let number = reports.comes();
     let mut writer = writer;

@@ -8,6 +8,7 @@ use std::sync::atomic::{AtomicBool, AtomicU64, Ordering};
 
 /// What the workers of a server tell and count. Each line is written at once, so that lines of many
 /// threads don't mix; one that can't be written is lost.
+#[derive(Drop)]
 pub struct Reports<'r, E: Eprint> {
     rt: &'r E,
     alloc: Global,
@@ -33,8 +34,7 @@ impl<'r, E: Eprint> Reports<'r, E> {
     /// The server can be connected to.
     pub fn listens(&self, socket: &str, workers: usize) {
         if self.verbose {
-            if let Ok(line) = format!(
-                in self.alloc;
+            if let Ok(line) = format!(in self.alloc;
                 "overlayd: listening on {socket}, workers: {workers}\n"
             ) {
                 self.write(line);
@@ -52,8 +52,7 @@ impl<'r, E: Eprint> Reports<'r, E> {
     /// A session began.
     pub fn begins(&self, session: u64, client: u64) {
         if self.verbose {
-            if let Ok(line) = format!(
-                in self.alloc;
+            if let Ok(line) = format!(in self.alloc;
                 "overlayd: session {session} begins as client {client}\n"
             ) {
                 self.write(line);
@@ -65,9 +64,9 @@ impl<'r, E: Eprint> Reports<'r, E> {
     pub fn refuses(&self, session: u64, errno: Errno) {
         if self.verbose {
             let why = errno.text();
-            if let Ok(line) =
-                format!(in self.alloc; "overlayd: session {session} is not attached: {why}\n")
-            {
+            if let Ok(line) = format!(in self.alloc;
+                "overlayd: session {session} is not attached: {why}\n"
+            ) {
                 self.write(line);
             }
         }
@@ -78,8 +77,7 @@ impl<'r, E: Eprint> Reports<'r, E> {
         self.calls.fetch_add(calls, Ordering::SeqCst);
         if self.verbose {
             let how = ending_text(ending);
-            if let Ok(line) = format!(
-                in self.alloc;
+            if let Ok(line) = format!(in self.alloc;
                 "overlayd: session {session} ends after {calls} calls: {how}\n"
             ) {
                 self.write(line);
@@ -104,8 +102,7 @@ impl<'r, E: Eprint> Reports<'r, E> {
         if self.verbose {
             let sessions = self.sessions.load(Ordering::SeqCst);
             let calls = self.calls.load(Ordering::SeqCst);
-            if let Ok(line) = format!(
-                in self.alloc;
+            if let Ok(line) = format!(in self.alloc;
                 "overlayd: served {sessions} sessions and {calls} calls; the history has {entries} entries\n"
             ) {
                 self.write(line);

@@ -1,9 +1,14 @@
 // All workers of a server.
+ghost use Rattle.std.specs.Prelude.{◌≡◌, map};
+ghost use Rattle.once_cell.specs.Once.{cell_name};
+ghost use Rattle.locked_history.specs.Holding.{opening_of};
+
 use crate::reports::Reports;
 use crate::worker::{WorkerEnd, work};
 use locked_history::{Blank, Mount, MountName, Receipt};
 use std::alloc::{AllocError, Global};
 use std::io::Eprint;
+use std::marker::Brand;
 use std::os::unix::net::UnixListener;
 use std::sync::Wait;
 use std::thread;
@@ -45,9 +50,36 @@ fn gathered<N: MountName>(
     Ok(all)
 }
 
-/// Serves the clients of a blank mount on a socket, each with copies of these hooks, until all
-/// workers have ended. It is called in a function that is generic in the mount's name.
-pub fn serve_on<N, F, R, H>(
+/// Serves the clients of a mount on a socket, each with copies of these hooks, until all workers have
+/// ended. The receipts of all that the clients did are handed back.
+pub fn serve_mount<N, F, R, H>(
+    rt: &H,
+    alloc: Global,
+    listener: &UnixListener,
+    mount: &Mount<N, F, R>,
+    hooks: &[Hook<F, R>],
+    reports: &Reports<'_, H>,
+    options: &ServeOptions<'_>,
+) -> Result<Vec<Receipt<N>>, AllocError>
+where
+    N: MountName + Send + Sync,
+    F: Callback + Copy + Send + Sync,
+    R: Rule + Send + Sync,
+    H: Threads + Wait + Eprint + Sync,
+{
+    reports.listens(options.socket, options.workers);
+    let sessions = options.sessions;
+    let ends = thread::map_indices(
+        rt,
+        alloc,
+        options.workers,
+        &|_| { work(rt, alloc, listener, mount, hooks, reports, sessions) },
+    )?;
+    gathered(alloc, ends)
+}
+
+// Serves the clients of a blank mount, and ends its history.
+fn serve_blank<N, F, R, H>(
     rt: &H,
     alloc: Global,
     listener: &UnixListener,
@@ -56,26 +88,18 @@ pub fn serve_on<N, F, R, H>(
     options: &ServeOptions<'_>,
 ) -> Result<Served, AllocError>
 where
-    N: MountName,
+    N: MountName + Send + Sync,
     F: Callback + Copy + Send + Sync,
     R: Rule + Send + Sync,
     H: Threads + Wait + Eprint + Sync,
+    requires cells { map cell_name blank.row.items ≡ N.cells }
+    requires name { blank.tokens.name ≡ N.name }
+    requires parts { blank.tokens.parts ≡ N.parts }
+    requires opening { opening_of blank.core ≡ N.opening }
 {
     let mount: Mount<N, F, R> = Mount::open(blank);
     let reports = Reports::new(rt, alloc, options.verbose);
-    reports.listens(options.socket, options.workers);
-    let ends = thread::map_indices(rt, alloc, options.workers, &|_| {
-        work(
-            rt,
-            alloc,
-            listener,
-            &mount,
-            hooks,
-            &reports,
-            options.sessions,
-        )
-    })?;
-    let receipts = gathered(alloc, ends)?;
+    let receipts = serve_mount(rt, alloc, listener, &mount, hooks, &reports, options)?;
     let (past, _) = mount.finish(receipts);
     reports.sums_up(past.len());
     if reports.has_failed() {
@@ -83,4 +107,22 @@ where
     } else {
         Ok(Served::Done)
     }
+}
+
+/// Serves the clients of a blank mount on a socket, each with copies of these hooks, until all
+/// workers have ended. What they did is one legal history, in which each of their receipts stands.
+pub fn serve_on<F, R, H>(
+    rt: &H,
+    alloc: Global,
+    listener: &UnixListener,
+    blank: Blank<F, R>,
+    hooks: &[Hook<F, R>],
+    options: &ServeOptions<'_>,
+) -> Result<Served, AllocError>
+where
+    F: Callback + Copy + Send + Sync,
+    R: Rule + Send + Sync,
+    H: Threads + Wait + Eprint + Sync,
+{
+    serve_blank::<Brand, F, R, H>(rt, alloc, listener, blank, hooks, options)
 }

@@ -30,9 +30,7 @@ fn serve_next<N: MountName, F: Callback + Copy, R: Rule, H: Wait + Eprint>(
             detached: false,
         };
     };
-    serve_client(
-        rt, alloc, mount, hooks, reports, &stream, &stream, receipts,
-    )
+    serve_client(rt, alloc, mount, hooks, reports, &stream, &stream, receipts)
 }
 
 /// Takes connections, so many or without an end, and serves each. It ends early where it can take

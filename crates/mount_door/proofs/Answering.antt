@@ -1,0 +1,30 @@
+-- What was told last, and that what was answered goes on so.
+use Rattle.std.proofs.Common.{◌≡◌, ◌∙◌, List, [], ◌∷◌, ◌++◌, Option, Some, None, refl, sym, tt}
+use Rattle.std.specs.Option.{IfSome}
+use Rattle.ov_frames.specs.declared.answer.Answer.{Answer}
+use Rattle.ov_session.specs.Doors.{IsLastAnswer}
+use Rattle.ov_session.specs.declared.exchange.Exchange.{Exchange}
+use Rattle.ov_session.specs.declared.exchange.Exchange.TheVariants.{Called, HeldBack, Departed}
+use Rattle.mount_door.specs.Telling.{last_answer, last_from}
+
+-- what is told last of two parts is told last of the second
+last_append : (known : Option Answer) (xs ys : List Exchange) →
+    last_from known (xs ++ ys) ≡ last_from (last_from known xs) ys
+last_append known [] ys = refl
+last_append known (Called call answer ∷ xs) ys = last_append (Some answer) xs ys
+last_append known (HeldBack call ∷ xs) ys = last_append None xs ys
+last_append known (Departed answer ∷ xs) ys = last_append None xs ys
+
+-- the last of what was told with one exchange more
+pub last_more : (xs : List Exchange) (x : Exchange) →
+    last_answer (xs ++ x ∷ []) ≡ last_from (last_answer xs) (x ∷ [])
+last_more xs x = last_append None xs (x ∷ [])
+
+-- the answer that is told last is the last answer
+pub is_last : (told : List Exchange) (answer : Answer) →
+    IfSome (last_answer told) (λ last. last ≡ answer) → IsLastAnswer told answer
+is_last told answer h before call last e = sym (known (last_answer told) h (rw e (last_more before _)))
+  where
+    known : (o : Option Answer) → IfSome o (λ x. x ≡ answer) → o ≡ Some last → last ≡ answer
+    known None h e = cc
+    known (Some x) h e = let same : x ≡ last = cc in sym same ∙ h

@@ -1,0 +1,2 @@
+mod Answering
+mod Claiming
