@@ -41,6 +41,10 @@ abbrev pub AreAnswered : List Exchange → Type 0
 AreAnswered [] = Unit {0}
 AreAnswered (x ∷ told) = IsAnswered x × AreAnswered told
 
+-- so a door answers whose states are not told
+abbrev pub Answering : Unit {0} → List Exchange → Unit {0} → Type 0
+Answering old told new = AreAnswered told
+
 -- the answer to a call that is told last, if one is
 abbrev pub last_from : Option Answer → List Exchange → Option Answer
 last_from known [] = known

@@ -4,8 +4,10 @@
 
 mod copies;
 mod door;
+mod running;
 mod session;
 mod told;
 
 pub use door::MountDoor;
+pub use running::run_session;
 pub use session::MountSession;

@@ -59,7 +59,8 @@ impl<N: MountName, F: Callback + Drop, R: Rule> MountSession<N, F, R> {
 
     /// The receipts, and the hooks of the client where it was detached.
     pub fn into_parts(self) -> (Vec<Receipt<N>>, Option<Vec<Hook<F, R>>>)
-        ensures { (result.0 ≡ self.receipts) × (result.1 ≡ self.hooks) }
+        ensures parts { (result.0 ≡ self.receipts) × (result.1 ≡ self.hooks) }
+        ensures claimed { ∥ Tells self.session.client self.told result.0.items ∥₁ }
     {
         let MountSession {
             session: _,

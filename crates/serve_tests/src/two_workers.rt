@@ -5,8 +5,8 @@ ghost use Rattle.locked_history.specs.Holding.{opening_of};
 
 use crate::mounts::{NoRule, Silent, blank};
 use crate::peers::{ask, assert_closed, patient};
-use locked_history::{Blank, Mount, MountName};
-use socket_server::{Reports, ServeOptions, serve_mount};
+use locked_history::{Blank, MountName};
+use socket_server::{Reports, ServeOptions, serve_blank};
 use std::alloc::Global;
 use std::env::Env;
 use std::fs::Files;
@@ -81,7 +81,6 @@ where
     requires parts { blank.tokens.parts ≡ N.parts }
     requires opening { opening_of blank.core ≡ N.opening }
 {
-    let mount: Mount<N, F, R> = Mount::open(blank);
     let reports = Reports::new(rt, alloc, false);
     let options = ServeOptions {
         socket: path,
@@ -90,14 +89,15 @@ where
         verbose: false,
     };
     let listener = UnixListener::bind(rt, path)?;
-    let (receipts, asked) = join(
+    let (socket, told, how) = (&listener, &reports, &options);
+    let (history, asked) = join(
         rt,
-        || serve_mount(rt, alloc, &listener, &mount, &[], &reports, &options),
+        move || serve_blank::<N, F, R, H>(rt, alloc, socket, blank, &[], told, how),
         || two_clients(rt, path),
     );
     fs::remove_file(rt, path)?;
     asked?;
-    let (past, left) = mount.finish(receipts?);
+    let (past, left) = history?;
     assert_eq!(rt; left.len(), 0);
     assert_eq!(rt; past.len(), 8);
     assert!(rt; !reports.has_failed());

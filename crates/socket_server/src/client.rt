@@ -1,11 +1,11 @@
 // One connection: a client of the mount is attached, its session is run, and it is detached before
 // its stream is closed.
 use crate::reports::Reports;
-use locked_history::{Mount, MountName, Open, Receipt};
-use mount_door::{MountDoor, MountSession};
+use locked_history::{Mount, MountName, Open, Receipt, Session};
+use mount_door::run_session;
 use ov_base::Errno;
 use ov_frames::{Answer, append_reply};
-use ov_session::{SessionInput, SessionOutput, session_run};
+use ov_session::{SessionInput, SessionOutput};
 use std::alloc::{AllocError, Global};
 use std::io::{Eprint, Read, Write};
 use std::sync::Wait;
@@ -78,11 +78,18 @@ where
     };
     receipts.push_reserved(receipt);
     reports.begins(number, session.client);
-    let mut session = MountSession::new(session, receipts);
-    let mut door = MountDoor::new(rt, alloc, mount, &Open);
     let mut input = SessionInput::new(reader);
     let mut output = SessionOutput::new(alloc, &mut writer);
-    let ending = session_run(alloc, &mut input, &mut output, &mut door, &mut session);
+    let (ending, session) = run_session(
+        rt,
+        alloc,
+        mount,
+        &Open,
+        session,
+        receipts,
+        &mut input,
+        &mut output,
+    );
     reports.ends(number, session.calls(), ending);
     let (receipts, hooks) = session.into_parts();
     Parting {
@@ -97,7 +104,7 @@ fn attach<N: MountName, F: Callback + Copy, R: Rule, H: Wait>(
     alloc: Global,
     mount: &Mount<N, F, R>,
     hooks: &[Hook<F, R>],
-) -> Result<(locked_history::Session, Receipt<N>), Errno> {
+) -> Result<(Session, Receipt<N>), Errno> {
     let Ok(copies) = copies_of(alloc, hooks) else {
         return Err(Errno::ENOMEM);
     };

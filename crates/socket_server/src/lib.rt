@@ -10,5 +10,5 @@ mod worker;
 
 pub use client::{Parting, serve_client};
 pub use reports::Reports;
-pub use serving::{ServeOptions, Served, serve_mount, serve_on};
+pub use serving::{ServeOptions, Served, serve_blank, serve_mount, serve_on};
 pub use worker::WorkerEnd;

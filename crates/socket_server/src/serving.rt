@@ -1,11 +1,13 @@
 // All workers of a server.
-ghost use Rattle.std.specs.Prelude.{◌≡◌, map};
+ghost use Rattle.std.specs.Prelude.{◌≡◌, IfOk, map};
 ghost use Rattle.once_cell.specs.Once.{cell_name};
-ghost use Rattle.locked_history.specs.Holding.{opening_of};
+ghost use Rattle.locked_history.specs.Entries.{history_of};
+ghost use Rattle.locked_history.specs.Holding.{Legally, opening_of};
+ghost use Rattle.locked_history.specs.Views.{core_past, entries_past};
 
 use crate::reports::Reports;
 use crate::worker::{WorkerEnd, work};
-use locked_history::{Blank, Mount, MountName, Receipt};
+use locked_history::{Blank, Mount, MountName, Past, Receipt};
 use std::alloc::{AllocError, Global};
 use std::io::Eprint;
 use std::marker::Brand;
@@ -78,15 +80,18 @@ where
     gathered(alloc, ends)
 }
 
-// Serves the clients of a blank mount, and ends its history.
-fn serve_blank<N, F, R, H>(
+/// Serves the clients of a blank mount, until all workers have ended. What they did is one legal
+/// history, which ends in the state of the core, and the receipts that are handed back have a place
+/// past its end. It is called in a function that is generic in the mount's name.
+pub fn serve_blank<N, F, R, H>(
     rt: &H,
     alloc: Global,
     listener: &UnixListener,
     blank: Blank<F, R>,
     hooks: &[Hook<F, R>],
+    reports: &Reports<'_, H>,
     options: &ServeOptions<'_>,
-) -> Result<Served, AllocError>
+) -> Result<(Past<N, F, R>, Vec<Receipt<N>>), AllocError>
 where
     N: MountName + Send + Sync,
     F: Callback + Copy + Send + Sync,
@@ -96,17 +101,12 @@ where
     requires name { blank.tokens.name ≡ N.name }
     requires parts { blank.tokens.parts ≡ N.parts }
     requires opening { opening_of blank.core ≡ N.opening }
+    ensures legal { IfOk result (λ r. ∥ Legally N.opening (history_of (entries_past r.0))
+        (core_past r.0) ∥₁) }
 {
     let mount: Mount<N, F, R> = Mount::open(blank);
-    let reports = Reports::new(rt, alloc, options.verbose);
-    let receipts = serve_mount(rt, alloc, listener, &mount, hooks, &reports, options)?;
-    let (past, _) = mount.finish(receipts);
-    reports.sums_up(past.len());
-    if reports.has_failed() {
-        Ok(Served::Failed)
-    } else {
-        Ok(Served::Done)
-    }
+    let receipts = serve_mount(rt, alloc, listener, &mount, hooks, reports, options)?;
+    Ok(mount.finish(receipts))
 }
 
 /// Serves the clients of a blank mount on a socket, each with copies of these hooks, until all
@@ -124,5 +124,14 @@ where
     R: Rule + Send + Sync,
     H: Threads + Wait + Eprint + Sync,
 {
-    serve_blank::<Brand, F, R, H>(rt, alloc, listener, blank, hooks, options)
+    let reports = Reports::new(rt, alloc, options.verbose);
+    let (past, _) = serve_blank::<Brand, F, R, H>(
+        rt, alloc, listener, blank, hooks, &reports, options,
+    )?;
+    reports.sums_up(past.len());
+    if reports.has_failed() {
+        Ok(Served::Failed)
+    } else {
+        Ok(Served::Done)
+    }
 }
