@@ -21,8 +21,8 @@ use Rattle.merged_lookup.specs.declared.layers.Layers.{Layers}
 use Rattle.merged_lookup.specs.Merged.{level, unless_cut, places_at, top_of, lowers_of, layers_of, or_else, fault, way_fault, IsStackOf, ShowsDirectory}
 use Rattle.merged_lookup.proofs.Descending.{length-places, reverse-more}
 use Rattle.merged_lookup.proofs.Looking.{head-places, head-unless, reverse-parts}
-use Rattle.copy_up.specs.Showing.{PassesSame, ShowsSame, HasPlace, is_object, Stays, StaysLayers, StaysMount, StaysThin, GainsParent, IsParent, GainsParents}
-use Rattle.copy_up.proofs.Frames.{gains-one}
+use Rattle.copy_up.specs.Showing.{PassesSame, ShowsSame, HasPlace, is_object, ChangesNoSight, Stays, StaysLayers, StaysMount, StaysSound, StaysThin, GainsParent, IsParent, GainsParents}
+use Rattle.copy_up.proofs.Frames.{gains-one, gains-then, gains-unchanged}
 use Rattle.copy_up.proofs.Placing.{nothing-held, agree-placed, placed-same, placed-absent, IsHeldDirectory, top-held, free-folder}
 
 pub same-self : (l : Layers) → ShowsSame l l
@@ -41,15 +41,20 @@ same-then a b c s t =
 pub inodes-same : (u v : Tree) → ((k : ℕ) → inode_at v k ≡ inode_at u k) → (layer_of v).inodes ≡ (layer_of u).inodes
 inodes-same u v h = λ j k. h k j
 
+pub sound-self : (l : Layers) → StaysSound l l
+sound-self l = record { layers = λ h. h; thin = λ h. h }
+
+pub sound-then : (a b c : Layers) → StaysSound a b → StaysSound b c → StaysSound a c
+sound-then a b c s t = record { layers = λ h. t.layers (s.layers h); thin = λ h. t.thin (s.thin h) }
+
 pub stays-self : (l : Layers) → Stays l l
-stays-self l = record { layers = λ a. a; mounts = λ s h. h; thin = λ h. h; names = λ p k. (λ h. h, λ h. h); inodes = λ k. refl; holds = λ p o h. h }
+stays-self l = record { sound = sound-self l; mounts = λ s h. h; names = λ p k. (λ h. h, λ h. h); inodes = λ k. refl; holds = λ p o h. h }
 
 pub stays-then : (a b c : Layers) → Stays a b → Stays b c → Stays a c
 stays-then a b c s t =
     record {
-      layers = λ h. t.layers (s.layers h);
+      sound = sound-then a b c s.sound t.sound;
       mounts = λ m h. t.mounts m (s.mounts m h);
-      thin = λ h. t.thin (s.thin h);
       names = λ p k. (λ h. (s.names p k).0 ((t.names p k).0 h), λ h. (t.names p k).1 ((s.names p k).1 h));
       inodes = λ k. t.inodes k ∙ s.inodes k;
       holds = λ p o h. t.holds p o (s.holds p o h);
@@ -136,15 +141,18 @@ module _ (old new : Layers) (low : new.lowers ≡ old.lowers) (same : SameObject
   thin-upper : IsThin (layer_of old.upper) (lowers_of old) → IsThin (layer_of new.upper) (lowers_of old)
   thin-upper h n p is = ap is_some (under-agree (layer_of old.upper) (layer_of new.upper) (lowers_of old) n p (agree p)) ∙ h n p (sym (same (n ∷ p)) ∙ is)
 
-  -- stays layers, the mount of the same states, and thin
-  pub layers-alike : (IsLayer (layer_of old.upper) → IsLayer (layer_of new.upper)) → StaysLayers old new
+  -- stays sound, and the mount of the same states
+  layers-alike : (IsLayer (layer_of old.upper) → IsLayer (layer_of new.upper)) → StaysLayers old new
   layers-alike keep a = (keep a.0, subst AreLayers (sym (lowers-same old new low)) a.1)
 
   pub mounts-alike : (IsLayer (layer_of old.upper) → IsLayer (layer_of new.upper)) → StaysMount old new
   mounts-alike keep s h = subst (λ (Ls : List Layer). IsMountOf (layer_of new.upper) Ls s) (sym (lowers-same old new low)) (mount-alike keep s h)
 
-  pub thin-alike : StaysThin old new
+  thin-alike : StaysThin old new
   thin-alike h = subst (λ (Ls : List Layer). IsThin (layer_of new.upper) Ls) (sym (lowers-same old new low)) (thin-upper h)
+
+  pub sound-alike : (IsLayer (layer_of old.upper) → IsLayer (layer_of new.upper)) → StaysSound old new
+  sound-alike keep = record { layers = layers-alike keep; thin = thin-alike }
 
 -- an upper that holds the same everywhere shows the same
 pub same-unchanged : (old new : Layers) → new.lowers ≡ old.lowers → SameObjects (layer_of old.upper) (layer_of new.upper) → ((k : ℕ) → inode_at new.upper k ≡ inode_at old.upper k) → ShowsSame old new
@@ -153,13 +161,31 @@ same-unchanged old new low same inodes = same-alike old new low same (λ p k h. 
 -- and is as the old one
 pub stays-unchanged : (old new : Layers) → new.lowers ≡ old.lowers → SameObjects (layer_of old.upper) (layer_of new.upper) → ((k : ℕ) → inode_at new.upper k ≡ inode_at old.upper k) → (IsLayer (layer_of old.upper) → IsLayer (layer_of new.upper)) → Stays old new
 stays-unchanged old new low same inodes keep = record {
-  layers = layers-alike old new low same (λ p k h. inodes k) keep;
+  sound = sound-alike old new low same (λ p k h. inodes k) keep;
   mounts = mounts-alike old new low same (λ p k h. inodes k) keep;
-  thin = thin-alike old new low same (λ p k h. inodes k);
   names = λ p k. (λ h. sym (same p) ∙ h, λ h. same p ∙ h);
   inodes = inodes;
   holds = λ p o h. same p ∙ h;
 }
+
+-- a change that fails after missing parents were placed, and leaves what the upper holds then
+module _ (start mid new : Layers) (same : ShowsSame start mid) (stays : Stays start mid) (low : new.lowers ≡ mid.lowers) (objects : SameObjects (layer_of mid.upper) (layer_of new.upper)) (kept : KeepsObjects mid.upper new.upper None) where
+  inodes : (k : ℕ) → inode_at new.upper k ≡ inode_at mid.upper k
+  inodes k = kept.inodes k (λ e. cc)
+
+  pub failed-stays : (IsLayer (layer_of mid.upper) → IsLayer (layer_of new.upper)) → Stays start new
+  failed-stays keep = stays-then start mid new stays (stays-unchanged mid new low objects inodes keep)
+
+  pub failed : (Beneath : Type 0) → (IsLayer (layer_of mid.upper) → IsLayer (layer_of new.upper)) → Beneath → ChangesNoSight start new Beneath
+  failed Beneath keep beneath = record {
+    shown = same-then start mid new same (same-unchanged mid new low objects inodes);
+    mount = (failed-stays keep).mounts;
+    beneath = beneath;
+  }
+
+  -- it gained those parents at most
+  pub failed-gains : (p : Path) → (IsLayer (layer_of mid.upper) → IsLayer (layer_of new.upper)) → GainsParents start mid p → ChangesNoSight start new (GainsParents start new p)
+  failed-gains p keep gains = failed (GainsParents start new p) keep (gains-then start mid new p same gains (gains-unchanged mid new p low objects kept))
 
 pub places-agree : (i : ℕ) (U V : Layer) (Ls : List Layer) (p : Path) → held V p ≡ held U p → cuts V p ≡ cuts U p → below V p ≡ below U p → places_at i (V ∷ Ls) p ≡ places_at i (U ∷ Ls) p
 places-agree i U V Ls p h c b j = level i (h j) (unless_cut (c j) (places_at (suc i) Ls (b j)))
@@ -201,9 +227,11 @@ module _ (old new : Layers) (low : new.lowers ≡ old.lowers) (inodes : (k : ℕ
       let U : Layer = layer_of old.upper in
       let V : Layer = layer_of new.upper in
       record {
-        layers = λ h. (keep h.0, subst AreLayers (sym (lowers-same old new low)) h.1);
+        sound = record {
+          layers = λ h. (keep h.0, subst AreLayers (sym (lowers-same old new low)) h.1);
+          thin = λ h. subst (λ (Ls : List Layer). IsThin V Ls) (sym (lowers-same old new low)) ((law_of_thin U V (lowers_of old) h n p).directory key a false None placed);
+        };
         mounts = λ s h. subst (λ (Ls : List Layer). IsMountOf V Ls s) (sym (lowers-same old new low)) (law_of_placed_parent U V (lowers_of old) s h (keep h.layers.0, h.layers.1) n p i m key a lacked shown placed);
-        thin = λ h. subst (λ (Ls : List Layer). IsThin V Ls) (sym (lowers-same old new low)) ((law_of_thin U V (lowers_of old) h n p).directory key a false None placed);
         names = λ x k. (λ h. sym (sets.elsewhere x (not-named x k h)) ∙ h, λ h. sets.elsewhere x (was-held x (Named k) h) ∙ h);
         inodes = inodes;
         holds = λ x o h. sets.elsewhere x (was-held x o h) ∙ h;

@@ -95,11 +95,26 @@ StaysMount old new = (s : State) → IsMountOf (layer_of old.upper) (lowers_of o
 abbrev pub StaysThin : Layers → Layers → Type 0
 StaysThin old new = IsThin (layer_of old.upper) (lowers_of old) → IsThin (layer_of new.upper) (lowers_of new)
 
+-- the layers stay sound
+pub record StaysSound (old new : Layers) : Type 0 where
+  -- layers stay layers
+  pub layers : StaysLayers old new
+  -- an upper without needless whiteouts stays so
+  pub thin : StaysThin old new
+
+-- what a call that ran out of memory leaves
+pub record ChangesNoSight (old new : Layers) (Beneath : Type 0) : Type 0 where
+  -- the same is shown at every path
+  pub shown : ShowsSame old new
+  -- a machine's mount stays the mount of these layers
+  pub mount : StaysMount old new
+  -- beneath what is shown no more than this changed
+  pub beneath : Beneath
+
 -- what directories that are placed with the attributes that they show leave as it was
 pub record Stays (old new : Layers) : Type 0 where
-  pub layers : StaysLayers old new
+  pub sound : StaysSound old new
   pub mounts : StaysMount old new
-  pub thin : StaysThin old new
   pub names : (p : Path) (k : ℕ) → (held (layer_of new.upper) p ≡ Some (Named k)) ↔ (held (layer_of old.upper) p ≡ Some (Named k))
   pub inodes : (k : ℕ) → inode_at new.upper k ≡ inode_at old.upper k
   pub holds : (p : Path) (o : Object) → held (layer_of old.upper) p ≡ Some o → held (layer_of new.upper) p ≡ Some o

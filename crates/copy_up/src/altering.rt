@@ -1,15 +1,15 @@
 // Other attributes of what a path shows.
-ghost use Rattle.std.specs.Prelude.{◌≡◌, ◌≢◌, ◌<◌, ◌↔◌, ◌∷◌, ℕ, [], Some, None, true, IsSome, IfOk, OnOk, OnErr};
+ghost use Rattle.std.specs.Prelude.{◌≡◌, ◌≢◌, ◌<◌, ◌∷◌, ℕ, [], Some, None, true, IsSome, IfOk, OnOk, OnErr};
 ghost use Rattle.slab.specs.Slab.{get};
 ghost use Rattle.ov_base.specs.AttributeChanges.{changed};
 ghost use Rattle.ov_base.specs.declared.attributes.Attributes.{Attributes as AttributesOf};
-ghost use Rattle.plain_model.specs.Layers.{Name, Path as Names, Named, Inode, Folder, Contents, held, shows, is_directory, IsLayer, AreLayers};
+ghost use Rattle.plain_model.specs.Layers.{Name, Path as Names, Inode, Folder, Contents, held, shows, is_directory, IsLayer, AreLayers};
 ghost use Rattle.mount_laws.specs.Altered.{Alters};
 ghost use Rattle.layer_tree.specs.AttributeChange.{attributes_at, SetsAttributes, SetsInode, SetsDirectory};
 ghost use Rattle.layer_tree.specs.Nameless.{IsNameless};
 ghost use Rattle.layer_tree.specs.Tree.{layer_of, key_at, inode_at, IsDirectory};
 ghost use Rattle.merged_lookup.specs.Merged.{layers_of, lowers_of, parent, parents_fault, top_of, IsStackOf, IsTopmost, ShowsInode};
-ghost use Rattle.copy_up.specs.Showing.{number_of, ShowsSame, GainsParents, StaysLayers, StaysMount, StaysThin};
+ghost use Rattle.copy_up.specs.Showing.{number_of, ShowsSame, ChangesNoSight, GainsParents, Stays, StaysSound};
 ghost use Rattle.copy_up.specs.Altering.{AltersObject, AltersAs, AltersObjectAs};
 
 use crate::leaves::all_at_once;
@@ -35,14 +35,13 @@ pub fn alter(
     requires shown { IsTopmost layers.old path.now (Some top) }
     ensures altered { OnOk result (AltersAs layers.old layers.new path.now change) }
     ensures object { OnOk result (AltersObjectAs layers.old layers.new path.now change) }
-    ensures key { IfOk result (λ key. number_of (held (layer_of layers.new.upper) path.now) ≡ Some key) }
+    ensures key { IfOk result (λ key.
+        number_of (held (layer_of layers.new.upper) path.now) ≡ Some key) }
     ensures lowers { layers.new.lowers ≡ layers.old.lowers }
     ensures nameless { (k : ℕ) → IsNameless layers.old.upper k → IsNameless layers.new.upper k }
-    ensures no_memory { OnErr result (ShowsSame layers.old layers.new) }
-    ensures mounts { OnErr result (StaysMount layers.old layers.new) }
-    ensures parents { OnErr result (GainsParents layers.old layers.new path.now) }
-    ensures keeps { StaysLayers layers.old layers.new }
-    ensures thin { StaysThin layers.old layers.new }
+    ensures no_memory { OnErr result
+        (ChangesNoSight layers.old layers.new (GainsParents layers.old layers.new path.now)) }
+    ensures sound { StaysSound layers.old layers.new }
 {
     let place = top.place();
     if place.layer == 0 {
@@ -65,18 +64,18 @@ fn place_changed(
 ) -> Result<usize, AllocError>
     requires way { parents_fault (layers_of layers.old) path.now ≡ None }
     requires directory { IsStackOf layers.old (parent path.now) directory }
-    requires shown { (a : AttributesOf) × (shows 0 (layers_of layers.old) path.now ≡ Some (Folder place.layer place.key a)) }
+    requires shown { (a : AttributesOf) ×
+        (shows 0 (layers_of layers.old) path.now ≡ Some (Folder place.layer place.key a)) }
     requires lower { 0 < place.layer }
     ensures altered { OnOk result (AltersAs layers.old layers.new path.now change) }
     ensures object { OnOk result (AltersObjectAs layers.old layers.new path.now change) }
-    ensures key { IfOk result (λ key. number_of (held (layer_of layers.new.upper) path.now) ≡ Some key) }
+    ensures key { IfOk result (λ key.
+        number_of (held (layer_of layers.new.upper) path.now) ≡ Some key) }
     ensures lowers { layers.new.lowers ≡ layers.old.lowers }
     ensures nameless { (k : ℕ) → IsNameless layers.old.upper k → IsNameless layers.new.upper k }
-    ensures no_memory { OnErr result (ShowsSame layers.old layers.new) }
-    ensures mounts { OnErr result (StaysMount layers.old layers.new) }
-    ensures parents { OnErr result (GainsParents layers.old layers.new path.now) }
-    ensures keeps { StaysLayers layers.old layers.new }
-    ensures thin { StaysThin layers.old layers.new }
+    ensures no_memory { OnErr result
+        (ChangesNoSight layers.old layers.new (GainsParents layers.old layers.new path.now)) }
+    ensures sound { StaysSound layers.old layers.new }
 {
     let attributes = changed_directory(layers, place, change)?;
     place_with(layers, path, directory, attributes)
@@ -108,16 +107,17 @@ fn place_with(
     requires directory { IsStackOf layers.old (parent path.now) directory }
     requires shown { is_directory (shows 0 (layers_of layers.old) path.now) ≡ true }
     requires below { path.now ≢ [] }
-    ensures altered { OnOk result (AreLayers (layers_of layers.old) → Alters (layer_of layers.old.upper) (layer_of layers.new.upper) (lowers_of layers.old) path.now attributes) }
+    ensures altered { OnOk result (AreLayers (layers_of layers.old) →
+        Alters (layer_of layers.old.upper) (layer_of layers.new.upper) (lowers_of layers.old)
+        path.now attributes) }
     ensures object { OnOk result (AltersObject layers.old layers.new path.now attributes) }
-    ensures key { IfOk result (λ key. number_of (held (layer_of layers.new.upper) path.now) ≡ Some key) }
+    ensures key { IfOk result (λ key.
+        number_of (held (layer_of layers.new.upper) path.now) ≡ Some key) }
     ensures lowers { layers.new.lowers ≡ layers.old.lowers }
     ensures nameless { (k : ℕ) → IsNameless layers.old.upper k → IsNameless layers.new.upper k }
-    ensures no_memory { OnErr result (ShowsSame layers.old layers.new) }
-    ensures mounts { OnErr result (StaysMount layers.old layers.new) }
-    ensures parents { OnErr result (GainsParents layers.old layers.new path.now) }
-    ensures keeps { StaysLayers layers.old layers.new }
-    ensures thin { StaysThin layers.old layers.new }
+    ensures no_memory { OnErr result
+        (ChangesNoSight layers.old layers.new (GainsParents layers.old layers.new path.now)) }
+    ensures sound { StaysSound layers.old layers.new }
 {
     let placed = place_at(layers, path, directory)?;
     let dir = placed.top();
@@ -136,10 +136,7 @@ fn place_at(layers: &mut Layers, path: &Path, directory: Stack) -> Result<Stack,
     ensures same { ShowsSame layers.old layers.new }
     ensures stack { IfOk result (λ s. IsStackOf layers.new path.now s) }
     ensures upper { IfOk result (λ s. (top_of s.places.items).layer ≡ 0) }
-    ensures keeps { StaysLayers layers.old layers.new }
-    ensures mounts { StaysMount layers.old layers.new }
-    ensures thin { StaysThin layers.old layers.new }
-    ensures names { (p : Names) (k : ℕ) → (held (layer_of layers.new.upper) p ≡ Some (Named k)) ↔ (held (layer_of layers.old.upper) p ≡ Some (Named k)) }
+    ensures stays { Stays layers.old layers.new }
     ensures gains { (n : Name) → GainsParents layers.old layers.new (n ∷ path.now) }
     ensures proper { OnErr result (GainsParents layers.old layers.new path.now) }
 {
@@ -164,14 +161,13 @@ fn copy_changed(
     requires lower { 0 < place.layer }
     ensures altered { OnOk result (AltersAs layers.old layers.new path.now change) }
     ensures object { OnOk result (AltersObjectAs layers.old layers.new path.now change) }
-    ensures key { IfOk result (λ key. number_of (held (layer_of layers.new.upper) path.now) ≡ Some key) }
+    ensures key { IfOk result (λ key.
+        number_of (held (layer_of layers.new.upper) path.now) ≡ Some key) }
     ensures lowers { layers.new.lowers ≡ layers.old.lowers }
     ensures nameless { (k : ℕ) → IsNameless layers.old.upper k → IsNameless layers.new.upper k }
-    ensures no_memory { OnErr result (ShowsSame layers.old layers.new) }
-    ensures mounts { OnErr result (StaysMount layers.old layers.new) }
-    ensures parents { OnErr result (GainsParents layers.old layers.new path.now) }
-    ensures keeps { StaysLayers layers.old layers.new }
-    ensures thin { StaysThin layers.old layers.new }
+    ensures no_memory { OnErr result
+        (ChangesNoSight layers.old layers.new (GainsParents layers.old layers.new path.now)) }
+    ensures sound { StaysSound layers.old layers.new }
 {
     let attributes = changed_inode(layers, place, change)?;
     let Some((name, parents)) = path.split_last() else {

@@ -1,12 +1,12 @@
 // Files and symbolic links in the upper: new ones, and those of lower layers copied up.
-ghost use Rattle.std.specs.Prelude.{◌≡◌, ◌<◌, ◌∷◌, Some, None, reverse, IfOk, OnOk, OnErr};
+ghost use Rattle.std.specs.Prelude.{◌≡◌, ◌<◌, ◌∷◌, Some, None, reverse, IfOk, OnErr};
 ghost use Rattle.slab.specs.Slab.{get};
 ghost use Rattle.plain_model.specs.Layers.{Path as Names, Inode, Contents, shows, IsLayer};
 ghost use Rattle.mount_laws.specs.Leaves.{PlacesLeaf};
 ghost use Rattle.layer_tree.specs.Nameless.{KeepsObjects};
 ghost use Rattle.layer_tree.specs.Tree.{layer_of, SameObjects};
 ghost use Rattle.merged_lookup.specs.Merged.{layers_of, way_fault, IsStackOf};
-ghost use Rattle.copy_up.specs.Showing.{ShowsSame, HasPlace, GainsParents, StaysLayers, StaysMount, StaysThin};
+ghost use Rattle.copy_up.specs.Showing.{ChangesNoSight, HasPlace, GainsParents, StaysSound};
 ghost use Rattle.copy_up.specs.Leaves.{CopiesLeaf};
 
 use crate::parents::place_parents;
@@ -29,14 +29,18 @@ pub fn all_at_once(
 ) -> Result<usize, AllocError>
     requires way { way_fault (layers_of layers.old) (reverse parents.now) ≡ None }
     requires directory { IsStackOf layers.old (reverse parents.now) directory }
-    requires shown { (i : Inode) × (shows 0 (layers_of layers.old) (name.now ∷ reverse parents.now) ≡ Some (Contents place.layer place.key (Some i))) }
+    requires shown { (i : Inode) ×
+        (shows 0 (layers_of layers.old) (name.now ∷ reverse parents.now) ≡
+        Some (Contents place.layer place.key (Some i))) }
     requires lower { 0 < place.layer }
-    ensures copied { IfOk result (λ key. (i : Inode) → shows 0 (layers_of layers.old) (name.now ∷ reverse parents.now) ≡ Some (Contents place.layer place.key (Some i)) → (leaf : CopiesLeaf layers.old layers.new (name.now ∷ reverse parents.now) i.content attributes) × (leaf.number ≡ key)) }
-    ensures no_memory { OnErr result (ShowsSame layers.old layers.new) }
-    ensures mounts { OnErr result (StaysMount layers.old layers.new) }
-    ensures parents { OnErr result (GainsParents layers.old layers.new (name.now ∷ reverse parents.now)) }
-    ensures keeps { StaysLayers layers.old layers.new }
-    ensures thin { StaysThin layers.old layers.new }
+    ensures copied { IfOk result (λ key. (i : Inode) →
+        shows 0 (layers_of layers.old) (name.now ∷ reverse parents.now) ≡
+        Some (Contents place.layer place.key (Some i)) →
+        (leaf : CopiesLeaf layers.old layers.new (name.now ∷ reverse parents.now) i.content
+        attributes) × (leaf.number ≡ key)) }
+    ensures no_memory { OnErr result (ChangesNoSight layers.old layers.new
+        (GainsParents layers.old layers.new (name.now ∷ reverse parents.now))) }
+    ensures sound { StaysSound layers.old layers.new }
 {
     let content = layers.inode_at(place).content.clone()?;
     let parent = place_parents(layers, directory, parents)?;

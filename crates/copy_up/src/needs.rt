@@ -1,9 +1,9 @@
 // Which parents of a path the upper lacks, and placing them one at a time.
-ghost use Rattle.std.specs.Prelude.{◌≡◌, ◌∷◌, List, ℕ, Some, None, true, false, reverse, IfSome, OnOk, OnErr};
+ghost use Rattle.std.specs.Prelude.{◌≡◌, ◌∷◌, Some, None, true, false, reverse, IfSome, OnOk, OnErr};
 ghost use Rattle.plain_model.specs.Layers.{Path as Names, held, shows, is_directory, holds_directory};
 ghost use Rattle.layer_tree.specs.Tree.{layer_of, key_at, SameObjects};
 ghost use Rattle.merged_lookup.specs.Merged.{layers_of, parents_fault, way_fault, IsStackOf};
-ghost use Rattle.copy_up.specs.Showing.{ShowsSame, GainsParent, GainsParents, StaysLayers, StaysMount, StaysThin};
+ghost use Rattle.copy_up.specs.Showing.{ShowsSame, GainsParent, GainsParents, Stays};
 ghost use Rattle.copy_up.specs.Needs.{IsNeed, first_names};
 
 use crate::parents::{directory_in, place_parent};
@@ -64,9 +64,7 @@ pub fn place_dir(layers: &mut Layers, path: &Path, count: usize) -> Result<(), A
     ensures placed { OnOk result (GainsParent layers.old layers.new (first_names count path.now)) }
     ensures unchanged { OnErr result (SameObjects (layer_of layers.old.upper) (layer_of layers.new.upper)) }
     ensures gains { GainsParents layers.old layers.new path.now }
-    ensures keeps { StaysLayers layers.old layers.new }
-    ensures mounts { StaysMount layers.old layers.new }
-    ensures thin { StaysThin layers.old layers.new }
+    ensures stays { Stays layers.old layers.new }
 {
     let names = &path.names()[..count];
     let Some((name, parents)) = names.split_last() else {

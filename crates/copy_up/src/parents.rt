@@ -1,5 +1,5 @@
 // Directories that only lower layers have, placed in the upper.
-ghost use Rattle.std.specs.Prelude.{◌≡◌, ◌↔◌, ◌∷◌, List, ℕ, Some, None, true, false, reverse, IfOk, OnOk, OnErr};
+ghost use Rattle.std.specs.Prelude.{◌≡◌, ◌∷◌, ℕ, Some, None, true, false, reverse, IfOk, OnOk, OnErr};
 ghost use Rattle.ov_base.specs.declared.attributes.Attributes.{Attributes};
 ghost use Rattle.plain_model.specs.Layers as held;
 ghost use Rattle.plain_model.specs.Layers.{Path, shows, is_directory, IsLayer};
@@ -7,7 +7,7 @@ ghost use Rattle.slab.specs.Slab.{get};
 ghost use Rattle.layer_tree.specs.Nameless.{KeepsObjects};
 ghost use Rattle.layer_tree.specs.Tree.{layer_of, inode_at, SetsPath, SameObjects};
 ghost use Rattle.merged_lookup.specs.Merged.{layers_of, way_fault, top_of, IsStackOf, ShowsDirectory};
-ghost use Rattle.copy_up.specs.Showing.{ShowsSame, HasPlace, GainsParent, IsParent, GainsParents, Stays, StaysLayers, StaysMount, StaysThin};
+ghost use Rattle.copy_up.specs.Showing.{ShowsSame, HasPlace, GainsParent, IsParent, GainsParents, Stays};
 
 use layer_tree::{Marks, Object};
 use merged_lookup::{Found, Layers, Stack};
@@ -28,12 +28,7 @@ pub fn place_parents(
     ensures same { ShowsSame layers.old layers.new }
     ensures stack { IfOk result (λ s. IsStackOf layers.new (reverse names.now) s) }
     ensures upper { IfOk result (λ s. (top_of s.places.items).layer ≡ 0) }
-    ensures keeps { StaysLayers layers.old layers.new }
-    ensures mounts { StaysMount layers.old layers.new }
-    ensures thin { StaysThin layers.old layers.new }
-    ensures names { (p : Path) (k : ℕ) → (held.held (layer_of layers.new.upper) p ≡ Some (held.Named k)) ↔ (held.held (layer_of layers.old.upper) p ≡ Some (held.Named k)) }
-    ensures inodes { (k : ℕ) → inode_at layers.new.upper k ≡ inode_at layers.old.upper k }
-    ensures holds { (p : Path) (o : held.Object) → held.held (layer_of layers.old.upper) p ≡ Some o → held.held (layer_of layers.new.upper) p ≡ Some o }
+    ensures stays { Stays layers.old layers.new }
     ensures gains { (n : held.Name) → GainsParents layers.old layers.new (n ∷ reverse names.now) }
     ensures proper { OnErr result (GainsParents layers.old layers.new (reverse names.now)) }
 {
@@ -50,12 +45,7 @@ fn place_from_root(layers: &mut Layers, names: &[Name]) -> Result<Stack, AllocEr
     ensures same { ShowsSame layers.old layers.new }
     ensures stack { IfOk result (λ s. IsStackOf layers.new (reverse names.now) s) }
     ensures upper { IfOk result (λ s. (top_of s.places.items).layer ≡ 0) }
-    ensures keeps { StaysLayers layers.old layers.new }
-    ensures mounts { StaysMount layers.old layers.new }
-    ensures thin { StaysThin layers.old layers.new }
-    ensures names { (p : Path) (k : ℕ) → (held.held (layer_of layers.new.upper) p ≡ Some (held.Named k)) ↔ (held.held (layer_of layers.old.upper) p ≡ Some (held.Named k)) }
-    ensures inodes { (k : ℕ) → inode_at layers.new.upper k ≡ inode_at layers.old.upper k }
-    ensures holds { (p : Path) (o : held.Object) → held.held (layer_of layers.old.upper) p ≡ Some o → held.held (layer_of layers.new.upper) p ≡ Some o }
+    ensures stays { Stays layers.old layers.new }
     ensures gains { (n : held.Name) → GainsParents layers.old layers.new (n ∷ reverse names.now) }
     ensures proper { OnErr result (GainsParents layers.old layers.new (reverse names.now)) }
 {

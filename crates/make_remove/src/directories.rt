@@ -2,7 +2,7 @@
 ghost use Rattle.std.specs.Prelude.{◌≡◌, Some, None, IfOk, IfErr, OnOk, OnErr};
 ghost use Rattle.plain_model.specs.Layers.{shows};
 ghost use Rattle.merged_lookup.specs.Merged.{layers_of, parents_fault, parent, IsStackOf};
-ghost use Rattle.copy_up.specs.Showing.{ShowsSame, GainsParents, StaysLayers, StaysMount, StaysThin};
+ghost use Rattle.copy_up.specs.Showing.{ChangesNoSight, GainsParents, StaysSound};
 ghost use Rattle.make_remove.specs.Making.{MakesDirectory, MkdirSteps, mkdir_fault};
 
 use crate::objects::{new_attributes, vacant};
@@ -21,16 +21,16 @@ pub fn mkdir(
     path: &Path,
     mode: Mode,
 ) -> Result<Result<(), Errno>, AllocError>
-    ensures refused { IfOk result (λ r. IfErr r (λ e. mkdir_fault (layers_of layers.old) path.now mode ≡ Some e)) }
+    ensures refused { IfOk result (λ r. IfErr r (λ e.
+        mkdir_fault (layers_of layers.old) path.now mode ≡ Some e)) }
     ensures unchanged { IfOk result (λ r. OnErr r (layers.new ≡ layers.old)) }
-    ensures allowed { IfOk result (λ r. OnOk r (mkdir_fault (layers_of layers.old) path.now mode ≡ None)) }
+    ensures allowed { IfOk result (λ r.
+        OnOk r (mkdir_fault (layers_of layers.old) path.now mode ≡ None)) }
     ensures made { IfOk result (λ r. OnOk r (MakesDirectory layers.old layers.new path.now mode)) }
     ensures steps { IfOk result (λ r. OnOk r (MkdirSteps layers.old layers.new path.now mode)) }
-    ensures no_memory { OnErr result (ShowsSame layers.old layers.new) }
-    ensures mounts { OnErr result (StaysMount layers.old layers.new) }
-    ensures parents { OnErr result (GainsParents layers.old layers.new path.now) }
-    ensures keeps { StaysLayers layers.old layers.new }
-    ensures thin { StaysThin layers.old layers.new }
+    ensures no_memory { OnErr result
+        (ChangesNoSight layers.old layers.new (GainsParents layers.old layers.new path.now)) }
+    ensures sound { StaysSound layers.old layers.new }
 {
     mode.lawful();
     let directory = match vacant(layers, path) {
@@ -55,11 +55,9 @@ fn make(
     requires allowed { mkdir_fault (layers_of layers.old) path.now mode ≡ None }
     ensures made { OnOk result (MakesDirectory layers.old layers.new path.now mode) }
     ensures steps { OnOk result (MkdirSteps layers.old layers.new path.now mode) }
-    ensures no_memory { OnErr result (ShowsSame layers.old layers.new) }
-    ensures mounts { OnErr result (StaysMount layers.old layers.new) }
-    ensures parents { OnErr result (GainsParents layers.old layers.new path.now) }
-    ensures keeps { StaysLayers layers.old layers.new }
-    ensures thin { StaysThin layers.old layers.new }
+    ensures no_memory { OnErr result
+        (ChangesNoSight layers.old layers.new (GainsParents layers.old layers.new path.now)) }
+    ensures sound { StaysSound layers.old layers.new }
 {
     let Some((name, parents)) = path.split_last() else {
         unreachable!()

@@ -1,8 +1,8 @@
 // Freeing what has no name any more.
-ghost use Rattle.std.specs.Prelude.{◌≡◌, ◌≢◌, ℕ};
+ghost use Rattle.std.specs.Prelude.{◌≢◌, ℕ};
 ghost use Rattle.layer_tree.specs.Tree.{layer_of, Frees, SameObjects};
 ghost use Rattle.layer_tree.specs.Nameless.{IsNameless};
-ghost use Rattle.copy_up.specs.Showing.{ShowsSame, StaysLayers, StaysMount, StaysThin};
+ghost use Rattle.copy_up.specs.Showing.{ShowsSame, StaysMount, StaysSound};
 
 use merged_lookup::Layers;
 
@@ -12,10 +12,10 @@ pub fn free(layers: &mut Layers, key: usize)
     ensures frees { Frees layers.old.upper layers.new.upper key }
     ensures held { SameObjects (layer_of layers.old.upper) (layer_of layers.new.upper) }
     ensures same { ShowsSame layers.old layers.new }
-    ensures keeps { StaysLayers layers.old layers.new }
     ensures mounts { StaysMount layers.old layers.new }
-    ensures thin { StaysThin layers.old layers.new }
-    ensures nameless { (k : ℕ) → k ≢ key → IsNameless layers.old.upper k → IsNameless layers.new.upper k }
+    ensures sound { StaysSound layers.old layers.new }
+    ensures nameless { (k : ℕ) → k ≢ key → IsNameless layers.old.upper k →
+        IsNameless layers.new.upper k }
 {
     layers.upper_mut().discard(key);
 }

@@ -3,7 +3,7 @@ ghost use Rattle.std.specs.Prelude.{◌≡◌, [], Some, None, IfOk, IfErr, OnOk
 ghost use Rattle.plain_model.specs.Layers.{shows};
 ghost use Rattle.mount_laws.specs.Leaves.{symlink_fault};
 ghost use Rattle.merged_lookup.specs.Merged.{layers_of, parents_fault, parent, IsStackOf};
-ghost use Rattle.copy_up.specs.Showing.{ShowsSame, GainsParents, StaysLayers, StaysMount, StaysThin};
+ghost use Rattle.copy_up.specs.Showing.{ChangesNoSight, GainsParents, StaysSound};
 ghost use Rattle.make_remove.specs.Making as made;
 ghost use Rattle.make_remove.specs.Leaves.{MakesLeaf, SymlinkSteps, CreateSteps};
 ghost use Rattle.ov_base.specs.declared.bytes.Content.TheVariants as content;
@@ -23,16 +23,18 @@ pub fn symlink(
     target: LinkTarget,
     path: &Path,
 ) -> Result<Result<(), Errno>, AllocError>
-    ensures refused { IfOk result (λ r. IfErr r (λ e. symlink_fault (layers_of layers.old) target path.now ≡ Some e)) }
+    ensures refused { IfOk result (λ r. IfErr r (λ e.
+        symlink_fault (layers_of layers.old) target path.now ≡ Some e)) }
     ensures unchanged { IfOk result (λ r. OnErr r (layers.new ≡ layers.old)) }
-    ensures allowed { IfOk result (λ r. OnOk r (symlink_fault (layers_of layers.old) target path.now ≡ None)) }
-    ensures made { IfOk result (λ r. OnOk r (MakesLeaf layers.old layers.new path.now (content.SymbolicLink target) (made.new_attributes 0o777))) }
+    ensures allowed { IfOk result (λ r.
+        OnOk r (symlink_fault (layers_of layers.old) target path.now ≡ None)) }
+    ensures made { IfOk result (λ r.
+        OnOk r (MakesLeaf layers.old layers.new path.now (content.SymbolicLink target)
+        (made.new_attributes 0o777))) }
     ensures steps { IfOk result (λ r. OnOk r (SymlinkSteps layers.old layers.new target path.now)) }
-    ensures no_memory { OnErr result (ShowsSame layers.old layers.new) }
-    ensures mounts { OnErr result (StaysMount layers.old layers.new) }
-    ensures parents { OnErr result (GainsParents layers.old layers.new path.now) }
-    ensures keeps { StaysLayers layers.old layers.new }
-    ensures thin { StaysThin layers.old layers.new }
+    ensures no_memory { OnErr result
+        (ChangesNoSight layers.old layers.new (GainsParents layers.old layers.new path.now)) }
+    ensures sound { StaysSound layers.old layers.new }
 {
     target.lawful();
     let directory = match vacant(layers, path) {
@@ -63,13 +65,13 @@ pub fn create(
     requires directory { IsStackOf layers.old (parent path.now) directory }
     requires parents { parents_fault (layers_of layers.old) path.now ≡ None }
     requires absent { shows 0 (layers_of layers.old) path.now ≡ None }
-    ensures made { IfOk result (λ key. (leaf : MakesLeaf layers.old layers.new path.now (content.File []) (made.new_attributes mode)) × (leaf.number ≡ key)) }
+    ensures made { IfOk result (λ key.
+        (leaf : MakesLeaf layers.old layers.new path.now (content.File [])
+        (made.new_attributes mode)) × (leaf.number ≡ key)) }
     ensures steps { OnOk result (CreateSteps layers.old layers.new path.now mode) }
-    ensures no_memory { OnErr result (ShowsSame layers.old layers.new) }
-    ensures mounts { OnErr result (StaysMount layers.old layers.new) }
-    ensures parents { OnErr result (GainsParents layers.old layers.new path.now) }
-    ensures keeps { StaysLayers layers.old layers.new }
-    ensures thin { StaysThin layers.old layers.new }
+    ensures no_memory { OnErr result
+        (ChangesNoSight layers.old layers.new (GainsParents layers.old layers.new path.now)) }
+    ensures sound { StaysSound layers.old layers.new }
 {
     mode.lawful();
     let content = Content::File(Bytes::new(alloc));
@@ -94,12 +96,12 @@ fn make_leaf(
     requires directory { IsStackOf layers.old (parent path.now) directory }
     requires parents { parents_fault (layers_of layers.old) path.now ≡ None }
     requires absent { shows 0 (layers_of layers.old) path.now ≡ None }
-    ensures made { IfOk result (λ key. (leaf : MakesLeaf layers.old layers.new path.now content attributes) × (leaf.number ≡ key)) }
-    ensures no_memory { OnErr result (ShowsSame layers.old layers.new) }
-    ensures mounts { OnErr result (StaysMount layers.old layers.new) }
-    ensures parents { OnErr result (GainsParents layers.old layers.new path.now) }
-    ensures keeps { StaysLayers layers.old layers.new }
-    ensures thin { StaysThin layers.old layers.new }
+    ensures made { IfOk result (λ key.
+        (leaf : MakesLeaf layers.old layers.new path.now content attributes) ×
+        (leaf.number ≡ key)) }
+    ensures no_memory { OnErr result
+        (ChangesNoSight layers.old layers.new (GainsParents layers.old layers.new path.now)) }
+    ensures sound { StaysSound layers.old layers.new }
 {
     let Some((name, parents)) = path.split_last() else {
         unreachable!()

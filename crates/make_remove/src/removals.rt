@@ -12,7 +12,7 @@ ghost use Rattle.layer_tree.specs.Table.{object_key};
 ghost use Rattle.layer_tree.specs.Tree.{layer_of, inode_at, with_less, entry, child, key_at, IsDirectory, HoldsNoObjects, ReplacesPath, Unbinds, SameTree, SameObjects};
 ghost use Rattle.layer_tree.specs.declared.name_table.Entry.TheVariants as bound;
 ghost use Rattle.merged_lookup.specs.Merged.{layers_of, lowers_of, parent, way_fault, IsStackOf, ShowsInode};
-ghost use Rattle.copy_up.specs.Showing.{ShowsSame, GainsParents, Stays, StaysLayers, StaysMount, StaysThin};
+ghost use Rattle.copy_up.specs.Showing.{ChangesNoSight, GainsParents, StaysSound};
 ghost use Rattle.make_remove.specs.Removing.{unlink_fault, rmdir_fault, ShowsNoName, TakesAway, Removes, TellsNames, TakesName, Unnames, released_by, has_more};
 
 use copy_up::place_parents;
@@ -55,13 +55,14 @@ pub fn unlink(
     requires allowed { unlink_fault (layers_of layers.old) path.now ≡ None }
     requires directory { IsStackOf layers.old (parent path.now) directory }
     ensures takes { OnOk result (TakesName layers.old layers.new path.now) }
-    ensures steps { OnOk result ((s : State) → IsMountOf (layer_of layers.old.upper) (lowers_of layers.old) s → (c : ℕ) → Removes (layer_of layers.new.upper) (lowers_of layers.new) s c path.now (call.Unlink path.now)) }
-    ensures keeps { StaysLayers layers.old layers.new }
-    ensures thin { StaysThin layers.old layers.new }
-    ensures no_memory { OnErr result (ShowsSame layers.old layers.new) }
-    ensures mounts { OnErr result (StaysMount layers.old layers.new) }
+    ensures steps { OnOk result ((s : State) →
+        IsMountOf (layer_of layers.old.upper) (lowers_of layers.old) s → (c : ℕ) →
+        Removes (layer_of layers.new.upper) (lowers_of layers.new) s c path.now
+        (call.Unlink path.now)) }
     ensures unnames { IfOk result (λ released. Unnames layers.old layers.new path.now released) }
-    ensures parents { OnErr result (GainsParents layers.old layers.new path.now) }
+    ensures no_memory { OnErr result
+        (ChangesNoSight layers.old layers.new (GainsParents layers.old layers.new path.now)) }
+    ensures sound { StaysSound layers.old layers.new }
 {
     let Some((name, parents)) = path.split_last() else {
         unreachable!()
@@ -76,19 +77,26 @@ pub fn unlink(
 /// which stays until it is freed. A refusal changes nothing, and an allocation failure changes
 /// nothing that is shown.
 pub fn rmdir(layers: &mut Layers, path: &Path) -> Result<Result<Option<usize>, Errno>, AllocError>
-    ensures refused { IfOk result (λ r. IfErr r (λ e. (full : Bool) → TellsNames (layers_of layers.old) path.now full → rmdir_fault (layers_of layers.old) path.now full ≡ Some e)) }
-    ensures refuses { IfOk result (λ r. IfErr r (λ e. (s : State) → IsMountOf (layer_of layers.old.upper) (lowers_of layers.old) s → (c : ℕ) → refusal s c (call.Rmdir path.now) ≡ Some e)) }
+    ensures refused { IfOk result (λ r. IfErr r (λ e.
+        (full : Bool) → TellsNames (layers_of layers.old) path.now full →
+        rmdir_fault (layers_of layers.old) path.now full ≡ Some e)) }
+    ensures refuses { IfOk result (λ r. IfErr r (λ e.
+        (s : State) → IsMountOf (layer_of layers.old.upper) (lowers_of layers.old) s → (c : ℕ) →
+        refusal s c (call.Rmdir path.now) ≡ Some e)) }
     ensures unchanged { IfOk result (λ r. OnErr r (layers.new ≡ layers.old)) }
-    ensures allowed { IfOk result (λ r. OnOk r (rmdir_fault (layers_of layers.old) path.now false ≡ None)) }
+    ensures allowed { IfOk result (λ r.
+        OnOk r (rmdir_fault (layers_of layers.old) path.now false ≡ None)) }
     ensures bare { IfOk result (λ r. OnOk r (ShowsNoName (layers_of layers.old) path.now)) }
     ensures takes { IfOk result (λ r. OnOk r (TakesName layers.old layers.new path.now)) }
-    ensures steps { IfOk result (λ r. OnOk r ((s : State) → IsMountOf (layer_of layers.old.upper) (lowers_of layers.old) s → (c : ℕ) → Removes (layer_of layers.new.upper) (lowers_of layers.new) s c path.now (call.Rmdir path.now))) }
-    ensures keeps { StaysLayers layers.old layers.new }
-    ensures thin { StaysThin layers.old layers.new }
-    ensures no_memory { OnErr result (ShowsSame layers.old layers.new) }
-    ensures mounts { OnErr result (StaysMount layers.old layers.new) }
-    ensures unnames { IfOk result (λ r. IfOk r (λ released. Unnames layers.old layers.new path.now released)) }
-    ensures parents { OnErr result (GainsParents layers.old layers.new path.now) }
+    ensures steps { IfOk result (λ r. OnOk r ((s : State) →
+        IsMountOf (layer_of layers.old.upper) (lowers_of layers.old) s → (c : ℕ) →
+        Removes (layer_of layers.new.upper) (lowers_of layers.new) s c path.now
+        (call.Rmdir path.now))) }
+    ensures unnames { IfOk result (λ r.
+        IfOk r (λ released. Unnames layers.old layers.new path.now released)) }
+    ensures no_memory { OnErr result
+        (ChangesNoSight layers.old layers.new (GainsParents layers.old layers.new path.now)) }
+    ensures sound { StaysSound layers.old layers.new }
 {
     let Some((name, parents)) = path.split_last() else {
         return Ok(Err(ROOT_REFUSAL));
@@ -118,12 +126,11 @@ fn take_away(
     requires directory { IsStackOf layers.old (reverse parents.now) directory }
     requires bare { ShowsNoName (layers_of layers.old) (name.now ∷ reverse parents.now) }
     ensures takes { OnOk result (TakesName layers.old layers.new (name.now ∷ reverse parents.now)) }
-    ensures keeps { OnOk result (StaysLayers layers.old layers.new) }
-    ensures thin { OnOk result (StaysThin layers.old layers.new) }
-    ensures no_memory { OnErr result (ShowsSame layers.old layers.new) }
-    ensures stays { OnErr result (Stays layers.old layers.new) }
-    ensures unnames { IfOk result (λ released. Unnames layers.old layers.new (name.now ∷ reverse parents.now) released) }
-    ensures parents { OnErr result (GainsParents layers.old layers.new (name.now ∷ reverse parents.now)) }
+    ensures unnames { IfOk result (λ released.
+        Unnames layers.old layers.new (name.now ∷ reverse parents.now) released) }
+    ensures no_memory { OnErr result (ChangesNoSight layers.old layers.new
+        (GainsParents layers.old layers.new (name.now ∷ reverse parents.now))) }
+    ensures sound { StaysSound layers.old layers.new }
 {
     let parent = place_parents(layers, directory, parents)?;
     let covered = layers.lowers_show(&parent, name);

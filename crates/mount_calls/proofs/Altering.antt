@@ -21,9 +21,9 @@ use Rattle.mount_laws.specs.Attributes.{chown_fault, user_in}
 use Rattle.mount_laws.specs.Altered.{Alters, AltersState}
 use Rattle.mount_laws.specs.StayOpen.{AltersNamed}
 use Rattle.copy_up.specs.Altering.{AltersAs, AltersObjectAs}
-use Rattle.copy_up.specs.Showing.{number_of, GainsParents, ShowsSame, StaysLayers, StaysMount, StaysThin}
+use Rattle.copy_up.specs.Showing.{number_of, ChangesNoSight, GainsParents, StaysSound}
 use Rattle.copy_up.proofs.Frames.{gains-self}
-use Rattle.copy_up.proofs.Keeping.{lowers-same, same-self}
+use Rattle.copy_up.proofs.Keeping.{lowers-same, same-self, sound-self}
 use Rattle.mount_calls.specs.declared.attribute_changes.AttributeCall.{AttributeCall}
 use Rattle.mount_calls.specs.Altering.{AltersUnless, IsOpenTo, IsTarget, ShowsAttributes}
 use Rattle.mount_calls.specs.AttributeCalls.{call_at, asked, asking_fault, asked_fault, user_fault}
@@ -36,7 +36,7 @@ use Rattle.mount_calls.proofs.Lasting.{parents-live}
 -- a call that was judged, and the change that it asks for made
 module _
     (x : AttributeCall) (old new : Layers) (p : Path) (target : Stack × Topmost) (h : IsTarget old p x target) (low : new.lowers ≡ old.lowers)
-    (keeps : StaysLayers old new) (thin : StaysThin old new) (made : AttributeChange)
+    (sound : StaysSound old new) (made : AttributeChange)
     (asks : (a : Attributes) → changed made a ≡ asked x a) (alters : AltersAs old new p made) where
   -- alters each state, over the lower layers that there were
   state-altered : (s : State) → IsMountOf (layer_of old.upper) (lowers_of old) s → (c : ℕ) → AltersState (layer_of new.upper) (lowers_of old) s c p (call_at p x)
@@ -61,39 +61,32 @@ module _
     key = there;
     lowers = low;
     around = around-paths old new p (object h.attributes h.shown).paths;
-    keeps = keeps;
-    thin = thin;
-    no_memory = tt;
-    mounts = tt;
     live = live-altered tree object;
-    stays = tt;
+    no_memory = tt;
+    sound = sound;
   }
 
 -- a change that wants memory leaves what is shown, and what the upper holds around the path
 pub alters-wanted :
     (x : AttributeCall) (old new : Layers) (p : Path) (r : Result (Result ℕ Errno) AllocError) →
-    IsErr r → GainsParents old new p → StaysLayers old new → StaysThin old new → ShowsSame old new →
-    StaysMount old new → AltersUnless x old new p r
-alters-wanted x old new p (Ok y) wrong gains keeps thin same mounts = let no : false ≡ true = wrong in absurd (cc)
-alters-wanted x old new p (Err e) wrong gains keeps thin same mounts = record {
+    IsErr r → ChangesNoSight old new (GainsParents old new p) → StaysSound old new → AltersUnless x old new p r
+alters-wanted x old new p (Ok y) wrong kept sound = let no : false ≡ true = wrong in absurd (cc)
+alters-wanted x old new p (Err e) wrong kept sound = record {
   refused = tt;
   unchanged = tt;
   allowed = tt;
   alters = tt;
   key = tt;
-  lowers = gains.lowers;
-  around = around-parents old new p gains;
-  keeps = keeps;
-  thin = thin;
-  no_memory = same;
-  mounts = mounts;
+  lowers = kept.beneath.lowers;
+  around = around-parents old new p kept.beneath;
   live = tt;
-  stays = parents-live old new p gains;
+  no_memory = record { shown = kept.shown; mount = kept.mount; beneath = parents-live old new p kept.beneath };
+  sound = sound;
 }
 
 -- and so does one for which there is none at all
 pub alters-unmade : (x : AttributeCall) (l : Layers) (p : Path) (r : Result (Result ℕ Errno) AllocError) → IsErr r → AltersUnless x l l p r
-alters-unmade x l p r wrong = alters-wanted x l l p r wrong (gains-self l p) (λ h. h) (λ h. h) (same-self l) (λ s h. h)
+alters-unmade x l p r wrong = alters-wanted x l l p r wrong (record { shown = same-self l; mount = λ s h. h; beneath = gains-self l p }) (sound-self l)
 
 -- a call that is refused changes nothing
 pub alters-refused : (x : AttributeCall) (l : Layers) (p : Path) (e : Errno) → asked_fault (layers_of l) p x ≡ Some e → AltersUnless x l l p (Ok (Err e))
@@ -105,12 +98,9 @@ alters-refused x l p e fault = record {
   key = tt;
   lowers = refl;
   around = around-parents l l p (gains-self l p);
-  keeps = λ h. h;
-  thin = λ h. h;
-  no_memory = tt;
-  mounts = tt;
   live = tt;
-  stays = tt;
+  no_memory = tt;
+  sound = sound-self l;
 }
 
 -- what is told of an inode is told where it is shown

@@ -91,7 +91,7 @@ pub close-leaves : (clients : Clients) (old new : Layers) (closed : Option ℕ) 
 close-leaves clients old new None freed none = subst (λ (l : Layers). LeavesOpen clients old l None) (sym (none refl)) (same-leaves clients old None)
 close-leaves clients old new (Some k) freed none = record {
   paths = (freed k refl).keeps;
-  thin = (freed k refl).thin;
+  thin = (freed k refl).sound.thin;
   mounts = (freed k refl).mounts;
   live = λ there. by ((layer_of old.upper).inodes k) refl (there k refl);
 }

@@ -25,7 +25,7 @@ use Rattle.mount_laws.proofs.OpenFiles.{law_of_live_shown}
 use Rattle.mount_laws.proofs.Opening.{law_of_opened_for_writing}
 use Rattle.mount_laws.proofs.Outlive.{law_of_live_through_owner}
 use Rattle.copy_up.specs.Leaves.{CopiesLeaf}
-use Rattle.copy_up.specs.Showing.{GainsParents, ShowsSame}
+use Rattle.copy_up.specs.Showing.{ChangesNoSight, GainsParents}
 use Rattle.copy_up.proofs.Copying.{free-inode}
 use Rattle.copy_up.proofs.Keeping.{lowers-same}
 use Rattle.mount_calls.specs.declared.clients.Clients.{Clients}
@@ -67,16 +67,17 @@ copied-as old new p q d a same own (Ok key) h = λ i shown.
     (h i (ap (shows 0 (layers_of old)) (sym same) ∙ shown)))
 
 -- the lower layers stay where a file is copied, and where memory runs out for that
-pub copied-lowers : (old new : Layers) (q : Path) (d : Place) (a : Attributes) (i : Inode) → shows 0 (layers_of old) q ≡ Some (Contents d.layer d.key (Some i)) → (r : Result ℕ AllocError) → IfOk r (Copied old new q d (λ i. a)) → OnErr r (ShowsSame old new) → new.lowers ≡ old.lowers
-copied-lowers old new q d a i shown r h same = grind arith
+pub copied-lowers : (old new : Layers) (q : Path) (d : Place) (a : Attributes) (i : Inode) → shows 0 (layers_of old) q ≡ Some (Contents d.layer d.key (Some i)) → (r : Result ℕ AllocError) → IfOk r (Copied old new q d (λ i. a)) → OnErr r (ChangesNoSight old new (GainsParents old new q)) → new.lowers ≡ old.lowers
+copied-lowers old new q d a i shown (Ok key) h kept = (h i shown).0.lowers
+copied-lowers old new q d a i shown (Err e) h kept = kept.beneath.lowers
 
 -- what the upper holds around the path stays where a file is copied, and where memory is wanted for that
 pub copied-around :
     (old new : Layers) (q : Path) (d : Place) (a : Attributes) (i : Inode) →
     shows 0 (layers_of old) q ≡ Some (Contents d.layer d.key (Some i)) → (r : Result ℕ AllocError) →
-    IfOk r (Copied old new q d (λ i. a)) → OnErr r (GainsParents old new q) → KeepsAround old new q
-copied-around old new q d a i shown (Ok key) h gains = let copy = h i shown in around-others old new q copy.0.others
-copied-around old new q d a i shown (Err e) h gains = around-parents old new q gains
+    IfOk r (Copied old new q d (λ i. a)) → OnErr r (ChangesNoSight old new (GainsParents old new q)) → KeepsAround old new q
+copied-around old new q d a i shown (Ok key) h kept = let copy = h i shown in around-others old new q copy.0.others
+copied-around old new q d a i shown (Err e) h kept = around-parents old new q kept.beneath
 
 -- a node that is put at an identity twice is put there once
 put-again : (t : Tree) (d : NodeId) (o q : Option Node) → put (put t d o) d q ≡ put t d q

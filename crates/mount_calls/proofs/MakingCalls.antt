@@ -1,5 +1,5 @@
 -- Calls that a mount made, by how each ended.
-use Rattle.std.proofs.Common.{◌≡◌, ℕ, true, false, None, Some, Result, Ok, Err, is_some, refl, sym, ap, subst}
+use Rattle.std.proofs.Common.{◌≡◌, ℕ, true, false, Option, None, Some, Result, Ok, Err, is_some, refl, sym, ap, ◌∙◌, subst}
 use Rattle.std.specs.Prelude.{IsErr}
 use Rattle.std.specs.BTreeMap.{get}
 use Rattle.mount_calls.proofs.Words.{after, AllocError, Attributes, Call, Errno, Layers, nat_cmp, Path, refusal, Reply, reply_of, State, StaysMount}
@@ -10,8 +10,9 @@ use Rattle.mount_calls.specs.declared.mount.Mount.{Mount}
 use Rattle.mount_calls.specs.Attaching.{KeepsAttached}
 use Rattle.mount_calls.specs.Keeping.{KeepsLayers}
 use Rattle.mount_calls.specs.Living.{KeepsNamed, StaysLive}
-use Rattle.mount_calls.specs.Making.{MakesCall, RunsOut, ServesEach}
+use Rattle.mount_calls.specs.Making.{AnswersCall, MakesCall, RunsOut, ServesEach}
 use Rattle.mount_calls.specs.Removing.{RemovesOpen}
+use Rattle.mount_calls.specs.Renaming.{RenamesOpen, SamePlaces}
 use Rattle.mount_calls.specs.States.{IsStateOf, StaysState}
 use Rattle.mount_calls.proofs.Carrying.{state-stays}
 use Rattle.mount_calls.proofs.Changing.{refused}
@@ -26,10 +27,27 @@ attached-same clients = record { attached = λ n. refl; next = refl }
 pub attached-removed : (old new : Clients) (p : Path) (a : Attributes) → RemovesOpen old new p a → KeepsAttached old new
 attached-removed old new p a marks = record { attached = λ n. ap (λ z. is_some (get nat_cmp z n)) marks.attached; next = marks.next }
 
+-- and so do those that keep their places
+pub attached-places : (old new : Clients) → SamePlaces old new → KeepsAttached old new
+attached-places old new same = record { attached = λ n. ap (λ z. is_some (get nat_cmp z n)) same.attached; next = same.next }
+
+-- and those of which what was open at one path is open at another then
+pub attached-renamed : (old mid new : Clients) (p q : Path) (replaced : Option Attributes) → SamePlaces old mid → RenamesOpen mid new p q replaced →
+    KeepsAttached old new
+attached-renamed old mid new p q replaced same renames = record {
+  attached = λ n. ap (λ z. is_some (get nat_cmp z n)) (renames.attached ∙ same.attached);
+  next = renames.next ∙ same.next;
+}
+
 module _ (c : ℕ) (k : Call) (old new : Mount) where
   -- what each live file is told of a call that is not refused
   abbrev pub NamesEach : Type 0
   NamesEach = (s : State) → IsStateOf old s → refusal s c k ≡ None → KeepsNamed s c old.layers new.layers k
+
+  -- an open that was answered by its descriptor
+  pub answers-open : (d : ℕ) → ServesEach c k old new (reply.Descriptor d) → NamesEach → AnswersCall c k old new (reply.Descriptor d)
+  answers-open d serves named =
+      record { serves = serves; refused = λ e is. absurd (let no : reply.Descriptor d ≡ reply.Refused e = is in cc); named = named }
 
   -- a call that was answered otherwise than by a refusal, and changed the layers so
   pub makes-changed : (r : Reply) → ((e : Errno) → r ≡ reply.Refused e → ⊥) → ServesEach c k old new r → NamesEach →

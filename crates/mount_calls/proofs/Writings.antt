@@ -16,8 +16,8 @@ use Rattle.layer_tree.specs.Tree.{SameObjects, SameTree, written}
 use Rattle.layer_tree.specs.Tree.{Tree as LayerTree}
 use Rattle.mount_laws.specs.Descriptors.{TruncatesFile, WritesFile, resized, write_start}
 use Rattle.mount_laws.proofs.Descriptors.{law_of_directory_handle, law_of_truncate, law_of_unopened, law_of_write}
-use Rattle.copy_up.specs.Showing.{StaysThin}
-use Rattle.copy_up.proofs.Keeping.{lowers-same, mounts-alike}
+use Rattle.copy_up.specs.Showing.{StaysSound, StaysThin}
+use Rattle.copy_up.proofs.Keeping.{lowers-same, mounts-alike, then-layers}
 use Rattle.open_handles.specs.Places.{IsWritePlace, count_fitting}
 use Rattle.mount_calls.specs.declared.clients.Clients.{Clients}
 use Rattle.mount_calls.specs.declared.mount.Mount.{Mount}
@@ -43,19 +43,22 @@ thin-held old new low same thin =
     V : Layer
     V = layer_of new.upper
 
--- a write to the upper that leaves what each path holds leaves it thin, and where it runs out of
+-- a write to the upper that leaves what each path holds leaves it sound, and where it runs out of
 -- memory, the mount of each state
-pub upper-written : (l : Layers) (u new : LayerTree) (r : Result (Unit {0}) AllocError) → l.upper ≡ u → SameObjects (layer_of u) (layer_of new) → (IsLayer (layer_of u) → IsLayer (layer_of new)) → OnErr r (SameTree u new) → StaysThin l (record l { upper = new }) × OnErr r (StaysMount l (record l { upper = new }))
-upper-written l u new r is objects keeps same = (thin-held l (record l { upper = new }) refl held, by r same)
+pub upper-written : (l : Layers) (u new : LayerTree) (r : Result (Unit {0}) AllocError) → l.upper ≡ u → SameObjects (layer_of u) (layer_of new) → (IsLayer (layer_of u) → IsLayer (layer_of new)) → OnErr r (SameTree u new) → StaysSound l (record l { upper = new }) × OnErr r (StaysMount l (record l { upper = new }))
+upper-written l u new r is objects keeps same =
+    (record { layers = then-layers l l (record l { upper = new }) (λ h. h) refl still; thin = thin-held l (record l { upper = new }) refl held }, by r same)
   where
     held : SameObjects (layer_of l.upper) (layer_of new)
     held = subst (λ (z : LayerTree). SameObjects (layer_of z) (layer_of new)) (sym is) objects
 
+    still : IsLayer (layer_of l.upper) → IsLayer (layer_of new)
+    still = subst (λ (z : LayerTree). IsLayer (layer_of z) → IsLayer (layer_of new)) (sym is) keeps
+
     by : (x : Result (Unit {0}) AllocError) → OnErr x (SameTree u new) → OnErr x (StaysMount l (record l { upper = new }))
     by (Ok x) tree = tt
     by (Err e) tree =
-        mounts-alike l (record l { upper = new }) refl held (λ p k h. tree.inodes k ∙ sym (ap (λ (z : LayerTree). (layer_of z).inodes k) is))
-        (subst (λ (z : LayerTree). IsLayer (layer_of z) → IsLayer (layer_of new)) (sym is) keeps)
+        mounts-alike l (record l { upper = new }) refl held (λ p k h. tree.inodes k ∙ sym (ap (λ (z : LayerTree). (layer_of z).inodes k) is)) still
 
 -- a handle on an open file writes where that has a key to write to
 not-writing : (U : Layer) (lowers : List Layer) (t : Tree) (f : OpenFile) (h : Handle) → IsFile U lowers t f h → not h.writes ≡ is_none (written_key f)

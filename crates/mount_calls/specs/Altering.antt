@@ -15,7 +15,7 @@ use Rattle.merged_lookup.specs.Merged.{layers_of, lowers_of, parent, parents_fau
 use Rattle.mount_laws.specs.Looks.{shows_link, IsMountOf}
 use Rattle.mount_laws.specs.Attributes.{shown_attributes, chown_fault}
 use Rattle.mount_laws.specs.Altered.{AltersState}
-use Rattle.copy_up.specs.Showing.{number_of, ShowsSame, StaysLayers, StaysMount, StaysThin}
+use Rattle.copy_up.specs.Showing.{number_of, ChangesNoSight, StaysSound}
 use Rattle.mount_calls.specs.declared.attribute_changes.AttributeCall.{AttributeCall}
 use Rattle.mount_calls.specs.AttributeCalls.{call_at, asked_fault}
 use Rattle.mount_calls.specs.Keeping.{KeepsAround}
@@ -48,12 +48,9 @@ pub record AltersUnless (x : AttributeCall) (old new : Layers) (p : Path) (resul
   pub key : IfOk result (λ r. IfOk r (λ k. number_of (held (layer_of new.upper) p) ≡ Some k))
   pub lowers : new.lowers ≡ old.lowers
   pub around : KeepsAround old new p
-  pub keeps : StaysLayers old new
-  pub thin : StaysThin old new
-  pub no_memory : OnErr result (ShowsSame old new)
-  pub mounts : OnErr result (StaysMount old new)
   pub live : IfOk result (λ r. OnOk r (KeepsLive old new (call_at p x)))
-  pub stays : OnErr result (StaysLive old new)
+  pub no_memory : OnErr result (ChangesNoSight old new (StaysLive old new))
+  pub sound : StaysSound old new
 
 -- what a path shows in a merged directory, to be changed there; nothing is ENOENT
 abbrev pub target_in : Stack → Option Topmost → Result (Stack × Topmost) Errno

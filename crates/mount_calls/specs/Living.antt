@@ -13,7 +13,7 @@ use Rattle.merged_lookup.specs.declared.layers.Layers.{Layers}
 use Rattle.merged_lookup.specs.Merged.{lowers_of}
 use Rattle.mount_laws.specs.Looks.{IsMountOf}
 use Rattle.mount_laws.specs.OpenFiles.{IsLive, DropsInode, WritesInode}
-use Rattle.copy_up.specs.Showing.{StaysLayers, StaysMount, StaysThin}
+use Rattle.copy_up.specs.Showing.{StaysMount, StaysSound}
 use Rattle.open_handles.specs.FileHolders.{file_holders}
 use Rattle.mount_calls.specs.declared.clients.Clients.{Clients}
 
@@ -77,9 +77,8 @@ pub record FreesClosed (clients : Clients) (old new : Layers) (k : ℕ) : Type 0
   pub freed :
       file_holders clients.files k ≡ 0 → (i : Inode) → (layer_of old.upper).inodes k ≡ Some i → i.links ≡ 0 →
       DropsInode (layer_of old.upper) (layer_of new.upper) k
-  pub layers : StaysLayers old new
   pub mounts : StaysMount old new
-  pub thin : StaysThin old new
+  pub sound : StaysSound old new
 
 -- the upper has these bytes of the inode of this key, and nothing else changes
 pub record SetsFile (old new : Layers) (k : ℕ) (bytes : List ℕ) : Type 0 where

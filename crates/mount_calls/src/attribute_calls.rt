@@ -1,17 +1,12 @@
 // The calls on attributes, by the plain machine.
-ghost use Rattle.std.specs.Prelude.{◌≡◌, ℕ, None, Some, IfOk, OnErr};
+ghost use Rattle.std.specs.Prelude.{◌≡◌, Some, IfOk};
 ghost use Rattle.plain_model.specs.Layers.{held};
-ghost use Rattle.plain_model.specs.Machine.{State};
-ghost use Rattle.plain_model.specs.Refusals.{refusal};
 ghost use Rattle.layer_tree.specs.Tree.{layer_of};
-ghost use Rattle.copy_up.specs.Showing.{number_of, StaysThin};
+ghost use Rattle.copy_up.specs.Showing.{number_of};
 ghost use Rattle.mount_calls.specs.AttributeCalls.{call_at};
-ghost use Rattle.mount_calls.specs.Keeping.{KeepsLayers};
-ghost use Rattle.mount_calls.specs.Living.{KeepsNamed, StaysLive};
 ghost use Rattle.mount_calls.specs.Looking.{IsLook};
-ghost use Rattle.mount_calls.specs.Making.{TellsEach};
-ghost use Rattle.mount_calls.specs.States.{IsStateOf, Serves, StaysState};
-ghost use Rattle.mount_calls.specs.Status.{outcome_reply};
+ghost use Rattle.mount_calls.specs.Making.{MakesEach, TellsEach};
+ghost use Rattle.mount_calls.specs.Status.{outcome_result};
 
 use crate::attribute_changes::{AttributeCall, alter_seen};
 use crate::look::Look;
@@ -31,19 +26,13 @@ impl Mount {
         call: AttributeCall,
     ) -> Result<Result<usize, Errno>, AllocError>
         requires { IsLook self.old.layers path.now look }
-        ensures serves { IfOk result (λ outcome. (s : State) → IsStateOf self.old s → (c : ℕ) → Serves (refusal s c (call_at path.now call.entry)) s c (call_at path.now call.entry) (outcome_reply outcome) self.new) }
-        ensures key { IfOk result (λ outcome. IfOk outcome (λ key. number_of (held (layer_of self.new.layers.upper) path.now) ≡ Some key)) }
-        ensures err { OnErr result (StaysState self.old self.new) }
+        ensures makes { MakesEach (call_at path.now call.entry) self.old self.new
+            (outcome_result result) }
+        ensures key { IfOk result (λ outcome. IfOk outcome (λ key.
+            number_of (held (layer_of self.new.layers.upper) path.now) ≡ Some key)) }
         ensures clients { self.new.clients ≡ self.old.clients }
-        ensures layers { KeepsLayers (call_at path.now call.entry) self.old.layers self.new.layers }
-        ensures refused { IfOk result (λ outcome. OnErr outcome (self.new.layers ≡ self.old.layers)) }
-        ensures lowers { self.new.layers.lowers ≡ self.old.layers.lowers }
-        ensures thin { StaysThin self.old.layers self.new.layers }
-        ensures named { IfOk result (λ outcome. (s : State) → IsStateOf self.old s → (c : ℕ) → refusal s c (call_at path.now call.entry) ≡ None → KeepsNamed s c self.old.layers self.new.layers (call_at path.now call.entry)) }
-        ensures stays_live { OnErr result (StaysLive self.old.layers self.new.layers) }
     {
-        let outcome = alter_seen(&mut self.layers, path, look, &call)?;
-        Ok(outcome)
+        alter_seen(&mut self.layers, path, look, &call)
     }
 
     /// The value of a user attribute of what stands at a path.

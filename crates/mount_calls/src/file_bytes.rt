@@ -2,7 +2,7 @@
 ghost use Rattle.std.specs.Prelude.{◌≡◌, ◌+◌, ◌<◌, ◌^◌, ℕ, List, Some, IsOk, OnOk, OnErr, length};
 ghost use Rattle.plain_model.specs.Changes.{sized};
 ghost use Rattle.layer_tree.specs.Tree.{bytes_at, layer_of, written, SameObjects};
-ghost use Rattle.copy_up.specs.Showing.{StaysLayers, StaysMount, StaysThin};
+ghost use Rattle.copy_up.specs.Showing.{StaysMount, StaysSound};
 ghost use Rattle.open_handles.specs.declared.open_file.FileSource.TheVariants as sources;
 ghost use Rattle.mount_calls.specs.Living.{KeepsFiles, SetsFile, StaysLive};
 
@@ -19,12 +19,13 @@ pub(crate) fn write_file(
     bytes: &[u8],
 ) -> Result<(), AllocError>
     requires { start + length bytes.now < 2 ^ 64 }
-    ensures sets { OnOk result ((k : ℕ) (old : List ℕ) → source ≡ sources.Upper k → bytes_at layers.old.upper k ≡ Some old → SetsFile layers.old layers.new k (written old start bytes.now)) }
+    ensures sets { OnOk result ((k : ℕ) (old : List ℕ) → source ≡ sources.Upper k →
+        bytes_at layers.old.upper k ≡ Some old →
+        SetsFile layers.old layers.new k (written old start bytes.now)) }
     ensures files { KeepsFiles layers.old layers.new }
     ensures objects { SameObjects (layer_of layers.old.upper) (layer_of layers.new.upper) }
     ensures lowers { layers.new.lowers ≡ layers.old.lowers }
-    ensures keeps { StaysLayers layers.old layers.new }
-    ensures thin { StaysThin layers.old layers.new }
+    ensures sound { StaysSound layers.old layers.new }
     ensures mounts { OnErr result (StaysMount layers.old layers.new) }
     ensures stays { OnErr result (StaysLive layers.old layers.new) }
 {
@@ -44,13 +45,14 @@ pub(crate) fn resize_file(
     source: FileSource,
     size: usize,
 ) -> Result<(), AllocError>
-    ensures sets { OnOk result ((k : ℕ) (old : List ℕ) → source ≡ sources.Upper k → bytes_at layers.old.upper k ≡ Some old → SetsFile layers.old layers.new k (sized old size)) }
+    ensures sets { OnOk result ((k : ℕ) (old : List ℕ) → source ≡ sources.Upper k →
+        bytes_at layers.old.upper k ≡ Some old →
+        SetsFile layers.old layers.new k (sized old size)) }
     ensures empties { size ≡ 0 → IsOk result }
     ensures files { KeepsFiles layers.old layers.new }
     ensures objects { SameObjects (layer_of layers.old.upper) (layer_of layers.new.upper) }
     ensures lowers { layers.new.lowers ≡ layers.old.lowers }
-    ensures keeps { StaysLayers layers.old layers.new }
-    ensures thin { StaysThin layers.old layers.new }
+    ensures sound { StaysSound layers.old layers.new }
     ensures mounts { OnErr result (StaysMount layers.old layers.new) }
     ensures stays { OnErr result (StaysLive layers.old layers.new) }
 {

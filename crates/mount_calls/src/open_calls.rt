@@ -14,14 +14,14 @@ ghost use Rattle.merged_lookup.specs.Merged.{layers_of, parent, parents_fault, I
 ghost use Rattle.mount_laws.specs.Looks.{or_else};
 ghost use Rattle.mount_laws.specs.Opening.{opening_fault, shown_fault};
 ghost use Rattle.copy_up.specs.Leaves.{CopiesLeaf};
-ghost use Rattle.copy_up.specs.Showing.{GainsParents, StaysLayers, StaysMount, StaysThin};
+ghost use Rattle.copy_up.specs.Showing.{ChangesNoSight, GainsParents, StaysSound, StaysThin};
 ghost use Rattle.mount_calls.specs.Attaching.{KeepsAttached};
 ghost use Rattle.mount_calls.specs.Keeping.{KeepsAround, KeepsLayers};
-ghost use Rattle.mount_calls.specs.Living.{KeepsNamed, StaysLive};
 ghost use Rattle.mount_calls.specs.FreeDescriptors.{IsLowestFree};
 ghost use Rattle.mount_calls.specs.Looking.{IsJudged, IsLook};
+ghost use Rattle.mount_calls.specs.Making.{AnswersCall, RunsOut};
 ghost use Rattle.mount_calls.specs.Opening as opening;
-ghost use Rattle.mount_calls.specs.States.{HasStateOf, IsStateOf, Serves, StaysState};
+ghost use Rattle.mount_calls.specs.States.{HasStateOf, IsStateOf};
 
 use crate::file_bytes::resize_file;
 use crate::files::file_at;
@@ -97,14 +97,13 @@ impl Mount {
         requires attached { IsSome (get nat_cmp self.old.clients.attached client) }
         requires state { ∥ HasStateOf self.old ∥₁ }
         requires judged { IsJudged self.old client path.now flags judged }
-        ensures serves { OnOk result ((s : State) → IsStateOf self.old s → Serves (refusal s client (Call.Open path.now flags judged.mode)) s client (Call.Open path.now flags judged.mode) (Reply.Descriptor judged.descriptor) self.new) }
-        ensures err { OnErr result (StaysState self.old self.new) }
+        ensures answers { OnOk result (AnswersCall client (Call.Open path.now flags judged.mode)
+            self.old self.new (Reply.Descriptor judged.descriptor)) }
+        ensures no_memory { OnErr result (RunsOut self.old self.new) }
         ensures clients { KeepsAttached self.old.clients self.new.clients }
         ensures layers { KeepsLayers (Call.Open path.now flags judged.mode) self.old.layers self.new.layers }
         ensures lowers { self.new.layers.lowers ≡ self.old.layers.lowers }
         ensures thin { StaysThin self.old.layers self.new.layers }
-        ensures named { OnOk result ((s : State) → IsStateOf self.old s → refusal s client (Call.Open path.now flags judged.mode) ≡ None → KeepsNamed s client self.old.layers self.new.layers (Call.Open path.now flags judged.mode)) }
-        ensures stays_live { OnErr result (StaysLive self.old.layers self.new.layers) }
     {
         let Judged {
             descriptor,
@@ -135,16 +134,16 @@ impl Mount {
         requires free { IsLowestFree self.old.clients client descriptor }
         requires allowed { opening_fault (layers_of self.old.layers) path.now flags mode (Some 0) ≡ None }
         requires shown { IsTopmost self.old.layers path.now (Some top) }
-        requires own { flags.writes ≡ true → (d : ShownPlace) → top ≡ topmost.Inode d → d.layer ≡ 0 }
-        ensures serves { OnOk result ((s : State) → IsStateOf self.old s → Serves (refusal s client (Call.Open path.now flags mode)) s client (Call.Open path.now flags mode) (Reply.Descriptor descriptor) self.new) }
-        ensures err { OnErr result (StaysState self.old self.new) }
+        requires own { flags.writes ≡ true → (d : ShownPlace) → top ≡ topmost.Inode d →
+            d.layer ≡ 0 }
+        ensures answers { OnOk result (AnswersCall client (Call.Open path.now flags mode)
+            self.old self.new (Reply.Descriptor descriptor)) }
+        ensures no_memory { OnErr result (RunsOut self.old self.new) }
         ensures clients { KeepsAttached self.old.clients self.new.clients }
         ensures layers { flags.truncate ≡ false → self.new.layers ≡ self.old.layers }
         ensures objects { SameObjects (layer_of self.old.layers.upper) (layer_of self.new.layers.upper) }
         ensures lowers { self.new.layers.lowers ≡ self.old.layers.lowers }
         ensures thin { StaysThin self.old.layers self.new.layers }
-        ensures named { OnOk result ((s : State) → IsStateOf self.old s → refusal s client (Call.Open path.now flags mode) ≡ None → KeepsNamed s client self.old.layers self.new.layers (Call.Open path.now flags mode)) }
-        ensures stays_live { OnErr result (StaysLive self.old.layers self.new.layers) }
     {
         let Topmost::Inode(place) = top else {
             self.clients.open(client, descriptor, path)?;
@@ -177,14 +176,13 @@ impl Mount {
         requires shown { IsTopmost self.old.layers path.now (Some (topmost.Inode place)) }
         requires writes { flags.writes ≡ true }
         requires lower { 0 < place.layer }
-        ensures serves { OnOk result ((s : State) → IsStateOf self.old s → Serves (refusal s client (Call.Open path.now flags mode)) s client (Call.Open path.now flags mode) (Reply.Descriptor descriptor) self.new) }
-        ensures err { OnErr result (StaysState self.old self.new) }
+        ensures answers { OnOk result (AnswersCall client (Call.Open path.now flags mode)
+            self.old self.new (Reply.Descriptor descriptor)) }
+        ensures no_memory { OnErr result (RunsOut self.old self.new) }
         ensures clients { KeepsAttached self.old.clients self.new.clients }
         ensures around { KeepsAround self.old.layers self.new.layers path.now }
         ensures lowers { self.new.layers.lowers ≡ self.old.layers.lowers }
         ensures thin { StaysThin self.old.layers self.new.layers }
-        ensures named { OnOk result ((s : State) → IsStateOf self.old s → refusal s client (Call.Open path.now flags mode) ≡ None → KeepsNamed s client self.old.layers self.new.layers (Call.Open path.now flags mode)) }
-        ensures stays_live { OnErr result (StaysLive self.old.layers self.new.layers) }
     {
         self.clients.reserve_file(client, descriptor)?;
         self.clients.lawful();
@@ -213,14 +211,13 @@ impl Mount {
         requires allowed { opening_fault (layers_of self.old.layers) path.now flags mode (Some 0) ≡ None }
         requires directory { IsStackOf self.old.layers (parent path.now) directory }
         requires absent { shows 0 (layers_of self.old.layers) path.now ≡ None }
-        ensures serves { OnOk result ((s : State) → IsStateOf self.old s → Serves (refusal s client (Call.Open path.now flags mode)) s client (Call.Open path.now flags mode) (Reply.Descriptor descriptor) self.new) }
-        ensures err { OnErr result (StaysState self.old self.new) }
+        ensures answers { OnOk result (AnswersCall client (Call.Open path.now flags mode)
+            self.old self.new (Reply.Descriptor descriptor)) }
+        ensures no_memory { OnErr result (RunsOut self.old self.new) }
         ensures clients { KeepsAttached self.old.clients self.new.clients }
         ensures around { KeepsAround self.old.layers self.new.layers path.now }
         ensures lowers { self.new.layers.lowers ≡ self.old.layers.lowers }
         ensures thin { StaysThin self.old.layers self.new.layers }
-        ensures named { OnOk result ((s : State) → IsStateOf self.old s → refusal s client (Call.Open path.now flags mode) ≡ None → KeepsNamed s client self.old.layers self.new.layers (Call.Open path.now flags mode)) }
-        ensures stays_live { OnErr result (StaysLive self.old.layers self.new.layers) }
     {
         self.clients.reserve_file(client, descriptor)?;
         self.clients.lawful();
@@ -304,13 +301,15 @@ fn bring_up(
     requires directory { IsStackOf layers.old (parent path.now) directory }
     requires shown { ShowsInode layers.old path.now place }
     requires lower { 0 < place.layer }
-    ensures copied { IfOk result (λ key. (i : HeldInode) → shows 0 (layers_of layers.old) path.now ≡ Some (Contents place.layer place.key (Some i)) → (leaf : CopiesLeaf layers.old layers.new path.now i.content i.attributes) × (leaf.number ≡ key)) }
-    ensures mounts { OnErr result (StaysMount layers.old layers.new) }
-    ensures parents { OnErr result (GainsParents layers.old layers.new path.now) }
+    ensures copied { IfOk result (λ key. (i : HeldInode) →
+        shows 0 (layers_of layers.old) path.now ≡ Some (Contents place.layer place.key (Some i)) →
+        (leaf : CopiesLeaf layers.old layers.new path.now i.content i.attributes) ×
+        (leaf.number ≡ key)) }
     ensures around { KeepsAround layers.old layers.new path.now }
     ensures lowers { layers.new.lowers ≡ layers.old.lowers }
-    ensures keeps { StaysLayers layers.old layers.new }
-    ensures thin { StaysThin layers.old layers.new }
+    ensures no_memory { OnErr result
+        (ChangesNoSight layers.old layers.new (GainsParents layers.old layers.new path.now)) }
+    ensures sound { StaysSound layers.old layers.new }
 {
     let Some((name, parents)) = path.split_last() else {
         unreachable!()

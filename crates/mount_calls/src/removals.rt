@@ -9,7 +9,7 @@ ghost use Rattle.dir_listing.specs.Shown.{TellsNames};
 ghost use Rattle.layer_tree.specs.Tree.{layer_of, SameObjects};
 ghost use Rattle.layer_tree.specs.Nameless.{IsNameless};
 ghost use Rattle.merged_lookup.specs.Merged.{layers_of, lowers_of};
-ghost use Rattle.copy_up.specs.Showing.{ShowsSame, StaysLayers, StaysMount, StaysThin};
+ghost use Rattle.copy_up.specs.Showing.{ShowsSame, ChangesNoSight, StaysLayers, StaysMount, StaysSound, StaysThin};
 ghost use Rattle.make_remove.specs.Removing.{TakesName};
 ghost use Rattle.plain_model.specs.Layers.{AreLayers, Inode as HeldInode};
 ghost use Rattle.notice_laws.specs.Objects.{IsObject};
@@ -37,19 +37,24 @@ pub(crate) fn unlink_and_free(
     clients: &Clients,
     path: &Path,
 ) -> Result<Result<Object, Errno>, AllocError>
-    ensures refused { IfOk result (λ r. IfErr r (λ e. unlink_fault (layers_of layers.old) path.now ≡ Some e)) }
+    ensures refused { IfOk result (λ r. IfErr r (λ e.
+        unlink_fault (layers_of layers.old) path.now ≡ Some e)) }
     ensures unchanged { IfOk result (λ r. OnErr r (layers.new ≡ layers.old)) }
-    ensures allowed { IfOk result (λ r. OnOk r (unlink_fault (layers_of layers.old) path.now ≡ None)) }
-    ensures object { IfOk result (λ r. IfOk r (IsObject (layer_of layers.old.upper) (lowers_of layers.old) path.now)) }
+    ensures allowed { IfOk result (λ r.
+        OnOk r (unlink_fault (layers_of layers.old) path.now ≡ None)) }
+    ensures object { IfOk result (λ r.
+        IfOk r (IsObject (layer_of layers.old.upper) (lowers_of layers.old) path.now)) }
     ensures takes { IfOk result (λ r. OnOk r (TakesName layers.old layers.new path.now)) }
-    ensures steps { IfOk result (λ r. OnOk r ((s : State) → IsMountOf (layer_of layers.old.upper) (lowers_of layers.old) s → (c : ℕ) → Removes (layer_of layers.new.upper) (lowers_of layers.new) s c path.now (call.Unlink path.now))) }
+    ensures steps { IfOk result (λ r. OnOk r ((s : State) →
+        IsMountOf (layer_of layers.old.upper) (lowers_of layers.old) s → (c : ℕ) →
+        Removes (layer_of layers.new.upper) (lowers_of layers.new) s c path.now
+        (call.Unlink path.now))) }
     ensures around { KeepsAround layers.old layers.new path.now }
-    ensures keeps { StaysLayers layers.old layers.new }
-    ensures thin { StaysThin layers.old layers.new }
-    ensures no_memory { OnErr result (ShowsSame layers.old layers.new) }
-    ensures mounts { OnErr result (StaysMount layers.old layers.new) }
-    ensures live { IfOk result (λ r. OnOk r (KeepsHeld clients.now layers.old layers.new (call.Unlink path.now))) }
-    ensures stays { OnErr result (StaysLive layers.old layers.new) }
+    ensures live { IfOk result (λ r.
+        OnOk r (KeepsHeld clients.now layers.old layers.new (call.Unlink path.now))) }
+    ensures no_memory { OnErr result
+        (ChangesNoSight layers.old layers.new (StaysLive layers.old layers.new)) }
+    ensures sound { StaysSound layers.old layers.new }
 {
     let (directory, place) = match leaf_at(layers, path) {
         Ok(leaf) => leaf,
@@ -67,20 +72,27 @@ pub(crate) fn rmdir_and_free(
     clients: &Clients,
     path: &Path,
 ) -> Result<Result<(), Errno>, AllocError>
-    ensures refused { IfOk result (λ r. IfErr r (λ e. (full : Bool) → TellsNames (layers_of layers.old) path.now full → rmdir_fault (layers_of layers.old) path.now full ≡ Some e)) }
-    ensures refuses { IfOk result (λ r. IfErr r (λ e. (s : State) → IsMountOf (layer_of layers.old.upper) (lowers_of layers.old) s → (c : ℕ) → refusal s c (call.Rmdir path.now) ≡ Some e)) }
+    ensures refused { IfOk result (λ r. IfErr r (λ e.
+        (full : Bool) → TellsNames (layers_of layers.old) path.now full →
+        rmdir_fault (layers_of layers.old) path.now full ≡ Some e)) }
+    ensures refuses { IfOk result (λ r. IfErr r (λ e.
+        (s : State) → IsMountOf (layer_of layers.old.upper) (lowers_of layers.old) s → (c : ℕ) →
+        refusal s c (call.Rmdir path.now) ≡ Some e)) }
     ensures unchanged { IfOk result (λ r. OnErr r (layers.new ≡ layers.old)) }
-    ensures allowed { IfOk result (λ r. OnOk r (rmdir_fault (layers_of layers.old) path.now false ≡ None)) }
+    ensures allowed { IfOk result (λ r.
+        OnOk r (rmdir_fault (layers_of layers.old) path.now false ≡ None)) }
     ensures bare { IfOk result (λ r. OnOk r (ShowsNoName (layers_of layers.old) path.now)) }
     ensures takes { IfOk result (λ r. OnOk r (TakesName layers.old layers.new path.now)) }
-    ensures steps { IfOk result (λ r. OnOk r ((s : State) → IsMountOf (layer_of layers.old.upper) (lowers_of layers.old) s → (c : ℕ) → Removes (layer_of layers.new.upper) (lowers_of layers.new) s c path.now (call.Rmdir path.now))) }
+    ensures steps { IfOk result (λ r. OnOk r ((s : State) →
+        IsMountOf (layer_of layers.old.upper) (lowers_of layers.old) s → (c : ℕ) →
+        Removes (layer_of layers.new.upper) (lowers_of layers.new) s c path.now
+        (call.Rmdir path.now))) }
     ensures around { KeepsAround layers.old layers.new path.now }
-    ensures keeps { StaysLayers layers.old layers.new }
-    ensures thin { StaysThin layers.old layers.new }
-    ensures no_memory { OnErr result (ShowsSame layers.old layers.new) }
-    ensures mounts { OnErr result (StaysMount layers.old layers.new) }
-    ensures live { IfOk result (λ r. OnOk r (KeepsHeld clients.now layers.old layers.new (call.Rmdir path.now))) }
-    ensures stays { OnErr result (StaysLive layers.old layers.new) }
+    ensures live { IfOk result (λ r.
+        OnOk r (KeepsHeld clients.now layers.old layers.new (call.Rmdir path.now))) }
+    ensures no_memory { OnErr result
+        (ChangesNoSight layers.old layers.new (StaysLive layers.old layers.new)) }
+    ensures sound { StaysSound layers.old layers.new }
 {
     match rmdir(layers, path)? {
         Ok(key) => {
@@ -106,18 +118,21 @@ pub(crate) fn rename_and_free(
 ) -> Result<Result<Option<usize>, Errno>, AllocError>
     requires from { IsLook layers.old old.now from }
     requires onto { IsLook layers.old new.now onto }
-    ensures refuses { IfOk result (λ r. IfErr r (RefusesRenames layers.old redirects old.now new.now)) }
+    ensures refuses { IfOk result (λ r.
+        IfErr r (RefusesRenames layers.old redirects old.now new.now)) }
     ensures unchanged { IfOk result (λ r. OnErr r (layers.new ≡ layers.old)) }
-    ensures allowed { IfOk result (λ r. OnOk r (rename_fault (layer_of layers.old.upper) (lowers_of layers.old) redirects old.now new.now false ≡ None)) }
-    ensures does { IfOk result (λ r. IfOk r (λ moved. MovesOrStays (is_some moved) clients.now layers.old layers.new redirects old.now new.now)) }
+    ensures allowed { IfOk result (λ r.
+        OnOk r (rename_fault (layer_of layers.old.upper) (lowers_of layers.old) redirects
+        old.now new.now false ≡ None)) }
+    ensures does { IfOk result (λ r. IfOk r (λ moved.
+        MovesOrStays (is_some moved) clients.now layers.old layers.new redirects old.now new.now)) }
     ensures key { IfOk result (λ r. IfOk r (λ moved. IfSome moved (IsKeyAt layers.new new.now))) }
     ensures paths { KeepsRenamed layers.old layers.new old.now new.now }
     ensures lowers { layers.new.lowers ≡ layers.old.lowers }
     ensures keeps { StaysLayers layers.old layers.new }
     ensures thin { AreLayers (layers_of layers.old) → StaysThin layers.old layers.new }
-    ensures no_memory { OnErr result (ShowsSame layers.old layers.new) }
-    ensures mounts { OnErr result (StaysMount layers.old layers.new) }
-    ensures stays { OnErr result (StaysLive layers.old layers.new) }
+    ensures no_memory { OnErr result
+        (ChangesNoSight layers.old layers.new (StaysLive layers.old layers.new)) }
 {
     match rename(alloc, layers, old, new, redirects, from.shown, onto.shown)? {
         Ok(Renamed::Unchanged) => Ok(Ok(None)),
@@ -138,9 +153,8 @@ fn free_released(layers: &mut Layers, clients: &Clients, released: Option<usize>
     requires { (key : ℕ) → released ≡ Some key → IsNameless layers.old.upper key }
     ensures held { SameObjects (layer_of layers.old.upper) (layer_of layers.new.upper) }
     ensures same { ShowsSame layers.old layers.new }
-    ensures keeps { StaysLayers layers.old layers.new }
     ensures mounts { StaysMount layers.old layers.new }
-    ensures thin { StaysThin layers.old layers.new }
+    ensures sound { StaysSound layers.old layers.new }
     ensures live { StaysHeld clients.now layers.old layers.new }
 {
     if let Some(key) = released {

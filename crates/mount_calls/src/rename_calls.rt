@@ -1,20 +1,15 @@
 // `rename` of a mount, by the plain machine (POSIX.1-2017, rename()).
-ghost use Rattle.std.specs.Prelude.{◌≡◌, ℕ, IfOk, IfErr, IfNone, IfSome, None, OnErr, false, is_some, not};
-ghost use Rattle.plain_model.specs.Machine.{State};
-ghost use Rattle.plain_model.specs.Refusals.{refusal};
+ghost use Rattle.std.specs.Prelude.{◌≡◌, IfOk, IfNone, IfSome, None, false, is_some, not};
 ghost use Rattle.layer_tree.specs.Tree.{layer_of};
 ghost use Rattle.mount_laws.specs.Removals.{rmdir_fault};
 ghost use Rattle.mount_laws.specs.Renaming.{is_one};
 ghost use Rattle.merged_lookup.specs.Merged.{layers_of};
 ghost use Rattle.open_handles.specs.Renames.{IsSettled};
-ghost use Rattle.copy_up.specs.Showing.{StaysThin};
-ghost use Rattle.mount_calls.specs.Attaching.{KeepsAttached};
-ghost use Rattle.mount_calls.specs.Keeping.{KeepsLayers};
 ghost use Rattle.mount_calls.specs.Looking.{IsKeyAt, IsLook};
-ghost use Rattle.mount_calls.specs.Living.{KeepsNamed, StaysLive};
+ghost use Rattle.mount_calls.specs.Making.{MakesEach};
 ghost use Rattle.mount_calls.specs.Removing.{HasAttributes, IsOpenNowhere};
-ghost use Rattle.mount_calls.specs.States.{HasStateOf, IsStateOf, Serves, StaysState};
-ghost use Rattle.mount_calls.specs.Status.{outcome_reply};
+ghost use Rattle.mount_calls.specs.States.{HasStateOf};
+ghost use Rattle.mount_calls.specs.Status.{outcome_result};
 
 use crate::look::Look;
 use crate::mount::Mount;
@@ -38,18 +33,14 @@ impl Mount {
         requires state { ∥ HasStateOf self.old ∥₁ }
         requires from { IsLook self.old.layers old.now from }
         requires onto { IsLook self.old.layers new.now onto }
-        ensures serves { IfOk result (λ outcome. (s : State) → IsStateOf self.old s → (c : ℕ) → Serves (refusal s c (Call.Rename old.now new.now)) s c (Call.Rename old.now new.now) (outcome_reply outcome) self.new) }
-        ensures moves { IfOk result (λ outcome. IfOk outcome (λ moved. is_one (layer_of self.old.layers.upper) old.now new.now ≡ not (is_some moved))) }
-        ensures key { IfOk result (λ outcome. IfOk outcome (λ moved. IfSome moved (IsKeyAt self.new.layers new.now))) }
-        ensures err { OnErr result (StaysState self.old self.new) }
-        ensures clients { KeepsAttached self.old.clients self.new.clients }
-        ensures settled { IsSettled self.old.clients.directories → IsSettled self.new.clients.directories }
-        ensures layers { KeepsLayers (Call.Rename old.now new.now) self.old.layers self.new.layers }
-        ensures refused { IfOk result (λ outcome. OnErr outcome (self.new.layers ≡ self.old.layers)) }
-        ensures lowers { self.new.layers.lowers ≡ self.old.layers.lowers }
-        ensures thin { StaysThin self.old.layers self.new.layers }
-        ensures named { IfOk result (λ outcome. (s : State) → IsStateOf self.old s → (c : ℕ) → refusal s c (Call.Rename old.now new.now) ≡ None → KeepsNamed s c self.old.layers self.new.layers (Call.Rename old.now new.now)) }
-        ensures stays_live { OnErr result (StaysLive self.old.layers self.new.layers) }
+        ensures makes { MakesEach (Call.Rename old.now new.now) self.old self.new
+            (outcome_result result) }
+        ensures moves { IfOk result (λ outcome. IfOk outcome (λ moved.
+            is_one (layer_of self.old.layers.upper) old.now new.now ≡ not (is_some moved))) }
+        ensures key { IfOk result (λ outcome. IfOk outcome (λ moved.
+            IfSome moved (IsKeyAt self.new.layers new.now))) }
+        ensures settled { IsSettled self.old.clients.directories →
+            IsSettled self.new.clients.directories }
     {
         let replaced = self.attributes_seen(new, &onto)?;
         self.clients.prepare_rename(old, new)?;

@@ -42,7 +42,7 @@ least_tested false true n = omega arith
 least_tested false false n = omega arith
 
 -- no frame ends within its length
-end_least : (bytes : List ℕ) → 4 ≤ front_end bytes
+pub end_least : (bytes : List ℕ) → 4 ≤ front_end bytes
 end_least bytes =
     elim (cases_lt (length bytes) 4) [
       | inl short ↦ omega (arith, end_short bytes short)
@@ -74,6 +74,29 @@ begun_lacks bytes e =
     (judged_whole (4 + n) (request_at (take n rest))) (λ b. ltb-true _ _ b) in
     rw (end_long bytes long) (omega (arith, h, length-drop 4 bytes)))
 
+-- so by the tests, behind the length
+lacks_tested : (b1 b2 b3 : Bool) (v : Front) (n m : ℕ) → 4 + m < cond b1 4 (cond b2 4 (4 + n))
+    → (m < n → b3 ≡ true) → tested b1 b2 b3 v ≡ Begun
+lacks_tested true b2 b3 v n m h less = absurd (omega arith)
+lacks_tested false true b3 v n m h less = absurd (omega arith)
+lacks_tested false false b3 v n m h less =
+    subst (λ b. cond b Begun v ≡ Begun) (sym (less (omega arith))) refl
+
+-- bytes that end before their frame does begin it
+pub lacks_begun : (bytes : List ℕ) → length bytes < front_end bytes → front_of bytes ≡ Begun
+unfolding front_of
+lacks_begun bytes h =
+    let n = from_be_bytes w32 (take 4 bytes) in
+    let rest = drop 4 bytes in
+    elim (cases_lt (length bytes) 4) [
+      | inl short ↦ rw (lt-ltb _ _ short) refl
+      | inr long ↦ rw (le-ltb _ _ long)
+          (lacks_tested (nat_eq n 0) (nat_lt FRAME_MAX n) (nat_lt (length rest) n)
+          (judged (4 + n) (request_at (take n rest))) n (length rest)
+          (omega (arith, end_long bytes long, length-drop 4 bytes))
+          (λ less. lt-ltb _ _ less))
+    ]
+
 -- so by the tests
 whole_tested : (b1 b2 b3 : Bool) (n : ℕ) (o : Result Request FrameFault) (r : Request) (len : ℕ)
     → tested b1 b2 b3 (judged (4 + n) o) ≡ Whole r len → len ≡ cond b1 4 (cond b2 4 (4 + n))
@@ -84,7 +107,7 @@ whole_tested false false false n (Ok q) r len e = let same : 4 + n ≡ len = cc 
 whole_tested false false false n (Err f) r len e = absurd cc
 
 -- a whole frame goes as far as its length says
-whole_end : (bytes : List ℕ) (r : Request) (len : ℕ) → front_of bytes ≡ Whole r len
+pub whole_end : (bytes : List ℕ) (r : Request) (len : ℕ) → front_of bytes ≡ Whole r len
     → len ≡ front_end bytes
 unfolding front_of
 whole_end bytes r len e =

@@ -1,4 +1,5 @@
 pub mod Completing
+pub mod Every
 pub mod Formats
 pub mod Framed
 pub mod Joined

@@ -4,13 +4,12 @@ use Rattle.std.specs.Prelude.{nat_eq, nat_lt}
 use Rattle.std.specs.Int.{w32, to_be_bytes}
 use Rattle.std.proofs.lemmas.Bool.{eqb-true, ltb-false, le-ltb}
 use Rattle.std.proofs.lemmas.List.{drop_at, take_at}
-use Rattle.ov_base.specs.Errnos.{number_of}
 use Rattle.ov_base.specs.declared.reply.Reply.{Reply}
 use Rattle.ov_base.specs.declared.reply.Reply.TheVariants as reply
 use Rattle.ov_frames.specs.Fields.{Format, ◌>>=◌, ◌then◌, signed, text, block, nothing}
 use Rattle.ov_frames.specs.Frames.{IsBytes}
 use Rattle.ov_frames.specs.Reading.{Kind, OfNothing, OfStatus, OfTarget, OfValue, OfBytes, OfDescriptor, OfWritten, OfPlace, OfNames, OfAttributeNames, OfWatch, OfNotices, AnswerFits, IsOfKind, IsReplyTo, ReplyFits, answer_read, by_status, kind_for, kind_of, reply_front, reply_read, within_frame}
-use Rattle.ov_frames.specs.Replies.{answer_body, answer_frame, notice_bytes, reply_body, stat_bytes, words_of}
+use Rattle.ov_frames.specs.Replies.{answer_body, answer_frame, notice_bytes, reply_body, stat_bytes}
 use Rattle.ov_frames.specs.Requests.{u32, u64, made}
 use Rattle.ov_frames.specs.Streams.{FRAME_MAX}
 use Rattle.ov_frames.specs.Values.{errno_byte, listed, notice, stat}
@@ -19,7 +18,7 @@ use Rattle.ov_frames.specs.declared.answer.Answer.TheVariants.{Replied, NotTaken
 use Rattle.ov_frames.specs.declared.fault.FrameFault.{FrameFault}
 use Rattle.ov_frames.specs.declared.fault.FrameFault.TheVariants.{BadLength}
 use Rattle.ov_frames.specs.declared.request.Request.{Request}
-use Rattle.ov_frames.proofs.Formats.{IsBytes-drop, IsBytes-rest, IsBytes-take, IsFormat, bind_ok, block_law, both, either, guard_ok, made_again, made_found, no_bytes, number32, number64, ok_is, signed32, text_law}
+use Rattle.ov_frames.proofs.Formats.{IsBytes-drop, IsBytes-rest, IsBytes-take, IsFormat, bind_ok, block_law, both, either, made_again, made_found, no_bytes, number32, number64, ok_is, signed32, text_law}
 use Rattle.ov_frames.proofs.Values.{errno_law, listed_law, notice_law, stat_law}
 
 -- ---- what is read was written so

@@ -1,5 +1,5 @@
 // What a piece of a stream adds to the frame that is begun.
-ghost use Rattle.std.specs.Prelude.{◌≡◌, ◌++◌, length, take, IfOk, OnErr};
+ghost use Rattle.std.specs.Prelude.{◌≡◌, ◌++◌, length, take, IfOk, OnErr, OnOk};
 ghost use Rattle.std.specs.Option.{ForNone};
 ghost use Rattle.ov_frames.specs.Feeding.{Adds, IsApart, IsCompleted, IsFilled};
 ghost use Rattle.ov_frames.specs.Streams as streams;
@@ -40,22 +40,20 @@ fn take_apart(alloc: Global, requests: &mut Vec<Request>, bytes: &[u8]) -> Resul
     }
 }
 
-// What is held of the bytes behind the whole good frames: all, but none where they are at fault.
-fn left_behind(
-    alloc: Global,
-    fault: Option<FrameFault>,
-    bytes: &[u8],
-) -> Result<Vec<u8>, AllocError>
-    ensures { IfOk result (λ held. left_of fault held.items ≡ left_of fault bytes.now) }
+// Holds what is left behind the whole good frames: a begun frame, with room for all of it; nothing
+// where a fault stands.
+fn hold(held: &mut Vec<u8>, fault: Option<FrameFault>, bytes: &[u8]) -> Result<(), AllocError>
+    ensures ok { OnOk result (left_of fault held.new.items ≡ left_of fault bytes.now) }
+    ensures err { OnErr result (held.new.items ≡ held.old.items) }
 {
-    match fault {
-        Some(_) => Ok(Vec::new(alloc)),
-        None => {
-            let mut held = Vec::new(alloc);
-            held.extend_from_slice(bytes)?;
-            Ok(held)
-        }
+    if fault.is_some() || bytes.is_empty() {
+        held.clear();
+        return Ok(());
     }
+    held.reserve(front_end(bytes).max(bytes.len()))?;
+    held.clear();
+    held.extend_from_slice(bytes)?;
+    Ok(())
 }
 
 // Adds the requests of bytes that begin with a frame, and holds what is left behind them.
@@ -70,18 +68,21 @@ fn go_on(
     ensures err { OnErr result (held.new.items ≡ held.old.items) }
 {
     let Apart { used, fault } = take_apart(alloc, requests, bytes)?;
-    *held = left_behind(alloc, fault, &bytes[used..])?;
+    hold(held, fault, &bytes[used..])?;
     Ok(fault)
 }
 
-// Adds bytes of the piece until so many are held or the piece ends, and answers how many.
+// Adds bytes of the piece until so many are held or the piece ends, and answers how many. Room for
+// all that lacks is made at once.
 fn fill(held: &mut Vec<u8>, end: usize, piece: &[u8]) -> Result<usize, AllocError>
     ensures ok { IfOk result (λ count. IsFilled held.old.items end piece.now held.new.items count) }
     ensures err { OnErr result (held.new.items ≡ held.old.items) }
 {
-    let lacking = end.saturating_sub(held.len()).min(piece.len());
-    held.extend_from_slice(&piece[..lacking])?;
-    Ok(lacking)
+    let lacking = end.saturating_sub(held.len());
+    held.reserve(lacking)?;
+    let count = lacking.min(piece.len());
+    held.extend_from_slice(&piece[..count])?;
+    Ok(count)
 }
 
 // Adds the bytes that the begun frame lacks, first of its length and then of what that counts.

@@ -18,7 +18,7 @@ mod writing;
 pub use answer::Answer;
 pub use decoder::{Decoder, End};
 pub use fault::FrameFault;
-pub use front::FRAME_MAX;
+pub use front::{FRAME_MAX, Front, front_end, front_of};
 pub use laws::{law_of_frames, law_of_pieces, law_of_replies, worked_rows};
 pub use request::Request;
 pub use writing::{append_reply, encode_reply};

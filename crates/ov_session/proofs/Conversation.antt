@@ -1,17 +1,13 @@
 -- A session from piece to piece, and its ends.
-use Rattle.std.proofs.Common.{◌≡◌, ℕ, List, [], ◌∷◌, ◌++◌, Option, Ok, Err, Bool, false, refl, sym, ap, subst, ◌∙◌, append_assoc, append-nil, inl, inr}
+use Rattle.std.proofs.Common.{◌≡◌, ℕ, List, [], ◌∷◌, ◌++◌, Option, Err, Bool, false, refl, sym, ap, subst, ◌∙◌, append_assoc, append-nil, inl, inr}
 use Rattle.std.specs.Io.KnownBytes.{Appends, Consumes, IsAtEnd, Keeps}
 use Rattle.std.proofs.KnownBytes.{Consumes-nil, Consumes-trans, Consumes-kept}
 use Rattle.ov_frames.specs.Replies.{answer_frame}
-use Rattle.ov_frames.specs.Told.{end_of}
-use Rattle.ov_frames.specs.Streams.{Left, Held, Faulty, Spells, Continues, answer_of, front_of}
+use Rattle.ov_frames.specs.Streams.{Left, Held, Faulty, Spells, Continues, front_of}
 use Rattle.ov_frames.specs.declared.answer.Answer.{Answer}
-use Rattle.ov_frames.specs.declared.decoder.End.{End}
-use Rattle.ov_frames.specs.declared.decoder.End.TheVariants as ends
-use Rattle.ov_frames.specs.declared.fault.FrameFault.{FrameFault}
 use Rattle.ov_frames.specs.declared.request.Request.{Request}
 use Rattle.ov_frames.proofs.Pieces.{goes_on}
-use Rattle.ov_session.specs.Conversing.{Stands, Conversed, IsTurn, IsUnfed, ended, is_faulty}
+use Rattle.ov_session.specs.Conversing.{Stands, Conversed, IsTurn, is_faulty}
 use Rattle.ov_session.specs.Devices.{Gains, InputAt, IsFrontOf, IsInputEnd, IsSent, is_write}
 use Rattle.ov_session.specs.Doors.{Goes}
 use Rattle.ov_session.specs.Heard.{Heard}
@@ -39,24 +35,12 @@ so_far_more goes i j k o m n left new piece rs laws s c h talk = record {
   talked = talked_then goes o m n s.requests rs laws s.talked talk;
 }
 
--- nothing is unread
-all_fed : (e : Ending) → IsUnfed e []
-all_fed ending.Memory = tt
-all_fed ending.Detached = refl
-all_fed ending.Ended = refl
-all_fed ending.Cut = refl
-all_fed (ending.Frame f) = refl
-all_fed ending.Read = refl
-all_fed ending.Write = refl
-all_fed ending.Stopped = refl
-
--- what was heard so far, where all requests are served and some bytes may be unread
-abbrev pub all_heard : {D : Type 0} (goes : Goes D) (i j k : Option (List ℕ)) (o n : Place D) (left : Left)
-    (piece : List ℕ) → SoFar goes i j o n left → Consumes j k piece → Heard i k
-all_heard goes i j k o n left piece s c = record {
+-- what was heard so far, where all requests are served
+abbrev pub all_heard : {D : Type 0} (goes : Goes D) (i j : Option (List ℕ)) (o n : Place D)
+    (left : Left) → SoFar goes i j o n left → Heard i j
+all_heard goes i j o n left s = record {
   taken = s.taken;
-  unread = piece;
-  consumed = Consumes-trans i j k s.taken piece s.consumed c;
+  consumed = s.consumed;
   requests = s.requests;
   left = left;
   spelled = s.spelled;
@@ -70,14 +54,12 @@ all_heard goes i j k o n left piece s c = record {
 }
 
 -- all requests are served, and their answers given to the output
-ends_with : {D : Type 0} (goes : Goes D) (i j k : Option (List ℕ)) (o n : Place D) (left : Left)
-    (piece : List ℕ) (end : Ending) (s : SoFar goes i j o n left) (c : Consumes j k piece) →
-    IsUnfed end piece →
-    Stands i k end (all_heard goes i j k o n left piece s c) (frames s.talked.answers) →
-    Conversed goes i k o n end
-ends_with goes i j k o n left piece end s c u h = record {
-  heard = all_heard goes i j k o n left piece s c;
-  unfed = u;
+pub all_served : {D : Type 0} (goes : Goes D) (i j : Option (List ℕ)) (o n : Place D) (left : Left)
+    (end : Ending) (s : SoFar goes i j o n left) →
+    Stands i j end (all_heard goes i j o n left s) (frames s.talked.answers) →
+    Conversed goes i j o n end
+all_served goes i j o n left end s h = record {
+  heard = all_heard goes i j o n left s;
   added = s.talked.added ∙ ap (λ (l : List Exchange). o.told ++ l) (sym (append-nil s.talked.told));
   went =
       subst (λ (l : List Exchange). goes o.door l n.door) (sym (append-nil s.talked.told))
@@ -86,14 +68,6 @@ ends_with goes i j k o n left piece end s c u h = record {
   gained = s.talked.gained;
   stands = h;
 }
-
--- all requests are served, and nothing is unread
-pub all_served : {D : Type 0} (goes : Goes D) (i j : Option (List ℕ)) (o n : Place D) (left : Left)
-    (end : Ending) (s : SoFar goes i j o n left) →
-    Stands i j end (all_heard goes i j j o n left [] s (Consumes-nil j)) (frames s.talked.answers) →
-    Conversed goes i j o n end
-all_served goes i j o n left end s h =
-    ends_with goes i j j o n left [] end s (Consumes-nil j) (all_fed end) h
 
 -- what broke off stands so
 broken_stands : (e : Ending) (i j : Option (List ℕ)) (h : Heard i j) (given : List ℕ) →
@@ -114,11 +88,9 @@ broken_off : {D : Type 0} (goes : Goes D) (i j k : Option (List ℕ)) (o m n : P
     → IsServed goes m n rs (Err e) → Conversed goes i k o n e
 broken_off goes i j k o m n left new piece rs e laws s c h broke =
     let b = broke_then goes o m n s.requests broke.0 broke.1 e laws s.talked broke.3 in
-    let all = Consumes-trans i j k s.taken piece s.consumed c in
     let heard : Heard i k = record {
       taken = s.taken ++ piece;
-      unread = [];
-      consumed = subst (Consumes i k) (sym (append-nil (s.taken ++ piece))) all;
+      consumed = Consumes-trans i j k s.taken piece s.consumed c;
       requests = s.requests ++ rs;
       left = new;
       spelled = goes_on s.taken piece s.requests rs left new s.spelled h;
@@ -134,7 +106,6 @@ broken_off goes i j k o m n left new piece rs e laws s c h broke =
     } in
     record {
       heard = heard;
-      unfed = all_fed e;
       added = b.added;
       went = b.went;
       given = b.given;
@@ -142,46 +113,27 @@ broken_off goes i j k o m n left new piece rs e laws s c h broke =
       stands = broken_stands e i k heard b.given b.how;
     }
 
--- memory ran out, and the last piece was not taken
-not_taken : {D : Type 0} (goes : Goes D) (i j k : Option (List ℕ)) (o m n : Place D) (left : Left)
-    (piece : List ℕ) → Doorway goes
-    → SoFar goes i j o m left → Consumes j k piece → Talked goes m n []
-    → Conversed goes i k o n ending.Memory
-not_taken goes i j k o m n left piece laws s c t =
-    let talked = subst (λ (l : List Request). Talked goes o n l) (append-nil s.requests)
-    (talked_then goes o m n s.requests [] laws s.talked t) in
-    let s' : SoFar goes i j o n left = record {
-      taken = s.taken;
-      consumed = s.consumed;
-      requests = s.requests;
-      spelled = s.spelled;
-      talked = talked;
-    } in
-    ends_with goes i j k o n left piece ending.Memory s' c tt
-    (inl refl, front_of_all (frames talked.answers))
-
 -- a turn that ends the session
 pub turn_ends : {D : Type 0} (goes : Goes D) (i j k : Option (List ℕ)) (o m n : Place D)
-    (left new : Left) (piece : List ℕ) (e : Ending) → Doorway goes
-    → SoFar goes i j o m left → Consumes j k piece → IsTurn goes left piece new m n (Err e)
-    → Conversed goes i k o n e
-turn_ends goes i j k o m n left new piece e laws s c (inl h) =
-    broken_off goes i j k o m n left new piece h.0 e laws s c h.1 h.2
-turn_ends goes i j k o m n left new piece e laws s c (inr (inl h)) =
-    let more = so_far_more goes i j k o m n left new piece h.1 laws s c h.2 h.5 in
-    subst (λ (x : Ending). Conversed goes i k o n x) (sym h.4)
-    (all_served goes i k o n new (ending.Frame h.0) more ((refl, refl, refl), h.3))
-turn_ends goes i j k o m n left new piece e laws s c (inr (inr h)) =
-    subst (λ (x : Ending). Conversed goes i k o n x) (sym h.0)
-    (not_taken goes i j k o m n left piece laws s c h.1)
+    (held piece all : List ℕ) (begun : ℕ → List ℕ) (e : Ending) → Doorway goes
+    → all ≡ held ++ piece → SoFar goes i j o m (Held held) → Consumes j k piece
+    → IsTurn goes all begun m n (Err e) → Conversed goes i k o n e
+turn_ends goes i j k o m n held piece all begun e laws same s c (inl h) =
+    broken_off goes i j k o m n (Held held) h.1 piece h.0 e laws s c
+    (subst (λ (bs : List ℕ). Spells bs h.0 h.1) same h.2) h.3
+turn_ends goes i j k o m n held piece all begun e laws same s c (inr h) =
+    let more =
+    so_far_more goes i j k o m n (Held held) (Faulty h.0) piece h.1 laws s c
+    (subst (λ (bs : List ℕ). Spells bs h.1 (Faulty h.0)) same h.2) h.4 in
+    subst (λ (x : Ending). Conversed goes i k o n x) (sym h.3)
+    (all_served goes i k o n (Faulty h.0) (ending.Frame h.0) more ((refl, refl, refl), refl))
 
 -- a turn ends by no failed read
-pub turn_no_read : {D : Type 0} (goes : Goes D) (left new : Left) (piece : List ℕ) (m n : Place D)
-    (e : Ending) → IsTurn goes left piece new m n (Err e) → e ≡ ending.Read → ⊥
-turn_no_read goes left new piece m n e (inl h) k = let b =
-    h.2.3 in subst (λ (x : Ending). Breaks x h.2.1 b.stopped b.given b.answers) k b.how
-turn_no_read goes left new piece m n e (inr (inl h)) k = absurd cc
-turn_no_read goes left new piece m n e (inr (inr h)) k = absurd cc
+pub turn_no_read : {D : Type 0} (goes : Goes D) (all : List ℕ) (begun : ℕ → List ℕ)
+    (m n : Place D) (e : Ending) → IsTurn goes all begun m n (Err e) → e ≡ ending.Read → ⊥
+turn_no_read goes all begun m n e (inl h) k = let b =
+    h.3.3 in subst (λ (x : Ending). Breaks x h.3.1 b.stopped b.given b.answers) k b.how
+turn_no_read goes all begun m n e (inr h) k = absurd cc
 
 -- an input without failure, where a session ends by no failed read
 pub input_well : (failed : Bool) (reads : ℕ) (e : Ending) → failed ≡ false → (e ≡ ending.Read → ⊥)
@@ -218,18 +170,7 @@ so_far_nothing goes i o left laws h = record {
   talked = talked_nothing goes o laws;
 }
 
--- what a decoder told
-pub told_requests : (rs told : List Request) (new : Left) → answer_of rs new ≡ Ok told → rs ≡ told
-told_requests [] told (Held held) h = cc
-told_requests [] told (Faulty fault) h = absurd cc
-told_requests (r ∷ rs) told new h = cc
-
-pub told_fault : (rs : List Request) (fault : FrameFault) (new : Left)
-    → answer_of rs new ≡ Err fault → (rs ≡ []) × (new ≡ Faulty fault)
-told_fault [] fault (Held held) h = absurd cc
-told_fault [] fault (Faulty f) h = (refl, cc)
-told_fault (r ∷ rs) fault new h = absurd cc
-
+-- no bytes spell nothing
 pub nothing_spelled : Spells [] [] (Held [])
 unfolding front_of
 nothing_spelled = (refl, refl)
@@ -290,33 +231,22 @@ read_unmarked failed reads (ending.Frame f) h = absurd h
 read_unmarked failed reads ending.Write h = absurd h
 read_unmarked failed reads ending.Stopped h = absurd h
 
--- nor does the end of the input, which is no failure of its own
-pub end_unmarked : (left : Left) → is_write (ended (end_of left)) ≡ false
-end_unmarked (Held []) = refl
-end_unmarked (Held (b ∷ bytes)) = refl
-end_unmarked (Faulty f) = refl
+-- the input ended between frames
+pub ended_between : {D : Type 0} (goes : Goes D) (i j : Option (List ℕ)) (o n : Place D)
+    (held : List ℕ) → held ≡ [] → SoFar goes i j o n (Held held) → IsAtEnd j
+    → Conversed goes i j o n ending.Ended
+ended_between goes i j o n [] none s h =
+    all_served goes i j o n (Held []) ending.Ended s ((refl, refl, refl), refl, h)
+ended_between goes i j o n (b ∷ bytes) none s h = absurd cc
 
-pub end_input : (left : Left) (failed : Bool) (reads : ℕ) → failed ≡ false →
-    InputAt failed reads (ended (end_of left))
-end_input (Held []) failed reads h = h
-end_input (Held (b ∷ bytes)) failed reads h = h
-end_input (Faulty f) failed reads h = h
-
--- a stream that ends at no fault has none
-pub begun_of : (left : Left) (e : End) → e ≡ end_of left → ((f : FrameFault) → e ≡ ends.Frame f → ⊥)
-    → is_faulty left ≡ false
-begun_of (Held bytes) e h differs = refl
-begun_of (Faulty f) e h differs = absurd (differs f h)
-
--- the end of the input
-pub input_ended : {D : Type 0} (goes : Goes D) (i j : Option (List ℕ)) (o n : Place D) (left : Left)
-    → SoFar goes i j o n left → IsAtEnd j → Conversed goes i j o n (ended (end_of left))
-input_ended goes i j o n (Held []) s h = all_served goes i j o n (Held []) ending.Ended s
-    ((refl, refl, refl), refl, h)
-input_ended goes i j o n (Held (b ∷ bytes)) s h = all_served goes i j o n (Held (b ∷ bytes))
-    ending.Cut s ((refl, refl, refl), (b, bytes, refl), h)
-input_ended goes i j o n (Faulty f) s h = all_served goes i j o n (Faulty f) (ending.Frame f) s
-    ((refl, refl, refl), refl)
+-- the input ended inside a frame
+pub ended_inside : {D : Type 0} (goes : Goes D) (i j : Option (List ℕ)) (o n : Place D)
+    (held : List ℕ) → (held ≡ [] → ⊥) → SoFar goes i j o n (Held held) → IsAtEnd j
+    → Conversed goes i j o n ending.Cut
+ended_inside goes i j o n [] some s h = absurd (some refl)
+ended_inside goes i j o n (b ∷ bytes) some s h =
+    all_served goes i j o n (Held (b ∷ bytes)) ending.Cut s
+    ((refl, refl, refl), (b, bytes, refl), h)
 
 -- memory ran out at the beginning
 pub nothing_done : {D : Type 0} (goes : Goes D) (i : Option (List ℕ)) (o : Place D) → Doorway goes
@@ -378,15 +308,14 @@ last_written ending.Read i j a b heard p q given last differs g z hand h =
 departed : {D : Type 0} (goes : Goes D) (i j : Option (List ℕ)) (o n : Place D)
     (p : Option (List ℕ)) (told : List Exchange) (door : D) (was end : Ending) (a : Answer)
     (written : List ℕ) → Doorway goes → (c : Conversed goes i j o n was) →
-    IsUnfed end c.heard.unread → told ≡ n.told ++ Departed a ∷ [] →
+    told ≡ n.told ++ Departed a ∷ [] →
     goes n.door (Departed a ∷ []) door → Appends o.contents p written →
     StandsLast i j end c.heard written (answer_frame a) →
     IsSession goes i j o.contents p o.told told o.door door end
-departed goes i j o n p told door was end a written laws c fed t d w s =
+departed goes i j o n p told door was end a written laws c t d w s =
     let before = c.heard.told ++ c.heard.stopped in
     record {
       heard = c.heard;
-      unfed = fed;
       farewell = a;
       added =
           t ∙ ap (λ (l : List Exchange). l ++ Departed a ∷ []) c.added
@@ -407,7 +336,7 @@ parted goes i j o n told door e a laws c z hand t d differs =
     let w =
     last_written e i j o.contents n.contents c.heard o.held n.held c.given (answer_frame a)
     differs c.gained z hand c.stands in
-    departed goes i j o n n.contents told door e e a w.0 laws c c.unfed t d w.1 w.2
+    departed goes i j o n n.contents told door e e a w.0 laws c t d w.1 w.2
 
 -- the farewell, behind all answers
 farewell_front : (given all last front : List ℕ) → given ≡ all → IsFrontOf front last
@@ -429,14 +358,14 @@ left_so goes i j o n p held told door a ending.Detached laws c z t d h =
     let all = gains_then o.contents n.contents p o.held n.held held c.given
     (answer_frame a) c.gained h.0 in
     departed goes i j o n p told door ending.Detached ending.Detached a
-    (c.given ++ answer_frame a) laws c c.unfed t d (written_all o.contents p o.held held
+    (c.given ++ answer_frame a) laws c t d (written_all o.contents p o.held held
     (c.given ++ answer_frame a) all z h.1)
     (c.stands.0, c.stands.1, ap (λ (l : List ℕ). l ++ answer_frame a) c.stands.2)
 left_so goes i j o n p held told door a ending.Write laws c z t d h =
     let all = gains_then o.contents n.contents p o.held n.held held c.given
     (answer_frame a) c.gained h in
     let w = written_of o.contents p o.held held (c.given ++ answer_frame a) all z in
-    departed goes i j o n p told door ending.Detached ending.Write a w.0 laws c c.unfed t d w.1 (
+    departed goes i j o n p told door ending.Detached ending.Write a w.0 laws c t d w.1 (
       inl c.stands.1,
       front_shorter (c.given ++ answer_frame a)
           (frames c.heard.answers ++ answer_frame a) w.0 held w.2
@@ -446,7 +375,7 @@ left_so goes i j o n p held told door a ending.Write laws c z t d h =
 left_so goes i j o n p held told door a ending.Memory laws c z t d h =
     let all = gains_then o.contents n.contents p o.held n.held held c.given h.0 c.gained h.2 in
     let w = written_of o.contents p o.held held (c.given ++ h.0) all z in
-    departed goes i j o n p told door ending.Detached ending.Memory a w.0 laws c tt t d w.1 (
+    departed goes i j o n p told door ending.Detached ending.Memory a w.0 laws c t d w.1 (
       inl c.stands.1,
       front_shorter (c.given ++ h.0) (frames c.heard.answers ++ answer_frame a) w.0
           held w.2 (farewell_front c.given (frames c.heard.answers)

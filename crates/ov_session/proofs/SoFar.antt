@@ -5,7 +5,6 @@ use Rattle.ov_frames.specs.Streams.{Left, Spells}
 use Rattle.ov_frames.specs.declared.request.Request.{Request}
 use Rattle.ov_session.specs.Doors.{Goes}
 use Rattle.ov_session.specs.Talks.{Place, Talked}
-use Rattle.ov_session.specs.declared.exchange.Exchange.{Exchange}
 
 -- so far: the bytes read spell these requests, and each was served
 pub record SoFar {D : Type 0} (goes : Goes D) (in_old in_new : Option (List ℕ)) (old new : Place D)

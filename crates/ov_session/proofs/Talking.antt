@@ -1,12 +1,11 @@
 -- Requests served one after the other.
-use Rattle.std.proofs.Common.{◌≡◌, ℕ, true, List, [], ◌∷◌, ◌++◌, Option, Result, Ok, Err, refl, sym, ap, subst, ◌∙◌, append_assoc, append-nil, inl, inr}
-use Rattle.std.proofs.lemmas.Bool.{false≢true}
+use Rattle.std.proofs.Common.{◌≡◌, ℕ, List, [], ◌∷◌, ◌++◌, Option, Result, Ok, Err, refl, sym, ap, subst, ◌∙◌, append_assoc, append-nil, inl, inr}
 use Rattle.std.proofs.lemmas.List.Concat.{flat_map-append}
 use Rattle.ov_frames.specs.Asked.{asked_of}
 use Rattle.ov_frames.specs.Replies.{answer_frame}
 use Rattle.ov_frames.specs.declared.answer.Answer.{Answer}
 use Rattle.ov_frames.specs.declared.request.Request.{Request}
-use Rattle.ov_session.specs.Devices.{Gains, IsFrontOf, IsPut, IsOutputEnd, write_failed}
+use Rattle.ov_session.specs.Devices.{Gains, IsFrontOf, IsPut, IsOutputEnd}
 use Rattle.ov_session.specs.Doors.{Goes}
 use Rattle.ov_session.specs.Serving.{Answers, Serves, frames, IsHeldBack}
 use Rattle.ov_session.specs.Talks.{Place, Gained, Talked, MayBeHeldBack, Breaks, BrokeOff, HandedOn, IsHandedOn, IsServed}
@@ -387,17 +386,20 @@ served_badly goes o m n rs (Err e) end h by k t d =
 -- ---- what the output holds at an end
 
 -- nothing, where nothing is held
-pub handed_empty : (result : Result (Unit {0}) Ending) (held : List ℕ) → held ≡ [] →
+pub ending_empty : (e : Ending) (held : List ℕ) → held ≡ [] → HandedOn e held
+ending_empty ending.Detached held h = h
+ending_empty ending.Ended held h = h
+ending_empty ending.Cut held h = h
+ending_empty (ending.Frame f) held h = h
+ending_empty ending.Read held h = h
+ending_empty ending.Write held h = tt
+ending_empty ending.Memory held h = tt
+ending_empty ending.Stopped held h = h
+
+pub handed_empty : {A : Type 0} (result : Result A Ending) (held : List ℕ) → held ≡ [] →
     IsHandedOn result held
 handed_empty (Ok x) held h = h
-handed_empty (Err ending.Detached) held h = h
-handed_empty (Err ending.Ended) held h = h
-handed_empty (Err ending.Cut) held h = h
-handed_empty (Err (ending.Frame f)) held h = h
-handed_empty (Err ending.Read) held h = h
-handed_empty (Err ending.Write) held h = tt
-handed_empty (Err ending.Memory) held h = tt
-handed_empty (Err ending.Stopped) held h = h
+handed_empty (Err e) held h = ending_empty e held h
 
 -- something, where the output failed
 pub handed_badly : (end : Ending) (held : List ℕ) → IsOutputEnd end → HandedOn end held
@@ -409,16 +411,3 @@ handed_badly ending.Cut held h = absurd h
 handed_badly (ending.Frame f) held h = absurd h
 handed_badly ending.Read held h = absurd h
 handed_badly ending.Stopped held h = absurd h
-
--- so where a write failed
-pub handed_failed : (result : Result (Unit {0}) Ending) (held : List ℕ) →
-    write_failed result ≡ true → IsHandedOn result held
-handed_failed (Ok x) held h = absurd (false≢true h)
-handed_failed (Err ending.Write) held h = tt
-handed_failed (Err ending.Memory) held h = tt
-handed_failed (Err ending.Detached) held h = absurd (false≢true h)
-handed_failed (Err ending.Ended) held h = absurd (false≢true h)
-handed_failed (Err ending.Cut) held h = absurd (false≢true h)
-handed_failed (Err (ending.Frame f)) held h = absurd (false≢true h)
-handed_failed (Err ending.Read) held h = absurd (false≢true h)
-handed_failed (Err ending.Stopped) held h = absurd (false≢true h)

@@ -1,9 +1,7 @@
 -- A session from piece to piece, until its client is detached.
-use Rattle.std.specs.Prelude.{◌≡◌, ℕ, Bool, true, false, List, [], ◌∷◌, ◌++◌, Option, Result, Ok, Err, ◌⊎◌}
+use Rattle.std.specs.Prelude.{◌≡◌, ℕ, ◌≤◌, Bool, true, false, List, [], ◌∷◌, ◌++◌, length, take, drop, Option, Result, Ok, Err, ◌⊎◌}
 use Rattle.std.specs.Io.KnownBytes.{IsAtEnd}
-use Rattle.ov_frames.specs.Streams.{Left, Held, Faulty, Continues}
-use Rattle.ov_frames.specs.declared.decoder.End.{End}
-use Rattle.ov_frames.specs.declared.decoder.End.TheVariants as ends
+use Rattle.ov_frames.specs.Streams.{Left, Held, Faulty, Spells}
 use Rattle.ov_frames.specs.declared.fault.FrameFault.{FrameFault}
 use Rattle.ov_frames.specs.declared.request.Request.{Request}
 use Rattle.ov_session.specs.Devices.{InputAt, IsFrontOf, is_write, write_failed}
@@ -47,16 +45,10 @@ Stands i j ending.Memory heard given = IsBrokenOff i j heard given
 Stands i j ending.Stopped heard given =
     IsHeldBack heard.later heard.stopped × (given ≡ frames heard.answers)
 
--- all that was read was fed, but for a piece that memory was wanting for
-abbrev pub IsUnfed : Ending → List ℕ → Type 0
-IsUnfed ending.Memory unread = Unit {0}
-IsUnfed _ unread = unread ≡ []
-
 -- a session until its end
 pub record Conversed {D : Type 0} (goes : Goes D) (in_old in_new : Option (List ℕ))
     (old new : Place D) (end : Ending) : Type 0 where
   pub heard : Heard in_old in_new
-  pub unfed : IsUnfed end heard.unread
   pub added : new.told ≡ old.told ++ (heard.told ++ heard.stopped)
   pub went : goes old.door (heard.told ++ heard.stopped) new.door
   pub given : List ℕ
@@ -74,35 +66,36 @@ pub record Converses {D S : Type 0} (goes : Goes D) (admits : D → S → Type 0
   pub mark : output_failed ≡ is_write end
   pub admitted : admits new.door session
 
--- a piece was fed and what it made whole was served, or the session ends: at a request, at a fault
--- behind all of them, or for want of memory with nothing taken
-abbrev pub IsTurn : {D : Type 0} → Goes D → Left → List ℕ → Left → Place D → Place D
-    → Result (Unit {0}) Ending → Type 0
-IsTurn goes old piece new o n (Ok x) =
-    (rs : List Request) × Continues old piece rs new × Talked goes o n rs
-IsTurn goes old piece new o n (Err e) =
-    ((rs : List Request) × Continues old piece rs new × IsServed goes o n rs (Err e))
-    ⊎ (((fault : FrameFault) × (rs : List Request) × Continues old piece rs new
-    × (new ≡ Faulty fault) × (e ≡ ending.Frame fault) × Talked goes o n rs)
-    ⊎ ((e ≡ ending.Memory) × Talked goes o n []))
+-- so many bytes at the front of others, and those behind them
+abbrev pub first : List ℕ → ℕ → List ℕ
+first bytes n = take n bytes
 
--- where a turn doesn't end the session, nothing is at fault
-abbrev pub IsBegun : Left → Result (Unit {0}) Ending → Type 0
-IsBegun left (Ok x) = is_faulty left ≡ false
-IsBegun left (Err end) = Unit {0}
+abbrev pub behind : List ℕ → ℕ → List ℕ
+behind bytes n = drop n bytes
 
--- all that a turn leaves
-pub record Turns {D S : Type 0} (goes : Goes D) (admits : D → S → Type 0) (left : Left)
-    (piece : List ℕ) (next : Left) (old new : Place D) (session : S) (output_failed : Bool)
-    (result : Result (Unit {0}) Ending) : Type 0 where
-  pub turn : IsTurn goes left piece next old new result
-  pub begun : IsBegun next result
-  pub handed_on : IsHandedOn result new.held
+-- what bytes spell was served, and the begun frame behind it stands where a number says; or the
+-- session ends: at a request, or at a fault behind all of them
+abbrev pub IsTurn : {D : Type 0} → Goes D → List ℕ → (ℕ → List ℕ) → Place D → Place D
+    → Result ℕ Ending → Type 0
+IsTurn goes bytes begun o n (Ok x) =
+    (x ≤ length bytes)
+    × ((rs : List Request) × Spells bytes rs (Held (begun x)) × Talked goes o n rs)
+IsTurn goes bytes begun o n (Err e) =
+    ((rs : List Request) × (left : Left) × Spells bytes rs left × IsServed goes o n rs (Err e))
+    ⊎ ((fault : FrameFault) × (rs : List Request) × Spells bytes rs (Faulty fault)
+    × (e ≡ ending.Frame fault) × Talked goes o n rs)
+
+-- all that serving bytes leaves
+pub record ServesBytes {D S : Type 0} (goes : Goes D) (admits : D → S → Type 0) (bytes : List ℕ)
+    (begun : ℕ → List ℕ) (old new : Place D) (session : S) (output_failed : Bool)
+    (result : Result ℕ Ending) : Type 0 where
+  pub turn : IsTurn goes bytes begun old new result
   pub mark : output_failed ≡ write_failed result
   pub admitted : admits new.door session
 
--- the end of the input, as a session's
-abbrev pub ended : End → Ending
-ended ends.Ended = ending.Ended
-ended ends.Cut = ending.Cut
-ended (ends.Frame fault) = ending.Frame fault
+-- so where the answers are handed on
+pub record Turns {D S : Type 0} (goes : Goes D) (admits : D → S → Type 0) (bytes : List ℕ)
+    (begun : ℕ → List ℕ) (old new : Place D) (session : S) (output_failed : Bool)
+    (result : Result ℕ Ending) : Type 0 where
+  pub serves : ServesBytes goes admits bytes begun old new session output_failed result
+  pub handed_on : IsHandedOn result new.held

@@ -7,12 +7,11 @@ use Rattle.ov_frames.specs.declared.request.Request.{Request}
 use Rattle.ov_session.specs.Serving.{Serves}
 use Rattle.ov_session.specs.declared.exchange.Exchange.{Exchange}
 
--- what was read is what spells the requests, and some bytes that were not fed; a front of the
--- requests was served, and perhaps a call behind them held back
+-- what was read spells the requests; a front of them was served, and perhaps a call behind them
+-- held back
 pub record Heard (in_old in_new : Option (List ℕ)) : Type 0 where
   pub taken : List ℕ
-  pub unread : List ℕ
-  pub consumed : Consumes in_old in_new (taken ++ unread)
+  pub consumed : Consumes in_old in_new taken
   pub requests : List Request
   pub left : Left
   pub spelled : Spells taken requests left

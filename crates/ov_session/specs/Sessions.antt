@@ -4,7 +4,7 @@ use Rattle.std.specs.Prelude.{◌≡◌, ℕ, List, [], ◌∷◌, ◌++◌, Opt
 use Rattle.std.specs.Io.KnownBytes.{Appends}
 use Rattle.ov_frames.specs.Replies.{answer_frame}
 use Rattle.ov_frames.specs.declared.answer.Answer.{Answer}
-use Rattle.ov_session.specs.Conversing.{Stands, IsUnfed}
+use Rattle.ov_session.specs.Conversing.{Stands}
 use Rattle.ov_session.specs.Devices.{IsFrontOf}
 use Rattle.ov_session.specs.Doors.{Goes}
 use Rattle.ov_session.specs.Heard.{Heard}
@@ -33,7 +33,6 @@ pub record IsSession {D : Type 0} (goes : Goes D)
     (in_old in_new out_old out_new : Option (List ℕ)) (told_old told_new : List Exchange)
     (door_old door_new : D) (end : Ending) : Type 0 where
   pub heard : Heard in_old in_new
-  pub unfed : IsUnfed end heard.unread
   pub farewell : Answer
   pub added : told_new ≡ told_old ++ ((heard.told ++ heard.stopped) ++ Departed farewell ∷ [])
   pub went : goes door_old ((heard.told ++ heard.stopped) ++ Departed farewell ∷ []) door_new

@@ -95,13 +95,6 @@ HandedOn ending.Write held = Unit {0}
 HandedOn ending.Memory held = Unit {0}
 HandedOn _ held = held ≡ []
 
-abbrev pub IsHandedOn : Result (Unit {0}) Ending → List ℕ → Type 0
+abbrev pub IsHandedOn : {A : Type 0} → Result A Ending → List ℕ → Type 0
 IsHandedOn (Ok x) held = held ≡ []
 IsHandedOn (Err e) held = HandedOn e held
-
--- so of the requests of a piece, whose answers are handed on
-pub record ServesPiece {D S : Type 0} (goes : Goes D) (admits : D → S → Type 0) (old new : Place D)
-    (session : S) (output_failed : Bool) (rs : List Request) (result : Result (Unit {0}) Ending) :
-    Type 0 where
-  pub them : ServesThem goes admits old new session output_failed rs result
-  pub handed_on : IsHandedOn result new.held

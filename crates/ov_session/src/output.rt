@@ -129,5 +129,9 @@ fn drop_front(bytes: &mut Vec<u8>, count: usize)
     requires { count ≤ length bytes.old.items }
     ensures { bytes.new.items ≡ drop count bytes.old.items }
 {
-    bytes.drain(..count);
+    if count == bytes.len() {
+        bytes.clear();
+    } else {
+        bytes.drain(..count);
+    }
 }

@@ -1,19 +1,19 @@
 // Serving requests: each is asked of the door, and its answer given to the output.
-ghost use Rattle.std.specs.Prelude.{◌≡◌, ◌∷◌, [], false};
-ghost use Rattle.ov_session.specs.Conversing.{Turns};
-ghost use Rattle.ov_session.specs.Talks.{ServesPiece, ServesThem, place};
+ghost use Rattle.std.specs.Prelude.{◌≡◌, ◌≤◌, ◌∷◌, [], false, length, take};
+ghost use Rattle.ov_session.specs.Conversing.{ServesBytes, Turns, behind, first};
+ghost use Rattle.ov_session.specs.Talks.{ServesThem, place};
 
 use crate::door::{CallOutcome, Door};
 use crate::ending::Ending;
 use crate::output::SessionOutput;
-use ov_frames::{Answer, Decoder, End, Request};
+use ov_frames::{Answer, Front, Request, front_end, front_of};
 use std::alloc::Global;
 use std::io::Write;
 
 // Serves one request.
 fn serve_one<W: Write, D: Door>(
     alloc: Global,
-    request: &Request,
+    request: Request,
     output: &mut SessionOutput<W>,
     door: &mut D,
     session: &mut D::Session,
@@ -23,7 +23,7 @@ fn serve_one<W: Write, D: Door>(
     ensures { ServesThem D.goes D.admits
         (place W.contents D.told output.old session.old door.old)
         (place W.contents D.told output.new session.new door.new)
-        session.new output.new.failed (request.now ∷ []) result }
+        session.new output.new.failed (request ∷ []) result }
 {
     match request.call(alloc) {
         Err(_) => Err(Ending::Memory),
@@ -37,46 +37,58 @@ fn serve_one<W: Write, D: Door>(
     }
 }
 
-// Serves requests in order.
-fn serve_all<W: Write, D: Door>(
+// Serves the requests of the whole frames at the front of bytes, in order, and answers where the
+// begun frame behind them stands.
+fn serve_frames<W: Write, D: Door>(
     alloc: Global,
-    requests: &[Request],
+    bytes: &[u8],
     output: &mut SessionOutput<W>,
     door: &mut D,
     session: &mut D::Session,
-) -> Result<(), Ending>
+) -> Result<usize, Ending>
     requires well { output.old.failed ≡ false }
     requires admitted { D.admits door.old session.old }
-    ensures { ServesThem D.goes D.admits
+    ensures { ServesBytes D.goes D.admits bytes.now (behind bytes.now)
         (place W.contents D.told output.old session.old door.old)
         (place W.contents D.told output.new session.new door.new)
-        session.new output.new.failed requests.now result }
+        session.new output.new.failed result }
 {
-    for request in requests {
-        if let Err(end) = serve_one(alloc, request, output, door, session) {
-            return Err(end);
+    let mut used = 0;
+    'frames: loop {
+        let front = match front_of(alloc, &bytes[used..]) {
+            Ok(front) => front,
+            Err(_) => return Err(Ending::Memory),
+        };
+        match front {
+            Front::Whole(request, len) => {
+                if let Err(end) = serve_one(alloc, request, output, door, session) {
+                    return Err(end);
+                }
+                used += len;
+            }
+            Front::Begun => return Ok(used),
+            Front::Bad(fault) => return Err(Ending::Frame(fault)),
         }
     }
-    Ok(())
 }
 
-// Serves requests in order, and hands their answers on, also those before one that ends the
+// Serves the requests of bytes, and hands their answers on, also those before one that ends the
 // session.
 fn serve_piece<W: Write, D: Door>(
     alloc: Global,
-    requests: &[Request],
+    bytes: &[u8],
     output: &mut SessionOutput<W>,
     door: &mut D,
     session: &mut D::Session,
-) -> Result<(), Ending>
+) -> Result<usize, Ending>
     requires well { output.old.failed ≡ false }
     requires admitted { D.admits door.old session.old }
-    ensures { ServesPiece D.goes D.admits
+    ensures { Turns D.goes D.admits bytes.now (behind bytes.now)
         (place W.contents D.told output.old session.old door.old)
         (place W.contents D.told output.new session.new door.new)
-        session.new output.new.failed requests.now result }
+        session.new output.new.failed result }
 {
-    let served = serve_all(alloc, requests, output, door, session);
+    let served = serve_frames(alloc, bytes, output, door, session);
     if output.has_failed() {
         return served;
     }
@@ -86,33 +98,33 @@ fn serve_piece<W: Write, D: Door>(
     }
 }
 
-/// Feeds a piece of the stream, and serves the requests that it makes whole.
+/// Serves the requests that so many bytes make whole, and moves the begun frame behind them to the
+/// front, where so many bytes of it stand then. Until a frame is whole or at fault nothing is done.
 pub(crate) fn take_piece<W: Write, D: Door>(
     alloc: Global,
-    decoder: &mut Decoder,
-    piece: &[u8],
+    bytes: &mut [u8],
+    count: usize,
     output: &mut SessionOutput<W>,
     door: &mut D,
     session: &mut D::Session,
-) -> Result<(), Ending>
+) -> Result<usize, Ending>
+    requires within { count ≤ length bytes.old }
     requires well { output.old.failed ≡ false }
     requires held { output.old.held.items ≡ [] }
     requires admitted { D.admits door.old session.old }
-    ensures { Turns D.goes D.admits decoder.old piece.now decoder.new
+    ensures turns { Turns D.goes D.admits (take count bytes.old) (first bytes.new)
         (place W.contents D.told output.old session.old door.old)
         (place W.contents D.told output.new session.new door.new)
         session.new output.new.failed result }
+    ensures room { length bytes.new ≡ length bytes.old }
 {
-    let requests = match decoder.feed(alloc, piece) {
-        Ok(Ok(requests)) => requests,
-        Ok(Err(fault)) => return Err(Ending::Frame(fault)),
-        Err(_) => return Err(Ending::Memory),
+    if count < front_end(&bytes[..count]) {
+        return Ok(count);
+    }
+    let used = match serve_piece(alloc, &bytes[..count], output, door, session) {
+        Ok(used) => used,
+        Err(end) => return Err(end),
     };
-    if let Err(end) = serve_piece(alloc, requests.as_slice(), output, door, session) {
-        return Err(end);
-    }
-    match decoder.end() {
-        End::Frame(fault) => Err(Ending::Frame(fault)),
-        _ => Ok(()),
-    }
+    bytes.copy_within(used..count, 0);
+    Ok(count - used)
 }

@@ -1,7 +1,7 @@
 // Sessions: a client's stream is read, its requests are served, and in the end the client is
 // detached.
-ghost use Rattle.std.specs.Prelude.{◌≡◌, ◌<◌, [], false, length, IfOk};
-ghost use Rattle.ov_session.specs.Conversing.{Converses, ended};
+ghost use Rattle.std.specs.Prelude.{◌≡◌, ◌≤◌, [], false, length, IfOk};
+ghost use Rattle.ov_session.specs.Conversing.{Converses};
 ghost use Rattle.ov_session.specs.Devices.{InputAt, IsSent, is_write};
 ghost use Rattle.ov_session.specs.Sessions.{IsSession};
 ghost use Rattle.ov_session.specs.Talks.{place};
@@ -11,29 +11,19 @@ use crate::ending::Ending;
 use crate::input::SessionInput;
 use crate::output::SessionOutput;
 use crate::serving::take_piece;
-use ov_frames::{Answer, Decoder, End};
+use ov_frames::Answer;
 use std::alloc::{AllocError, Global};
 use std::io::{Read, Write};
 
-/// How many bytes one read asks for.
-const PIECE: usize = 65_536;
+/// How many bytes of a stream there is room for: twice a longest frame.
+const ROOM: usize = 140_008;
 
-// Room for a piece.
+// Room for the bytes that are read.
 fn buffer_of(alloc: Global) -> Result<Vec<u8>, AllocError>
-    ensures { IfOk result (λ buffer. 0 < length buffer.items) }
+    ensures { IfOk result (λ buffer. 70004 ≤ length buffer.items) }
 {
-    let buffer = vec![in alloc; 0u8; PIECE]?;
+    let buffer = vec![in alloc; 0u8; ROOM]?;
     Ok(buffer)
-}
-
-fn ending_of(end: End) -> Ending
-    ensures { result ≡ ended end }
-{
-    match end {
-        End::Ended => Ending::Ended,
-        End::Cut => Ending::Cut,
-        End::Frame(fault) => Ending::Frame(fault),
-    }
 }
 
 // Serves the requests of the stream until it ends, the client leaves, or something fails.
@@ -60,15 +50,16 @@ fn converse<R: Read, W: Write, D: Door>(
     pieces_of(alloc, buffer.as_mut_slice(), input, output, door, session)
 }
 
+// Reads into the room behind the bytes that are held: those of the begun frame.
 fn pieces_of<R: Read, W: Write, D: Door>(
     alloc: Global,
-    piece: &mut [u8],
+    bytes: &mut [u8],
     input: &mut SessionInput<R>,
     output: &mut SessionOutput<W>,
     door: &mut D,
     session: &mut D::Session,
 ) -> Ending
-    requires room { 0 < length piece.old }
+    requires room { 70004 ≤ length bytes.old }
     requires input { input.old.failed ≡ false }
     requires well { output.old.failed ≡ false }
     requires held { output.old.held.items ≡ [] }
@@ -79,17 +70,21 @@ fn pieces_of<R: Read, W: Write, D: Door>(
         (place W.contents D.told output.new session.new door.new)
         session.new input.new.failed input.new.reads_left output.new.failed result }
 {
-    let mut decoder = Decoder::new(alloc);
+    let mut held = 0;
     'pieces: loop {
-        let count = match input.read(piece) {
+        let count = match input.read(&mut bytes[held..]) {
             Ok(count) => count,
             Err(end) => return end,
         };
         if count == 0 {
-            return ending_of(decoder.end());
+            if held == 0 {
+                return Ending::Ended;
+            }
+            return Ending::Cut;
         }
-        if let Err(end) = take_piece(alloc, &mut decoder, &piece[..count], output, door, session) {
-            return end;
+        match take_piece(alloc, bytes, held + count, output, door, session) {
+            Ok(left) => held = left,
+            Err(end) => return end,
         }
     }
 }

@@ -4,6 +4,7 @@ use crate::manifests::ManifestText;
 use crate::mounts::{attached, made, mounted_alone};
 use crate::operations::{before, operations};
 use crate::redirects::redirected;
+use crate::sessions::{Asking, copy, serve};
 use crate::trees::{BLOCK, OBJECTS, bare, copied, copied_again, deep, served, wide};
 use crate::watchers::{tell_on, watch_elsewhere};
 use ov_base::{Call, Errno, Reply};
@@ -25,6 +26,10 @@ pub enum Load {
     Deed(Deed),
     /// What so many clients that watch a directory are told.
     Notices(u32),
+    /// What a client asks in a session.
+    Session(Asking),
+    /// Copies of 64 KiB.
+    PlainCopy,
 }
 
 impl Load {
@@ -33,6 +38,10 @@ impl Load {
         match word {
             "notify_1" => Some(Load::Notices(1)),
             "notify_64" => Some(Load::Notices(64)),
+            "session_stat" => Some(Load::Session(Asking::Stat)),
+            "session_stat_bytes" => Some(Load::Session(Asking::StatBytes)),
+            "session_write_64k" => Some(Load::Session(Asking::Write)),
+            "plain_copy_64k" => Some(Load::PlainCopy),
             _ => Some(Load::Deed(Deed::named(word)?)),
         }
     }
@@ -53,6 +62,11 @@ pub fn measure<C: Clock, F: Callback + Copy, R: Rule>(
     match load {
         Load::Deed(deed) => do_on(clock, alloc, &mut core, hook, deed, count),
         Load::Notices(watchers) => tell_on(clock, alloc, &mut core, hook, watchers, count),
+        Load::Session(asking) => {
+            let client = attached(alloc, &mut core, hook, 0)?;
+            serve(clock, alloc, core, client, asking, count)
+        }
+        Load::PlainCopy => copy(clock, alloc, count),
     }
 }
 

@@ -18,9 +18,9 @@ use Rattle.layer_tree.specs.Nameless.{KeepsObjects}
 use Rattle.layer_tree.proofs.Nameless.{keeps_then}
 use Rattle.merged_lookup.specs.declared.layers.Layers.{Layers}
 use Rattle.merged_lookup.specs.Merged.{layers_of, lowers_of}
-use Rattle.copy_up.specs.Showing.{ShowsSame, Stays, StaysThin, GainsParents}
+use Rattle.copy_up.specs.Showing.{ShowsSame, ChangesNoSight, Stays, StaysThin, GainsParents}
 use Rattle.copy_up.proofs.Frames.{gains-self, gains-then, gains-unchanged, path-then}
-use Rattle.copy_up.proofs.Keeping.{lowers-same, linked-by, lift, same-self, same-then, same-unchanged, stays-then, stays-unchanged}
+use Rattle.copy_up.proofs.Keeping.{lowers-same, linked-by, lift, same-self, same-then, same-unchanged, failed}
 use Rattle.rename_redirect.specs.Linking.{GivesName, GainsBoth, CopiesName, KeepsDirectories, LinkSteps}
 use Rattle.rename_redirect.proofs.Gained.{gains-paths}
 use Rattle.rename_redirect.proofs.Shown.{still-absent, thin-linked}
@@ -86,8 +86,8 @@ gives-name start mid new same stays p q gains name links rest directories key ke
     let placed = keeps_then start.upper gains.mid.upper mid.upper None gains.first.objects gains.second.objects in
     let all = keeps_then start.upper mid.upper new.upper (Some key) placed kept in
     record {
-      gains = λ h. name-since start mid (layer_of new.upper) same stays p q (name (stays.layers h));
-      links = λ h j is. link-since start mid (layer_of new.upper) same stays p q j (links (stays.layers h) j (ap is_some (stays.inodes j) ∙ is));
+      gains = λ h. name-since start mid (layer_of new.upper) same stays p q (name (stays.sound.layers h));
+      links = λ h j is. link-since start mid (layer_of new.upper) same stays p q j (links (stays.sound.layers h) j (ap is_some (stays.inodes j) ∙ is));
       paths = λ x a b. elim (gains-paths start mid p q gains x) [
         | inl k ↦ inl (path-then start mid new p x (rest x a b) k)
         | inr k ↦ inr (path-then start mid new q x (rest x a b) k)
@@ -97,23 +97,20 @@ gives-name start mid new same stays p q gains name links rest directories key ke
       nameless = all.nameless;
     }
 
--- an allocation failure after parents were placed
-module _ (start mid new : Layers) (same : ShowsSame start mid) (stays : Stays start mid) (low : new.lowers ≡ mid.lowers) (unchanged : SameObjects (layer_of mid.upper) (layer_of new.upper)) (kept : KeepsObjects mid.upper new.upper None) where
-  pub fails-same : ShowsSame start new
-  fails-same = same-then start mid new same (same-unchanged mid new low unchanged (λ k. kept.inodes k (λ e. cc)))
-
-  pub fails-stays : (IsLayer (layer_of mid.upper) → IsLayer (layer_of new.upper)) → Stays start new
-  fails-stays keep = stays-then start mid new stays (stays-unchanged mid new low unchanged (λ k. kept.inodes k (λ e. cc)) keep)
-
-  pub fails-both : (p q : Path) → GainsBoth start mid p q → GainsBoth start new p q
-  fails-both p q g =
-      record {
-        mid = g.mid;
-        first = g.first;
-        same_first = g.same_first;
-        second = gains-then g.mid mid new q g.same_second g.second (gains-unchanged mid new q low unchanged kept);
-        same_second = same-then g.mid mid new g.same_second (same-unchanged mid new low unchanged (λ k. kept.inodes k (λ e. cc)));
-      }
+-- an allocation failure after parents of two paths were placed
+pub fails-both :
+    (start mid new : Layers) → ShowsSame start mid → Stays start mid → new.lowers ≡ mid.lowers → SameObjects (layer_of mid.upper) (layer_of new.upper) →
+    KeepsObjects mid.upper new.upper None → (IsLayer (layer_of mid.upper) → IsLayer (layer_of new.upper)) →
+    (p q : Path) → GainsBoth start mid p q → ChangesNoSight start new (GainsBoth start new p q)
+fails-both start mid new same stays low unchanged kept keep p q g =
+    failed start mid new same stays low unchanged kept (GainsBoth start new p q) keep
+    (record {
+      mid = g.mid;
+      first = g.first;
+      same_first = g.same_first;
+      second = gains-then g.mid mid new q g.same_second g.second (gains-unchanged mid new q low unchanged kept);
+      same_second = same-then g.mid mid new g.same_second (same-unchanged mid new low unchanged (λ k. kept.inodes k (λ e. cc)));
+    })
 
 -- an inode of the upper is given a further name
 module _ (mid new : Layers) (low : new.lowers ≡ mid.lowers) (keep : IsLayer (layer_of mid.upper) → IsLayer (layer_of new.upper)) (p : Path) (n : Name) (q : Path) (absent : shows 0 (layers_of mid) (n ∷ q) ≡ None) (adds : AddsName (layer_of mid.upper) (layer_of new.upper) p (n ∷ q)) where

@@ -154,12 +154,12 @@ module _ (a b : Layers) (p q : Path) (same : ShowsSame a b) (stays : Stays a b) 
     over-since : MovesOver b c p q → MovesOver a c p q
     over-since o = record {
       lowers = o.lowers ∙ same.lowers;
-      moves = λ h. moves-since (layer_of c.upper) (o.moves (stays.layers h));
+      moves = λ h. moves-since (layer_of c.upper) (o.moves (stays.sound.layers h));
       left = o.left ∙ left-since p;
       marks = λ h. marks-since (o.marks (still-folder ∙ h));
       paths = λ x y f off. paths-since x y f (o.paths x y f off);
       directories = λ x y f k i h. o.directories x y f k i (h.0, h.1, stays.holds x (Directory k i h.0 h.1) h.2);
-      links = λ h j is. law_of_kept_move_link A B (layer_of c.upper) p q j (λ x. stays.names x j) (stays.inodes j) (o.links (stays.layers h) j (ap is_some (stays.inodes j) ∙ is));
+      links = λ h j is. law_of_kept_move_link A B (layer_of c.upper) p q j (λ x. stays.names x j) (stays.inodes j) (o.links (stays.sound.layers h) j (ap is_some (stays.inodes j) ∙ is));
       seen = λ k is off. o.seen k (same_presence a.upper b.upper k (objects.seen k is) ∙ is) (λ h. off (sym (ap directory_number old-held) ∙ h)) ∙ objects.seen k is;
       nameless = λ k h. o.nameless k (objects.nameless k h);
     }

@@ -3,7 +3,7 @@ ghost use Rattle.std.specs.Prelude.{◌≡◌, ◌<◌, ◌∷◌, Option, Some,
 ghost use Rattle.plain_model.specs.Layers.{Name as NameOf, Path as Names, Inode, Contents, Named, held, shows};
 ghost use Rattle.layer_tree.specs.Tree.{layer_of};
 ghost use Rattle.merged_lookup.specs.Merged.{layers_of, parents_fault, parent, IsStackOf, ShowsInode};
-ghost use Rattle.copy_up.specs.Showing.{ShowsSame, HasPlace, Stays, StaysLayers, StaysMount, StaysThin};
+ghost use Rattle.copy_up.specs.Showing.{ShowsSame, ChangesNoSight, HasPlace, Stays, StaysSound};
 ghost use Rattle.rename_redirect.specs.Linking.{GainsBoth, GivesName};
 
 use crate::moves::place_ways;
@@ -31,11 +31,9 @@ pub(crate) fn link_copy(
     ensures linked { OnOk result (GivesName layers.old layers.new old.now new.now) }
     ensures key { IfOk result (λ key. held (layer_of layers.new.upper) old.now ≡ Some (Named key)) }
     ensures lowers { layers.new.lowers ≡ layers.old.lowers }
-    ensures no_memory { OnErr result (ShowsSame layers.old layers.new) }
-    ensures mounts { OnErr result (StaysMount layers.old layers.new) }
-    ensures parents { OnErr result (GainsBoth layers.old layers.new old.now new.now) }
-    ensures keeps { StaysLayers layers.old layers.new }
-    ensures thin { StaysThin layers.old layers.new }
+    ensures no_memory { OnErr result
+        (ChangesNoSight layers.old layers.new (GainsBoth layers.old layers.new old.now new.now)) }
+    ensures sound { StaysSound layers.old layers.new }
 {
     let Some((name, _)) = old.split_last() else {
         unreachable!()

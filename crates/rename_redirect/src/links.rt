@@ -5,7 +5,7 @@ ghost use Rattle.mount_laws.specs.Linking.{link_fault};
 ghost use Rattle.layer_tree.specs.Tree.{layer_of};
 ghost use Rattle.merged_lookup.specs.declared.layers.Layers.{Layers as LayersOf};
 ghost use Rattle.merged_lookup.specs.Merged.{layers_of, parents_fault, parent, IsStackOf, ShowsInode};
-ghost use Rattle.copy_up.specs.Showing.{ShowsSame, StaysLayers, StaysMount, StaysThin};
+ghost use Rattle.copy_up.specs.Showing.{ChangesNoSight, StaysSound};
 ghost use Rattle.rename_redirect.specs.Judging.{IsSeen, MayLink};
 ghost use Rattle.rename_redirect.specs.Linking.{GainsBoth, GivesName, LinkSteps};
 
@@ -32,18 +32,19 @@ pub fn link(
 ) -> Result<Result<usize, Errno>, AllocError>
     requires from { IsSeen layers.old old.now from }
     requires onto { IsSeen layers.old new.now onto }
-    ensures refused { IfOk result (λ r. IfErr r (λ e. link_fault (layers_of layers.old) old.now new.now ≡ Some e)) }
+    ensures refused { IfOk result (λ r. IfErr r (λ e.
+        link_fault (layers_of layers.old) old.now new.now ≡ Some e)) }
     ensures unchanged { IfOk result (λ r. OnErr r (layers.new ≡ layers.old)) }
-    ensures allowed { IfOk result (λ r. OnOk r (link_fault (layers_of layers.old) old.now new.now ≡ None)) }
+    ensures allowed { IfOk result (λ r.
+        OnOk r (link_fault (layers_of layers.old) old.now new.now ≡ None)) }
     ensures linked { IfOk result (λ r. OnOk r (GivesName layers.old layers.new old.now new.now)) }
-    ensures key { IfOk result (λ r. IfOk r (λ key. held (layer_of layers.new.upper) old.now ≡ Some (Named key))) }
+    ensures key { IfOk result (λ r. IfOk r (λ key.
+        held (layer_of layers.new.upper) old.now ≡ Some (Named key))) }
     ensures steps { IfOk result (λ r. OnOk r (LinkSteps layers.old layers.new old.now new.now)) }
     ensures lowers { layers.new.lowers ≡ layers.old.lowers }
-    ensures no_memory { OnErr result (ShowsSame layers.old layers.new) }
-    ensures mounts { OnErr result (StaysMount layers.old layers.new) }
-    ensures parents { OnErr result (GainsBoth layers.old layers.new old.now new.now) }
-    ensures keeps { StaysLayers layers.old layers.new }
-    ensures thin { StaysThin layers.old layers.new }
+    ensures no_memory { OnErr result
+        (ChangesNoSight layers.old layers.new (GainsBoth layers.old layers.new old.now new.now)) }
+    ensures sound { StaysSound layers.old layers.new }
 {
     let (directory, onto, place) = match linkable(from, onto) {
         Ok(found) => found,
@@ -91,11 +92,9 @@ fn give_name(
     ensures linked { OnOk result (GivesName layers.old layers.new old.now new.now) }
     ensures key { IfOk result (λ key. held (layer_of layers.new.upper) old.now ≡ Some (Named key)) }
     ensures lowers { layers.new.lowers ≡ layers.old.lowers }
-    ensures no_memory { OnErr result (ShowsSame layers.old layers.new) }
-    ensures mounts { OnErr result (StaysMount layers.old layers.new) }
-    ensures parents { OnErr result (GainsBoth layers.old layers.new old.now new.now) }
-    ensures keeps { StaysLayers layers.old layers.new }
-    ensures thin { StaysThin layers.old layers.new }
+    ensures no_memory { OnErr result
+        (ChangesNoSight layers.old layers.new (GainsBoth layers.old layers.new old.now new.now)) }
+    ensures sound { StaysSound layers.old layers.new }
 {
     if place.layer == 0 {
         return link_own(layers, old, new, onto, place);
@@ -119,11 +118,9 @@ fn link_own(
     ensures linked { OnOk result (GivesName layers.old layers.new old.now new.now) }
     ensures key { IfOk result (λ key. held (layer_of layers.new.upper) old.now ≡ Some (Named key)) }
     ensures lowers { layers.new.lowers ≡ layers.old.lowers }
-    ensures no_memory { OnErr result (ShowsSame layers.old layers.new) }
-    ensures mounts { OnErr result (StaysMount layers.old layers.new) }
-    ensures parents { OnErr result (GainsBoth layers.old layers.new old.now new.now) }
-    ensures keeps { StaysLayers layers.old layers.new }
-    ensures thin { StaysThin layers.old layers.new }
+    ensures no_memory { OnErr result
+        (ChangesNoSight layers.old layers.new (GainsBoth layers.old layers.new old.now new.now)) }
+    ensures sound { StaysSound layers.old layers.new }
 {
     let Some((name, parents)) = new.split_last() else {
         unreachable!()

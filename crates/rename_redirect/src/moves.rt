@@ -1,5 +1,5 @@
 // What a path shows moves to another path.
-ghost use Rattle.std.specs.Prelude.{◌≡◌, ◌∷◌, Bool, true, false, Some, None, IfOk, OnOk, OnErr};
+ghost use Rattle.std.specs.Prelude.{◌≡◌, ◌∷◌, true, false, Some, None, IfOk, OnOk, OnErr};
 ghost use Rattle.ov_base.specs.declared.redirect.Redirect.TheVariants.{Absolute};
 ghost use Rattle.plain_model.specs.Layers.{Path as Names, Named, held, below, shows, is_directory, base, under, IsLayer, AreLayers};
 ghost use Rattle.plain_model.specs.Laws.{IsOutside};
@@ -8,8 +8,8 @@ ghost use Rattle.mount_laws.specs.Moving.{NamesNoInode};
 ghost use Rattle.mount_laws.specs.Renaming.{is_one};
 ghost use Rattle.layer_tree.specs.Nameless.{KeepsObjects};
 ghost use Rattle.layer_tree.specs.Tree.{layer_of, SameObjects};
-ghost use Rattle.merged_lookup.specs.Merged.{layers_of, lowers_of, parents_fault, parent, top_of, IsFound, IsStackOf, ShowsDirectory, ShowsInode};
-ghost use Rattle.copy_up.specs.Showing.{ShowsSame, Stays, StaysLayers, StaysMount, StaysThin};
+ghost use Rattle.merged_lookup.specs.Merged.{layers_of, lowers_of, parents_fault, parent, top_of, IsFound, IsStackOf, ShowsInode};
+ghost use Rattle.copy_up.specs.Showing.{ShowsSame, ChangesNoSight, Stays, StaysLayers, StaysThin};
 ghost use Rattle.rename_redirect.specs.Linking.{GainsBoth};
 ghost use Rattle.rename_redirect.specs.Renaming.{MovesOver, Replaces, DoesRename};
 ghost use Rattle.rename_redirect.specs.Routes.{IsMove, IsFolderMove};
@@ -41,14 +41,14 @@ pub(crate) fn move_object(
     requires onto { IsStackOf layers.old (parent new.now) onto }
     requires empty { ShowsNoName (layers_of layers.old) new.now }
     requires apart { is_one (layer_of layers.old.upper) old.now new.now ≡ false }
-    requires kind { is_directory (shows 0 (layers_of layers.old) old.now) ≡ true → NamesNoInode (layer_of layers.old.upper) new.now }
+    requires kind { is_directory (shows 0 (layers_of layers.old) old.now) ≡ true →
+        NamesNoInode (layer_of layers.old.upper) new.now }
     requires out { IsOutside old.now new.now }
     requires within { IsOutside new.now old.now }
     ensures does { IfOk result (λ r. DoesRename layers.old layers.new old.now new.now r) }
     ensures lowers { layers.new.lowers ≡ layers.old.lowers }
-    ensures no_memory { OnErr result (ShowsSame layers.old layers.new) }
-    ensures mounts { OnErr result (StaysMount layers.old layers.new) }
-    ensures parents { OnErr result (GainsBoth layers.old layers.new old.now new.now) }
+    ensures no_memory { OnErr result
+        (ChangesNoSight layers.old layers.new (GainsBoth layers.old layers.new old.now new.now)) }
     ensures keeps { StaysLayers layers.old layers.new }
     ensures thin { AreLayers (layers_of layers.old) → StaysThin layers.old layers.new }
 {

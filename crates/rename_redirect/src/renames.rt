@@ -11,7 +11,7 @@ ghost use Rattle.mount_laws.specs.Renaming as one;
 ghost use Rattle.layer_tree.specs.Tree.{layer_of};
 ghost use Rattle.merged_lookup.specs.declared.layers.Layers.{Layers as LayersOf};
 ghost use Rattle.merged_lookup.specs.Merged.{layers_of, lowers_of, IsFound, IsAnswer, IsStackOf, ShowsDirectory};
-ghost use Rattle.copy_up.specs.Showing.{ShowsSame, StaysLayers, StaysMount, StaysThin};
+ghost use Rattle.copy_up.specs.Showing.{ChangesNoSight, StaysLayers, StaysThin};
 ghost use Rattle.make_remove.specs.Removing.{TellsNames};
 ghost use Rattle.rename_redirect.specs.Linking.{GainsBoth};
 ghost use Rattle.rename_redirect.specs.Judging.{IsSeen, named_key, fit_fault, IsFaultOf, Fits, MayMove};
@@ -55,17 +55,29 @@ pub fn rename(
 ) -> Result<Result<Renamed, Errno>, AllocError>
     requires from { IsSeen layers.old old.now from }
     requires onto { IsSeen layers.old new.now onto }
-    ensures refused { IfOk result (λ r. IfErr r (λ e. (full : Bool) → TellsNames (layers_of layers.old) new.now full → rename_fault (layer_of layers.old.upper) (lowers_of layers.old) redirects old.now new.now full ≡ Some e)) }
-    ensures refuses { IfOk result (λ r. IfErr r (λ e. (s : State) → IsMountOf (layer_of layers.old.upper) (lowers_of layers.old) s → s.options.redirects ≡ redirects → (c : ℕ) → refusal s c (call.Rename old.now new.now) ≡ Some e)) }
+    ensures refused { IfOk result (λ r. IfErr r (λ e.
+        (full : Bool) → TellsNames (layers_of layers.old) new.now full →
+        rename_fault (layer_of layers.old.upper) (lowers_of layers.old) redirects
+        old.now new.now full ≡ Some e)) }
+    ensures refuses { IfOk result (λ r. IfErr r (λ e.
+        (s : State) → IsMountOf (layer_of layers.old.upper) (lowers_of layers.old) s →
+        s.options.redirects ≡ redirects → (c : ℕ) →
+        refusal s c (call.Rename old.now new.now) ≡ Some e)) }
     ensures unchanged { IfOk result (λ r. OnErr r (layers.new ≡ layers.old)) }
-    ensures allowed { IfOk result (λ r. OnOk r (rename_fault (layer_of layers.old.upper) (lowers_of layers.old) redirects old.now new.now false ≡ None)) }
-    ensures bare { IfOk result (λ r. OnOk r (is_one (layer_of layers.old.upper) old.now new.now ≡ false → ShowsNoName (layers_of layers.old) new.now)) }
-    ensures does { IfOk result (λ r. IfOk r (λ renamed. DoesRename layers.old layers.new old.now new.now renamed)) }
-    ensures steps { IfOk result (λ r. OnOk r (is_one (layer_of layers.old.upper) old.now new.now ≡ false → RenameSteps layers.old layers.new redirects old.now new.now)) }
+    ensures allowed { IfOk result (λ r.
+        OnOk r (rename_fault (layer_of layers.old.upper) (lowers_of layers.old) redirects
+        old.now new.now false ≡ None)) }
+    ensures bare { IfOk result (λ r.
+        OnOk r (is_one (layer_of layers.old.upper) old.now new.now ≡ false →
+        ShowsNoName (layers_of layers.old) new.now)) }
+    ensures does { IfOk result (λ r. IfOk r (λ renamed.
+        DoesRename layers.old layers.new old.now new.now renamed)) }
+    ensures steps { IfOk result (λ r.
+        OnOk r (is_one (layer_of layers.old.upper) old.now new.now ≡ false →
+        RenameSteps layers.old layers.new redirects old.now new.now)) }
     ensures lowers { layers.new.lowers ≡ layers.old.lowers }
-    ensures no_memory { OnErr result (ShowsSame layers.old layers.new) }
-    ensures mounts { OnErr result (StaysMount layers.old layers.new) }
-    ensures parents { OnErr result (GainsBoth layers.old layers.new old.now new.now) }
+    ensures no_memory { OnErr result
+        (ChangesNoSight layers.old layers.new (GainsBoth layers.old layers.new old.now new.now)) }
     ensures apart { OnErr result (is_one (layer_of layers.old.upper) old.now new.now ≡ false) }
     ensures keeps { StaysLayers layers.old layers.new }
     ensures thin { AreLayers (layers_of layers.old) → StaysThin layers.old layers.new }

@@ -1,6 +1,5 @@
-use Rattle.std.proofs.Common.{◌<◌, arith, subst}
 use Rattle.std.proofs.lemmas.Result.{on_ok_weaker}
-use Rattle.merged_lookup.specs.declared.stack.Place.{Place}
+use Rattle.copy_up.proofs.Keeping.{then-layers}
 use Rattle.copy_up.proofs.OtherAttributes.{thin-either}
 use Rattle.copy_up.proofs.OwnAttributes.{is-own, own-there, own-alters, own-key, own-object, own-thin, changes-key, key-given}
 use Rattle.copy_up.proofs.altering.alter.Goals as goal
@@ -26,15 +25,19 @@ returns-then-place-eq0-clause-object c =
     (λ made. own-object old c.alter_upper.new.layers c.args.path.now c.place-place.result c.alter_upper.ensures.lowers c.args.change made c.alter_upper.ensures.nameless own)
     (changes-key old c.alter_upper.new.layers c.place-place.result.key c.args.change c.alter_upper.result c.alter_upper.ensures.sets c.alter_upper.ensures.inode c.alter_upper.ensures.directory)
 
-pub returns-then-place-eq0-clause-thin : goal.returns-then-place-eq0-clause-thin
-returns-then-place-eq0-clause-thin c =
+pub returns-then-place-eq0-clause-sound : goal.returns-then-place-eq0-clause-sound
+returns-then-place-eq0-clause-sound c =
     let old = c.args.layers.now in
     let own = is-own old c.lawful.ensures.tree c.lawful.ensures.together c.args.path.now c.args.top c.place-place.result c.place-place.ensures c.if-place-eq0.true c.requires.shown in
-    thin-either old c.alter_upper.new.layers c.alter_upper.result c.alter_upper.ensures.lowers
-    (on_ok_weaker c.alter_upper.result
-    (λ made. own-thin old c.alter_upper.new.layers c.args.path.now c.place-place.result c.alter_upper.ensures.lowers c.args.change made own)
-    (changes-key old c.alter_upper.new.layers c.place-place.result.key c.args.change c.alter_upper.result c.alter_upper.ensures.sets c.alter_upper.ensures.inode c.alter_upper.ensures.directory))
-    c.alter_upper.ensures.unchanged
+    record {
+      layers = then-layers old old c.alter_upper.new.layers (λ h. h) c.alter_upper.ensures.lowers c.alter_upper.ensures.keeps;
+      thin =
+          thin-either old c.alter_upper.new.layers c.alter_upper.result c.alter_upper.ensures.lowers
+          (on_ok_weaker c.alter_upper.result
+          (λ made. own-thin old c.alter_upper.new.layers c.args.path.now c.place-place.result c.alter_upper.ensures.lowers c.args.change made own)
+          (changes-key old c.alter_upper.new.layers c.place-place.result.key c.args.change c.alter_upper.result c.alter_upper.ensures.sets c.alter_upper.ensures.inode c.alter_upper.ensures.directory))
+          c.alter_upper.ensures.unchanged;
+    }
 
 pub returns-then-place-eq0-clause-key : goal.returns-then-place-eq0-clause-key
 returns-then-place-eq0-clause-key c =

@@ -5,7 +5,7 @@ use Rattle.merged_lookup.specs.declared.stack.Stack.{Stack}
 use Rattle.merged_lookup.specs.Merged.{layers_of, IsStackOf}
 use Rattle.copy_up.specs.Showing.{GainsParents}
 use Rattle.copy_up.proofs.Frames.{gains-further, gains-then, gains-unchanged}
-use Rattle.copy_up.proofs.Keeping.{directory-same, on-err, same-then}
+use Rattle.copy_up.proofs.Keeping.{directory-same, on-err, same-then, stays-then}
 use Rattle.copy_up.proofs.altering.place_at.Goals as goal
 
 pub place_parent-requires-clause-shown : goal.place_parent-requires-clause-shown
@@ -48,11 +48,5 @@ returns-in_err-parent-clause-proper c =
     on-err _ c.from_residual.result
     (subst (λ (x : Path). GainsParents c.args.layers.now c.place_parents.new.layers x) (sym c.in-Some.ensures) (c.place_parents.ensures.gains c.in-Some.name.now))
 
-pub returns-clause-keeps : goal.returns-clause-keeps
-returns-clause-keeps c = λ h. c.place_parent.ensures.stays.layers (c.place_parents.ensures.keeps h)
-
-pub returns-clause-names : goal.returns-clause-names
-returns-clause-names c = λ p k. (
-  λ h. (c.place_parents.ensures.names p k).0 ((c.place_parent.ensures.stays.names p k).0 h),
-  λ h. (c.place_parent.ensures.stays.names p k).1 ((c.place_parents.ensures.names p k).1 h),
-)
+pub returns-clause-stays : goal.returns-clause-stays
+returns-clause-stays c = stays-then c.args.layers.now c.place_parents.new.layers c.place_parent.new.layers c.place_parents.ensures.stays c.place_parent.ensures.stays

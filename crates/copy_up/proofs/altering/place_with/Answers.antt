@@ -1,8 +1,9 @@
-use Rattle.std.proofs.Common.{[], ◌∷◌, ap}
+use Rattle.std.proofs.Common.{[], ap}
 use Rattle.layer_tree.proofs.Changing.{directory_is_present}
 use Rattle.copy_up.specs.Showing.{number_of}
 use Rattle.copy_up.proofs.OtherAttributes.{StandsAt, stands-at, thin-directory, alters-placed}
 use Rattle.copy_up.proofs.AlteredObjects.{object-directory}
+use Rattle.copy_up.proofs.Keeping.{then-layers}
 use Rattle.copy_up.proofs.altering.place_with.Goals as goal
 
 pub set_attributes-requires : goal.set_attributes-requires
@@ -15,7 +16,7 @@ returns-clause-altered c =
     let p = c.place_at.ensures in
     let at : StandsAt c.place_at.new.layers.upper c.args.path.now c.top-dir.result.key = stands-at c.place_at.new.layers c.args.path.now c.in_ok-placed.placed c.top-dir.result c.lawful.ensures.tree c.in_ok-placed.ensures.stack c.in_ok-placed.ensures.upper c.top-dir.ensures in
     alters-placed c.place_at.new.layers c.set_attributes.new.layers c.set_attributes.ensures.lowers c.args.path.now c.top-dir.result.key c.args.attributes (c.set_attributes.ensures.directory c.args.path.now at.key at.directory)
-    c.args.layers.now p.same p.names p.keeps c.set_attributes.ensures.keeps
+    c.args.layers.now p.same p.stays.names p.stays.sound.layers c.set_attributes.ensures.keeps
 
 pub returns-clause-object : goal.returns-clause-object
 returns-clause-object c =
@@ -33,7 +34,11 @@ returns-clause-key c =
 pub returns-clause-nameless : goal.returns-clause-nameless
 returns-clause-nameless c = λ k h. c.set_attributes.ensures.nameless k ((c.place_at.ensures.gains []).objects.nameless k h)
 
-pub returns-clause-thin : goal.returns-clause-thin
-returns-clause-thin c = λ h.
+pub returns-clause-sound : goal.returns-clause-sound
+returns-clause-sound c =
+    let sound = c.place_at.ensures.stays.sound in
     let at : StandsAt c.place_at.new.layers.upper c.args.path.now c.top-dir.result.key = stands-at c.place_at.new.layers c.args.path.now c.in_ok-placed.placed c.top-dir.result c.lawful.ensures.tree c.in_ok-placed.ensures.stack c.in_ok-placed.ensures.upper c.top-dir.ensures in
-    thin-directory c.place_at.new.layers c.set_attributes.new.layers c.set_attributes.ensures.lowers c.args.path.now c.top-dir.result.key c.args.attributes (c.set_attributes.ensures.directory c.args.path.now at.key at.directory) (c.place_at.ensures.thin h)
+    record {
+      layers = then-layers c.args.layers.now c.place_at.new.layers c.set_attributes.new.layers sound.layers c.set_attributes.ensures.lowers c.set_attributes.ensures.keeps;
+      thin = λ h. thin-directory c.place_at.new.layers c.set_attributes.new.layers c.set_attributes.ensures.lowers c.args.path.now c.top-dir.result.key c.args.attributes (c.set_attributes.ensures.directory c.args.path.now at.key at.directory) (sound.thin h);
+    }

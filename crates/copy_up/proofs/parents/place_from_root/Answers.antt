@@ -22,19 +22,13 @@ loop-name-preserved c =
       λ more. gains-then c.args.layers.now c.loop-name.layers c.place_parent.new.layers (reverse c.args.names.now) c.loop-name.invariant.0 (c.loop-name.invariant.5 c.loop-name-test.true) (c.place_parent.ensures.gains p (reverse c.args.names.now) c.loop-name.invariant.1 (is-proper c.args.names.now c.loop-name.name-index c.name-item.result more c.name-item.is)),
     )
 
-pub returns-in_err-stack-clause-keeps : goal.returns-in_err-stack-clause-keeps
-returns-in_err-stack-clause-keeps c = (stays-then c.args.layers.now c.loop-name.layers c.place_parent.new.layers c.loop-name.invariant.3 c.place_parent.ensures.stays).layers
-
-pub returns-in_err-stack-clause-names : goal.returns-in_err-stack-clause-names
-returns-in_err-stack-clause-names c = (stays-then c.args.layers.now c.loop-name.layers c.place_parent.new.layers c.loop-name.invariant.3 c.place_parent.ensures.stays).names
+pub returns-in_err-stack-clause-stays : goal.returns-in_err-stack-clause-stays
+returns-in_err-stack-clause-stays c = stays-then c.args.layers.now c.loop-name.layers c.place_parent.new.layers c.loop-name.invariant.3 c.place_parent.ensures.stays
 
 pub returns-in_err-stack-clause-gains : goal.returns-in_err-stack-clause-gains
 returns-in_err-stack-clause-gains c = λ n.
     let p = reverse (take c.loop-name.name-index c.args.names.now) in
     gains-then c.args.layers.now c.loop-name.layers c.place_parent.new.layers (n ∷ reverse c.args.names.now) c.loop-name.invariant.0 (c.loop-name.invariant.4 n) (c.place_parent.ensures.gains p (n ∷ reverse c.args.names.now) c.loop-name.invariant.1 (is-parent c.args.names.now c.loop-name.name-index c.name-item.result n c.loop-name-test.true c.name-item.is))
-
-pub returns-in_err-stack-clause-holds : goal.returns-in_err-stack-clause-holds
-returns-in_err-stack-clause-holds c = (stays-then c.args.layers.now c.loop-name.layers c.place_parent.new.layers c.loop-name.invariant.3 c.place_parent.ensures.stays).holds
 
 pub returns-in_err-stack-clause-proper : goal.returns-in_err-stack-clause-proper
 returns-in_err-stack-clause-proper c =

@@ -1,7 +1,7 @@
 use Rattle.std.proofs.Common.{refl, subst}
 use Rattle.layer_tree.specs.Tree.{Tree, layer_of, Frees, SameObjects}
 use Rattle.plain_model.specs.Layers.{IsLayer}
-use Rattle.copy_up.proofs.Keeping.{same-alike, layers-alike, mounts-alike, thin-alike}
+use Rattle.copy_up.proofs.Keeping.{same-alike, mounts-alike, sound-alike}
 use Rattle.make_remove.proofs.Freed.{named-same}
 use Rattle.make_remove.proofs.freeing.free.Goals as goal
 
@@ -11,20 +11,14 @@ returns-clause-same c =
     let frees = subst (λ (u : Tree). Frees u c.discard.new.self c.args.key) c.upper_mut.ensures.value c.discard.ensures.frees in
     same-alike c.args.layers.now _ refl held (named-same c.args.layers.now.upper c.discard.new.self c.args.key c.requires frees)
 
-pub returns-clause-keeps : goal.returns-clause-keeps
-returns-clause-keeps c =
+pub returns-clause-sound : goal.returns-clause-sound
+returns-clause-sound c =
     let held = subst (λ (u : Tree). SameObjects (layer_of u) (layer_of c.discard.new.self)) c.upper_mut.ensures.value c.discard.ensures.objects_held in
     let frees = subst (λ (u : Tree). Frees u c.discard.new.self c.args.key) c.upper_mut.ensures.value c.discard.ensures.frees in
-    layers-alike c.args.layers.now (record c.args.layers.now { upper = c.discard.new.self }) refl held (named-same c.args.layers.now.upper c.discard.new.self c.args.key c.requires frees) (subst (λ (u : Tree). IsLayer (layer_of u) → IsLayer (layer_of c.discard.new.self)) c.upper_mut.ensures.value c.discard.ensures.keeps)
+    sound-alike c.args.layers.now (record c.args.layers.now { upper = c.discard.new.self }) refl held (named-same c.args.layers.now.upper c.discard.new.self c.args.key c.requires frees) (subst (λ (u : Tree). IsLayer (layer_of u) → IsLayer (layer_of c.discard.new.self)) c.upper_mut.ensures.value c.discard.ensures.keeps)
 
 pub returns-clause-mounts : goal.returns-clause-mounts
 returns-clause-mounts c =
     let held = subst (λ (u : Tree). SameObjects (layer_of u) (layer_of c.discard.new.self)) c.upper_mut.ensures.value c.discard.ensures.objects_held in
     let frees = subst (λ (u : Tree). Frees u c.discard.new.self c.args.key) c.upper_mut.ensures.value c.discard.ensures.frees in
     mounts-alike c.args.layers.now (record c.args.layers.now { upper = c.discard.new.self }) refl held (named-same c.args.layers.now.upper c.discard.new.self c.args.key c.requires frees) (subst (λ (u : Tree). IsLayer (layer_of u) → IsLayer (layer_of c.discard.new.self)) c.upper_mut.ensures.value c.discard.ensures.keeps)
-
-pub returns-clause-thin : goal.returns-clause-thin
-returns-clause-thin c =
-    let held = subst (λ (u : Tree). SameObjects (layer_of u) (layer_of c.discard.new.self)) c.upper_mut.ensures.value c.discard.ensures.objects_held in
-    let frees = subst (λ (u : Tree). Frees u c.discard.new.self c.args.key) c.upper_mut.ensures.value c.discard.ensures.frees in
-    thin-alike c.args.layers.now (record c.args.layers.now { upper = c.discard.new.self }) refl held (named-same c.args.layers.now.upper c.discard.new.self c.args.key c.requires frees)

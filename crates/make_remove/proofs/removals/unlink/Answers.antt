@@ -1,9 +1,8 @@
-use Rattle.std.proofs.Common.{reverse, sym, ap, subst, ◌∙◌, ◌∷◌}
+use Rattle.std.proofs.Common.{reverse, sym, subst}
 use Rattle.plain_model.specs.Layers.{Path}
-use Rattle.mount_laws.specs.Looks.{walk_fault}
 use Rattle.merged_lookup.specs.Merged.{trees, layers_of}
 use Rattle.make_remove.specs.Removing.{ShowsNoName, Unnames}
-use Rattle.copy_up.specs.Showing.{GainsParents}
+use Rattle.copy_up.specs.Showing.{ChangesNoSight, GainsParents}
 use Rattle.copy_up.proofs.Keeping.{on-err}
 use Rattle.make_remove.proofs.Removing.{unlink-allowed, unshown-in, unlink-step}
 use Rattle.make_remove.proofs.removals.unlink.Goals as goal
@@ -22,5 +21,7 @@ returns-clause-steps c =
 pub returns-clause-unnames : goal.returns-clause-unnames
 returns-clause-unnames c = subst (λ p. Unnames c.args.layers.now c.take_away.new.layers p c.in_ok-key.key) (sym c.in-Some.ensures) c.in_ok-key.ensures.unnames
 
-pub returns-in_err-key-clause-parents : goal.returns-in_err-key-clause-parents
-returns-in_err-key-clause-parents c = on-err _ c.from_residual.result (subst (GainsParents c.args.layers.now c.take_away.new.layers) (sym c.in-Some.ensures) c.in_err-key.ensures.parents)
+pub returns-in_err-key-clause-no_memory : goal.returns-in_err-key-clause-no_memory
+returns-in_err-key-clause-no_memory c =
+    on-err _ c.from_residual.result
+    (subst (λ p. ChangesNoSight c.args.layers.now c.take_away.new.layers (GainsParents c.args.layers.now c.take_away.new.layers p)) (sym c.in-Some.ensures) c.in_err-key.ensures.no_memory)

@@ -37,11 +37,11 @@ pub returns-in_err-key : goal.returns-in_err-key
 returns-in_err-key c =
     let kept = c.in_err-key.ensures in
     alters-wanted c.args.call.now c.args.layers.now c.alter.new.layers c.args.path.now c.from_residual-in_err-key.result
-    c.from_residual-in_err-key.ensures.0 kept.parents kept.keeps kept.thin kept.no_memory kept.mounts
+    c.from_residual-in_err-key.ensures.0 kept.no_memory kept.sound
 
 pub returns : goal.returns
 returns c =
     let target : IsTarget c.args.layers.now c.args.path.now c.args.call.now c.in-Ok.target = rw c.in-Ok.is at c.judged.ensures c.args.path.now c.requires in
     let made = c.in_ok-key.ensures in
-    alters-done c.args.call.now c.args.layers.now c.alter.new.layers c.args.path.now c.in-Ok.target target made.lowers made.keeps made.thin c.in_ok-change.change c.in_ok-change.ensures made.altered
+    alters-done c.args.call.now c.args.layers.now c.alter.new.layers c.args.path.now c.in-Ok.target target made.lowers made.sound c.in_ok-change.change c.in_ok-change.ensures made.altered
     c.lawful.ensures.tree made.object c.in_ok-key.key made.key

@@ -5,8 +5,8 @@ use Rattle.mount_calls.proofs.Named.{written-files}
 use Rattle.mount_calls.proofs.Writings.{upper-written}
 use Rattle.mount_calls.proofs.file_bytes.resize_file.Goals as goal
 
-pub returns-clause-thin : goal.returns-clause-thin
-returns-clause-thin c = (upper-written c.args.layers.now _ c.resize.new.self c.resize.result (sym c.upper_mut.ensures.value) c.resize.ensures.objects_held c.resize.ensures.keeps c.resize.ensures.err).0
+pub returns-clause-sound : goal.returns-clause-sound
+returns-clause-sound c = (upper-written c.args.layers.now _ c.resize.new.self c.resize.result (sym c.upper_mut.ensures.value) c.resize.ensures.objects_held c.resize.ensures.keeps c.resize.ensures.err).0
 
 pub returns-clause-mounts : goal.returns-clause-mounts
 returns-clause-mounts c = (upper-written c.args.layers.now _ c.resize.new.self c.resize.result (sym c.upper_mut.ensures.value) c.resize.ensures.objects_held c.resize.ensures.keeps c.resize.ensures.err).1

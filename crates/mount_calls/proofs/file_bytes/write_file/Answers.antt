@@ -4,8 +4,8 @@ use Rattle.mount_calls.proofs.Named.{written-files}
 use Rattle.mount_calls.proofs.Writings.{upper-written}
 use Rattle.mount_calls.proofs.file_bytes.write_file.Goals as goal
 
-pub returns-clause-thin : goal.returns-clause-thin
-returns-clause-thin c = (upper-written c.args.layers.now _ c.write.new.self c.write.result (sym c.upper_mut.ensures.value) c.write.ensures.objects_held c.write.ensures.keeps c.write.ensures.err).0
+pub returns-clause-sound : goal.returns-clause-sound
+returns-clause-sound c = (upper-written c.args.layers.now _ c.write.new.self c.write.result (sym c.upper_mut.ensures.value) c.write.ensures.objects_held c.write.ensures.keeps c.write.ensures.err).0
 
 pub returns-clause-mounts : goal.returns-clause-mounts
 returns-clause-mounts c = (upper-written c.args.layers.now _ c.write.new.self c.write.result (sym c.upper_mut.ensures.value) c.write.ensures.objects_held c.write.ensures.keeps c.write.ensures.err).1

@@ -29,4 +29,4 @@ returns-clause-around c =
     (copied-around c.args.layers.now c.all_at_once.new.layers (c.in-Some.name.now ∷ reverse c.in-Some.parents.now) c.args.place c.in_ok-attributes.attributes
     (record { content = i.content; attributes = i.attributes; links = i.links })
     (sym (ap (shows 0 (layers_of c.args.layers.now)) c.in-Some.ensures) ∙ c.inode_at.ensures c.args.path.now c.requires.shown)
-    c.all_at_once.result c.all_at_once.ensures.copied c.all_at_once.ensures.parents)
+    c.all_at_once.result c.all_at_once.ensures.copied c.all_at_once.ensures.no_memory)

@@ -2,6 +2,8 @@ use Rattle.std.proofs.Common.{true, false, ◌∙◌}
 use Rattle.mount_calls.proofs.Freed.{moves-then}
 use Rattle.mount_calls.proofs.Frames.{renames-moved, renames-parents, renames-same}
 use Rattle.mount_calls.proofs.Keys.{folder-key, look-seen, named-key}
+use Rattle.copy_up.proofs.Keeping.{on-err}
+use Rattle.mount_calls.proofs.Lasting.{both-live}
 use Rattle.mount_calls.proofs.removals.rename_and_free.Goals as goal
 
 pub rename-requires-clause-from : goal.rename-requires-clause-from
@@ -19,7 +21,7 @@ returns-in-Ok-Directory-clause-does c =
     true _ does bare steps c.free_released.ensures.mounts c.free_released.ensures.live c.free_released.ensures.held c.free_released.ensures.same
 
 pub returns-in-Ok-Directory-clause-keeps : goal.returns-in-Ok-Directory-clause-keeps
-returns-in-Ok-Directory-clause-keeps c = λ h. c.free_released.ensures.keeps (c.rename.ensures.keeps h)
+returns-in-Ok-Directory-clause-keeps c = λ h. c.free_released.ensures.sound.layers (c.rename.ensures.keeps h)
 
 pub returns-in-Ok-Inode-clause-does : goal.returns-in-Ok-Inode-clause-does
 returns-in-Ok-Inode-clause-does c =
@@ -30,13 +32,13 @@ returns-in-Ok-Inode-clause-does c =
     false _ does.0 bare steps c.free_released-in-Ok-Inode.ensures.mounts c.free_released-in-Ok-Inode.ensures.live c.free_released-in-Ok-Inode.ensures.held c.free_released-in-Ok-Inode.ensures.same
 
 pub returns-in-Ok-Inode-clause-keeps : goal.returns-in-Ok-Inode-clause-keeps
-returns-in-Ok-Inode-clause-keeps c = λ h. c.free_released-in-Ok-Inode.ensures.keeps (c.rename.ensures.keeps h)
+returns-in-Ok-Inode-clause-keeps c = λ h. c.free_released-in-Ok-Inode.ensures.sound.layers (c.rename.ensures.keeps h)
 
 pub returns-in-Ok-Directory-clause-thin : goal.returns-in-Ok-Directory-clause-thin
-returns-in-Ok-Directory-clause-thin c = λ are h. c.free_released.ensures.thin (c.rename.ensures.thin are h)
+returns-in-Ok-Directory-clause-thin c = λ are h. c.free_released.ensures.sound.thin (c.rename.ensures.thin are h)
 
 pub returns-in-Ok-Inode-clause-thin : goal.returns-in-Ok-Inode-clause-thin
-returns-in-Ok-Inode-clause-thin c = λ are h. c.free_released-in-Ok-Inode.ensures.thin (c.rename.ensures.thin are h)
+returns-in-Ok-Inode-clause-thin c = λ are h. c.free_released-in-Ok-Inode.ensures.sound.thin (c.rename.ensures.thin are h)
 
 pub returns-in-Ok-Unchanged-clause-paths : goal.returns-in-Ok-Unchanged-clause-paths
 returns-in-Ok-Unchanged-clause-paths c =
@@ -57,7 +59,7 @@ pub returns-in-Err-clause-paths : goal.returns-in-Err-clause-paths
 returns-in-Err-clause-paths c = renames-same c.args.layers.now c.rename.new.layers c.args.old.now c.args.new.now (rw c.in-Err.is at c.in_ok-rename.ensures.unchanged)
 
 pub returns-in_err-rename-clause-paths : goal.returns-in_err-rename-clause-paths
-returns-in_err-rename-clause-paths c = renames-parents c.args.layers.now c.rename.new.layers c.args.old.now c.args.new.now c.in_err-rename.ensures.apart c.in_err-rename.ensures.parents
+returns-in_err-rename-clause-paths c = renames-parents c.args.layers.now c.rename.new.layers c.args.old.now c.args.new.now c.in_err-rename.ensures.apart c.in_err-rename.ensures.no_memory.beneath
 
 pub returns-in-Ok-Directory-clause-key : goal.returns-in-Ok-Directory-clause-key
 returns-in-Ok-Directory-clause-key c =
@@ -68,3 +70,8 @@ pub returns-in-Ok-Inode-clause-key : goal.returns-in-Ok-Inode-clause-key
 returns-in-Ok-Inode-clause-key c =
     let does = rw (c.in-Ok-Inode.is, c.in-Ok-Inode.field-0-is) at c.in_ok-rename.ensures.does in
     named-key c.free_released-in-Ok-Inode.new.layers c.args.new.now c.in-Ok-Inode.key (c.free_released-in-Ok-Inode.ensures.held c.args.new.now ∙ does.1)
+
+pub returns-in_err-rename-clause-no_memory : goal.returns-in_err-rename-clause-no_memory
+returns-in_err-rename-clause-no_memory c =
+    let kept = c.in_err-rename.ensures.no_memory in
+    on-err _ c.from_residual.result (record { shown = kept.shown; mount = kept.mount; beneath = both-live c.args.layers.now c.rename.new.layers c.args.old.now c.args.new.now kept.beneath })

@@ -1,20 +1,18 @@
 use Rattle.ov_base.specs.declared.call.Call.TheVariants as call
 use Rattle.mount_calls.proofs.Freed.{takes-then, removes-then}
-use Rattle.mount_calls.proofs.Lasting.{rmdir-held}
+use Rattle.mount_calls.proofs.Lasting.{parents-live, rmdir-held}
 use Rattle.mount_calls.proofs.Frames.{around-same, around-others, around-parents}
+use Rattle.copy_up.proofs.Keeping.{on-err, sound-then}
 use Rattle.mount_calls.proofs.removals.rmdir_and_free.Goals as goal
 
 pub returns-in-Ok-clause-takes : goal.returns-in-Ok-clause-takes
-returns-in-Ok-clause-takes c = takes-then c.args.layers.now c.rmdir.new.layers c.free_released.new.layers c.args.path.now c.free_released.ensures.held c.free_released.ensures.same c.free_released.ensures.keeps (rw c.in-Ok.is at c.in_ok-key.ensures.takes)
+returns-in-Ok-clause-takes c = takes-then c.args.layers.now c.rmdir.new.layers c.free_released.new.layers c.args.path.now c.free_released.ensures.held c.free_released.ensures.same c.free_released.ensures.sound.layers (rw c.in-Ok.is at c.in_ok-key.ensures.takes)
 
 pub returns-in-Ok-clause-steps : goal.returns-in-Ok-clause-steps
 returns-in-Ok-clause-steps c = λ s m client. removes-then c.rmdir.new.layers c.free_released.new.layers c.free_released.ensures.mounts s client c.args.path.now (call.Rmdir c.args.path.now) ((rw c.in-Ok.is at c.in_ok-key.ensures.steps) s m client)
 
-pub returns-in-Ok-clause-keeps : goal.returns-in-Ok-clause-keeps
-returns-in-Ok-clause-keeps c = λ h. c.free_released.ensures.keeps (c.rmdir.ensures.keeps h)
-
-pub returns-in-Ok-clause-thin : goal.returns-in-Ok-clause-thin
-returns-in-Ok-clause-thin c = λ h. c.free_released.ensures.thin (c.rmdir.ensures.thin h)
+pub returns-in-Ok-clause-sound : goal.returns-in-Ok-clause-sound
+returns-in-Ok-clause-sound c = sound-then c.args.layers.now c.rmdir.new.layers c.free_released.new.layers c.rmdir.ensures.sound c.free_released.ensures.sound
 
 pub returns-in-Ok-clause-live : goal.returns-in-Ok-clause-live
 returns-in-Ok-clause-live c = λ s m client d k some on live.
@@ -30,4 +28,9 @@ pub returns-in-Err-clause-around : goal.returns-in-Err-clause-around
 returns-in-Err-clause-around c = around-same c.args.layers.now c.rmdir.new.layers c.args.path.now (rw c.in-Err.is at c.in_ok-key.ensures.unchanged)
 
 pub returns-in_err-key-clause-around : goal.returns-in_err-key-clause-around
-returns-in_err-key-clause-around c = around-parents c.args.layers.now c.rmdir.new.layers c.args.path.now c.in_err-key.ensures.parents
+returns-in_err-key-clause-around c = around-parents c.args.layers.now c.rmdir.new.layers c.args.path.now c.in_err-key.ensures.no_memory.beneath
+
+pub returns-in_err-key-clause-no_memory : goal.returns-in_err-key-clause-no_memory
+returns-in_err-key-clause-no_memory c =
+    let kept = c.in_err-key.ensures.no_memory in
+    on-err _ c.from_residual.result (record { shown = kept.shown; mount = kept.mount; beneath = parents-live c.args.layers.now c.rmdir.new.layers c.args.path.now kept.beneath })

@@ -1,21 +1,19 @@
 use Rattle.ov_base.specs.declared.call.Call.TheVariants as call
 use Rattle.mount_calls.proofs.Freed.{takes-then, removes-then}
-use Rattle.mount_calls.proofs.Lasting.{unlink-held}
+use Rattle.mount_calls.proofs.Lasting.{parents-live, unlink-held}
 use Rattle.std.proofs.Common.{refl}
 use Rattle.mount_calls.proofs.Frames.{around-same, around-others, around-parents}
+use Rattle.copy_up.proofs.Keeping.{on-err, sound-then}
 use Rattle.mount_calls.proofs.removals.unlink_and_free.Goals as goal
 
 pub returns-clause-takes : goal.returns-clause-takes
-returns-clause-takes c = takes-then c.args.layers.now c.unlink.new.layers c.free_released.new.layers c.args.path.now c.free_released.ensures.held c.free_released.ensures.same c.free_released.ensures.keeps c.in_ok-key.ensures.takes
+returns-clause-takes c = takes-then c.args.layers.now c.unlink.new.layers c.free_released.new.layers c.args.path.now c.free_released.ensures.held c.free_released.ensures.same c.free_released.ensures.sound.layers c.in_ok-key.ensures.takes
 
 pub returns-clause-steps : goal.returns-clause-steps
 returns-clause-steps c = λ s m client. removes-then c.unlink.new.layers c.free_released.new.layers c.free_released.ensures.mounts s client c.args.path.now (call.Unlink c.args.path.now) (c.in_ok-key.ensures.steps s m client)
 
-pub returns-clause-keeps : goal.returns-clause-keeps
-returns-clause-keeps c = λ h. c.free_released.ensures.keeps (c.unlink.ensures.keeps h)
-
-pub returns-clause-thin : goal.returns-clause-thin
-returns-clause-thin c = λ h. c.free_released.ensures.thin (c.unlink.ensures.thin h)
+pub returns-clause-sound : goal.returns-clause-sound
+returns-clause-sound c = sound-then c.args.layers.now c.unlink.new.layers c.free_released.new.layers c.unlink.ensures.sound c.free_released.ensures.sound
 
 pub returns-clause-live : goal.returns-clause-live
 returns-clause-live c = λ s m client d k some on live.
@@ -26,7 +24,12 @@ pub returns-in-Err-clause-around : goal.returns-in-Err-clause-around
 returns-in-Err-clause-around c = around-same c.args.layers.now c.args.layers.now c.args.path.now refl
 
 pub returns-in_err-key-clause-around : goal.returns-in_err-key-clause-around
-returns-in_err-key-clause-around c = around-parents c.args.layers.now c.unlink.new.layers c.args.path.now c.in_err-key.ensures.parents
+returns-in_err-key-clause-around c = around-parents c.args.layers.now c.unlink.new.layers c.args.path.now c.in_err-key.ensures.no_memory.beneath
 
 pub returns-clause-around : goal.returns-clause-around
 returns-clause-around c = around-others c.args.layers.now c.free_released.new.layers c.args.path.now (returns-clause-takes c).others
+
+pub returns-in_err-key-clause-no_memory : goal.returns-in_err-key-clause-no_memory
+returns-in_err-key-clause-no_memory c =
+    let kept = c.in_err-key.ensures.no_memory in
+    on-err _ c.from_residual.result (record { shown = kept.shown; mount = kept.mount; beneath = parents-live c.args.layers.now c.unlink.new.layers c.args.path.now kept.beneath })

@@ -17,7 +17,7 @@ returns-in-Err g c =
     let o = place g.W.Write.contents told c.args.output.now c.args.session.now c.args.door.now in
     record {
       served =
-          one_unasked g.D.Door.goes o o c.args.request.now [] ending.Memory refl refl
+          one_unasked g.D.Door.goes o o c.args.request [] ending.Memory refl refl
           (sym (append-nil o.told)) (g.met.D.Door.stays c.args.door.now) (inl refl, ([], refl));
       mark = c.requires.well;
       admitted = c.requires.admitted;
@@ -30,9 +30,9 @@ returns-in-Ok-None g c =
     let leaves = sym c.in-Ok-None.ensures ∙ c.in-Ok-None.field-0-is in
     record {
       served =
-          one_unasked g.D.Door.goes o o c.args.request.now [] ending.Detached refl refl
+          one_unasked g.D.Door.goes o o c.args.request [] ending.Detached refl refl
           (sym (append-nil o.told)) (g.met.D.Door.stays c.args.door.now)
-          (refl, refl, (c.args.request.now, [], refl, leaves));
+          (refl, refl, (c.args.request, [], refl, leaves));
       mark = c.requires.well;
       admitted = c.requires.admitted;
     }
@@ -44,7 +44,7 @@ returns-in-Ok-Some-Err g c =
     let o = place contents told c.args.output.now c.args.session.now c.args.door.now in
     let n = place contents told c.put.new.self c.args.session.now c.args.door.now in
     let refused = NotTaken c.in-Ok-Some-Err.errno in
-    let asked : asked_of c.args.request.now ≡ Some (Err c.in-Ok-Some-Err.errno)
+    let asked : asked_of c.args.request ≡ Some (Err c.in-Ok-Some-Err.errno)
     = cc (
       c.in-Ok-Some-Err.ensures,
       c.in-Ok-Some-Err.field-0-is,
@@ -52,7 +52,7 @@ returns-in-Ok-Some-Err g c =
     ) in
     record {
       served =
-          one_put g.D.Door.goes o n [] c.args.request.now refused c.put.result
+          one_put g.D.Door.goes o n [] c.args.request refused c.put.result
           (sym (append-nil o.told)) (g.met.D.Door.stays c.args.door.now)
           (subst (λ (x : Option (Result Call Errno)). Answers x [] refused) (sym asked)
           (refl, refl))
@@ -72,12 +72,12 @@ returns-in-Answered g c =
     let h = c.in-Answered.ensures.told in
     let answer = c.answer.result.now in
     let last = c.answer.ensures o.told call h.0 h.1 in
-    let asked : asked_of c.args.request.now ≡ Some (Ok call)
+    let asked : asked_of c.args.request ≡ Some (Ok call)
     = cc (c.in-Ok-Some-Ok.ensures, c.in-Ok-Some-Ok.field-0-is, c.in-Ok-Some-Ok.field-0-0-is)
     in
     record {
       served =
-          one_put g.D.Door.goes o n (Called call h.0 ∷ []) c.args.request.now answer
+          one_put g.D.Door.goes o n (Called call h.0 ∷ []) c.args.request answer
           c.put-in-Answered.result h.1 h.2
           (subst (λ (x : Option (Result Call Errno)). Answers x (Called call h.0 ∷ []) answer)
           (sym asked) (ap (λ (a : Answer). Called call a ∷ []) (sym last)))
@@ -95,13 +95,13 @@ returns-in-HeldBack g c =
     let n = place contents told c.args.output.now asks.session asks.self in
     let call = c.in-Ok-Some-Ok.call in
     let h = c.in-HeldBack.ensures.told in
-    let asked : asked_of c.args.request.now ≡ Some (Ok call)
+    let asked : asked_of c.args.request ≡ Some (Ok call)
     = cc (c.in-Ok-Some-Ok.ensures, c.in-Ok-Some-Ok.field-0-is, c.in-Ok-Some-Ok.field-0-0-is)
     in
     record {
       served =
-          one_unasked g.D.Door.goes o n c.args.request.now (HeldBack call ∷ []) ending.Stopped
-          refl refl h.0 h.1 ((c.args.request.now, [], call, refl, asked, refl), refl);
+          one_unasked g.D.Door.goes o n c.args.request (HeldBack call ∷ []) ending.Stopped
+          refl refl h.0 h.1 ((c.args.request, [], call, refl, asked, refl), refl);
       mark = c.requires.well;
       admitted = c.in-HeldBack.ensures.admitted;
     }
@@ -116,7 +116,7 @@ returns-in-OutOfMemory g c =
     let h = c.in-OutOfMemory.ensures.told in
     record {
       served =
-          one_unasked g.D.Door.goes o n c.args.request.now [] ending.Memory refl refl
+          one_unasked g.D.Door.goes o n c.args.request [] ending.Memory refl refl
           (h.0 ∙ sym (append-nil o.told)) h.1 (inl refl, ([], refl));
       mark = c.requires.well;
       admitted = c.in-OutOfMemory.ensures.admitted;

@@ -1,20 +1,23 @@
 use Rattle.std.proofs.Common.{refl, sym, ◌∙◌}
+use Rattle.ov_session.specs.Conversing.{behind}
 use Rattle.ov_session.specs.Talks.{place}
-use Rattle.ov_session.proofs.Talking.{served_on, served_badly, handed_empty, handed_badly}
+use Rattle.ov_session.proofs.Talking.{handed_empty, handed_badly}
+use Rattle.ov_session.proofs.Turning.{turn_on, turn_badly}
 use Rattle.ov_session.proofs.serving.serve_piece.Goals as goal
 
 pub returns-in-Ok : goal.returns-in-Ok
 returns-in-Ok g c =
     let contents = g.W.Write.contents in
     let told = g.D.Door.told in
-    let all = c.serve_all-served in
+    let all = c.serve_frames-served in
+    let bytes = c.args.bytes.now in
     let o = place contents told c.args.output.now c.args.session.now c.args.door.now in
     let m = place contents told all.new.output all.new.session all.new.door in
     let n = place contents told c.flush.new.self all.new.session all.new.door in
     record {
-      them = record {
-        served =
-            served_on g.D.Door.goes o m n c.args.requests.now all.result all.ensures.served
+      serves = record {
+        turn =
+            turn_on g.D.Door.goes bytes (behind bytes) o m n all.result all.ensures.turn
             c.flush.ensures.bytes refl refl;
         mark =
             c.in-Ok.ensures.mark
@@ -28,15 +31,16 @@ pub returns-in-Err : goal.returns-in-Err
 returns-in-Err g c =
     let contents = g.W.Write.contents in
     let told = g.D.Door.told in
-    let all = c.serve_all-served in
+    let all = c.serve_frames-served in
+    let bytes = c.args.bytes.now in
     let o = place contents told c.args.output.now c.args.session.now c.args.door.now in
     let m = place contents told all.new.output all.new.session all.new.door in
     let n = place contents told c.flush.new.self all.new.session all.new.door in
     record {
-      them = record {
-        served =
-            served_badly g.D.Door.goes o m n c.args.requests.now all.result c.in-Err.end
-            all.ensures.served c.in-Err.ensures.end c.flush.ensures.bytes refl refl;
+      serves = record {
+        turn =
+            turn_badly g.D.Door.goes bytes (behind bytes) o m n all.result c.in-Err.end
+            all.ensures.turn c.in-Err.ensures.end c.flush.ensures.bytes refl refl;
         mark = c.in-Err.ensures.mark;
         admitted = all.ensures.admitted;
       };

@@ -1,6 +1,6 @@
-use Rattle.std.proofs.Common.{◌≡◌, ◌<◌, [], false, length}
+use Rattle.std.proofs.Common.{◌≡◌, ◌≤◌, [], false, length, take}
+use Rattle.ov_frames.specs.Streams.{Held}
 use Rattle.ov_session.proofs.SoFar.{SoFar}
-use Rattle.ov_session.specs.Conversing.{is_faulty}
 use Rattle.ov_session.specs.Talks.{place}
 use Rattle.ov_session.proofs.session.pieces_of.Given as goal
 
@@ -13,9 +13,9 @@ invariant-pieces g l =
       so_far : SoFar g.D.Door.goes (remaining l.fn.input.reader) (remaining l.input.reader)
           (place contents told l.fn.output l.fn.session l.fn.door)
           (place contents told l.output l.session l.door)
-          l.decoder;
-      begun : is_faulty l.decoder ≡ false;
-      room : 0 < length l.piece;
+          (Held (take l.held l.bytes));
+      within : l.held ≤ length l.bytes;
+      room : 70004 ≤ length l.bytes;
       input : l.input.failed ≡ false;
       well : l.output.failed ≡ false;
       held : l.output.held.items ≡ [];

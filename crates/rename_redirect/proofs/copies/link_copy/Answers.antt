@@ -5,15 +5,17 @@ use Rattle.plain_model.specs.Layers.{Path, Contents, held, shows}
 use Rattle.layer_tree.specs.Tree.{layer_of}
 use Rattle.merged_lookup.specs.Merged.{layers_of}
 use Rattle.copy_up.proofs.Frames.{gains-self}
-use Rattle.copy_up.proofs.Keeping.{on-err, same-self, then-layers}
+use Rattle.copy_up.proofs.Keeping.{on-err, same-self, failed-stays, then-layers}
 use Rattle.rename_redirect.specs.Linking.{CopiesName, GainsBoth, GivesName}
 use Rattle.rename_redirect.proofs.Gained.{beside-copy}
-use Rattle.rename_redirect.proofs.Given.{gains-first, gives-name, fails-same, fails-stays, fails-both, copy-name, copy-links, copy-thin, follows}
+use Rattle.rename_redirect.proofs.Given.{gains-first, gives-name, fails-both, copy-name, copy-links, copy-thin, follows}
 use Rattle.rename_redirect.proofs.Shown.{outside-split}
 use Rattle.rename_redirect.proofs.copies.link_copy.Goals as goal
 
-pub returns-in_err-copy-clause-parents : goal.returns-in_err-copy-clause-parents
-returns-in_err-copy-clause-parents c = on-err _ c.from_residual.result (gains-first c.args.layers.now c.args.layers.now c.args.old.now c.args.new.now (same-self c.args.layers.now) (gains-self c.args.layers.now c.args.old.now))
+pub returns-in_err-copy-clause-no_memory : goal.returns-in_err-copy-clause-no_memory
+returns-in_err-copy-clause-no_memory c =
+    let l = c.args.layers.now in
+    on-err _ c.from_residual.result (record { shown = same-self l; mount = λ s h. h; beneath = gains-first l l c.args.old.now c.args.new.now (same-self l) (gains-self l c.args.old.now) })
 
 pub insert_in_upper-requires : goal.insert_in_upper-requires
 insert_in_upper-requires c =
@@ -28,43 +30,8 @@ insert_in_upper-requires c =
 
 pub returns-in_err-key-clause-no_memory : goal.returns-in_err-key-clause-no_memory
 returns-in_err-key-clause-no_memory c =
-    let l0 = c.args.layers.now in
-    let l1 = c.place_both.new.layers in
-    let l2 = c.insert_in_upper.new.layers in
     let p = c.place_both.ensures in
-    on-err _ c.from_residual-in_err-key.result (fails-same l0 l1 l2 p.same p.stays c.insert_in_upper.ensures.lowers c.in_err-key.ensures.unchanged c.in_err-key.ensures.same)
-
-pub returns-in_err-key-clause-mounts : goal.returns-in_err-key-clause-mounts
-returns-in_err-key-clause-mounts c =
-    let l0 = c.args.layers.now in
-    let l1 = c.place_both.new.layers in
-    let l2 = c.insert_in_upper.new.layers in
-    let p = c.place_both.ensures in
-    on-err _ c.from_residual-in_err-key.result (fails-stays l0 l1 l2 p.same p.stays c.insert_in_upper.ensures.lowers c.in_err-key.ensures.unchanged c.in_err-key.ensures.same c.insert_in_upper.ensures.keeps).mounts
-
-pub returns-in_err-key-clause-parents : goal.returns-in_err-key-clause-parents
-returns-in_err-key-clause-parents c =
-    let l0 = c.args.layers.now in
-    let l1 = c.place_both.new.layers in
-    let l2 = c.insert_in_upper.new.layers in
-    let p = c.place_both.ensures in
-    on-err _ c.from_residual-in_err-key.result (fails-both l0 l1 l2 p.same p.stays c.insert_in_upper.ensures.lowers c.in_err-key.ensures.unchanged c.in_err-key.ensures.same c.args.old.now c.args.new.now p.gains)
-
-pub returns-in_err-key-clause-keeps : goal.returns-in_err-key-clause-keeps
-returns-in_err-key-clause-keeps c =
-    let l0 = c.args.layers.now in
-    let l1 = c.place_both.new.layers in
-    let l2 = c.insert_in_upper.new.layers in
-    let p = c.place_both.ensures in
-    (fails-stays l0 l1 l2 p.same p.stays c.insert_in_upper.ensures.lowers c.in_err-key.ensures.unchanged c.in_err-key.ensures.same c.insert_in_upper.ensures.keeps).layers
-
-pub returns-in_err-key-clause-thin : goal.returns-in_err-key-clause-thin
-returns-in_err-key-clause-thin c =
-    let l0 = c.args.layers.now in
-    let l1 = c.place_both.new.layers in
-    let l2 = c.insert_in_upper.new.layers in
-    let p = c.place_both.ensures in
-    (fails-stays l0 l1 l2 p.same p.stays c.insert_in_upper.ensures.lowers c.in_err-key.ensures.unchanged c.in_err-key.ensures.same c.insert_in_upper.ensures.keeps).thin
+    on-err _ c.from_residual-in_err-key.result (fails-both c.args.layers.now c.place_both.new.layers c.insert_in_upper.new.layers p.same p.stays c.insert_in_upper.ensures.lowers c.in_err-key.ensures.unchanged c.in_err-key.ensures.same c.insert_in_upper.ensures.keeps c.args.old.now c.args.new.now p.gains)
 
 pub returns-clause-linked : goal.returns-clause-linked
 returns-clause-linked c =
@@ -97,11 +64,8 @@ returns-clause-linked c =
     (beside-copy l1.upper (layer_of l2.upper) (n ∷ t) (m ∷ u) i.content i.attributes from.free onto.free copy)
     c.in_ok-key.ensures.directories objects.0 objects.1))
 
-pub returns-clause-keeps : goal.returns-clause-keeps
-returns-clause-keeps c = then-layers c.args.layers.now c.place_both.new.layers c.insert_in_upper.new.layers c.place_both.ensures.stays.layers c.insert_in_upper.ensures.lowers c.insert_in_upper.ensures.keeps
-
-pub returns-clause-thin : goal.returns-clause-thin
-returns-clause-thin c = λ h.
+pub returns-clause-sound : goal.returns-clause-sound
+returns-clause-sound c =
     let l0 = c.args.layers.now in
     let l1 = c.place_both.new.layers in
     let l2 = c.insert_in_upper.new.layers in
@@ -121,7 +85,10 @@ returns-clause-thin c = λ h.
     let copy = subst (λ (z : Content). CopiesName (layer_of l1.upper) (layer_of l2.upper) (n ∷ t) (m ∷ u) z i.attributes) found.2
     (subst (λ (z : Attributes). CopiesName (layer_of l1.upper) (layer_of l2.upper) (n ∷ t) (m ∷ u) c.in_ok-copy.copy.0 z) found.3
     (c.in_ok-key.ensures.copied t u from onto (λ e. out [] e))) in
-    copy-thin l1 l2 c.insert_in_upper.ensures.lowers c.insert_in_upper.ensures.keeps n t m u s.0 c.args.place.key i shown absent out copy (p.stays.thin h)
+    record {
+      layers = then-layers l0 l1 l2 p.stays.sound.layers c.insert_in_upper.ensures.lowers c.insert_in_upper.ensures.keeps;
+      thin = λ h. copy-thin l1 l2 c.insert_in_upper.ensures.lowers c.insert_in_upper.ensures.keeps n t m u s.0 c.args.place.key i shown absent out copy (p.stays.sound.thin h);
+    }
 
 pub returns-clause-key : goal.returns-clause-key
 returns-clause-key c =
@@ -134,3 +101,8 @@ returns-clause-key c =
     let onto = c.in_ok-from.ensures.onto m u c.in-Some-split_last.ensures in
     let out = outside-split c.args.layers.now c.args.old.now c.args.new.now n t m u c.in-Some.ensures c.in-Some-split_last.ensures c.args.place.layer c.args.place.key c.requires.shown.inode c.requires.parents c.requires.absent c.requires.shown.shown in
     ap (held (layer_of c.insert_in_upper.new.layers.upper)) c.in-Some.ensures ∙ c.in_ok-key.ensures.key t u from onto (λ e. out [] e)
+
+pub returns-in_err-key-clause-sound : goal.returns-in_err-key-clause-sound
+returns-in_err-key-clause-sound c =
+    let p = c.place_both.ensures in
+    (failed-stays c.args.layers.now c.place_both.new.layers c.insert_in_upper.new.layers p.same p.stays c.insert_in_upper.ensures.lowers c.in_err-key.ensures.unchanged c.in_err-key.ensures.same c.insert_in_upper.ensures.keeps).sound

@@ -2,21 +2,15 @@ use Rattle.std.proofs.Common.{◌∷◌, reverse, sym, ap, ◌∙◌, subst}
 use Rattle.plain_model.specs.Layers.{Path, shows}
 use Rattle.layer_tree.specs.Tree.{layer_of}
 use Rattle.merged_lookup.specs.Merged.{layers_of}
-use Rattle.copy_up.specs.Showing.{GainsParents, Stays}
-use Rattle.copy_up.proofs.Keeping.{on-err}
+use Rattle.copy_up.specs.Showing.{GainsParents}
+use Rattle.copy_up.proofs.Keeping.{on-err, failed-stays, then-layers}
 use Rattle.copy_up.proofs.OtherAttributes.{upper-named}
 use Rattle.make_remove.proofs.Making.{absent-place}
 use Rattle.rename_redirect.specs.Linking.{GivesName}
 use Rattle.rename_redirect.proofs.Gained.{beside-name}
-use Rattle.rename_redirect.proofs.Given.{gains-second, gives-name, fails-same, fails-stays, fails-both, own-name, own-links, own-thin}
+use Rattle.rename_redirect.proofs.Given.{gains-second, gives-name, fails-both, own-name, own-links, own-thin}
 use Rattle.rename_redirect.proofs.Shown.{shown-apart}
 use Rattle.rename_redirect.proofs.links.link_own.Goals as goal
-
-pub returns-in_err-parent-clause-parents : goal.returns-in_err-parent-clause-parents
-returns-in_err-parent-clause-parents c =
-    let l0 = c.args.layers.now in
-    let l1 = c.place_parents.new.layers in
-    on-err _ c.from_residual.result (gains-second l0 l1 c.args.old.now c.args.new.now c.place_parents.ensures.same (subst (GainsParents l0 l1) (sym c.in-Some.ensures) (c.place_parents.ensures.gains c.in-Some.name.now)))
 
 pub link_in_upper-requires-clause-place : goal.link_in_upper-requires-clause-place
 link_in_upper-requires-clause-place c =
@@ -26,52 +20,15 @@ link_in_upper-requires-clause-place c =
 pub link_in_upper-requires-clause-source : goal.link_in_upper-requires-clause-source
 link_in_upper-requires-clause-source c =
     let named = upper-named c.args.layers.now c.args.old.now c.args.place c.requires.shown.inode c.requires.own c.requires.shown.shown in
-    (c.args.old.now, (c.place_parents.ensures.names c.args.old.now c.args.place.key).1 named.named)
+    (c.args.old.now, (c.place_parents.ensures.stays.names c.args.old.now c.args.place.key).1 named.named)
 
 pub returns-in_err-link_in_upper-clause-no_memory : goal.returns-in_err-link_in_upper-clause-no_memory
 returns-in_err-link_in_upper-clause-no_memory c =
     let p = c.place_parents.ensures in
     let l0 = c.args.layers.now in
     let l1 = c.place_parents.new.layers in
-    let l2 = c.link_in_upper.new.layers in
-    let stays : Stays l0 l1 = record { layers = p.keeps; mounts = p.mounts; thin = p.thin; names = p.names; inodes = p.inodes; holds = p.holds } in
-    on-err _ c.from_residual-in_err-link_in_upper.result (fails-same l0 l1 l2 p.same stays c.link_in_upper.ensures.lowers c.in_err-link_in_upper.ensures.unchanged c.in_err-link_in_upper.ensures.same)
-
-pub returns-in_err-link_in_upper-clause-mounts : goal.returns-in_err-link_in_upper-clause-mounts
-returns-in_err-link_in_upper-clause-mounts c =
-    let p = c.place_parents.ensures in
-    let l0 = c.args.layers.now in
-    let l1 = c.place_parents.new.layers in
-    let l2 = c.link_in_upper.new.layers in
-    let stays : Stays l0 l1 = record { layers = p.keeps; mounts = p.mounts; thin = p.thin; names = p.names; inodes = p.inodes; holds = p.holds } in
-    on-err _ c.from_residual-in_err-link_in_upper.result (fails-stays l0 l1 l2 p.same stays c.link_in_upper.ensures.lowers c.in_err-link_in_upper.ensures.unchanged c.in_err-link_in_upper.ensures.same c.link_in_upper.ensures.keeps).mounts
-
-pub returns-in_err-link_in_upper-clause-parents : goal.returns-in_err-link_in_upper-clause-parents
-returns-in_err-link_in_upper-clause-parents c =
-    let p = c.place_parents.ensures in
-    let l0 = c.args.layers.now in
-    let l1 = c.place_parents.new.layers in
-    let l2 = c.link_in_upper.new.layers in
-    let stays : Stays l0 l1 = record { layers = p.keeps; mounts = p.mounts; thin = p.thin; names = p.names; inodes = p.inodes; holds = p.holds } in
-    on-err _ c.from_residual-in_err-link_in_upper.result (fails-both l0 l1 l2 p.same stays c.link_in_upper.ensures.lowers c.in_err-link_in_upper.ensures.unchanged c.in_err-link_in_upper.ensures.same c.args.old.now c.args.new.now (gains-second l0 l1 c.args.old.now c.args.new.now p.same (subst (GainsParents l0 l1) (sym c.in-Some.ensures) (p.gains c.in-Some.name.now))))
-
-pub returns-in_err-link_in_upper-clause-keeps : goal.returns-in_err-link_in_upper-clause-keeps
-returns-in_err-link_in_upper-clause-keeps c =
-    let p = c.place_parents.ensures in
-    let l0 = c.args.layers.now in
-    let l1 = c.place_parents.new.layers in
-    let l2 = c.link_in_upper.new.layers in
-    let stays : Stays l0 l1 = record { layers = p.keeps; mounts = p.mounts; thin = p.thin; names = p.names; inodes = p.inodes; holds = p.holds } in
-    (fails-stays l0 l1 l2 p.same stays c.link_in_upper.ensures.lowers c.in_err-link_in_upper.ensures.unchanged c.in_err-link_in_upper.ensures.same c.link_in_upper.ensures.keeps).layers
-
-pub returns-in_err-link_in_upper-clause-thin : goal.returns-in_err-link_in_upper-clause-thin
-returns-in_err-link_in_upper-clause-thin c =
-    let p = c.place_parents.ensures in
-    let l0 = c.args.layers.now in
-    let l1 = c.place_parents.new.layers in
-    let l2 = c.link_in_upper.new.layers in
-    let stays : Stays l0 l1 = record { layers = p.keeps; mounts = p.mounts; thin = p.thin; names = p.names; inodes = p.inodes; holds = p.holds } in
-    (fails-stays l0 l1 l2 p.same stays c.link_in_upper.ensures.lowers c.in_err-link_in_upper.ensures.unchanged c.in_err-link_in_upper.ensures.same c.link_in_upper.ensures.keeps).thin
+    on-err _ c.from_residual-in_err-link_in_upper.result
+    (fails-both l0 l1 c.link_in_upper.new.layers p.same p.stays c.link_in_upper.ensures.lowers c.in_err-link_in_upper.ensures.unchanged c.in_err-link_in_upper.ensures.same c.link_in_upper.ensures.keeps c.args.old.now c.args.new.now (gains-second l0 l1 c.args.old.now c.args.new.now p.same (subst (GainsParents l0 l1) (sym c.in-Some.ensures) (p.gains c.in-Some.name.now))))
 
 pub returns-clause-linked : goal.returns-clause-linked
 returns-clause-linked c =
@@ -79,34 +36,35 @@ returns-clause-linked c =
     let l0 = c.args.layers.now in
     let l1 = c.place_parents.new.layers in
     let l2 = c.link_in_upper.new.layers in
-    let stays : Stays l0 l1 = record { layers = p.keeps; mounts = p.mounts; thin = p.thin; names = p.names; inodes = p.inodes; holds = p.holds } in
     let n = c.in-Some.name.now in
     let t = reverse c.in-Some.parents.now in
     let place = absent-place l0 l1 c.args.new.now t n c.in_ok-parent.parent c.top-dir.result c.in-Some.ensures p.same c.requires.absent c.in_ok-parent.ensures.stack c.in_ok-parent.ensures.upper c.top-dir.ensures in
     let named = upper-named l0 c.args.old.now c.args.place c.requires.shown.inode c.requires.own c.requires.shown.shown in
     let absent = p.same.absent (n ∷ t) (sym (ap (shows 0 (layers_of l0)) c.in-Some.ensures) ∙ c.requires.absent) in
-    let adds = c.in_ok-link_in_upper.ensures.added c.args.old.now t ((p.names c.args.old.now c.args.place.key).1 named.named) place in
+    let adds = c.in_ok-link_in_upper.ensures.added c.args.old.now t ((p.stays.names c.args.old.now c.args.place.key).1 named.named) place in
     subst (λ (z : Path). GivesName l0 l2 c.args.old.now z) (sym c.in-Some.ensures)
-    (gives-name l0 l1 l2 p.same stays c.args.old.now (n ∷ t) (gains-second l0 l1 c.args.old.now (n ∷ t) p.same (p.gains n))
+    (gives-name l0 l1 l2 p.same p.stays c.args.old.now (n ∷ t) (gains-second l0 l1 c.args.old.now (n ∷ t) p.same (p.gains n))
     (own-name l1 l2 c.link_in_upper.ensures.lowers c.link_in_upper.ensures.keeps c.args.old.now n t absent adds)
     (own-links l1 l2 c.link_in_upper.ensures.lowers c.link_in_upper.ensures.keeps c.args.old.now n t absent adds)
     (λ x a. beside-name l1.upper (layer_of l2.upper) c.args.old.now (n ∷ t) place.free adds x)
     c.in_ok-link_in_upper.ensures.directories c.args.place.key c.in_ok-link_in_upper.ensures.objects)
 
-pub returns-clause-thin : goal.returns-clause-thin
-returns-clause-thin c = λ h.
+pub returns-clause-sound : goal.returns-clause-sound
+returns-clause-sound c =
     let p = c.place_parents.ensures in
     let l0 = c.args.layers.now in
     let l1 = c.place_parents.new.layers in
     let l2 = c.link_in_upper.new.layers in
-    let stays : Stays l0 l1 = record { layers = p.keeps; mounts = p.mounts; thin = p.thin; names = p.names; inodes = p.inodes; holds = p.holds } in
     let n = c.in-Some.name.now in
     let t = reverse c.in-Some.parents.now in
     let place = absent-place l0 l1 c.args.new.now t n c.in_ok-parent.parent c.top-dir.result c.in-Some.ensures p.same c.requires.absent c.in_ok-parent.ensures.stack c.in_ok-parent.ensures.upper c.top-dir.ensures in
     let named = upper-named l0 c.args.old.now c.args.place c.requires.shown.inode c.requires.own c.requires.shown.shown in
     let absent = p.same.absent (n ∷ t) (sym (ap (shows 0 (layers_of l0)) c.in-Some.ensures) ∙ c.requires.absent) in
-    let adds = c.in_ok-link_in_upper.ensures.added c.args.old.now t ((p.names c.args.old.now c.args.place.key).1 named.named) place in
-    own-thin l1 l2 c.link_in_upper.ensures.lowers c.link_in_upper.ensures.keeps c.args.old.now n t absent adds (p.thin h)
+    let adds = c.in_ok-link_in_upper.ensures.added c.args.old.now t ((p.stays.names c.args.old.now c.args.place.key).1 named.named) place in
+    record {
+      layers = then-layers l0 l1 l2 p.stays.sound.layers c.link_in_upper.ensures.lowers c.link_in_upper.ensures.keeps;
+      thin = λ h. own-thin l1 l2 c.link_in_upper.ensures.lowers c.link_in_upper.ensures.keeps c.args.old.now n t absent adds (p.stays.sound.thin h);
+    }
 
 pub returns-clause-key : goal.returns-clause-key
 returns-clause-key c =
@@ -118,7 +76,21 @@ returns-clause-key c =
     let t = reverse c.in-Some.parents.now in
     let place = absent-place l0 l1 c.args.new.now t n c.in_ok-parent.parent c.top-dir.result c.in-Some.ensures p.same c.requires.absent c.in_ok-parent.ensures.stack c.in_ok-parent.ensures.upper c.top-dir.ensures in
     let named = upper-named l0 c.args.old.now c.args.place c.requires.shown.inode c.requires.own c.requires.shown.shown in
-    let still = (p.names c.args.old.now c.args.place.key).1 named.named in
+    let still = (p.stays.names c.args.old.now c.args.place.key).1 named.named in
     let adds = c.in_ok-link_in_upper.ensures.added c.args.old.now t still place in
     let off = shown-apart (layers_of l0) c.args.old.now c.args.new.now c.args.place.layer c.args.place.key c.requires.shown.inode c.requires.shown.shown c.requires.absent in
     beside-name l1.upper (layer_of l2.upper) c.args.old.now (n ∷ t) place.free adds c.args.old.now (λ e. off (e ∙ sym c.in-Some.ensures)) ∙ still
+
+pub returns-in_err-parent-clause-no_memory : goal.returns-in_err-parent-clause-no_memory
+returns-in_err-parent-clause-no_memory c =
+    let p = c.place_parents.ensures in
+    let l0 = c.args.layers.now in
+    let l1 = c.place_parents.new.layers in
+    on-err _ c.from_residual.result (record { shown = p.same; mount = p.stays.mounts; beneath = gains-second l0 l1 c.args.old.now c.args.new.now p.same (subst (GainsParents l0 l1) (sym c.in-Some.ensures) (p.gains c.in-Some.name.now)) })
+
+pub returns-in_err-link_in_upper-clause-sound : goal.returns-in_err-link_in_upper-clause-sound
+returns-in_err-link_in_upper-clause-sound c =
+    let p = c.place_parents.ensures in
+    let l0 = c.args.layers.now in
+    let l1 = c.place_parents.new.layers in
+    (failed-stays l0 l1 c.link_in_upper.new.layers p.same p.stays c.link_in_upper.ensures.lowers c.in_err-link_in_upper.ensures.unchanged c.in_err-link_in_upper.ensures.same c.link_in_upper.ensures.keeps).sound

@@ -1,6 +1,6 @@
 use Rattle.std.proofs.Common.{◌∙◌, ◌∷◌, sym}
-use Rattle.copy_up.proofs.Keeping.{on-err, then-layers}
-use Rattle.rename_redirect.proofs.Given.{fails-same, fails-stays, fails-both}
+use Rattle.copy_up.proofs.Keeping.{on-err, failed-stays, then-layers}
+use Rattle.rename_redirect.proofs.Given.{fails-both}
 use Rattle.rename_redirect.proofs.Since.{does-since, still-found, still-one, still-folder, still-unnamed}
 use Rattle.rename_redirect.proofs.moves.move_object.Goals as goal
 
@@ -17,25 +17,19 @@ pub move_placed-requires-clause-apart : goal.move_placed-requires-clause-apart
 move_placed-requires-clause-apart c = still-one c.args.layers.now c.place_ways.new.layers c.args.old.now c.args.new.now c.place_ways.ensures.same c.place_ways.ensures.stays c.place_ways.ensures.gains c.requires.out c.requires.within ∙ c.requires.apart
 
 pub returns-in_err-renamed-clause-no_memory : goal.returns-in_err-renamed-clause-no_memory
-returns-in_err-renamed-clause-no_memory c = on-err _ c.from_residual-in_err-renamed.result (fails-same c.args.layers.now c.place_ways.new.layers c.move_placed.new.layers c.place_ways.ensures.same c.place_ways.ensures.stays c.move_placed.ensures.lowers c.in_err-renamed.ensures.unchanged c.in_err-renamed.ensures.same)
-
-pub returns-in_err-renamed-clause-mounts : goal.returns-in_err-renamed-clause-mounts
-returns-in_err-renamed-clause-mounts c = on-err _ c.from_residual-in_err-renamed.result (fails-stays c.args.layers.now c.place_ways.new.layers c.move_placed.new.layers c.place_ways.ensures.same c.place_ways.ensures.stays c.move_placed.ensures.lowers c.in_err-renamed.ensures.unchanged c.in_err-renamed.ensures.same c.move_placed.ensures.keeps).mounts
-
-pub returns-in_err-renamed-clause-parents : goal.returns-in_err-renamed-clause-parents
-returns-in_err-renamed-clause-parents c = on-err _ c.from_residual-in_err-renamed.result (fails-both c.args.layers.now c.place_ways.new.layers c.move_placed.new.layers c.place_ways.ensures.same c.place_ways.ensures.stays c.move_placed.ensures.lowers c.in_err-renamed.ensures.unchanged c.in_err-renamed.ensures.same c.args.old.now c.args.new.now c.place_ways.ensures.gains)
+returns-in_err-renamed-clause-no_memory c = on-err _ c.from_residual-in_err-renamed.result (fails-both c.args.layers.now c.place_ways.new.layers c.move_placed.new.layers c.place_ways.ensures.same c.place_ways.ensures.stays c.move_placed.ensures.lowers c.in_err-renamed.ensures.unchanged c.in_err-renamed.ensures.same c.move_placed.ensures.keeps c.args.old.now c.args.new.now c.place_ways.ensures.gains)
 
 pub returns-in_err-renamed-clause-keeps : goal.returns-in_err-renamed-clause-keeps
-returns-in_err-renamed-clause-keeps c = (fails-stays c.args.layers.now c.place_ways.new.layers c.move_placed.new.layers c.place_ways.ensures.same c.place_ways.ensures.stays c.move_placed.ensures.lowers c.in_err-renamed.ensures.unchanged c.in_err-renamed.ensures.same c.move_placed.ensures.keeps).layers
+returns-in_err-renamed-clause-keeps c = (failed-stays c.args.layers.now c.place_ways.new.layers c.move_placed.new.layers c.place_ways.ensures.same c.place_ways.ensures.stays c.move_placed.ensures.lowers c.in_err-renamed.ensures.unchanged c.in_err-renamed.ensures.same c.move_placed.ensures.keeps).sound.layers
 
 pub returns-in_err-renamed-clause-thin : goal.returns-in_err-renamed-clause-thin
-returns-in_err-renamed-clause-thin c = λ h. (fails-stays c.args.layers.now c.place_ways.new.layers c.move_placed.new.layers c.place_ways.ensures.same c.place_ways.ensures.stays c.move_placed.ensures.lowers c.in_err-renamed.ensures.unchanged c.in_err-renamed.ensures.same c.move_placed.ensures.keeps).thin
+returns-in_err-renamed-clause-thin c = λ h. (failed-stays c.args.layers.now c.place_ways.new.layers c.move_placed.new.layers c.place_ways.ensures.same c.place_ways.ensures.stays c.move_placed.ensures.lowers c.in_err-renamed.ensures.unchanged c.in_err-renamed.ensures.same c.move_placed.ensures.keeps).sound.thin
 
 pub returns-clause-keeps : goal.returns-clause-keeps
-returns-clause-keeps c = then-layers c.args.layers.now c.place_ways.new.layers c.move_placed.new.layers c.place_ways.ensures.stays.layers c.move_placed.ensures.lowers c.move_placed.ensures.keeps
+returns-clause-keeps c = then-layers c.args.layers.now c.place_ways.new.layers c.move_placed.new.layers c.place_ways.ensures.stays.sound.layers c.move_placed.ensures.lowers c.move_placed.ensures.keeps
 
 pub returns-clause-thin : goal.returns-clause-thin
-returns-clause-thin c = λ h t. c.in_ok-renamed.ensures.thin (c.place_ways.ensures.stays.layers h) (c.place_ways.ensures.stays.thin t)
+returns-clause-thin c = λ h t. c.in_ok-renamed.ensures.thin (c.place_ways.ensures.stays.sound.layers h) (c.place_ways.ensures.stays.sound.thin t)
 
 pub returns-clause-does : goal.returns-clause-does
 returns-clause-does c = does-since c.args.layers.now c.place_ways.new.layers c.args.old.now c.args.new.now c.place_ways.ensures.same c.place_ways.ensures.stays c.place_ways.ensures.gains c.requires.out c.requires.within c.move_placed.new.layers c.in_ok-renamed.renamed c.requires.apart c.in_ok-renamed.ensures.does

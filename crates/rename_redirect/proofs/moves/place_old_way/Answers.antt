@@ -31,11 +31,7 @@ unreachable-requires-in_default-parent_of c =
 
 pub returns-in_err-onto-clause-stays : goal.returns-in_err-onto-clause-stays
 returns-in_err-onto-clause-stays c =
-    let p = c.place_parents.ensures in
-    let p2 = c.place_parents-2.ensures in
-    stays-then c.args.layers.now c.place_parents.new.layers c.place_parents-2.new.layers
-    (record { layers = p.keeps; mounts = p.mounts; thin = p.thin; names = p.names; inodes = p.inodes; holds = p.holds })
-    (record { layers = p2.keeps; mounts = p2.mounts; thin = p2.thin; names = p2.names; inodes = p2.inodes; holds = p2.holds })
+    stays-then c.args.layers.now c.place_parents.new.layers c.place_parents-2.new.layers c.place_parents.ensures.stays c.place_parents-2.ensures.stays
 
 pub returns-in_err-onto-clause-gains : goal.returns-in_err-onto-clause-gains
 returns-in_err-onto-clause-gains c =
@@ -52,11 +48,7 @@ returns-in_err-onto-clause-gains c =
 
 pub returns-clause-stays : goal.returns-clause-stays
 returns-clause-stays c =
-    let p = c.place_parents.ensures in
-    let p2 = c.place_parents-2.ensures in
-    stays-then c.args.layers.now c.place_parents.new.layers c.place_parents-2.new.layers
-    (record { layers = p.keeps; mounts = p.mounts; thin = p.thin; names = p.names; inodes = p.inodes; holds = p.holds })
-    (record { layers = p2.keeps; mounts = p2.mounts; thin = p2.thin; names = p2.names; inodes = p2.inodes; holds = p2.holds })
+    stays-then c.args.layers.now c.place_parents.new.layers c.place_parents-2.new.layers c.place_parents.ensures.stays c.place_parents-2.ensures.stays
 
 pub returns-clause-gains : goal.returns-clause-gains
 returns-clause-gains c =
@@ -74,5 +66,5 @@ returns-clause-gains c =
 pub returns-clause-from : goal.returns-clause-from
 returns-clause-from c =
     let p2 = c.place_parents-2.ensures in
-    stack-kept c.place_parents.new.layers c.place_parents-2.new.layers p2.same p2.holds (parent c.args.old.now) c.in_ok-from.from c.in_ok-from.ensures.upper
+    stack-kept c.place_parents.new.layers c.place_parents-2.new.layers p2.same p2.stays.holds (parent c.args.old.now) c.in_ok-from.from c.in_ok-from.ensures.upper
     (subst (λ x. IsStackOf c.place_parents.new.layers (parent x) c.in_ok-from.from) (sym c.in-Some.ensures) c.in_ok-from.ensures.stack)

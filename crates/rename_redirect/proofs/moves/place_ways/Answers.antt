@@ -28,4 +28,4 @@ pub returns-then-top-eq0-clause-from : goal.returns-then-top-eq0-clause-from
 returns-then-top-eq0-clause-from c =
     let p = c.place_parents.ensures in
     let upper = ap (λ (d : Place). d.layer) (sym c.top-top.ensures) ∙ c.if-top-eq0.true in
-    stack-kept c.args.layers.now c.place_parents.new.layers p.same p.holds (parent c.args.old.now) c.args.directory upper c.requires.directory
+    stack-kept c.args.layers.now c.place_parents.new.layers p.same p.stays.holds (parent c.args.old.now) c.args.directory upper c.requires.directory

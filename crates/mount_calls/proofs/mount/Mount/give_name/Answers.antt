@@ -3,10 +3,13 @@ use Rattle.mount_laws.proofs.Linked.{law_of_link}
 use Rattle.std.proofs.Common.{◌∙◌, refl}
 use Rattle.layer_tree.specs.Tree.{layer_of}
 use Rattle.merged_lookup.specs.Merged.{lowers_of}
-use Rattle.mount_calls.proofs.Changing.{link-done, no-memory, refused}
+use Rattle.mount_calls.proofs.Changing.{link-done}
+use Rattle.mount_calls.proofs.MakingCalls.{makes-done, makes-unmade, makes-unshown}
 use Rattle.mount_calls.proofs.Lasting.{both-live, link-live, link-leaves}
-use Rattle.mount_calls.proofs.Named.{keeps-named, refused-named}
-use Rattle.mount_calls.proofs.Frames.{but-parents, but-same}
+use Rattle.mount_calls.proofs.Named.{keeps-named}
+use Rattle.mount_calls.proofs.Frames.{but-parents}
+use Rattle.mount_calls.specs.Status.{outcome_result}
+use Rattle.mount_calls.proofs.Unlinking.{outcome-err}
 use Rattle.mount_calls.proofs.Keys.{look-seen, named-key}
 use Rattle.mount_calls.proofs.mount.Mount.give_name.Goals as goal
 
@@ -16,46 +19,41 @@ link-requires-clause-from c = look-seen c.args.self.now.layers c.args.old.now c.
 pub link-requires-clause-onto : goal.link-requires-clause-onto
 link-requires-clause-onto c = look-seen c.args.self.now.layers c.args.new.now c.args.onto c.requires.onto
 
-pub returns-in-Ok-clause-serves : goal.returns-in-Ok-clause-serves
-returns-in-Ok-clause-serves c = λ s st client.
+pub returns-in-Ok-clause-key : goal.returns-in-Ok-clause-key
+returns-in-Ok-clause-key c = named-key c.link.new.layers c.args.old.now c.in-Ok.key (rw c.in-Ok.is at c.in_ok-key.ensures.key)
+
+pub returns-in-Ok-clause-makes : goal.returns-in-Ok-clause-makes
+returns-in-Ok-clause-makes c = λ client.
+    let m = c.args.self.now in
+    let p = c.args.old.now in
+    let q = c.args.new.now in
+    let new = c.link.new.layers in
     let allowed = rw c.in-Ok.is at c.in_ok-key.ensures.allowed in
     let linked = rw c.in-Ok.is at c.in_ok-key.ensures.linked in
     let steps = rw c.in-Ok.is at c.in_ok-key.ensures.steps in
-    link-done c.args.self.now s st c.link.new.layers client c.args.old.now c.args.new.now allowed c.link.ensures.lowers (steps s st.layers client)
-    (link-live c.args.self.now.layers c.link.new.layers c.args.old.now c.args.new.now c.link.ensures.lowers linked steps)
-    (link-leaves c.args.old.now c.args.new.now)
+    let live = link-live m.layers new p q c.link.ensures.lowers linked steps in
+    makes-done client (call.Hardlink p q) m new
+    (λ s st. link-done m s st new client p q allowed c.link.ensures.lowers (steps s st.layers client) live (link-leaves p q))
+    (λ s st fine. keeps-named m.layers new (call.Hardlink p q) live s st.layers client)
+    linked.paths c.link.ensures.lowers c.link.ensures.sound.thin
 
-pub returns-in-Err-clause-serves : goal.returns-in-Err-clause-serves
-returns-in-Err-clause-serves c = λ s st client.
-    refused c.args.self.now s st c.link.new.layers client (call.Hardlink c.args.old.now c.args.new.now) c.in-Err.errno
-    (law_of_link (layer_of c.args.self.now.layers.upper) (lowers_of c.args.self.now.layers) s st.layers client c.args.old.now c.args.new.now ∙ (rw c.in-Err.is at c.in_ok-key.ensures.refused))
+pub returns-in-Err-clause-makes : goal.returns-in-Err-clause-makes
+returns-in-Err-clause-makes c = λ client.
+    let m = c.args.self.now in
+    let p = c.args.old.now in
+    let q = c.args.new.now in
+    let new = c.link.new.layers in
+    makes-unmade client (call.Hardlink p q) m new c.in-Err.errno (λ s. refl)
+    (λ s st. law_of_link (layer_of m.layers.upper) (lowers_of m.layers) s st.layers client p q ∙ (rw c.in-Err.is at c.in_ok-key.ensures.refused))
     (rw c.in-Err.is at c.in_ok-key.ensures.unchanged)
 
-pub returns-in_err-key-clause-err : goal.returns-in_err-key-clause-err
-returns-in_err-key-clause-err c =
-    no-memory c.from_residual.result c.args.self.now c.link.new.layers c.in_err-key.ensures.mounts c.link.ensures.lowers
-    (both-live c.args.self.now.layers c.link.new.layers c.args.old.now c.args.new.now c.in_err-key.ensures.parents)
-
-pub returns-in-Ok-clause-named : goal.returns-in-Ok-clause-named
-returns-in-Ok-clause-named c = λ s st client fine.
-    let linked = rw c.in-Ok.is at c.in_ok-key.ensures.linked in
-    let steps = rw c.in-Ok.is at c.in_ok-key.ensures.steps in
-    keeps-named c.args.self.now.layers c.link.new.layers (call.Hardlink c.args.old.now c.args.new.now)
-    (link-live c.args.self.now.layers c.link.new.layers c.args.old.now c.args.new.now c.link.ensures.lowers linked steps) s st.layers client
-
-pub returns-in-Err-clause-named : goal.returns-in-Err-clause-named
-returns-in-Err-clause-named c = λ s st client fine. refused-named c.args.self.now.layers s client (call.Hardlink c.args.old.now c.args.new.now) c.in-Err.errno (record c.args.self.now { layers = c.link.new.layers }) refl (returns-in-Err-clause-serves c s st client) fine
-
-pub returns-in-Ok-clause-layers : goal.returns-in-Ok-clause-layers
-returns-in-Ok-clause-layers c =
-    let linked = rw c.in-Ok.is at c.in_ok-key.ensures.linked in
-    linked.paths
-
-pub returns-in-Err-clause-layers : goal.returns-in-Err-clause-layers
-returns-in-Err-clause-layers c = but-same c.args.self.now.layers c.link.new.layers c.args.old.now c.args.new.now (rw c.in-Err.is at c.in_ok-key.ensures.unchanged)
-
-pub returns-in_err-key-clause-layers : goal.returns-in_err-key-clause-layers
-returns-in_err-key-clause-layers c = but-parents c.args.self.now.layers c.link.new.layers c.args.old.now c.args.new.now c.in_err-key.ensures.parents
-
-pub returns-in-Ok-clause-key : goal.returns-in-Ok-clause-key
-returns-in-Ok-clause-key c = named-key c.link.new.layers c.args.old.now c.in-Ok.key (rw c.in-Ok.is at c.in_ok-key.ensures.key)
+pub returns-in_err-key-clause-makes : goal.returns-in_err-key-clause-makes
+returns-in_err-key-clause-makes c = λ client.
+    let m = c.args.self.now in
+    let p = c.args.old.now in
+    let q = c.args.new.now in
+    let new = c.link.new.layers in
+    let kept = c.in_err-key.ensures.no_memory in
+    makes-unshown client (call.Hardlink p q) m new
+    (outcome_result c.from_residual.result) (outcome-err c.from_residual.result c.from_residual.ensures.0) kept.mount
+    (both-live m.layers new p q kept.beneath) (but-parents m.layers new p q kept.beneath) c.link.ensures.lowers c.link.ensures.sound.thin

@@ -28,11 +28,11 @@ returns-in-Ok-2-clause-makes c = λ client.
     let allowed = rw (c.in-Ok-2.is, same) at c.in_ok-mkdir.ensures.allowed in
     let made = rw (c.in-Ok-2.is, same) at c.in_ok-mkdir.ensures.made in
     let steps = rw (c.in-Ok-2.is, same) at c.in_ok-mkdir.ensures.steps in
-    let live = mkdir-live m.layers new p c.args.mode c.mkdir.ensures.keeps made steps in
+    let live = mkdir-live m.layers new p c.args.mode c.mkdir.ensures.sound.layers made steps in
     makes-done client (call.Mkdir p c.args.mode) m new
     (λ s st. mkdir-done m s st new client p c.args.mode allowed made.lowers (steps s st.layers client) live (mkdir-leaves p c.args.mode))
     (λ s st fine. keeps-named m.layers new (call.Mkdir p c.args.mode) live s st.layers client)
-    (around-others m.layers new p made.others) made.lowers c.mkdir.ensures.thin
+    (around-others m.layers new p made.others) made.lowers c.mkdir.ensures.sound.thin
 
 pub returns-in-Err-2-clause-makes : goal.returns-in-Err-2-clause-makes
 returns-in-Err-2-clause-makes c = λ client.
@@ -49,6 +49,6 @@ returns-in_err-mkdir-clause-makes c = λ client.
     let m = c.args.self.now in
     let p = c.args.path.now in
     let new = c.mkdir.new.layers in
-    let kept = c.in_err-mkdir.ensures in
-    makes-unshown client (call.Mkdir p c.args.mode) m new c.from_residual.result c.from_residual.ensures.0 kept.mounts
-    (parents-live m.layers new p kept.parents) (around-parents m.layers new p kept.parents) kept.parents.lowers c.mkdir.ensures.thin
+    let kept = c.in_err-mkdir.ensures.no_memory in
+    makes-unshown client (call.Mkdir p c.args.mode) m new c.from_residual.result c.from_residual.ensures.0 kept.mount
+    (parents-live m.layers new p kept.beneath) (around-parents m.layers new p kept.beneath) kept.beneath.lowers c.mkdir.ensures.sound.thin

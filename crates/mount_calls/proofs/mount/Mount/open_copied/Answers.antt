@@ -13,14 +13,13 @@ use Rattle.mount_calls.proofs.Named.{open-paths, stays-named}
 use Rattle.mount_calls.proofs.Stating.{the_lowers, the_upper}
 use Rattle.mount_calls.proofs.Frames.{around-same, around-then}
 use Rattle.mount_calls.proofs.Lasting.{parents-live}
+use Rattle.mount_calls.specs.Making.{ServesEach}
+use Rattle.mount_calls.proofs.MakingCalls.{answers-open}
 use Rattle.mount_calls.proofs.mount.Mount.open_copied.Goals as goal
 use Rattle.mount_calls.proofs.mount.Mount.open_copied.Goals.{then-flags+in_ok-resize_file, else-flags}
 
-pub returns-in_err-reserve_file-clause-err : goal.returns-in_err-reserve_file-clause-err
-returns-in_err-reserve_file-clause-err c = on-err c.from_residual.result _ (λ s st. reserved-state c.args.self.now s st c.args.client c.reserve_file.new.self c.reserve_file.ensures.same)
-
-pub returns-in_err-key-clause-err : goal.returns-in_err-key-clause-err
-returns-in_err-key-clause-err c = on-err c.from_residual-in_err-key.result _ (λ s st. wanted-state c.args.self.now s st c.args.client c.reserve_file.new.self c.reserve_file.ensures.same c.bring_up.new.layers c.args.path.now c.in_err-key.ensures.mounts c.in_err-key.ensures.parents)
+pub returns-in_err-reserve_file-clause-no_memory : goal.returns-in_err-reserve_file-clause-no_memory
+returns-in_err-reserve_file-clause-no_memory c = on-err c.from_residual.result _ (record { states = λ s st. reserved-state c.args.self.now s st c.args.client c.reserve_file.new.self c.reserve_file.ensures.same; live = λ t d j live. live })
 
 pub open_reserved-requires-clause-room : goal.open_reserved-requires-clause-room
 open_reserved-requires-clause-room c =
@@ -40,33 +39,6 @@ open_reserved-requires-clause-fresh c = λ k of.
       | else-flags w ↦ rw w.self-is none
     ]
 
-pub returns-clause-serves : goal.returns-clause-serves
-returns-clause-serves c = λ s st.
-    let opens : OpensFile c.if-flags.self.clients c.open_reserved.new.self c.args.client c.args.descriptor (file_at (record { layer = 0; key = c.in_ok-key.key }) c.args.flags) (Ok tt) = rw c.file_at-file.ensures at c.open_reserved.ensures in
-    elim c.if-flags.branch [
-      | then-flags+in_ok-resize_file w ↦
-          rw w.self-is
-          (copied-emptied c.args.self.now s st c.args.client c.reserve_file.new.self c.reserve_file.ensures.same c.args.path.now c.args.flags c.args.mode c.requires.allowed c.requires.writes c.args.place c.requires.shown c.requires.lower c.bring_up.new.layers c.in_ok-key.key c.in_ok-key.ensures.copied
-          c.args.descriptor c.open_reserved.new.self (subst (λ (x : Mount). OpensFile x.clients c.open_reserved.new.self c.args.client c.args.descriptor (file_at (record { layer = 0; key = c.in_ok-key.key }) c.args.flags) (Ok tt)) w.self-is opens)
-          w.if-flags.true w.resize_file.new.layers w.resize_file.ensures.keeps (λ k old is. w.in_ok-resize_file.ensures.sets k old (ap (λ (x : OpenFile). x.source) c.file_at-file.ensures ∙ is)))
-      | else-flags w ↦
-          rw w.self-is
-          (copied-kept c.args.self.now s st c.args.client c.reserve_file.new.self c.reserve_file.ensures.same c.args.path.now c.args.flags c.args.mode c.requires.allowed c.requires.writes c.args.place c.requires.shown c.requires.lower c.bring_up.new.layers c.in_ok-key.key c.in_ok-key.ensures.copied
-          c.args.descriptor c.open_reserved.new.self (subst (λ (x : Mount). OpensFile x.clients c.open_reserved.new.self c.args.client c.args.descriptor (file_at (record { layer = 0; key = c.in_ok-key.key }) c.args.flags) (Ok tt)) w.self-is opens)
-          w.if-flags.false)
-    ]
-
-pub returns-clause-named : goal.returns-clause-named
-returns-clause-named c = λ s st fine.
-    let copied = copied-files c.args.self.now s st c.args.client c.reserve_file.new.self c.reserve_file.ensures.same c.args.path.now c.args.flags c.args.mode c.requires.allowed c.requires.writes c.args.place c.requires.shown c.requires.lower c.bring_up.new.layers c.in_ok-key.key c.in_ok-key.ensures.copied in
-    let files : KeepsFiles c.args.self.now.layers c.if-flags.self.layers = elim c.if-flags.branch [
-      | then-flags+in_ok-resize_file w ↦ rw w.self-is (λ q j f. w.resize_file.ensures.files q j (copied q j f))
-      | else-flags w ↦ rw w.self-is copied
-    ] in
-    stays-named c.args.self.now.layers (record c.if-flags.self { clients = c.open_reserved.new.self }) s c.args.client (call.Open c.args.path.now c.args.flags c.args.mode) (reply.Descriptor c.args.descriptor) (returns-clause-serves c s st) fine
-    (open-paths (the_upper c.args.self.now) (the_lowers c.args.self.now) s st.layers c.args.client c.args.path.now c.args.flags c.args.mode fine (ap is_some c.requires.shown.shown))
-    files
-
 pub returns-in_err-reserve_file-clause-around : goal.returns-in_err-reserve_file-clause-around
 returns-in_err-reserve_file-clause-around c = around-same c.args.self.now.layers c.args.self.now.layers c.args.path.now refl
 
@@ -78,14 +50,48 @@ returns-clause-around c = elim c.if-flags.branch [
   | else-flags w ↦ rw w.self-is c.bring_up.ensures.around
 ]
 
-pub returns-in_err-key-clause-stays_live : goal.returns-in_err-key-clause-stays_live
-returns-in_err-key-clause-stays_live c =
-    on-err c.from_residual-in_err-key.result _
-    (parents-live c.args.self.now.layers c.bring_up.new.layers c.args.path.now c.in_err-key.ensures.parents)
-
 pub returns-clause-thin : goal.returns-clause-thin
 returns-clause-thin c =
     elim c.if-flags.branch [
-      | then-flags+in_ok-resize_file w ↦ rw w.self-is (λ h. w.resize_file.ensures.thin (c.bring_up.ensures.thin h))
-      | else-flags w ↦ rw w.self-is c.bring_up.ensures.thin
+      | then-flags+in_ok-resize_file w ↦ rw w.self-is (λ h. w.resize_file.ensures.sound.thin (c.bring_up.ensures.sound.thin h))
+      | else-flags w ↦ rw w.self-is c.bring_up.ensures.sound.thin
     ]
+
+pub returns-in_err-key-clause-no_memory : goal.returns-in_err-key-clause-no_memory
+returns-in_err-key-clause-no_memory c =
+    let m = c.args.self.now in
+    let p = c.args.path.now in
+    let new = c.bring_up.new.layers in
+    let kept = c.in_err-key.ensures.no_memory in
+    on-err c.from_residual-in_err-key.result _ (record {
+      states = λ s st. wanted-state m s st c.args.client c.reserve_file.new.self c.reserve_file.ensures.same new p kept.mount kept.beneath;
+      live = parents-live m.layers new p kept.beneath;
+    })
+
+pub returns-clause-answers : goal.returns-clause-answers
+returns-clause-answers c =
+    let m = c.args.self.now in
+    let now = record c.if-flags.self { clients = c.open_reserved.new.self } in
+    let asked = call.Open c.args.path.now c.args.flags c.args.mode in
+    let opens : OpensFile c.if-flags.self.clients c.open_reserved.new.self c.args.client c.args.descriptor (file_at (record { layer = 0; key = c.in_ok-key.key }) c.args.flags) (Ok tt) = rw c.file_at-file.ensures at c.open_reserved.ensures in
+    let served : ServesEach c.args.client asked m now (reply.Descriptor c.args.descriptor) = λ s st. elim c.if-flags.branch [
+      | then-flags+in_ok-resize_file w ↦
+          rw w.self-is
+          (copied-emptied c.args.self.now s st c.args.client c.reserve_file.new.self c.reserve_file.ensures.same c.args.path.now c.args.flags c.args.mode c.requires.allowed c.requires.writes c.args.place c.requires.shown c.requires.lower c.bring_up.new.layers c.in_ok-key.key c.in_ok-key.ensures.copied
+          c.args.descriptor c.open_reserved.new.self (subst (λ (x : Mount). OpensFile x.clients c.open_reserved.new.self c.args.client c.args.descriptor (file_at (record { layer = 0; key = c.in_ok-key.key }) c.args.flags) (Ok tt)) w.self-is opens)
+          w.if-flags.true w.resize_file.new.layers w.resize_file.ensures.sound.layers (λ k old is. w.in_ok-resize_file.ensures.sets k old (ap (λ (x : OpenFile). x.source) c.file_at-file.ensures ∙ is)))
+      | else-flags w ↦
+          rw w.self-is
+          (copied-kept c.args.self.now s st c.args.client c.reserve_file.new.self c.reserve_file.ensures.same c.args.path.now c.args.flags c.args.mode c.requires.allowed c.requires.writes c.args.place c.requires.shown c.requires.lower c.bring_up.new.layers c.in_ok-key.key c.in_ok-key.ensures.copied
+          c.args.descriptor c.open_reserved.new.self (subst (λ (x : Mount). OpensFile x.clients c.open_reserved.new.self c.args.client c.args.descriptor (file_at (record { layer = 0; key = c.in_ok-key.key }) c.args.flags) (Ok tt)) w.self-is opens)
+          w.if-flags.false)
+    ] in
+    answers-open c.args.client asked m now c.args.descriptor served (λ s st fine.
+    let copied = copied-files c.args.self.now s st c.args.client c.reserve_file.new.self c.reserve_file.ensures.same c.args.path.now c.args.flags c.args.mode c.requires.allowed c.requires.writes c.args.place c.requires.shown c.requires.lower c.bring_up.new.layers c.in_ok-key.key c.in_ok-key.ensures.copied in
+    let files : KeepsFiles c.args.self.now.layers c.if-flags.self.layers = elim c.if-flags.branch [
+      | then-flags+in_ok-resize_file w ↦ rw w.self-is (λ q j f. w.resize_file.ensures.files q j (copied q j f))
+      | else-flags w ↦ rw w.self-is copied
+    ] in
+    stays-named m.layers now s c.args.client asked (reply.Descriptor c.args.descriptor) (served s st) fine
+    (open-paths (the_upper c.args.self.now) (the_lowers c.args.self.now) s st.layers c.args.client c.args.path.now c.args.flags c.args.mode fine (ap is_some c.requires.shown.shown))
+    files)

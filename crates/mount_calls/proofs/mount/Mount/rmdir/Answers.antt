@@ -36,7 +36,7 @@ returns-after-attributes-3 c = λ client.
     let files = c.lawful.ensures.files in
     let leaves = rmdir-leaves p in
     let around = c.rmdir_and_free.ensures.around in
-    let thin = c.rmdir_and_free.ensures.thin in
+    let thin = c.rmdir_and_free.ensures.sound.thin in
     elim c.match-attributes-3.branch [
       | in-Some w ↦ rw w.self-is (marks-done client (call.Rmdir p) m new w.remove.new.self (attached-removed m.clients w.remove.new.self p w.in-Some.attributes w.remove.ensures)
           (λ s st. rmdir-open m s st new client p allowed bare takes.lowers (steps s st.layers client) files live leaves
@@ -52,7 +52,7 @@ returns-after-attributes-3 c = λ client.
 
 pub returns-in_err-rmdir_and_free : goal.returns-in_err-rmdir_and_free
 returns-in_err-rmdir_and_free c = λ client.
-    let kept = c.in_err-rmdir_and_free.ensures in
+    let kept = c.in_err-rmdir_and_free.ensures.no_memory in
     makes-unshown client (call.Rmdir c.args.path.now) c.args.self.now c.rmdir_and_free.new.layers
-    c.from_residual-in_err-rmdir_and_free.result c.from_residual-in_err-rmdir_and_free.ensures.0 kept.mounts kept.stays
-    c.rmdir_and_free.ensures.around kept.no_memory.lowers c.rmdir_and_free.ensures.thin
+    c.from_residual-in_err-rmdir_and_free.result c.from_residual-in_err-rmdir_and_free.ensures.0 kept.mount kept.beneath
+    c.rmdir_and_free.ensures.around kept.shown.lowers c.rmdir_and_free.ensures.sound.thin

@@ -38,7 +38,7 @@ returns-in-Ok-2-clause-makes c = λ client.
     makes-done client (call.Symlink target p) m new
     (λ s st. symlink-done m s st new client target p allowed made.lowers (steps s st.layers client) live (symlink-leaves target p))
     (λ s st fine. keeps-named m.layers new (call.Symlink target p) live s st.layers client)
-    (around-others m.layers new p made.others) made.lowers c.symlink.ensures.thin
+    (around-others m.layers new p made.others) made.lowers c.symlink.ensures.sound.thin
 
 pub returns-in-Err-2-clause-makes : goal.returns-in-Err-2-clause-makes
 returns-in-Err-2-clause-makes c = λ client.
@@ -56,7 +56,7 @@ returns-in_err-symlink-clause-makes c = λ client.
     let m = c.args.self.now in
     let p = c.args.path.now in
     let new = c.symlink.new.layers in
-    let kept = c.in_err-symlink.ensures in
+    let kept = c.in_err-symlink.ensures.no_memory in
     makes-unshown client (call.Symlink c.args.target.now p) m new
-    c.from_residual-in_err-symlink.result c.from_residual-in_err-symlink.ensures.0 kept.mounts
-    (parents-live m.layers new p kept.parents) (around-parents m.layers new p kept.parents) kept.parents.lowers c.symlink.ensures.thin
+    c.from_residual-in_err-symlink.result c.from_residual-in_err-symlink.ensures.0 kept.mount
+    (parents-live m.layers new p kept.beneath) (around-parents m.layers new p kept.beneath) kept.beneath.lowers c.symlink.ensures.sound.thin
