@@ -1,7 +1,6 @@
 // Two workers with one session each: the worked frames from one client, and a `stat` from the other.
-ghost use Rattle.std.specs.Prelude.{◌≡◌, map};
-ghost use Rattle.once_cell.specs.Once.{cell_name};
-ghost use Rattle.locked_history.specs.Holding.{opening_of};
+ghost use Rattle.std.specs.Prelude.{◌≡◌};
+ghost use Rattle.locked_history.specs.Names.{IsNamed};
 
 use crate::mounts::{NoRule, Silent, blank};
 use crate::peers::{ask, assert_closed, patient};
@@ -76,10 +75,7 @@ where
     F: Callback + Copy + Send + Sync,
     R: Rule + Send + Sync,
     H: Files + Net + Threads + Wait + Eprint + Abort + Sync,
-    requires cells { map cell_name blank.row.items ≡ N.cells }
-    requires name { blank.tokens.name ≡ N.name }
-    requires parts { blank.tokens.parts ≡ N.parts }
-    requires opening { opening_of blank.core ≡ N.opening }
+    requires { IsNamed N.cells N.name N.parts N.opening blank }
 {
     let reports = Reports::new(rt, alloc, false);
     let options = ServeOptions {

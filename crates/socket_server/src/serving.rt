@@ -1,8 +1,8 @@
 // All workers of a server.
-ghost use Rattle.std.specs.Prelude.{◌≡◌, IfOk, map};
-ghost use Rattle.once_cell.specs.Once.{cell_name};
+ghost use Rattle.std.specs.Prelude.{◌≡◌, IfOk};
 ghost use Rattle.locked_history.specs.Entries.{history_of};
-ghost use Rattle.locked_history.specs.Holding.{Legally, opening_of};
+ghost use Rattle.locked_history.specs.Holding.{Legally};
+ghost use Rattle.locked_history.specs.Names.{IsNamed};
 ghost use Rattle.locked_history.specs.Views.{core_past, entries_past};
 
 use crate::reports::Reports;
@@ -97,10 +97,7 @@ where
     F: Callback + Copy + Send + Sync,
     R: Rule + Send + Sync,
     H: Threads + Wait + Eprint + Sync,
-    requires cells { map cell_name blank.row.items ≡ N.cells }
-    requires name { blank.tokens.name ≡ N.name }
-    requires parts { blank.tokens.parts ≡ N.parts }
-    requires opening { opening_of blank.core ≡ N.opening }
+    requires { IsNamed N.cells N.name N.parts N.opening blank }
     ensures legal { IfOk result (λ r. ∥ Legally N.opening (history_of (entries_past r.0))
         (core_past r.0) ∥₁) }
 {
