@@ -1,9 +1,10 @@
 -- Receipts claim what is told, also of two parts together.
 use Rattle.std.proofs.Common.{◌≡◌, ◌∙◌, ℕ, List, [], ◌∷◌, ◌++◌, ap, refl, sym, tt}
 use Rattle.std.proofs.lemmas.List.{append-nil, append_assoc}
-use mathlib.Core.Logic.{∥∥₁_map}
+use mathlib.Core.Logic.{∥∥₁_elim, ∥∥₁_map, ∥∥₁_prop}
 use Rattle.ov_base.specs.declared.call.Call.{Call}
 use Rattle.ov_base.specs.declared.reply.Reply.{Reply}
+use Rattle.ov_frames.specs.declared.answer.Answer.{Answer}
 use Rattle.ov_frames.specs.declared.answer.Answer.TheVariants.{Replied, NotTaken}
 use Rattle.ov_session.specs.declared.exchange.Exchange.{Exchange}
 use Rattle.ov_session.specs.declared.exchange.Exchange.TheVariants.{Called, HeldBack, Departed}
@@ -74,15 +75,16 @@ claimed_more {client} {told} {claims} claim h =
     ∥∥₁_map h (λ t. rw (← append-nil told) (tells_both client told [] claims (claim ∷ []) t tt))
 
 -- one reply more, which a receipt more claims
-pub claimed_call : {client : ℕ} {told : List Exchange} {claims : List Claim} (claim : Claim)
-    (call : Call) (reply : Reply) →
-    Claims claim claim.place client (deed.Called call reply) →
+pub claimed_call : {client next : ℕ} {told : List Exchange} {claims : List Claim} (claim : Claim)
+    (call : Call) (answer : Answer) → next ≡ client →
+    ∥ (reply : Reply) × (answer ≡ Replied claim.place reply)
+    × Claims claim claim.place client (deed.Called call reply) ∥₁ →
     ∥ Tells client told claims ∥₁ →
-    ∥ Tells client (told ++ Called call (Replied claim.place reply) ∷ []) (claims ++ claim ∷ []) ∥₁
-claimed_call {client} {told} {claims} claim call reply c h =
-    ∥∥₁_map h (λ t.
-    tells_both client told (Called call (Replied claim.place reply) ∷ []) claims (claim ∷ []) t
-    ([], ([], claim, refl, c), tt))
+    ∥ Tells next (told ++ Called call answer ∷ []) (claims ++ claim ∷ []) ∥₁
+claimed_call {client} {next} {told} {claims} claim call answer same c h =
+    ∥∥₁_elim c ∥∥₁_prop (λ x. ∥∥₁_map h (λ t.
+    rw (same, x.1) (tells_both client told (Called call (Replied claim.place x.0) ∷ []) claims
+    (claim ∷ []) t ([], ([], claim, refl, x.2), tt))))
 
 -- the detach more, which a receipt more claims
 pub claimed_detach : {client : ℕ} {told : List Exchange} {claims : List Claim} (claim : Claim)
