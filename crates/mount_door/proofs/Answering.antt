@@ -1,11 +1,12 @@
 -- What was told last, and that what was answered goes on so.
-use Rattle.std.proofs.Common.{◌≡◌, ◌∙◌, List, [], ◌∷◌, ◌++◌, Option, Some, None, refl, sym, tt}
-use Rattle.std.specs.Option.{IfSome}
+use Rattle.std.proofs.Common.{◌≡◌, ◌∙◌, List, [], ◌∷◌, ◌++◌, Option, Some, None, ap, refl, tt, unwrap_or}
 use Rattle.ov_frames.specs.declared.answer.Answer.{Answer}
 use Rattle.ov_session.specs.Doors.{IsLastAnswer}
 use Rattle.ov_session.specs.declared.exchange.Exchange.{Exchange}
 use Rattle.ov_session.specs.declared.exchange.Exchange.TheVariants.{Called, HeldBack, Departed}
-use Rattle.mount_door.specs.Telling.{last_answer, last_from}
+use Rattle.locked_history.specs.declared.session.Refused.{Refused}
+use Rattle.locked_history.specs.declared.session.Refused.TheVariants as refused
+use Rattle.mount_door.specs.Telling.{IsRefusal, errno_of, last_answer, last_from}
 
 -- what is told last of two parts is told last of the second
 last_append : (known : Option Answer) (xs ys : List Exchange) →
@@ -22,9 +23,17 @@ last_more xs x = last_append None xs (x ∷ [])
 
 -- the answer that is told last is the last answer
 pub is_last : (told : List Exchange) (answer : Answer) →
-    IfSome (last_answer told) (λ last. last ≡ answer) → IsLastAnswer told answer
-is_last told answer h before call last e = sym (known (last_answer told) h (rw e (last_more before _)))
+    unwrap_or (last_answer told) answer ≡ answer → IsLastAnswer told answer
+is_last told answer h before call last e =
+    known (last_answer told) h (ap last_answer e ∙ last_more before (Called call last))
   where
-    known : (o : Option Answer) → IfSome o (λ x. x ≡ answer) → o ≡ Some last → last ≡ answer
+    known : (o : Option Answer) → unwrap_or o answer ≡ answer → o ≡ Some last → answer ≡ last
     known None h e = cc
-    known (Some x) h e = let same : x ≡ last = cc in sym same ∙ h
+    known (Some x) h e = cc
+
+-- a refusal of a mount is one that a door may answer
+pub is_refusal : (why : Refused) → IsRefusal (errno_of why)
+is_refusal refused.Memory = tt
+is_refusal refused.Full = tt
+is_refusal refused.Session = tt
+is_refusal refused.Stopped = tt

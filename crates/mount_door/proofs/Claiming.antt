@@ -11,7 +11,7 @@ use Rattle.ov_session.specs.declared.exchange.Exchange.TheVariants.{Called, Held
 use Rattle.locked_history.specs.Claims.{Claim}
 use Rattle.locked_history.specs.declared.entry.Deed.{Deed}
 use Rattle.locked_history.specs.declared.entry.Deed.TheVariants as deed
-use Rattle.mount_door.specs.Telling.{Claims, IsClaimedBy, Tells}
+use Rattle.mount_door.specs.Telling.{Claims, IsClaimedBy, IsToldBy, Tells}
 
 -- more receipts stand before or behind those that claim it
 behind : (place client : ℕ) (did : Deed) (more claims rest : List Claim) →
@@ -77,8 +77,7 @@ claimed_more {client} {told} {claims} claim h =
 -- one reply more, which a receipt more claims
 pub claimed_call : {client next : ℕ} {told : List Exchange} {claims : List Claim} (claim : Claim)
     (call : Call) (answer : Answer) → next ≡ client →
-    ∥ (reply : Reply) × (answer ≡ Replied claim.place reply)
-    × Claims claim claim.place client (deed.Called call reply) ∥₁ →
+    IsToldBy claim client call answer →
     ∥ Tells client told claims ∥₁ →
     ∥ Tells next (told ++ Called call answer ∷ []) (claims ++ claim ∷ []) ∥₁
 claimed_call {client} {next} {told} {claims} claim call answer same c h =

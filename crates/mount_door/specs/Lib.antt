@@ -1,4 +1,3 @@
 pub mod Exchanges
 pub mod Telling
-pub mod Sessions
 pub mod Joining

@@ -1,11 +1,11 @@
 // One client's way through the door.
-ghost use Rattle.std.specs.Prelude.{◌≡◌, ◌+◌, ◌<◌, ◌++◌, ◌∷◌, [], IfSome, OnOk};
+ghost use Rattle.std.specs.Prelude.{◌≡◌, ◌+◌, ◌<◌, ◌++◌, ◌∷◌, [], OnOk, unwrap_or};
 ghost use Rattle.std.specs.Vec.{vec_capacity, vec_len};
 ghost use Rattle.ov_frames.specs.declared.answer.Answer.TheVariants.{Replied, NotTaken};
 ghost use Rattle.ov_base.specs.declared.reply.Reply.TheVariants.{Done};
 ghost use Rattle.ov_session.specs.declared.exchange.Exchange.TheVariants.{Called, Departed, HeldBack};
 ghost use Rattle.locked_history.specs.declared.entry.Deed.TheVariants as deed;
-ghost use Rattle.mount_door.specs.Telling.{Claims, Tells, last_answer};
+ghost use Rattle.mount_door.specs.Telling.{Claims, IsToldBy, Tells, last_answer};
 
 use crate::told::Told;
 use locked_history::{MountName, Receipt, Session};
@@ -27,12 +27,10 @@ pub struct MountSession<N: MountName, F: Callback, R: Rule> {
     hooks: Option<Vec<Hook<F, R>>>,
     calls: u64,
     ghost claimed: { ∥ Tells session.client told receipts.items ∥₁ },
-    ghost last: { IfSome (last_answer told) (λ last. last ≡ answer) },
+    ghost last: { unwrap_or (last_answer told) answer ≡ answer },
 }
 
 impl<N: MountName, F: Callback + Drop, R: Rule> MountSession<N, F, R> {
-    ghost use Rattle.mount_door.specs.Sessions.{Keeps};
-
     /// A session in which nothing was asked yet, of a client that was just attached. Its receipts go
     /// behind these, which have memory for one more.
     pub fn new(session: Session, receipts: Vec<Receipt<N>>) -> MountSession<N, F, R>
@@ -82,14 +80,15 @@ impl<N: MountName, F: Callback + Drop, R: Rule> MountSession<N, F, R> {
 
     // The answer to the last call that was told.
     pub(crate) fn answer(&self) -> &Answer
-        ensures { IfSome (last_answer self.now.told) (λ last. last ≡ result.now) }
+        ensures { unwrap_or (last_answer self.now.told) result.now ≡ result.now }
     {
         &self.answer
     }
 
     // Makes memory for two receipts; where there is none, what there was is kept.
     pub(crate) fn reserve(&mut self) -> Result<(), AllocError>
-        ensures keeps { Keeps self.old self.new }
+        ensures session { self.new.session ≡ self.old.session }
+        ensures receipts { self.new.receipts.items ≡ self.old.receipts.items }
         ensures told { self.new.told ≡ self.old.told }
         ensures two { OnOk result (
             vec_len self.new.receipts + 1 < vec_capacity self.new.receipts) }
@@ -115,7 +114,8 @@ impl<N: MountName, F: Callback + Drop, R: Rule> MountSession<N, F, R> {
 
     // Tells a call that was refused its place, and why.
     pub(crate) fn refuse(&mut self, call: Snapshot<Call>, errno: Errno)
-        ensures keeps { Keeps self.old self.new }
+        ensures session { self.new.session ≡ self.old.session }
+        ensures receipts { self.new.receipts.items ≡ self.old.receipts.items }
         ensures told { self.new.told
             ≡ self.old.told ++ Called call.value (NotTaken errno) ∷ [] }
         ensures room { self.new.receipts ≡ self.old.receipts }
@@ -137,8 +137,7 @@ impl<N: MountName, F: Callback + Drop, R: Rule> MountSession<N, F, R> {
     )
         requires room { vec_len self.old.receipts + 1 < vec_capacity self.old.receipts }
         requires client { next.client ≡ self.old.session.client }
-        requires claims { ∥ (reply : _) × (answer ≡ Replied receipt.place reply)
-            × Claims receipt receipt.place self.old.session.client (deed.Called call.value reply) ∥₁ }
+        requires claims { IsToldBy receipt self.old.session.client call.value answer }
         ensures session { self.new.session ≡ next }
         ensures told { self.new.told
             ≡ self.old.told ++ Called call.value answer ∷ [] }
@@ -153,7 +152,8 @@ impl<N: MountName, F: Callback + Drop, R: Rule> MountSession<N, F, R> {
 
     // Tells a call that was held back.
     pub(crate) fn hold_back(&mut self, call: Snapshot<Call>)
-        ensures keeps { Keeps self.old self.new }
+        ensures session { self.new.session ≡ self.old.session }
+        ensures receipts { self.new.receipts.items ≡ self.old.receipts.items }
         ensures told { self.new.told
             ≡ self.old.told ++ HeldBack call.value ∷ [] }
         ensures room { self.new.receipts ≡ self.old.receipts }

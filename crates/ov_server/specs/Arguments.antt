@@ -1,9 +1,11 @@
 -- The command line of the program, and what its words ask for.
-use Rattle.std.specs.Prelude.{◌≡◌, ℕ, List, [], ◌∷◌, Some, true, false, codes, drop, ◌⊎◌}
+use Rattle.std.specs.Prelude.{◌≡◌, ℕ, Bool, List, [], ◌∷◌, Option, Some, None, Ok, true, false}
+use Rattle.std.specs.Prelude.{IfSome, codes, drop, ◌⊎◌}
+use Rattle.std.specs.Str.Parse.{ParsesUnsigned}
 use Rattle.clap.specs.Simple.{App, new_app, new_rule, on_top, subcommand_of, subcommand_rows_of, with_rule, with_subcommand}
 use Rattle.clap.specs.Takes.{takes}
 use Rattle.clap.specs.Values.{kind_of}
-use Rattle.clap.specs.Walk.{Row, Rule, first_of}
+use Rattle.clap.specs.Walk.{Row, Rule, first_of, one_of}
 use Rattle.clap.specs.declared.error.Error.{Error}
 use Rattle.clap.specs.declared.error.kind.ErrorKind.TheVariants as kind
 use Rattle.clap.specs.declared.parser.matches.ArgMatches.{ArgMatches}
@@ -80,17 +82,46 @@ manifest_named (Show manifest) = manifest.now
 manifest_named (Play manifest) = manifest.now
 manifest_named (Serve manifest socket workers sessions verbose) = manifest.now
 
+-- the text is this number in decimal
+abbrev pub Spells : Option (List ℕ) → ℕ → Type 0
+Spells text n = (digits : List ℕ) × (text ≡ Some digits) × ParsesUnsigned 64 10 digits (Ok n)
+
+-- what a parse of `serve` says: the socket, the numbers of workers and of sessions, and whether what
+-- is served is told
+pub record AsksServe (rows : List Row) (socket : List ℕ) (workers : ℕ) (sessions : Option ℕ)
+    (verbose : Bool) : Type 0 where
+  pub socket_named : first_of (codes "SOCKET") rows ≡ Some socket
+  pub workers_told : Spells (one_of (codes "workers") rows) workers
+  pub sessions_told : IfSome sessions (Spells (one_of (codes "sessions") rows))
+  pub endless : one_of (codes "sessions") rows ≡ None → sessions ≡ None
+  pub loud : one_of (codes "verbose") rows ≡ Some (codes "true") → verbose ≡ true
+  pub silent : one_of (codes "verbose") rows ≡ Some (codes "false") → verbose ≡ false
+
+-- what a parse says beside the manifest
+abbrev pub AsksMore : List Row → Invocation → Type 0
+AsksMore rows (Serve manifest socket workers sessions verbose) =
+    AsksServe rows socket.now workers sessions verbose
+AsksMore rows _ = Unit {0}
+
+-- it asks to serve this manifest
+abbrev pub IsServing : List Row → List ℕ → Invocation → Type 0
+IsServing rows named (Serve manifest socket workers sessions verbose) =
+    (manifest.now ≡ named) × AsksServe rows socket.now workers sessions verbose
+IsServing rows named _ = ⊥
+
 -- a parse met the subcommand of this name, whose argument names this manifest
 pub record Names (matches : ArgMatches) (asked : Invocation) : Type 0 where
   pub rows : List Row
   pub subcommand : subcommand_rows_of matches ≡ Some (name_of asked, rows)
   pub manifest : first_of (codes "MANIFEST") rows ≡ Some (manifest_named asked)
+  pub more : AsksMore rows asked
 
 -- the words name the subcommand, and its argument names this manifest
 pub record IsAskedBy (words : List (List ℕ)) (asked : Invocation) : Type 0 where
   pub rows : List Row
   pub subcommand : subcommand_of overlayd_app words ≡ Some (name_of asked, rows)
   pub manifest : first_of (codes "MANIFEST") rows ≡ Some (manifest_named asked)
+  pub more : AsksMore rows asked
 
 -- one word follows the program's name, and it is this one
 abbrev pub IsLoneWord : List ℕ → List (List ℕ) → Type 0

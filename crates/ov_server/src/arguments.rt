@@ -3,9 +3,10 @@ ghost use Rattle.std.specs.Prelude.{◌≡◌, false, codes, [], ◌∷◌, IfEr
 ghost use Rattle.clap.specs.Faults.{fault_of};
 ghost use Rattle.clap.specs.Kinds.{FailsBy};
 ghost use Rattle.clap.specs.Simple.{app_of};
-ghost use Rattle.clap.specs.Walk.{rule_of};
+ghost use Rattle.clap.specs.Matches.{found_of};
+ghost use Rattle.clap.specs.Walk.{rows_of, rule_of};
 ghost use Rattle.clap.specs.declared.builder.command.Command.TheViews.{out-Command};
-ghost use Rattle.ov_server.specs.Arguments.{IsAskedBy, IsLoneWord, IsRefusedBy, Names};
+ghost use Rattle.ov_server.specs.Arguments.{IsAskedBy, IsLoneWord, IsRefusedBy, IsServing, Names};
 ghost use Rattle.ov_server.specs.Arguments.{app_named, manifest_rule, overlayd_app, serve_app};
 ghost use Rattle.ov_server.specs.Arguments.{sessions_rule, socket_rule, verbose_rule, workers_rule};
 
@@ -166,14 +167,24 @@ fn invocation_of<'a>(matches: &ArgMatches<'a>) -> Option<Invocation<'a>>
     } else if name == "play" {
         Some(Invocation::Play { manifest })
     } else if name == "serve" {
-        Some(Invocation::Serve {
-            manifest,
-            socket: inner.get_str("SOCKET")?,
-            workers: inner.get_one("workers")?,
-            sessions: inner.get_one("sessions"),
-            verbose: inner.get_flag("verbose"),
-        })
+        serving_of(manifest, inner)
     } else {
         None
     }
+}
+
+fn serving_of<'a>(manifest: &'a str, matches: &ArgMatches<'a>) -> Option<Invocation<'a>>
+    ensures { IfSome result (IsServing (rows_of (found_of matches.now)) manifest.entry.now) }
+{
+    let socket = matches.get_str("SOCKET")?;
+    let workers = matches.get_one("workers")?;
+    let sessions = matches.get_one("sessions");
+    let verbose = matches.get_flag("verbose");
+    Some(Invocation::Serve {
+        manifest,
+        socket,
+        workers,
+        sessions,
+        verbose,
+    })
 }
