@@ -1,5 +1,5 @@
 -- What was told last, and that what was answered goes on so.
-use Rattle.std.proofs.Common.{◌≡◌, ◌∙◌, List, [], ◌∷◌, ◌++◌, Option, Some, None, ap, refl, tt, unwrap_or}
+use Rattle.std.proofs.Common.{◌≡◌, ◌∙◌, List, [], ◌∷◌, ◌++◌, Option, Some, None, ap, refl, unwrap_or}
 use Rattle.ov_frames.specs.declared.answer.Answer.{Answer}
 use Rattle.ov_session.specs.Doors.{IsLastAnswer}
 use Rattle.ov_session.specs.declared.exchange.Exchange.{Exchange}
