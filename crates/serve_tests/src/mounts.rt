@@ -1,4 +1,4 @@
-// Blank mounts of two empty layers.
+// Blank mounts.
 use locked_history::Blank;
 use ov_base::{Event, Notice};
 use ov_wire::manifest_of;
@@ -6,9 +6,7 @@ use overlay_core::Core;
 use std::alloc::Global;
 use std::hash::RandomState;
 use std::test::Fail;
-use watch_table::{AnyAnswer, Callback, Rule};
-
-const EMPTY: &str = "layer = [{}, {}]";
+use watch_table::{Callback, Rule};
 
 /// A callback that no client has.
 #[derive(Clone, Copy)]
@@ -24,20 +22,15 @@ impl Callback for Silent {
     }
 }
 
-/// The rule of hooks that there are none of.
-pub type NoRule = AnyAnswer;
-
-/// A mount of two empty layers.
-pub fn blank<F: Callback + Copy, H: Rule>(
+/// A mount of a manifest's layers, without a name.
+pub fn blank_of<F: Callback + Drop, H: Rule>(
     alloc: Global,
     keys: RandomState,
+    manifest: &str,
 ) -> Result<Blank<F, H>, Fail> {
-    let (upper, lowers, options) = manifest_of(alloc, keys, EMPTY.as_bytes())?;
-    let Ok(core) = Core::mount(alloc, keys, upper, lowers, options)? else {
-        return Err(Fail::from("no mount"));
-    };
-    match Blank::new(alloc, core) {
-        Ok(blank) => Ok(blank),
-        Err(_) => Err(Fail::from("out of memory")),
+    let (upper, lowers, options) = manifest_of(alloc, keys, manifest.as_bytes())?;
+    match Core::mount(alloc, keys, upper, lowers, options)? {
+        Ok(core) => Blank::new(alloc, core).map_err(|_| Fail::from("out of memory")),
+        Err(_) => Err(Fail::from("no mount")),
     }
 }

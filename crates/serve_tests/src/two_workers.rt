@@ -2,7 +2,7 @@
 ghost use Rattle.std.specs.Prelude.{◌≡◌};
 ghost use Rattle.locked_history.specs.Names.{IsNamed};
 
-use crate::mounts::{NoRule, Silent, blank};
+use crate::mounts::{Silent, blank_of};
 use crate::peers::{ask, assert_closed, patient};
 use locked_history::{Blank, MountName};
 use socket_server::{Reports, ServeOptions, serve_blank};
@@ -19,7 +19,9 @@ use std::sync::Wait;
 use std::test::Fail;
 use std::thread::{Threads, join};
 use std::{env, fs};
-use watch_table::{Callback, Rule};
+use watch_table::{AnyAnswer, Callback, Rule};
+
+const EMPTY: &str = "layer = [{}, {}]";
 
 /// `stat /`, `mkdir 755 /a`, `stat /x` and `stat x`, each with its reply to the first client of a
 /// mount.
@@ -116,6 +118,6 @@ fn two_workers_serve_two_clients(rt: HostRuntime) -> Result<(), Fail> {
     let folder = env::temp_dir(&rt)?;
     let number = std::process::id(rt.process());
     let path = format!(in alloc; "{}/overlayd-{number}.socket", folder.display())?;
-    let blank = blank::<Silent, NoRule>(alloc, RandomState::new(&rt)?)?;
+    let blank = blank_of::<Silent, AnyAnswer>(alloc, RandomState::new(&rt)?, EMPTY)?;
     served_named(&rt, alloc, path.as_str(), blank)
 }
