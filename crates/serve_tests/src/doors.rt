@@ -75,7 +75,7 @@ fn attached<N: MountName, F: Callback + Drop, R: Rule, H: Wait>(
 }
 
 // Runs a session of an attached client that sends these bytes.
-fn left<N: MountName, F: Callback + Drop, R: Rule, G: Gate, H: Wait>(
+fn session_left<N: MountName, F: Callback + Drop, R: Rule, G: Gate, H: Wait>(
     rt: &H,
     alloc: Global,
     mount: &Mount<N, F, R>,
@@ -119,7 +119,7 @@ fn stops<N: MountName, F: Callback + Drop, R: Rule, H: Wait + Abort>(
 {
     let mount = Mount::<N, F, R>::open(blank);
     let client = attached(rt, alloc, &mount)?;
-    let left = left(rt, alloc, &mount, &Shut, client, STAT_ABSENT)?;
+    let left = session_left(rt, alloc, &mount, &Shut, client, STAT_ABSENT)?;
     assert_eq!(rt; left.ending, Ending::Stopped);
     assert!(rt; left.written.is_empty() && left.detached);
     let (past, past_end) = mount.finish(left.receipts);
@@ -140,7 +140,7 @@ fn fills<N: MountName, F: Callback + Drop, R: Rule, H: Wait + Abort>(
     let client = attached(rt, alloc, &mount)?;
     let asked = joined(alloc, &[STAT_ABSENT, STAT_ABSENT, DETACH])?;
     let wanted = joined(alloc, &[ABSENT_AT_1, FULL, DETACHED_AT_2])?;
-    let left = left(rt, alloc, &mount, &Open, client, asked.as_slice())?;
+    let left = session_left(rt, alloc, &mount, &Open, client, asked.as_slice())?;
     assert_eq!(rt; left.ending, Ending::Detached);
     assert!(rt; left.written.as_slice() == wanted.as_slice() && left.detached);
     let (past, past_end) = mount.finish(left.receipts);
@@ -162,7 +162,7 @@ fn is_not_its_session<N: MountName, F: Callback + Drop, R: Rule, H: Wait + Abort
     assert!(rt; mount.detach(rt, client.0).is_ok());
     let asked = joined(alloc, &[STAT_ABSENT, DETACH])?;
     let wanted = joined(alloc, &[NOT_ITS_SESSION, NOT_ITS_SESSION])?;
-    let left = left(rt, alloc, &mount, &Open, client, asked.as_slice())?;
+    let left = session_left(rt, alloc, &mount, &Open, client, asked.as_slice())?;
     assert_eq!(rt; left.ending, Ending::Detached);
     assert!(rt; left.written.as_slice() == wanted.as_slice() && !left.detached);
     let (past, past_end) = mount.finish(left.receipts);
