@@ -1,0 +1,5 @@
+pub mod Beginning
+pub mod Numbering
+pub mod Boxes
+pub mod Growing
+pub mod Standing

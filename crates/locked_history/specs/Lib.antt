@@ -1,0 +1,5 @@
+pub mod Entries
+pub mod Claims
+pub mod Holding
+pub mod Steps
+pub mod Views

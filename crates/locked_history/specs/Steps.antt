@@ -1,0 +1,41 @@
+-- When a guarded step is made, and why it is not.
+use Rattle.std.specs.Prelude.{◌≡◌, ℕ, suc, ◌<◌, true, List, Option, None, Some, count_by}
+use Rattle.plain_model.specs.Runs.{is_of}
+use Rattle.ov_base.specs.declared.call.Call.{Call}
+use Rattle.overlay_core.specs.Views.{core_room, has_client}
+use Rattle.overlay_core.specs.declared.job.Standing.TheVariants.{Open}
+use Rattle.overlay_core.specs.declared.mounted.Core.{Core}
+use Rattle.watch_table.specs.declared.hook.Callback.{Ghosts as Callback}
+use Rattle.watch_table.specs.declared.hook.Rule.{Ghosts as Rule}
+use Rattle.locked_history.specs.declared.entry.Entry.{Entry}
+use Rattle.locked_history.specs.declared.locked.Pending.{Pending}
+use Rattle.locked_history.specs.declared.locked.Pending.TheVariants.{More, Refused}
+use Rattle.locked_history.specs.declared.session.Refused.{Refused as Why}
+use Rattle.locked_history.specs.declared.session.Refused.TheVariants.{Memory, Full, Session, Stopped}
+use Rattle.locked_history.specs.Entries.{history_of}
+
+-- a call that goes on is the same call of the same client, and still open
+abbrev pub IsStill : Pending → ℕ → Call → Type 0
+IsStill (More job room) c call = (job.client ≡ c) × (job.call ≡ call) × (job.standing ≡ Open)
+IsStill (Refused why) c call = Unit {0}
+
+module _ {F G : Type 0} {asks : Callback F} {rule : Rule G} (es : List Entry) (core : Core F G asks rule) where
+  -- the client is attached, and this is the number of its next entry
+  abbrev pub IsDue : ℕ → ℕ → Type 0
+  IsDue c n = (has_client core c ≡ true) × (n ≡ suc (count_by (is_of c) (history_of es)))
+
+  -- the history has a place that no client's detach needs
+  abbrev pub HasPlace : Type 0
+  HasPlace = 0 < core_room core
+
+  -- why a step is refused: the session isn't due; it is, and there is no place; or memory ran out
+  abbrev pub IsCause : Why → ℕ → ℕ → Type 0
+  IsCause Session c n = IsDue c n → ⊥
+  IsCause Full c n = IsDue c n × (HasPlace → ⊥)
+  IsCause Memory c n = IsDue c n × HasPlace
+  IsCause Stopped c n = ⊥
+
+  -- a step that isn't the call's last, or is refused
+  abbrev pub IsPendingWhere : Pending → ℕ → ℕ → Type 0
+  IsPendingWhere (More job room) c n = IsDue c n × HasPlace
+  IsPendingWhere (Refused why) c n = IsCause why c n
