@@ -1,9 +1,8 @@
 -- A history that grows by one entry.
-use Rattle.std.proofs.Common.{arith, ◌≡◌, ◌≢◌, ◌∙◌, ℕ, zero, suc, ◌+◌, ◌<◌, ◌≤◌, Bool, true, false, cond, List, [], ◌∷◌, ◌++◌, Option, Some, refl, sym, ap, subst, map, get_or, length, take}
+use Rattle.std.proofs.Common.{arith, ◌≡◌, ◌∙◌, ℕ, zero, suc, ◌+◌, ◌<◌, ◌≤◌, Bool, true, false, List, [], ◌∷◌, ◌++◌, refl, sym, ap, subst, map, get_or, length, take}
 use mathlib.Core.Logic.{∥∥₁_elim, ∥∥₁_map, ∥∥₁_prop}
 use base.Stored.{Coded-set, coded_ℕ}
 use Rattle.std.specs.Prelude.{count_by, slice_index}
-use Rattle.std.proofs.lemmas.Bool.{eq-eqb}
 use Rattle.std.proofs.lemmas.List.{map-append, take_more}
 use Rattle.std.proofs.lemmas.List.Sums.{length-filter}
 use Rattle.plain_model.specs.Machine.{opening}
@@ -18,7 +17,11 @@ use Rattle.overlay_core.specs.declared.mounted.Core.{Core}
 use Rattle.watch_table.specs.declared.hook.Callback.{Ghosts as Callback}
 use Rattle.watch_table.specs.declared.hook.Rule.{Ghosts as Rule}
 use Rattle.locked_history.specs.declared.entry.Entry.{Entry as Kept}
-use Rattle.locked_history.specs.Entries.{entry_of, history_of}
+use Rattle.locked_history.specs.declared.locked.Locked.{Locked}
+use Rattle.locked_history.specs.declared.mount_name.MountName.{Ghosts as MountName}
+use Rattle.locked_history.specs.Claims.{Claim}
+use Rattle.locked_history.specs.Entries.{entry_of, history_of, told}
+use Rattle.locked_history.specs.Views.{Appends, core_in, entries_in}
 use Rattle.locked_history.specs.Holding.{IsNumber, Legally, Numbers, Opening}
 
 -- the number of an attached client's next entry
@@ -35,6 +38,20 @@ read_at (y ∷ ys) (suc i) x lt at = read_at ys i x (omega arith) at
 pub thin_same : {old new : Layers} → new ≡ old → StaysThin old new
 thin_same same h = rw same h
 
+not_true : false ≡ true → ⊥
+not_true q = cc
+
+one_is_first : {a b : ℕ} → a ≡ 1 → a ≡ suc b → 0 < b → ⊥
+one_is_first p q r = omega arith
+
+-- a call or a detach of the next number is a client's next entry
+next_of : (es : List Entry) (c n : ℕ) (deed : Deed) → is_attach deed ≡ false → IsNumber es c n → IsNext es (record { client = c; number = n; deed = deed })
+next_of es c n deed calls h = record {
+  numbered = h.number;
+  attach_first = (λ q. absurd (not_true (sym calls ∙ q)), λ q. absurd (one_is_first q h.number h.some));
+  not_left = h.not_left;
+}
+
 module _ {F G : Type 0} {asks : Callback F} {rule : Rule G} {o : Opening} {es : List Entry} (old new : Core F G asks rule) where
   -- what leaves each state that agrees leaves the history legal
   pub legal_stays : ∥ Legally o es old ∥₁ → CoreStays old new → StaysThin (core_layers old) (core_layers new) → ∥ Legally o es new ∥₁
@@ -47,23 +64,9 @@ module _ {F G : Type 0} {asks : Callback F} {rule : Rule G} {o : Opening} {es : 
       let e : Entry = record { client = c; number = number; deed = deed } in
       record { tree = x.tree; merge = x.merge; last = t.0; legal = legal-push rule.shows (opening x.tree o.options) es x.last e t.0 x.legal t.1 next; agrees = t.2; thin = λ w. thin (x.thin w) })
 
-  not_true : false ≡ true → ⊥
-  not_true q = cc
-
-  one_is_first : {a b : ℕ} → a ≡ 1 → a ≡ suc b → 0 < b → ⊥
-  one_is_first p q r = omega arith
-
-  -- a call or a detach of the next number is a client's next entry
-  next_of : (c n : ℕ) (deed : Deed) → is_attach deed ≡ false → IsNumber es c n → IsNext es (record { client = c; number = n; deed = deed })
-  next_of c n deed calls h = record {
-    numbered = h.number;
-    attach_first = (λ q. absurd (not_true (sym calls ∙ q)), λ q. absurd (one_is_first q h.number h.some));
-    not_left = h.not_left;
-  }
-
   -- a call or a detach makes it longer by the number that is due
   pub legal_due : {next : List ℕ} (c number : ℕ) (deed : Deed) → ∥ Legally o es old ∥₁ → ∥ Numbers es next (core_clients old) ∥₁ → has_client old c ≡ true → slice_index next c ≡ number → is_attach deed ≡ false → CoreGoes old c deed new → StaysThin (core_layers old) (core_layers new) → ∥ Legally o (es ++ (record { client = c; number = number; deed = deed }) ∷ []) new ∥₁
-  legal_due c number deed h numbers att same calls goes thin = ∥∥₁_elim numbers ∥∥₁_prop (λ n. legal_goes c number deed h (next_of c number deed calls (subst (IsNumber es c) same (n.number c att))) goes thin)
+  legal_due c number deed h numbers att same calls goes thin = ∥∥₁_elim numbers ∥∥₁_prop (λ n. legal_goes c number deed h (next_of es c number deed calls (subst (IsNumber es c) same (n.number c att))) goes thin)
 
   -- an attach makes it longer by the first entry of a new client
   pub legal_attach : {next : List ℕ} (c : ℕ) (tags : List ℕ) → ∥ Legally o es old ∥₁ → ∥ Numbers es next (core_clients old) ∥₁ → c ≡ next_client old → CoreGoes old c (Attached tags) new → StaysThin (core_layers old) (core_layers new) → ∥ Legally o (es ++ (record { client = c; number = 1; deed = Attached tags }) ∷ []) new ∥₁
@@ -95,3 +98,9 @@ pub known_push : {A : Type 0} (known : A → Bool) (xs ys : List A) → map know
 known_push {A} known xs ys is all =
     let e : map known ys ≡ map (λ (x : A). true) xs ++ true ∷ [] = is ∙ ap (λ l. l ++ true ∷ []) all in
     e ∙ (sym (trues xs) ∙ (ap (map (λ (b : Bool). true)) (sym e) ∙ flat known ys))
+
+-- ---- a step that makes the history longer
+
+-- it appends the entry that its receipt claims
+pub appends : {N F G : Type 0} {name : MountName N} {asks : Callback F} {rule : Rule G} (old : Locked N F G name asks rule) {new : Locked N F G name asks rule} (made : Claim) (entry : Kept) (place : ℕ) → made ≡ record { place = place; entry = entry; counted = true } → entries_in new ≡ entries_in old ++ entry ∷ [] → place ≡ length (entries_in old) → CoreGoes (core_in old) entry.client (told entry.deed) (core_in new) → Appends old made new
+appends old {new} made entry place is longer last goes = subst (λ (c : Claim). Appends old c new) (sym is) (record { entries = longer; place = last; counted = refl; goes = goes })

@@ -3,3 +3,4 @@ pub mod Claims
 pub mod Holding
 pub mod Steps
 pub mod Views
+pub mod Names

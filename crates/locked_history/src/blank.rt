@@ -31,11 +31,13 @@ pub struct Blank<F: Callback, R: Rule> {
 }
 
 impl<F: Callback, R: Rule> Blank<F, R> {
+    ghost use Rattle.locked_history.specs.Names.{blank_core};
+
     /// Makes the row, the ledger and the room for the history of a core on which nothing was done.
     /// The core is handed back where memory runs out.
     pub fn new(alloc: Global, core: Core<F, R>) -> Result<Blank<F, R>, Core<F, R>>
         requires { core_finished core ≡ 0 }
-        ensures { MatchResult result (λ blank. blank.core ≡ core) (λ back. back ≡ core) }
+        ensures { MatchResult result (λ blank. blank_core blank ≡ core) (λ back. back ≡ core) }
     {
         let places = core.history() as usize;
         let Ok(row) = empty_row(alloc, places) else {

@@ -3,7 +3,7 @@ ghost use Rattle.std.specs.Prelude.{◌≡◌, ◌+◌, ◌<◌, ◌≤◌, ◌�
 ghost use Rattle.once_cell.specs.Once.{cell_name};
 ghost use Rattle.locked_history.specs.Claims.{StandsIn, is_past_end, uncounted};
 ghost use Rattle.locked_history.specs.Entries.{history_of};
-ghost use Rattle.locked_history.specs.Holding.{Legally, opening_of};
+ghost use Rattle.locked_history.specs.Holding.{Legally};
 
 use crate::blank::Blank;
 use crate::entry::{Deed, Entry};
@@ -33,14 +33,12 @@ pub struct Mount<N: MountName, F: Callback, R: Rule> {
 
 impl<N: MountName, F: Callback, R: Rule> Mount<N, F, R> {
     ghost use Rattle.locked_history.specs.Claims.{IsAttachOf, IsCallOf, IsDetachOf};
+    ghost use Rattle.locked_history.specs.Names.{IsNamed};
 
     /// Opens a blank under its name. It is called in a function that is generic in the name, which
     /// a program or a test calls with `std::marker::Brand`.
     pub fn open(blank: Blank<F, R>) -> Mount<N, F, R>
-        requires cells { map cell_name blank.row.items ≡ N.cells }
-        requires name { blank.tokens.name ≡ N.name }
-        requires parts { blank.tokens.parts ≡ N.parts }
-        requires opening { opening_of blank.core ≡ N.opening }
+        requires { IsNamed N.cells N.name N.parts N.opening blank }
     {
         let Blank {
             alloc,
