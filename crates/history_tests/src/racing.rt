@@ -32,7 +32,11 @@ fn works<N: MountName, F: Callback + Drop, R: Rule, H: Wait>(
     let mut receipts = Vec::new(alloc);
     let (mut session, came) = mount.attach(rt, Vec::new(alloc)).map_err(|_| "attach")?;
     receipts.push(came)?;
-    let calls = [mkdir(alloc, "/d")?, stat(alloc, "/d")?, unlink(alloc, "/f")?];
+    let calls = [
+        mkdir(alloc, "/d")?,
+        stat(alloc, "/d")?,
+        unlink(alloc, "/f")?,
+    ];
     for call in calls {
         let made = mount.call(rt, &mut session, call, &Open);
         receipts.push(made.map_err(|_| "call")?)?;
@@ -82,11 +86,11 @@ fn races<
     Ok(())
 }
 
-fn named_races<
-    F: Callback + Drop + Send,
-    R: Rule + Send,
-    H: Threads + Wait + Abort + Sync,
->(rt: &H, alloc: Global, keys: RandomState) -> Result<(), Fail> {
+fn named_races<F: Callback + Drop + Send, R: Rule + Send, H: Threads + Wait + Abort + Sync>(
+    rt: &H,
+    alloc: Global,
+    keys: RandomState,
+) -> Result<(), Fail> {
     let blank: Blank<F, R> = blank_of(alloc, keys, FILE)?;
     races::<Brand, F, R, H>(rt, alloc, blank)
 }

@@ -18,12 +18,12 @@ impl MountName for Brand {
     ghost cells = { [] };
 
     ghost opening = { record {
-        upper = record {
-            root = record { mode = 0; uid = 0; gid = 0; user = [] };
-            objects = λ _. None;
-            inodes = λ _. None;
-        };
-        lowers = [];
-        options = record { redirects = false; read_only = false };
+      upper = record {
+        root = record { mode = 0; uid = 0; gid = 0; user = [] };
+        objects = λ _. None;
+        inodes = λ _. None;
+      };
+      lowers = [];
+      options = record { redirects = false; read_only = false };
     } };
 }

@@ -86,12 +86,10 @@ pub(crate) fn leave_past_end<N: MountName>(
     requires names { map (λ n. n.cell) notes.old.items ≡ take (vec_len notes.old) N.cells }
     requires known { map (λ n. n.known) notes.old.items
         ≡ map Some (map (λ n. entry_in n.known) notes.old.items) }
-    ensures notes {
-        (notes.new.items ≡ notes.old.items) × (vec_len notes.new ≡ vec_len notes.old) }
+    ensures notes { (notes.new.items ≡ notes.old.items) × (vec_len notes.new ≡ vec_len notes.old) }
     ensures left { receipts.new.items
         ≡ filter (is_past_end (map (λ n. entry_in n.known) notes.old.items)) receipts.old.items }
-    ensures stand {
-        All (StandsIn (map (λ n. entry_in n.known) notes.old.items)) receipts.old.items }
+    ensures stand { All (StandsIn (map (λ n. entry_in n.known) notes.old.items)) receipts.old.items }
 {
     let mut left = 0;
     for i in 0..receipts.len() {

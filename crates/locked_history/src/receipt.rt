@@ -26,9 +26,9 @@ impl<N: MountName> Model for Receipt<N> {
     ghost Value = { Claim };
 
     ghost view = { λ r. record {
-        place = r.place;
-        entry = entry_in r.note.known;
-        counted = is_some r.share;
+      place = r.place;
+      entry = entry_in r.note.known;
+      counted = is_some r.share;
     } };
 
     ghost invariant = { λ r.
@@ -69,10 +69,8 @@ impl<N: MountName> Receipt<N> {
             ≡ map Some (map (λ n. entry_in n.known) notes.old.items) }
         requires within { self.old.place < vec_len notes.old }
         ensures mine { self.new ≡ self.old }
-        ensures notes {
-            (notes.new.items ≡ notes.old.items) × (vec_len notes.new ≡ vec_len notes.old) }
-        ensures stands {
-            slice_get (map (λ n. entry_in n.known) notes.old.items) self.old.place
+        ensures notes { (notes.new.items ≡ notes.old.items) × (vec_len notes.new ≡ vec_len notes.old) }
+        ensures stands { slice_get (map (λ n. entry_in n.known) notes.old.items) self.old.place
             ≡ Some self.old.entry }
     {
         let theirs = self.note.again();

@@ -9,11 +9,7 @@ use std::sync::Wait;
 
 /// Sets the cell of a place, and answers what is known of it then. Only who holds the lock calls
 /// this, for a cell that is empty, so the first try is the last.
-pub(crate) fn set_cell<H: Wait>(
-    rt: &H,
-    cell: &OnceBox<Entry>,
-    entry: Box<Entry>,
-) -> Note<Entry>
+pub(crate) fn set_cell<H: Wait>(rt: &H, cell: &OnceBox<Entry>, entry: Box<Entry>) -> Note<Entry>
     ensures { (result.cell ≡ cell_name cell.now) × (result.known ≡ Some entry.value) }
 {
     let mut left = entry;
