@@ -1,6 +1,6 @@
 use ov_base::{Call, Reply};
 
-/// What a client did: it attached hooks of these tags, made a call that had this reply, or detached.
+/// What a client did: it attached hooks of these tags, made a call and had this reply, or detached.
 #[derive(Drop)]
 pub enum Deed {
     Attached(Vec<u32>),

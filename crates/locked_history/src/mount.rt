@@ -117,7 +117,8 @@ impl<N: MountName, F: Callback, R: Rule> Mount<N, F, R> {
             IsCallOf receipt.entry session.old.client session.old.number call) }
         ensures counted { IfOk result (λ receipt. receipt.counted ≡ true) }
         ensures session { MatchResult result
-            (λ _. session.new ≡ record { client = session.old.client; number = session.old.number + 1 })
+            (λ _. (session.new.client ≡ session.old.client)
+            × (session.new.number ≡ session.old.number + 1))
             (λ _. session.new ≡ session.old) }
     {
         let client = session.client;

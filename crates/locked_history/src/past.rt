@@ -61,7 +61,8 @@ impl<N: MountName, F: Callback, R: Rule> Past<N, F, R> {
     }
 }
 
-// Takes the shares of the counted receipts, and finds that the history has as many entries at least.
+// Takes the shares of the counted receipts, and finds that the history is at least as long as they
+// are many.
 pub(crate) fn count_all<N: MountName>(
     book: &mut Book<N>,
     rest: &mut Share<N>,
