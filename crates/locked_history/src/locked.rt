@@ -91,7 +91,8 @@ fn append<N: MountName, H: Wait>(
     entry: Box<Entry>,
 ) -> Receipt<N>
     requires row { map cell_name row.now ≡ N.cells }
-    requires room { (vec_len notes.old < length N.cells) × (vec_len notes.old < vec_capacity notes.old) }
+    requires room { (vec_len notes.old < length N.cells)
+        × (vec_len notes.old < vec_capacity notes.old) }
     requires parts { (0 < rest.old.parts) × (rest.old.amount ≡ 0) }
     ensures names { map (λ n. n.cell) notes.new.items
         ≡ map (λ n. n.cell) notes.old.items ++ slice_index N.cells (vec_len notes.old) ∷ [] }

@@ -90,7 +90,8 @@ pub(crate) fn leave_past_end<N: MountName>(
     ensures notes { (notes.new.items ≡ notes.old.items) × (vec_len notes.new ≡ vec_len notes.old) }
     ensures left { receipts.new.items
         ≡ filter (is_past_end (map (λ n. entry_in n.known) notes.old.items)) receipts.old.items }
-    ensures stand { All (StandsIn (map (λ n. entry_in n.known) notes.old.items)) receipts.old.items }
+    ensures stand { All (StandsIn (map (λ n. entry_in n.known) notes.old.items))
+        receipts.old.items }
 {
     let mut left = 0;
     for i in 0..receipts.len() {

@@ -69,7 +69,8 @@ impl<N: MountName> Receipt<N> {
             ≡ map Some (map (λ n. entry_in n.known) notes.old.items) }
         requires within { self.old.place < vec_len notes.old }
         ensures mine { self.new ≡ self.old }
-        ensures notes { (notes.new.items ≡ notes.old.items) × (vec_len notes.new ≡ vec_len notes.old) }
+        ensures notes { (notes.new.items ≡ notes.old.items)
+            × (vec_len notes.new ≡ vec_len notes.old) }
         ensures stands { slice_get (map (λ n. entry_in n.known) notes.old.items) self.old.place
             ≡ Some self.old.entry }
     {
