@@ -51,8 +51,13 @@ fn fills<N: MountName, F: Callback + Drop, R: Rule, H: Wait + Abort>(
     receipts.push(came)?;
     receipts.push(made)?;
     receipts.push(gone)?;
-    let (past, left) = mount.finish(receipts);
-    assert!(rt; past.len() == 3 && left.is_empty());
+    let (mut past, left) = mount.finish(receipts);
+    assert_eq!(rt; left.len(), 0);
+    if past.len() != 3 {
+        return Err(Fail::from("not three entries"));
+    }
+    let last = past.entry(2);
+    assert!(rt; last.client == 0 && last.number == 3);
     Ok(())
 }
 
