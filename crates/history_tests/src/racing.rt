@@ -1,5 +1,4 @@
 // Threads whose calls race on one mount.
-ghost use Rattle.std.specs.Prelude.{◌≡◌};
 ghost use Rattle.locked_history.specs.Names.{IsNamed};
 
 use crate::mounts::{Silent, blank_of, mkdir, reply_in, stat, unlink};

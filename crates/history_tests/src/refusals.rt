@@ -1,5 +1,4 @@
 // What is refused through a mount that threads share, and what it leaves.
-ghost use Rattle.std.specs.Prelude.{◌≡◌};
 ghost use Rattle.locked_history.specs.Names.{IsNamed};
 
 use crate::mounts::{Shut, Silent, blank_of, reply_in, stat};
