@@ -1,10 +1,9 @@
 // Threads whose calls race on one mount.
-ghost use Rattle.std.specs.Prelude.{◌≡◌};
 ghost use Rattle.locked_history.specs.Names.{IsNamed};
 
 use crate::mounts::{Silent, blank_of, mkdir, reply_in, stat, unlink};
 use locked_history::{Blank, Mount, MountName, Open, Receipt};
-use ov_base::{Call, Reply};
+use ov_base::Reply;
 use std::alloc::Global;
 use std::hash::RandomState;
 use std::marker::Brand;
@@ -28,25 +27,23 @@ fn works<N: MountName, F: Callback + Drop, R: Rule, H: Wait>(
     rt: &H,
     alloc: Global,
     mount: &Mount<N, F, R>,
-) -> Result<Vec<Receipt<N>>, Fail> {
-    let mut receipts = Vec::new(alloc);
-    let (mut session, came) = mount.attach(rt, Vec::new(alloc)).map_err(|_| "attach")?;
-    receipts.push(came)?;
-    let calls = [
-        mkdir(alloc, "/d")?,
-        stat(alloc, "/d")?,
-        unlink(alloc, "/f")?,
-    ];
-    for call in calls {
-        let made = mount.call(rt, &mut session, call, &Open);
-        receipts.push(made.map_err(|_| "call")?)?;
+) -> Option<Vec<Receipt<N>>> {
+    let mut receipts = Vec::with_capacity(alloc, DEEDS).ok()?;
+    let (mut session, came) = mount.attach(rt, Vec::new(alloc)).ok()?;
+    receipts.push(came).ok()?;
+    let made = mkdir(alloc, "/d").ok()?;
+    let looked_up = stat(alloc, "/d").ok()?;
+    let removed = unlink(alloc, "/f").ok()?;
+    for call in [made, looked_up, removed] {
+        let receipt = mount.call(rt, &mut session, call, &Open).ok()?;
+        receipts.push(receipt).ok()?;
     }
-    let (_, gone) = mount.detach(rt, session).map_err(|_| "detach")?;
-    receipts.push(gone)?;
-    Ok(receipts)
+    let (_, gone) = mount.detach(rt, session).ok()?;
+    receipts.push(gone).ok()?;
+    Some(receipts)
 }
 
-// How many calls of this kind were done, by the entries of receipts.
+// How many calls were answered `Done`, by the entries of receipts.
 fn done_calls<N: MountName, F: Callback, R: Rule>(
     mount: &Mount<N, F, R>,
     receipts: &mut Vec<Receipt<N>>,
@@ -73,14 +70,17 @@ fn races<
     let worked = thread::map_indices(rt, alloc, WORKERS, &|_worker| works(rt, alloc, shared))?;
     let mut receipts = Vec::new(alloc);
     for one in worked {
-        for receipt in one? {
+        let Some(all) = one else {
+            return Err(Fail::from("a worker failed"));
+        };
+        for receipt in all {
             receipts.push(receipt)?;
         }
     }
     assert_eq!(rt; receipts.len(), WORKERS * DEEDS);
     // One `mkdir` and one `unlink` find the name as it was at the mount.
     assert_eq!(rt; done_calls(&mount, &mut receipts), 2);
-    let (mut past, left) = mount.finish(receipts);
+    let (past, left) = mount.finish(receipts);
     assert!(rt; left.is_empty());
     assert_eq!(rt; past.len(), WORKERS * DEEDS);
     Ok(())

@@ -1,5 +1,4 @@
 // What is refused through a mount that threads share, and what it leaves.
-ghost use Rattle.std.specs.Prelude.{◌≡◌};
 ghost use Rattle.locked_history.specs.Names.{IsNamed};
 
 use crate::mounts::{Shut, Silent, blank_of, reply_in, stat};
@@ -51,8 +50,13 @@ fn fills<N: MountName, F: Callback + Drop, R: Rule, H: Wait + Abort>(
     receipts.push(came)?;
     receipts.push(made)?;
     receipts.push(gone)?;
-    let (past, left) = mount.finish(receipts);
-    assert!(rt; past.len() == 3 && left.is_empty());
+    let (mut past, left) = mount.finish(receipts);
+    assert_eq!(rt; left.len(), 0);
+    if past.len() != 3 {
+        return Err(Fail::from("not three entries"));
+    }
+    let last = past.entry(2);
+    assert!(rt; last.client == 0 && last.number == 3);
     Ok(())
 }
 

@@ -1,5 +1,5 @@
 -- What a receipt claims, and what a note of a cell knows.
-use Rattle.std.specs.Prelude.{◌≡◌, ℕ, ◌<◌, Bool, false, not, nat_lt, slice_get, Option, None, Some, List, length, slice_index}
+use Rattle.std.specs.Prelude.{◌≡◌, ℕ, ◌<◌, Bool, false, not, nat_lt, slice_get, Option, Some, List, length, slice_index}
 use Rattle.ov_base.specs.declared.call.Call.{Call}
 use Rattle.ov_base.specs.declared.reply.Reply.{Reply}
 use Rattle.plain_model.specs.Runs as runs

@@ -1,5 +1,5 @@
 -- The entries that are kept, as the history of the plain machine has them.
-use Rattle.std.specs.Prelude.{ℕ, List, Option, Some, None, map}
+use Rattle.std.specs.Prelude.{List, Option, Some, None, map}
 use Rattle.plain_model.specs.Runs as runs
 use Rattle.locked_history.specs.declared.entry.Entry.{Entry}
 use Rattle.locked_history.specs.declared.entry.Deed.{Deed}

@@ -1,5 +1,5 @@
 -- When a guarded step is made, and why it is not.
-use Rattle.std.specs.Prelude.{◌≡◌, ℕ, suc, ◌<◌, true, List, Option, None, Some, count_by}
+use Rattle.std.specs.Prelude.{◌≡◌, ℕ, suc, ◌<◌, true, List, count_by}
 use Rattle.plain_model.specs.Runs.{is_of}
 use Rattle.ov_base.specs.declared.call.Call.{Call}
 use Rattle.overlay_core.specs.Views.{core_room, has_client}

@@ -19,7 +19,7 @@ use overlay_core::Job;
 use std::alloc::{AllocError, Global};
 use std::marker::PhantomData;
 use std::sync::{Mutex, Wait};
-use watch_table::{Callback, HOOKS_MAX, Hook, NotAttached, Rule};
+use watch_table::{Callback, Hook, NotAttached, Rule};
 
 /// A mount that many threads share: the lock round its core and history, and the row of cells.
 /// The calls of all threads are those of one history.

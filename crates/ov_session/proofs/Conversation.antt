@@ -115,13 +115,13 @@ broken_off goes i j k o m n left new piece rs e laws s c h broke =
 
 -- a turn that ends the session
 pub turn_ends : {D : Type 0} (goes : Goes D) (i j k : Option (List ℕ)) (o m n : Place D)
-    (held piece all : List ℕ) (begun : ℕ → List ℕ) (e : Ending) → Doorway goes
+    (held piece all : List ℕ) (e : Ending) → Doorway goes
     → all ≡ held ++ piece → SoFar goes i j o m (Held held) → Consumes j k piece
-    → IsTurn goes all begun m n (Err e) → Conversed goes i k o n e
-turn_ends goes i j k o m n held piece all begun e laws same s c (inl h) =
+    → IsTurn goes all m n (Err e) → Conversed goes i k o n e
+turn_ends goes i j k o m n held piece all e laws same s c (inl h) =
     broken_off goes i j k o m n (Held held) h.1 piece h.0 e laws s c
     (subst (λ (bs : List ℕ). Spells bs h.0 h.1) same h.2) h.3
-turn_ends goes i j k o m n held piece all begun e laws same s c (inr h) =
+turn_ends goes i j k o m n held piece all e laws same s c (inr h) =
     let more =
     so_far_more goes i j k o m n (Held held) (Faulty h.0) piece h.1 laws s c
     (subst (λ (bs : List ℕ). Spells bs h.1 (Faulty h.0)) same h.2) h.4 in
@@ -129,11 +129,11 @@ turn_ends goes i j k o m n held piece all begun e laws same s c (inr h) =
     (all_served goes i k o n (Faulty h.0) (ending.Frame h.0) more ((refl, refl, refl), refl))
 
 -- a turn ends by no failed read
-pub turn_no_read : {D : Type 0} (goes : Goes D) (all : List ℕ) (begun : ℕ → List ℕ)
-    (m n : Place D) (e : Ending) → IsTurn goes all begun m n (Err e) → e ≡ ending.Read → ⊥
-turn_no_read goes all begun m n e (inl h) k = let b =
+pub turn_no_read : {D : Type 0} (goes : Goes D) (all : List ℕ) (m n : Place D)
+    (e : Ending) → IsTurn goes all m n (Err e) → e ≡ ending.Read → ⊥
+turn_no_read goes all m n e (inl h) k = let b =
     h.3.3 in subst (λ (x : Ending). Breaks x h.3.1 b.stopped b.given b.answers) k b.how
-turn_no_read goes all begun m n e (inr h) k = absurd cc
+turn_no_read goes all m n e (inr h) k = absurd cc
 
 -- an input without failure, where a session ends by no failed read
 pub input_well : (failed : Bool) (reads : ℕ) (e : Ending) → failed ≡ false → (e ≡ ending.Read → ⊥)

@@ -1,7 +1,8 @@
 -- What bytes spell, served frame by frame.
 use Rattle.std.proofs.Common.{◌≡◌, ℕ, ◌+◌, ◌-◌, ◌≤◌, List, [], ◌∷◌, ◌++◌, length, take, drop, Result, Ok, Err, refl, sym, ap, subst, ◌∙◌, append_assoc, append-nil, drop-drop, length-drop, arith, inl, inr}
-use Rattle.std.proofs.lemmas.List.{drop-take, take_at, drop_at, take-append-le, length-take-le}
+use Rattle.std.proofs.lemmas.List.{drop-take, take_at, drop_at, take-append-le, drop-append-le, length-take-le}
 use Rattle.std.proofs.lemmas.List.Edits.{take-paste}
+use Rattle.std.proofs.lemmas.Slice.{between_is}
 use Rattle.std.specs.List.{copy_within}
 use borrow.Rule.Slice.PartMut.{put_mid, post_of, same_len_mid}
 use lib.Seq.{take-add}
@@ -10,7 +11,7 @@ use Rattle.ov_frames.specs.Streams.{Left, Held, Faulty, Spells, front_of}
 use Rattle.ov_frames.specs.declared.fault.FrameFault.{FrameFault}
 use Rattle.ov_frames.specs.declared.front.Front.TheVariants.{Begun, Whole, Bad}
 use Rattle.ov_frames.specs.declared.request.Request.{Request}
-use Rattle.ov_session.specs.Conversing.{IsTurn, behind}
+use Rattle.ov_session.specs.Conversing.{IsTurn}
 use Rattle.ov_session.specs.Devices.{IsOutputEnd}
 use Rattle.ov_session.specs.Doors.{Goes}
 use Rattle.ov_session.specs.Serving.{frames}
@@ -63,7 +64,7 @@ alone goes bytes used o n left s h =
 -- a begun frame follows
 pub turn_begun : {D : Type 0} (goes : Goes D) (bytes : List ℕ) (used : ℕ) (o n : Place D)
     → ServedSo goes bytes used o n → used ≤ length bytes → front_of (drop used bytes) ≡ Begun
-    → IsTurn goes bytes (behind bytes) o n (Ok used)
+    → IsTurn goes bytes o n (Ok used)
 turn_begun goes bytes used o n s within begun = (
   within,
   (
@@ -74,19 +75,19 @@ turn_begun goes bytes used o n s within begun = (
 )
 
 -- a fault follows
-pub turn_bad : {D : Type 0} (goes : Goes D) (bytes : List ℕ) (begun : ℕ → List ℕ) (used : ℕ)
+pub turn_bad : {D : Type 0} (goes : Goes D) (bytes : List ℕ) (used : ℕ)
     (o n : Place D) (fault : FrameFault) → ServedSo goes bytes used o n
     → front_of (drop used bytes) ≡ Bad fault
-    → IsTurn goes bytes begun o n (Err (ending.Frame fault))
-turn_bad goes bytes begun used o n fault s bad =
+    → IsTurn goes bytes o n (Err (ending.Frame fault))
+turn_bad goes bytes used o n fault s bad =
     inr (fault, s.requests, alone goes bytes used o n (Faulty fault) s bad, refl, s.talked)
 
 -- the request of the next frame was not served
-pub turn_broken : {D : Type 0} (goes : Goes D) (bytes : List ℕ) (begun : ℕ → List ℕ)
+pub turn_broken : {D : Type 0} (goes : Goes D) (bytes : List ℕ)
     (used len : ℕ) (o m n : Place D) (r : Request) (e : Ending) → Doorway goes
     → ServedSo goes bytes used o m → front_of (drop used bytes) ≡ Whole r len
-    → IsServed goes m n (r ∷ []) (Err e) → IsTurn goes bytes begun o n (Err e)
-turn_broken goes bytes begun used len o m n r e laws s whole h =
+    → IsServed goes m n (r ∷ []) (Err e) → IsTurn goes bytes o n (Err e)
+turn_broken goes bytes used len o m n r e laws s whole h =
     let more = spelled_always (drop len (drop used bytes)) in
     let all = s.requests ++ r ∷ more.0 in
     let parts : all ≡ (s.requests ++ h.0) ++ (h.1 ++ more.0) =
@@ -102,10 +103,10 @@ turn_broken goes bytes begun used len o m n r e laws s whole h =
     )
 
 -- there was no memory to read the request of the next frame
-pub turn_memory : {D : Type 0} (goes : Goes D) (bytes : List ℕ) (begun : ℕ → List ℕ) (used : ℕ)
+pub turn_memory : {D : Type 0} (goes : Goes D) (bytes : List ℕ) (used : ℕ)
     (o n : Place D) → ServedSo goes bytes used o n
-    → IsTurn goes bytes begun o n (Err ending.Memory)
-turn_memory goes bytes begun used o n s =
+    → IsTurn goes bytes o n (Err ending.Memory)
+turn_memory goes bytes used o n s =
     let more = spelled_always (drop used bytes) in
     let t = s.talked in
     inl (
@@ -134,30 +135,30 @@ turn_memory goes bytes begun used o n s =
 -- ---- handing on
 
 -- a turn, after the output handed on what it held
-pub turn_on : {D : Type 0} (goes : Goes D) (bytes : List ℕ) (begun : ℕ → List ℕ) (o m n : Place D)
-    (result : Result ℕ Ending) → IsTurn goes bytes begun o m result → Gained m n []
-    → n.told ≡ m.told → n.door ≡ m.door → IsTurn goes bytes begun o n result
-turn_on goes bytes begun o m n (Ok x) h k t d =
+pub turn_on : {D : Type 0} (goes : Goes D) (bytes : List ℕ) (o m n : Place D)
+    (result : Result ℕ Ending) → IsTurn goes bytes o m result → Gained m n []
+    → n.told ≡ m.told → n.door ≡ m.door → IsTurn goes bytes o n result
+turn_on goes bytes o m n (Ok x) h k t d =
     (h.0, (h.1.0, h.1.1, talked_on goes o m n h.1.0 h.1.2 k t d))
-turn_on goes bytes begun o m n (Err e) (inl h) k t d =
+turn_on goes bytes o m n (Err e) (inl h) k t d =
     inl (h.0, h.1, h.2, served_on goes o m n h.0 (Err e) h.3 k t d)
-turn_on goes bytes begun o m n (Err e) (inr h) k t d =
+turn_on goes bytes o m n (Err e) (inr h) k t d =
     inr (h.0, h.1, h.2, h.3, talked_on goes o m n h.1 h.4 k t d)
 
 -- a turn, after which the output failed
-pub turn_badly : {D : Type 0} (goes : Goes D) (bytes : List ℕ) (begun : ℕ → List ℕ)
+pub turn_badly : {D : Type 0} (goes : Goes D) (bytes : List ℕ)
     (o m n : Place D) (result : Result ℕ Ending) (end : Ending)
-    → IsTurn goes bytes begun o m result → IsOutputEnd end → Gained m n [] → n.told ≡ m.told
-    → n.door ≡ m.door → IsTurn goes bytes begun o n (Err end)
-turn_badly goes bytes begun o m n (Ok x) end h by k t d = inl (
+    → IsTurn goes bytes o m result → IsOutputEnd end → Gained m n [] → n.told ≡ m.told
+    → n.door ≡ m.door → IsTurn goes bytes o n (Err end)
+turn_badly goes bytes o m n (Ok x) end h by k t d = inl (
   h.1.0,
-  Held (begun x),
+  Held (drop x bytes),
   h.1.1,
   served_badly goes o m n h.1.0 (Ok tt) end h.1.2 by k t d,
 )
-turn_badly goes bytes begun o m n (Err e) end (inl h) by k t d =
+turn_badly goes bytes o m n (Err e) end (inl h) by k t d =
     inl (h.0, h.1, h.2, served_badly goes o m n h.0 (Err e) end h.3 by k t d)
-turn_badly goes bytes begun o m n (Err e) end (inr h) by k t d =
+turn_badly goes bytes o m n (Err e) end (inr h) by k t d =
     inl (h.1, Faulty h.0, h.2, served_badly goes o m n h.1 (Ok tt) end h.4 by k t d)
 
 -- ---- the begun frame at the front
@@ -176,21 +177,27 @@ moved bytes used count start within =
     ∙ ap (λ (m : ℕ). drop used (take m bytes)) all
 
 -- what a read gave stands behind the bytes that were held
-pub filled : (bytes piece : List ℕ) (held room count : ℕ) → held ≤ length bytes
+pub filled : (bytes piece : List ℕ) (start end room count : ℕ) → start ≤ end → end ≤ length bytes
     → count ≤ length piece
-    → take (held + count) (put_mid held room bytes piece) ≡ take held bytes ++ take count piece
-filled bytes piece held room count within fits =
-    let front : length (take held bytes) ≡ held = length-take-le held bytes within in
-    let after = piece ++ post_of held room bytes in
-    take-add held count (put_mid held room bytes piece)
+    → take (end + count - start) (drop start (put_mid end room bytes piece))
+    ≡ drop start (take end bytes) ++ take count piece
+filled bytes piece start end room count ordered within fits =
+    let front : length (take end bytes) ≡ end = length-take-le end bytes within in
+    let after = piece ++ post_of end room bytes in
+    let all : take (end + count) (put_mid end room bytes piece)
+    ≡ take end bytes ++ take count piece =
+    take-add end count (put_mid end room bytes piece)
     ∙ rw (
-      take_at (take held bytes) after held front,
-      drop_at (take held bytes) after held front,
-      take-append-le count piece (post_of held room bytes) fits,
-    ) refl
+      take_at (take end bytes) after end front,
+      drop_at (take end bytes) after end front,
+      take-append-le count piece (post_of end room bytes) fits,
+    ) refl in
+    between_is (put_mid end room bytes piece) start (end + count)
+    ∙ ap (λ (l : List ℕ). drop start l) all
+    ∙ drop-append-le start (take end bytes) (take count piece) (omega arith)
 
 -- and there is room for as many bytes as before
-pub filled_long : (bytes piece : List ℕ) (held room : ℕ)
-    → length piece ≡ length (take room (drop held bytes))
-    → length (put_mid held room bytes piece) ≡ length bytes
-filled_long bytes piece held room h = same_len_mid held room bytes piece h
+pub filled_long : (bytes piece : List ℕ) (end room : ℕ)
+    → length piece ≡ length (take room (drop end bytes))
+    → length (put_mid end room bytes piece) ≡ length bytes
+filled_long bytes piece end room h = same_len_mid end room bytes piece h

@@ -1,5 +1,5 @@
 -- A session from piece to piece, until its client is detached.
-use Rattle.std.specs.Prelude.{◌≡◌, ℕ, ◌≤◌, Bool, true, false, List, [], ◌∷◌, ◌++◌, length, take, drop, Option, Result, Ok, Err, ◌⊎◌}
+use Rattle.std.specs.Prelude.{◌≡◌, ℕ, ◌≤◌, Bool, true, false, List, [], ◌∷◌, ◌++◌, length, drop, Option, Result, Ok, Err, ◌⊎◌}
 use Rattle.std.specs.Io.KnownBytes.{IsAtEnd}
 use Rattle.ov_frames.specs.Streams.{Left, Held, Faulty, Spells}
 use Rattle.ov_frames.specs.declared.fault.FrameFault.{FrameFault}
@@ -66,36 +66,28 @@ pub record Converses {D S : Type 0} (goes : Goes D) (admits : D → S → Type 0
   pub mark : output_failed ≡ is_write end
   pub admitted : admits new.door session
 
--- so many bytes at the front of others, and those behind them
-abbrev pub first : List ℕ → ℕ → List ℕ
-first bytes n = take n bytes
-
-abbrev pub behind : List ℕ → ℕ → List ℕ
-behind bytes n = drop n bytes
-
--- what bytes spell was served, and the begun frame behind it stands where a number says; or the
--- session ends: at a request, or at a fault behind all of them
-abbrev pub IsTurn : {D : Type 0} → Goes D → List ℕ → (ℕ → List ℕ) → Place D → Place D
-    → Result ℕ Ending → Type 0
-IsTurn goes bytes begun o n (Ok x) =
-    (x ≤ length bytes)
-    × ((rs : List Request) × Spells bytes rs (Held (begun x)) × Talked goes o n rs)
-IsTurn goes bytes begun o n (Err e) =
+-- what bytes spell was served, and the begun frame behind it stands at a place; or the session ends:
+-- at a request, or at a fault behind all of them
+abbrev pub IsTurn : {D : Type 0} → Goes D → List ℕ → Place D → Place D → Result ℕ Ending → Type 0
+IsTurn goes bytes o n (Ok used) =
+    (used ≤ length bytes)
+    × ((rs : List Request) × Spells bytes rs (Held (drop used bytes)) × Talked goes o n rs)
+IsTurn goes bytes o n (Err e) =
     ((rs : List Request) × (left : Left) × Spells bytes rs left × IsServed goes o n rs (Err e))
     ⊎ ((fault : FrameFault) × (rs : List Request) × Spells bytes rs (Faulty fault)
     × (e ≡ ending.Frame fault) × Talked goes o n rs)
 
 -- all that serving bytes leaves
 pub record ServesBytes {D S : Type 0} (goes : Goes D) (admits : D → S → Type 0) (bytes : List ℕ)
-    (begun : ℕ → List ℕ) (old new : Place D) (session : S) (output_failed : Bool)
-    (result : Result ℕ Ending) : Type 0 where
-  pub turn : IsTurn goes bytes begun old new result
+    (old new : Place D) (session : S) (output_failed : Bool) (result : Result ℕ Ending) :
+    Type 0 where
+  pub turn : IsTurn goes bytes old new result
   pub mark : output_failed ≡ write_failed result
   pub admitted : admits new.door session
 
 -- so where the answers are handed on
 pub record Turns {D S : Type 0} (goes : Goes D) (admits : D → S → Type 0) (bytes : List ℕ)
-    (begun : ℕ → List ℕ) (old new : Place D) (session : S) (output_failed : Bool)
-    (result : Result ℕ Ending) : Type 0 where
-  pub serves : ServesBytes goes admits bytes begun old new session output_failed result
+    (old new : Place D) (session : S) (output_failed : Bool) (result : Result ℕ Ending) :
+    Type 0 where
+  pub serves : ServesBytes goes admits bytes old new session output_failed result
   pub handed_on : IsHandedOn result new.held

@@ -1,6 +1,6 @@
 // Serving requests: each is asked of the door, and its answer given to the output.
-ghost use Rattle.std.specs.Prelude.{◌≡◌, ◌≤◌, ◌∷◌, [], false, length, take};
-ghost use Rattle.ov_session.specs.Conversing.{ServesBytes, Turns, behind, first};
+ghost use Rattle.std.specs.Prelude.{◌≡◌, ◌∷◌, [], false};
+ghost use Rattle.ov_session.specs.Conversing.{ServesBytes, Turns};
 ghost use Rattle.ov_session.specs.Talks.{ServesThem, place};
 
 use crate::door::{CallOutcome, Door};
@@ -48,7 +48,7 @@ fn serve_frames<W: Write, D: Door>(
 ) -> Result<usize, Ending>
     requires well { output.old.failed ≡ false }
     requires admitted { D.admits door.old session.old }
-    ensures { ServesBytes D.goes D.admits bytes.now (behind bytes.now)
+    ensures { ServesBytes D.goes D.admits bytes.now
         (place W.contents D.told output.old session.old door.old)
         (place W.contents D.told output.new session.new door.new)
         session.new output.new.failed result }
@@ -83,7 +83,7 @@ fn serve_piece<W: Write, D: Door>(
 ) -> Result<usize, Ending>
     requires well { output.old.failed ≡ false }
     requires admitted { D.admits door.old session.old }
-    ensures { Turns D.goes D.admits bytes.now (behind bytes.now)
+    ensures { Turns D.goes D.admits bytes.now
         (place W.contents D.told output.old session.old door.old)
         (place W.contents D.told output.new session.new door.new)
         session.new output.new.failed result }
@@ -98,33 +98,25 @@ fn serve_piece<W: Write, D: Door>(
     }
 }
 
-/// Serves the requests that so many bytes make whole, and moves the begun frame behind them to the
-/// front, where so many bytes of it stand then. Until a frame is whole or at fault nothing is done.
+/// Serves the requests of bytes, which begin with a frame, and answers where the begun frame behind
+/// them stands. Until a frame is whole or at fault nothing is done.
 pub(crate) fn take_piece<W: Write, D: Door>(
     alloc: Global,
-    bytes: &mut [u8],
-    count: usize,
+    bytes: &[u8],
     output: &mut SessionOutput<W>,
     door: &mut D,
     session: &mut D::Session,
 ) -> Result<usize, Ending>
-    requires within { count ≤ length bytes.old }
     requires well { output.old.failed ≡ false }
     requires held { output.old.held.items ≡ [] }
     requires admitted { D.admits door.old session.old }
-    ensures turns { Turns D.goes D.admits (take count bytes.old) (first bytes.new)
+    ensures { Turns D.goes D.admits bytes.now
         (place W.contents D.told output.old session.old door.old)
         (place W.contents D.told output.new session.new door.new)
         session.new output.new.failed result }
-    ensures room { length bytes.new ≡ length bytes.old }
 {
-    if count < front_end(&bytes[..count]) {
-        return Ok(count);
+    if bytes.len() < front_end(bytes) {
+        return Ok(0);
     }
-    let used = match serve_piece(alloc, &bytes[..count], output, door, session) {
-        Ok(used) => used,
-        Err(end) => return Err(end),
-    };
-    bytes.copy_within(used..count, 0);
-    Ok(count - used)
+    serve_piece(alloc, bytes, output, door, session)
 }

@@ -1,6 +1,6 @@
 // Sessions: a client's stream is read, its requests are served, and in the end the client is
 // detached.
-ghost use Rattle.std.specs.Prelude.{◌≡◌, ◌≤◌, [], false, length, IfOk};
+ghost use Rattle.std.specs.Prelude.{◌≡◌, ◌≤◌, ◌+◌, [], drop, false, length, take, IfOk};
 ghost use Rattle.ov_session.specs.Conversing.{Converses};
 ghost use Rattle.ov_session.specs.Devices.{InputAt, IsSent, is_write};
 ghost use Rattle.ov_session.specs.Sessions.{IsSession};
@@ -20,7 +20,7 @@ const ROOM: usize = 140_008;
 
 // Room for the bytes that are read.
 fn buffer_of(alloc: Global) -> Result<Vec<u8>, AllocError>
-    ensures { IfOk result (λ buffer. 70004 ≤ length buffer.items) }
+    ensures { IfOk result (λ buffer. length buffer.items ≡ 140008) }
 {
     let buffer = vec![in alloc; 0u8; ROOM]?;
     Ok(buffer)
@@ -50,7 +50,37 @@ fn converse<R: Read, W: Write, D: Door>(
     pieces_of(alloc, buffer.as_mut_slice(), input, output, door, session)
 }
 
-// Reads into the room behind the bytes that are held: those of the begun frame.
+// Where bytes stand: from a place up to another.
+#[derive(Clone, Copy)]
+struct Span {
+    start: usize,
+    end: usize,
+}
+
+// Moves the bytes of a span to the front, where they fit into the room before it, and answers where
+// they stand then: no further from the front than they are long.
+fn settled(bytes: &mut [u8], span: Span) -> Span
+    requires within { (span.start ≤ span.end) × (span.end ≤ length bytes.old) }
+    ensures same { drop result.start (take result.end bytes.new)
+        ≡ drop span.start (take span.end bytes.old) }
+    ensures near { result.start + result.start ≤ result.end }
+    ensures within { result.end ≤ length bytes.new }
+    ensures room { length bytes.new ≡ length bytes.old }
+{
+    let Span { start, end } = span;
+    let count = end - start;
+    if count > start {
+        return span;
+    }
+    bytes.copy_within(start..end, 0);
+    Span {
+        start: 0,
+        end: count,
+    }
+}
+
+// Reads into the room behind the begun frame. That stands no further from the front than it is
+// long, so there is room for the whole of it.
 fn pieces_of<R: Read, W: Write, D: Door>(
     alloc: Global,
     bytes: &mut [u8],
@@ -59,7 +89,7 @@ fn pieces_of<R: Read, W: Write, D: Door>(
     door: &mut D,
     session: &mut D::Session,
 ) -> Ending
-    requires room { 70004 ≤ length bytes.old }
+    requires room { length bytes.old ≡ 140008 }
     requires input { input.old.failed ≡ false }
     requires well { output.old.failed ≡ false }
     requires held { output.old.held.items ≡ [] }
@@ -70,22 +100,33 @@ fn pieces_of<R: Read, W: Write, D: Door>(
         (place W.contents D.told output.new session.new door.new)
         session.new input.new.failed input.new.reads_left output.new.failed result }
 {
-    let mut held = 0;
+    let mut start = 0;
+    let mut end = 0;
     'pieces: loop {
-        let count = match input.read(&mut bytes[held..]) {
+        let count = match input.read(&mut bytes[end..]) {
             Ok(count) => count,
-            Err(end) => return end,
+            Err(ending) => return ending,
         };
         if count == 0 {
-            if held == 0 {
+            if start == end {
                 return Ending::Ended;
             }
             return Ending::Cut;
         }
-        match take_piece(alloc, bytes, held + count, output, door, session) {
-            Ok(left) => held = left,
-            Err(end) => return end,
-        }
+        let filled = end + count;
+        let used = match take_piece(alloc, &bytes[start..filled], output, door, session) {
+            Ok(used) => used,
+            Err(ending) => return ending,
+        };
+        let span = settled(
+            bytes,
+            Span {
+                start: start + used,
+                end: filled,
+            },
+        );
+        start = span.start;
+        end = span.end;
     }
 }
 

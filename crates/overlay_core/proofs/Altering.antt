@@ -1,10 +1,6 @@
 -- A call on attributes that a mount made of what it had seen at a path, and the key under which that is in the upper then.
-use Rattle.std.proofs.Common.{◌≡◌, ℕ, Bool, None, Some, Result, OnErr, refl, sym, ap, subst, ◌∙◌}
-use Rattle.ov_base.specs.declared.call.Call.{Call}
-use Rattle.ov_base.specs.declared.errno.Errno.{Errno}
+use Rattle.std.proofs.Common.{◌≡◌, ℕ, Bool, Some, refl, sym, ap, ◌∙◌}
 use Rattle.plain_model.specs.Layers.{Path, held}
-use Rattle.plain_model.specs.Machine.{State}
-use Rattle.plain_model.specs.Refusals.{refusal}
 use Rattle.layer_tree.specs.Tree.{layer_of}
 use Rattle.merged_lookup.specs.declared.layers.Layers.{Layers}
 use Rattle.merged_lookup.specs.declared.stack.Place.{Place}
@@ -16,13 +12,7 @@ use Rattle.notice_laws.specs.Objects.{IsObject}
 use Rattle.notice_laws.specs.Steps.{alters}
 use Rattle.mount_calls.specs.declared.attribute_changes.AttributeCall.{AttributeCall}
 use Rattle.mount_calls.specs.declared.attribute_changes.AttributeCall.TheVariants as asks
-use Rattle.mount_calls.specs.declared.mount.Mount.{Mount}
-use Rattle.mount_calls.specs.Attaching.{is_attached}
 use Rattle.mount_calls.specs.AttributeCalls.{call_at}
-use Rattle.mount_calls.specs.Living.{KeepsNamed}
-use Rattle.mount_calls.specs.States.{IsStateOf, Serves}
-use Rattle.mount_calls.specs.Status.{outcome_reply}
-use Rattle.overlay_core.proofs.Performing.{Performed, performed-outcome}
 
 -- each alters what stands at its path
 pub asked-alters : (p : Path) (x : AttributeCall) → alters p (call_at p x)

@@ -20,18 +20,9 @@ use Rattle.mount_calls.proofs.MakingCalls.{attached-same, makes-nothing, makes-r
 use Rattle.overlay_core.specs.declared.watched.Watched.{Watched}
 use Rattle.overlay_core.specs.Performing.{Performs}
 use Rattle.overlay_core.specs.Watching.{Agrees, Goes, Keeps, Stays}
-use Rattle.overlay_core.proofs.Performing.{Performed, goes-done, goes-refused, keeps-same}
+use Rattle.overlay_core.proofs.Performing.{goes-done, goes-refused, keeps-same, kept-by, performed-by}
 use Rattle.overlay_core.proofs.Uses.{goes-silent}
 use Rattle.overlay_core.proofs.Watching.{stays, upper_of}
-
--- what such a call keeps
-kept-by : {c : ℕ} {k : Call} {old new : Mount} {result : Result Reply AllocError} → MakesCall c k old new result → Keeps k old new
-kept-by m = record { clients = m.attached; layers = m.layers; lowers = m.lowers; thin = m.thin }
-
--- what it says where it was answered
-pub performed-by : {c : ℕ} {k : Call} {old new : Mount} {r : Reply} → is_attached old.clients c ≡ true → MakesCall c k old new (Ok r) →
-    Performed c k r old new
-performed-by there m = record { there = there; serves = m.answers.serves; lowers = m.lowers; named = m.answers.named; refused = m.answers.refused }
 
 module _ {F G : Type 0} {shows : Rule} where
   -- a call is made as what it is

@@ -1,6 +1,7 @@
 -- Calls that a mount makes and that answer that they are done, and what is kept for watches then.
 use Rattle.std.proofs.Common.{◌≡◌, ◌≢◌, ℕ, true, None, IsSome, is_some, refl, sym, ap, subst, ◌∙◌}
 use Rattle.std.specs.Prelude.{IfOk, OnErr, Result, Ok, Err}
+use Rattle.std.specs.declared.alloc.AllocError.{AllocError}
 use mathlib.Core.Logic.{∥∥₁_map}
 use Rattle.ov_base.specs.declared.call.Call.{Call}
 use Rattle.ov_base.specs.declared.errno.Errno.{Errno}
@@ -19,11 +20,12 @@ use Rattle.notice_laws.specs.Notified.{AreKnown, Notified, Passes, Resumes}
 use Rattle.notice_laws.proofs.FewerObjects.{law_of_fewer_numbers}
 use Rattle.mount_calls.specs.declared.mount.Mount.{Mount}
 use Rattle.mount_calls.specs.Attaching.{is_attached}
-use Rattle.mount_calls.specs.Living.{KeepsNamed, StaysLive}
-use Rattle.mount_calls.specs.States.{HasStateOf, IsStateOf, Serves, StaysState}
+use Rattle.mount_calls.specs.Living.{KeepsNamed}
+use Rattle.mount_calls.specs.Making.{MakesCall}
+use Rattle.mount_calls.specs.States.{HasStateOf, IsStateOf, Serves}
 use Rattle.mount_calls.specs.Status.{outcome_reply}
 use Rattle.mount_calls.proofs.Frames.{same-layers}
-use Rattle.overlay_core.specs.Watching.{Agrees, Goes, HasState, Keeps, Stays}
+use Rattle.overlay_core.specs.Watching.{Agrees, Goes, HasState, Keeps}
 use Rattle.overlay_core.proofs.Watching.{goes, passes, stays, tracks-same, upper_of}
 
 -- what a call says that a mount made, and answered so
@@ -73,32 +75,19 @@ goes-never rule c k r old new from done never =
     goes rule c k r old new from from done.there done.serves (λ s a e at. tracks-same old new s from (done.refused e at) a.tracks)
     (λ s a fine. absurd (never s a fine))
 
--- a call that the mount made, of which it tells an outcome
-pub performed-outcome : {A : Type 0} (c : ℕ) (k : Call) (outcome : Result A Errno) (old new : Mount) → is_attached old.clients c ≡ true →
-    ((s : State) → IsStateOf old s → (d : ℕ) → Serves (refusal s d k) s d k (outcome_reply outcome) new) →
-    new.layers.lowers ≡ old.layers.lowers →
-    ((s : State) → IsStateOf old s → (d : ℕ) → refusal s d k ≡ None → KeepsNamed s d old.layers new.layers k) →
-    OnErr outcome (new.layers ≡ old.layers) → Performed c k (outcome_reply outcome) old new
-performed-outcome {A} c k outcome old new there serves lowers named refused = record {
-  there = there;
-  serves = λ s st. serves s st c;
-  lowers = lowers;
-  named = λ s st fine. named s st c fine;
-  refused = λ e is. by outcome refused e is;
-}
-  where
-    by : (x : Result A Errno) → OnErr x (new.layers ≡ old.layers) → (e : Errno) → outcome_reply x ≡ Refused e → new.layers ≡ old.layers
-    by (Ok b) h e is = absurd (let no : Done ≡ Refused e = is in cc)
-    by (Err f) h e is = h
+-- what such a call keeps
+pub kept-by : {c : ℕ} {k : Call} {old new : Mount} {result : Result Reply AllocError} → MakesCall c k old new result → Keeps k old new
+kept-by m = record { clients = m.attached; layers = m.layers; lowers = m.lowers; thin = m.thin }
 
--- a call so, whose outcome is this one
+-- what it says where it was answered
+pub performed-by : {c : ℕ} {k : Call} {old new : Mount} {r : Reply} → is_attached old.clients c ≡ true → MakesCall c k old new (Ok r) →
+    Performed c k r old new
+performed-by there m = record { there = there; serves = m.answers.serves; lowers = m.lowers; named = m.answers.named; refused = m.answers.refused }
+
+-- and where its outcome is this one
 pub outcome-so : {A : Type 0} (c : ℕ) (k : Call) (is outcome : Result A Errno) (old new : Mount) → is ≡ outcome → is_attached old.clients c ≡ true →
-    ((s : State) → IsStateOf old s → (d : ℕ) → Serves (refusal s d k) s d k (outcome_reply outcome) new) →
-    new.layers.lowers ≡ old.layers.lowers →
-    ((s : State) → IsStateOf old s → (d : ℕ) → refusal s d k ≡ None → KeepsNamed s d old.layers new.layers k) →
-    OnErr outcome (new.layers ≡ old.layers) → Performed c k (outcome_reply is) old new
-outcome-so c k is outcome old new same there serves lowers named refused =
-    subst (λ o. Performed c k (outcome_reply o) old new) (sym same) (performed-outcome c k outcome old new there serves lowers named refused)
+    MakesCall c k old new (Ok (outcome_reply outcome)) → Performed c k (outcome_reply is) old new
+outcome-so c k is outcome old new same there made = subst (λ o. Performed c k (outcome_reply o) old new) (sym same) (performed-by there made)
 
 -- a call goes as what it is
 pub goes-as : {E : Type 0} (rule : Rule) (c : ℕ) (k j : Call) (result : Result Reply E) (old new : Mount) (from to : Notified) → k ≡ j →

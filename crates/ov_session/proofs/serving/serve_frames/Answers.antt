@@ -2,7 +2,6 @@ use Rattle.std.proofs.Common.{◌≡◌, ◌-◌, length, drop, arith, length-dr
 use Rattle.ov_frames.specs.Streams.{front_of}
 use Rattle.ov_frames.specs.declared.front.Front.TheVariants.{Begun, Whole, Bad}
 use Rattle.ov_frames.proofs.Pieces.{front_to_end, whole_within}
-use Rattle.ov_session.specs.Conversing.{behind}
 use Rattle.ov_session.specs.Talks.{place}
 use Rattle.ov_session.proofs.Talking.{Doorway}
 use Rattle.ov_session.proofs.Turning.{served_none, served_more, turn_begun, turn_bad, turn_broken, turn_memory}
@@ -34,7 +33,7 @@ returns-in-Err g c =
     let n = place contents told loop.output loop.session loop.door in
     record {
       turn =
-          turn_memory g.D.Door.goes bytes (behind bytes) loop.used o n loop.invariant.served;
+          turn_memory g.D.Door.goes bytes loop.used o n loop.invariant.served;
       mark = loop.invariant.well;
       admitted = loop.invariant.admitted;
     }
@@ -58,7 +57,7 @@ returns-in-Err-serve_one g c =
     = front_to_end bytes loop.used c.in-Ok.front c.in-Ok.ensures.front ∙ c.in-Whole.is in
     record {
       turn =
-          turn_broken g.D.Door.goes bytes (behind bytes) loop.used c.in-Whole.len o m n
+          turn_broken g.D.Door.goes bytes loop.used c.in-Whole.len o m n
           c.in-Whole.request c.in-Err-serve_one.end laws loop.invariant.served whole h.served;
       mark = h.mark;
       admitted = h.admitted;
@@ -130,7 +129,7 @@ returns-in-Bad g c =
     = front_to_end bytes loop.used c.in-Ok.front c.in-Ok.ensures.front ∙ c.in-Bad.is in
     record {
       turn =
-          turn_bad g.D.Door.goes bytes (behind bytes) loop.used o n c.in-Bad.fault
+          turn_bad g.D.Door.goes bytes loop.used o n c.in-Bad.fault
           loop.invariant.served bad;
       mark = loop.invariant.well;
       admitted = loop.invariant.admitted;

@@ -1,5 +1,4 @@
 use Rattle.std.proofs.Common.{refl, sym, ◌∙◌}
-use Rattle.ov_session.specs.Conversing.{behind}
 use Rattle.ov_session.specs.Talks.{place}
 use Rattle.ov_session.proofs.Talking.{handed_empty, handed_badly}
 use Rattle.ov_session.proofs.Turning.{turn_on, turn_badly}
@@ -17,7 +16,7 @@ returns-in-Ok g c =
     record {
       serves = record {
         turn =
-            turn_on g.D.Door.goes bytes (behind bytes) o m n all.result all.ensures.turn
+            turn_on g.D.Door.goes bytes o m n all.result all.ensures.turn
             c.flush.ensures.bytes refl refl;
         mark =
             c.in-Ok.ensures.mark
@@ -39,7 +38,7 @@ returns-in-Err g c =
     record {
       serves = record {
         turn =
-            turn_badly g.D.Door.goes bytes (behind bytes) o m n all.result c.in-Err.end
+            turn_badly g.D.Door.goes bytes o m n all.result c.in-Err.end
             all.ensures.turn c.in-Err.ensures.end c.flush.ensures.bytes refl refl;
         mark = c.in-Err.ensures.mark;
         admitted = all.ensures.admitted;

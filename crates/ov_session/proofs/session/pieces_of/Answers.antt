@@ -1,8 +1,9 @@
-use Rattle.std.proofs.Common.{◌≡◌, ◌+◌, ◌-◌, ◌<◌, ℕ, List, [], length, take, drop, arith, length-drop, length-take, refl, sym, ap, subst, ◌∙◌}
+use Rattle.std.proofs.Common.{◌≡◌, ◌+◌, ◌-◌, ◌<◌, ◌≤◌, ℕ, List, [], length, take, drop, drop-drop, arith, length-drop, length-take, refl, sym, ap, subst, ◌∙◌}
+use Rattle.std.proofs.lemmas.List.{nil_from_length}
+use Rattle.std.proofs.lemmas.Slice.{between_is}
 use borrow.Rule.Slice.PartMut.{put_mid}
 use Rattle.ov_frames.proofs.Pieces.{held_short}
 use Rattle.ov_frames.specs.Streams.{Held, Spells}
-use Rattle.ov_session.specs.Conversing.{first}
 use Rattle.ov_session.specs.Talks.{place}
 use Rattle.ov_session.proofs.Conversation.{ended_between, ended_inside, input_at, input_well, nothing_spelled, read_ended, read_unmarked, so_far_more, so_far_nothing, so_far_same, turn_ends, turn_no_read}
 use Rattle.ov_session.proofs.Talking.{Doorway, ending_empty}
@@ -23,6 +24,7 @@ pieces-init g c =
       so_far =
           so_far_nothing g.D.Door.goes (remaining c.args.input.now.reader) o (Held []) laws
           nothing_spelled;
+      near = omega arith;
       within = omega arith;
       room = c.requires.room;
       input = c.requires.input;
@@ -36,16 +38,20 @@ read-requires-clause-room g c =
     let loop = c.pieces in
     let is = loop.invariant in
     let bytes = loop.bytes in
-    let held = loop.held in
-    let short : length (take held bytes) < 70004 =
-    held_short is.so_far.taken is.so_far.requests (take held bytes) is.so_far.spelled in
+    let start = loop.start in
+    let end = loop.end in
+    let short : length (drop start (take end bytes)) < 70004 =
+    held_short is.so_far.taken is.so_far.requests (drop start (take end bytes))
+    is.so_far.spelled in
     omega (
       arith,
       short,
-      length-take held bytes,
-      length-take (length bytes - held) (drop held bytes),
-      length-drop held bytes,
+      length-drop start (take end bytes),
+      length-take end bytes,
+      length-take (length bytes - end) (drop end bytes),
+      length-drop end bytes,
       is.room,
+      is.near,
       is.within,
     )
 
@@ -57,13 +63,13 @@ returns-in-Err g c =
     let loop = c.pieces in
     let is = loop.invariant in
     let read = c.read.new.self in
-    let end = c.in-Err.end in
+    let end = c.in-Err.ending in
     let o = place contents told c.args.output.now c.args.session.now c.args.door.now in
     let n = place contents told loop.output loop.session loop.door in
     record {
       conversed =
           read_ended g.D.Door.goes (remaining c.args.input.now.reader) (remaining loop.input.reader)
-          (remaining read.reader) o n (Held (take loop.held loop.bytes)) read.failed
+          (remaining read.reader) o n (Held (drop loop.start (take loop.end loop.bytes))) read.failed
           read.reads_left end is.so_far refl c.in-Err.ensures.kept c.in-Err.ensures.end;
       input = input_at read.failed read.reads_left end c.in-Err.ensures.end;
       handed_on = ending_empty end n.held is.held;
@@ -71,8 +77,8 @@ returns-in-Err g c =
       admitted = is.admitted;
     }
 
-pub returns-then-held-eq0 : goal.returns-then-held-eq0
-returns-then-held-eq0 g c =
+pub returns-then-start-end : goal.returns-then-start-end
+returns-then-start-end g c =
     let remaining = g.R.Read.remaining in
     let contents = g.W.Write.contents in
     let told = g.D.Door.told in
@@ -83,11 +89,19 @@ returns-then-held-eq0 g c =
     let k = remaining read.reader in
     let o = place contents told c.args.output.now c.args.session.now c.args.door.now in
     let n = place contents told loop.output loop.session loop.door in
-    let begun = take loop.held loop.bytes in
+    let all = take loop.end loop.bytes in
+    let begun = drop loop.start all in
     let h = c.in-Ok.ensures.ok in
     let last = take c.in-Ok.count c.read.new.piece in
     let none : last ≡ [] = ap (λ (m : ℕ). take m c.read.new.piece) c.if-count-eq0.true in
-    let empty : begun ≡ [] = ap (λ (m : ℕ). take m loop.bytes) c.if-held-eq0.true in
+    let none_long : length begun ≡ 0 =
+    omega (
+      arith,
+      c.if-start-end.true,
+      length-drop loop.start all,
+      length-take loop.end loop.bytes,
+    ) in
+    let empty : begun ≡ [] = nil_from_length begun none_long in
     let s =
     so_far_same g.D.Door.goes i (remaining loop.input.reader) k o n (Held begun) last is.so_far
     h.1 none in
@@ -112,14 +126,22 @@ returns-then-count-eq0 g c =
     let k = remaining read.reader in
     let o = place contents told c.args.output.now c.args.session.now c.args.door.now in
     let n = place contents told loop.output loop.session loop.door in
-    let held = loop.held in
-    let begun = take held loop.bytes in
+    let all = take loop.end loop.bytes in
+    let begun = drop loop.start all in
     let h = c.in-Ok.ensures.ok in
     let last = take c.in-Ok.count c.read.new.piece in
     let none : last ≡ [] = ap (λ (m : ℕ). take m c.read.new.piece) c.if-count-eq0.true in
-    let long : length begun ≡ held = omega (arith, length-take held loop.bytes, is.within) in
     let some : begun ≡ [] → ⊥ =
-    λ (e : begun ≡ []). c.if-held-eq0.false (sym long ∙ ap (λ (l : List ℕ). length l) e) in
+    λ (e : begun ≡ []).
+    let none_long : length begun ≡ 0 = ap (λ (l : List ℕ). length l) e in
+    c.if-start-end.false (omega (
+      arith,
+      none_long,
+      length-drop loop.start all,
+      length-take loop.end loop.bytes,
+      is.near,
+      is.within,
+    )) in
     let s =
     so_far_same g.D.Door.goes i (remaining loop.input.reader) k o n (Held begun) last is.so_far
     h.1 none in
@@ -129,6 +151,117 @@ returns-then-count-eq0 g c =
       handed_on = is.held;
       mark = is.well;
       admitted = is.admitted;
+    }
+
+pub shape_of-bytes-in-Err : goal.shape_of-bytes-in-Err
+shape_of-bytes-in-Err g c =
+    let loop = c.pieces in
+    filled_long loop.bytes c.read.new.piece loop.end (length loop.bytes - loop.end)
+    c.in-Err.ensures.room ∙ loop.invariant.room ∙ sym c.requires.room
+
+pub shape_of-bytes-then-start-end : goal.shape_of-bytes-then-start-end
+shape_of-bytes-then-start-end g c =
+    let loop = c.pieces in
+    filled_long loop.bytes c.read.new.piece loop.end (length loop.bytes - loop.end)
+    c.in-Ok.ensures.room ∙ loop.invariant.room ∙ sym c.requires.room
+
+pub shape_of-bytes-then-count-eq0 : goal.shape_of-bytes-then-count-eq0
+shape_of-bytes-then-count-eq0 g c =
+    let loop = c.pieces in
+    filled_long loop.bytes c.read.new.piece loop.end (length loop.bytes - loop.end)
+    c.in-Ok.ensures.room ∙ loop.invariant.room ∙ sym c.requires.room
+
+pub shape_of-bytes-in-Err-take_piece : goal.shape_of-bytes-in-Err-take_piece
+shape_of-bytes-in-Err-take_piece g c =
+    let loop = c.pieces in
+    filled_long loop.bytes c.read.new.piece loop.end (length loop.bytes - loop.end)
+    c.in-Ok.ensures.room ∙ loop.invariant.room ∙ sym c.requires.room
+
+pub overflow_add-filled : goal.overflow_add-filled
+overflow_add-filled g c =
+    let loop = c.pieces in
+    let is = loop.invariant in
+    let bytes = loop.bytes in
+    let end = loop.end in
+    omega (
+      arith,
+      c.in-Ok.ensures.ok.0,
+      c.in-Ok.ensures.room,
+      length-take (length bytes - end) (drop end bytes),
+      length-drop end bytes,
+      is.room,
+      is.within,
+    )
+
+-- the begun frame of all that was there stands where it was settled
+stands_so : (all bytes new : List ℕ) (start used filled first last : ℕ)
+    → all ≡ take (filled - start) (drop start bytes)
+    → drop first (take last new) ≡ drop (start + used) (take filled bytes)
+    → drop used all ≡ drop first (take last new)
+stands_so all bytes new start used filled first last is moved =
+    ap (λ (l : List ℕ). drop used l) (is ∙ between_is bytes start filled)
+    ∙ drop-drop used start (take filled bytes) ∙ sym moved
+
+-- a front of all that is there ends within it
+ends_within : (bytes : List ℕ) (start used filled : ℕ) → start ≤ filled → filled ≤ length bytes
+    → used ≤ length (take (filled - start) (drop start bytes)) → start + used ≤ filled
+ends_within bytes start used filled ordered within h =
+    omega (
+      arith,
+      h,
+      length-take (filled - start) (drop start bytes),
+      length-drop start bytes,
+    )
+
+pub overflow_add-start : goal.overflow_add-start
+overflow_add-start g c =
+    let loop = c.pieces in
+    let is = loop.invariant in
+    let bytes = loop.bytes in
+    let end = loop.end in
+    let piece = c.read.new.piece in
+    let room = put_mid end (length bytes - end) bytes piece in
+    let long : length room ≡ length bytes =
+    filled_long bytes piece end (length bytes - end) c.in-Ok.ensures.room in
+    let few : c.in-Ok.count ≤ length bytes - end =
+    omega (
+      arith,
+      c.in-Ok.ensures.ok.0,
+      c.in-Ok.ensures.room,
+      length-take (length bytes - end) (drop end bytes),
+      length-drop end bytes,
+    ) in
+    let last =
+    ends_within room loop.start c.in-Ok-take_piece.used (end + c.in-Ok.count)
+    (omega (arith, is.near)) (omega (arith, long, few, is.within))
+    c.in-Ok-take_piece.ensures.serves.turn.0 in
+    omega (arith, last, few, is.within, is.room)
+
+pub settled-span-requires : goal.settled-span-requires
+settled-span-requires g c =
+    let loop = c.pieces in
+    let is = loop.invariant in
+    let bytes = loop.bytes in
+    let end = loop.end in
+    let piece = c.read.new.piece in
+    let room = put_mid end (length bytes - end) bytes piece in
+    let long : length room ≡ length bytes =
+    filled_long bytes piece end (length bytes - end) c.in-Ok.ensures.room in
+    let few : c.in-Ok.count ≤ length bytes - end =
+    omega (
+      arith,
+      c.in-Ok.ensures.ok.0,
+      c.in-Ok.ensures.room,
+      length-take (length bytes - end) (drop end bytes),
+      length-drop end bytes,
+    ) in
+    let fits : end + c.in-Ok.count ≤ length room = omega (arith, long, few, is.within) in
+    record {
+      within = (
+        ends_within room loop.start c.in-Ok-take_piece.used (end + c.in-Ok.count)
+            (omega (arith, is.near)) fits c.in-Ok-take_piece.ensures.serves.turn.0,
+        fits,
+      );
     }
 
 pub pieces-preserved : goal.pieces-preserved
@@ -147,26 +280,36 @@ pieces-preserved g c =
     let m = place contents told loop.output loop.session loop.door in
     let n = place contents told next.output next.session next.door in
     let bytes = loop.bytes in
-    let held = loop.held in
+    let start = loop.start in
+    let end = loop.end in
     let piece = c.read.new.piece in
     let count = c.in-Ok.count in
-    let left = c.in-Ok-take_piece.left in
-    let h = c.in-Ok-take_piece.ensures.turns in
+    let used = c.in-Ok-take_piece.used in
+    let span = c.settled-span.result in
+    let new = c.settled-span.new.bytes in
+    let h = c.in-Ok-take_piece.ensures in
     let t = h.serves.turn in
-    let same = filled bytes piece held (length bytes - held) count is.within c.in-Ok.ensures.ok.0 in
-    let all = put_mid held (length bytes - held) bytes piece in
-    let long : length all ≡ length bytes =
-    filled_long bytes piece held (length bytes - held) c.in-Ok.ensures.room in
-    let room = c.in-Ok-take_piece.ensures.room in
+    let room = put_mid end (length bytes - end) bytes piece in
+    let all = take (end + count - start) (drop start room) in
+    let left = Held (drop span.start (take span.end new)) in
+    let long : length room ≡ length bytes =
+    filled_long bytes piece end (length bytes - end) c.in-Ok.ensures.room in
+    let same = filled bytes piece start end (length bytes - end) count (omega (arith, is.near))
+    is.within c.in-Ok.ensures.ok.0 in
+    let spelled : Spells all t.1.0 left =
+    subst (λ (l : List ℕ). Spells all t.1.0 (Held l))
+    (stands_so all room new start used (end + count) span.start span.end refl
+    c.settled-span.ensures.same) t.1.1 in
     record {
       so_far =
           so_far_more g.D.Door.goes (remaining c.args.input.now.reader)
           (remaining loop.input.reader) (remaining c.read.new.self.reader) o m n
-          (Held (take held bytes)) (Held (take left next.bytes)) (take count piece) t.1.0 laws
+          (Held (drop start (take end bytes))) left (take count piece) t.1.0 laws
           is.so_far c.in-Ok.ensures.ok.1
-          (subst (λ (bs : List ℕ). Spells bs t.1.0 (Held (take left next.bytes))) same t.1.1) t.1.2;
-      within = omega (arith, t.0, length-take (held + count) all, room);
-      room = omega (arith, room, long, is.room);
+          (subst (λ (bs : List ℕ). Spells bs t.1.0 left) same spelled) t.1.2;
+      near = c.settled-span.ensures.near;
+      within = c.settled-span.ensures.within;
+      room = omega (arith, c.settled-span.ensures.room, long, is.room);
       input = c.in-Ok.ensures.well;
       well = h.serves.mark;
       held = h.handed_on;
@@ -186,24 +329,24 @@ returns-in-Err-take_piece g c =
     let is = loop.invariant in
     let read = c.read.new.self in
     let next = c.take_piece.new in
-    let end = c.in-Err-take_piece.end in
+    let end = c.in-Err-take_piece.ending in
     let o = place contents told c.args.output.now c.args.session.now c.args.door.now in
     let m = place contents told loop.output loop.session loop.door in
     let n = place contents told next.output next.session next.door in
     let bytes = loop.bytes in
-    let held = loop.held in
     let piece = c.read.new.piece in
     let count = c.in-Ok.count in
-    let h = c.in-Err-take_piece.ensures.turns in
-    let same = filled bytes piece held (length bytes - held) count is.within c.in-Ok.ensures.ok.0 in
+    let h = c.in-Err-take_piece.ensures in
+    let same = filled bytes piece loop.start loop.end (length bytes - loop.end) count
+    (omega (arith, is.near)) is.within c.in-Ok.ensures.ok.0 in
     record {
       conversed =
           turn_ends g.D.Door.goes (remaining c.args.input.now.reader) (remaining loop.input.reader)
-          (remaining read.reader) o m n (take held bytes) (take count piece) _ (first next.bytes) end laws same
-          is.so_far c.in-Ok.ensures.ok.1 h.serves.turn;
+          (remaining read.reader) o m n (drop loop.start (take loop.end bytes)) (take count piece)
+          _ end laws same is.so_far c.in-Ok.ensures.ok.1 h.serves.turn;
       input =
           input_well read.failed read.reads_left end c.in-Ok.ensures.well
-          (turn_no_read g.D.Door.goes _ (first next.bytes) m n end h.serves.turn);
+          (turn_no_read g.D.Door.goes _ m n end h.serves.turn);
       handed_on = h.handed_on;
       mark = h.serves.mark;
       admitted = h.serves.admitted;

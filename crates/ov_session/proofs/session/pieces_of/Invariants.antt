@@ -1,4 +1,4 @@
-use Rattle.std.proofs.Common.{◌≡◌, ◌≤◌, [], false, length, take}
+use Rattle.std.proofs.Common.{◌≡◌, ◌+◌, ◌≤◌, [], false, length, take, drop}
 use Rattle.ov_frames.specs.Streams.{Held}
 use Rattle.ov_session.proofs.SoFar.{SoFar}
 use Rattle.ov_session.specs.Talks.{place}
@@ -13,9 +13,10 @@ invariant-pieces g l =
       so_far : SoFar g.D.Door.goes (remaining l.fn.input.reader) (remaining l.input.reader)
           (place contents told l.fn.output l.fn.session l.fn.door)
           (place contents told l.output l.session l.door)
-          (Held (take l.held l.bytes));
-      within : l.held ≤ length l.bytes;
-      room : 70004 ≤ length l.bytes;
+          (Held (drop l.start (take l.end l.bytes)));
+      near : l.start + l.start ≤ l.end;
+      within : l.end ≤ length l.bytes;
+      room : length l.bytes ≡ 140008;
       input : l.input.failed ≡ false;
       well : l.output.failed ≡ false;
       held : l.output.held.items ≡ [];

@@ -1,4 +1,3 @@
-use Rattle.std.proofs.Common.{ap, subst, sym}
 use Rattle.locked_history.proofs.locked.Locked.give_up.Goals as goal
 
 pub invariant_of-self-clause-legal : goal.invariant_of-self-clause-legal

@@ -1,4 +1,4 @@
-use Rattle.std.proofs.Common.{arith, ◌≡◌, ◌∙◌, ℕ, ◌+◌, ◌-◌, ◌<◌, ◌≤◌, List, ap, is_some, length, map, refl, subst, sym, true, vec_len}
+use Rattle.std.proofs.Common.{arith, ◌≡◌, ◌∙◌, ℕ, ◌+◌, ◌-◌, ◌<◌, is_some, length, map, refl, subst, sym, vec_len}
 use Rattle.std.proofs.lemmas.List.{length-map}
 use Rattle.ov_base.specs.declared.call.Call.{Call}
 use Rattle.plain_model.specs.Runs as runs

@@ -1,4 +1,4 @@
-use Rattle.std.proofs.Common.{arith, ◌≡◌, ◌∙◌, [], map, refl, sym, vec_len}
+use Rattle.std.proofs.Common.{arith, ◌≡◌, [], refl}
 use Rattle.overlay_core.specs.Views.{core_clients, next_client}
 use Rattle.locked_history.proofs.Beginning.{boxes_begin, legal_begins, nobody_yet, none_of, numbers_begin}
 use Rattle.overlay_core.proofs.Histories.{first_places}

@@ -9,10 +9,11 @@ use Rattle.notice_laws.proofs.Lifting.{law_of_altered}
 use Rattle.mount_calls.specs.AttributeCalls.{call_at}
 use Rattle.overlay_core.specs.Watching.{Agrees, HasState, Stays}
 use Rattle.overlay_core.proofs.Altering.{asked-alters, held-key}
-use Rattle.overlay_core.proofs.Performing.{agrees-room, goes-done, goes-refused, on-err, outcome-so, passing, keeps-same}
+use Rattle.overlay_core.proofs.Performing.{agrees-room, goes-done, goes-refused, on-err, outcome-so, passing, keeps-same, kept-by}
 use Rattle.overlay_core.proofs.Watching.{allowed-by, stays, upper_of}
 use Rattle.overlay_core.proofs.Lifted.{altered-file, altered-leads, altered-touches, free-key, free-squashed, lifted-key}
 use Rattle.overlay_core.proofs.Names.{altering-answers}
+use Rattle.mount_calls.specs.Status.{outcome_reply}
 use Rattle.overlay_core.proofs.watched.Watched.alter.Goals as goal
 
 pub object_seen-object-requires : goal.object_seen-object-requires
@@ -31,7 +32,8 @@ returns-in_err-key-clause-err g c =
     let from = c.args.self.now.notifier in
     let mid = c.prepare_lift.new.self in
     let new = c.alter.new.self in
-    on-err c.from_residual-in_err-key.result (Stays old from new mid) (λ s a. stays old new mid mid c.in_err-key.ensures.err c.in_err-key.ensures.stays_live (λ s t. t) s (subst (λ k. Agrees old k s) (sym c.prepare_lift.ensures.rest) (agrees-room from mid.objects c.prepare_lift.ensures.same c.lawful.ensures.known old s a)))
+    let out = (c.in_err-key.ensures.makes c.args.client).no_memory in
+    on-err c.from_residual-in_err-key.result (Stays old from new mid) (λ s a. stays old new mid mid out.states out.live (λ s t. t) s (subst (λ k. Agrees old k s) (sym c.prepare_lift.ensures.rest) (agrees-room from mid.objects c.prepare_lift.ensures.same c.lawful.ensures.known old s a)))
 
 pub returns-in-Err-clause-goes : goal.returns-in-Err-clause-goes
 returns-in-Err-clause-goes g c = λ s a.
@@ -40,7 +42,7 @@ returns-in-Err-clause-goes g c = λ s a.
     let mid = c.prepare_lift.new.self in
     let call = call_at c.args.path.now c.args.call in
     goes-refused g.R.Rule.shows c.args.client call (Refused c.in-Err.errno) old c.alter.new.self mid
-    (outcome-so c.args.client call (Err c.in-Err.errno) _ old c.alter.new.self (sym c.in-Err.is) c.requires.there said.serves said.lowers said.named said.refused)
+    (outcome-so c.args.client call (Err c.in-Err.errno) _ old c.alter.new.self (sym c.in-Err.is) c.requires.there (said.makes c.args.client))
     (λ s. altering-answers s c.args.client c.args.path.now call (asked-alters c.args.path.now c.args.call)) (λ same. cc) s
     (subst (λ k. Agrees old k s) (sym c.prepare_lift.ensures.rest) (agrees-room c.args.self.now.notifier mid.objects c.prepare_lift.ensures.same c.lawful.ensures.known old s a))
 
@@ -53,7 +55,7 @@ altered-requires-clause-free g c =
     let path = c.args.path.now in
     let call = call_at path c.args.call in
     let asks = asked-alters path c.args.call in
-    let done = outcome-so c.args.client call (Ok c.in-Ok.key) _ old new (sym c.in-Ok.is) c.requires.there said.serves said.lowers said.named said.refused in
+    let done = outcome-so c.args.client call (Ok c.in-Ok.key) _ old new (sym c.in-Ok.is) c.requires.there (said.makes c.args.client) in
     free-squashed mid.objects path c.object_seen-object.result c.in-Ok.key c.requires.state
     (λ (x : HasState old c.args.self.now.notifier).
     let s = x.0 in
@@ -63,7 +65,7 @@ altered-requires-clause-free g c =
     free-key (upper_of old) (upper_of new) (lowers_of old.layers) s c.args.client call passes path (altered-touches s path call asks) (altered-file s c.args.client path call asks)
     (altered-leads (upper_of old) (upper_of new) (lowers_of old.layers) s c.args.client path call asks passes) mid a.tracks c.in-Ok.key
     c.object_seen-object.result (c.object_seen-object.ensures path c.look-look.ensures)
-    (λ lower j last is. held-key new.layers path c.in-Ok.key (rw c.in-Ok.is at said.key) j last (subst (λ (x : List Layer). IsObject (upper_of new) x path (object.Upper j last)) (sym (ap (λ x. map layer_of x.items) said.lowers)) is)))
+    (λ lower j last is. held-key new.layers path c.in-Ok.key (rw c.in-Ok.is at said.key) j last (subst (λ (x : List Layer). IsObject (upper_of new) x path (object.Upper j last)) (sym (ap (λ x. map layer_of x.items) (said.makes c.args.client).lowers)) is)))
 
 pub returns-in-Ok-clause-goes : goal.returns-in-Ok-clause-goes
 returns-in-Ok-clause-goes g c = λ s a.
@@ -75,14 +77,26 @@ returns-in-Ok-clause-goes g c = λ s a.
     let path = c.args.path.now in
     let call = call_at path c.args.call in
     let asks = asked-alters path c.args.call in
-    let done = outcome-so c.args.client call (Ok c.in-Ok.key) _ old new (sym c.in-Ok.is) c.requires.there said.serves said.lowers said.named said.refused in
+    let done = outcome-so c.args.client call (Ok c.in-Ok.key) _ old new (sym c.in-Ok.is) c.requires.there (said.makes c.args.client) in
     goes-done g.R.Rule.shows c.args.client call Done old new mid done to refl (λ s a passes. law_of_altered g.R.Rule.shows (upper_of old) (upper_of new) (lowers_of old.layers) s c.args.client path call asks passes
     c.object_seen-object.result c.in-Ok.key (c.object_seen-object.ensures path c.look-look.ensures) mid to
     (lifted-key (upper_of old) (upper_of new) (lowers_of old.layers) s c.args.client call passes path (altered-touches s path call asks) (altered-file s c.args.client path call asks)
     (altered-leads (upper_of old) (upper_of new) (lowers_of old.layers) s c.args.client path call asks passes) mid a.tracks c.in-Ok.key c.object_seen-object.result (c.object_seen-object.ensures path c.look-look.ensures)
-    (λ lower j last is. held-key new.layers path c.in-Ok.key (rw c.in-Ok.is at said.key) j last (subst (λ (x : List Layer). IsObject (upper_of new) x path (object.Upper j last)) (sym (ap (λ x. map layer_of x.items) said.lowers)) is)))
+    (λ lower j last is. held-key new.layers path c.in-Ok.key (rw c.in-Ok.is at said.key) j last (subst (λ (x : List Layer). IsObject (upper_of new) x path (object.Upper j last)) (sym (ap (λ x. map layer_of x.items) (said.makes c.args.client).lowers)) is)))
     a.tracks c.lawful-in-Ok.ensures.known c.altered.ensures) s
     (subst (λ k. Agrees old k s) (sym c.prepare_lift.ensures.rest) (agrees-room c.args.self.now.notifier mid.objects c.prepare_lift.ensures.same c.lawful.ensures.known old s a))
 
 pub returns-in_err-prepare_lift-clause-kept : goal.returns-in_err-prepare_lift-clause-kept
 returns-in_err-prepare_lift-clause-kept g c = keeps-same (call_at c.args.path.now c.args.call) c.args.self.now.mount
+
+pub returns-in_err-key-clause-kept : goal.returns-in_err-key-clause-kept
+returns-in_err-key-clause-kept g c = kept-by (c.alter.ensures.makes c.args.client)
+
+pub returns-in-Err-clause-kept : goal.returns-in-Err-clause-kept
+returns-in-Err-clause-kept g c = kept-by (c.alter.ensures.makes c.args.client)
+
+pub returns-in-Ok-clause-kept : goal.returns-in-Ok-clause-kept
+returns-in-Ok-clause-kept g c = kept-by (c.alter.ensures.makes c.args.client)
+
+pub returns-in-Err-clause-refused : goal.returns-in-Err-clause-refused
+returns-in-Err-clause-refused g c = λ e is. (c.in_ok-key.ensures.makes c.args.client).answers.refused c.in-Err.errno (ap outcome_reply c.in-Err.is)

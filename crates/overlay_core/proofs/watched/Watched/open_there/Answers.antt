@@ -40,7 +40,7 @@ returns-in-Err-clause-err g c =
     let new = c.open_judged.new.self in
     let back = c.cancel_open.new.self in
     let ready = c.in_ok-prepared.ensures.ready in
-    stays old new from back c.in-Err.ensures.err c.in-Err.ensures.stays_live
+    stays old new from back c.in-Err.ensures.no_memory.states c.in-Err.ensures.no_memory.live
     (λ s t. back-tracks (upper_of old) s from back c.lawful-in-Err.ensures.known (c.cancel_open.ensures from ready.handle ready.readies) t)
 
 pub opened-requires : goal.opened-requires
@@ -54,7 +54,7 @@ opened-requires g c =
     let new = c.open_judged.new.self in
     let said = c.in-Ok.ensures in
     let ready = c.in_ok-prepared.ensures.ready in
-    let done : Performed client call reply old new = record { there = c.requires.there; serves = said.serves; lowers = c.open_judged.ensures.lowers; named = said.named; refused = λ e is. absurd (let no : Descriptor fd ≡ Refused e = is in cc) } in (
+    let done : Performed client call reply old new = record { there = c.requires.there; serves = said.answers.serves; lowers = c.open_judged.ensures.lowers; named = said.answers.named; refused = said.answers.refused } in (
       c.args.path.now,
       (ready.handle, ready.readies.sets.here, found-held ready.holds.mid c.prepare_open-prepared.new.self.objects c.args.path.now c.args.object ready.handle.object ready.holds.object),
       λ writes. (
@@ -77,7 +77,7 @@ returns-in-Ok-clause-goes g c =
     let new = c.open_judged.new.self in
     let said = c.in-Ok.ensures in
     let ready = c.in_ok-prepared.ensures.ready in
-    let done : Performed client call reply old new = record { there = c.requires.there; serves = said.serves; lowers = c.open_judged.ensures.lowers; named = said.named; refused = λ e is. absurd (let no : Descriptor fd ≡ Refused e = is in cc) } in
+    let done : Performed client call reply old new = record { there = c.requires.there; serves = said.answers.serves; lowers = c.open_judged.ensures.lowers; named = said.answers.named; refused = said.answers.refused } in
     goes-opened g.R.Rule.shows client c.args.path.now c.args.flags c.args.judged.mode call refl reply old new from done c.args.object
     c.requires.stands c.requires.something c.lawful.ensures.known c.lawful.ensures.given c.prepare_open-prepared.new.self
     fd ready c.requires.judged.free c.key_opened-key.result c.key_opened-key.ensures

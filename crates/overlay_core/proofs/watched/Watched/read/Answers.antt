@@ -1,7 +1,8 @@
 use Rattle.std.proofs.Common.{refl, sym, ◌∙◌}
 use Rattle.ov_base.specs.declared.call.Call.TheVariants.{Read}
-use Rattle.overlay_core.proofs.Making.{performed-by, performs-out, performs-told}
+use Rattle.overlay_core.proofs.Making.{performs-out, performs-told}
 use Rattle.overlay_core.proofs.Uses.{goes-read, goes-unread, none-bytes, open-tracked, read-open, same-bytes, some-bytes}
+use Rattle.overlay_core.proofs.Performing.{performed-by}
 use Rattle.overlay_core.proofs.watched.Watched.read.Goals as goal
 use Rattle.overlay_core.proofs.watched.Watched.read.Goals.{in-Read+then-not-is_empty, in-Read+else-not-is_empty, in_default}
 

@@ -1,4 +1,4 @@
-use Rattle.std.proofs.Common.{None, Some, not, ap, ◌∙◌, ◌≢◌, [], rules, arith}
+use Rattle.std.proofs.Common.{None, Some, not, sym, ap, subst, ◌∙◌, ◌≢◌, [], rules, arith}
 use Rattle.std.proofs.lemmas.Grind.{common_steps}
 use Rattle.ov_base.specs.declared.call.Call.TheVariants.{Rename}
 use Rattle.ov_base.specs.declared.reply.Reply.TheVariants.{Done, Refused}
@@ -6,8 +6,9 @@ use Rattle.notice_laws.specs.Notified.{Notified}
 use Rattle.mount_calls.specs.Looking.{IsKeyAt}
 use Rattle.mount_calls.specs.Status.{outcome_reply}
 use Rattle.overlay_core.proofs.MovesHeld.{given-up, held-for}
-use Rattle.overlay_core.proofs.Performing.{goes-as, performed-outcome, state-of, keeps-same}
+use Rattle.overlay_core.proofs.Performing.{goes-as, performed-by, state-of, keeps-same, kept-by}
 use Rattle.overlay_core.proofs.RenamesTold.{as-called, back-agrees, clients-counted, goes-given-up, goes-moved, goes-same, key-told, moved-told, moving-free, moving-place, split-empty, stays-given-up}
+use Rattle.overlay_core.specs.Watching.{Keeps}
 use Rattle.overlay_core.proofs.watched.Watched.rename.Goals as goal
 
 pub rename_onto_root-requires-clause-root : goal.rename_onto_root-requires-clause-root
@@ -50,8 +51,7 @@ moved-requires-clause-free g c =
     (held-for c.args.self.now.notifier c.cancel_move.new.self c.prepare_move-prepared.new.self c.args.new.now c.cancel_move.ensures.rest
     c.cancel_move.ensures.fewer c.cancel_move.ensures.unpinned c.lawful.ensures.known c.lawful.ensures.counts c.lawful.ensures.held
     c.lawful.ensures.given c.prepare_move-prepared.ensures.rest c.prepare_move-prepared.ensures.held)
-    (performed-outcome c.args.client (Rename c.args.old.now c.args.new.now) c.in-Ok-Ok-Some.field-0 c.args.self.now.mount c.rename_moving.new.self c.requires.there
-    c.in-Ok-Ok-Some.ensures.serves c.in-Ok-Ok-Some.ensures.lowers c.in-Ok-Ok-Some.ensures.named c.in-Ok-Ok-Some.ensures.refused)
+    (performed-by c.requires.there (c.in-Ok-Ok-Some.ensures.makes c.args.client))
     (ap outcome_reply c.in-Ok-Ok-Some.field-0-is)
     (moved-told c.in-Ok-Ok-Some.field-0 c.in-Ok-Ok-Some.field-0-0 (Some c.in-Ok-Ok-Some.key) _ c.in-Ok-Ok-Some.field-0-is c.in-Ok-Ok-Some.field-0-0-is c.in-Ok-Ok-Some.ensures.moves)
     c.lawful-2.ensures.known c.object_seen-object.result c.object_seen-replaced.result (c.object_seen-object.ensures c.args.old.now c.look-from.ensures) (c.object_seen-replaced.ensures c.args.new.now c.look-onto.ensures)
@@ -65,8 +65,7 @@ moved-requires-clause-place g c =
     (held-for c.args.self.now.notifier c.cancel_move.new.self c.prepare_move-prepared.new.self c.args.new.now c.cancel_move.ensures.rest
     c.cancel_move.ensures.fewer c.cancel_move.ensures.unpinned c.lawful.ensures.known c.lawful.ensures.counts c.lawful.ensures.held
     c.lawful.ensures.given c.prepare_move-prepared.ensures.rest c.prepare_move-prepared.ensures.held)
-    (performed-outcome c.args.client (Rename c.args.old.now c.args.new.now) c.in-Ok-Ok-Some.field-0 c.args.self.now.mount c.rename_moving.new.self c.requires.there
-    c.in-Ok-Ok-Some.ensures.serves c.in-Ok-Ok-Some.ensures.lowers c.in-Ok-Ok-Some.ensures.named c.in-Ok-Ok-Some.ensures.refused)
+    (performed-by c.requires.there (c.in-Ok-Ok-Some.ensures.makes c.args.client))
     (ap outcome_reply c.in-Ok-Ok-Some.field-0-is)
     (moved-told c.in-Ok-Ok-Some.field-0 c.in-Ok-Ok-Some.field-0-0 (Some c.in-Ok-Ok-Some.key) _ c.in-Ok-Ok-Some.field-0-is c.in-Ok-Ok-Some.field-0-0-is c.in-Ok-Ok-Some.ensures.moves)
     c.lawful-2.ensures.known c.object_seen-object.result c.object_seen-replaced.result (c.object_seen-object.ensures c.args.old.now c.look-from.ensures) (c.object_seen-replaced.ensures c.args.new.now c.look-onto.ensures)
@@ -81,8 +80,7 @@ returns-in-Ok-Ok-Some-clause-goes g c =
     (held-for c.args.self.now.notifier c.cancel_move.new.self c.prepare_move-prepared.new.self c.args.new.now c.cancel_move.ensures.rest
     c.cancel_move.ensures.fewer c.cancel_move.ensures.unpinned c.lawful.ensures.known c.lawful.ensures.counts c.lawful.ensures.held
     c.lawful.ensures.given c.prepare_move-prepared.ensures.rest c.prepare_move-prepared.ensures.held)
-    (performed-outcome c.args.client (Rename c.args.old.now c.args.new.now) c.in-Ok-Ok-Some.field-0 c.args.self.now.mount c.rename_moving.new.self c.requires.there
-    c.in-Ok-Ok-Some.ensures.serves c.in-Ok-Ok-Some.ensures.lowers c.in-Ok-Ok-Some.ensures.named c.in-Ok-Ok-Some.ensures.refused)
+    (performed-by c.requires.there (c.in-Ok-Ok-Some.ensures.makes c.args.client))
     (ap outcome_reply c.in-Ok-Ok-Some.field-0-is)
     (moved-told c.in-Ok-Ok-Some.field-0 c.in-Ok-Ok-Some.field-0-0 (Some c.in-Ok-Ok-Some.key) _ c.in-Ok-Ok-Some.field-0-is c.in-Ok-Ok-Some.field-0-0-is c.in-Ok-Ok-Some.ensures.moves)
     c.lawful-2.ensures.known c.object_seen-object.result c.object_seen-replaced.result (c.object_seen-object.ensures c.args.old.now c.look-from.ensures) (c.object_seen-replaced.ensures c.args.new.now c.look-onto.ensures)
@@ -97,8 +95,7 @@ returns-in-Ok-Ok-None-clause-goes g c =
     (held-for c.args.self.now.notifier c.cancel_move.new.self c.prepare_move-prepared.new.self c.args.new.now c.cancel_move.ensures.rest
     c.cancel_move.ensures.fewer c.cancel_move.ensures.unpinned c.lawful.ensures.known c.lawful.ensures.counts c.lawful.ensures.held
     c.lawful.ensures.given c.prepare_move-prepared.ensures.rest c.prepare_move-prepared.ensures.held)
-    (performed-outcome c.args.client (Rename c.args.old.now c.args.new.now) c.in-Ok-Ok-None.field-0 c.args.self.now.mount c.rename_moving.new.self c.requires.there
-    c.in-Ok-Ok-None.ensures.serves c.in-Ok-Ok-None.ensures.lowers c.in-Ok-Ok-None.ensures.named c.in-Ok-Ok-None.ensures.refused)
+    (performed-by c.requires.there (c.in-Ok-Ok-None.ensures.makes c.args.client))
     (ap outcome_reply c.in-Ok-Ok-None.field-0-is)
     (moved-told c.in-Ok-Ok-None.field-0 c.in-Ok-Ok-None.field-0-0 None _ c.in-Ok-Ok-None.field-0-is c.in-Ok-Ok-None.field-0-0-is c.in-Ok-Ok-None.ensures.moves)
     c.cancel_move-in-Ok-Ok-None.new.self
@@ -114,8 +111,7 @@ returns-in-Ok-Err-clause-goes g c =
     (held-for c.args.self.now.notifier c.cancel_move.new.self c.prepare_move-prepared.new.self c.args.new.now c.cancel_move.ensures.rest
     c.cancel_move.ensures.fewer c.cancel_move.ensures.unpinned c.lawful.ensures.known c.lawful.ensures.counts c.lawful.ensures.held
     c.lawful.ensures.given c.prepare_move-prepared.ensures.rest c.prepare_move-prepared.ensures.held)
-    (performed-outcome c.args.client (Rename c.args.old.now c.args.new.now) c.in-Ok-Err.field-0 c.args.self.now.mount c.rename_moving.new.self c.requires.there
-    c.in-Ok-Err.ensures.serves c.in-Ok-Err.ensures.lowers c.in-Ok-Err.ensures.named c.in-Ok-Err.ensures.refused)
+    (performed-by c.requires.there (c.in-Ok-Err.ensures.makes c.args.client))
     c.in-Ok-Err.errno (ap outcome_reply c.in-Ok-Err.field-0-is) c.cancel_move-in-Ok-Err.new.self
     (given-up c.prepare_move-prepared.new.self c.cancel_move-in-Ok-Err.new.self c.cancel_move-in-Ok-Err.ensures.rest c.cancel_move-in-Ok-Err.ensures.fewer
     c.cancel_move-in-Ok-Err.ensures.unpinned c.lawful-in-Ok-Err.ensures.known c.lawful-in-Ok-Err.ensures.counts c.lawful-in-Ok-Err.ensures.held))
@@ -129,7 +125,22 @@ returns-in-Err-rename_moving-clause-err g c =
     c.lawful.ensures.given c.prepare_move-prepared.ensures.rest c.prepare_move-prepared.ensures.held)
     (given-up c.prepare_move-prepared.new.self c.cancel_move-in-Err-rename_moving.new.self c.cancel_move-in-Err-rename_moving.ensures.rest c.cancel_move-in-Err-rename_moving.ensures.fewer
     c.cancel_move-in-Err-rename_moving.ensures.unpinned c.lawful-in-Err-rename_moving.ensures.known c.lawful-in-Err-rename_moving.ensures.counts c.lawful-in-Err-rename_moving.ensures.held)
-    c.in-Err-rename_moving.ensures.err c.in-Err-rename_moving.ensures.stays_live
+    (c.in-Err-rename_moving.ensures.makes c.args.client).no_memory.states (c.in-Err-rename_moving.ensures.makes c.args.client).no_memory.live
 
 pub returns-in-Err-clause-kept : goal.returns-in-Err-clause-kept
 returns-in-Err-clause-kept g c = keeps-same c.args.call.now c.args.self.now.mount
+
+pub returns-in-Ok-Ok-Some-clause-kept : goal.returns-in-Ok-Ok-Some-clause-kept
+returns-in-Ok-Ok-Some-clause-kept g c = subst (λ k. Keeps k c.args.self.now.mount c.rename_moving.new.self) (sym c.requires.call) (kept-by (c.rename_moving.ensures.makes c.args.client))
+
+pub returns-in-Ok-Ok-None-clause-kept : goal.returns-in-Ok-Ok-None-clause-kept
+returns-in-Ok-Ok-None-clause-kept g c = subst (λ k. Keeps k c.args.self.now.mount c.rename_moving.new.self) (sym c.requires.call) (kept-by (c.rename_moving.ensures.makes c.args.client))
+
+pub returns-in-Ok-Err-clause-kept : goal.returns-in-Ok-Err-clause-kept
+returns-in-Ok-Err-clause-kept g c = subst (λ k. Keeps k c.args.self.now.mount c.rename_moving.new.self) (sym c.requires.call) (kept-by (c.rename_moving.ensures.makes c.args.client))
+
+pub returns-in-Err-rename_moving-clause-kept : goal.returns-in-Err-rename_moving-clause-kept
+returns-in-Err-rename_moving-clause-kept g c = subst (λ k. Keeps k c.args.self.now.mount c.rename_moving.new.self) (sym c.requires.call) (kept-by (c.rename_moving.ensures.makes c.args.client))
+
+pub returns-in-Ok-Err-clause-refused : goal.returns-in-Ok-Err-clause-refused
+returns-in-Ok-Err-clause-refused g c = λ e is. (c.in-Ok-Err.ensures.makes c.args.client).answers.refused c.in-Ok-Err.errno (ap outcome_reply c.in-Ok-Err.field-0-is)

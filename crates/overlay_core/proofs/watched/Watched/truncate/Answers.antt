@@ -1,7 +1,8 @@
 use Rattle.std.proofs.Common.{refl, sym, ◌∙◌}
 use Rattle.ov_base.specs.declared.call.Call.TheVariants.{Truncate}
-use Rattle.overlay_core.proofs.Making.{performed-by, performs-out, performs-told}
+use Rattle.overlay_core.proofs.Making.{performs-out, performs-told}
 use Rattle.overlay_core.proofs.Uses.{goes-refused, goes-truncated, open-tracked, truncate-open}
+use Rattle.overlay_core.proofs.Performing.{performed-by}
 use Rattle.overlay_core.proofs.watched.Watched.truncate.Goals as goal
 use Rattle.overlay_core.proofs.watched.Watched.truncate.Goals.{in-Done, in_default}
 

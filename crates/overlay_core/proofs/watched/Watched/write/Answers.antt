@@ -1,7 +1,8 @@
 use Rattle.std.proofs.Common.{ap, refl, sym, ◌∙◌}
 use Rattle.ov_base.specs.declared.call.Call.TheVariants.{Write}
-use Rattle.overlay_core.proofs.Making.{performed-by, performs-out, performs-told}
+use Rattle.overlay_core.proofs.Making.{performs-out, performs-told}
 use Rattle.overlay_core.proofs.Uses.{goes-refused, goes-unwritten, goes-written, none-bytes, open-tracked, some-bytes, write-open}
+use Rattle.overlay_core.proofs.Performing.{performed-by}
 use Rattle.overlay_core.proofs.watched.Watched.write.Goals as goal
 use Rattle.overlay_core.proofs.watched.Watched.write.Goals.{in-Written+then-not-is_empty, in-Written+else-not-is_empty, in_default}
 
