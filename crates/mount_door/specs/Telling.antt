@@ -90,5 +90,5 @@ IsCall did = (call : Call) × (reply : Reply) × (did ≡ deed.Called call reply
 -- a call was answered by the reply in its entry, at its place, as this receipt says
 abbrev pub IsToldBy : Claim → ℕ → Call → Answer → Type 0
 IsToldBy claim client call answer =
-    ∥ (reply : Reply) × (answer ≡ Replied claim.place reply)
-    × Claims claim claim.place client (deed.Called call reply) ∥₁
+    ∥ ((reply : Reply) × (answer ≡ Replied claim.place reply)
+    × Claims claim claim.place client (deed.Called call reply)) ∥₁

@@ -1,5 +1,5 @@
 // A whole session of a mount's client.
-ghost use Rattle.std.specs.Prelude.{◌≡◌, ◌<◌, [], false, tt};
+ghost use Rattle.std.specs.Prelude.{◌≡◌, ◌<◌, [], false};
 ghost use Rattle.std.specs.Vec.{vec_capacity, vec_len};
 ghost use Rattle.ov_session.specs.Sessions.{IsSession};
 ghost use Rattle.mount_door.specs.Telling.{Answering};
