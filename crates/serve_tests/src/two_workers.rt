@@ -93,8 +93,9 @@ where
         move || serve_blank::<N, F, R, H>(rt, alloc, socket, blank, &[], told, how),
         || two_clients(rt, path),
     );
-    fs::remove_file(rt, path)?;
+    let removed = fs::remove_file(rt, path);
     asked?;
+    removed?;
     let (past, left) = history?;
     assert_eq!(rt; left.len(), 0);
     assert_eq!(rt; past.len(), 8);
