@@ -69,36 +69,36 @@ tells_both client (Departed (NotTaken errno) ∷ xs) ys claims more h k =
     tells_both client xs ys claims more h k
 
 -- one receipt more
-pub claimed_more : {client : ℕ} {told : List Exchange} {claims : List Claim} (claim : Claim) →
+pub claimed_more : (client : ℕ) (told : List Exchange) (claims : List Claim) (claim : Claim) →
     ∥ Tells client told claims ∥₁ → ∥ Tells client told (claims ++ claim ∷ []) ∥₁
-claimed_more {client} {told} {claims} claim h =
+claimed_more client told claims claim h =
     ∥∥₁_map h (λ t. rw (← append-nil told) (tells_both client told [] claims (claim ∷ []) t tt))
 
 -- one reply more, which a receipt more claims
-pub claimed_call : {client next : ℕ} {told : List Exchange} {claims : List Claim} (claim : Claim)
+pub claimed_call : (client next : ℕ) (told : List Exchange) (claims : List Claim) (claim : Claim)
     (call : Call) (answer : Answer) → next ≡ client →
     IsToldBy claim client call answer →
     ∥ Tells client told claims ∥₁ →
     ∥ Tells next (told ++ Called call answer ∷ []) (claims ++ claim ∷ []) ∥₁
-claimed_call {client} {next} {told} {claims} claim call answer same c h =
+claimed_call client next told claims claim call answer same c h =
     ∥∥₁_elim c ∥∥₁_prop (λ x. ∥∥₁_map h (λ t.
     rw (same, x.1) (tells_both client told (Called call (Replied claim.place x.0) ∷ []) claims
     (claim ∷ []) t ([], ([], claim, refl, x.2), tt))))
 
 -- the detach more, which a receipt more claims
-pub claimed_detach : {client : ℕ} {told : List Exchange} {claims : List Claim} (claim : Claim)
+pub claimed_detach : (client : ℕ) (told : List Exchange) (claims : List Claim) (claim : Claim)
     (reply : Reply) →
     Claims claim claim.place client deed.Detached →
     ∥ Tells client told claims ∥₁ →
     ∥ Tells client (told ++ Departed (Replied claim.place reply) ∷ []) (claims ++ claim ∷ []) ∥₁
-claimed_detach {client} {told} {claims} claim reply c h =
+claimed_detach client told claims claim reply c h =
     ∥∥₁_map h (λ t.
     tells_both client told (Departed (Replied claim.place reply) ∷ []) claims (claim ∷ []) t
     ([], ([], claim, refl, c), tt))
 
 -- what no receipt has to claim
-pub claimed_none : {client : ℕ} {told : List Exchange} {claims : List Claim} (x : Exchange) →
+pub claimed_none : (client : ℕ) (told : List Exchange) (claims : List Claim) (x : Exchange) →
     Tells client (x ∷ []) [] →
     ∥ Tells client told claims ∥₁ → ∥ Tells client (told ++ x ∷ []) claims ∥₁
-claimed_none {client} {told} {claims} x none h =
+claimed_none client told claims x none h =
     ∥∥₁_map h (λ t. rw (← append-nil claims) (tells_both client told (x ∷ []) claims [] t none))

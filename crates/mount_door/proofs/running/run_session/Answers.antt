@@ -8,7 +8,6 @@ returns g c =
     let s = c.session_run-ending.ensures.session in
     record {
       heard = s.heard;
-      unfed = s.unfed;
       farewell = s.farewell;
       added = s.added ∙ ap
           (λ (t : List Exchange). t ++ ((s.heard.told ++ s.heard.stopped) ++ Departed s.farewell ∷ []))

@@ -9,6 +9,6 @@ invariant_of-self g c =
     let was = c.args.self.now in
     let x = HeldBack c.args.call.value in
     record {
-      claimed = rw c.and_held_back-self.ensures (claimed_none x tt was.claimed);
+      claimed = rw c.and_held_back-self.ensures (claimed_none was.session.client was.told was.receipts.items x tt was.claimed);
       last = rw (c.and_held_back-self.ensures, last_more was.told x) refl;
     }

@@ -6,6 +6,6 @@ invariant_of-self g c =
     let was = c.args.self.now in
     record {
       claimed = rw (c.requires.client, c.push_reserved.ensures.items)
-          (claimed_more c.args.receipt was.claimed);
+          (claimed_more was.session.client was.told was.receipts.items c.args.receipt was.claimed);
       last = was.last;
     }

@@ -11,7 +11,7 @@ invariant_of-self g c =
     let was = c.args.self.now in
     record {
       claimed = rw (c.and_departed-self.ensures, c.place.ensures, c.push_reserved.ensures.items)
-          (claimed_detach c.args.receipt Done c.requires.claims was.claimed);
+          (claimed_detach was.session.client was.told was.receipts.items c.args.receipt Done c.requires.claims was.claimed);
       last = rw (
         c.and_departed-self.ensures,
         last_more was.told (Departed (Replied c.place.result Done)),

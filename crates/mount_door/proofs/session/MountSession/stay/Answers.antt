@@ -10,6 +10,6 @@ invariant_of-self g c =
     let was = c.args.self.now in
     let x = Departed (NotTaken c.args.errno) in
     record {
-      claimed = rw c.and_departed-self.ensures (claimed_none x tt was.claimed);
+      claimed = rw c.and_departed-self.ensures (claimed_none was.session.client was.told was.receipts.items x tt was.claimed);
       last = rw (c.and_departed-self.ensures, last_more was.told x) refl;
     }

@@ -9,7 +9,7 @@ invariant_of-self g c =
     let was = c.args.self.now in
     record {
       claimed = rw (c.and_called-self.ensures, c.push_reserved.ensures.items)
-          (claimed_call c.args.receipt c.args.call.value c.args.answer c.requires.client
+          (claimed_call was.session.client c.args.next.client was.told was.receipts.items c.args.receipt c.args.call.value c.args.answer c.requires.client
           c.requires.claims was.claimed);
       last = rw (c.and_called-self.ensures, last_more was.told (Called c.args.call.value c.args.answer))
           refl;
