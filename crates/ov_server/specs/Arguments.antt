@@ -1,6 +1,7 @@
 -- The command line of the program, and what its words ask for.
 use Rattle.std.specs.Prelude.{◌≡◌, ℕ, Bool, List, [], ◌∷◌, Option, Some, None, Ok, true, false}
 use Rattle.std.specs.Prelude.{IfSome, codes, drop, ◌⊎◌}
+use Rattle.core.specs.declared.str.parse.ParseIntError.{ParseIntError}
 use Rattle.std.specs.Str.Parse.{ParsesUnsigned}
 use Rattle.clap.specs.Simple.{App, new_app, new_rule, on_top, subcommand_of, subcommand_rows_of, with_rule, with_subcommand}
 use Rattle.clap.specs.Takes.{takes}
@@ -84,7 +85,9 @@ manifest_named (Serve manifest socket workers sessions verbose) = manifest.now
 
 -- the text is this number in decimal
 abbrev pub Spells : Option (List ℕ) → ℕ → Type 0
-Spells text n = (digits : List ℕ) × (text ≡ Some digits) × ParsesUnsigned 64 10 digits (Ok n)
+Spells text n =
+    (digits : List ℕ) × (text ≡ Some digits)
+    × ParsesUnsigned {E = ParseIntError} 64 10 digits (Ok n)
 
 -- what a parse of `serve` says: the socket, the numbers of workers and of sessions, and whether what
 -- is served is told
