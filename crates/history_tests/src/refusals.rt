@@ -55,7 +55,8 @@ fn fills<N: MountName, F: Callback + Drop, R: Rule, H: Wait + Abort>(
     if past.len() != 3 {
         return Err(Fail::from("not three entries"));
     }
-    let last = past.entry(2);
+    let mut last = past.event(2);
+    let last = past.event_of(&mut last);
     assert!(rt; last.client == 0 && last.number == 3);
     Ok(())
 }

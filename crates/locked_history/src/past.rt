@@ -1,5 +1,5 @@
 // What is left of a mount when its threads have ended.
-ghost use Rattle.std.specs.Prelude.{◌≡◌, ◌<◌, ◌≤◌, All, Some, count_by, filter, is_some, length, map, slice_get, take, true, vec_len};
+ghost use Rattle.std.specs.Prelude.{◌≡◌, ◌<◌, ◌≤◌, All, Some, count_by, false, filter, is_some, length, map, slice_get, take, true, vec_len};
 ghost use Rattle.once_cell.specs.Once.{cell_name};
 ghost use Rattle.locked_history.specs.Claims.{StandsIn, is_past_end, uncounted};
 ghost use Rattle.locked_history.specs.Entries.{entry_in, history_of};
@@ -47,14 +47,29 @@ impl<N: MountName, F: Callback, R: Rule> Past<N, F, R> {
         &self.core
     }
 
-    /// The entry at a place. What is known of a cell is reached by `&mut` alone.
-    pub fn entry(&mut self, place: usize) -> &Entry
+    /// A receipt of the entry at a place. What is known of a cell is reached by `&mut` alone.
+    pub fn event(&mut self, place: usize) -> Receipt<N>
         requires { place < length (entries_past self.old) }
-        ensures entry { slice_get (entries_past self.old) place ≡ Some result.now }
+        ensures entry { slice_get (entries_past self.old) place ≡ Some result.entry }
+        ensures place { (result.place ≡ place) × (result.counted ≡ false) }
         ensures same { self.new ≡ self.old }
     {
         let note = &mut self.notes[place];
-        match self.row[place].get_as(note) {
+        let known = note.again();
+        Receipt {
+            place,
+            note: known,
+            share: None,
+        }
+    }
+
+    /// The entry of a receipt, which is as it was.
+    pub fn event_of<'a>(&'a self, receipt: &mut Receipt<N>) -> &'a Entry
+        ensures entry { result.now ≡ receipt.old.entry }
+        ensures same { receipt.new ≡ receipt.old }
+    {
+        let cell = &self.row[receipt.place];
+        match cell.get_as(&mut receipt.note) {
             Some(entry) => entry,
             None => unreachable!(),
         }
