@@ -55,8 +55,8 @@ fn fills<N: MountName, F: Callback + Drop, R: Rule, H: Wait + Abort>(
     if past.len() != 3 {
         return Err(Fail::from("not three entries"));
     }
-    let mut last = past.event(2);
-    let last = past.event_of(&mut last);
+    let mut ended = past.event(2);
+    let last = past.event_of(&mut ended);
     assert!(rt; last.client == 0 && last.number == 3);
     Ok(())
 }
