@@ -3,7 +3,6 @@ use Rattle.std.specs.Prelude.{◌≡◌, true, List, [], ◌∷◌, ◌++◌, le
 use Rattle.overlay_core.specs.Views.{CoreGoes, CoreStays, core_clients, core_finished}
 use Rattle.mount_calls.specs.Attaching.{KeepsAttached}
 use Rattle.overlay_core.specs.declared.mounted.Core.{Core}
-use Rattle.core.specs.declared.ledger.Ledger.{Ghosts as Ledger}
 use Rattle.locked_history.specs.declared.entry.Entry.{Entry}
 use Rattle.locked_history.specs.declared.locked.Locked.{Locked}
 use Rattle.locked_history.specs.declared.past.Past.{Past}
@@ -22,12 +21,11 @@ module _ {N F G : Type 0} {name : MountName N} {asks : Callback F} {rule : Rule 
   abbrev pub entries_in : Locked N F G name asks rule → List Entry
   entries_in l = map (λ n. entry_in n.known) l.notes.items
 
-module _ {N F G : Type 0} {name : MountName N} {ledger : Ledger N} {asks : Callback F} {rule : Rule G} where
   -- the core that a past ends in, and its history
-  abbrev pub core_past : Past N F G name ledger asks rule → Core F G asks rule
+  abbrev pub core_past : Past N F G name asks rule → Core F G asks rule
   core_past p = p.core
 
-  abbrev pub entries_past : Past N F G name ledger asks rule → List Entry
+  abbrev pub entries_past : Past N F G name asks rule → List Entry
   entries_past p = map (λ n. entry_in n.known) p.notes.items
 
 -- the history is longer by the entry that a counted receipt claims, at the place behind its last;

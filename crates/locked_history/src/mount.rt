@@ -17,7 +17,6 @@ use once_cell::race::OnceBox;
 use ov_base::{Call, Errno};
 use overlay_core::Job;
 use std::alloc::{AllocError, Global};
-use std::marker::PhantomData;
 use std::sync::{Mutex, Wait};
 use watch_table::{Callback, Hook, NotAttached, Rule};
 
@@ -215,7 +214,7 @@ impl<N: MountName, F: Callback, R: Rule> Mount<N, F, R> {
             core,
             notes,
             row,
-            of: PhantomData,
+            book,
         };
         (past, receipts)
     }

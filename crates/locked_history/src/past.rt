@@ -10,7 +10,6 @@ use crate::mount_name::MountName;
 use crate::receipt::Receipt;
 use once_cell::race::{Note, OnceBox};
 use overlay_core::Core;
-use std::marker::PhantomData;
 use std::sync::ledger::{Book, Share};
 use watch_table::{Callback, Rule};
 
@@ -21,7 +20,7 @@ pub struct Past<N: MountName, F: Callback, R: Rule> {
     pub(crate) core: Core<F, R>,
     pub(crate) notes: Vec<Note<Entry>>,
     pub(crate) row: Vec<OnceBox<Entry>>,
-    pub(crate) of: PhantomData<N>,
+    pub(crate) book: Book<N>,
     ghost legal: { ∥ Legally N.opening (history_of (map (λ n. entry_in n.known) notes.items))
         core ∥₁ },
     ghost names: { map (λ n. n.cell) notes.items ≡ take (vec_len notes) N.cells },
