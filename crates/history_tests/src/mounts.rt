@@ -45,25 +45,26 @@ pub fn blank_of<F: Callback + Drop, R: Rule>(
 }
 
 /// `stat` of a path.
-pub fn stat(alloc: Global, text: &str) -> Result<Call, Fail> {
+pub fn stat(alloc: Global, text: &str) -> Result<Call, &'static str> {
     let path = path_of(alloc, text)?;
     Ok(Call::Stat { path })
 }
 
 /// `mkdir 755` of a path.
-pub fn mkdir(alloc: Global, text: &str) -> Result<Call, Fail> {
+pub fn mkdir(alloc: Global, text: &str) -> Result<Call, &'static str> {
     let path = path_of(alloc, text)?;
     Ok(Call::Mkdir { path, mode: 0o755 })
 }
 
 /// `unlink` of a path.
-pub fn unlink(alloc: Global, text: &str) -> Result<Call, Fail> {
+pub fn unlink(alloc: Global, text: &str) -> Result<Call, &'static str> {
     let path = path_of(alloc, text)?;
     Ok(Call::Unlink { path })
 }
 
-fn path_of(alloc: Global, text: &str) -> Result<Path, Fail> {
-    Path::parse(alloc, text.as_bytes())?.map_err(|_| Fail::from("no path"))
+fn path_of(alloc: Global, text: &str) -> Result<Path, &'static str> {
+    let parsed = Path::parse(alloc, text.as_bytes()).map_err(|_| "no memory")?;
+    parsed.map_err(|_| "no path")
 }
 
 /// The reply that an entry has, if it is a call's.
