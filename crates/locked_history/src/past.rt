@@ -51,7 +51,8 @@ impl<N: MountName, F: Callback, R: Rule> Past<N, F, R> {
         requires { place < length (entries_past self.old) }
         ensures entry { slice_get (entries_past self.old) place ≡ Some result.entry }
         ensures place { (result.place ≡ place) × (result.counted ≡ false) }
-        ensures same { self.new ≡ self.old }
+        ensures entries { entries_past self.new ≡ entries_past self.old }
+        ensures core { core_past self.new ≡ core_past self.old }
     {
         let note = &mut self.notes[place];
         let known = note.again();

@@ -1,7 +1,7 @@
-use Rattle.std.proofs.Common.{arith, ◌≡◌, ◌<◌, get_or, length, map, subst, sym, vec_len}
+use Rattle.std.proofs.Common.{ap, arith, ◌≡◌, ◌<◌, get_or, length, map, subst, sym, vec_len}
 use Rattle.std.proofs.lemmas.List.{length-map}
 use Rattle.locked_history.specs.Entries.{entry_in}
-use Rattle.locked_history.proofs.Standing.{all_some, cell_at, entry_at, known_at}
+use Rattle.locked_history.proofs.Standing.{all_some, cell_at, entry_at, known_at, set_here}
 use Rattle.locked_history.proofs.past.Past.event.Goals as goal
 
 pub invariant_of-result : goal.invariant_of-result
@@ -28,3 +28,10 @@ returns-clause-entry g c =
     let lt : c.args.place < length xs = omega (arith, c.requires, n) in
     let at : x ≡ get_or xs c.args.place x = subst (λ y. y ≡ get_or xs c.args.place y) (sym c.again-known.ensures.1) c.index_mut-note.ensures.value in
     entry_at (λ n. entry_in n.known) xs c.args.place x lt at
+
+pub returns-clause-entries : goal.returns-clause-entries
+returns-clause-entries g c =
+    let xs = c.args.self.now.notes.items in
+    let y = c.again-known.new.self in
+    let at : y ≡ get_or xs c.args.place y = subst (λ z. z ≡ get_or xs c.args.place z) (sym c.again-known.ensures.0) c.index_mut-note.ensures.value in
+    ap (map (λ n. entry_in n.known)) (set_here xs c.args.place y at)
