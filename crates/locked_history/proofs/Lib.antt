@@ -3,4 +3,3 @@ pub mod Numbering
 pub mod Boxes
 pub mod Growing
 pub mod Standing
-mod Histories

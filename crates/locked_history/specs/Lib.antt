@@ -4,4 +4,3 @@ pub mod Holding
 pub mod Steps
 pub mod Views
 pub mod Names
-pub mod Histories

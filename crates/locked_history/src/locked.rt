@@ -2,7 +2,7 @@
 ghost use Rattle.std.specs.Prelude.{◌≡◌, ◌+◌, ◌<◌, ◌≤◌, ◌++◌, ◌∷◌, [], length, map, take, true, IfErr, IfOk, IfSome, IsTrue, None, OnErr, OnOk, Some, ◌↔◌, is_some, slice_index, unwrap_or, vec_capacity, vec_len};
 ghost use Rattle.once_cell.specs.Once.{cell_name};
 ghost use Rattle.mount_calls.specs.Keeping.{takes_no_memory};
-ghost use Rattle.locked_history.specs.Histories.{HasPlaces};
+ghost use Rattle.overlay_core.specs.Histories.{HasPlaces};
 ghost use Rattle.overlay_core.specs.Views.{core_clients, core_finished, core_options, next_client};
 ghost use Rattle.locked_history.specs.Entries.{entry_in, history_of};
 ghost use Rattle.locked_history.specs.Holding.{HasBoxes, Legally, Numbers};
@@ -120,7 +120,7 @@ fn append<N: MountName, H: Wait>(
 }
 
 impl<N: MountName, F: Callback, R: Rule> Locked<N, F, R> {
-    ghost use Rattle.locked_history.specs.Histories.{attach_refusal};
+    ghost use Rattle.overlay_core.specs.Histories.{attach_refusal};
     ghost use Rattle.locked_history.specs.Claims.{IsAttachOf, IsCallOf, IsDetachOf};
     ghost use Rattle.locked_history.specs.Steps.{HasPlace, IsCause, IsDue, IsPendingWhere, IsStill};
     ghost use Rattle.locked_history.specs.Views.{Appends, LeavesAlone, core_in, entries_in};

@@ -2,7 +2,7 @@
 ghost use Rattle.std.specs.Prelude.{◌≡◌, ℕ, ◌+◌, ◌*◌, ◌<◌, ◌≤◌, ◌^◌, [], length, nat_eq, position, IfErr, IfOk, IfSome, OnOk};
 ghost use Rattle.overlay_core.specs.Views.{core_finished};
 ghost use Rattle.ov_server.specs.Faults.{AnswersManifest, IsManifestFault, layers_told};
-ghost use Rattle.ov_server.specs.Histories.{HasPlaces};
+ghost use Rattle.overlay_core.specs.Histories.{HasPlaces};
 ghost use Rattle.ov_server.specs.Plays as plays;
 ghost use Rattle.ov_server.specs.Plays.{BeginsOn, EndsBy, GoesOn, IsLineFault, IsPlayFault, PlaysLine, TellsPlay, layers_in};
 ghost use Rattle.ov_server.specs.Scripts.{IsGoodScript, IsRunFault, IsStreamFault};

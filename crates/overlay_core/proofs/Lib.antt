@@ -22,3 +22,4 @@ pub mod MovesHeld
 pub mod RenamesTold
 pub mod Agreeing
 pub mod Driving
+pub mod Histories

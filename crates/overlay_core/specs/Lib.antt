@@ -6,3 +6,4 @@ pub mod Mounting
 pub mod Views
 pub mod Jobs
 pub mod Drives
+pub mod Histories

@@ -1,6 +1,6 @@
 use Rattle.std.proofs.Common.{length}
 use Rattle.ov_server.proofs.Clients.{attach_plays, attach_refused}
-use Rattle.ov_server.proofs.Histories.{attach_places, few, kept_places, two_places}
+use Rattle.overlay_core.proofs.Histories.{attach_places, few, kept_places, two_places}
 use Rattle.ov_server.proofs.commands.attached.Goals as goal
 use Rattle.ov_server.proofs.commands.attached.Goals.{in-Ok-attach, in-Err}
 

@@ -1,6 +1,6 @@
 use Rattle.std.proofs.Common.{◌∙◌, sym}
 use Rattle.ov_server.proofs.Clients.{detach_plays}
-use Rattle.ov_server.proofs.Histories.{detach_places, few}
+use Rattle.overlay_core.proofs.Histories.{detach_places, few}
 use Rattle.ov_server.proofs.commands.detached.Goals as goal
 
 pub detach-requires-clause-bound : goal.detach-requires-clause-bound

@@ -2,7 +2,7 @@ use Rattle.std.proofs.Common.{subst}
 use Rattle.plain_model.specs.Runs.{Called}
 use Rattle.overlay_core.specs.Jobs.{TurnsTo}
 use Rattle.overlay_core.specs.Views.{CoreGoes}
-use Rattle.ov_server.proofs.Histories.{few, step_places}
+use Rattle.overlay_core.proofs.Histories.{few, step_places}
 use Rattle.ov_server.proofs.commands.made.Goals as goal
 
 pub advance-turn-requires-clause-bound : goal.advance-turn-requires-clause-bound

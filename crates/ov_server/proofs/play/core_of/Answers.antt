@@ -3,7 +3,8 @@ use Rattle.std.specs.Vec.{vec_len}
 use Rattle.std.proofs.lemmas.Result.{err_from_is_err_and}
 use Rattle.overlay_core.specs.Views.{core_finished, core_options, next_client}
 use Rattle.overlay_core.proofs.Agreeing.{bounded}
-use Rattle.ov_server.proofs.Histories.{begun, first_places}
+use Rattle.overlay_core.proofs.Histories.{first_places}
+use Rattle.ov_server.proofs.Histories.{begun}
 use Rattle.ov_server.proofs.Manifests.{counted, refuses_none, refuses_told}
 use Rattle.ov_server.proofs.play.core_of.Goals as goal
 

@@ -2,7 +2,7 @@ use Rattle.std.proofs.Common.{arith, ◌≡◌, ◌∙◌, ℕ, ◌+◌, ◌-◌
 use Rattle.std.proofs.lemmas.List.{length-map}
 use Rattle.plain_model.specs.Runs as runs
 use Rattle.overlay_core.specs.Views.{CoreGoes, core_clients, core_finished, core_options, client_count, next_client}
-use Rattle.locked_history.proofs.Histories.{attach_places, few, kept_places, two_places}
+use Rattle.overlay_core.proofs.Histories.{attach_places, few, kept_places, two_places}
 use Rattle.locked_history.specs.declared.entry.Deed.TheVariants.{Attached}
 use Rattle.locked_history.specs.declared.entry.Entry.{Entry}
 use Rattle.locked_history.specs.Entries.{entry_in, told}

@@ -2,7 +2,7 @@ use Rattle.std.proofs.Common.{arith, ◌≡◌, ◌∙◌, ◌<◌, is_some, len
 use Rattle.std.proofs.lemmas.List.{length-map}
 use Rattle.plain_model.specs.Runs as runs
 use Rattle.overlay_core.specs.Views.{CoreGoes, core_clients}
-use Rattle.locked_history.proofs.Histories.{detach_places, few, one_place}
+use Rattle.overlay_core.proofs.Histories.{detach_places, few, one_place}
 use Rattle.locked_history.specs.declared.entry.Deed.TheVariants.{Detached}
 use Rattle.locked_history.specs.declared.entry.Entry.{Entry}
 use Rattle.locked_history.specs.Entries.{entry_in, told}

@@ -3,7 +3,7 @@ use Rattle.std.proofs.lemmas.List.{length-map}
 use Rattle.ov_base.specs.declared.call.Call.{Call}
 use Rattle.plain_model.specs.Runs as runs
 use Rattle.overlay_core.specs.Views.{CoreGoes, client_count, core_clients, core_finished, core_options, next_client}
-use Rattle.locked_history.proofs.Histories.{few, kept_places, step_places}
+use Rattle.overlay_core.proofs.Histories.{few, kept_places, step_places}
 use Rattle.locked_history.specs.declared.entry.Deed.TheVariants.{Called}
 use Rattle.locked_history.specs.declared.entry.Entry.{Entry}
 use Rattle.locked_history.specs.Entries.{entry_in, told}

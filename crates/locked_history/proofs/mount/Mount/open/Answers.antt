@@ -1,7 +1,7 @@
 use Rattle.std.proofs.Common.{arith, ◌≡◌, [], refl}
 use Rattle.overlay_core.specs.Views.{core_clients, next_client}
 use Rattle.locked_history.proofs.Beginning.{boxes_begin, legal_begins, nobody_yet, none_of, numbers_begin}
-use Rattle.locked_history.proofs.Histories.{first_places}
+use Rattle.overlay_core.proofs.Histories.{first_places}
 use Rattle.locked_history.proofs.mount.Mount.open.Goals as goal
 
 pub invariant_of-locked-clause-legal : goal.invariant_of-locked-clause-legal

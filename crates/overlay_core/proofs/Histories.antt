@@ -20,7 +20,7 @@ use Rattle.watch_table.specs.declared.hook.Callback.{Ghosts as Callback}
 use Rattle.watch_table.specs.declared.hook.Rule.{Ghosts as Rule}
 use Rattle.overlay_core.specs.declared.mounted.Turn.{Turn}
 use Rattle.overlay_core.specs.declared.mounted.Turn.TheVariants.{More, Done, NoMemory}
-use Rattle.locked_history.specs.Histories.{AreAttached, HasPlaces, attach_refusal}
+use Rattle.overlay_core.specs.Histories.{AreAttached, HasPlaces, attach_refusal}
 
 -- what a map has at a number
 at_number : {X : Type 0} (m : BTreeMap ℕ X) (q : ℕ) → get nat_cmp m q ≡ lookup (nat_eq q) m.entries
