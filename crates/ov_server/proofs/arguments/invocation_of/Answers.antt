@@ -32,6 +32,7 @@ returns-then-eq c = record {
   subcommand = subcommand_is c.args.matches.now (codes "show") (rows_of (found_of c.in_ok-name.inner.now))
       (sym c.in_ok-name.ensures.name ∙ ap (λ (n : List ℕ). Some n) (same_text c.in_ok-name.name.now (codes "show") c.eq.result c.eq.ensures c.if-eq.true)) (sym c.in_ok-name.ensures.rows);
   manifest = sym (first_value-rows (found_of c.in_ok-name.inner.now) (codes "MANIFEST")) ∙ sym c.in_ok-manifest.ensures;
+  more = tt;
 }
 
 pub returns-then-eq-2 : goal.returns-then-eq-2
@@ -40,4 +41,5 @@ returns-then-eq-2 c = record {
   subcommand = subcommand_is c.args.matches.now (codes "play") (rows_of (found_of c.in_ok-name.inner.now))
       (sym c.in_ok-name.ensures.name ∙ ap (λ (n : List ℕ). Some n) (same_text c.in_ok-name.name.now (codes "play") c.eq-else-eq.result c.eq-else-eq.ensures c.if-eq-2.true)) (sym c.in_ok-name.ensures.rows);
   manifest = sym (first_value-rows (found_of c.in_ok-name.inner.now) (codes "MANIFEST")) ∙ sym c.in_ok-manifest.ensures;
+  more = tt;
 }
