@@ -1,5 +1,6 @@
-//! Plays the rows of its data folder on the engine, on the slow reference and on a mount that threads share, and tells of each row whether
-//! all answer what is wanted. Plays scripts made by a generator on the engine and on the slow reference.
+//! Plays the rows of its data folder on the engine, on the slow reference and on a mount that
+//! threads share, and tells of each row whether all answer what is wanted. Plays scripts made by a
+//! generator on the engine and on the slow reference.
 #![tactic(auto)]
 
 mod answers;
@@ -28,7 +29,7 @@ mod told_layers;
 mod tree_lines;
 
 use crate::generated::play_generated;
-use crate::playing::{Finding, finding};
+use crate::playing::{Verdict, judged};
 use crate::rows::rows_in;
 use std::hash::RandomState;
 use std::rt::Files;
@@ -71,14 +72,14 @@ struct Counts {
 }
 
 impl Counts {
-    fn count(&mut self, found: &Finding) {
-        match found {
-            Finding::Agrees => {
+    fn count(&mut self, verdict: &Verdict) {
+        match verdict {
+            Verdict::Agrees => {
                 self.rows = self.rows.saturating_add(1);
                 self.mounts = self.mounts.saturating_add(1);
             }
-            Finding::NoMount => self.rows = self.rows.saturating_add(1),
-            Finding::Differs(_) => (),
+            Verdict::NoMount => self.rows = self.rows.saturating_add(1),
+            Verdict::Differs(_) => (),
         }
     }
 }
@@ -107,10 +108,10 @@ fn play_file<R: Files + AllocGlobal + Print + Wait>(
     let text = fs::read_to_string(rt, file)?;
     for row in rows_in(rt.alloc(), text.as_str())? {
         let name = row.name;
-        let found = finding(rt, keys, &row)?;
-        counts.count(&found);
-        match found {
-            Finding::Differs(found) => println!(rt; "{name}: differs: {found}")?,
+        let verdict = judged(rt, keys, &row)?;
+        counts.count(&verdict);
+        match verdict {
+            Verdict::Differs(found) => println!(rt; "{name}: differs: {found}")?,
             _ => println!(rt; "{name}: agrees")?,
         }
     }

@@ -1,4 +1,5 @@
-// A row, or a script over a manifest, on the engine, on the slow reference and on a mount that threads share.
+// A row on the engine, on the slow reference and on a mount that threads share; a script over a
+// manifest on the first two.
 use crate::answers::{attached_line, detached_line, not_attached_line, not_taken_line, reply_line};
 use crate::engine::run_of;
 use crate::mount::{PlainMount, mount_of};
@@ -22,9 +23,9 @@ enum Answer {
     BadCommand,
 }
 
-/// What is found of a row.
+/// How a row is judged.
 #[derive(Drop)]
-pub enum Finding {
+pub enum Verdict {
     /// The engine, the slow reference and a mount that threads share answer what is wanted.
     Agrees,
     /// The engine refuses the manifest as is wanted, so that there is no mount.
@@ -33,11 +34,11 @@ pub enum Finding {
 }
 
 /// Whether the answers to a row are those that are wanted.
-pub fn finding<R: AllocGlobal + Wait>(
+pub fn judged<R: AllocGlobal + Wait>(
     rt: &R,
     keys: RandomState,
     row: &Row<'_>,
-) -> io::Result<Finding> {
+) -> io::Result<Verdict> {
     let alloc = rt.alloc();
     let script = row.script.as_ref().map(|script| script.as_slice());
     let manifest = row.manifest.as_slice();
@@ -45,19 +46,19 @@ pub fn finding<R: AllocGlobal + Wait>(
     let engine = run_of(alloc, keys, manifest, script)?;
     if engine.text.as_slice() != wanted {
         let found = String::from_utf8_lossy(alloc, engine.text.as_slice())?;
-        return Ok(Finding::Differs(format!(in alloc; "the engine answers\n{found}")?));
+        return Ok(Verdict::Differs(format!(in alloc; "the engine answers\n{found}")?));
     }
     if engine.refuses_manifest {
-        return Ok(Finding::NoMount);
+        return Ok(Verdict::NoMount);
     }
     if let Some(found) = reference_difference(alloc, manifest, script, wanted)? {
-        return Ok(Finding::Differs(found));
+        return Ok(Verdict::Differs(found));
     }
     let shared = shared_text(rt, alloc, keys, manifest, script)?;
     if shared.as_bytes() != wanted {
-        return Ok(Finding::Differs(format!(in alloc; "a shared mount answers\n{shared}")?));
+        return Ok(Verdict::Differs(format!(in alloc; "a shared mount answers\n{shared}")?));
     }
-    Ok(Finding::Agrees)
+    Ok(Verdict::Agrees)
 }
 
 /// How the answers of the reference differ from those that are wanted.

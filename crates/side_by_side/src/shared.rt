@@ -1,10 +1,12 @@
-// Scripts on a mount that threads share. What it answers is read by receipts, and its layers when it has ended.
+// Scripts on a mount that threads share. What it answers is read by receipts, and its layers when
+// it has ended.
 ghost use Rattle.locked_history.specs.Names.{IsNamed};
 
 use crate::shared_clients::{Answer, Clients};
 use crate::sights::Sight;
 use locked_history::{Blank, Mount, MountName};
 use merged_lookup::Layers;
+use ov_base::Options;
 use ov_server::hooks_by_slot;
 use ov_wire::manifest_of;
 use overlay_core::Core;
@@ -16,6 +18,10 @@ use watch_table::{Callback, Hook, Rule};
 
 /// A script that shows the merged tree.
 const SHOW: &[u8] = b"merge";
+
+/// Places of a history beside those for the lines of a script: 64 clients keep one each, and an
+/// attach wants two.
+const PLACES_SPARE: u32 = 100;
 
 // What a script's lines came to, up to one of them.
 #[derive(Drop)]
@@ -32,8 +38,9 @@ enum Stop {
     Asks(Sight),
 }
 
-/// What a script comes to on a mount of a manifest's layers that threads share; without a script the merged tree is shown. The lines of a layer
-/// and of the merged tree are those of the core that a mount's past ends in. Each is read from a mount of its own, which ends there.
+/// What a script comes to on a mount of a manifest's layers that threads share; without a script the
+/// merged tree is shown. Such a mount lends its core to nobody before it has ended: each layer or
+/// tree is that of the core in which the past of a mount of its own ends.
 pub fn shared_text<H: Wait>(
     rt: &H,
     alloc: Global,
@@ -47,7 +54,7 @@ pub fn shared_text<H: Wait>(
         text: String::new(alloc),
         lines: 0,
     };
-    for _ in 0..=script.len() {
+    for _ in 0..u64::MAX {
         if !goes_on(
             rt,
             (alloc, keys),
@@ -62,7 +69,8 @@ pub fn shared_text<H: Wait>(
     Ok(told.text)
 }
 
-// Plays the script on a new mount up to the next line that asks for a layer or the tree, and tells it; false where nothing is left.
+// Plays the script on a new mount up to the next line that asks for a layer or the tree, and tells
+// it; false where nothing is left.
 fn goes_on<F: Callback + Copy, R: Rule, H: Wait>(
     rt: &H,
     (alloc, keys): (Global, RandomState),
@@ -71,7 +79,7 @@ fn goes_on<F: Callback + Copy, R: Rule, H: Wait>(
     hooks: &[Hook<F, R>],
     told: &mut Told,
 ) -> Result<bool, AllocError> {
-    match blank_of::<F, R>(alloc, keys, manifest)? {
+    match blank_of::<F, R>(alloc, keys, manifest, places_for(script))? {
         Some(blank) => plays::<Brand, F, R, H>(rt, alloc, blank, script, hooks, told),
         None => {
             told.text.push_str("no mount\n")?;
@@ -80,14 +88,26 @@ fn goes_on<F: Callback + Copy, R: Rule, H: Wait>(
     }
 }
 
-// A mount of a manifest's layers, without a name.
+// More places of a history than a script can fill: a line is one deed, and each client keeps a
+// place. A mount with more of them answers the same and takes longer to make.
+fn places_for(script: &[u8]) -> u32 {
+    let lines = u32::try_from(script.len()).unwrap_or(u32::MAX);
+    lines.saturating_add(PLACES_SPARE)
+}
+
+// A mount of a manifest's layers, without a name, whose history has at most so many places.
 fn blank_of<F: Callback + Drop, R: Rule>(
     alloc: Global,
     keys: RandomState,
     manifest: &[u8],
+    places: u32,
 ) -> Result<Option<Blank<F, R>>, AllocError> {
     let Ok((upper, lowers, options)) = manifest_of(alloc, keys, manifest) else {
         return Ok(None);
+    };
+    let options = Options {
+        history: options.history.min(places),
+        ..options
     };
     match Core::mount(alloc, keys, upper, lowers, options)? {
         Ok(core) => Ok(Blank::new(alloc, core).ok()),
@@ -118,7 +138,8 @@ fn plays<N: MountName, F: Callback + Copy, R: Rule, H: Wait>(
 }
 
 impl Told {
-    // Plays lines from the first, and tells what those answer that are not told yet, up to one that asks for a layer or the tree.
+    // Plays the lines from the first one on, and tells what those answer that are not told yet, up
+    // to one that asks for a layer or the tree.
     fn play<N: MountName, F: Callback + Copy, R: Rule, H: Wait>(
         &mut self,
         rt: &H,

@@ -18,7 +18,8 @@ pub enum Answer {
     BadCommand,
 }
 
-/// The session of each client, by its number, until it is detached, and the receipts of all that was done.
+/// The session of each client, by its number, until it is detached, and the receipts of all that
+/// was done.
 #[derive(Drop)]
 pub struct Clients<N: MountName> {
     sessions: Vec<Option<Session>>,
