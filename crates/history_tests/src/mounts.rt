@@ -1,0 +1,59 @@
+// The callback, the gate and the calls of the tests, and what their entries say.
+use locked_history::{Deed, Entry, Gate, Mount, MountName, Pass, Receipt, Refused, Session};
+use ov_base::{Call, Event, Notice, Path, Reply};
+use std::alloc::{AllocError, Global};
+use std::sync::Wait;
+use watch_table::{Callback, Rule};
+
+/// A callback that no client has.
+#[derive(Clone, Copy)]
+pub struct Silent;
+
+impl Callback for Silent {
+    ghost may = { λ c event. Unit {0} };
+
+    ghost gives = { λ c event answer. Unit {0} };
+
+    fn answer(&self, _event: &Event) -> Option<Notice> {
+        None
+    }
+}
+
+/// A gate that always says `Stop`.
+pub struct Shut;
+
+impl Gate for Shut {
+    fn pass(&self, _client: u64, _step: u64) -> Pass {
+        Pass::Stop
+    }
+}
+
+/// Makes `stat /`, a session's next call.
+pub fn looks<N: MountName, F: Callback, R: Rule, H: Wait, G: Gate>(
+    rt: &H,
+    alloc: Global,
+    mount: &Mount<N, F, R>,
+    session: &mut Session,
+    gate: &G,
+) -> Result<Receipt<N>, Refused> {
+    let call = Call::Stat {
+        path: Path::root(alloc),
+    };
+    mount.call(rt, session, call, gate)
+}
+
+/// A path of one name.
+pub fn path_of(alloc: Global, text: &str) -> Result<Path, AllocError> {
+    match Path::parse(alloc, text.as_bytes())? {
+        Ok(path) => Ok(path),
+        Err(_) => Ok(Path::root(alloc)),
+    }
+}
+
+/// The reply that an entry has, if it is a call's.
+pub fn reply_in(entry: &Entry) -> Option<&Reply> {
+    match &entry.deed {
+        Deed::Called(_, reply) => Some(reply),
+        _ => None,
+    }
+}

@@ -1,0 +1,67 @@
+// Mounts that are opened under a name, and what is tried on each.
+ghost use Rattle.locked_history.specs.Names.{IsNamed};
+
+use crate::racing::races;
+use crate::refusals::{fills, stops, uses_a_number};
+use locked_history::{Blank, Mount, MountName};
+use ov_wire::manifest_of;
+use overlay_core::Core;
+use std::alloc::Global;
+use std::hash::RandomState;
+use std::marker::Brand;
+use std::process::Abort;
+use std::sync::Wait;
+use std::test::Fail;
+use std::thread::Threads;
+use watch_table::{Callback, Rule};
+
+/// What is tried on a mount.
+#[derive(Clone, Copy)]
+pub enum Trial {
+    Fills,
+    UsesANumber,
+    Stops,
+    Races,
+}
+
+/// Tries this on a mount of a manifest's layers.
+pub fn named<F: Callback + Drop + Send, R: Rule + Send, H: Threads + Wait + Abort + Sync>(
+    rt: &H,
+    alloc: Global,
+    keys: RandomState,
+    manifest: &str,
+    trial: Trial,
+) -> Result<(), Fail> {
+    let blank: Blank<F, R> = blank_of(alloc, keys, manifest)?;
+    tries::<Brand, F, R, H>(rt, alloc, blank, trial)
+}
+
+// A mount of a manifest's layers, without a name.
+fn blank_of<F: Callback + Drop, R: Rule>(
+    alloc: Global,
+    keys: RandomState,
+    manifest: &str,
+) -> Result<Blank<F, R>, Fail> {
+    let (upper, lowers, options) = manifest_of(alloc, keys, manifest.as_bytes())?;
+    match Core::mount(alloc, keys, upper, lowers, options)? {
+        Ok(core) => Blank::new(alloc, core).map_err(|_| Fail::from("no memory")),
+        Err(_) => Err(Fail::from("no mount")),
+    }
+}
+
+fn tries<
+    N: MountName + Send + Sync,
+    F: Callback + Drop + Send,
+    R: Rule + Send,
+    H: Threads + Wait + Abort + Sync,
+>(rt: &H, alloc: Global, blank: Blank<F, R>, trial: Trial) -> Result<(), Fail>
+    requires { IsNamed N.cells N.name N.parts N.opening blank }
+{
+    let mount = Mount::<N, F, R>::open(blank);
+    match trial {
+        Trial::Fills => fills(rt, alloc, mount),
+        Trial::UsesANumber => uses_a_number(rt, alloc, &mount),
+        Trial::Stops => stops(rt, alloc, &mount),
+        Trial::Races => races(rt, alloc, mount),
+    }
+}

@@ -1,0 +1,130 @@
+// What is refused through a mount that threads share, and what it leaves.
+use crate::mounts::{Shut, Silent, looks, reply_in};
+use crate::opened::{Trial, named};
+use locked_history::{Mount, MountName, Open, Past, Receipt, Refused};
+use ov_base::{Errno, ObjectKind, Reply, Stat};
+use std::alloc::Global;
+use std::hash::RandomState;
+use std::process::Abort;
+use std::sync::Wait;
+use std::test::Fail;
+use watch_table::{AnyAnswer, Callback, Rule};
+
+const THREE: &str = "history = 3\nlayer = [{}, {}]";
+
+const TEN: &str = "history = 10\nlayer = [{}, {}]";
+
+const ROOT: Stat = Stat {
+    kind: ObjectKind::Directory,
+    mode: 0o755,
+    uid: 0,
+    gid: 0,
+    size: 0,
+    links: 1,
+};
+
+// The client comes, makes the one call that there is a place for, and goes.
+fn fill<N: MountName, F: Callback + Drop, R: Rule, H: Wait + Abort>(
+    rt: &H,
+    alloc: Global,
+    mount: &Mount<N, F, R>,
+) -> Result<Vec<Receipt<N>>, Fail> {
+    let mut receipts = Vec::with_capacity(alloc, 3)?;
+    let (mut session, came) = mount.attach(rt, Vec::new(alloc)).map_err(|_| "attach")?;
+    receipts.push(came)?;
+    let second = mount.attach(rt, Vec::new(alloc)).err();
+    assert_eq!(rt; second.map(|fault| fault.errno), Some(Errno::ENOSPC));
+    let made = looks(rt, alloc, mount, &mut session, &Open).map_err(|_| "call")?;
+    receipts.push(made)?;
+    let full = looks(rt, alloc, mount, &mut session, &Open).err();
+    assert_eq!(rt; full, Some(Refused::Full));
+    assert_eq!(rt; session.number, 3);
+    let (_, gone) = mount.detach(rt, session).map_err(|_| "detach")?;
+    receipts.push(gone)?;
+    Ok(receipts)
+}
+
+// The call's entry has the status of the root, and the last one is the detach of client 0.
+fn is_filled<N: MountName, F: Callback, R: Rule>(past: &mut Past<N, F, R>) -> bool {
+    if past.len() != 3 {
+        return false;
+    }
+    let mut made = past.event(1);
+    let stat = match reply_in(past.event_of(&mut made)) {
+        Some(Reply::Status(stat)) => *stat == ROOT,
+        _ => false,
+    };
+    let mut gone = past.event(2);
+    let last = past.event_of(&mut gone);
+    stat && last.client == 0 && last.number == 3
+}
+
+/// A history of three places has one for the attach, one for its detach, and one for a call.
+pub fn fills<N: MountName, F: Callback + Drop, R: Rule, H: Wait + Abort>(
+    rt: &H,
+    alloc: Global,
+    mount: Mount<N, F, R>,
+) -> Result<(), Fail> {
+    let receipts = fill(rt, alloc, &mount)?;
+    let (mut past, left) = mount.finish(receipts);
+    assert!(rt; left.is_empty());
+    assert!(rt; is_filled(&mut past));
+    Ok(())
+}
+
+#[test]
+fn three_places_are_one_call(rt: HostRuntime) -> Result<(), Fail> {
+    let keys = RandomState::new(&rt)?;
+    named::<Silent, AnyAnswer, _>(&rt, rt.alloc(), keys, THREE, Trial::Fills)
+}
+
+/// A copy of a session whose number was used is refused, and the next right one is answered.
+pub fn uses_a_number<N: MountName, F: Callback + Drop, R: Rule, H: Wait + Abort>(
+    rt: &H,
+    alloc: Global,
+    mount: &Mount<N, F, R>,
+) -> Result<(), Fail> {
+    let (mut session, _came) = mount.attach(rt, Vec::new(alloc)).map_err(|_| "attach")?;
+    let mut used = session;
+    let _first = looks(rt, alloc, mount, &mut session, &Open).map_err(|_| "first call")?;
+    let again = looks(rt, alloc, mount, &mut used, &Open).err();
+    assert_eq!(rt; again, Some(Refused::Session));
+    assert_eq!(rt; used.number, 2);
+    assert_eq!(rt; mount.detach(rt, used).err(), Some(Refused::Session));
+    let second = looks(rt, alloc, mount, &mut session, &Open).map_err(|_| "second call")?;
+    assert_eq!(rt; second.place(), 2);
+    assert_eq!(rt; session.number, 4);
+    let (_, gone) = mount.detach(rt, session).map_err(|_| "detach")?;
+    assert_eq!(rt; gone.place(), 3);
+    assert_eq!(rt; mount.detach(rt, session).err(), Some(Refused::Session));
+    Ok(())
+}
+
+#[test]
+fn used_number_is_refused(rt: HostRuntime) -> Result<(), Fail> {
+    let keys = RandomState::new(&rt)?;
+    named::<Silent, AnyAnswer, _>(&rt, rt.alloc(), keys, TEN, Trial::UsesANumber)
+}
+
+/// A call that the gate stops is no entry, and the session's number stays.
+pub fn stops<N: MountName, F: Callback + Drop, R: Rule, H: Wait + Abort>(
+    rt: &H,
+    alloc: Global,
+    mount: &Mount<N, F, R>,
+) -> Result<(), Fail> {
+    let (mut session, _came) = mount.attach(rt, Vec::new(alloc)).map_err(|_| "attach")?;
+    let stopped = looks(rt, alloc, mount, &mut session, &Shut).err();
+    assert_eq!(rt; stopped, Some(Refused::Stopped));
+    assert_eq!(rt; session.number, 2);
+    assert!(rt; mount.event(0).is_some() && mount.event(1).is_none());
+    let made = looks(rt, alloc, mount, &mut session, &Open).map_err(|_| "call")?;
+    assert_eq!(rt; made.place(), 1);
+    assert!(rt; mount.event(1).is_some() && mount.event(10).is_none());
+    Ok(())
+}
+
+#[test]
+fn gate_stops_a_call(rt: HostRuntime) -> Result<(), Fail> {
+    let keys = RandomState::new(&rt)?;
+    named::<Silent, AnyAnswer, _>(&rt, rt.alloc(), keys, TEN, Trial::Stops)
+}
