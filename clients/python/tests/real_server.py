@@ -18,7 +18,7 @@ def program():
     """The program that OVERLAYD names, or that was built here; None without one."""
     named = os.environ.get("OVERLAYD")
     if named:
-        return named
+        return os.path.abspath(named)
     built = ROOT / "crates" / "overlayd" / "out" / "overlayd"
     return str(built) if built.is_file() else None
 

@@ -46,7 +46,7 @@ class Sessions(unittest.TestCase):
 
     def session(self, document, path):
         """The session of a document, with the server's socket in place of the one there."""
-        text = re.sub(r"/(run|tmp)/overlay\.socket", path, document.read_text("utf-8"))
+        text = re.sub(r"(/run|/tmp|out)/overlay\.socket", path, document.read_text("utf-8"))
         return doctest.DocTestParser().get_doctest(text, {}, document.name, str(document), 0)
 
     def test_sessions(self):

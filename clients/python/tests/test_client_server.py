@@ -1,4 +1,4 @@
-"""The client on the program's own server; skipped as long as the program has none."""
+"""The client on the program's own server; skipped where the program isn't built."""
 
 import errno
 import io
