@@ -1,7 +1,7 @@
 // Sessions of the first client of a mount.
-use core_door::{CoreDoor, CoreSession};
+use core_door::{CoreSession, run_session};
 use ov_base::{Event, Notice};
-use ov_session::{Ending, SessionInput, SessionOutput, session_run};
+use ov_session::{Ending, SessionInput, SessionOutput};
 use ov_wire::manifest_of;
 use overlay_core::Core;
 use std::alloc::Global;
@@ -96,12 +96,11 @@ fn serve<F: Callback + Copy, H: Rule, I: Read, O: Write>(
     if core.finished() >= DEEDS_MAX || !core.is_attached(client) {
         return Err(Fail::from("not attached"));
     }
-    let mut session = CoreSession::new(alloc)?;
-    let mut door = CoreDoor::new(core, client);
+    let session = CoreSession::new(alloc)?;
     let mut input = SessionInput::new(reader);
     let mut output = SessionOutput::new(alloc, writer);
-    let end = session_run(alloc, &mut input, &mut output, &mut door, &mut session);
-    if door.into_core().is_attached(client) {
+    let (end, session, core) = run_session(alloc, core, client, session, &mut input, &mut output);
+    if core.is_attached(client) {
         return Err(Fail::from("still attached"));
     }
     Ok((end, session))
