@@ -1,6 +1,7 @@
 // Sessions of a client over memory, and what they are compared with.
 use crate::loads::since;
 use crate::manifests::{child, nested};
+use crate::mounts::{attached, unmount};
 use crate::trees::DIRECTORIES;
 use core_door::{CoreSession, run_session};
 use ov_session::{Ending, SessionInput, SessionOutput};
@@ -10,7 +11,7 @@ use std::io;
 use std::io::{Read, Write};
 use std::rt::Clock;
 use std::time::Instant;
-use watch_table::{Callback, Rule};
+use watch_table::{Callback, Hook, Rule};
 
 /// The most bytes of a piece, and how many a write has.
 const PIECE: usize = 65_536;
@@ -78,12 +79,13 @@ impl Write for Nowhere {
     }
 }
 
-/// What comes first, and a block of so many operations.
+/// What comes first, a block of so many operations, and the most bytes of a read.
 #[derive(Drop)]
 struct Requests {
     first: Vec<u8>,
     block: Vec<u8>,
     operations: u32,
+    most: usize,
 }
 
 impl Requests {
@@ -97,7 +99,21 @@ impl Requests {
             first: opening(alloc, asking)?,
             block,
             operations: u32::try_from(copies).unwrap_or(1),
+            most: match asking {
+                Asking::StatBytes => 1,
+                _ => PIECE,
+            },
         })
+    }
+
+    // A reader of so many blocks, behind what comes first.
+    fn rounds(&self, rounds: u32) -> Rounds<'_> {
+        Rounds {
+            rest: self.first.as_slice(),
+            block: self.block.as_slice(),
+            rounds,
+            most: self.most,
+        }
     }
 }
 
@@ -153,53 +169,86 @@ fn repeated(alloc: Global, frames: &[u8], copies: usize) -> Result<Vec<u8>, Allo
     Ok(block)
 }
 
-/// How many nanoseconds so many operations took in a session of this client of a core, rounded up
-/// to whole pieces, and how many were done.
+/// How many nanoseconds so many operations took in a session of a client that comes to a core,
+/// rounded up to whole pieces, and how many were done.
 pub fn serve<C: Clock, F: Callback + Copy, R: Rule>(
+    clock: &C,
+    alloc: Global,
+    mut core: Core<F, R>,
+    hook: &Hook<F, R>,
+    asking: Asking,
+    count: u32,
+) -> io::Result<(u64, u32)> {
+    match begun(alloc, &mut core, hook, asking) {
+        Ok((client, requests)) => {
+            let (served, core) = timed(clock, alloc, core, client, &requests, count);
+            unmount(core);
+            served
+        }
+        Err(fault) => {
+            unmount(core);
+            Err(io::Error::from(fault))
+        }
+    }
+}
+
+// A client that comes to a core, and its requests.
+fn begun<F: Callback + Copy, R: Rule>(
+    alloc: Global,
+    core: &mut Core<F, R>,
+    hook: &Hook<F, R>,
+    asking: Asking,
+) -> Result<(u64, Requests), AllocError> {
+    let client = attached(alloc, core, hook, 0)?;
+    let requests = Requests::new(alloc, asking)?;
+    Ok((client, requests))
+}
+
+// How many nanoseconds so many operations of a session took, and how many were done; the core goes
+// back.
+fn timed<C: Clock, F: Callback + Copy, R: Rule>(
     clock: &C,
     alloc: Global,
     core: Core<F, R>,
     client: u64,
-    asking: Asking,
+    requests: &Requests,
     count: u32,
-) -> io::Result<(u64, u32)> {
-    let requests = Requests::new(alloc, asking)?;
+) -> (io::Result<(u64, u32)>, Core<F, R>) {
     let rounds = count.div_ceil(requests.operations.max(1));
-    let reader = Rounds {
-        rest: requests.first.as_slice(),
-        block: requests.block.as_slice(),
-        rounds,
-        most: match asking {
-            Asking::StatBytes => 1,
-            _ => PIECE,
-        },
-    };
-    let start = Instant::now(clock)?;
-    let fine = is_served(alloc, core, client, reader)?;
-    let nanos = since(clock, start)?;
+    let reader = requests.rounds(rounds);
+    let start = Instant::now(clock);
+    let (fine, core) = is_served(alloc, core, client, reader);
+    let nanos = until_now(clock, start);
     let done = if fine {
         rounds.saturating_mul(requests.operations)
     } else {
         0
     };
-    Ok((nanos, done))
+    (nanos.map(|nanos| (nanos, done)), core)
 }
 
-// Whether a session of a client ends where its requests do.
+// The nanoseconds since a moment that may not be known.
+fn until_now<C: Clock>(clock: &C, start: io::Result<Instant>) -> io::Result<u64> {
+    since(clock, start?)
+}
+
+// Whether a session of a client ends where its requests do; the core goes back.
 fn is_served<F: Callback + Copy, R: Rule>(
     alloc: Global,
     core: Core<F, R>,
     client: u64,
     reader: Rounds<'_>,
-) -> Result<bool, AllocError> {
+) -> (bool, Core<F, R>) {
     if core.finished() >= DEEDS_MAX || !core.is_attached(client) {
-        return Ok(false);
+        return (false, core);
     }
-    let session = CoreSession::new(alloc)?;
+    let Ok(session) = CoreSession::new(alloc) else {
+        return (false, core);
+    };
     let mut input = SessionInput::new(reader);
     let mut output = SessionOutput::new(alloc, Nowhere { flushed: true });
-    let (end, _session, _core) = run_session(alloc, core, client, session, &mut input, &mut output);
-    Ok(matches!(end, Ending::Ended))
+    let (end, _session, core) = run_session(alloc, core, client, session, &mut input, &mut output);
+    (matches!(end, Ending::Ended), core)
 }
 
 /// How many nanoseconds so many copies of 64 KiB took, each over the one before.
