@@ -48,13 +48,20 @@ pub departed : (s : Session) (receipts : List Claim) (lost : Bool) (claim : Clai
     (standing s (receipts ++ claim ∷ []) lost)
 departed s receipts lost claim of counted =
     told_once (standing s receipts lost) (standing s (receipts ++ claim ∷ []) lost)
-    (Departed (Replied claim.place Done)) (refl, (claim, record {
-      here = refl;
-      whose = of.0;
-      numbered = of.1;
-      done = of.2;
-      counted = counted;
-    }, refl))
+    (Departed (Replied claim.place Done)) (
+      refl,
+      (
+        claim,
+        record {
+          here = refl;
+          whose = of.0;
+          numbered = of.1;
+          done = of.2;
+          counted = counted;
+        },
+        refl,
+      ),
+    )
 
 module _ (s next : Session) (whose : next.client ≡ s.client) (numbered : next.number ≡ s.number + 1)
     (receipts : List Claim) (lost : Bool) (told : lost ≡ false) where
@@ -64,9 +71,9 @@ module _ (s next : Session) (whose : next.client ≡ s.client) (numbered : next.
       Advances (standing s receipts lost) (Called call answer ∷ [])
       (standing next (receipts ++ claim ∷ []) lost)
   went_called call answer claim by = rw by.1 (
-    told_once (standing s receipts lost) (standing next (receipts ++ claim ∷ []) lost)
-        (Called call (Replied claim.place by.0))
-        (told, (claim, by.2, rw (whose, numbered, told) refl)))
+      told_once (standing s receipts lost) (standing next (receipts ++ claim ∷ []) lost)
+      (Called call (Replied claim.place by.0))
+      (told, (claim, by.2, rw (whose, numbered, told) refl)))
 
   -- a call whose reply is lost
   pub went_lost : (claim : Claim) →

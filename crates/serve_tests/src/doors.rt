@@ -102,6 +102,21 @@ fn session_left<N: MountName, F: Callback + Drop, R: Rule, G: Gate, H: Wait>(
     Ok((left, written))
 }
 
+// The receipts that a session left.
+fn receipts_of<N: MountName, F: Callback + Drop, R: Rule>(
+    left: Departure<N, F, R>,
+) -> Vec<Receipt<N>> {
+    let Departure {
+        ending: _,
+        calls: _,
+        session: _,
+        receipts,
+        hooks: _,
+        lost: _,
+    } = left;
+    receipts
+}
+
 // A stopped call is not made and not answered; its client is detached under the next number still.
 fn stops<N: MountName, F: Callback + Drop, R: Rule, H: Wait + Abort>(
     rt: &H,
@@ -113,7 +128,7 @@ fn stops<N: MountName, F: Callback + Drop, R: Rule, H: Wait + Abort>(
     assert_eq!(rt; left.ending, Ending::Stopped);
     assert!(rt; written.is_empty() && left.hooks.is_some());
     assert!(rt; left.calls == 0 && left.receipts.len() == 2);
-    Ok(left.receipts)
+    Ok(receipts_of(left))
 }
 
 // In a full history a call is refused with 28, and the detach has its place.
@@ -129,7 +144,7 @@ fn fills<N: MountName, F: Callback + Drop, R: Rule, H: Wait + Abort>(
     assert_eq!(rt; left.ending, Ending::Detached);
     assert!(rt; written.as_slice() == wanted.as_slice() && left.hooks.is_some());
     assert!(rt; left.calls == 2 && left.receipts.len() == 3);
-    Ok(left.receipts)
+    Ok(receipts_of(left))
 }
 
 // A session whose number was used already is refused with 22, also its detach; the right one is its
@@ -146,12 +161,18 @@ fn is_stale<N: MountName, F: Callback + Drop, R: Rule, H: Wait + Abort>(
     };
     let asked = joined(alloc, &[STAT_ABSENT, DETACH])?;
     let wanted = joined(alloc, &[NOT_ITS_SESSION, NOT_ITS_SESSION])?;
-    let (left, written) =
-        session_left(rt, alloc, mount, &Open, (stale, receipt), asked.as_slice())?;
+    let (left, written) = session_left(
+        rt,
+        alloc,
+        mount,
+        &Open,
+        (stale, receipt),
+        asked.as_slice(),
+    )?;
     assert_eq!(rt; left.ending, Ending::Detached);
     assert!(rt; written.as_slice() == wanted.as_slice() && left.hooks.is_none());
     assert!(rt; mount.detach(rt, session).is_ok());
-    Ok(left.receipts)
+    Ok(receipts_of(left))
 }
 
 // A mount of its own; each receipt stands in its history, which has so many entries.

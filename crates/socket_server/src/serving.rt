@@ -112,7 +112,7 @@ where
 }
 
 /// Serves the clients of a blank mount on a socket, each with copies of these hooks, until all
-/// workers have ended. What they did is one legal history, in which each of their receipts stands.
+/// workers have ended. What they did is one legal history, which ends in the state of the core.
 pub fn serve_on<F, R, H>(
     rt: &H,
     alloc: Global,

@@ -5,7 +5,7 @@ ghost use Rattle.std.specs.Vec.{vec_capacity, vec_len};
 
 use crate::reports::Reports;
 use locked_history::{Mount, MountName, Open, Receipt, Session};
-use mount_door::run_session;
+use mount_door::{Departure, run_session};
 use ov_base::Errno;
 use ov_frames::{Answer, append_reply};
 use ov_session::{SessionInput, SessionOutput};
@@ -83,7 +83,14 @@ fn serve<N: MountName, F: Callback + Copy, R: Rule, H: Wait + Eprint>(
             reports.begins(number, session.client);
             let mut input = SessionInput::new(stream);
             let mut output = SessionOutput::new(alloc, stream);
-            let left = run_session(
+            let Departure {
+                ending,
+                calls,
+                session: _,
+                receipts: own,
+                hooks: _,
+                lost: _,
+            } = run_session(
                 rt,
                 alloc,
                 mount,
@@ -93,8 +100,8 @@ fn serve<N: MountName, F: Callback + Copy, R: Rule, H: Wait + Eprint>(
                 &mut input,
                 &mut output,
             );
-            reports.ends(number, left.calls, left.ending);
-            receipts.push_reserved(left.receipts);
+            reports.ends(number, calls, ending);
+            receipts.push_reserved(own);
         }
         Err(errno) => {
             refuse(alloc, stream, errno);

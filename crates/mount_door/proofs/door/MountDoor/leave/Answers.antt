@@ -7,8 +7,8 @@ pub returns-in-Ok : goal.returns-in-Ok
 returns-in-Ok g c =
     let was = c.args.self.now in
     rw (c.push_reserved.ensures.items, c.place-place.ensures)
-        (departed was.session was.receipts.items was.lost c.in-Ok.receipt
-        c.in-Ok.ensures.detach c.in-Ok.ensures.counted)
+    (departed was.session was.receipts.items was.lost c.in-Ok.receipt
+    c.in-Ok.ensures.detach c.in-Ok.ensures.counted)
 
 pub returns-in-Err : goal.returns-in-Err
 returns-in-Err g c =
