@@ -1,10 +1,8 @@
-use Rattle.std.proofs.Common.{rules, ◌≡◌, ◌∙◌, false, [], ◌∷◌, ◌++◌, ap}
+use Rattle.std.proofs.Common.{rules, ◌≡◌, false, ap}
 use Rattle.ov_base.specs.declared.errno.Errno.TheVariants.{ENOMEM}
 use Rattle.ov_frames.specs.declared.answer.Answer.TheVariants.{NotTaken}
-use Rattle.ov_session.specs.declared.exchange.Exchange.TheVariants.{Called, HeldBack}
 use Rattle.locked_history.specs.declared.session.Refused.TheVariants.{Memory}
-use Rattle.mount_door.specs.Advancing.{errno_of, standing}
-use Rattle.mount_door.specs.Exchanges.{told_in}
+use Rattle.mount_door.specs.Advancing.{standing}
 use Rattle.mount_door.proofs.Stepping.{went_held, went_refused}
 use Rattle.mount_door.proofs.door.MountDoorDoor.call.Goals as goal
 
@@ -13,9 +11,7 @@ returns-then-is_err-clause-told g c =
     let was = c.args.self.now in
     let told : was.lost ≡ false = search rules in (
       NotTaken ENOMEM,
-      c.tell.ensures ∙ ap
-          (λ call. told_in c.args.session.now ++ Called call (NotTaken ENOMEM) ∷ [])
-          c.of-asked.ensures,
+      rw c.of-asked.ensures at c.tell.ensures,
       went_refused (standing was.session was.receipts.items was.lost)
           (standing was.session c.reserve.new.self.items was.lost) c.args.call Memory told
           (ap (λ items. standing was.session items was.lost) c.reserve.ensures.items),
@@ -25,9 +21,7 @@ pub returns-in-Err-Stopped-clause-told : goal.returns-in-Err-Stopped-clause-told
 returns-in-Err-Stopped-clause-told g c =
     let was = c.args.self.now in
     let told : was.lost ≡ false = search rules in (
-      c.hold_back.ensures ∙ ap
-          (λ call. told_in c.args.session.now ++ HeldBack call ∷ [])
-          c.of-asked.ensures,
+      rw c.of-asked.ensures at c.hold_back.ensures,
       went_held (standing was.session was.receipts.items was.lost)
           (standing was.session c.reserve.new.self.items was.lost) c.args.call told
           (ap (λ items. standing was.session items was.lost) c.reserve.ensures.items),
@@ -36,12 +30,9 @@ returns-in-Err-Stopped-clause-told g c =
 pub returns-in-Err-clause-told : goal.returns-in-Err-clause-told
 returns-in-Err-clause-told g c =
     let was = c.args.self.now in
-    let told : was.lost ≡ false = search rules in
-    let why = NotTaken c.errno_of.result in (
-      why,
-      c.tell-in-Err.ensures ∙ ap
-          (λ call. told_in c.args.session.now ++ Called call why ∷ [])
-          c.of-asked.ensures,
+    let told : was.lost ≡ false = search rules in (
+      NotTaken c.errno_of.result,
+      rw c.of-asked.ensures at c.tell-in-Err.ensures,
       rw c.errno_of.ensures (went_refused (standing was.session was.receipts.items was.lost)
           (standing was.session c.reserve.new.self.items was.lost) c.args.call c.in-Err.why told
           (ap (λ items. standing was.session items was.lost) c.reserve.ensures.items)),
