@@ -111,6 +111,34 @@ where
     Ok(mount.finish(receipts))
 }
 
+// The same, told of on standard error. No type of its signature names the mount.
+fn serve_named<N, F, R, H>(
+    rt: &H,
+    alloc: Global,
+    listener: &UnixListener,
+    blank: Blank<F, R>,
+    hooks: &[Hook<F, R>],
+    options: &ServeOptions<'_>,
+) -> Result<Served, AllocError>
+where
+    N: MountName + Send + Sync,
+    F: Callback + Copy + Send + Sync,
+    R: Rule + Send + Sync,
+    H: Threads + Wait + Eprint + Sync,
+    requires { IsNamed N.cells N.name N.parts N.opening blank }
+{
+    let reports = Reports::new(rt, alloc, options.verbose);
+    let (past, _) = serve_blank::<N, F, R, H>(
+        rt, alloc, listener, blank, hooks, &reports, options,
+    )?;
+    reports.sums_up(past.len());
+    if reports.has_failed() {
+        Ok(Served::Failed)
+    } else {
+        Ok(Served::Done)
+    }
+}
+
 /// Serves the clients of a blank mount on a socket, each with copies of these hooks, until all
 /// workers have ended. What they did is one legal history, which ends in the state of the core.
 pub fn serve_on<F, R, H>(
@@ -126,14 +154,5 @@ where
     R: Rule + Send + Sync,
     H: Threads + Wait + Eprint + Sync,
 {
-    let reports = Reports::new(rt, alloc, options.verbose);
-    let (past, _) = serve_blank::<Brand, F, R, H>(
-        rt, alloc, listener, blank, hooks, &reports, options,
-    )?;
-    reports.sums_up(past.len());
-    if reports.has_failed() {
-        Ok(Served::Failed)
-    } else {
-        Ok(Served::Done)
-    }
+    serve_named::<Brand, F, R, H>(rt, alloc, listener, blank, hooks, options)
 }
