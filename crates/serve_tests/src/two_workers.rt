@@ -6,7 +6,7 @@ use crate::mounts::{Silent, blank_of};
 use crate::peers::{ask, assert_closed, patient};
 use locked_history::{Blank, MountName};
 use socket_server::{Reports, ServeOptions, serve_blank};
-use std::alloc::Global;
+use std::alloc::{AllocError, Global};
 use std::env::Env;
 use std::fs::Files;
 use std::hash::RandomState;
@@ -69,6 +69,34 @@ fn two_clients<H: Net + Abort>(rt: &H, path: &str) -> Result<(), Fail> {
     assert_closed(rt, &first)
 }
 
+// How many entries the history of what was served has, and how many receipts are handed back.
+fn serves<N, F, R, H>(
+    rt: &H,
+    alloc: Global,
+    listener: &UnixListener,
+    blank: Blank<F, R>,
+    reports: &Reports<'_, H>,
+    options: &ServeOptions<'_>,
+) -> Result<(usize, usize), AllocError>
+where
+    N: MountName + Send + Sync,
+    F: Callback + Copy + Send + Sync,
+    R: Rule + Send + Sync,
+    H: Threads + Wait + Eprint + Sync,
+    requires { IsNamed N.cells N.name N.parts N.opening blank }
+{
+    let (past, left) = serve_blank::<N, F, R, H>(
+        rt,
+        alloc,
+        listener,
+        blank,
+        &[],
+        reports,
+        options,
+    )?;
+    Ok((past.len(), left.len()))
+}
+
 // All replies are read, the workers end, and each receipt stands in the one history: 2 attaches, 4
 // answered calls and 2 detaches.
 fn served<N, F, R, H>(rt: &H, alloc: Global, path: &str, blank: Blank<F, R>) -> Result<(), Fail>
@@ -90,15 +118,15 @@ where
     let (socket, told, how) = (&listener, &reports, &options);
     let (history, asked) = join(
         rt,
-        move || serve_blank::<N, F, R, H>(rt, alloc, socket, blank, &[], told, how),
+        move || serves::<N, F, R, H>(rt, alloc, socket, blank, told, how),
         || two_clients(rt, path),
     );
     let removed = fs::remove_file(rt, path);
     asked?;
     removed?;
-    let (past, left) = history?;
-    assert_eq!(rt; left.len(), 0);
-    assert_eq!(rt; past.len(), 8);
+    let (entries, handed_back) = history?;
+    assert_eq!(rt; handed_back, 0);
+    assert_eq!(rt; entries, 8);
     assert!(rt; !reports.has_failed());
     Ok(())
 }
