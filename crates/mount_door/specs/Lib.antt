@@ -1,0 +1,4 @@
+pub mod Exchanges
+pub mod Claiming
+pub mod Advancing
+pub mod Joining

@@ -1,0 +1,85 @@
+// A whole session of a mount's client.
+ghost use Rattle.std.specs.Prelude.{◌≡◌, ◌<◌, List, [], false};
+ghost use Rattle.std.specs.Vec.{vec_capacity, vec_len};
+ghost use Rattle.ov_session.specs.Devices.{InputAt, is_write};
+ghost use Rattle.ov_session.specs.Sessions.{IsSession};
+ghost use Rattle.ov_session.specs.declared.exchange.Exchange.{Exchange};
+ghost use Rattle.mount_door.specs.Advancing.{Advances, standing};
+
+use crate::door::MountDoor;
+use crate::session::MountSession;
+use locked_history::{Gate, Mount, MountName, Receipt, Session};
+use ov_session::{Ending, SessionInput, SessionOutput, session_run};
+use std::alloc::Global;
+use std::io::{Read, Write};
+use std::sync::Wait;
+use watch_table::{Callback, Hook, Rule};
+
+/// What a session leaves: how it ended and how many calls were answered, its client, the receipts of
+/// what that did, its hooks where it was detached, and whether a call was made whose reply there was
+/// no memory for.
+#[derive(Drop)]
+pub struct Departure<N: MountName, F: Callback, R: Rule> {
+    pub ending: Ending,
+    pub calls: u64,
+    pub session: Session,
+    pub receipts: Vec<Receipt<N>>,
+    pub hooks: Option<Vec<Hook<F, R>>>,
+    pub lost: bool,
+}
+
+/// Runs the session of a client that was just attached, whose receipts go behind these. What it
+/// wrote is the frames of the answers to what it read, and a receipt claims that each reply among
+/// them stands in the history of the mount.
+pub fn run_session<N, F, R, G, H, I, O>(
+    rt: &H,
+    alloc: Global,
+    mount: &Mount<N, F, R>,
+    gate: &G,
+    session: Session,
+    receipts: Vec<Receipt<N>>,
+    input: &mut SessionInput<I>,
+    output: &mut SessionOutput<O>,
+) -> Departure<N, F, R>
+where
+    N: MountName,
+    F: Callback + Drop,
+    R: Rule,
+    G: Gate,
+    H: Wait,
+    I: Read,
+    O: Write,
+    requires input { input.old.failed ≡ false }
+    requires output { output.old.failed ≡ false }
+    requires held { output.old.held.items ≡ [] }
+    requires room { vec_len receipts < vec_capacity receipts }
+    ensures session { (told : List Exchange) × IsSession Advances
+        (I.remaining input.old.reader) (I.remaining input.new.reader)
+        (O.contents output.old.writer) (O.contents output.new.writer)
+        [] told (standing session receipts.items false)
+        (standing result.session result.receipts.items result.lost) result.ending }
+    ensures input { InputAt input.new.failed input.new.reads_left result.ending }
+    ensures output { output.new.failed ≡ is_write result.ending }
+{
+    let mut told = MountSession::new();
+    let mut door = MountDoor::new(rt, alloc, mount, gate, session, receipts);
+    let ending = session_run(alloc, input, output, &mut door, &mut told);
+    let MountDoor {
+        rt: _,
+        alloc: _,
+        mount: _,
+        gate: _,
+        session,
+        receipts,
+        hooks,
+        lost,
+    } = door;
+    Departure {
+        ending,
+        calls: told.calls(),
+        session,
+        receipts,
+        hooks,
+        lost,
+    }
+}

@@ -1,0 +1,139 @@
+// A worker: it takes one connection after the other. The client of a connection is attached, its
+// session is run, and it is detached before its stream is closed.
+ghost use Rattle.std.specs.Prelude.{◌<◌, IfOk};
+ghost use Rattle.std.specs.Vec.{vec_capacity, vec_len};
+
+use crate::reports::Reports;
+use locked_history::{Mount, MountName, Open, Receipt, Session};
+use mount_door::{Departure, run_session};
+use ov_base::Errno;
+use ov_frames::{Answer, append_reply};
+use ov_session::{SessionInput, SessionOutput};
+use std::alloc::{AllocError, Global};
+use std::io::{Eprint, Write};
+use std::os::unix::net::{UnixListener, UnixStream};
+use std::sync::Wait;
+use watch_table::{Callback, Hook, Rule};
+
+// Other hooks of the same tags and callbacks.
+fn copies_of<F: Callback + Copy, R: Rule>(
+    alloc: Global,
+    hooks: &[Hook<F, R>],
+) -> Result<Vec<Hook<F, R>>, AllocError> {
+    let mut copies = Vec::with_capacity(alloc, hooks.len())?;
+    for hook in hooks {
+        copies.push(hook.copied())?;
+    }
+    Ok(copies)
+}
+
+// Attaches a client with copies of these hooks, or says why there is none. Its receipts have memory
+// for that of a detach.
+fn attach<N: MountName, F: Callback + Copy, R: Rule, H: Wait>(
+    rt: &H,
+    alloc: Global,
+    mount: &Mount<N, F, R>,
+    hooks: &[Hook<F, R>],
+) -> Result<(Session, Vec<Receipt<N>>), Errno>
+    ensures { IfOk result (λ r. vec_len r.1 < vec_capacity r.1) }
+{
+    let Ok(mut receipts) = Vec::with_capacity(alloc, 2) else {
+        return Err(Errno::ENOMEM);
+    };
+    let Ok(copies) = copies_of(alloc, hooks) else {
+        return Err(Errno::ENOMEM);
+    };
+    match mount.attach(rt, copies) {
+        Ok((session, receipt)) => {
+            receipts.push_reserved(receipt);
+            Ok((session, receipts))
+        }
+        Err(fault) => Err(fault.errno),
+    }
+}
+
+// Tells a connection by one frame that no client is attached for it.
+fn refuse(alloc: Global, stream: &UnixStream, errno: Errno) {
+    let mut writer = stream;
+    let mut frame = Vec::new(alloc);
+    if append_reply(&Answer::NotTaken(errno), &mut frame).is_ok() {
+        let _ = writer.write_all(frame.as_slice());
+    }
+}
+
+// Serves a connection, whose client comes with copies of these hooks. The receipts of what it did
+// are put behind those of others.
+fn serve<N: MountName, F: Callback + Copy, R: Rule, H: Wait + Eprint>(
+    rt: &H,
+    alloc: Global,
+    mount: &Mount<N, F, R>,
+    hooks: &[Hook<F, R>],
+    reports: &Reports<'_, H>,
+    stream: &UnixStream,
+    receipts: &mut Vec<Vec<Receipt<N>>>,
+) {
+    let number = reports.comes();
+    if receipts.reserve(1).is_err() {
+        refuse(alloc, stream, Errno::ENOMEM);
+        reports.refuses(number, Errno::ENOMEM);
+        return;
+    }
+    match attach(rt, alloc, mount, hooks) {
+        Ok((session, own)) => {
+            reports.begins(number, session.client);
+            let mut input = SessionInput::new(stream);
+            let mut output = SessionOutput::new(alloc, stream);
+            let Departure {
+                ending,
+                calls,
+                session: _,
+                receipts: own,
+                hooks: _,
+                lost: _,
+            } = run_session(
+                rt,
+                alloc,
+                mount,
+                &Open,
+                session,
+                own,
+                &mut input,
+                &mut output,
+            );
+            reports.ends(number, calls, ending);
+            receipts.push_reserved(own);
+        }
+        Err(errno) => {
+            refuse(alloc, stream, errno);
+            reports.refuses(number, errno);
+        }
+    }
+}
+
+/// Takes connections, so many or without an end, and serves each. It ends early where it can take
+/// none. The receipts of all that its clients did are left.
+pub(crate) fn work<N: MountName, F: Callback + Copy, R: Rule, H: Wait + Eprint>(
+    rt: &H,
+    alloc: Global,
+    listener: &UnixListener,
+    mount: &Mount<N, F, R>,
+    hooks: &[Hook<F, R>],
+    reports: &Reports<'_, H>,
+    sessions: Option<u64>,
+) -> Vec<Vec<Receipt<N>>> {
+    let mut receipts = Vec::new(alloc);
+    let mut left = sessions;
+    for _ in rt.forever() {
+        match left {
+            Some(0) => break,
+            Some(count) => left = Some(count.saturating_sub(1)),
+            None => {}
+        }
+        let Ok((stream, _)) = listener.accept() else {
+            reports.fails();
+            break;
+        };
+        serve(rt, alloc, mount, hooks, reports, &stream, &mut receipts);
+    }
+    receipts
+}
