@@ -1,7 +1,7 @@
 -- The command line of the program, and what its words ask for.
 use Rattle.std.specs.Prelude.{◌≡◌, ℕ, Bool, List, [], ◌∷◌, Option, Some, None, Ok, true, false}
 use Rattle.std.specs.Prelude.{codes, drop, ◌⊎◌}
-use Rattle.core.specs.declared.str.parse.ParseIntError.{ParseIntError}
+use Rattle.std.specs.declared.num.ParseIntError.{ParseIntError}
 use Rattle.std.specs.Str.Parse.{ParsesUnsigned}
 use Rattle.clap.specs.Simple.{App, new_app, new_rule, on_top, subcommand_of, subcommand_rows_of, with_rule, with_subcommand}
 use Rattle.clap.specs.Takes.{takes}

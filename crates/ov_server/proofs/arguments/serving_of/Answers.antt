@@ -1,9 +1,9 @@
 use Rattle.std.proofs.Common.{◌≡◌, ◌∙◌, ℕ, List, Option, Some, None, codes, refl, sym, ap, subst}
 use Rattle.std.specs.Prelude.{Result, Ok, Err}
-use Rattle.core.specs.Result.{result_ok}
+use Rattle.std.specs.Result.{result_ok}
 use Rattle.std.specs.Str.Parse.{ParsesUnsigned, ExplainsUnsignedError, HasUnsignedDigitsIfOk}
 use Rattle.std.proofs.lemmas.Option.{none-some}
-use Rattle.core.specs.declared.str.parse.ParseIntError.{ParseIntError}
+use Rattle.std.specs.declared.num.ParseIntError.{ParseIntError}
 use Rattle.clap.specs.Matches.{ReadsOne, TriesOne, found_of, one_text}
 use Rattle.clap.proofs.WalkLemmas.{first_value-rows, one_text-rows}
 use Rattle.ov_server.specs.Arguments.{Spells}
