@@ -19,7 +19,7 @@ use std::sync::Wait;
 use std::test::Fail;
 use std::thread::{Threads, join};
 use std::{env, fs};
-use watch_table::{AnyAnswer, Callback, Rule};
+use watch_table::{AnyAnswer, Callback, Hook, Rule};
 
 const EMPTY: &str = "layer = [{}, {}]";
 
@@ -69,15 +69,15 @@ fn two_clients<H: Net + Abort>(rt: &H, path: &str) -> Result<(), Fail> {
     assert_closed(rt, &first)
 }
 
-// How many entries the history of what was served has, and how many receipts are handed back.
+// How many entries the history of what was served has, how many receipts are handed back, and
+// whether a worker could not go on.
 fn serves<N, F, R, H>(
     rt: &H,
     alloc: Global,
     listener: &UnixListener,
     blank: Blank<F, R>,
-    reports: &Reports<'_, H>,
     options: &ServeOptions<'_>,
-) -> Result<(usize, usize), AllocError>
+) -> Result<(usize, usize, bool), AllocError>
 where
     N: MountName + Send + Sync,
     F: Callback + Copy + Send + Sync,
@@ -85,16 +85,18 @@ where
     H: Threads + Wait + Eprint + Sync,
     requires { IsNamed N.cells N.name N.parts N.opening blank }
 {
+    let reports = Reports::new(rt, alloc, options.verbose);
+    let hooks: Vec<Hook<F, R>> = Vec::new(alloc);
     let (past, left) = serve_blank::<N, F, R, H>(
         rt,
         alloc,
         listener,
         blank,
-        &[],
-        reports,
+        hooks.as_slice(),
+        &reports,
         options,
     )?;
-    Ok((past.len(), left.len()))
+    Ok((past.len(), left.len(), reports.has_failed()))
 }
 
 // All replies are read, the workers end, and each receipt stands in the one history: 2 attaches, 4
@@ -107,7 +109,6 @@ where
     H: Files + Net + Threads + Wait + Eprint + Abort + Sync,
     requires { IsNamed N.cells N.name N.parts N.opening blank }
 {
-    let reports = Reports::new(rt, alloc, false);
     let options = ServeOptions {
         socket: path,
         workers: 2,
@@ -115,19 +116,19 @@ where
         verbose: false,
     };
     let listener = UnixListener::bind(rt, path)?;
-    let (socket, told, how) = (&listener, &reports, &options);
+    let (socket, how) = (&listener, &options);
     let (history, asked) = join(
         rt,
-        move || serves::<N, F, R, H>(rt, alloc, socket, blank, told, how),
+        move || serves::<N, F, R, H>(rt, alloc, socket, blank, how),
         || two_clients(rt, path),
     );
     let removed = fs::remove_file(rt, path);
     asked?;
     removed?;
-    let (entries, handed_back) = history?;
+    let (entries, handed_back, failed) = history?;
     assert_eq!(rt; handed_back, 0);
     assert_eq!(rt; entries, 8);
-    assert!(rt; !reports.has_failed());
+    assert!(rt; !failed);
     Ok(())
 }
 
