@@ -85,13 +85,20 @@ fn asked<R: Env + AllocGlobal>(rt: &R) -> io::Result<Option<(Measured, u32, u32)
 fn asked_echo<R: Env + AllocGlobal>(rt: &R) -> io::Result<Option<(u32, String)>> {
     let mut words = env::args(rt)?;
     let _program = words.next();
-    match (words.next(), words.next(), words.next()) {
-        (Some(load), Some(workers), Some(socket)) if load.as_str() == "echo" => {
-            let workers = workers.as_str().parse::<u32>().unwrap_or(0);
-            Ok(Some((workers, socket)))
-        }
-        _ => Ok(None),
+    let Some(load) = words.next() else {
+        return Ok(None);
+    };
+    let Some(workers) = words.next() else {
+        return Ok(None);
+    };
+    let Some(socket) = words.next() else {
+        return Ok(None);
+    };
+    if load.as_str() != "echo" {
+        return Ok(None);
     }
+    let workers = workers.as_str().parse::<u32>().unwrap_or(0);
+    Ok(Some((workers, socket)))
 }
 
 fn run<R>(rt: &R, keys: RandomState) -> io::Result<()>
