@@ -1,13 +1,16 @@
 # What can be made; `make` alone lists it.
-.PHONY: help show play build test test-clients
+.PHONY: help show play build serve test test-serve test-clients
 
 EXAMPLE := examples/change-layer
+SOCKET := out/overlay.socket
 
 help:
 	@echo "make show    print the merged tree of $(EXAMPLE).toml: an unproved build, within 2 minutes"
 	@echo "make play    play $(EXAMPLE).script on it, likewise"
 	@echo "make build   prove the program and leave it at out/overlayd: about an hour, interruptible"
+	@echo "make serve   build, then serve $(EXAMPLE).toml on the socket $(SOCKET) until interrupted"
 	@echo "make test    the gate: every proof, test, refused edit and program run"
+	@echo "make test-serve    tests the server that the gate built, over sockets of its own"
 	@echo "make test-clients  tests the Python tools, with the program where it is built"
 
 show:
@@ -19,11 +22,19 @@ play:
 build:
 	@tools/need-kit && tools/build
 
+# A server leaves its socket's file behind, and takes no path that is taken.
+serve: build
+	@rm -f $(SOCKET)
+	out/overlayd serve $(EXAMPLE).toml $(SOCKET) --verbose
+
 # The gate has at most four proofs side by side, with one job each: several jobs on one proof take
 # up to half as much processor time again.
 test:
 	@tools/need-kit
 	RT_JOBS=$$(($$(nproc) < 4 ? $$(nproc) : 4)) rt ci
+
+test-serve:
+	tools/test-serve
 
 test-clients:
 	python3 -m unittest discover -s clients/python/tests -t clients/python

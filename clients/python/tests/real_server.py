@@ -7,6 +7,7 @@ import tempfile
 import time
 
 from overlayd import Client
+from overlayd.stream import connected
 
 ROOT = pathlib.Path(__file__).resolve().parents[3]
 # How long anything may take, on a machine that may be busy.
@@ -17,7 +18,7 @@ def program():
     """The program that OVERLAYD names, or that was built here; None without one."""
     named = os.environ.get("OVERLAYD")
     if named:
-        return named
+        return os.path.abspath(named)
     built = ROOT / "crates" / "overlayd" / "out" / "overlayd"
     return str(built) if built.is_file() else None
 
@@ -69,10 +70,16 @@ class Server:
 
     def client(self):
         """A client, once the server listens."""
+        return Client.from_socket(self.connected(), timeout=WAIT)
+
+    def connected(self):
+        """A connected socket, once the server listens."""
         limit = time.monotonic() + WAIT
         while True:
             try:
-                return Client(self.path, timeout=WAIT)
+                link = connected(self.path, WAIT)
+                link.settimeout(WAIT)
+                return link
             except (FileNotFoundError, ConnectionRefusedError):
                 if time.monotonic() > limit or self.process.poll() is not None:
                     raise

@@ -1,9 +1,11 @@
-"""The client on the program's own server; skipped as long as the program has none."""
+"""The client on the program's own server; skipped where the program isn't built."""
 
 import errno
 import io
 import os
+import pathlib
 import random
+import resource
 import stat
 import subprocess
 import sys
@@ -213,7 +215,8 @@ class Operations(unittest.TestCase):
 
 
 class Refused(unittest.TestCase):
-    """Each number that a server can answer, but for want of memory, with what brings it about."""
+    """Each number that a server can answer, with what brings it about. ENFILE is none: a server
+    has 64 workers at most, and so as many clients, and others wait."""
 
     def setUp(self):
         self.server = Server(ONE_OF_EACH)
@@ -266,6 +269,36 @@ class Refused(unittest.TestCase):
         self.refused(errno.EMFILE, lambda: self.c.open("/f"))
         files[7].close()
         self.assertEqual(self.c.open("/f").descriptor, 7)
+
+
+@unittest.skipUnless(hasattr(resource, "prlimit"), "no limit can be put on another process")
+class Memory(unittest.TestCase):
+    """A server that has 8 MiB more than it has taken, until it has all that it asks for."""
+
+    def limit(self, server, more):
+        """Bounds what the server may take; what bounded it before."""
+        process = server.process.pid
+        pages = int(pathlib.Path(f"/proc/{process}/statm").read_text().split()[0])
+        before = resource.prlimit(process, resource.RLIMIT_AS)
+        most = pages * resource.getpagesize() + more
+        resource.prlimit(process, resource.RLIMIT_AS, (most, before[1]))
+        return before
+
+    def test_a_call_without_memory_is_refused_and_the_session_goes_on(self):
+        with Server(ONE_OF_EACH, workers=1) as server, server.client() as c:
+            self.assertEqual(c.listdir("/e"), [])
+            before = self.limit(server, 8 << 20)
+            with self.assertRaises(OSError) as refused:
+                for number in range(100):
+                    with c.open(f"/e/{number}", os.O_WRONLY | os.O_CREAT) as file:
+                        file.truncate(1_048_576)
+            self.assertEqual((refused.exception.errno, refused.exception.place),
+                             (errno.ENOMEM, None))
+            self.assertEqual(c.stat(f"/e/{number}").st_size, 0)
+            resource.prlimit(server.process.pid, resource.RLIMIT_AS, before)
+            with c.open(f"/e/{number}", os.O_WRONLY) as file:
+                file.truncate(1_048_576)
+                self.assertEqual(file.fstat().st_size, 1_048_576)
 
 
 class Example(unittest.TestCase):

@@ -127,6 +127,14 @@ class LayerTest(unittest.TestCase):
         self.assertEqual(str(caught.exception), "/.wh.x: a layer of an image can't have a name "
                                                 "that begins with .wh.")
 
+    def test_an_attribute_that_is_a_mark(self) -> None:
+        """Who unpacks the layer would read it as a mark."""
+        mounted = MemoryTree([Entry("/d", "dir", attrs=(("user.overlay.opaque", b"y"),))])
+        with self.assertRaises(Unsayable) as caught:
+            write_layer(changes(MemoryTree([]), mounted), mounted, io.BytesIO())
+        self.assertEqual(str(caught.exception), "/d: attribute user.overlay.opaque: in a layer it "
+                                                "would be a mark of overlayfs")
+
 
 class UpperTest(unittest.TestCase):
     """Upper directories."""
@@ -168,6 +176,21 @@ class UpperTest(unittest.TestCase):
             write_upper([Change("/", Entry("/", "dir")), Change("/a", Entry("/a", "file"))],
                         missing, str(self.folder / "other"))
         self.assertEqual(os.listdir(self.folder), ["upper"])
+
+    def test_what_it_cannot_say(self) -> None:
+        """An owner that no file system has, and an attribute that would be a mark."""
+        for entry, why in (
+                (Entry("/a", "file", uid=4294967295),
+                 "a directory can't have what has owner or group 4294967295"),
+                (Entry("/a", "symlink", gid=4294967295, target="b"),
+                 "a directory can't have what has owner or group 4294967295"),
+                (Entry("/a", "dir", attrs=(("user.overlay.redirect", b"x"),)),
+                 "attribute user.overlay.redirect: in a layer it would be a mark of overlayfs")):
+            with self.subTest(entry=entry), self.assertRaises(Unsayable) as caught:
+                mounted = MemoryTree([entry])
+                write_upper(changes(MemoryTree([]), mounted), mounted, str(self.folder / "upper"))
+            self.assertEqual(str(caught.exception), f"/a: {why}")
+        self.assertEqual(os.listdir(self.folder), [])
 
     @staticmethod
     def fail_to_read(entry: Entry) -> bytes:

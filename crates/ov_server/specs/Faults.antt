@@ -14,7 +14,7 @@ use Rattle.ov_wire.specs.declared.manifest.fault.ManifestFault.TheVariants as ma
 use Rattle.ov_server.specs.declared.fault.DeviceFault.{DeviceFault}
 use Rattle.ov_server.specs.declared.fault.DeviceFault.TheVariants as device
 use Rattle.ov_server.specs.declared.fault.Fault.{Fault}
-use Rattle.ov_server.specs.declared.fault.Fault.TheVariants.{CommandLine, NotText, CannotReadManifest, Manifest, Stream, BadCommand, Memory}
+use Rattle.ov_server.specs.declared.fault.Fault.TheVariants.{CommandLine, NotText, CannotReadManifest, Manifest, Stream, Socket, BadCommand, Memory}
 
 -- the exit status of what a command line comes to: 0 where help or the version is asked for
 abbrev pub status_of_kind : LineErrorKind → ℕ
@@ -29,6 +29,7 @@ status_of NotText = 2
 status_of CannotReadManifest = 1
 status_of (Manifest fault) = 1
 status_of Stream = 1
+status_of Socket = 1
 status_of (BadCommand line) = 2
 status_of Memory = 3
 

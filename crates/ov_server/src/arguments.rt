@@ -3,13 +3,16 @@ ghost use Rattle.std.specs.Prelude.{◌≡◌, false, codes, [], ◌∷◌, IfEr
 ghost use Rattle.clap.specs.Faults.{fault_of};
 ghost use Rattle.clap.specs.Kinds.{FailsBy};
 ghost use Rattle.clap.specs.Simple.{app_of};
-ghost use Rattle.clap.specs.Walk.{rule_of};
+ghost use Rattle.clap.specs.Matches.{found_of};
+ghost use Rattle.clap.specs.Walk.{rows_of, rule_of};
 ghost use Rattle.clap.specs.declared.builder.command.Command.TheViews.{out-Command};
-ghost use Rattle.ov_server.specs.Arguments.{IsAskedBy, IsLoneWord, IsRefusedBy, Names};
-ghost use Rattle.ov_server.specs.Arguments.{app_named, manifest_rule, overlayd_app};
+ghost use Rattle.ov_server.specs.Arguments.{IsAskedBy, IsLoneWord, IsRefusedBy, IsServing, Names};
+ghost use Rattle.ov_server.specs.Arguments.{app_named, manifest_rule, overlayd_app, serve_app};
+ghost use Rattle.ov_server.specs.Arguments.{sessions_rule, socket_rule, verbose_rule, workers_rule};
 
+use clap::builder::ValueParser;
 use clap::error::ErrorKind;
-use clap::{Arg, ArgMatches, Command, Error};
+use clap::{Arg, ArgAction, ArgMatches, Command, Error};
 use std::alloc::{AllocError, Global};
 use std::convert::AsStr;
 
@@ -20,9 +23,24 @@ pub const VERSION: &str = "0.3.0";
 #[derive(Clone, Copy, Debug, PartialEq, Eq)]
 pub enum Invocation<'a> {
     /// The merged tree of a manifest is printed.
-    Show { manifest: &'a str },
+    Show {
+        manifest: &'a str,
+    },
     /// A script is played on the mount of a manifest.
-    Play { manifest: &'a str },
+    Play {
+        manifest: &'a str,
+    },
+    /// The mount of a manifest is served on a socket.
+    Serve {
+        manifest: &'a str,
+        socket: &'a str,
+        /// How many connections are served at once.
+        workers: u64,
+        /// After how many sessions each worker ends; none where they never do.
+        sessions: Option<u64>,
+        /// Whether it is told what is served.
+        verbose: bool,
+    },
 }
 
 /// Reads the words of a command line, the program's name first. An error has the text for the user,
@@ -53,12 +71,73 @@ fn overlayd<'a>(alloc: Global) -> Result<Command<'a>, AllocError>
         "play",
         "Plays the script on standard input on the mount of a manifest",
     )?;
+    let serve = serve(alloc)?;
     Command::new(alloc, "overlayd")
         .version(VERSION)
         .about("An overlay mount in memory")
         .subcommand_required(true)
         .subcommand(show)?
-        .subcommand(play)
+        .subcommand(play)?
+        .subcommand(serve)
+}
+
+// The subcommand that serves a mount on a socket.
+fn serve<'a>(alloc: Global) -> Result<Command<'a>, AllocError>
+    ensures app { IfOk result (λ command. app_of command ≡ serve_app) }
+    ensures local { IfOk result (λ command. (out-Command command).has_globals ≡ false) }
+{
+    subcommand(
+        alloc,
+        "serve",
+        "Serves the mount of a manifest to clients on a Unix socket",
+    )?
+    .arg(socket(alloc))?
+    .arg(workers(alloc))?
+    .arg(sessions(alloc))?
+    .arg(verbose(alloc))
+}
+
+fn socket<'a>(alloc: Global) -> Arg<'a>
+    ensures rule { rule_of result ≡ socket_rule }
+    ensures local { result.global ≡ false }
+{
+    Arg::new(alloc, "SOCKET")
+        .help("The path at which the socket is made")
+        .required(true)
+}
+
+fn workers<'a>(alloc: Global) -> Arg<'a>
+    ensures rule { rule_of result ≡ workers_rule }
+    ensures local { result.global ≡ false }
+{
+    Arg::new(alloc, "workers")
+        .long("workers")
+        .value_name("N")
+        .help("How many connections are served at once, 1 to 64; further ones wait")
+        .value_parser(ValueParser::unsigned(1, 64))
+        .default_value("8")
+}
+
+fn sessions<'a>(alloc: Global) -> Arg<'a>
+    ensures rule { rule_of result ≡ sessions_rule }
+    ensures local { result.global ≡ false }
+{
+    Arg::new(alloc, "sessions")
+        .long("sessions")
+        .value_name("K")
+        .help("Each worker ends after K sessions, 1 to 1000000; else they never end")
+        .value_parser(ValueParser::unsigned(1, 1_000_000))
+}
+
+fn verbose<'a>(alloc: Global) -> Arg<'a>
+    ensures rule { rule_of result ≡ verbose_rule }
+    ensures local { result.global ≡ false }
+{
+    Arg::new(alloc, "verbose")
+        .long("verbose")
+        .short('v')
+        .help("Tells on standard error what is served")
+        .action(ArgAction::SetTrue)
 }
 
 // A subcommand that takes the file of a manifest.
@@ -87,7 +166,26 @@ fn invocation_of<'a>(matches: &ArgMatches<'a>) -> Option<Invocation<'a>>
         Some(Invocation::Show { manifest })
     } else if name == "play" {
         Some(Invocation::Play { manifest })
+    } else if name == "serve" {
+        serving_of(manifest, inner)
     } else {
         None
     }
+}
+
+// What `serve` asks for, on this manifest.
+fn serving_of<'a>(manifest: &'a str, matches: &ArgMatches<'a>) -> Option<Invocation<'a>>
+    ensures { IfSome result (IsServing (rows_of (found_of matches.now)) manifest.entry.now) }
+{
+    let socket = matches.get_str("SOCKET")?;
+    let workers = matches.get_one("workers")?;
+    let sessions = matches.try_get_one("sessions").ok()?;
+    let verbose = matches.get_flag("verbose");
+    Some(Invocation::Serve {
+        manifest,
+        socket,
+        workers,
+        sessions,
+        verbose,
+    })
 }

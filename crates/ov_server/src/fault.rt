@@ -26,6 +26,9 @@ pub enum Fault {
     /// Standard input, standard output or the system's source of randomness failed.
     #[error("stream")]
     Stream,
+    /// The socket can't be made, or no connection can be taken.
+    #[error("socket")]
+    Socket,
     /// A line of the script, counted from 1, is no command.
     #[error("line {line}: bad command")]
     BadCommand { line: u64 },
@@ -43,7 +46,8 @@ impl Fault {
         match self {
             Fault::CommandLine(error) if !error.use_stderr() => 0,
             Fault::CommandLine(_) => 2,
-            Fault::CannotReadManifest | Fault::Manifest(_) | Fault::Stream => 1,
+            Fault::CannotReadManifest | Fault::Manifest(_) => 1,
+            Fault::Stream | Fault::Socket => 1,
             Fault::NotText | Fault::BadCommand { .. } => 2,
             Fault::Memory => 3,
         }

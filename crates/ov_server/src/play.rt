@@ -68,8 +68,8 @@ fn play_on<R: Read, W: Write, F: Callback + Copy, H: Rule>(
     script.play(input, output)
 }
 
-// The mount of the layers that the bytes of a manifest spell, without a client.
-fn core_of<F: Callback + Drop, H: Rule>(
+/// The mount of the layers that the bytes of a manifest spell, without a client.
+pub fn core_of<F: Callback + Drop, H: Rule>(
     alloc: Global,
     keys: RandomState,
     manifest: &[u8],

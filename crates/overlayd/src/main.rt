@@ -1,32 +1,63 @@
-//! The program: shows the merged tree of a manifest, or plays a script on its mount.
+//! The program: shows the merged tree of a manifest, plays a script on its mount, or serves it.
 #![tactic(auto)]
 
+use locked_history::Blank;
 use ov_server::{
-    Fault, Input, Invocation, Output, command_line, hooks_by_slot, play_run, show_run,
+    ByTag, Fault, Input, Invocation, Output, ProgramRule, command_line, core_of, hooks_by_slot,
+    play_run, show_run,
 };
+use socket_server::{ServeOptions, Served, serve_on};
+use std::env::Env;
+use std::fs::Files;
 use std::hash::RandomState;
+use std::io::{Eprint, Print};
+use std::net::Net;
+use std::os::unix::net::UnixListener;
 use std::process::ExitCode;
+use std::random::RandomSource;
+use std::rt::Runtime;
+use std::sync::Wait;
+use std::thread::Threads;
 use std::{env, fs, io};
 
 fn main(rt: HostRuntime) -> ExitCode {
     match run(&rt) {
-        Ok(()) => ExitCode::SUCCESS,
+        Ok(status) => ExitCode::from(status),
         Err(fault) => report(&rt, &fault),
     }
 }
 
-fn run(rt: &HostRuntime) -> Result<(), Fault> {
+// The exit status, where nothing is to be told any more.
+fn run<R: Runtime + AllocGlobal + RandomSource + Net + Threads + Wait + Sync>(
+    rt: &R,
+) -> Result<u8, Fault> {
     let words = words(rt)?;
     let invocation = command_line(rt.alloc(), words.as_slice())?;
     let keys = keys(rt)?;
     match invocation {
-        Invocation::Show { manifest } => show(rt, keys, manifest),
-        Invocation::Play { manifest } => play(rt, keys, manifest),
+        Invocation::Show { manifest } => show(rt, keys, manifest)?,
+        Invocation::Play { manifest } => play(rt, keys, manifest)?,
+        Invocation::Serve {
+            manifest,
+            socket,
+            workers,
+            sessions,
+            verbose,
+        } => {
+            let options = ServeOptions {
+                socket,
+                workers: workers as usize,
+                sessions,
+                verbose,
+            };
+            return serve(rt, keys, manifest, &options);
+        }
     }
+    Ok(0)
 }
 
 // The keys by which directories hash their names, from the system's randomness. Where it fails, that counts as a stream that failed.
-fn keys(rt: &HostRuntime) -> Result<RandomState, Fault> {
+fn keys<R: RandomSource>(rt: &R) -> Result<RandomState, Fault> {
     match RandomState::new(rt) {
         Ok(keys) => Ok(keys),
         Err(fault) if fault.kind() == io::ErrorKind::OutOfMemory => Err(Fault::Memory),
@@ -35,7 +66,7 @@ fn keys(rt: &HostRuntime) -> Result<RandomState, Fault> {
 }
 
 // The words of the command line, the program's name first.
-fn words(rt: &HostRuntime) -> Result<Vec<String>, Fault> {
+fn words<R: Env + AllocGlobal>(rt: &R) -> Result<Vec<String>, Fault> {
     match env::args(rt) {
         Ok(words) => Ok(words.collect(rt.alloc())?),
         Err(fault) if fault.kind() == io::ErrorKind::OutOfMemory => Err(Fault::Memory),
@@ -43,13 +74,13 @@ fn words(rt: &HostRuntime) -> Result<Vec<String>, Fault> {
     }
 }
 
-fn show(rt: &HostRuntime, keys: RandomState, manifest: &str) -> Result<(), Fault> {
+fn show<R: Runtime + AllocGlobal>(rt: &R, keys: RandomState, manifest: &str) -> Result<(), Fault> {
     let manifest = bytes_of(rt, manifest)?;
     let mut output = Output::new(rt.alloc(), io::writer(rt));
     show_run(rt.alloc(), keys, manifest.as_slice(), &mut output)
 }
 
-fn play(rt: &HostRuntime, keys: RandomState, manifest: &str) -> Result<(), Fault> {
+fn play<R: Runtime + AllocGlobal>(rt: &R, keys: RandomState, manifest: &str) -> Result<(), Fault> {
     let manifest = bytes_of(rt, manifest)?;
     let hooks = hooks_by_slot(rt.alloc())?;
     let mut input = Input::new(rt.reader());
@@ -64,7 +95,32 @@ fn play(rt: &HostRuntime, keys: RandomState, manifest: &str) -> Result<(), Fault
     )
 }
 
-fn bytes_of(rt: &HostRuntime, path: &str) -> Result<Vec<u8>, Fault> {
+// The mount is there before the socket, so that who can connect is served.
+fn serve<R: Runtime + AllocGlobal + Net + Threads + Wait + Sync>(
+    rt: &R,
+    keys: RandomState,
+    manifest: &str,
+    options: &ServeOptions<'_>,
+) -> Result<u8, Fault> {
+    let manifest = bytes_of(rt, manifest)?;
+    let core = core_of(rt.alloc(), keys, manifest.as_slice())?;
+    drop(manifest);
+    let Ok(blank) = Blank::new(rt.alloc(), core) else {
+        return Err(Fault::Memory);
+    };
+    let hooks = hooks_by_slot(rt.alloc())?;
+    let listener = match UnixListener::bind(rt, options.socket) {
+        Ok(listener) => listener,
+        Err(fault) if fault.kind() == io::ErrorKind::OutOfMemory => return Err(Fault::Memory),
+        Err(_) => return Err(Fault::Socket),
+    };
+    match serve_on(rt, rt.alloc(), &listener, blank, hooks.as_slice(), options)? {
+        Served::Done => Ok(0),
+        Served::Failed => Ok(Fault::Socket.status()),
+    }
+}
+
+fn bytes_of<R: Files + AllocGlobal>(rt: &R, path: &str) -> Result<Vec<u8>, Fault> {
     match fs::read(rt, path) {
         Ok(bytes) => Ok(bytes),
         Err(fault) if fault.kind() == io::ErrorKind::OutOfMemory => Err(Fault::Memory),
@@ -73,7 +129,7 @@ fn bytes_of(rt: &HostRuntime, path: &str) -> Result<Vec<u8>, Fault> {
 }
 
 // Tells a fault and gives the exit status. The texts of the command line are its parser's own.
-fn report(rt: &HostRuntime, fault: &Fault) -> ExitCode {
+fn report<R: Print + Eprint>(rt: &R, fault: &Fault) -> ExitCode {
     let told = match fault {
         Fault::CommandLine(error) => error.print(rt),
         fault => tell(rt, fault),
@@ -85,7 +141,7 @@ fn report(rt: &HostRuntime, fault: &Fault) -> ExitCode {
 }
 
 // The same where the telling failed: for help, which standard output didn't take, it is a fault of its own.
-fn report_untold(rt: &HostRuntime, fault: &Fault) -> ExitCode {
+fn report_untold<R: Eprint>(rt: &R, fault: &Fault) -> ExitCode {
     if fault.status() == 0 {
         let _ = tell(rt, &Fault::Stream);
         ExitCode::from(Fault::Stream.status())
@@ -94,6 +150,6 @@ fn report_untold(rt: &HostRuntime, fault: &Fault) -> ExitCode {
     }
 }
 
-fn tell(rt: &HostRuntime, fault: &Fault) -> io::Result<()> {
+fn tell<R: Eprint>(rt: &R, fault: &Fault) -> io::Result<()> {
     eprintln!(rt; "overlayd: {fault}")
 }

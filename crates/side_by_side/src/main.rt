@@ -1,7 +1,9 @@
-//! Plays the rows of its data folder, and scripts made by a generator, on the engine and on the slow reference, and tells of each row
-//! whether both answer what is wanted.
+//! Plays the rows of its data folder on the engine, on the slow reference and on a mount that
+//! threads share, and tells of each row whether all answer what is wanted. Plays scripts made by a
+//! generator on the engine and on the slow reference.
 #![tactic(auto)]
 
+mod answers;
 mod contents;
 mod dice;
 mod engine;
@@ -9,6 +11,7 @@ mod entries;
 mod expanded;
 mod generated;
 mod history;
+mod kept_trees;
 mod layer_lines;
 mod merged;
 mod mount;
@@ -18,15 +21,19 @@ mod playing;
 mod random_calls;
 mod random_watches;
 mod rows;
+mod shared;
+mod shared_clients;
+mod sights;
 mod told_entries;
 mod told_layers;
 mod tree_lines;
 
 use crate::generated::play_generated;
-use crate::playing::difference;
+use crate::playing::{Verdict, judged};
 use crate::rows::rows_in;
 use std::hash::RandomState;
 use std::rt::Files;
+use std::sync::Wait;
 use std::{fs, io};
 
 /// The files of the rows, each on one subject.
@@ -57,36 +64,56 @@ const MANIFESTS: [(&str, u32); 3] = [
     ("four_layers.toml", 4),
 ];
 
+/// How many rows agree, and how many of them were played on a mount that threads share.
+#[derive(Clone, Copy)]
+struct Counts {
+    rows: u64,
+    mounts: u64,
+}
+
+impl Counts {
+    fn count(&mut self, verdict: &Verdict) {
+        match verdict {
+            Verdict::Agrees => {
+                self.rows = self.rows.saturating_add(1);
+                self.mounts = self.mounts.saturating_add(1);
+            }
+            Verdict::NoMount => self.rows = self.rows.saturating_add(1),
+            Verdict::Differs(_) => (),
+        }
+    }
+}
+
 fn main(rt: HostRuntime) -> io::Result<()> {
     let keys = RandomState::new(&rt)?;
-    let mut count = 0u64;
+    let mut counts = Counts { rows: 0, mounts: 0 };
     for file in FILES {
-        count = count.saturating_add(play_file(&rt, keys, file)?);
+        play_file(&rt, keys, file, &mut counts)?;
     }
-    println!(rt; "{count} rows agree")?;
+    let Counts { rows, mounts } = counts;
+    println!(rt; "{rows} rows agree, {mounts} of them on a mount that threads share")?;
     for manifest in MANIFESTS {
         play_generated(&rt, keys, manifest)?;
     }
     Ok(())
 }
 
-// Plays the rows of a file, tells of each, and gives how many agree.
-fn play_file<R: Files + AllocGlobal + Print>(
+// Plays the rows of a file, tells of each, and counts those that agree.
+fn play_file<R: Files + AllocGlobal + Print + Wait>(
     rt: &R,
     keys: RandomState,
     file: &str,
-) -> io::Result<u64> {
+    counts: &mut Counts,
+) -> io::Result<()> {
     let text = fs::read_to_string(rt, file)?;
-    let mut count = 0u64;
     for row in rows_in(rt.alloc(), text.as_str())? {
         let name = row.name;
-        match difference(rt.alloc(), keys, &row)? {
-            None => {
-                count = count.saturating_add(1);
-                println!(rt; "{name}: agrees")?;
-            }
-            Some(found) => println!(rt; "{name}: differs: {found}")?,
+        let verdict = judged(rt, keys, &row)?;
+        counts.count(&verdict);
+        match verdict {
+            Verdict::Differs(found) => println!(rt; "{name}: differs: {found}")?,
+            _ => println!(rt; "{name}: agrees")?,
         }
     }
-    Ok(count)
+    Ok(())
 }

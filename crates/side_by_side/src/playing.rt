@@ -1,13 +1,17 @@
-// A row, or a script over a manifest, on the engine and on the slow reference.
+// A row on the engine, on the slow reference and on a mount that threads share; a script over a
+// manifest on the first two.
+use crate::answers::{attached_line, detached_line, not_attached_line, not_taken_line, reply_line};
 use crate::engine::run_of;
 use crate::mount::{PlainMount, mount_of};
 use crate::rows::Row;
+use crate::shared::shared_text;
 use crate::told_layers::layer_difference;
-use ov_base::{Call, Errno, Reply};
-use ov_script::{CallText, Command, ReplyLine, command_of};
+use ov_base::{Call, Errno};
+use ov_script::{CallText, Command, command_of};
 use std::alloc::{AllocError, Global};
 use std::hash::RandomState;
 use std::io;
+use std::sync::Wait;
 
 /// What the reference answers to a line.
 #[derive(Drop)]
@@ -19,20 +23,42 @@ enum Answer {
     BadCommand,
 }
 
-/// How an answer to a row differs from what is wanted; None where both answer as wanted.
-pub fn difference(alloc: Global, keys: RandomState, row: &Row<'_>) -> io::Result<Option<String>> {
+/// How a row is judged.
+#[derive(Drop)]
+pub enum Verdict {
+    /// The engine, the slow reference and a mount that threads share answer what is wanted.
+    Agrees,
+    /// The engine refuses the manifest as is wanted, so that there is no mount.
+    NoMount,
+    Differs(String),
+}
+
+/// Whether the answers to a row are those that are wanted.
+pub fn judged<R: AllocGlobal + Wait>(
+    rt: &R,
+    keys: RandomState,
+    row: &Row<'_>,
+) -> io::Result<Verdict> {
+    let alloc = rt.alloc();
     let script = row.script.as_ref().map(|script| script.as_slice());
     let manifest = row.manifest.as_slice();
+    let wanted = row.wanted.as_slice();
     let engine = run_of(alloc, keys, manifest, script)?;
-    if engine.text.as_slice() != row.wanted.as_slice() {
+    if engine.text.as_slice() != wanted {
         let found = String::from_utf8_lossy(alloc, engine.text.as_slice())?;
-        return Ok(Some(format!(in alloc; "the engine answers\n{found}")?));
+        return Ok(Verdict::Differs(format!(in alloc; "the engine answers\n{found}")?));
     }
     if engine.refuses_manifest {
-        return Ok(None);
+        return Ok(Verdict::NoMount);
     }
-    let found = reference_difference(alloc, manifest, script, row.wanted.as_slice())?;
-    Ok(found)
+    if let Some(found) = reference_difference(alloc, manifest, script, wanted)? {
+        return Ok(Verdict::Differs(found));
+    }
+    let shared = shared_text(rt, alloc, keys, manifest, script)?;
+    if shared.as_bytes() != wanted {
+        return Ok(Verdict::Differs(format!(in alloc; "a shared mount answers\n{shared}")?));
+    }
+    Ok(Verdict::Agrees)
 }
 
 /// How the answers of the reference differ from those that are wanted.
@@ -171,14 +197,14 @@ fn layer_answer(index: usize, layers: usize) -> Answer {
 
 fn attached(alloc: Global, mount: &mut PlainMount) -> Result<Answer, AllocError> {
     if mount.history.refuses_attach() {
-        return not_attached(alloc, Errno::ENOSPC);
+        return Ok(Answer::Lines(not_attached_line(alloc, Errno::ENOSPC)?));
     }
     match mount.reference.attach(program_tags(alloc)?)? {
         Some(client) => {
             mount.history.attach();
-            Ok(Answer::Lines(format!(in alloc; "client {client}\n")?))
+            Ok(Answer::Lines(attached_line(alloc, u64::from(client))?))
         }
-        None => not_attached(alloc, Errno::ENFILE),
+        None => Ok(Answer::Lines(not_attached_line(alloc, Errno::ENFILE)?)),
     }
 }
 
@@ -191,15 +217,10 @@ fn program_tags(alloc: Global) -> Result<Vec<u32>, AllocError> {
     Ok(tags)
 }
 
-fn not_attached(alloc: Global, errno: Errno) -> Result<Answer, AllocError> {
-    let errno = errno.text();
-    Ok(Answer::Lines(format!(in alloc; "not attached {errno}\n")?))
-}
-
 fn detached(alloc: Global, mount: &mut PlainMount, client: u32) -> Result<Answer, AllocError> {
     if mount.reference.detach(client) {
         mount.history.detach();
-        Ok(Answer::Lines(format!(in alloc; "{client} detached\n")?))
+        Ok(Answer::Lines(detached_line(alloc, client)?))
     } else {
         Ok(Answer::BadCommand)
     }
@@ -215,39 +236,26 @@ fn called(
         return Ok(Answer::BadCommand);
     }
     match call.call(alloc)? {
-        Err(errno) => not_taken(alloc, client, errno),
-        Ok(call) => made(alloc, mount, client, &call),
+        Err(errno) => Ok(Answer::Lines(not_taken_line(alloc, client, errno)?)),
+        Ok(call) => Ok(Answer::Lines(made(alloc, mount, client, &call)?)),
     }
 }
 
-// Makes a call, if the history has a place for it.
+// The line of a call, which is made if the history has a place for it.
 fn made(
     alloc: Global,
     mount: &mut PlainMount,
     client: u32,
     call: &Call,
-) -> Result<Answer, AllocError> {
+) -> Result<String, AllocError> {
     if mount.history.room() == 0 {
-        return not_taken(alloc, client, Errno::ENOSPC);
+        return not_taken_line(alloc, client, Errno::ENOSPC);
     }
     match mount.reference.call(client, call)? {
         Some(reply) => {
             mount.history.finish();
-            replied(alloc, client, &reply)
+            reply_line(alloc, client, &reply)
         }
-        None => Ok(Answer::Lines(String::from_str(alloc, "not offered\n")?)),
+        None => String::from_str(alloc, "not offered\n"),
     }
-}
-
-fn not_taken(alloc: Global, client: u32, errno: Errno) -> Result<Answer, AllocError> {
-    let mut line = format!(in alloc; "{client}")?;
-    line.push_str(" not taken ")?;
-    line.push_str(errno.text())?;
-    line.push_str("\n")?;
-    Ok(Answer::Lines(line))
-}
-
-fn replied(alloc: Global, client: u32, reply: &Reply) -> Result<Answer, AllocError> {
-    let line = ReplyLine { client, reply };
-    Ok(Answer::Lines(format!(in alloc; "{line}\n")?))
 }

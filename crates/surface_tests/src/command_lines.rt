@@ -26,6 +26,57 @@ fn reads_command_lines(rt: HostRuntime) -> Result<(), Fail> {
 }
 
 #[test]
+fn reads_what_to_serve(rt: HostRuntime) -> Result<(), Fail> {
+    let alloc = rt.alloc();
+    let plain = command_line(alloc, &["overlayd", "serve", "m.toml", "s"])?;
+    let wanted = Invocation::Serve {
+        manifest: "m.toml",
+        socket: "s",
+        workers: 8,
+        sessions: None,
+        verbose: false,
+    };
+    assert!(rt; plain == wanted);
+    let words = [
+        "overlayd",
+        "serve",
+        "-v",
+        "--workers",
+        "64",
+        "m.toml",
+        "s",
+        "--sessions=1000000",
+    ];
+    let full = command_line(alloc, &words)?;
+    let wanted = Invocation::Serve {
+        manifest: "m.toml",
+        socket: "s",
+        workers: 64,
+        sessions: Some(1_000_000),
+        verbose: true,
+    };
+    assert!(rt; full == wanted);
+    Ok(())
+}
+
+#[test]
+fn refuses_other_numbers_of_workers_and_sessions(rt: HostRuntime) -> Result<(), Fail> {
+    let alloc = rt.alloc();
+    for more in [
+        "--workers=65",
+        "--workers=0",
+        "--sessions=0",
+        "--sessions=1000001",
+    ] {
+        match command_line(alloc, &["overlayd", "serve", "m.toml", "s", more]) {
+            Ok(_) => return Err(Fail::from("no fault")),
+            Err(error) => assert_eq!(rt; Fault::from(error).status(), 2),
+        }
+    }
+    Ok(())
+}
+
+#[test]
 fn prints_the_version(rt: HostRuntime) -> Result<(), Fail> {
     let alloc = rt.alloc();
     match command_line(alloc, &["overlayd", "--version"]) {
@@ -45,6 +96,7 @@ fn tells_faults(rt: HostRuntime) -> Result<(), Fail> {
         (Fault::NotText, 2, "a word of the command line is not UTF-8"),
         (Fault::CannotReadManifest, 1, "cannot read manifest"),
         (Fault::Stream, 1, "stream"),
+        (Fault::Socket, 1, "socket"),
         (Fault::BadCommand { line: 3 }, 2, "line 3: bad command"),
         (Fault::Memory, 3, "out of memory"),
     ] {

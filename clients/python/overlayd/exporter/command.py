@@ -11,7 +11,7 @@ from .comparing import Change, changes
 from .layers import write_layer
 from .manifests import LowerTree
 from .mounts import MountTree
-from .trees import FILE, Tree
+from .trees import Tree
 from .unsayable import Unsayable
 from .uppers import write_upper
 
@@ -30,8 +30,9 @@ which takes a place of the mount's history.
                  same bytes: all times are 0
 
 A directory that was moved is written whole. Several names of one file are written as files of
-their own, because the server doesn't tell which they are; that is told. A name that begins with
-.wh. is refused in a layer.
+their own, because the server doesn't tell which they are; that is told. Refused are attributes that
+begin with user.overlay., as they would be marks of overlayfs; in a layer names that begin with
+.wh.; and in an upper the owner and the group 4294967295, which no file system has.
 
 The manifest is read as a stream where it has one `key = value` on each line, as overlayd-import
 writes it. Others are read whole, from Python 3.11 on.
@@ -90,8 +91,7 @@ def _write(words: argparse.Namespace, found: List[Change], mounted: Tree) -> Non
 
 def _sum_up(found: List[Change]) -> None:
     """Says what was written, and which names were one object."""
-    linked = sum(change.entry is not None and change.entry.kind == FILE and change.entry.links > 1
-                 for change in found)
+    linked = sum(change.entry is not None and change.entry.links > 1 for change in found)
     if linked:
         _say(f"{linked} names of files that have several are written as files of their own")
     gone = sum(change.entry is None for change in found)

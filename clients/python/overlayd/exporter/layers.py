@@ -4,9 +4,10 @@ import io
 import tarfile
 from typing import BinaryIO, Iterable
 
+from ..importer.telling import shown
 from .comparing import Change
-from .trees import DIRECTORY, FILE, SYMLINK, Entry, Tree, raw_of
-from .unsayable import Unsayable
+from .trees import DIRECTORY, FILE, SYMLINK, Entry, Tree
+from .unsayable import Unsayable, check_attributes
 
 _MARK = ".wh."
 _OPAQUE = ".wh..wh..opq"
@@ -15,7 +16,7 @@ _TYPES = {DIRECTORY: tarfile.DIRTYPE, FILE: tarfile.REGTYPE, SYMLINK: tarfile.SY
 
 def write_layer(found: Iterable[Change], mounted: Tree, stream: BinaryIO) -> None:
     """Writes the tar of a layer, with all times 0: the same changes are the same bytes. Raises
-    `Unsayable` for a name that an image would read as a mark."""
+    `Unsayable` for a name or an attribute that an image would read as a mark."""
     with tarfile.open(fileobj=stream, mode="w|", format=tarfile.PAX_FORMAT, encoding="utf-8",
                       errors="surrogateescape") as tar:
         for change in found:
@@ -26,13 +27,14 @@ def _write(tar: tarfile.TarFile, change: Change, mounted: Tree) -> None:
     above, _, name = change.path[1:].rpartition("/")
     inside = f"{above}/" if above else ""
     if name.startswith(_MARK):
-        raise Unsayable(f"{_shown(change.path)}: a layer of an image can't have a name that begins "
+        raise Unsayable(f"{shown(change.path)}: a layer of an image can't have a name that begins "
                         "with .wh.")
     if change.entry is None:
         tar.addfile(tarfile.TarInfo(f"{inside}{_MARK}{name}"))
         return
     if change.path == "/" and change.is_same:
         return
+    check_attributes(change.entry)
     data = b""
     if change.entry.kind == FILE and change.link_to is None:
         data = mounted.read(change.entry)
@@ -54,7 +56,3 @@ def _member(change: Change, entry: Entry, size: int) -> tarfile.TarInfo:
     info.pax_headers = {f"SCHILY.xattr.{name}": value.decode("utf-8", "surrogateescape")
                         for name, value in entry.attrs}
     return info
-
-
-def _shown(path: str) -> str:
-    return raw_of(path).decode("utf-8", "backslashreplace")

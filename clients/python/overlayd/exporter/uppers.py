@@ -8,6 +8,7 @@ from typing import Iterable, List, Tuple
 
 from .comparing import Change
 from .trees import DIRECTORY, SYMLINK, Entry, Tree, raw_of
+from .unsayable import check_attributes, check_owner
 
 
 def write_upper(found: Iterable[Change], mounted: Tree, path: str, user: bool = False) -> None:
@@ -15,7 +16,8 @@ def write_upper(found: Iterable[Change], mounted: Tree, path: str, user: bool = 
 
     Whiteouts are 0/0 character devices, which only root can make, as only root gives files away.
     Opaque directories have the attribute `trusted.overlay.opaque`, or with `user` the one that the
-    kernel reads with the option `userxattr`, `user.overlay.opaque`.
+    kernel reads with the option `userxattr`, `user.overlay.opaque`. Raises `Unsayable` for the
+    owner 4294967295 and for attributes that would be marks.
     """
     above, name = os.path.split(os.path.abspath(path))
     if os.path.lexists(path):
@@ -42,6 +44,9 @@ class _Writing:
         directories: List[Tuple[bytes, Entry]] = []
         for change in found:
             raw = self._raw(change.path)
+            if change.entry is not None:
+                check_attributes(change.entry)
+                check_owner(change.entry)
             if change.entry is not None and change.entry.kind == DIRECTORY:
                 os.mkdir(raw, 0o700)
                 directories.append((raw, change.entry))

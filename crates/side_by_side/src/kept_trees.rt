@@ -1,0 +1,112 @@
+// The trees that a mount keeps: each layer, and the merge of all.
+use crate::tree_lines::{Tree, push_path, push_target, push_words};
+use dir_listing::names;
+use layer_tree::{Entry, Layer, Marks, Node};
+use merged_lookup::{Found, Layers};
+use mount_calls::status_of;
+use ov_base::{Content, NameList, Path, Redirect};
+use ov_script::Escaped;
+use std::alloc::{AllocError, Global};
+
+impl Tree for Layer {
+    fn push_object(
+        &self,
+        alloc: Global,
+        path: &Path,
+        lines: &mut String,
+    ) -> Result<(), AllocError> {
+        match self.find(path) {
+            Some(Entry::Object(key)) => push_kept(alloc, self, key, path, lines),
+            Some(Entry::Whiteout) => {
+                lines.push_str("c 0000 0 0 0 1 ")?;
+                push_path(alloc, path, lines)?;
+                lines.push_str("\n")
+            }
+            None => Ok(()),
+        }
+    }
+
+    fn names_at(&self, alloc: Global, path: &Path) -> Result<NameList, AllocError> {
+        match self.find(path) {
+            Some(Entry::Object(key)) => Ok(NameList::from_vec(self.names(alloc, key)?)),
+            _ => Ok(NameList::new(alloc)),
+        }
+    }
+}
+
+impl Tree for Layers {
+    fn push_object(
+        &self,
+        alloc: Global,
+        path: &Path,
+        lines: &mut String,
+    ) -> Result<(), AllocError> {
+        let Ok(shown) = self.walk_topmost(path) else {
+            return Ok(());
+        };
+        if let Some(node) = self.node(shown.place()) {
+            push_node(alloc, node, path, lines)?;
+            lines.push_str("\n")?;
+        }
+        Ok(())
+    }
+
+    fn names_at(&self, alloc: Global, path: &Path) -> Result<NameList, AllocError> {
+        match self.walk(path) {
+            Ok(Found::Directory(stack)) => Ok(NameList::from_vec(names(alloc, self, &stack)?)),
+            _ => Ok(NameList::new(alloc)),
+        }
+    }
+}
+
+// Appends the line of an object that a layer keeps under a key.
+fn push_kept(
+    alloc: Global,
+    layer: &Layer,
+    key: usize,
+    path: &Path,
+    lines: &mut String,
+) -> Result<(), AllocError> {
+    if let Some(node) = layer.node(key) {
+        push_node(alloc, node, path, lines)?;
+        if let Some(marks) = layer.marks(key) {
+            push_marks(alloc, marks, lines)?;
+        }
+        lines.push_str("\n")?;
+    }
+    Ok(())
+}
+
+// Appends what a line says of an object but for its marks.
+fn push_node(
+    alloc: Global,
+    node: &Node,
+    path: &Path,
+    lines: &mut String,
+) -> Result<(), AllocError> {
+    push_words(alloc, status_of(node), lines)?;
+    push_path(alloc, path, lines)?;
+    if let Node::Inode(inode) = node {
+        if let Content::SymbolicLink(target) = &inode.content {
+            push_target(alloc, target.as_bytes().as_slice(), lines)?;
+        }
+    }
+    Ok(())
+}
+
+fn push_marks(alloc: Global, marks: &Marks, lines: &mut String) -> Result<(), AllocError> {
+    if marks.opaque {
+        lines.push_str(" opaque")?;
+    }
+    match &marks.redirect {
+        None => Ok(()),
+        Some(Redirect::Absolute(path)) => {
+            lines.push_str(" redirect ")?;
+            push_path(alloc, path, lines)
+        }
+        Some(Redirect::Single(name)) => {
+            let name = Escaped(name.as_slice());
+            lines.push_str(format!(in alloc; " redirect {name}")?.as_str())
+        }
+    }
+}
