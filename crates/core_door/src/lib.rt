@@ -2,7 +2,9 @@
 #![tactic(auto)]
 
 mod door;
+mod running;
 mod session;
 
 pub use door::CoreDoor;
+pub use running::run_session;
 pub use session::CoreSession;

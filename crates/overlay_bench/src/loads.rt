@@ -1,7 +1,7 @@
 // The loads by their names, each timed by the monotonic clock.
 use crate::deeds::Deed;
 use crate::manifests::ManifestText;
-use crate::mounts::{attached, made, mounted_alone};
+use crate::mounts::{attached, made, mounted_alone, unmount};
 use crate::operations::{before, operations};
 use crate::redirects::redirected;
 use crate::sessions::{Asking, copy, serve};
@@ -59,14 +59,27 @@ pub fn measure<C: Clock, F: Callback + Copy, R: Rule>(
 ) -> io::Result<(u64, u32)> {
     let manifest = layers_for(alloc, load, lowers, count)?;
     let mut core = mounted_alone(alloc, keys, &manifest)?;
+    if let Load::Session(asking) = load {
+        return serve(clock, alloc, core, hook, asking, count);
+    }
+    let measured = measure_on(clock, alloc, &mut core, hook, load, count);
+    unmount(core);
+    measured
+}
+
+// The same on a mount, of what isn't a session.
+fn measure_on<C: Clock, F: Callback + Copy, R: Rule>(
+    clock: &C,
+    alloc: Global,
+    core: &mut Core<F, R>,
+    hook: &Hook<F, R>,
+    load: Load,
+    count: u32,
+) -> io::Result<(u64, u32)> {
     match load {
-        Load::Deed(deed) => do_on(clock, alloc, &mut core, hook, deed, count),
-        Load::Notices(watchers) => tell_on(clock, alloc, &mut core, hook, watchers, count),
-        Load::Session(asking) => {
-            let client = attached(alloc, &mut core, hook, 0)?;
-            serve(clock, alloc, core, client, asking, count)
-        }
-        Load::PlainCopy => copy(clock, alloc, count),
+        Load::Deed(deed) => do_on(clock, alloc, core, hook, deed, count),
+        Load::Notices(watchers) => tell_on(clock, alloc, core, hook, watchers, count),
+        Load::PlainCopy | Load::Session(_) => copy(clock, alloc, count),
     }
 }
 

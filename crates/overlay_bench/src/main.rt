@@ -3,7 +3,9 @@
 
 mod colliding;
 mod deeds;
+mod echo;
 mod loads;
+mod locks;
 mod manifests;
 mod mounts;
 mod operations;
@@ -12,11 +14,17 @@ mod sessions;
 mod trees;
 mod watchers;
 
+use crate::echo::echo_on;
 use crate::loads::{Load, measure};
+use crate::locks::{measure_lock, threads_of};
 use crate::mounts::echoing_hook;
 use std::alloc::Global;
+use std::fs::Files;
 use std::hash::RandomState;
+use std::net::Net;
 use std::rt::{Clock, Env};
+use std::sync::Wait;
+use std::thread::Threads;
 use std::{env, io};
 
 const USAGE: &str = "usage: overlay_bench LOAD COUNT [LOWERS]
@@ -25,13 +33,31 @@ several calls an operation, over as many: open_read (open, read, close) create (
 create_watched (create, with 1,008 watches of 63 clients elsewhere) notify_1 notify_64 (COUNT files made and removed in a directory that so many clients watch; a notice read is an operation)
 sessions over memory, 64 KiB a piece or a byte: session_stat session_stat_bytes session_write_64k (seek, write), beside plain_copy_64k
 directories made in one, by names that collide under fixed keys and by others: collide others
-stat below redirects in 17 layers: chains chains_absent chains_past chains_past_named chains_single chains_longer";
+stat below redirects in 17 layers: chains chains_absent chains_past chains_past_named chains_single chains_longer
+COUNT stats of each of so many threads on one mount, and of the core alone: lock_1 lock_2 lock_4 lock_8 lock_0
+usage: overlay_bench echo WORKERS SOCKET, a bare echo that serve is compared with";
 
 /// The most lower layers of a mount, and as many as a call has where the command line says nothing of them.
 const LOWERS: u32 = 16;
 
+// What is measured: so many threads on one mount, or another load.
+#[derive(Clone, Copy)]
+enum Measured {
+    Lock(u32),
+    Other(Load),
+}
+
+impl Measured {
+    fn named(word: &str) -> Option<Measured> {
+        match threads_of(word) {
+            Some(threads) => Some(Measured::Lock(threads)),
+            None => Load::named(word).map(Measured::Other),
+        }
+    }
+}
+
 // What the command line asks for.
-fn asked<R: Env + AllocGlobal>(rt: &R) -> io::Result<Option<(Load, u32, u32)>> {
+fn asked<R: Env + AllocGlobal>(rt: &R) -> io::Result<Option<(Measured, u32, u32)>> {
     let mut words = env::args(rt)?;
     let _program = words.next();
     let Some(load) = words.next() else {
@@ -48,17 +74,49 @@ fn asked<R: Env + AllocGlobal>(rt: &R) -> io::Result<Option<(Load, u32, u32)>> {
         return Ok(None);
     }
     match count.as_str().parse::<u32>() {
-        Ok(count) if count > 0 => Ok(Load::named(load.as_str()).map(|load| (load, lowers, count))),
+        Ok(count) if count > 0 => Ok(Measured::named(load.as_str()).map(|load| (
+            load, lowers, count,
+        ))),
         _ => Ok(None),
     }
 }
 
-fn run<R: Env + AllocGlobal + Clock + Print>(rt: &R, keys: RandomState) -> io::Result<()> {
+// The workers and the socket of a bare echo, where the command line asks for one.
+fn asked_echo<R: Env + AllocGlobal>(rt: &R) -> io::Result<Option<(u32, String)>> {
+    let mut words = env::args(rt)?;
+    let _program = words.next();
+    let Some(load) = words.next() else {
+        return Ok(None);
+    };
+    let Some(workers) = words.next() else {
+        return Ok(None);
+    };
+    let Some(socket) = words.next() else {
+        return Ok(None);
+    };
+    if load.as_str() != "echo" {
+        return Ok(None);
+    }
+    let workers = workers.as_str().parse::<u32>().unwrap_or(0);
+    Ok(Some((workers, socket)))
+}
+
+fn run<R>(rt: &R, keys: RandomState) -> io::Result<()>
+where
+    R: Env + AllocGlobal + Clock + Print + Files + Net + Threads + Wait + Sync,
+{
+    if let Some((workers, socket)) = asked_echo(rt)? {
+        return echo_on(rt, rt.alloc(), socket.as_str(), workers);
+    }
     let Some((load, lowers, count)) = asked(rt)? else {
         return println!(rt; "{USAGE}");
     };
     let alloc: Global = rt.alloc();
-    let (nanos, operations) = measure(rt, alloc, keys, &echoing_hook(), load, lowers, count)?;
+    let hook = echoing_hook();
+    let (nanos, operations) = match load {
+        Measured::Lock(threads) => { measure_lock(rt, alloc, keys, &hook, threads, lowers, count)? }
+        Measured::Other(load) => measure(rt, alloc, keys, &hook, load, lowers, count)?,
+    };
     let each = nanos / u64::from(operations.max(1));
     println!(rt; "{each} ns an operation, {operations} operations")
 }

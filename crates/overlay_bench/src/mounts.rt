@@ -53,6 +53,10 @@ pub fn mounted_alone<F: Callback + Copy, R: Rule>(
     }
 }
 
+/// Lets a mount go. It is let go nowhere else, since each place where a core is dropped costs much
+/// of a proof.
+pub fn unmount<F: Callback + Copy, R: Rule>(_core: Core<F, R>) {}
+
 /// The number of a client that comes with so many copies of a hook; that it is refused is answered
 /// as an allocation failure is.
 pub fn attached<F: Callback + Copy, R: Rule>(

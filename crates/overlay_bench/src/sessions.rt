@@ -1,16 +1,17 @@
 // Sessions of a client over memory, and what they are compared with.
 use crate::loads::since;
 use crate::manifests::{child, nested};
+use crate::mounts::{attached, unmount};
 use crate::trees::DIRECTORIES;
-use core_door::{CoreDoor, CoreSession};
-use ov_session::{Ending, SessionInput, SessionOutput, session_run};
+use core_door::{CoreSession, run_session};
+use ov_session::{Ending, SessionInput, SessionOutput};
 use overlay_core::Core;
 use std::alloc::{AllocError, Global};
 use std::io;
 use std::io::{Read, Write};
 use std::rt::Clock;
 use std::time::Instant;
-use watch_table::{Callback, Rule};
+use watch_table::{Callback, Hook, Rule};
 
 /// The most bytes of a piece, and how many a write has.
 const PIECE: usize = 65_536;
@@ -18,14 +19,16 @@ const PIECE: usize = 65_536;
 /// More attaches, calls and detaches than are ever measured.
 const DEEDS_MAX: u64 = 1 << 62;
 
-/// The ops of requests.
-const STAT: u8 = 1;
+/// What comes before the path of a `stat`, and of an `open` that makes a file for writing: the op and
+/// the other fields.
+const STAT: &[u8] = b"\x01";
 
-const OPEN: u8 = 11;
+const OPEN: &[u8] = b"\x0b\x05\x00\x00\x01\xa4";
 
-const WRITE: u8 = 17;
+/// The frame of a seek to the start, and that of a write of 64 KiB up to its bytes.
+const SEEK: &[u8] = b"\x00\x00\x00\x0e\x12\x00\x00\x00\x00\x00\x00\x00\x00\x00\x00\x00\x00\x00";
 
-const SEEK: u8 = 18;
+const WRITE: &[u8] = b"\x00\x01\x00\x09\x11\x00\x00\x00\x00\x00\x01\x00\x00";
 
 /// What a client asks again and again.
 #[derive(Clone, Copy)]
@@ -76,115 +79,176 @@ impl Write for Nowhere {
     }
 }
 
-// Adds a frame: its length, its op and its fields, which have at most 70,000 bytes.
-fn push_frame(frames: &mut Vec<u8>, op: u8, fields: &[u8]) -> Result<(), AllocError> {
-    let length = u32::try_from(fields.len()).unwrap_or(0).saturating_add(1);
-    frames.extend_from_slice(&length.to_be_bytes())?;
-    frames.push(op)?;
-    frames.extend_from_slice(fields)
+/// What comes first, a block of so many operations, and the most bytes of a read.
+#[derive(Drop)]
+struct Requests {
+    first: Vec<u8>,
+    block: Vec<u8>,
+    operations: u32,
+    most: usize,
 }
 
-// Adds a text with its length before it.
-fn push_text(fields: &mut Vec<u8>, text: &[u8]) -> Result<(), AllocError> {
-    let length = u16::try_from(text.len()).unwrap_or(0);
-    fields.extend_from_slice(&length.to_be_bytes())?;
-    fields.extend_from_slice(text)
-}
+impl Requests {
+    // The requests of a session, of which a block has as many operations as a piece has room for, at
+    // least one.
+    fn new(alloc: Global, asking: Asking) -> Result<Requests, AllocError> {
+        let frames = operation(alloc, asking)?;
+        let copies = (PIECE / frames.len().max(1)).max(1);
+        let block = repeated(alloc, frames.as_slice(), copies)?;
+        Ok(Requests {
+            first: opening(alloc, asking)?,
+            block,
+            operations: u32::try_from(copies).unwrap_or(1),
+            most: match asking {
+                Asking::StatBytes => 1,
+                _ => PIECE,
+            },
+        })
+    }
 
-// The text of a path at depth 4.
-fn path_text(alloc: Global, first: &str) -> Result<String, AllocError> {
-    let parent = nested(alloc, DIRECTORIES)?;
-    child(alloc, parent.as_str(), first, 0)
+    // A reader of so many blocks, behind what comes first.
+    fn rounds(&self, rounds: u32) -> Rounds<'_> {
+        Rounds {
+            rest: self.first.as_slice(),
+            block: self.block.as_slice(),
+            rounds,
+            most: self.most,
+        }
+    }
 }
 
 // The requests that come first: a file is made and left open, where it is to be written.
 fn opening(alloc: Global, asking: Asking) -> Result<Vec<u8>, AllocError> {
-    let mut frames = Vec::new(alloc);
-    if let Asking::Write = asking {
-        let mut fields = Vec::new(alloc);
-        fields.extend_from_slice(&[5, 0, 0, 1, 0o244])?;
-        push_text(&mut fields, path_text(alloc, "made-")?.as_bytes())?;
-        push_frame(&mut frames, OPEN, fields.as_slice())?;
+    match asking {
+        Asking::Write => with_path(alloc, OPEN, "made-"),
+        _ => Ok(Vec::new(alloc)),
     }
-    Ok(frames)
 }
 
 // The requests of one operation.
 fn operation(alloc: Global, asking: Asking) -> Result<Vec<u8>, AllocError> {
-    let mut frames = Vec::new(alloc);
-    let mut fields = Vec::new(alloc);
-    if let Asking::Write = asking {
-        push_frame(&mut frames, SEEK, &[0; 13])?;
-        fields.extend_from_slice(&[0, 0, 0, 0, 0, 1, 0, 0])?;
-        fields.resize(8 + PIECE, b'w')?;
-        push_frame(&mut frames, WRITE, fields.as_slice())?;
-    } else {
-        push_text(&mut fields, path_text(alloc, "name-")?.as_bytes())?;
-        push_frame(&mut frames, STAT, fields.as_slice())?;
+    match asking {
+        Asking::Write => writing(alloc),
+        _ => with_path(alloc, STAT, "name-"),
     }
+}
+
+// The request that begins so and ends by the text of a path at depth 4, of at most 70,000 bytes.
+fn with_path(alloc: Global, front: &[u8], name: &str) -> Result<Vec<u8>, AllocError> {
+    let parent = nested(alloc, DIRECTORIES)?;
+    let text = child(alloc, parent.as_str(), name, 0)?;
+    framed(alloc, front, text.as_bytes())
+}
+
+// The frame of a request that begins so and ends by a text with its length before it.
+fn framed(alloc: Global, front: &[u8], text: &[u8]) -> Result<Vec<u8>, AllocError> {
+    let count = u16::try_from(text.len()).unwrap_or(0);
+    let fields = u32::try_from(front.len()).unwrap_or(0).saturating_add(2);
+    let length = fields.saturating_add(u32::from(count));
+    let mut frame = Vec::from_slice(alloc, &length.to_be_bytes())?;
+    frame.extend_from_slice(front)?;
+    frame.extend_from_slice(&count.to_be_bytes())?;
+    frame.extend_from_slice(text)?;
+    Ok(frame)
+}
+
+// The requests that seek to the start of an open file and write 64 KiB.
+fn writing(alloc: Global) -> Result<Vec<u8>, AllocError> {
+    let mut frames = Vec::from_slice(alloc, SEEK)?;
+    frames.extend_from_slice(WRITE)?;
+    frames.resize(SEEK.len() + WRITE.len() + PIECE, b'w')?;
     Ok(frames)
 }
 
-// As many copies of the requests of an operation as a piece has room for, at least one, and how many.
-fn block_of(alloc: Global, frames: &[u8]) -> Result<(Vec<u8>, u32), AllocError> {
-    let copies = (PIECE / frames.len().max(1)).max(1);
+// So many copies of frames.
+fn repeated(alloc: Global, frames: &[u8], copies: usize) -> Result<Vec<u8>, AllocError> {
     let mut block = Vec::new(alloc);
     for _ in 0..copies {
         block.extend_from_slice(frames)?;
     }
-    Ok((block, u32::try_from(copies).unwrap_or(1)))
+    Ok(block)
 }
 
-/// How many nanoseconds so many operations took in a session of this client of a core, rounded up
-/// to whole pieces, and how many were done.
+/// How many nanoseconds so many operations took in a session of a client that comes to a core,
+/// rounded up to whole pieces, and how many were done.
 pub fn serve<C: Clock, F: Callback + Copy, R: Rule>(
+    clock: &C,
+    alloc: Global,
+    mut core: Core<F, R>,
+    hook: &Hook<F, R>,
+    asking: Asking,
+    count: u32,
+) -> io::Result<(u64, u32)> {
+    match begun(alloc, &mut core, hook, asking) {
+        Ok((client, requests)) => {
+            let (served, core) = timed(clock, alloc, core, client, &requests, count);
+            unmount(core);
+            served
+        }
+        Err(fault) => {
+            unmount(core);
+            Err(io::Error::from(fault))
+        }
+    }
+}
+
+// A client that comes to a core, and its requests.
+fn begun<F: Callback + Copy, R: Rule>(
+    alloc: Global,
+    core: &mut Core<F, R>,
+    hook: &Hook<F, R>,
+    asking: Asking,
+) -> Result<(u64, Requests), AllocError> {
+    let client = attached(alloc, core, hook, 0)?;
+    let requests = Requests::new(alloc, asking)?;
+    Ok((client, requests))
+}
+
+// How many nanoseconds so many operations of a session took, and how many were done; the core goes
+// back.
+fn timed<C: Clock, F: Callback + Copy, R: Rule>(
     clock: &C,
     alloc: Global,
     core: Core<F, R>,
     client: u64,
-    asking: Asking,
+    requests: &Requests,
     count: u32,
-) -> io::Result<(u64, u32)> {
-    let first = opening(alloc, asking)?;
-    let (block, copies) = block_of(alloc, operation(alloc, asking)?.as_slice())?;
-    let rounds = count.div_ceil(copies.max(1));
-    let mut reader = Rounds {
-        rest: first.as_slice(),
-        block: block.as_slice(),
-        rounds,
-        most: match asking {
-            Asking::StatBytes => 1,
-            _ => PIECE,
-        },
-    };
-    let start = Instant::now(clock)?;
-    let fine = is_served(alloc, core, client, &mut reader)?;
-    let nanos = since(clock, start)?;
+) -> (io::Result<(u64, u32)>, Core<F, R>) {
+    let rounds = count.div_ceil(requests.operations.max(1));
+    let reader = requests.rounds(rounds);
+    let start = Instant::now(clock);
+    let (fine, core) = is_served(alloc, core, client, reader);
+    let nanos = until_now(clock, start);
     let done = if fine {
-        rounds.saturating_mul(copies)
+        rounds.saturating_mul(requests.operations)
     } else {
         0
     };
-    Ok((nanos, done))
+    (nanos.map(|nanos| (nanos, done)), core)
 }
 
-// Whether a session of a client ends where its requests do.
+// The nanoseconds since a moment that may not be known.
+fn until_now<C: Clock>(clock: &C, start: io::Result<Instant>) -> io::Result<u64> {
+    since(clock, start?)
+}
+
+// Whether a session of a client ends where its requests do; the core goes back.
 fn is_served<F: Callback + Copy, R: Rule>(
     alloc: Global,
     core: Core<F, R>,
     client: u64,
-    reader: &mut Rounds<'_>,
-) -> Result<bool, AllocError> {
+    reader: Rounds<'_>,
+) -> (bool, Core<F, R>) {
     if core.finished() >= DEEDS_MAX || !core.is_attached(client) {
-        return Ok(false);
+        return (false, core);
     }
-    let mut writer = Nowhere { flushed: true };
-    let mut session = CoreSession::new(alloc)?;
-    let mut door = CoreDoor::new(core, client);
+    let Ok(session) = CoreSession::new(alloc) else {
+        return (false, core);
+    };
     let mut input = SessionInput::new(reader);
-    let mut output = SessionOutput::new(alloc, &mut writer);
-    let end = session_run(alloc, &mut input, &mut output, &mut door, &mut session);
-    Ok(matches!(end, Ending::Ended))
+    let mut output = SessionOutput::new(alloc, Nowhere { flushed: true });
+    let (end, _session, core) = run_session(alloc, core, client, session, &mut input, &mut output);
+    (matches!(end, Ending::Ended), core)
 }
 
 /// How many nanoseconds so many copies of 64 KiB took, each over the one before.

@@ -1,7 +1,7 @@
 // Sessions of the first client of a mount.
-use core_door::{CoreDoor, CoreSession};
+use core_door::{CoreSession, run_session};
 use ov_base::{Event, Notice};
-use ov_session::{Ending, SessionInput, SessionOutput, session_run};
+use ov_session::{Ending, SessionInput, SessionOutput};
 use ov_wire::manifest_of;
 use overlay_core::Core;
 use std::alloc::Global;
@@ -77,32 +77,56 @@ fn attach_and_serve<F: Callback + Copy, H: Rule, I: Read, O: Write>(
     reader: &mut I,
     writer: &mut O,
 ) -> Result<(Ending, CoreSession), Fail> {
+    match attached(alloc, &mut core) {
+        Ok(client) => {
+            let (ended, core) = serve(alloc, core, client, reader, writer);
+            unmount(core);
+            ended
+        }
+        Err(fail) => {
+            unmount(core);
+            Err(fail)
+        }
+    }
+}
+
+// Lets a mount go. It is let go nowhere else, since each place where a core is dropped costs much
+// of a proof.
+fn unmount<F: Callback + Copy, H: Rule>(_core: Core<F, H>) {}
+
+// A client without hooks.
+fn attached<F: Callback + Copy, H: Rule>(
+    alloc: Global,
+    core: &mut Core<F, H>,
+) -> Result<u64, Fail> {
     if core.finished() >= DEEDS_MAX {
         return Err(Fail::from("too many deeds"));
     }
     match core.attach(Vec::new(alloc)) {
-        Ok(client) => serve(alloc, core, client, reader, writer),
+        Ok(client) => Ok(client),
         Err(_) => Err(Fail::from("no client")),
     }
 }
 
+// How a session of a client ends, and what was asked and answered; the core goes back.
 fn serve<F: Callback + Copy, H: Rule, I: Read, O: Write>(
     alloc: Global,
     core: Core<F, H>,
     client: u64,
     reader: &mut I,
     writer: &mut O,
-) -> Result<(Ending, CoreSession), Fail> {
+) -> (Result<(Ending, CoreSession), Fail>, Core<F, H>) {
     if core.finished() >= DEEDS_MAX || !core.is_attached(client) {
-        return Err(Fail::from("not attached"));
+        return (Err(Fail::from("not attached")), core);
     }
-    let mut session = CoreSession::new(alloc)?;
-    let mut door = CoreDoor::new(core, client);
+    let Ok(session) = CoreSession::new(alloc) else {
+        return (Err(Fail::from("out of memory")), core);
+    };
     let mut input = SessionInput::new(reader);
     let mut output = SessionOutput::new(alloc, writer);
-    let end = session_run(alloc, &mut input, &mut output, &mut door, &mut session);
-    if door.into_core().is_attached(client) {
-        return Err(Fail::from("still attached"));
+    let (end, session, core) = run_session(alloc, core, client, session, &mut input, &mut output);
+    if core.is_attached(client) {
+        return (Err(Fail::from("still attached")), core);
     }
-    Ok((end, session))
+    (Ok((end, session)), core)
 }
