@@ -14,7 +14,7 @@ pub enum CallOutcome {
     Answered,
     /// It was not made, and no further call is to come: the session ends.
     HeldBack,
-    /// It was not made: there was no memory to keep it and its answer.
+    /// There was no memory for it or for its answer: it may have been made, and the session ends.
     OutOfMemory,
 }
 

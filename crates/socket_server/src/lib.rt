@@ -7,4 +7,4 @@ mod serving;
 mod worker;
 
 pub use reports::Reports;
-pub use serving::{ServeOptions, Served, serve_blank, serve_on};
+pub use serving::{ServeOptions, Served, serve_blank, serve_mount, serve_on};

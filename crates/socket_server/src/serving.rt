@@ -54,9 +54,9 @@ fn gathered<N: MountName>(
     Ok(all)
 }
 
-// Serves the clients of a mount until all workers have ended. The receipts of all that they did are
-// handed back.
-fn serve_mount<N, F, R, H>(
+/// Serves the clients of a mount, each with copies of these hooks, until all workers have ended. The
+/// receipts of all that they did are handed back.
+pub fn serve_mount<N, F, R, H>(
     rt: &H,
     alloc: Global,
     listener: &UnixListener,

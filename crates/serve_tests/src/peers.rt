@@ -1,0 +1,35 @@
+// The clients' end of a socket.
+use std::io::{Read, Write};
+use std::os::unix::net::UnixStream;
+use std::process::Abort;
+use std::test::Fail;
+use std::time::Duration;
+
+/// The most bytes of a reply.
+const REPLY_MOST: usize = 64;
+
+/// Gives up on a server that says nothing for so long.
+pub fn patient(stream: &UnixStream) -> Result<(), Fail> {
+    stream.set_read_timeout(Some(Duration::from_secs(20)))?;
+    Ok(())
+}
+
+/// Sends these bytes, and reads as many as the reply has.
+pub fn ask(rt: &impl Abort, stream: &UnixStream, request: &[u8], reply: &[u8]) -> Result<(), Fail> {
+    let mut stream = stream;
+    stream.write_all(request)?;
+    let mut bytes = [0u8; REPLY_MOST];
+    let count = reply.len().min(REPLY_MOST);
+    stream.read_exact(&mut bytes[..count])?;
+    assert!(rt; &bytes[..count] == reply);
+    Ok(())
+}
+
+/// The server has closed the stream, and sent nothing more.
+pub fn assert_closed(rt: &impl Abort, stream: &UnixStream) -> Result<(), Fail> {
+    let mut stream = stream;
+    let mut bytes = [0u8; 1];
+    let count = stream.read(&mut bytes)?;
+    assert_eq!(rt; count, 0);
+    Ok(())
+}
