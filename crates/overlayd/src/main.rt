@@ -19,6 +19,7 @@ use std::rt::Runtime;
 use std::sync::Wait;
 use std::thread::Threads;
 use std::{env, fs, io};
+use watch_table::{Callback, Hook, Rule};
 
 fn main(rt: HostRuntime) -> ExitCode {
     match run(&rt) {
@@ -95,29 +96,51 @@ fn play<R: Runtime + AllocGlobal>(rt: &R, keys: RandomState, manifest: &str) -> 
     )
 }
 
-// The mount is there before the socket, so that who can connect is served.
 fn serve<R: Runtime + AllocGlobal + Net + Threads + Wait + Sync>(
     rt: &R,
     keys: RandomState,
     manifest: &str,
     options: &ServeOptions<'_>,
 ) -> Result<u8, Fault> {
-    let manifest = bytes_of(rt, manifest)?;
-    let core = core_of(rt.alloc(), keys, manifest.as_slice())?;
-    drop(manifest);
-    let Ok(blank) = Blank::new(rt.alloc(), core) else {
-        return Err(Fault::Memory);
-    };
     let hooks = hooks_by_slot(rt.alloc())?;
+    serve_with(rt, keys, manifest, hooks.as_slice(), options)
+}
+
+// The same with hooks of any kind. The mount is there before the socket, so that who can connect is
+// served.
+fn serve_with<F, H, R>(
+    rt: &R,
+    keys: RandomState,
+    manifest: &str,
+    hooks: &[Hook<F, H>],
+    options: &ServeOptions<'_>,
+) -> Result<u8, Fault>
+where
+    F: Callback + Copy + Send + Sync,
+    H: Rule + Send + Sync,
+    R: Runtime + AllocGlobal + Net + Threads + Wait + Sync,
+{
+    let blank = blank_of(rt, keys, manifest)?;
     let listener = match UnixListener::bind(rt, options.socket) {
         Ok(listener) => listener,
         Err(fault) if fault.kind() == io::ErrorKind::OutOfMemory => return Err(Fault::Memory),
         Err(_) => return Err(Fault::Socket),
     };
-    match serve_on(rt, rt.alloc(), &listener, blank, hooks.as_slice(), options)? {
+    match serve_on(rt, rt.alloc(), &listener, blank, hooks, options)? {
         Served::Done => Ok(0),
         Served::Failed => Ok(Fault::Socket.status()),
     }
+}
+
+// A mount of a manifest's layers on which nothing was done.
+fn blank_of<F: Callback + Drop, H: Rule, R: Files + AllocGlobal>(
+    rt: &R,
+    keys: RandomState,
+    manifest: &str,
+) -> Result<Blank<F, H>, Fault> {
+    let manifest = bytes_of(rt, manifest)?;
+    let core = core_of(rt.alloc(), keys, manifest.as_slice())?;
+    Blank::new(rt.alloc(), core).map_err(|_| Fault::Memory)
 }
 
 fn bytes_of<R: Files + AllocGlobal>(rt: &R, path: &str) -> Result<Vec<u8>, Fault> {

@@ -4,7 +4,7 @@ ghost use Rattle.locked_history.specs.Names.{IsNamed};
 
 use crate::shared_clients::{Answer, Clients};
 use crate::sights::Sight;
-use locked_history::{Blank, Mount, MountName};
+use locked_history::{Blank, Mount, MountName, Receipt};
 use merged_lookup::Layers;
 use ov_base::Options;
 use ov_server::hooks_by_slot;
@@ -115,6 +115,7 @@ fn blank_of<F: Callback + Drop, R: Rule>(
     }
 }
 
+// Plays the script on a mount, which has ended then, and tells what it answers and what it came to.
 fn plays<N: MountName, F: Callback + Copy, R: Rule, H: Wait>(
     rt: &H,
     alloc: Global,
@@ -126,21 +127,30 @@ fn plays<N: MountName, F: Callback + Copy, R: Rule, H: Wait>(
     requires { IsNamed N.cells N.name N.parts N.opening blank }
 {
     let mount = Mount::<N, F, R>::open(blank);
-    let mut clients = Clients::new(alloc);
-    let stop = told.play(rt, alloc, &mount, script, hooks, &mut clients)?;
-    let deeds = clients.receipts.len();
-    let (past, left) = mount.finish(clients.receipts);
-    if past.len() != deeds || !left.is_empty() {
-        told.text.push_str("the past has not what was done\n")?;
-        return Ok(false);
-    }
-    told.end(alloc, past.core().layers(), stop)
+    let (stop, receipts) = told.play(rt, alloc, &mount, script, hooks)?;
+    let deeds = receipts.len();
+    let (past, left) = mount.finish(receipts);
+    let is_whole = past.len() == deeds && left.is_empty();
+    told.end(alloc, past.core().layers(), stop, is_whole)
 }
 
 impl Told {
     // Plays the lines from the first one on, and tells what those answer that are not told yet, up
-    // to one that asks for a layer or the tree.
+    // to one that asks for a layer or the tree. The receipts of what was done are left.
     fn play<N: MountName, F: Callback + Copy, R: Rule, H: Wait>(
+        &mut self,
+        rt: &H,
+        alloc: Global,
+        mount: &Mount<N, F, R>,
+        script: &[u8],
+        hooks: &[Hook<F, R>],
+    ) -> Result<(Stop, Vec<Receipt<N>>), AllocError> {
+        let mut clients = Clients::new(alloc);
+        let stop = self.play_for(rt, alloc, mount, script, hooks, &mut clients)?;
+        Ok((stop, clients.into_receipts()))
+    }
+
+    fn play_for<N: MountName, F: Callback + Copy, R: Rule, H: Wait>(
         &mut self,
         rt: &H,
         alloc: Global,
@@ -167,7 +177,17 @@ impl Told {
     }
 
     // Tells what the mount showed where it ended; false where the script doesn't go on.
-    fn end(&mut self, alloc: Global, layers: &Layers, stop: Stop) -> Result<bool, AllocError> {
+    fn end(
+        &mut self,
+        alloc: Global,
+        layers: &Layers,
+        stop: Stop,
+        is_whole: bool,
+    ) -> Result<bool, AllocError> {
+        if !is_whole {
+            self.text.push_str("the past has not what was done\n")?;
+            return Ok(false);
+        }
         let good = match stop {
             Stop::End => return Ok(false),
             Stop::BadCommand => false,

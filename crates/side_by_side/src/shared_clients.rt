@@ -23,7 +23,7 @@ pub enum Answer {
 #[derive(Drop)]
 pub struct Clients<N: MountName> {
     sessions: Vec<Option<Session>>,
-    pub receipts: Vec<Receipt<N>>,
+    receipts: Vec<Receipt<N>>,
 }
 
 impl<N: MountName> Clients<N> {
@@ -33,6 +33,11 @@ impl<N: MountName> Clients<N> {
             sessions: Vec::new(alloc),
             receipts: Vec::new(alloc),
         }
+    }
+
+    /// The receipts of all that was done.
+    pub fn into_receipts(self) -> Vec<Receipt<N>> {
+        self.receipts
     }
 
     /// What the mount answers to a line. Each client comes with copies of these hooks.
