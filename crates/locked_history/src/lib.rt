@@ -12,7 +12,6 @@ mod past;
 mod receipt;
 mod row;
 mod session;
-mod turn;
 
 pub use blank::Blank;
 pub use entry::{Deed, Entry};

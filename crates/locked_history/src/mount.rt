@@ -13,7 +13,6 @@ use crate::mount_name::MountName;
 use crate::past::{Past, count_all, leave_past_end};
 use crate::receipt::Receipt;
 use crate::session::{Refused, Session};
-use crate::turn::turn;
 use once_cell::race::OnceBox;
 use ov_base::{Call, Errno};
 use overlay_core::Job;
@@ -82,7 +81,9 @@ impl<N: MountName, F: Callback, R: Rule> Mount<N, F, R> {
         ensures back { IfErr result (λ fault. fault.hooks ≡ hooks) }
     {
         let room = arrival(self.alloc, hooks.as_slice());
-        turn(rt, &self.shared).attach(rt, self.row.as_slice(), hooks, room)
+        self.shared
+            .lock(rt)
+            .attach(rt, self.row.as_slice(), hooks, room)
     }
 
     /// Detaches a session's client, and hands its hooks back. It is refused for its session alone.
@@ -96,7 +97,9 @@ impl<N: MountName, F: Callback, R: Rule> Mount<N, F, R> {
         ensures counted { IfOk result (λ r. r.1.counted ≡ true) }
         ensures refused { IfErr result (λ why. why ≡ Refused.Session) }
     {
-        turn(rt, &self.shared).detach(rt, self.row.as_slice(), session)
+        self.shared
+            .lock(rt)
+            .detach(rt, self.row.as_slice(), session)
     }
 
     /// Makes a session's call, with the lock taken once for each of its steps. Before each step the
@@ -124,10 +127,13 @@ impl<N: MountName, F: Callback, R: Rule> Mount<N, F, R> {
         for _ in rt.forever() {
             step = step.saturating_add(1);
             if gate.pass(client, step) == Pass::Stop {
-                turn(rt, &self.shared).give_up(job);
+                self.shared.lock(rt).give_up(job);
                 return Err(Refused::Stopped);
             }
-            let made = turn(rt, &self.shared).step(rt, self.row.as_slice(), *session, job, room);
+            let made = self
+                .shared
+                .lock(rt)
+                .step(rt, self.row.as_slice(), *session, job, room);
             match made {
                 Ok(receipt) => {
                     session.number += 1;
