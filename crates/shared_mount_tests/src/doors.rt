@@ -3,8 +3,8 @@
 ghost use Rattle.std.specs.Prelude.{◌≡◌};
 ghost use Rattle.locked_history.specs.Names.{IsNamed};
 
-use crate::mounts::{Silent, blank_of};
-use locked_history::{Blank, Gate, Mount, MountName, Open, Pass, Receipt, Session};
+use crate::mounts::{Shut, Silent, blank_of};
+use locked_history::{Blank, Gate, Mount, MountName, Open, Receipt, Session};
 use mount_door::{Departure, run_session};
 use ov_session::{Ending, SessionInput, SessionOutput};
 use std::alloc::Global;
@@ -34,15 +34,6 @@ const DETACHED_AT_2: &[u8] = b"\x00\x00\x00\x09\x00\x00\x00\x00\x00\x00\x00\x00\
 const FULL: &[u8] = b"\x00\x00\x00\x02\x02\x1c";
 
 const NOT_ITS_SESSION: &[u8] = b"\x00\x00\x00\x02\x02\x16";
-
-/// A gate that lets no step pass.
-struct Shut;
-
-impl Gate for Shut {
-    fn pass(&self, _client: u64, _step: u64) -> Pass {
-        Pass::Stop
-    }
-}
 
 /// What happens on a mount that was just made.
 #[derive(Clone, Copy)]

@@ -1,11 +1,10 @@
 // Mounts that are opened under a name, and what is tried on each.
 ghost use Rattle.locked_history.specs.Names.{IsNamed};
 
+use crate::mounts::blank_of;
 use crate::racing::races;
 use crate::refusals::{fills, stops, uses_a_number};
 use locked_history::{Blank, Mount, MountName};
-use ov_wire::manifest_of;
-use overlay_core::Core;
 use std::alloc::Global;
 use std::hash::RandomState;
 use std::marker::Brand;
@@ -34,19 +33,6 @@ pub fn named<F: Callback + Drop + Send, R: Rule + Send, H: Threads + Wait + Abor
 ) -> Result<(), Fail> {
     let blank: Blank<F, R> = blank_of(alloc, keys, manifest)?;
     tries::<Brand, F, R, H>(rt, alloc, blank, trial)
-}
-
-// A mount of a manifest's layers, without a name.
-fn blank_of<F: Callback + Drop, R: Rule>(
-    alloc: Global,
-    keys: RandomState,
-    manifest: &str,
-) -> Result<Blank<F, R>, Fail> {
-    let (upper, lowers, options) = manifest_of(alloc, keys, manifest.as_bytes())?;
-    match Core::mount(alloc, keys, upper, lowers, options)? {
-        Ok(core) => Blank::new(alloc, core).map_err(|_| Fail::from("no memory")),
-        Err(_) => Err(Fail::from("no mount")),
-    }
 }
 
 fn tries<

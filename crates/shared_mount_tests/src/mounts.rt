@@ -1,8 +1,12 @@
-// The callback, the gate and the calls of the tests, and what their entries say.
-use locked_history::{Deed, Entry, Gate, Mount, MountName, Pass, Receipt, Refused, Session};
+// Blank mounts, the callback, the gate and the calls of the tests, and what their entries say.
+use locked_history::{Blank, Deed, Entry, Gate, Mount, MountName, Pass, Receipt, Refused, Session};
 use ov_base::{Call, Event, Notice, Path, Reply};
+use ov_wire::manifest_of;
+use overlay_core::Core;
 use std::alloc::{AllocError, Global};
+use std::hash::RandomState;
 use std::sync::Wait;
+use std::test::Fail;
 use watch_table::{Callback, Rule};
 
 /// A callback that no client has.
@@ -25,6 +29,19 @@ pub struct Shut;
 impl Gate for Shut {
     fn pass(&self, _client: u64, _step: u64) -> Pass {
         Pass::Stop
+    }
+}
+
+/// A mount of a manifest's layers, without a name.
+pub fn blank_of<F: Callback + Drop, R: Rule>(
+    alloc: Global,
+    keys: RandomState,
+    manifest: &str,
+) -> Result<Blank<F, R>, Fail> {
+    let (upper, lowers, options) = manifest_of(alloc, keys, manifest.as_bytes())?;
+    match Core::mount(alloc, keys, upper, lowers, options)? {
+        Ok(core) => Blank::new(alloc, core).map_err(|_| Fail::from("out of memory")),
+        Err(_) => Err(Fail::from("no mount")),
     }
 }
 

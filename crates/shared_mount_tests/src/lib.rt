@@ -1,0 +1,18 @@
+//! Tests of a mount that threads share, and of its server: full histories, stale sessions, a gate
+//! that stops, threads whose calls race, and clients of a Unix socket.
+#![tactic(auto)]
+
+#[cfg(test)]
+mod doors;
+#[cfg(test)]
+mod mounts;
+#[cfg(test)]
+mod opened;
+#[cfg(test)]
+mod peers;
+#[cfg(test)]
+mod racing;
+#[cfg(test)]
+mod refusals;
+#[cfg(test)]
+mod two_workers;
