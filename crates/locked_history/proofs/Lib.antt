@@ -3,3 +3,4 @@ pub mod Numbering
 pub mod Boxes
 pub mod Growing
 pub mod Standing
+pub mod Waiting
