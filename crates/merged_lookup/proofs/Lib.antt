@@ -10,4 +10,3 @@ pub mod Locating
 pub mod Searching
 pub mod Respelling
 pub mod Trails
-pub mod Keeping

@@ -15,7 +15,6 @@ mod look;
 mod mount;
 mod object;
 mod open_calls;
-mod remembered;
 mod removals;
 mod rename_calls;
 mod status;
