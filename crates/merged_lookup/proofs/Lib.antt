@@ -10,3 +10,4 @@ pub mod Locating
 pub mod Searching
 pub mod Respelling
 pub mod Trails
+pub mod Keeping

@@ -75,7 +75,7 @@ module _ (l : Layers) (s : List Place) (n : Name) (few : length (trees l) ≤ 17
   step-none o none h e = record { shown = step-nothing (trees l) s p n few is reached exact (sym (reached-none o h e) ∙ none) }
 
 -- what is shown is the directory at its place
-shown-folder : (x : Option Shown) (d : Place) → is_directory x ≡ true → place_of x ≡ Some d → (a : Attributes) × (x ≡ Some (Folder d.layer d.key a))
+pub shown-folder : (x : Option Shown) (d : Place) → is_directory x ≡ true → place_of x ≡ Some d → (a : Attributes) × (x ≡ Some (Folder d.layer d.key a))
 shown-folder None d f h = absurd (cc)
 shown-folder (Some (Folder i k a)) d f h = (a, cc)
 shown-folder (Some (Contents i k x)) d f h = absurd (false≢true f)
@@ -180,7 +180,7 @@ top-unless false s x h = h
 suc-not-zero : (k : ℕ) → nat_eq (suc k) 0 ≡ false
 suc-not-zero k = grind arith
 
-directory-top : (s : List Place) (x : Option Shown) → IsTop s x → not (nat_eq (length s) 0) ≡ is_directory x
+pub directory-top : (s : List Place) (x : Option Shown) → IsTop s x → not (nat_eq (length s) 0) ≡ is_directory x
 directory-top [] x h = sym h
 directory-top (d ∷ ds) x h = ap not (suc-not-zero (length ds)) ∙ sym (ap is_directory h.1)
 

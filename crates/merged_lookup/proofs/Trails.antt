@@ -43,7 +43,7 @@ abbrev pub IsRest : List Name → List Name → Option (Bor (List Name)) → Typ
 IsRest s p r = MatchOption r ((rest : List Name) → s ≢ p ++ rest) (λ x. s ≡ p ++ x.now)
 
 -- what the comparison of two rows of names says
-names-decide : (xs ys : List Name) → Decides (pointwise (pointwise ◌==◌) xs ys) (xs ≡ ys)
+pub names-decide : (xs ys : List Name) → Decides (pointwise (pointwise ◌==◌) xs ys) (xs ≡ ys)
 names-decide xs ys = slice_eq-Decides bytes_eq-Decides xs ys (pointwise (pointwise ◌==◌) xs ys) refl
 
 pub same : (xs ys : List Name) (r : Bool) → r ≡ not (pointwise (pointwise ◌==◌) xs ys) → r ≡ false → xs ≡ ys

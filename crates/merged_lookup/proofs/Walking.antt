@@ -4,16 +4,11 @@ use Rattle.std.proofs.lemmas.List.{append-nil}
 use Rattle.plain_model.specs.Layers.{Path, Object, Directory, Named, Whiteout, held, below, cuts}
 use Rattle.layer_tree.specs.Tree.{Tree, layer_of}
 use Rattle.merged_lookup.specs.declared.stack.Place.{Place}
-use Rattle.merged_lookup.specs.Merged.{level, unless_cut, places_at}
+use Rattle.merged_lookup.specs.Merged.{level, place_in, unless_cut, places_at}
 use Rattle.merged_lookup.specs.Descent.{places_from}
 use Rattle.merged_lookup.specs.Passing.{directory_key}
 
--- the place of a layer's directory, if there is one
-abbrev pub place_in : ℕ → Option ℕ → List Place
-place_in i None = []
-place_in i (Some k) = record { layer = i; key = k } ∷ []
-
-level-place : (i : ℕ) (o : Option Object) (s : List Place) → level i o s ≡ place_in i (directory_key o) ++ s
+pub level-place : (i : ℕ) (o : Option Object) (s : List Place) → level i o s ≡ place_in i (directory_key o) ++ s
 level-place i None s = refl
 level-place i (Some Whiteout) s = refl
 level-place i (Some (Named k)) s = refl

@@ -8,3 +8,4 @@ pub mod Locating
 pub mod Searching
 pub mod Respelling
 pub mod Trails
+pub mod Kept

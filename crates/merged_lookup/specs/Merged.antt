@@ -40,6 +40,11 @@ abbrev pub level : ℕ → Option Object → List Place → List Place
 level i (Some (Directory k a o r)) s = record { layer = i; key = k } ∷ s
 level i _ s = s
 
+-- the place of a layer's directory, if there is one
+abbrev pub place_in : ℕ → Option ℕ → List Place
+place_in i None = []
+place_in i (Some k) = record { layer = i; key = k } ∷ []
+
 -- no places under a layer that cuts
 abbrev pub unless_cut : Bool → List Place → List Place
 unless_cut true s = []

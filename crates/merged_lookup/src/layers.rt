@@ -1,5 +1,5 @@
 // The layers of a mount.
-ghost use Rattle.std.specs.Prelude.{◌≡◌, ◌≢◌, ◌+◌, ◌<◌, ◌≤◌, ◌∷◌, ◌++◌, [], List, ℕ, Option, length, slice_get, Some, None, is_some, IsOk, IfOk, IfErr, IfSome, MatchOption, ◌↔◌, reverse, take};
+ghost use Rattle.std.specs.Prelude.{◌≡◌, ◌≢◌, ◌+◌, ◌<◌, ◌≤◌, ◌∷◌, ◌++◌, [], List, ℕ, Option, length, slice_get, Some, None, is_some, IsOk, IfOk, IfErr, IfSome, MatchOption, OnOk, ◌↔◌, map, reverse, take};
 ghost use Rattle.std.specs.Vec.{vec_len};
 ghost use Rattle.std.specs.Option.{option_copied, option_and_then};
 ghost use Rattle.ov_base.specs.declared.attributes.Attributes.{Attributes};
@@ -10,10 +10,17 @@ ghost use Rattle.layer_tree.specs.Tree.{layer_of, inode_of, inode_at, child, IsT
 use crate::crossing::cross_all;
 use crate::descent::{below_upper, copied, enter, roots, topmost};
 use crate::found::{Found, Parent, Topmost};
+use crate::kept::Kept;
 use crate::stack::{Place, Places, Stack};
+use crate::stacked::Stacked;
 use crate::trail::{Trail, trail_past};
 use layer_tree::{Inode, Layer, Node, ROOT};
+use lru::LruCache;
 use ov_base::{Attributes, Content, Errno, Name, Path};
+use std::alloc::{AllocError, Global};
+use std::hash::RandomState;
+use std::marker::Model;
+use std::num::NonZeroUsize;
 
 /// The most layers of a mount: the upper and 16 lower ones.
 pub const LAYERS_MAX: usize = 17;
@@ -27,38 +34,70 @@ const ROOT_SHOWN: Topmost = Topmost::Directory(Place {
 // The most names of a path on which the trail is followed. On longer ones a crossing costs less than the comparisons.
 const FOLLOWED_MAX: usize = 16;
 
-/// The layers of a mount. Layer 0 is the upper, which takes every change; the lower ones follow, the nearest first.
+/// The layers of a mount. Layer 0 is the upper, which takes every change; the lower ones follow, the nearest first. Contracts see them
+/// without the look-ups that are kept.
 #[derive(Drop)]
 pub struct Layers {
-    upper: Layer,
-    lowers: Vec<Layer>,
-    pub ghost some_lower: { 0 < vec_len lowers },
-    pub ghost few_lowers: { vec_len lowers ≤ 16 },
+    stacked: Stacked,
+    kept: LruCache<Vec<Name>, Kept, RandomState>,
+}
+
+impl Model for Layers {
+    ghost use Rattle.std.specs.Prelude.{map};
+    ghost use Rattle.layer_tree.specs.Tree.{layer_of};
+    ghost use Rattle.merged_lookup.specs.declared.stacked.Stacked.{Stacked};
+
+    ghost Value = { Stacked };
+
+    ghost use Rattle.merged_lookup.specs.contracts.stacked.Stacked as alone;
+
+    ghost coded = { alone.the_row.coded };
+
+    ghost use Rattle.merged_lookup.specs.Kept.{AllKept};
+
+    ghost view = { λ l. l.stacked };
+
+    ghost invariant = { λ l. AllKept (map layer_of l.stacked.lowers.items) l.kept.entries };
 }
 
 impl Layers {
     ghost use Rattle.merged_lookup.specs.Merged.{trees, node_in, layers_of, lowers_of, places_at, IsStackOf, IsAnswer, IsFound, IsTopmost, IsParentOf, parent, parents_fault, walk_fault, way_fault, inode_fault, place_fault, ShowsInode};
     ghost use Rattle.merged_lookup.specs.Descent.{first, places_from};
     ghost use Rattle.merged_lookup.specs.Changing.{LendsUpper};
+    ghost use Rattle.merged_lookup.specs.Kept.{IsKept};
     ghost use Rattle.merged_lookup.specs.Trails.{IsTrail, IsUppers};
     ghost use Rattle.std.specs.Borrow.{sem};
     ghost use Rattle.layer_tree.specs.declared.node.Node.TheVariants as Node;
 
-    /// An upper layer over 1 to 16 lower ones, the nearest first.
-    pub fn new(upper: Layer, lowers: Vec<Layer>) -> Layers
+    /// An upper layer over 1 to 16 lower ones, the nearest first. So many look-ups in the lower ones
+    /// are kept, at most 65,536.
+    pub fn new(
+        alloc: Global,
+        keys: RandomState,
+        upper: Layer,
+        lowers: Vec<Layer>,
+        kept: usize,
+    ) -> Result<Layers, AllocError>
         requires some_lower { 0 < vec_len lowers }
         requires few_lowers { vec_len lowers ≤ 16 }
-        ensures upper { result.upper ≡ upper }
-        ensures lowers { result.lowers ≡ lowers }
+        requires some_kept { 0 < kept }
+        requires few_kept { kept ≤ 65536 }
+        ensures upper { IfOk result (λ layers. layers.upper ≡ upper) }
+        ensures lowers { IfOk result (λ layers. layers.lowers ≡ lowers) }
     {
-        Layers { upper, lowers }
+        let Some(most) = NonZeroUsize::new(kept) else {
+            unreachable!()
+        };
+        let kept = LruCache::with_hasher(alloc, most, keys)?;
+        let stacked = Stacked { upper, lowers };
+        Ok(Layers { stacked, kept })
     }
 
     /// The upper layer.
     pub fn upper(&self) -> &Layer
         ensures { result.now ≡ self.now.upper }
     {
-        &self.upper
+        &self.stacked.upper
     }
 
     /// The upper layer, to change it; the lower ones stay.
@@ -66,7 +105,7 @@ impl Layers {
         ensures value { result.now ≡ self.old.upper }
         ensures* lends { sem 𝓛 (LendsUpper self.entry result) }
     {
-        &mut self.upper
+        self.stacked.upper_mut()
     }
 
     /// What the upper keeps, for those who reason about one; it does nothing.
@@ -75,7 +114,7 @@ impl Layers {
         ensures together { IsHeldTogether (layer_of self.now.upper) }
         ensures unnamed { (key : ℕ) (i : held.Inode) → inode_at self.now.upper key ≡ Some i → i.links ≡ 0 → (dir : ℕ) (name : List ℕ) → child self.now.upper dir name ≢ Some key }
     {
-        self.upper.lawful();
+        self.stacked.upper.lawful();
     }
 
     /// How many layers there are, the upper included.
@@ -83,7 +122,7 @@ impl Layers {
         ensures count { result ≡ length (trees self.now) }
         ensures few { result ≤ 17 }
     {
-        self.lowers.len() + 1
+        self.stacked.lowers.len() + 1
     }
 
     /// A layer by its number, 0 for the upper.
@@ -91,8 +130,8 @@ impl Layers {
         ensures { option_copied result ≡ slice_get (trees self.now) index }
     {
         match index {
-            0 => Some(&self.upper),
-            _ => self.lowers.get(index - 1),
+            0 => Some(&self.stacked.upper),
+            _ => self.stacked.lowers.get(index - 1),
         }
     }
 
@@ -176,6 +215,26 @@ impl Layers {
         topmost(self, stack.places(), name).is_some()
     }
 
+    /// The merged directory in which the last name of a path stands, and the topmost object that the
+    /// path shows, if it shows any; the root's directory is the root. The way is refused as by
+    /// `parent_of`.
+    pub fn look(&self, path: &Path) -> Result<(Stack, Option<Topmost>), Errno>
+        ensures refused { IfErr result (λ e. parents_fault (layers_of self.now) path.now ≡ Some e) }
+        ensures way { OnOk result (parents_fault (layers_of self.now) path.now ≡ None) }
+        ensures directory { IfOk result (λ look. IsStackOf self.now (parent path.now) look.0) }
+        ensures topmost { IfOk result (λ look. IsTopmost self.now path.now look.1) }
+    {
+        let Some((name, parents)) = path.split_last() else {
+            return Ok((self.root(), Some(ROOT_SHOWN)));
+        };
+        if let Some(look) = self.kept_look(path) {
+            return Ok(look);
+        }
+        let stack = self.directory(parents)?;
+        let shown = self.topmost(&stack, name);
+        Ok((stack, shown))
+    }
+
     /// The merged directory in which the last name of a path stands, with that name; none for the root. On the way to the last name a
     /// name that shows nothing is ENOENT, a file ENOTDIR and a symbolic link ELOOP.
     pub fn parent_of<'a>(&self, path: &'a Path) -> Result<Option<Parent<'a>>, Errno>
@@ -185,6 +244,9 @@ impl Layers {
         let Some((name, parents)) = path.split_last() else {
             return Ok(None);
         };
+        if let Some((stack, _)) = self.kept_look(path) {
+            return Ok(Some(Parent { stack, name }));
+        }
         let stack = self.directory(parents)?;
         Ok(Some(Parent { stack, name }))
     }
@@ -224,8 +286,11 @@ impl Layers {
         let Some((name, parents)) = path.split_last() else {
             return Ok(ROOT_SHOWN);
         };
-        let stack = self.directory(parents)?;
-        match self.topmost(&stack, name) {
+        let topmost = match self.kept_topmost(path) {
+            Some(topmost) => topmost,
+            None => self.topmost(&self.directory(parents)?, name),
+        };
+        match topmost {
             Some(shown) => Ok(shown),
             None => Err(Errno::ENOENT),
         }
@@ -238,11 +303,8 @@ impl Layers {
         ensures refused { IfErr result (λ e. walk_fault (layers_of self.now) path.now ≡ Some e) }
         ensures answers { IsOk result ↔ (walk_fault (layers_of self.now) path.now ≡ None) }
     {
-        let Some((name, parents)) = path.split_last() else {
-            return Ok((self.root(), ROOT_SHOWN));
-        };
-        let stack = self.directory(parents)?;
-        match self.topmost(&stack, name) {
+        let (stack, topmost) = self.look(path)?;
+        match topmost {
             Some(shown) => Ok((stack, shown)),
             None => Err(Errno::ENOENT),
         }
@@ -290,7 +352,7 @@ impl Layers {
         if first.layer != 0 || names.len() > FOLLOWED_MAX {
             return None;
         }
-        match self.upper.node(first.key) {
+        match self.upper().node(first.key) {
             Some(Node::Directory(directory)) => trail_past(
                 trail,
                 &directory.marks,
@@ -387,5 +449,31 @@ impl Layers {
         ensures { (p : Path) → IsStackOf self.now p parent.now → result ≡ is_some (under (layer_of self.now.upper) (lowers_of self.now) name.now p) }
     {
         topmost(self, below_upper(parent.places()), name).is_some()
+    }
+
+    // What is kept for these names, the most recently used first.
+    pub(crate) fn kept_at(&self, names: &[Name]) -> Option<&Kept>
+        ensures { IfSome result (λ kept. IsKept (lowers_of self.now) (reverse names.now) kept.now) }
+    {
+        let (key, kept) = self.kept.peek_mru()?;
+        if key.as_slice() == names {
+            return Some(kept);
+        }
+        self.kept.peek(names)
+    }
+
+    // Whether something is kept for these names, which then is the most recently used.
+    pub(crate) fn has_kept(&mut self, names: &[Name]) -> bool
+        ensures { self.new ≡ self.old }
+    {
+        self.kept.promote(names)
+    }
+
+    // Keeps what the lower layers show at these names, if there is memory for it.
+    pub(crate) fn keep(&mut self, names: Vec<Name>, kept: Kept)
+        requires { IsKept (lowers_of self.old) (reverse names.items) kept }
+        ensures { self.new ≡ self.old }
+    {
+        let _ = self.kept.put(names, kept);
     }
 }

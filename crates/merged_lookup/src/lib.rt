@@ -8,14 +8,18 @@ mod crossing;
 mod cursor;
 mod descent;
 mod found;
+mod kept;
 mod layers;
 mod locate;
 mod onward;
 mod paths;
+mod remembered;
 mod spelling;
 mod stack;
+mod stacked;
 mod trail;
 
 pub use found::{Found, Parent, Topmost};
 pub use layers::{LAYERS_MAX, Layers};
 pub use stack::{Place, Stack};
+pub use stacked::Stacked;

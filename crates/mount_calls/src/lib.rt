@@ -15,6 +15,7 @@ mod look;
 mod mount;
 mod object;
 mod open_calls;
+mod remembered;
 mod removals;
 mod rename_calls;
 mod status;

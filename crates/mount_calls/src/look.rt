@@ -1,14 +1,14 @@
 // What a path shows, looked at once for a call and for those who are told of it.
-ghost use Rattle.std.specs.Prelude.{◌≡◌, IfOk, IfErr, OnOk, None, Some};
+ghost use Rattle.std.specs.Prelude.{◌≡◌};
 ghost use Rattle.plain_model.specs.Layers.{Path as Names};
 ghost use Rattle.layer_tree.specs.Tree.{layer_of};
-ghost use Rattle.merged_lookup.specs.Merged.{layers_of, lowers_of, parent, parents_fault, IsStackOf, IsTopmost};
+ghost use Rattle.merged_lookup.specs.Merged.{lowers_of};
 ghost use Rattle.notice_laws.specs.Objects.{IsObject};
 ghost use Rattle.mount_calls.specs.Looking.{IsLook, topmost_of};
 
 use crate::mount::Mount;
 use crate::object::object_in;
-use merged_lookup::{Layers, Stack, Topmost};
+use merged_lookup::{Stack, Topmost};
 use notice_laws::Object;
 use ov_base::{Errno, Path};
 
@@ -37,7 +37,7 @@ impl Mount {
         ensures { IsLook self.now.layers path.now result }
     {
         Look {
-            shown: shown_at(&self.layers, path),
+            shown: self.layers.look(path),
         }
     }
 
@@ -50,26 +50,6 @@ impl Mount {
             Some(Topmost::Directory(_)) => Object::Directory,
             Some(Topmost::Inode(place)) => object_in(&self.layers, place),
             None => Object::Other,
-        }
-    }
-}
-
-// The merged directory in which a path's last name stands, and the topmost object that the path shows, if it shows any.
-fn shown_at(layers: &Layers, path: &Path) -> Result<(Stack, Option<Topmost>), Errno>
-    ensures refused { IfErr result (λ e. parents_fault (layers_of layers.now) path.now ≡ Some e) }
-    ensures way { OnOk result (parents_fault (layers_of layers.now) path.now ≡ None) }
-    ensures directory { IfOk result (λ shown. IsStackOf layers.now (parent path.now) shown.0) }
-    ensures top { IfOk result (λ shown. IsTopmost layers.now path.now shown.1) }
-{
-    match layers.parent_of(path)? {
-        None => {
-            let root = layers.root();
-            let top = root.top();
-            Ok((root, Some(Topmost::Directory(top))))
-        }
-        Some(parent) => {
-            let top = layers.topmost(&parent.stack, parent.name);
-            Ok((parent.stack, top))
         }
     }
 }

@@ -37,5 +37,5 @@ pub fn layers_in(alloc: Global, keys: RandomState, manifest: &[u8]) -> Result<La
     ensures err { IfErr result IsManifestFault }
 {
     let (upper, lowers, _) = manifest_of(alloc, keys, manifest)?;
-    Ok(Layers::new(upper, lowers))
+    Ok(Layers::new(alloc, keys, upper, lowers, 1)?)
 }

@@ -24,6 +24,9 @@ use watch_table::{Callback, HOOKS_MAX, Hook, NotAttached, Rule};
 /// The most lower layers of a mount.
 const LOWERS_MAX: usize = 16;
 
+// The most look-ups in the lower layers that are kept.
+const LOOK_UPS_KEPT: usize = 1_024;
+
 /// The least and the greatest length of a history.
 const HISTORY_MIN: u32 = 2;
 
@@ -114,7 +117,8 @@ impl<F: Callback, R: Rule> Core<F, R> {
                 lowers,
             }));
         }
-        let watched = Watched::new(alloc, keys, Layers::new(upper, lowers), options.redirects)?;
+        let layers = Layers::new(alloc, keys, upper, lowers, LOOK_UPS_KEPT)?;
+        let watched = Watched::new(alloc, keys, layers, options.redirects)?;
         Ok(Ok(Core {
             watched,
             options,

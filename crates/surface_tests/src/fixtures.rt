@@ -26,7 +26,7 @@ pub fn read(
 // The layers of a manifest as a mount has them.
 pub fn mount(alloc: Global, keys: RandomState, manifest: &str) -> Result<Layers, Fail> {
     let (upper, lowers, _) = read(alloc, keys, manifest)?;
-    Ok(Layers::new(upper, lowers))
+    Ok(Layers::new(alloc, keys, upper, lowers, 1)?)
 }
 
 pub fn path(rt: &impl Abort, alloc: Global, text: &str) -> Path {

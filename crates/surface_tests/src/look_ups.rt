@@ -78,13 +78,14 @@ fn an_object_is_located_at_the_least_text(rt: HostRuntime) -> Result<(), Fail> {
 fn an_object_without_a_name_has_no_path(rt: HostRuntime) -> Result<(), Fail> {
     let alloc = rt.alloc();
     let manifest = "layer = [{entry = [{path = '/f', kind = 'file'}]}, {}]";
-    let (mut upper, lowers, _) = read(alloc, RandomState::new(&rt)?, manifest)?;
+    let keys = RandomState::new(&rt)?;
+    let (mut upper, lowers, _) = read(alloc, keys, manifest)?;
     let name = Name::parse(alloc, b"f")?.expect(&rt, "a name");
     assert!(rt; upper.is_directory(ROOT));
     let Some(Entry::Object(key)) = upper.take_out(ROOT, &name) else {
         return Err(Fail::from("no file"));
     };
     assert!(rt; upper.node(key).is_some());
-    assert!(rt; Layers::new(upper, lowers).locate(alloc, key)?.is_none());
+    assert!(rt; Layers::new(alloc, keys, upper, lowers, 1)?.locate(alloc, key)?.is_none());
     Ok(())
 }

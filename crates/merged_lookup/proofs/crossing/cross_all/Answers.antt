@@ -1,8 +1,8 @@
 use Rattle.std.proofs.Common.{◌≡◌, ◌++◌, Some, length, reverse, slice_get, arith, sym, ap, ◌∙◌}
-use Rattle.merged_lookup.specs.Merged.{trees}
+use Rattle.merged_lookup.specs.Merged.{trees, place_in}
 use Rattle.merged_lookup.specs.Descent.{places_from}
 use Rattle.merged_lookup.specs.Spelling.{names_of}
-use Rattle.merged_lookup.proofs.Walking.{place_in, added-some, added-none, length-added, walk-ends, walk-goes-on}
+use Rattle.merged_lookup.proofs.Walking.{added-some, added-none, length-added, walk-ends, walk-goes-on}
 use Rattle.merged_lookup.proofs.crossing.cross_all.Goals.{in-Some-dir, in_default-dir}
 use Rattle.merged_lookup.proofs.crossing.cross_all.Goals as goal
 

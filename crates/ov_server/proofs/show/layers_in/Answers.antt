@@ -1,5 +1,5 @@
 use Rattle.std.proofs.lemmas.Result.{err_from_is_err_and}
-use Rattle.ov_server.proofs.Manifests.{counted, refuses_told}
+use Rattle.ov_server.proofs.Manifests.{counted, refuses_none, refuses_told}
 use Rattle.ov_server.proofs.show.layers_in.Goals as goal
 
 pub returns-in_err-upper-clause-manifest : goal.returns-in_err-upper-clause-manifest
@@ -11,4 +11,9 @@ returns-in_err-upper-clause-manifest c =
 pub returns-clause-count : goal.returns-clause-count
 returns-clause-count c =
     let told = c.in_ok-upper.ensures in
-    rw (c.new.ensures.lowers) (counted c.args.manifest.now c.in_ok-upper.upper c.in_ok-upper.lowers.items c.in_ok-upper.field-0-2 told.options told.spelled)
+    rw (c.in_ok-new.ensures.lowers) (counted c.args.manifest.now c.in_ok-upper.upper c.in_ok-upper.lowers.items c.in_ok-upper.field-0-2 told.options told.spelled)
+
+pub returns-clause-manifest : goal.returns-clause-manifest
+returns-clause-manifest c =
+    let told = c.in_ok-upper.ensures in
+    refuses_none c.args.manifest.now c.in_ok-new.field-0 c.in_ok-upper.field-0-2 told.not_utf8 told.not_toml told.options

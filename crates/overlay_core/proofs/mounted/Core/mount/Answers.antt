@@ -1,4 +1,5 @@
-use Rattle.std.proofs.Common.{arith, rules, ◌≡◌, None, subst, sym, vec_len}
+use Rattle.std.proofs.Common.{arith, rules, ◌≡◌, None, ap, is_some, subst, sym, vec_len, ◌∙◌}
+use Rattle.std.proofs.lemmas.Bool.{false≢true}
 use Rattle.std.proofs.lemmas.Grind.{merely}
 use Rattle.plain_model.specs.Layers.{AreLayers}
 use Rattle.merged_lookup.specs.declared.layers.Layers.{Layers}
@@ -11,12 +12,20 @@ use Rattle.overlay_core.proofs.mounted.Core.mount.Goals as goal
 pub invariant_of-result : goal.invariant_of-result
 invariant_of-result g c =
     let w = c.in_ok-watched.watched in
-    let are : AreLayers (layers_of c.new.result) = rw (c.new.ensures.upper, c.new.ensures.lowers) c.requires.layers in
+    let are : AreLayers (layers_of c.in_ok-layers.layers) = rw (c.in_ok-layers.ensures.upper, c.in_ok-layers.ensures.lowers) c.requires.layers in
     let none : mount_fault (vec_len c.args.lowers) c.args.options ≡ None = search rules in
     let begins : BeginsWith w.mount.layers (machine_options c.args.options) w.mount w.notifier = subst (λ (l : Layers). BeginsWith l (machine_options c.args.options) w.mount w.notifier) (sym c.in_ok-watched.ensures.layers) c.in_ok-watched.ensures.begins in
     record {
-      agrees = merely (has-state w.mount w.notifier c.new.result (machine_options c.args.options) c.in_ok-watched.ensures.layers are begins);
+      agrees = merely (has-state w.mount w.notifier c.in_ok-layers.layers (machine_options c.args.options) c.in_ok-watched.ensures.layers are begins);
       begins = merely (λ none. begins);
       given = omega (arith, c.in_ok-watched.ensures.first);
       short = bounded (vec_len c.args.lowers) c.args.options none;
     }
+
+pub returns-clause-nobody : goal.returns-clause-nobody
+returns-clause-nobody g c = λ n is. false≢true (sym (ap is_some (c.in_ok-watched.ensures.nobody n)) ∙ is)
+
+pub returns-clause-begins : goal.returns-clause-begins
+returns-clause-begins g c =
+    let w = c.in_ok-watched.watched in
+    subst (λ (l : Layers). BeginsWith l (machine_options c.args.options) w.mount w.notifier) (sym c.in_ok-watched.ensures.layers) c.in_ok-watched.ensures.begins
