@@ -10,6 +10,7 @@ use Rattle.lru.specs.LruCache.{LruCache, lru_cache, promoted, put_entries}
 use Rattle.lru.proofs.CallerLemmas.{IsPut, Contains-lookup, Contains-promoted, Contains-put_entries}
 use Rattle.lru.proofs.Splits.{Contains-head}
 use Rattle.ov_base.specs.declared.attributes.Attributes.{Attributes}
+use Rattle.ov_base.specs.declared.errno.Errno.{Errno}
 use Rattle.plain_model.specs.Layers.{Name, Path, Object, Directory, Named, Whiteout, Inode, Layer, held, below, cuts, cut, spell, Shown, Folder, Contents, over, unless, shows, holds_directory, is_directory}
 use Rattle.layer_tree.specs.Tree.{Tree, layer_of, key_at}
 use Rattle.merged_lookup.specs.declared.found.Topmost.{Topmost}
@@ -18,12 +19,12 @@ use Rattle.merged_lookup.specs.declared.kept.Kept.{Kept}
 use Rattle.merged_lookup.specs.declared.layers.Layers.{Layers}
 use Rattle.merged_lookup.specs.declared.stack.Place.{Place}
 use Rattle.merged_lookup.specs.Merged.{trees, layers_of, lowers_of, level, place_in, unless_cut, places_at, parents_fault, way_fault, parent, IsTopmost, IsStackOf}
-use Rattle.merged_lookup.specs.Descent.{holds_in, places_from, descend, first, place_shown, leads}
+use Rattle.merged_lookup.specs.Descent.{holds_in, places_from, descend, first, place_shown, leads, without_upper}
 use Rattle.merged_lookup.specs.Locating.{place_of}
 use Rattle.merged_lookup.specs.Passing.{directory_key, holds_under}
 use Rattle.merged_lookup.specs.Kept.{ShowsTopmost, IsKept, AllKept, HandsDown, topmost_over}
 use Rattle.merged_lookup.proofs.Descending.{held-in, key-of, parent-held, reverse-more, first-places, descend-places, length-places, top-shown, shown-inode, shown-none}
-use Rattle.merged_lookup.proofs.Looking.{reverse-parts, directory-top, shown-folder}
+use Rattle.merged_lookup.proofs.Looking.{reverse-parts, directory-top, shown-folder, without-is}
 use Rattle.merged_lookup.proofs.Passing.{held-under}
 use Rattle.merged_lookup.proofs.Trails.{names-decide}
 use Rattle.merged_lookup.proofs.Ways.{reached-way}
@@ -226,3 +227,24 @@ some-upper (Some k) s h = omega arith
 pub kept-few : (l : Layers) (p : Path) (n : Name) (k : Kept) → IsKept (lowers_of l) (n ∷ p) k → length k.directory.items < 17
 kept-few l p n k kept =
     omega (arith, ap length kept.directory, length-places 1 (lowers_of l) p, length-map l.lowers.items layer_of, l.few_lowers, l.lowers.ok.0)
+
+-- the places of the lower layers among those of a directory that the upper hands down
+pub handed-places : (l : Layers) (p : Path) (dir : Option ℕ) (s : List Place) → HandsDown l.upper p dir → s ≡ places_at 0 (layers_of l) p →
+    without_upper s ≡ places_at 1 (lowers_of l) p
+handed-places l p dir s down is =
+    without-is l.upper l.lowers.items s p is
+    ∙ ap (λ c. unless_cut c (places_at 1 (lowers_of l) (below (layer_of l.upper) p))) down.uncut
+    ∙ ap (λ q. places_at 1 (lowers_of l) q) down.spelling
+
+-- a path on which there is a fault has no places
+no-places : (l : Layers) (p : Path) (e : Errno) (s : List Place) → s ≡ places_at 0 (layers_of l) p → way_fault (layers_of l) p ≡ Some e → s ≡ []
+no-places l p e [] is fault = refl
+no-places l p e (d ∷ s) is fault =
+    let none : way_fault (layers_of l) p ≡ None = reached-way l p (λ empty. omega (arith, ap length (is ∙ empty))) in
+    cc
+
+-- nor has it in the lower layers
+pub no-handed-places : (l : Layers) (p : Path) (dir : Option ℕ) (e : Errno) → HandsDown l.upper p dir → way_fault (layers_of l) p ≡ Some e →
+    [] ≡ places_at 1 (lowers_of l) p
+no-handed-places l p dir e down fault =
+    handed-places l p dir [] down (sym (no-places l p e (places_at 0 (layers_of l) p) refl fault))

@@ -193,7 +193,7 @@ topmost-shown l s n few p is o e b =
     (e ∙ ap (λ z. first (trees l) z n) is ∙ first-places 0 (trees l) (trees l) refl p n)
 
 -- the places below the upper are those that are reached in the lower layers
-without-is : (t : Tree) (us : List Tree) (s : List Place) (p : Path) → s ≡ places_at 0 (map layer_of (t ∷ us)) p → without_upper s ≡ unless_cut (cuts (layer_of t) p) (places_at 1 (map layer_of us) (below (layer_of t) p))
+pub without-is : (t : Tree) (us : List Tree) (s : List Place) (p : Path) → s ≡ places_at 0 (map layer_of (t ∷ us)) p → without_upper s ≡ unless_cut (cuts (layer_of t) p) (places_at 1 (map layer_of us) (below (layer_of t) p))
 without-is t us s p is =
     let lower : List Place = unless_cut (cuts (layer_of t) p) (places_at 1 (map layer_of us) (below (layer_of t) p)) in
     ap without_upper is ∙ without-level (held (layer_of t) p) lower (head-unless (cuts (layer_of t) p) (places_at 1 (map layer_of us) (below (layer_of t) p)) (head-places 1 (map layer_of us) (below (layer_of t) p)))

@@ -1,15 +1,15 @@
 // What the lower layers show at a spelling, and how the upper hands paths down to them.
-ghost use Rattle.std.specs.Prelude.{◌≡◌, ◌<◌, ◌++◌, IfSome, Some, reverse};
+ghost use Rattle.std.specs.Prelude.{◌≡◌, ◌<◌, ◌≤◌, ◌++◌, IfSome, Some, length, reverse};
 ghost use Rattle.plain_model.specs.Layers as held;
 ghost use Rattle.ov_base.specs.declared.attributes.Attributes.{Attributes};
-ghost use Rattle.merged_lookup.specs.Descent.{holds_in};
+ghost use Rattle.merged_lookup.specs.Descent.{holds_in, without_upper};
 ghost use Rattle.arrayvec.specs.ArrayVec.{array_vec_len};
 ghost use Rattle.merged_lookup.specs.Passing.{holds_under};
 ghost use Rattle.merged_lookup.specs.Kept as over;
 ghost use Rattle.merged_lookup.specs.Kept.{HandsDown, Steps};
 ghost use Rattle.merged_lookup.specs.Merged.{place_in};
 
-use crate::descent::copied;
+use crate::descent::{below_upper, copied};
 use crate::found::Topmost;
 use crate::stack::{Place, Places};
 use layer_tree::{Entry, Layer, Marks, Node, ROOT};
@@ -95,6 +95,16 @@ pub(crate) fn topmost_over(
             Some(Node::Directory(_)) => Some(Topmost::Directory(Place { layer: 0, key })),
         },
     }
+}
+
+// The places of the lower layers among those of a merged directory.
+pub(crate) fn copied_below(places: &[Place]) -> Places
+    requires { length places.now ≤ 17 }
+    ensures { result.items ≡ without_upper places.now }
+{
+    let mut lowers = Places::new();
+    let _ = lowers.try_extend_from_slice(below_upper(places));
+    lowers
 }
 
 // The places of the lower layers below that of the upper's directory, if it has one.

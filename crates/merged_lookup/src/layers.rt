@@ -7,6 +7,7 @@ ghost use Rattle.plain_model.specs.Layers as held;
 ghost use Rattle.plain_model.specs.Layers.{Path, shows, is_directory, under};
 ghost use Rattle.layer_tree.specs.Tree.{layer_of, inode_of, inode_at, child, IsTree, IsHeldTogether};
 
+use crate::asked::Asked;
 use crate::crossing::cross_all;
 use crate::descent::{below_upper, copied, enter, roots, topmost};
 use crate::found::{Found, Parent, Topmost};
@@ -38,8 +39,13 @@ const FOLLOWED_MAX: usize = 16;
 /// without the look-ups that are kept.
 #[derive(Drop)]
 pub struct Layers {
-    stacked: Stacked,
-    kept: LruCache<Vec<Name>, Kept, RandomState>,
+    pub(crate) stacked: Stacked,
+    pub(crate) kept: LruCache<Vec<Name>, Kept, RandomState>,
+    // Whether more look-ups are kept.
+    pub(crate) keeps: bool,
+    // Whether a path of the call that is made now is among them.
+    pub(crate) has_kept: bool,
+    pub(crate) asked: Asked,
 }
 
 impl Model for Layers {
@@ -64,7 +70,6 @@ impl Layers {
     ghost use Rattle.merged_lookup.specs.Merged.{trees, node_in, layers_of, lowers_of, places_at, IsStackOf, IsAnswer, IsFound, IsTopmost, IsParentOf, parent, parents_fault, walk_fault, way_fault, inode_fault, place_fault, ShowsInode};
     ghost use Rattle.merged_lookup.specs.Descent.{first, places_from};
     ghost use Rattle.merged_lookup.specs.Changing.{LendsUpper};
-    ghost use Rattle.merged_lookup.specs.Kept.{IsKept};
     ghost use Rattle.merged_lookup.specs.Trails.{IsTrail, IsUppers};
     ghost use Rattle.std.specs.Borrow.{sem};
     ghost use Rattle.layer_tree.specs.declared.node.Node.TheVariants as Node;
@@ -88,9 +93,16 @@ impl Layers {
         let Some(most) = NonZeroUsize::new(kept) else {
             unreachable!()
         };
+        let asked = Asked::new(alloc, keys, kept)?;
         let kept = LruCache::with_hasher(alloc, most, keys)?;
         let stacked = Stacked { upper, lowers };
-        Ok(Layers { stacked, kept })
+        Ok(Layers {
+            stacked,
+            kept,
+            keeps: true,
+            has_kept: false,
+            asked,
+        })
     }
 
     /// The upper layer.
@@ -311,7 +323,7 @@ impl Layers {
     }
 
     /// The directory that names lead to from the root, name by name as long as no more than one of them crosses the layers.
-    fn directory<'a>(&'a self, names: &'a [Name]) -> Result<Stack, Errno>
+    pub(crate) fn directory<'a>(&'a self, names: &'a [Name]) -> Result<Stack, Errno>
         ensures found { IfOk result (λ s. (way_fault (layers_of self.now) (reverse names.now) ≡ None) × IsStackOf self.now (reverse names.now) s) }
         ensures refused { IfErr result (λ e. way_fault (layers_of self.now) (reverse names.now) ≡ Some e) }
     {
@@ -449,31 +461,5 @@ impl Layers {
         ensures { (p : Path) → IsStackOf self.now p parent.now → result ≡ is_some (under (layer_of self.now.upper) (lowers_of self.now) name.now p) }
     {
         topmost(self, below_upper(parent.places()), name).is_some()
-    }
-
-    // What is kept for these names, the most recently used first.
-    pub(crate) fn kept_at(&self, names: &[Name]) -> Option<&Kept>
-        ensures { IfSome result (λ kept. IsKept (lowers_of self.now) (reverse names.now) kept.now) }
-    {
-        let (key, kept) = self.kept.peek_mru()?;
-        if key.as_slice() == names {
-            return Some(kept);
-        }
-        self.kept.peek(names)
-    }
-
-    // Whether something is kept for these names, which then is the most recently used.
-    pub(crate) fn has_kept(&mut self, names: &[Name]) -> bool
-        ensures { self.new ≡ self.old }
-    {
-        self.kept.promote(names)
-    }
-
-    // Keeps what the lower layers show at these names, if there is memory for it.
-    pub(crate) fn keep(&mut self, names: Vec<Name>, kept: Kept)
-        requires { IsKept (lowers_of self.old) (reverse names.items) kept }
-        ensures { self.new ≡ self.old }
-    {
-        let _ = self.kept.put(names, kept);
     }
 }

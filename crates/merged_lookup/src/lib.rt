@@ -2,6 +2,7 @@
 //! redirects.
 #![tactic(auto)]
 
+mod asked;
 mod below;
 mod candidate;
 mod crossing;

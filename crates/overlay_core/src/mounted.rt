@@ -232,6 +232,15 @@ impl<F: Callback, R: Rule> Core<F, R> {
         0
     }
 
+    /// Keeps at most so many look-ups in the lower layers from now on, where 1,024 were kept, or with 0
+    /// no more than it has. Nothing that is answered depends on it.
+    pub fn keep_look_ups(&mut self, most: usize)
+        requires { most ≤ 65536 }
+        ensures { self.new ≡ self.old }
+    {
+        self.watched.mount.keep_look_ups(most);
+    }
+
     /// How many attaches, finished calls and detaches there were.
     pub fn finished(&self) -> u64
         ensures { result ≡ core_finished self.now }

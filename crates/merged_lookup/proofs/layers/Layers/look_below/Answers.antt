@@ -7,18 +7,18 @@ use Rattle.merged_lookup.specs.Descent.{descend, first}
 use Rattle.merged_lookup.specs.Kept.{IsKept}
 use Rattle.merged_lookup.specs.Merged.{lowers_of, trees}
 use Rattle.merged_lookup.proofs.Keeping.{kept-right}
-use Rattle.merged_lookup.proofs.layers.Layers.remember.Goals as goal
+use Rattle.merged_lookup.proofs.layers.Layers.look_below.Goals as goal
 
 pub keep-requires : goal.keep-requires
 keep-requires c =
-    let l : Layers = c.has_kept.new.self in
+    let l : Layers = c.args.self.now in
     let p : Path = reverse c.in-Some.parents.now in
     let n : Name = c.in-Some.name.now in
-    let k : Kept = record { directory = c.cross_all-directory.result; shown = c.topmost-shown.result } in
+    let k : Kept = record { directory = c.handed_places-directory.result; shown = c.topmost-shown.result } in
     let asked : c.as_slice.result.now ≡ k.directory.items = c.as_slice.ensures.value in
     let path : reverse c.in-Ok.copies.items ≡ n ∷ p =
-    ap reverse (c.in-Ok.ensures ∙ c.names-names.ensures) ∙ reverse-reverse c.args.path.now ∙ c.in-Some.ensures in
+    ap reverse (c.in-Ok.ensures ∙ c.names.ensures) ∙ reverse-reverse c.args.path.now ∙ c.in-Some.ensures in
     subst (λ q. IsKept (lowers_of l) q k) (sym path)
-    (kept-right l p n k c.cross_all-directory.ensures
+    (kept-right l p n k c.handed_places-directory.ensures
     (c.topmost-shown.ensures.place ∙ ap (λ s. first (trees l) s n) asked)
     (c.topmost-shown.ensures.directory ∙ ap (λ s. not (nat_eq (length (descend (trees l) s n)) 0)) asked))

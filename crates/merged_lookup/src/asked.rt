@@ -1,0 +1,68 @@
+// Which paths were asked for before, but for chance: only what is asked for twice is kept.
+
+use ov_base::Name;
+use std::alloc::{AllocError, Global};
+use std::hash::{BuildHasher, FoldHasher, Hasher, RandomState};
+
+// One bit for each path that was asked for, by a hash of its names; two paths may share one. After as many marks as there are words of
+// 64 bits all are taken back, so that few are shared.
+#[derive(Drop)]
+pub(crate) struct Asked {
+    key: u64,
+    words: Vec<u64>,
+    marks: usize,
+}
+
+impl Asked {
+    // No path was asked for; the table has so many words.
+    pub(crate) fn new(alloc: Global, keys: RandomState, words: usize) -> Result<Asked, AllocError> {
+        let key = keys.hash_one(0u64);
+        let words = Vec::from_elem(alloc, 0, words)?;
+        Ok(Asked {
+            key,
+            words,
+            marks: 0,
+        })
+    }
+
+    // Whether these names were asked for before; from now on they were.
+    pub(crate) fn again(&mut self, names: &[Name]) -> bool {
+        let hash = self.hash(names);
+        let bit = 1u64 << (hash & 63);
+        let Some(at) = (hash >> 6).checked_rem(self.words.len() as u64) else {
+            return false;
+        };
+        if self.is_marked(at as usize, bit) {
+            return true;
+        }
+        if self.marks >= self.words.len() {
+            self.words.fill(0);
+            self.marks = 0;
+        }
+        self.mark(at as usize, bit);
+        false
+    }
+
+    fn is_marked(&self, at: usize, bit: u64) -> bool {
+        match self.words.get(at) {
+            Some(word) => word & bit != 0,
+            None => false,
+        }
+    }
+
+    fn mark(&mut self, at: usize, bit: u64) {
+        if let Some(word) = self.words.get_mut(at) {
+            *word |= bit;
+        }
+        self.marks = self.marks.saturating_add(1);
+    }
+
+    fn hash(&self, names: &[Name]) -> u64 {
+        let mut hasher = FoldHasher::default();
+        hasher.write_u64(self.key);
+        for name in names {
+            hasher.write(name.as_slice());
+        }
+        hasher.finish()
+    }
+}
