@@ -16,13 +16,23 @@ pub(crate) struct Asked {
 impl Asked {
     // No path was asked for; the table has so many words.
     pub(crate) fn new(alloc: Global, keys: RandomState, words: usize) -> Result<Asked, AllocError> {
-        let key = keys.hash_one(0u64);
+        Asked::with_key(alloc, keys.hash_one(0u64), words)
+    }
+
+    fn with_key(alloc: Global, key: u64, words: usize) -> Result<Asked, AllocError> {
         let words = Vec::from_elem(alloc, 0, words)?;
         Ok(Asked {
             key,
             words,
             marks: 0,
         })
+    }
+
+    // From now on the table has so many words, if there is memory for them, and no path was asked for.
+    pub(crate) fn resize(&mut self, alloc: Global, words: usize) {
+        if let Ok(resized) = Asked::with_key(alloc, self.key, words) {
+            *self = resized;
+        }
     }
 
     // Whether these names were asked for before; from now on they were.

@@ -30,10 +30,11 @@ impl Layers {
     ghost use Rattle.merged_lookup.specs.Kept.{HandsDown, IsKept};
 
     /// Keeps at most so many look-ups in the lower layers from now on, or with 0 no more than it has.
-    pub fn keep_look_ups(&mut self, most: usize)
+    pub fn keep_look_ups(&mut self, alloc: Global, most: usize)
         requires few_kept { most ≤ 65536 }
         ensures { self.new ≡ self.old }
     {
+        self.asked.resize(alloc, most);
         let most = NonZeroUsize::new(most);
         self.keeps = most.is_some();
         if let Some(most) = most {

@@ -1,18 +1,10 @@
 // What is kept of the lower layers before a call is made.
-ghost use Rattle.std.specs.Prelude.{◌≡◌, ◌≤◌};
+ghost use Rattle.std.specs.Prelude.{◌≡◌};
 
 use crate::mount::Mount;
 use ov_base::Call;
 
 impl Mount {
-    /// Keeps at most so many look-ups in the lower layers from now on, or with 0 no more than it has.
-    pub fn keep_look_ups(&mut self, most: usize)
-        requires { most ≤ 65536 }
-        ensures { self.new ≡ self.old }
-    {
-        self.layers.keep_look_ups(most);
-    }
-
     /// Keeps what the lower layers show at the paths of a call, for the look-ups that it makes.
     pub fn remember(&mut self, call: &Call)
         ensures { self.new ≡ self.old }

@@ -15,6 +15,6 @@ mod show;
 pub use arguments::{Invocation, command_line};
 pub use devices::{Input, Output};
 pub use fault::{DeviceFault, Fault};
-pub use play::{core_of, play_run};
+pub use play::{core_of, play_run, play_run_keeping};
 pub use program_hooks::{ByTag, ProgramRule, hooks_by_slot};
 pub use show::show_run;

@@ -11,7 +11,7 @@ use crate::commands::{LineFault, play_line};
 use crate::devices::{Input, Output};
 use crate::fault::{DeviceFault, Fault};
 use ov_wire::manifest_of;
-use overlay_core::Core;
+use overlay_core::{Core, LOOK_UPS_KEPT};
 use std::alloc::{AllocError, Global};
 use std::hash::RandomState;
 use std::io::{Read, Write};
@@ -36,7 +36,27 @@ pub fn play_run<R: Read, W: Write, F: Callback + Copy, H: Rule>(
     ensures well { OnOk result ((input.new.failed ≡ input.old.failed) × (output.new.failed ≡ output.old.failed)) }
     ensures manifest { AnswersManifest manifest.now result }
 {
-    let core = core_of(alloc, keys, manifest)?;
+    play_run_keeping(alloc, keys, LOOK_UPS_KEPT, manifest, hooks, input, output)
+}
+
+/// `play_run` on a mount that keeps at most so many look-ups in the lower layers, or with 0 none.
+pub fn play_run_keeping<R: Read, W: Write, F: Callback + Copy, H: Rule>(
+    alloc: Global,
+    keys: RandomState,
+    look_ups: usize,
+    manifest: &[u8],
+    hooks: &[Hook<F, H>],
+    input: &mut Input<R>,
+    output: &mut Output<W>,
+) -> Result<(), Fault>
+    requires { look_ups ≤ 65536 }
+    ensures ok { OnOk result (IfSome (R.remaining input.old.reader) (IsGoodScript (layers_told manifest.now))) }
+    ensures err { IfErr result (IsRunFault (R.remaining input.old.reader) (layers_told manifest.now)) }
+    ensures stream { IfErr result (IsStreamFault input.new.failed input.new.reads_left output.new.failed) }
+    ensures well { OnOk result ((input.new.failed ≡ input.old.failed) × (output.new.failed ≡ output.old.failed)) }
+    ensures manifest { AnswersManifest manifest.now result }
+{
+    let core = core_keeping(alloc, keys, look_ups, manifest)?;
     let outcome = play_on(alloc, core, hooks, input, output);
     output.flush()?;
     outcome?;
@@ -81,8 +101,26 @@ pub fn core_of<F: Callback + Drop, H: Rule>(
     ensures finished { IfOk result (λ core. core_finished core ≡ 0) }
     ensures places { IfOk result HasPlaces }
 {
+    core_keeping(alloc, keys, LOOK_UPS_KEPT, manifest)
+}
+
+// The same, which keeps at most so many look-ups in the lower layers.
+fn core_keeping<F: Callback + Drop, H: Rule>(
+    alloc: Global,
+    keys: RandomState,
+    look_ups: usize,
+    manifest: &[u8],
+) -> Result<Core<F, H>, Fault>
+    requires { look_ups ≤ 65536 }
+    ensures manifest { AnswersManifest manifest.now result }
+    ensures err { IfErr result IsManifestFault }
+    ensures count { IfOk result (λ core. layers_in core ≡ layers_told manifest.now) }
+    ensures begins { IfOk result BeginsOn }
+    ensures finished { IfOk result (λ core. core_finished core ≡ 0) }
+    ensures places { IfOk result HasPlaces }
+{
     let (upper, lowers, options) = manifest_of(alloc, keys, manifest)?;
-    match Core::mount(alloc, keys, upper, lowers, options)? {
+    match Core::mount_keeping(alloc, keys, upper, lowers, options, look_ups)? {
         Ok(core) => Ok(core),
         Err(_) => unreachable!(),
     }

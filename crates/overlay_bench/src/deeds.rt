@@ -9,6 +9,8 @@ pub enum Deed {
     Stat,
     /// `stat` of 256 files in turn.
     StatMany,
+    /// `stat` of so many files in turn, more than 256.
+    StatAmong(u32),
     /// `stat` of one name that isn't there.
     Absent,
     /// `stat` of names that aren't there, each another one.
@@ -73,6 +75,8 @@ fn asking(word: &str) -> Option<Deed> {
     match word {
         "stat" => Some(Deed::Stat),
         "stat_many" => Some(Deed::StatMany),
+        "stat_many_1k" => Some(Deed::StatAmong(1_000)),
+        "stat_many_10k" => Some(Deed::StatAmong(10_000)),
         "absent" => Some(Deed::Absent),
         "absent_new" => Some(Deed::AbsentNew),
         "list" => Some(Deed::List),

@@ -95,6 +95,7 @@ fn layers_for(
     };
     match deed {
         Deed::Copy(size) => copied(alloc, lowers, count, size),
+        Deed::StatAmong(files) => copied(alloc, lowers, files, 0),
         Deed::CopyAgain(size) => copied_again(alloc, lowers, count, size),
         Deed::RenameDirectory => wide(alloc, lowers, count),
         Deed::Mkdir => deep(alloc, lowers.saturating_add(1)),

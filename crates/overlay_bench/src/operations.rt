@@ -49,7 +49,12 @@ fn operation_in(
     number: u32,
 ) -> Result<(), AllocError> {
     match deed {
-        Deed::Stat | Deed::StatMany | Deed::Absent | Deed::AbsentNew | Deed::Redirected(_, _) => {
+        Deed::Stat
+        | Deed::StatMany
+        | Deed::StatAmong(_)
+        | Deed::Absent
+        | Deed::AbsentNew
+        | Deed::Redirected(_, _) => {
             let path = path_for(alloc, deed, number)?;
             calls.push(Call::Stat { path })?;
         }
@@ -175,6 +180,7 @@ fn path_for(alloc: Global, deed: Deed, number: u32) -> Result<Path, AllocError> 
 fn name_for(deed: Deed, number: u32) -> (&'static str, u32) {
     match deed {
         Deed::Read | Deed::StatMany => ("name-", number % FILES),
+        Deed::StatAmong(files) => ("copy-", number.checked_rem(files).unwrap_or(0)),
         Deed::Whiteout => ("name-", number),
         Deed::Absent | Deed::Redirected(_, false) => ("none-", 0),
         Deed::AbsentNew => ("none-", number),

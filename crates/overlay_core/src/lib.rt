@@ -16,6 +16,6 @@ mod watch_calls;
 mod watched;
 
 pub use job::{Job, Standing};
-pub use mounted::{Core, MountFault, Turn, Unmounted};
+pub use mounted::{Core, LOOK_UPS_KEPT, MountFault, Turn, Unmounted};
 pub use schedule::drive;
 pub use watched::Watched;

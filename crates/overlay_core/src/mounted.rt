@@ -24,8 +24,8 @@ use watch_table::{Callback, HOOKS_MAX, Hook, NotAttached, Rule};
 /// The most lower layers of a mount.
 const LOWERS_MAX: usize = 16;
 
-// The most look-ups in the lower layers that are kept.
-const LOOK_UPS_KEPT: usize = 1_024;
+/// The most look-ups in the lower layers that a new mount keeps.
+pub const LOOK_UPS_KEPT: usize = 1_024;
 
 /// The least and the greatest length of a history.
 const HISTORY_MIN: u32 = 2;
@@ -110,6 +110,42 @@ impl<F: Callback, R: Rule> Core<F, R> {
         ensures begins { IfOk result (λ mounting. IfOk mounting (λ core.
             CoreBegins core options)) }
     {
+        Core::mount_keeping(alloc, keys, upper, lowers, options, LOOK_UPS_KEPT)
+    }
+
+    /// `mount` that keeps at most so many look-ups in the lower layers, up to 65,536, or with 0 none.
+    /// Nothing that is answered depends on it.
+    pub fn mount_keeping(
+        alloc: Global,
+        keys: RandomState,
+        upper: Layer,
+        lowers: Vec<Layer>,
+        options: Options,
+        look_ups: usize,
+    ) -> Result<Result<Core<F, R>, Unmounted>, AllocError>
+        requires layers { AreLayers (layer_of upper ∷ map layer_of lowers.items) }
+        requires limits { All IsWithinLimits (layer_of upper ∷ map layer_of lowers.items) }
+        requires look_ups { look_ups ≤ 65536 }
+        ensures fault { IfOk result (λ mounting. IfErr mounting (λ unmounted.
+            mount_fault (vec_len lowers) options ≡ Some unmounted.fault)) }
+        ensures handed_back { IfOk result (λ mounting. IfErr mounting (λ unmounted.
+            (unmounted.upper ≡ upper) × (unmounted.lowers ≡ lowers))) }
+        ensures mounted { IfOk result (λ mounting.
+            OnOk mounting (mount_fault (vec_len lowers) options ≡ None)) }
+        ensures no_memory { OnErr result (mount_fault (vec_len lowers) options ≡ None) }
+        ensures layers { IfOk result (λ mounting. IfOk mounting (λ core.
+            ((core_layers core).upper ≡ upper) × ((core_layers core).lowers ≡ lowers))) }
+        ensures options { IfOk result (λ mounting. IfOk mounting (λ core.
+            core_options core ≡ options)) }
+        ensures finished { IfOk result (λ mounting. IfOk mounting (λ core.
+            core_finished core ≡ 0)) }
+        ensures nobody { IfOk result (λ mounting. IfOk mounting (λ core.
+            (n : ℕ) → has_client core n ≢ true)) }
+        ensures first { IfOk result (λ mounting. IfOk mounting (λ core.
+            next_client core ≡ 0)) }
+        ensures begins { IfOk result (λ mounting. IfOk mounting (λ core.
+            CoreBegins core options)) }
+    {
         if let Some(fault) = fault_of(lowers.len(), options) {
             return Ok(Err(Unmounted {
                 fault,
@@ -117,7 +153,8 @@ impl<F: Callback, R: Rule> Core<F, R> {
                 lowers,
             }));
         }
-        let layers = Layers::new(alloc, keys, upper, lowers, LOOK_UPS_KEPT)?;
+        let mut layers = Layers::new(alloc, keys, upper, lowers, look_ups.max(1))?;
+        layers.keep_look_ups(alloc, look_ups);
         let watched = Watched::new(alloc, keys, layers, options.redirects)?;
         Ok(Ok(Core {
             watched,
@@ -230,15 +267,6 @@ impl<F: Callback, R: Rule> Core<F, R> {
     {
         let _ = &self.watched;
         0
-    }
-
-    /// Keeps at most so many look-ups in the lower layers from now on, where 1,024 were kept, or with 0
-    /// no more than it has. Nothing that is answered depends on it.
-    pub fn keep_look_ups(&mut self, most: usize)
-        requires { most ≤ 65536 }
-        ensures { self.new ≡ self.old }
-    {
-        self.watched.mount.keep_look_ups(most);
     }
 
     /// How many attaches, finished calls and detaches there were.

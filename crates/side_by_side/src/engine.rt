@@ -1,5 +1,8 @@
 // Runs of the engine over bytes in memory.
-use ov_server::{Fault, Input, Output, hooks_by_slot, play_run, show_run};
+ghost use Rattle.std.specs.Prelude.{◌≤◌};
+
+use ov_server::{Fault, Input, Output, hooks_by_slot, play_run_keeping, show_run};
+use overlay_core::LOOK_UPS_KEPT;
 use std::alloc::Global;
 use std::hash::RandomState;
 use std::io;
@@ -13,6 +16,9 @@ pub struct Run {
     pub refuses_manifest: bool,
 }
 
+/// Other numbers of look-ups that a mount keeps: it answers the same, also where none can be kept.
+const LOOK_UPS: [usize; 4] = [0, 1, 2, 7];
+
 /// Plays a script on the mount of a manifest; without one, shows the mount.
 pub fn run_of(
     alloc: Global,
@@ -20,9 +26,39 @@ pub fn run_of(
     manifest: &[u8],
     script: Option<&[u8]>,
 ) -> io::Result<Run> {
+    run_keeping(alloc, keys, LOOK_UPS_KEPT, manifest, script)
+}
+
+/// How many look-ups a mount may not keep, since it answers something else to the script then.
+pub fn look_ups_difference(
+    alloc: Global,
+    keys: RandomState,
+    manifest: &[u8],
+    script: &[u8],
+    wanted: &[u8],
+) -> io::Result<Option<usize>> {
+    for look_ups in LOOK_UPS {
+        let run = run_keeping(alloc, keys, look_ups, manifest, Some(script))?;
+        if run.text.as_slice() != wanted {
+            return Ok(Some(look_ups));
+        }
+    }
+    Ok(None)
+}
+
+// The same, on a mount that keeps at most so many look-ups in the lower layers.
+fn run_keeping(
+    alloc: Global,
+    keys: RandomState,
+    look_ups: usize,
+    manifest: &[u8],
+    script: Option<&[u8]>,
+) -> io::Result<Run>
+    requires { look_ups ≤ 65536 }
+{
     let mut text = Vec::new(alloc);
     let outcome = match script {
-        Some(script) => play(alloc, keys, manifest, script, &mut text),
+        Some(script) => play(alloc, keys, look_ups, manifest, script, &mut text),
         None => show(alloc, keys, manifest, &mut text),
     };
     let refuses_manifest = matches!(&outcome, Err(Fault::Manifest(_)));
@@ -38,16 +74,20 @@ pub fn run_of(
 fn play(
     alloc: Global,
     keys: RandomState,
+    look_ups: usize,
     manifest: &[u8],
     script: &[u8],
     text: &mut Vec<u8>,
-) -> Result<(), Fault> {
+) -> Result<(), Fault>
+    requires { look_ups ≤ 65536 }
+{
     let hooks = hooks_by_slot(alloc)?;
     let mut input = Input::new(script);
     let mut output = Output::new(alloc, text);
-    play_run(
+    play_run_keeping(
         alloc,
         keys,
+        look_ups,
         manifest,
         hooks.as_slice(),
         &mut input,

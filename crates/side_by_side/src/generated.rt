@@ -1,6 +1,6 @@
 // Scripts made by a seeded generator, on the engine and on the slow reference.
 use crate::dice::Dice;
-use crate::engine::run_of;
+use crate::engine::{look_ups_difference, run_of};
 use crate::playing::reference_difference;
 use crate::random_calls::{push_call, push_open_of};
 use crate::random_watches::{push_arm_of, push_watch_call};
@@ -53,7 +53,11 @@ fn script_difference(
     script: &[u8],
 ) -> io::Result<Option<String>> {
     let engine = run_of(alloc, keys, manifest, Some(script))?;
-    let found = reference_difference(alloc, manifest, Some(script), engine.text.as_slice())?;
+    let text = engine.text.as_slice();
+    if let Some(kept) = look_ups_difference(alloc, keys, manifest, script, text)? {
+        return Ok(Some(format!(in alloc; "with {kept} look-ups kept")?));
+    }
+    let found = reference_difference(alloc, manifest, Some(script), text)?;
     Ok(found)
 }
 

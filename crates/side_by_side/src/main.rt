@@ -37,8 +37,9 @@ use std::sync::Wait;
 use std::{fs, io};
 
 /// The files of the rows, each on one subject.
-const FILES: [&str; 17] = [
+const FILES: [&str; 18] = [
     "look_up.rows",
+    "kept.rows",
     "redirects.rows",
     "listings.rows",
     "making_and_removing.rows",

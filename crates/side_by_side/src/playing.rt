@@ -1,7 +1,7 @@
 // A row on the engine, on the slow reference and on a mount that threads share; a script over a
 // manifest on the first two.
 use crate::answers::{attached_line, detached_line, not_attached_line, not_taken_line, reply_line};
-use crate::engine::run_of;
+use crate::engine::{look_ups_difference, run_of};
 use crate::mount::{PlainMount, mount_of};
 use crate::rows::Row;
 use crate::shared::shared_text;
@@ -51,6 +51,9 @@ pub fn judged<R: AllocGlobal + Wait>(
     if engine.refuses_manifest {
         return Ok(Verdict::NoMount);
     }
+    if let Some(found) = kept_difference(alloc, keys, manifest, script, wanted)? {
+        return Ok(Verdict::Differs(found));
+    }
     if let Some(found) = reference_difference(alloc, manifest, script, wanted)? {
         return Ok(Verdict::Differs(found));
     }
@@ -59,6 +62,23 @@ pub fn judged<R: AllocGlobal + Wait>(
         return Ok(Verdict::Differs(format!(in alloc; "a shared mount answers\n{shared}")?));
     }
     Ok(Verdict::Agrees)
+}
+
+// How the answers of the engine differ where it keeps fewer look-ups in the lower layers.
+fn kept_difference(
+    alloc: Global,
+    keys: RandomState,
+    manifest: &[u8],
+    script: Option<&[u8]>,
+    wanted: &[u8],
+) -> io::Result<Option<String>> {
+    let Some(script) = script else {
+        return Ok(None);
+    };
+    match look_ups_difference(alloc, keys, manifest, script, wanted)? {
+        Some(kept) => Ok(Some(format!(in alloc; "the engine differs with {kept} look-ups kept")?)),
+        None => Ok(None),
+    }
 }
 
 /// How the answers of the reference differ from those that are wanted.

@@ -7,16 +7,17 @@ use Rattle.merged_lookup.specs.Merged.{layers_of}
 use Rattle.overlay_core.specs.Mounting.{machine_options, mount_fault}
 use Rattle.overlay_core.specs.Watching.{BeginsWith}
 use Rattle.overlay_core.proofs.Agreeing.{bounded, has-state}
-use Rattle.overlay_core.proofs.mounted.Core.mount.Goals as goal
+use Rattle.overlay_core.proofs.mounted.Core.mount_keeping.Goals as goal
 
 pub invariant_of-result : goal.invariant_of-result
 invariant_of-result g c =
     let w = c.in_ok-watched.watched in
-    let are : AreLayers (layers_of c.in_ok-layers.layers) = rw (c.in_ok-layers.ensures.upper, c.in_ok-layers.ensures.lowers) c.requires.layers in
+    let same : c.keep_look_ups.new.self ≡ c.in_ok-layers.layers = c.keep_look_ups.ensures in
+    let are : AreLayers (layers_of c.keep_look_ups.new.self) = rw (same, c.in_ok-layers.ensures.upper, c.in_ok-layers.ensures.lowers) c.requires.layers in
     let none : mount_fault (vec_len c.args.lowers) c.args.options ≡ None = search rules in
     let begins : BeginsWith w.mount.layers (machine_options c.args.options) w.mount w.notifier = subst (λ (l : Layers). BeginsWith l (machine_options c.args.options) w.mount w.notifier) (sym c.in_ok-watched.ensures.layers) c.in_ok-watched.ensures.begins in
     record {
-      agrees = merely (has-state w.mount w.notifier c.in_ok-layers.layers (machine_options c.args.options) c.in_ok-watched.ensures.layers are begins);
+      agrees = merely (has-state w.mount w.notifier c.keep_look_ups.new.self (machine_options c.args.options) c.in_ok-watched.ensures.layers are begins);
       begins = merely (λ none. begins);
       given = omega (arith, c.in_ok-watched.ensures.first);
       short = bounded (vec_len c.args.lowers) c.args.options none;

@@ -6,7 +6,7 @@ use Rattle.overlay_core.proofs.Agreeing.{bounded}
 use Rattle.overlay_core.proofs.Histories.{first_places}
 use Rattle.ov_server.proofs.Histories.{begun}
 use Rattle.ov_server.proofs.Manifests.{counted, refuses_none, refuses_told}
-use Rattle.ov_server.proofs.play.core_of.Goals as goal
+use Rattle.ov_server.proofs.play.core_keeping.Goals as goal
 
 pub returns-in_err-upper-clause-manifest : goal.returns-in_err-upper-clause-manifest
 returns-in_err-upper-clause-manifest g c =

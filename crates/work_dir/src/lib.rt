@@ -1,0 +1,15 @@
+//! The work directory: the open jobs with the copies that they began, and the step that a call
+//! makes next.
+#![tactic(auto)]
+
+mod limits;
+mod next;
+mod source;
+mod table;
+mod temp;
+
+pub use limits::{BEGINS_MAX, CHUNK, CHUNKS_MAX, FILE_MAX, PLACINGS_MAX, STEPS_MAX};
+pub use next::{Lack, Next, next_after};
+pub use source::Source;
+pub use table::{OpenJob, WorkDir};
+pub use temp::Temp;
