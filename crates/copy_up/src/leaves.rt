@@ -42,7 +42,7 @@ pub fn all_at_once(
         (GainsParents layers.old layers.new (name.now ∷ reverse parents.now))) }
     ensures sound { StaysSound layers.old layers.new }
 {
-    let content = layers.inode_at(place).content.clone()?;
+    let content = layers.content_of(place)?;
     let parent = place_parents(layers, directory, parents)?;
     let dir = parent.top();
     let key = insert_leaf(layers, dir.key, name, content, attributes)?;

@@ -11,3 +11,4 @@ pub mod Searching
 pub mod Respelling
 pub mod Trails
 pub mod Keeping
+pub mod Preparing

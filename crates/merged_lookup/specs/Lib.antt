@@ -9,3 +9,5 @@ pub mod Searching
 pub mod Respelling
 pub mod Trails
 pub mod Kept
+pub mod Lower
+pub mod Prepared

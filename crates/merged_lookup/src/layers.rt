@@ -12,6 +12,7 @@ use crate::crossing::cross_all;
 use crate::descent::{below_upper, copied, enter, roots, topmost};
 use crate::found::{Found, Parent, Topmost};
 use crate::kept::Kept;
+use crate::prepared::Prepared;
 use crate::stack::{Place, Places, Stack};
 use crate::stacked::Stacked;
 use crate::trail::{Trail, trail_past};
@@ -35,8 +36,9 @@ const ROOT_SHOWN: Topmost = Topmost::Directory(Place {
 // The most names of a path on which the trail is followed. On longer ones a crossing costs less than the comparisons.
 const FOLLOWED_MAX: usize = 16;
 
-/// The layers of a mount. Layer 0 is the upper, which takes every change; the lower ones follow, the nearest first. Contracts see them
-/// without the look-ups that are kept.
+/// The layers of a mount. Layer 0 is the upper, which takes every change; the lower ones follow,
+/// the nearest first. Contracts see them without the look-ups that are kept and the bytes that wait
+/// to be placed.
 #[derive(Drop)]
 pub struct Layers {
     pub(crate) stacked: Stacked,
@@ -46,10 +48,12 @@ pub struct Layers {
     // Whether a path of the call that is made now is among them.
     pub(crate) has_kept: bool,
     pub(crate) asked: Asked,
+    // Bytes that wait to be placed.
+    pub(crate) prepared: Option<Prepared>,
 }
 
 impl Model for Layers {
-    ghost use Rattle.std.specs.Prelude.{map};
+    ghost use Rattle.std.specs.Prelude.{map, IfSome};
     ghost use Rattle.layer_tree.specs.Tree.{layer_of};
     ghost use Rattle.merged_lookup.specs.declared.stacked.Stacked.{Stacked};
 
@@ -60,10 +64,12 @@ impl Model for Layers {
     ghost coded = { alone.the_row.coded };
 
     ghost use Rattle.merged_lookup.specs.Kept.{AllKept};
+    ghost use Rattle.merged_lookup.specs.Prepared.{Fits};
 
     ghost view = { λ l. l.stacked };
 
-    ghost invariant = { λ l. AllKept (map layer_of l.stacked.lowers.items) l.kept.entries };
+    ghost invariant = { λ l. AllKept (map layer_of l.stacked.lowers.items) l.kept.entries
+        × IfSome l.prepared (Fits (map layer_of l.stacked.lowers.items)) };
 }
 
 impl Layers {
@@ -102,6 +108,7 @@ impl Layers {
             keeps: true,
             has_kept: false,
             asked,
+            prepared: None,
         })
     }
 

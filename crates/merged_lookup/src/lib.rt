@@ -14,6 +14,7 @@ mod layers;
 mod locate;
 mod onward;
 mod paths;
+mod prepared;
 mod remembered;
 mod spelling;
 mod stack;
@@ -22,5 +23,6 @@ mod trail;
 
 pub use found::{Found, Parent, Topmost};
 pub use layers::{LAYERS_MAX, Layers};
+pub use prepared::Prepared;
 pub use stack::{Place, Stack};
 pub use stacked::Stacked;

@@ -1,7 +1,6 @@
 -- What a handle on a file is of: an inode of the upper, which it sees as it comes to be, or one of a lower layer, as it was when it was
 -- opened for reading alone (overlayfs.rst, "Non-standard behavior").
-use Rattle.std.specs.Prelude.{◌≡◌, ◌↔◌, ℕ, zero, suc, Bool, true, false, cond, nat_eq, List, [], Option, None, Some, slice_get, ◌<◌}
-use Rattle.std.specs.Option.{option_and_then}
+use Rattle.std.specs.Prelude.{◌≡◌, ◌↔◌, ℕ, Bool, true, false, cond, nat_eq, List, [], Option, None, Some, ◌<◌}
 use Rattle.ov_base.specs.declared.attributes.Attributes.{Attributes}
 use Rattle.ov_base.specs.declared.bytes.Content.TheVariants as content
 use Rattle.ov_base.specs.declared.call.OpenFlags.{OpenFlags}
@@ -10,6 +9,7 @@ use Rattle.plain_model.specs.Layers.{Inode, Layer}
 use Rattle.plain_model.specs.Tree.{Node, Leaf, Tree}
 use Rattle.plain_model.specs.Machine.{Live, Frozen, Handle, Table, handle_of}
 use Rattle.merged_lookup.specs.declared.stack.Place.{Place}
+pub use Rattle.merged_lookup.specs.Lower.{lower_inode}
 use Rattle.mount_laws.specs.OpenFiles.{IsLive}
 use Rattle.open_handles.specs.declared.handle.Handle.TheVariants.{File}
 use Rattle.open_handles.specs.declared.open_file.FileSource.{FileSource}
@@ -22,11 +22,6 @@ use Rattle.open_handles.specs.FileHolders.{room}
 use Rattle.open_handles.specs.Listings.{HasRoom}
 use Rattle.mount_calls.specs.declared.clients.Clients.{Clients}
 use Rattle.mount_calls.specs.Attaching.{opened_by}
-
--- an inode of a lower layer, the nearest being 1
-abbrev pub lower_inode : List Layer → ℕ → ℕ → Option Inode
-lower_inode lowers zero k = None
-lower_inode lowers (suc j) k = option_and_then (λ (L : Layer). L.inodes k) (slice_get lowers j)
 
 -- the inode that an open file is
 abbrev pub source_inode : Layer → List Layer → FileSource → Option Inode

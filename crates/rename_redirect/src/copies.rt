@@ -48,13 +48,16 @@ pub(crate) fn link_copy(
 }
 
 // A copy of the file or symbolic link that is shown at a place: what it holds, and its attributes.
-pub(crate) fn copy_of(layers: &Layers, place: Place) -> Result<(Content, Attributes), AllocError>
-    requires { (p : Names) × ShowsInode layers.now p place }
-    ensures { IfOk result (λ copy. (p : Names) → ShowsInode layers.now p place → (i : Inode) × (shows 0 (layers_of layers.now) p ≡ Some (Contents place.layer place.key (Some i))) × (copy.0 ≡ i.content) × (copy.1 ≡ i.attributes)) }
+pub(crate) fn copy_of(
+    layers: &mut Layers,
+    place: Place,
+) -> Result<(Content, Attributes), AllocError>
+    requires { (p : Names) × ShowsInode layers.old p place }
+    ensures same { layers.new ≡ layers.old }
+    ensures copy { IfOk result (λ copy. (p : Names) → ShowsInode layers.old p place → (i : Inode) × (shows 0 (layers_of layers.old) p ≡ Some (Contents place.layer place.key (Some i))) × (copy.0 ≡ i.content) × (copy.1 ≡ i.attributes)) }
 {
-    let inode = layers.inode_at(place);
-    let content = inode.content.clone()?;
-    let attributes = inode.attributes.clone()?;
+    let attributes = layers.inode_at(place).attributes.clone()?;
+    let content = layers.content_of(place)?;
     Ok((content, attributes))
 }
 

@@ -1,9 +1,8 @@
+use Rattle.plain_model.specs.Layers.{Inode}
 use Rattle.rename_redirect.proofs.copies.copy_of.Goals as goal
 
-pub returns : goal.returns
-returns c = λ p shown. (
-  record { content = c.inode_at-inode.result.now.content; attributes = c.inode_at-inode.result.now.attributes; links = c.inode_at-inode.result.now.links },
-  c.inode_at-inode.ensures p shown,
-  c.in_ok-content.ensures.cases,
-  c.in_ok-attributes.ensures.cases,
-)
+pub returns-clause-copy : goal.returns-clause-copy
+returns-clause-copy c = λ p shown.
+    let i : Inode = record { content = c.inode_at.result.now.content; attributes = c.inode_at.result.now.attributes; links = c.inode_at.result.now.links } in
+    let is = c.inode_at.ensures p shown in
+    (i, is, c.in_ok-content.ensures.content p i is, c.in_ok-attributes.ensures.cases)

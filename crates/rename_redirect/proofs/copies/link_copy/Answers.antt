@@ -3,7 +3,9 @@ use Rattle.ov_base.specs.declared.attributes.Attributes.{Attributes}
 use Rattle.ov_base.specs.declared.bytes.Content.{Content}
 use Rattle.plain_model.specs.Layers.{Path, Contents, held, shows}
 use Rattle.layer_tree.specs.Tree.{layer_of}
+use Rattle.merged_lookup.specs.declared.layers.Layers.{Layers}
 use Rattle.merged_lookup.specs.Merged.{layers_of}
+use Rattle.copy_up.specs.Showing.{ShowsSame, ChangesNoSight, Stays}
 use Rattle.copy_up.proofs.Frames.{gains-self}
 use Rattle.copy_up.proofs.Keeping.{on-err, same-self, failed-stays, then-layers}
 use Rattle.rename_redirect.specs.Linking.{CopiesName, GainsBoth, GivesName}
@@ -15,7 +17,9 @@ use Rattle.rename_redirect.proofs.copies.link_copy.Goals as goal
 pub returns-in_err-copy-clause-no_memory : goal.returns-in_err-copy-clause-no_memory
 returns-in_err-copy-clause-no_memory c =
     let l = c.args.layers.now in
-    on-err _ c.from_residual.result (record { shown = same-self l; mount = λ s h. h; beneath = gains-first l l c.args.old.now c.args.new.now (same-self l) (gains-self l c.args.old.now) })
+    on-err _ c.from_residual.result
+    (subst (λ (z : Layers). ChangesNoSight l z (GainsBoth l z c.args.old.now c.args.new.now)) (sym c.copy_of.ensures.same)
+    (record { shown = same-self l; mount = λ s h. h; beneath = gains-first l l c.args.old.now c.args.new.now (same-self l) (gains-self l c.args.old.now) }))
 
 pub insert_in_upper-requires : goal.insert_in_upper-requires
 insert_in_upper-requires c =
@@ -30,15 +34,19 @@ insert_in_upper-requires c =
 
 pub returns-in_err-key-clause-no_memory : goal.returns-in_err-key-clause-no_memory
 returns-in_err-key-clause-no_memory c =
-    let p = c.place_both.ensures in
-    on-err _ c.from_residual-in_err-key.result (fails-both c.args.layers.now c.place_both.new.layers c.insert_in_upper.new.layers p.same p.stays c.insert_in_upper.ensures.lowers c.in_err-key.ensures.unchanged c.in_err-key.ensures.same c.insert_in_upper.ensures.keeps c.args.old.now c.args.new.now p.gains)
+    let same = subst (λ (z : Layers). ShowsSame z c.place_both.new.layers) c.copy_of.ensures.same c.place_both.ensures.same in
+    let stays = subst (λ (z : Layers). Stays z c.place_both.new.layers) c.copy_of.ensures.same c.place_both.ensures.stays in
+    let both = subst (λ (z : Layers). GainsBoth z c.place_both.new.layers c.args.old.now c.args.new.now) c.copy_of.ensures.same c.place_both.ensures.gains in
+    on-err _ c.from_residual-in_err-key.result (fails-both c.args.layers.now c.place_both.new.layers c.insert_in_upper.new.layers same stays c.insert_in_upper.ensures.lowers c.in_err-key.ensures.unchanged c.in_err-key.ensures.same c.insert_in_upper.ensures.keeps c.args.old.now c.args.new.now both)
 
 pub returns-clause-linked : goal.returns-clause-linked
 returns-clause-linked c =
     let l0 = c.args.layers.now in
     let l1 = c.place_both.new.layers in
     let l2 = c.insert_in_upper.new.layers in
-    let p = c.place_both.ensures in
+    let same = subst (λ (z : Layers). ShowsSame z c.place_both.new.layers) c.copy_of.ensures.same c.place_both.ensures.same in
+    let stays = subst (λ (z : Layers). Stays z c.place_both.new.layers) c.copy_of.ensures.same c.place_both.ensures.stays in
+    let both = subst (λ (z : Layers). GainsBoth z c.place_both.new.layers c.args.old.now c.args.new.now) c.copy_of.ensures.same c.place_both.ensures.gains in
     let n = c.in-Some.name.now in
     let t = reverse c.in-Some.field-0-1.now in
     let m = c.in-Some-split_last.further.now in
@@ -46,19 +54,19 @@ returns-clause-linked c =
     let from = c.in_ok-from.ensures.from n t c.in-Some.ensures in
     let onto = c.in_ok-from.ensures.onto m u c.in-Some-split_last.ensures in
     let out = outside-split c.args.layers.now c.args.old.now c.args.new.now n t m u c.in-Some.ensures c.in-Some-split_last.ensures c.args.place.layer c.args.place.key c.requires.shown.inode c.requires.parents c.requires.absent c.requires.shown.shown in
-    let found = c.in_ok-copy.ensures c.args.old.now c.requires.shown in
+    let found = c.in_ok-copy.ensures.copy c.args.old.now c.requires.shown in
     let i = found.0 in
     let s = follows c.args.place.layer c.requires.lower in
-    let shown = sym (ap (shows 0 (layers_of l1)) c.in-Some.ensures) ∙ p.shown (Some i) found.1 ∙ ap (λ j. Some (Contents j c.args.place.key (Some i))) s.1 in
-    let absent = p.same.absent (m ∷ u) (sym (ap (shows 0 (layers_of l0)) c.in-Some-split_last.ensures) ∙ c.requires.absent) in
+    let shown = sym (ap (shows 0 (layers_of l1)) c.in-Some.ensures) ∙ c.place_both.ensures.shown (Some i) (ap (λ (z : Layers). shows 0 (layers_of z) c.args.old.now) c.copy_of.ensures.same ∙ found.1) ∙ ap (λ j. Some (Contents j c.args.place.key (Some i))) s.1 in
+    let absent = same.absent (m ∷ u) (sym (ap (shows 0 (layers_of l0)) c.in-Some-split_last.ensures) ∙ c.requires.absent) in
     let copy = subst (λ (z : Content). CopiesName (layer_of l1.upper) (layer_of l2.upper) (n ∷ t) (m ∷ u) z i.attributes) found.2
     (subst (λ (z : Attributes). CopiesName (layer_of l1.upper) (layer_of l2.upper) (n ∷ t) (m ∷ u) c.in_ok-copy.copy.0 z) found.3
     (c.in_ok-key.ensures.copied t u from onto (λ e. out [] e))) in
     let objects = c.in_ok-key.ensures.objects in
-    let gains = subst (λ (z : Path). GainsBoth l0 l1 z (m ∷ u)) c.in-Some.ensures (subst (GainsBoth l0 l1 c.args.old.now) c.in-Some-split_last.ensures p.gains) in
+    let gains = subst (λ (z : Path). GainsBoth l0 l1 z (m ∷ u)) c.in-Some.ensures (subst (GainsBoth l0 l1 c.args.old.now) c.in-Some-split_last.ensures both) in
     subst (λ (z : Path). GivesName l0 l2 z c.args.new.now) (sym c.in-Some.ensures)
     (subst (λ (z : Path). GivesName l0 l2 (n ∷ t) z) (sym c.in-Some-split_last.ensures)
-    (gives-name l0 l1 l2 p.same p.stays (n ∷ t) (m ∷ u) gains
+    (gives-name l0 l1 l2 same stays (n ∷ t) (m ∷ u) gains
     (copy-name l1 l2 c.insert_in_upper.ensures.lowers c.insert_in_upper.ensures.keeps n t m u s.0 c.args.place.key i shown absent out copy)
     (copy-links l1 l2 c.insert_in_upper.ensures.lowers c.insert_in_upper.ensures.keeps n t m u s.0 c.args.place.key i shown absent out copy)
     (beside-copy l1.upper (layer_of l2.upper) (n ∷ t) (m ∷ u) i.content i.attributes from.free onto.free copy)
@@ -69,7 +77,8 @@ returns-clause-sound c =
     let l0 = c.args.layers.now in
     let l1 = c.place_both.new.layers in
     let l2 = c.insert_in_upper.new.layers in
-    let p = c.place_both.ensures in
+    let same = subst (λ (z : Layers). ShowsSame z c.place_both.new.layers) c.copy_of.ensures.same c.place_both.ensures.same in
+    let stays = subst (λ (z : Layers). Stays z c.place_both.new.layers) c.copy_of.ensures.same c.place_both.ensures.stays in
     let n = c.in-Some.name.now in
     let t = reverse c.in-Some.field-0-1.now in
     let m = c.in-Some-split_last.further.now in
@@ -77,22 +86,21 @@ returns-clause-sound c =
     let from = c.in_ok-from.ensures.from n t c.in-Some.ensures in
     let onto = c.in_ok-from.ensures.onto m u c.in-Some-split_last.ensures in
     let out = outside-split c.args.layers.now c.args.old.now c.args.new.now n t m u c.in-Some.ensures c.in-Some-split_last.ensures c.args.place.layer c.args.place.key c.requires.shown.inode c.requires.parents c.requires.absent c.requires.shown.shown in
-    let found = c.in_ok-copy.ensures c.args.old.now c.requires.shown in
+    let found = c.in_ok-copy.ensures.copy c.args.old.now c.requires.shown in
     let i = found.0 in
     let s = follows c.args.place.layer c.requires.lower in
-    let shown = sym (ap (shows 0 (layers_of l1)) c.in-Some.ensures) ∙ p.shown (Some i) found.1 ∙ ap (λ j. Some (Contents j c.args.place.key (Some i))) s.1 in
-    let absent = p.same.absent (m ∷ u) (sym (ap (shows 0 (layers_of l0)) c.in-Some-split_last.ensures) ∙ c.requires.absent) in
+    let shown = sym (ap (shows 0 (layers_of l1)) c.in-Some.ensures) ∙ c.place_both.ensures.shown (Some i) (ap (λ (z : Layers). shows 0 (layers_of z) c.args.old.now) c.copy_of.ensures.same ∙ found.1) ∙ ap (λ j. Some (Contents j c.args.place.key (Some i))) s.1 in
+    let absent = same.absent (m ∷ u) (sym (ap (shows 0 (layers_of l0)) c.in-Some-split_last.ensures) ∙ c.requires.absent) in
     let copy = subst (λ (z : Content). CopiesName (layer_of l1.upper) (layer_of l2.upper) (n ∷ t) (m ∷ u) z i.attributes) found.2
     (subst (λ (z : Attributes). CopiesName (layer_of l1.upper) (layer_of l2.upper) (n ∷ t) (m ∷ u) c.in_ok-copy.copy.0 z) found.3
     (c.in_ok-key.ensures.copied t u from onto (λ e. out [] e))) in
     record {
-      layers = then-layers l0 l1 l2 p.stays.sound.layers c.insert_in_upper.ensures.lowers c.insert_in_upper.ensures.keeps;
-      thin = λ h. copy-thin l1 l2 c.insert_in_upper.ensures.lowers c.insert_in_upper.ensures.keeps n t m u s.0 c.args.place.key i shown absent out copy (p.stays.sound.thin h);
+      layers = then-layers l0 l1 l2 stays.sound.layers c.insert_in_upper.ensures.lowers c.insert_in_upper.ensures.keeps;
+      thin = λ h. copy-thin l1 l2 c.insert_in_upper.ensures.lowers c.insert_in_upper.ensures.keeps n t m u s.0 c.args.place.key i shown absent out copy (stays.sound.thin h);
     }
 
 pub returns-clause-key : goal.returns-clause-key
 returns-clause-key c =
-    let p = c.place_both.ensures in
     let n = c.in-Some.name.now in
     let t = reverse c.in-Some.field-0-1.now in
     let m = c.in-Some-split_last.further.now in
@@ -104,5 +112,6 @@ returns-clause-key c =
 
 pub returns-in_err-key-clause-sound : goal.returns-in_err-key-clause-sound
 returns-in_err-key-clause-sound c =
-    let p = c.place_both.ensures in
-    (failed-stays c.args.layers.now c.place_both.new.layers c.insert_in_upper.new.layers p.same p.stays c.insert_in_upper.ensures.lowers c.in_err-key.ensures.unchanged c.in_err-key.ensures.same c.insert_in_upper.ensures.keeps).sound
+    let same = subst (λ (z : Layers). ShowsSame z c.place_both.new.layers) c.copy_of.ensures.same c.place_both.ensures.same in
+    let stays = subst (λ (z : Layers). Stays z c.place_both.new.layers) c.copy_of.ensures.same c.place_both.ensures.stays in
+    (failed-stays c.args.layers.now c.place_both.new.layers c.insert_in_upper.new.layers same stays c.insert_in_upper.ensures.lowers c.in_err-key.ensures.unchanged c.in_err-key.ensures.same c.insert_in_upper.ensures.keeps).sound

@@ -1,8 +1,8 @@
-use Rattle.std.proofs.Common.{◌≡◌, ◌<◌, [], ◌∷◌, ℕ, Option, Some, ap, ap₂, ◌∙◌, arith}
+use Rattle.std.proofs.Common.{◌≡◌, ◌<◌, [], ◌∷◌, ℕ, Option, None, Some, ap, ap₂, sym, subst, ◌∙◌, arith}
 use Rattle.ov_base.specs.declared.attributes.Attributes.{Attributes}
 use Rattle.ov_base.specs.declared.bytes.Content.{Content}
-use Rattle.plain_model.specs.Layers.{Path, Contents, Inode, Named, is_directory, held, shows}
-use Rattle.layer_tree.specs.Tree.{Tree, layer_of}
+use Rattle.plain_model.specs.Layers.{Path, Contents, Inode, Named, IsLayer, is_directory, held, shows}
+use Rattle.layer_tree.specs.Tree.{Tree, layer_of, child}
 use Rattle.layer_tree.specs.Move.{left_object}
 use Rattle.layer_tree.specs.declared.node.Object.{Object}
 use Rattle.layer_tree.specs.declared.node.Object.TheVariants as object
@@ -17,7 +17,7 @@ use Rattle.rename_redirect.proofs.Moving.{leads-held, free-held}
 use Rattle.rename_redirect.proofs.Overs.{over-inode, replaces-inode, thin-inode}
 use Rattle.rename_redirect.proofs.Preparing.{Prepared, prepared-own, prepared-leaf, leaf-there}
 use Rattle.rename_redirect.specs.declared.entries.Route.{Route}
-use Rattle.rename_redirect.specs.Routes.{IsMove, MovesNew}
+use Rattle.rename_redirect.specs.Routes.{IsRoute, IsMove, MovesNew}
 use Rattle.rename_redirect.proofs.moves.move_inode.Goals as goal
 
 pub move_in_upper-requires-clause-route : goal.move_in_upper-requires-clause-route
@@ -62,13 +62,19 @@ returns-then-place-eq0-clause-thin c =
     let named = upper-named l (r.name.now ∷ p) c.args.place shown.inode c.if-place-eq0.true shown.shown in
     thin-inode l c.move_in_upper.new.layers l.upper p q r c.in_ok-released.released move c.lawful.ensures.together c.move_in_upper.ensures.lowers c.move_in_upper.ensures.keeps (prepared-own l.upper (lowers_of l) (r.name.now ∷ p)) c.args.place.key named.named (c.in_ok-released.ensures.moved p q move.route)
 
+pub insert_and_move-requires-clause-route : goal.insert_and_move-requires-clause-route
+insert_and_move-requires-clause-route c =
+    (c.requires.goes.0, c.requires.goes.1, subst (λ (z : Layers). IsRoute (layer_of z.upper) c.requires.goes.0 c.requires.goes.1 c.args.route.now) (sym c.copy_of.ensures.same) c.requires.goes.2.route)
+
 pub insert_and_move-requires-clause-free : goal.insert_and_move-requires-clause-free
 insert_and_move-requires-clause-free c =
     let l = c.args.layers.now in
+    let r = c.args.route.now in
     let p = c.requires.goes.0 in
     let shown = c.requires.goes.3 in
-    free-held l.upper p c.requires.goes.1 c.args.route.now c.lawful.ensures.tree c.requires.goes.2.route
-    (lacked l (c.args.route.now.name.now ∷ p) c.args.place.layer c.args.place.key shown.inode shown.shown (omega (arith, c.if-place-eq0.false)))
+    subst (λ (z : Layers). child z.upper r.from r.name.now ≡ None) (sym c.copy_of.ensures.same)
+    (free-held l.upper p c.requires.goes.1 r c.lawful.ensures.tree c.requires.goes.2.route
+    (lacked l (r.name.now ∷ p) c.args.place.layer c.args.place.key shown.inode shown.shown (omega (arith, c.if-place-eq0.false))))
 
 -- the copy that stood ready
 record Copied (l : Layers) (new : Tree) (p q : Path) (r : Route) (key : ℕ) (released : Option ℕ) : Type 0 where
@@ -90,20 +96,30 @@ copied-as l new p q r key released d content a lower i shown one two m =
       there = leaf-there l.upper new (lowers_of l) r.name.now p (r.further.now ∷ q) (object.Inode content a) (left_object r.covered) key released m none i leaf s.0 d.key at;
     }
 
+-- the layers are those before the copy was made
+abbrev Left : Layers → Layers → Type 0
+Left l new = (new.lowers ≡ l.lowers) × (IsLayer (layer_of l.upper) → IsLayer (layer_of new.upper))
+
+left : (c : goal.In_ok-key) → Left c.args.layers.now c.insert_and_move.new.layers
+left c = subst (λ (z : Layers). Left z c.insert_and_move.new.layers) c.copy_of.ensures.same (c.insert_and_move.ensures.lowers, c.insert_and_move.ensures.keeps)
+
 copied : (c : goal.In_ok-key) (p q : Path) → IsMove c.args.layers.now p q c.args.route.now → ShowsInode c.args.layers.now (c.args.route.now.name.now ∷ p) c.args.place → Copied c.args.layers.now c.insert_and_move.new.layers.upper p q c.args.route.now c.in_ok-key.key c.in_ok-key.released
 copied c p q move shown =
     let l = c.args.layers.now in
-    let found = c.in_ok-content.ensures (c.args.route.now.name.now ∷ p) shown in
-    copied-as l c.insert_and_move.new.layers.upper p q c.args.route.now c.in_ok-key.key c.in_ok-key.released c.args.place c.in_ok-content.content c.in_ok-content.attributes (omega (arith, c.if-place-eq0.false)) found.0 found.1 found.2 found.3
-    (c.in_ok-key.ensures.moved p q move.route)
+    let r = c.args.route.now in
+    let made = object.Inode c.in_ok-content.content c.in_ok-content.attributes in
+    let found = c.in_ok-content.ensures.copy (r.name.now ∷ p) shown in
+    let moved = subst (λ (z : Layers). IsRoute (layer_of z.upper) p q r → MovesNew z.upper c.insert_and_move.new.layers.upper (r.name.now ∷ p) (r.further.now ∷ q) made (left_object r.covered) c.in_ok-key.key c.in_ok-key.released) c.copy_of.ensures.same (c.in_ok-key.ensures.moved p q) in
+    copied-as l c.insert_and_move.new.layers.upper p q r c.in_ok-key.key c.in_ok-key.released c.args.place c.in_ok-content.content c.in_ok-content.attributes (omega (arith, c.if-place-eq0.false)) found.0 found.1 found.2 found.3
+    (moved move.route)
 
 pub returns-clause-moved : goal.returns-clause-moved
 returns-clause-moved c = λ p q move shown.
     let l = c.args.layers.now in
     let r = c.args.route.now in
     let x = copied c p q move shown in (
-      over-inode l c.insert_and_move.new.layers x.m.mid p q r c.in_ok-key.released move c.lawful.ensures.together c.insert_and_move.ensures.lowers c.insert_and_move.ensures.keeps x.ready c.in_ok-key.key x.there x.m.moves (ap is_directory shown.shown),
-      replaces-inode l c.insert_and_move.new.layers x.m.mid p q r c.in_ok-key.released move c.lawful.ensures.together c.insert_and_move.ensures.lowers c.insert_and_move.ensures.keeps x.ready c.in_ok-key.key x.there x.m.moves,
+      over-inode l c.insert_and_move.new.layers x.m.mid p q r c.in_ok-key.released move c.lawful.ensures.together (left c).0 (left c).1 x.ready c.in_ok-key.key x.there x.m.moves (ap is_directory shown.shown),
+      replaces-inode l c.insert_and_move.new.layers x.m.mid p q r c.in_ok-key.released move c.lawful.ensures.together (left c).0 (left c).1 x.ready c.in_ok-key.key x.there x.m.moves,
     )
 
 pub returns-clause-key : goal.returns-clause-key
@@ -117,4 +133,4 @@ returns-clause-thin c =
     let p = c.requires.goes.0 in
     let q = c.requires.goes.1 in
     let x = copied c p q c.requires.goes.2 c.requires.goes.3 in
-    thin-inode l c.insert_and_move.new.layers x.m.mid p q c.args.route.now c.in_ok-key.released c.requires.goes.2 c.lawful.ensures.together c.insert_and_move.ensures.lowers c.insert_and_move.ensures.keeps x.ready c.in_ok-key.key x.there x.m.moves
+    thin-inode l c.insert_and_move.new.layers x.m.mid p q c.args.route.now c.in_ok-key.released c.requires.goes.2 c.lawful.ensures.together (left c).0 (left c).1 x.ready c.in_ok-key.key x.there x.m.moves

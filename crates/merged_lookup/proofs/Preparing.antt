@@ -1,0 +1,33 @@
+-- What is shown at a place of a lower layer is what that layer has under its key.
+use Rattle.std.proofs.Common.{◌≡◌, ℕ, zero, suc, List, [], ◌∷◌, Option, Some, refl, sym, ap, ◌∙◌, map}
+use Rattle.std.specs.Option.{option_and_then}
+use Rattle.ov_base.specs.declared.bytes.Content.{Content}
+use Rattle.ov_base.specs.declared.bytes.Content.TheVariants as content
+use Rattle.plain_model.specs.Layers.{Path, Inode, Contents, shows}
+use Rattle.layer_tree.specs.Tree.{Tree, layer_of}
+use Rattle.merged_lookup.specs.declared.layers.Layers.{Layers}
+use Rattle.merged_lookup.specs.Lower.{lower_inode, file_bytes, lower_bytes}
+use Rattle.merged_lookup.specs.Merged.{trees, layers_of, lowers_of}
+use Rattle.merged_lookup.proofs.Looking.{inode_in, inode-shown}
+
+-- the inode of a lower layer is the one at its place
+lower-in : (u : Tree) (ts : List Tree) (j k : ℕ) → lower_inode (map layer_of ts) (suc j) k ≡ inode_in (u ∷ ts) (suc j) k
+lower-in u [] j k = refl
+lower-in u (t ∷ ts) zero k = refl
+lower-in u (t ∷ ts) (suc j) k = lower-in t ts j k
+
+-- and the one that is shown
+pub lower-shown : (l : Layers) (p : Path) (j k : ℕ) (x : Option Inode) → shows 0 (layers_of l) p ≡ Some (Contents (suc j) k x) → lower_inode (lowers_of l) (suc j) k ≡ x
+lower-shown l p j k x h = lower-in l.upper l.lowers.items j k ∙ inode-shown 0 (trees l) (trees l) refl p (suc j) k x h
+
+-- a file with these bytes
+bytes-file : (c : Content) (bytes : List ℕ) → file_bytes c ≡ Some bytes → content.File bytes ≡ c
+bytes-file (content.File b) bytes h = cc
+bytes-file (content.SymbolicLink t) bytes h = cc
+
+-- the bytes of a lower file are what is shown there
+pub bytes-shown : (l : Layers) (p : Path) (j k : ℕ) (bytes : List ℕ) (i : Inode) → lower_bytes (lowers_of l) (record { layer = j; key = k }) ≡ Some bytes →
+    shows 0 (layers_of l) p ≡ Some (Contents j k (Some i)) → content.File bytes ≡ i.content
+bytes-shown l p zero k bytes i has h = cc
+bytes-shown l p (suc j) k bytes i has h =
+    bytes-file i.content bytes (sym (ap (option_and_then (λ (x : Inode). file_bytes x.content)) (lower-shown l p j k (Some i) h)) ∙ has)

@@ -1,0 +1,64 @@
+// Bytes that wait to be placed, and what a file or symbolic link holds.
+ghost use Rattle.std.specs.Prelude.{◌≡◌, Some, IfOk, IfSome};
+ghost use Rattle.plain_model.specs.Layers.{Path, Inode, Contents, shows};
+ghost use Rattle.merged_lookup.specs.Merged.{layers_of, lowers_of, ShowsInode};
+ghost use Rattle.merged_lookup.specs.Lower.{lower_bytes};
+ghost use Rattle.merged_lookup.specs.Prepared.{Fits};
+
+use crate::layers::Layers;
+use crate::stack::Place;
+use ov_base::{Bytes, Content};
+use std::alloc::AllocError;
+
+/// A copy of the bytes of a lower layer's file, and the place of that file.
+#[derive(Drop)]
+pub struct Prepared {
+    pub place: Place,
+    pub bytes: Bytes,
+}
+
+impl Layers {
+    /// Offers a copy of a lower file's bytes, which `content_of` hands over in place of a clone.
+    pub fn offer(&mut self, prepared: Prepared)
+        requires { Fits (lowers_of self.old) prepared }
+        ensures { self.new ≡ self.old }
+    {
+        self.prepared = Some(prepared);
+    }
+
+    /// Drops the bytes that are offered and weren't taken.
+    pub fn withdraw(&mut self)
+        ensures { self.new ≡ self.old }
+    {
+        self.prepared = None;
+    }
+
+    /// What the file or symbolic link shown at a place holds: the bytes that were offered for this
+    /// place, which are moved, or else a clone.
+    pub fn content_of(&mut self, place: Place) -> Result<Content, AllocError>
+        requires { (p : Path) × ShowsInode self.old p place }
+        ensures same { self.new ≡ self.old }
+        ensures content { IfOk result (λ c. (p : Path) (i : Inode) →
+            shows 0 (layers_of self.old) p ≡ Some (Contents place.layer place.key (Some i)) →
+            c ≡ i.content) }
+    {
+        if let Some(bytes) = self.take_offered(place) {
+            return Ok(Content::File(bytes));
+        }
+        let content = self.inode_at(place).content.clone()?;
+        Ok(content)
+    }
+
+    // The bytes that were offered for a place, no longer offered then.
+    fn take_offered(&mut self, place: Place) -> Option<Bytes>
+        ensures same { self.new ≡ self.old }
+        ensures bytes { IfSome result (λ b. lower_bytes (lowers_of self.old) place ≡ Some b) }
+    {
+        let offered = self.prepared.take()?;
+        if offered.place.layer == place.layer && offered.place.key == place.key {
+            return Some(offered.bytes);
+        }
+        self.prepared = Some(offered);
+        None
+    }
+}
