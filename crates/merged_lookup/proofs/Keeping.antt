@@ -8,7 +8,7 @@ use Rattle.std.specs.Map.{lookup}
 use Rattle.std.specs.Global.{Vec}
 use Rattle.lru.specs.LruCache.{LruCache, lru_cache, promoted, put_entries}
 use Rattle.lru.proofs.CallerLemmas.{IsPut, Contains-lookup, Contains-promoted, Contains-put_entries}
-use Rattle.lru.proofs.Splits.{Contains-head}
+use Rattle.lru.proofs.Splits.{Contains-head, Contains-tail}
 use Rattle.ov_base.specs.declared.attributes.Attributes.{Attributes}
 use Rattle.ov_base.specs.declared.errno.Errno.{Errno}
 use Rattle.plain_model.specs.Layers.{Name, Path, Object, Directory, Named, Whiteout, Inode, Layer, held, below, cuts, cut, spell, Shown, Folder, Contents, over, unless, shows, holds_directory, is_directory}
@@ -187,13 +187,12 @@ kept-first Ls (f ∷ entries) key k names e same right =
     let one : f ≡ (key, k) = cc in
     subst (λ ns. IsKept Ls (reverse ns) k) same (right key k (subst (Contains (f ∷ entries)) one (Contains-head f entries)))
 
--- what the one that is asked for shows
-pub kept-asked : (Ls : List Layer) (entries : List (Vec Name × Kept)) (test : Vec Name → Bool) (names : List Name) (r : Option (Bor Kept)) →
-    option_copied r ≡ lookup test entries → ((j : Vec Name) → test j ≡ true → names ≡ j.items) → AllKept Ls entries → IfSome r (λ k. IsKept Ls (reverse names) k.now)
-kept-asked Ls entries test names None e laws right = tt
-kept-asked Ls entries test names (Some k) e laws right =
-    let there = Contains-lookup test entries k.now (sym e) in
-    subst (λ ns. IsKept Ls (reverse ns) k.now) (sym (laws there.0 there.2)) (right there.0 k.now there.1)
+-- and what the one before it shows
+pub kept-second : (Ls : List Layer) (entries : List (Vec Name × Kept)) (f : Vec Name × Kept) (key : Vec Name) (k : Kept) (rest : List (Vec Name × Kept)) (names : List Name) →
+    entries ≡ f ∷ (key, k) ∷ rest → key.items ≡ names → AllKept Ls entries → IsKept Ls (reverse names) k
+kept-second Ls entries f key k rest names e same right =
+    let there : Contains (f ∷ (key, k) ∷ rest) (key, k) = Contains-tail f ((key, k) ∷ rest) (key, k) (Contains-head (key, k) rest) in
+    subst (λ ns. IsKept Ls (reverse ns) k) same (right key k (subst (λ es. Contains es (key, k)) (sym e) there))
 
 -- a key that is equal has the same names
 pub names-of : (names : List Name) (j : Vec Name) → pointwise (pointwise ◌==◌) names j.items ≡ true → names ≡ j.items

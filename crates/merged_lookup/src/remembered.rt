@@ -103,7 +103,7 @@ impl Layers {
         self.keeps && self.kept.put(names, kept).is_ok()
     }
 
-    // What is kept for these names, the most recently used first.
+    // What is kept for these names, where they are among the two that were used last: a call has two paths at most.
     fn kept_at(&self, names: &[Name]) -> Option<&Kept>
         ensures { IfSome result (λ kept. IsKept (lowers_of self.now) (reverse names.now) kept.now) }
     {
@@ -114,7 +114,21 @@ impl Layers {
         if key.as_slice() == names {
             return Some(kept);
         }
-        self.kept.peek(names)
+        self.kept_before(names)
+    }
+
+    // What is kept for these names, where they were used last but one.
+    fn kept_before(&self, names: &[Name]) -> Option<&Kept>
+        ensures { IfSome result (λ kept. IsKept (lowers_of self.now) (reverse names.now) kept.now) }
+    {
+        let mut entries = self.kept.iter();
+        entries.next()?;
+        let (key, kept) = entries.next()?;
+        if key.as_slice() == names {
+            Some(kept)
+        } else {
+            None
+        }
     }
 
     // The merged directory of a path's last name and what it shows, by what is kept.

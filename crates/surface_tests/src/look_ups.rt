@@ -86,6 +86,10 @@ fn an_object_without_a_name_has_no_path(rt: HostRuntime) -> Result<(), Fail> {
         return Err(Fail::from("no file"));
     };
     assert!(rt; upper.node(key).is_some());
-    assert!(rt; Layers::new(alloc, keys, upper, lowers, 1)?.locate(alloc, key)?.is_none());
+    assert!(rt;
+        Layers::new(alloc, keys, upper, lowers, 1)?
+            .locate(alloc, key)?
+            .is_none()
+    );
     Ok(())
 }
