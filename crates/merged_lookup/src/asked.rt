@@ -4,8 +4,8 @@ use ov_base::Name;
 use std::alloc::{AllocError, Global};
 use std::hash::{BuildHasher, FoldHasher, Hasher, RandomState};
 
-// One bit for each path that was asked for, by a hash of its names; two paths may share one. After as many marks as there are words of
-// 64 bits all are taken back, so that few are shared.
+// One bit for each path that was asked for, by a hash of its names; two paths may share one. After
+// as many marks as there are words of 64 bits all are taken back, so that few are shared.
 #[derive(Drop)]
 pub(crate) struct Asked {
     key: u64,
@@ -28,7 +28,8 @@ impl Asked {
         })
     }
 
-    // From now on the table has so many words, if there is memory for them, and no path was asked for.
+    // From now on the table has so many words, if there is memory for them, and no path was asked
+    // for.
     pub(crate) fn resize(&mut self, alloc: Global, words: usize) {
         if let Ok(resized) = Asked::with_key(alloc, self.key, words) {
             *self = resized;

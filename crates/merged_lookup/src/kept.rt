@@ -59,7 +59,8 @@ fn step_by(key: usize, marks: &Marks) -> Step
     }
 }
 
-// The directory that the upper has at the end of these names, or none, where it hands their path down as it is.
+// The directory that the upper has at the end of these names, or none, where it hands their path
+// down as it is.
 pub(crate) fn handed_down(upper: &Layer, names: &[Name]) -> Option<Option<usize>>
     ensures { IfSome result (HandsDown upper.now (reverse names.now)) }
 {
@@ -74,7 +75,8 @@ pub(crate) fn handed_down(upper: &Layer, names: &[Name]) -> Option<Option<usize>
     Some(Some(dir))
 }
 
-// The topmost object at a name: what the upper has in this directory, if it has one, or what the lower layers show.
+// The topmost object at a name: what the upper has in this directory, if it has one, or what the
+// lower layers show.
 pub(crate) fn topmost_over(
     upper: &Layer,
     dir: Option<usize>,

@@ -29,7 +29,8 @@ impl Layers {
     ghost use Rattle.merged_lookup.specs.Merged.{lowers_of, places_at};
     ghost use Rattle.merged_lookup.specs.Kept.{HandsDown, IsKept};
 
-    /// Keeps at most so many look-ups in the lower layers from now on, or with 0 no more than it has.
+    /// Keeps at most so many look-ups in the lower layers from now on, up to 65,536, or with 0 no
+    /// more than it has.
     pub fn keep_look_ups(&mut self, alloc: Global, most: usize)
         requires few_kept { most ≤ 65536 }
         ensures { self.new ≡ self.old }
@@ -42,8 +43,9 @@ impl Layers {
         }
     }
 
-    /// Keeps what the lower layers show at the paths of a call, those that were asked for before, for the look-ups that it makes. It
-    /// keeps nothing where memory runs out, nor of one lower layer alone, which is asked as fast.
+    /// Keeps what the lower layers show at the paths of a call, those that were asked for before,
+    /// for the look-ups that it makes. It keeps nothing where memory runs out, nor of one lower
+    /// layer alone, which is asked as fast.
     pub fn remember(&mut self, alloc: Global, path: &Path, other: Option<&Path>)
         ensures { self.new ≡ self.old }
     {
@@ -66,7 +68,8 @@ impl Layers {
         self.asked.again(path.names()) && self.look_below(alloc, path)
     }
 
-    // Keeps what the lower layers show at a path, where the upper hands it down as it is and there is memory.
+    // Keeps what the lower layers show at a path, where the upper hands it down as it is and there
+    // is memory.
     fn look_below(&mut self, alloc: Global, path: &Path) -> bool
         ensures { self.new ≡ self.old }
     {
@@ -103,7 +106,8 @@ impl Layers {
         self.keeps && self.kept.put(names, kept).is_ok()
     }
 
-    // What is kept for these names, where they are among the two that were used last: a call has two paths at most.
+    // What is kept for these names, where they are among the two that were used last: a call has
+    // two paths at most.
     fn kept_at(&self, names: &[Name]) -> Option<&Kept>
         ensures { IfSome result (λ kept. IsKept (lowers_of self.now) (reverse names.now) kept.now) }
     {
