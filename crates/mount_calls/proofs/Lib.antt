@@ -40,3 +40,5 @@ pub mod Makings
 pub mod CopiedOpens
 pub mod Frames
 pub mod Keys
+pub mod Lacking
+pub mod Judging

@@ -1,0 +1,16 @@
+use Rattle.std.proofs.Common.{None, Some}
+use Rattle.ov_base.specs.declared.call.Call.TheVariants as call
+use Rattle.mount_calls.proofs.Judging.{refuses-unlink, tells-lack, tells-refusal}
+use Rattle.mount_calls.proofs.lacks.Mount.unlink_lack.Goals as goal
+
+pub returns-in-Ok : goal.returns-in-Ok
+returns-in-Ok c = λ client.
+    let m = c.args.self.now in
+    let p = c.args.path.now in
+    tells-lack m client (call.Unlink p) c.lack_on.result (refuses-unlink m client p None c.in-Ok.ensures.allowed) c.lack_on.ensures
+
+pub returns-in-Err : goal.returns-in-Err
+returns-in-Err c = λ client.
+    let m = c.args.self.now in
+    let p = c.args.path.now in
+    tells-refusal m client (call.Unlink p) c.in-Err.errno (refuses-unlink m client p (Some c.in-Err.errno) c.in-Err.ensures.refused)
