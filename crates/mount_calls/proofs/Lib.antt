@@ -40,5 +40,3 @@ pub mod Makings
 pub mod CopiedOpens
 pub mod Frames
 pub mod Keys
-pub mod Lacking
-pub mod Judging

@@ -10,7 +10,6 @@ mod closing;
 mod file_bytes;
 mod file_calls;
 mod files;
-mod lacks;
 mod link_calls;
 mod look;
 mod mount;
@@ -25,7 +24,6 @@ mod write_calls;
 
 pub use attribute_changes::AttributeCall;
 pub use clients::{CLIENTS_MAX, Clients};
-pub use lacks::{law_of_needs, may_lack};
 pub use look::Look;
 pub use mount::Mount;
 pub use open_calls::Judged;

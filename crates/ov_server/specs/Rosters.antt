@@ -35,18 +35,13 @@ is_skipped (b ∷ line) = nat_eq b 35
 abbrev pub command_in : List ℕ → Option Command
 command_in line = cond (is_skipped line) None (command_of line)
 
--- whether a command can be played: the client that it names is attached, or the layer is one of so
--- many; no call is made in steps
+-- whether a command can be played: the client that it names is attached, or the layer is one of so many
 abbrev pub is_good_command : ℕ → Roster → Command → Bool
 is_good_command layers r command.Attach = true
 is_good_command layers r (command.Detach client) = is_attached r client
 is_good_command layers r (command.Call client text) = is_attached r client
-is_good_command layers r (command.Start client text) = false
-is_good_command layers r (command.Step client steps) = false
-is_good_command layers r (command.Drop client) = false
 is_good_command layers r (command.Layer index) = nat_lt index layers
 is_good_command layers r command.Merge = true
-is_good_command layers r command.Work = false
 
 -- whether a line can be played: it does nothing, or is such a command
 abbrev pub is_good : ℕ → Roster → List ℕ → Bool

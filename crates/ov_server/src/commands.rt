@@ -83,12 +83,8 @@ fn play_command<W: Write, F: Callback + Copy, H: Rule>(
         Command::Call { client, call } => {
             put_answer(&called(alloc, core, client, &call)?, output)
         }
-        Command::Start { .. } => Err(LineFault::BadCommand),
-        Command::Step { .. } => Err(LineFault::BadCommand),
-        Command::Drop { .. } => Err(LineFault::BadCommand),
         Command::Layer { index } => put_layer(alloc, core, index, output),
         Command::Merge => put_merge(alloc, core, output),
-        Command::Work => Err(LineFault::BadCommand),
     }
 }
 
