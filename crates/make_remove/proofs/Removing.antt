@@ -198,3 +198,10 @@ rmdir-names l p q n is dir some true tells =
     rmdir-below (layers_of l) p q n true is
     ∙ ap₂ (λ w d. or_else w (or_else (when (not d) errno.ENOTDIR) (Some errno.ENOTEMPTY))) (walk-none (trees l) p dir) dir
 rmdir-names l p q n is dir some false tells = absurd (false≢true (sym (ap is_some (tells some.0)) ∙ some.1))
+
+rmdir-chain-allowed : (r d : Bool) (w : Option Errno) → or_else (when r errno.EBUSY) (or_else w (or_else (when (not d) errno.ENOTDIR) None)) ≡ None → d ≡ true
+rmdir-chain-allowed r d w h = grind arith
+
+-- an rmdir that is not refused is of a directory
+pub rmdir-allowed : (Ls : List Layer) (p : Path) → rmdir_fault Ls p false ≡ None → is_directory (shows 0 Ls p) ≡ true
+rmdir-allowed Ls p h = rmdir-chain-allowed (is_root p) (is_directory (shows 0 Ls p)) (walk_fault Ls p) h

@@ -11,4 +11,4 @@ pub use directories::mkdir;
 pub use freeing::free;
 pub use leaves::{create, symlink};
 pub use objects::vacant;
-pub use removals::{leaf_at, released, rmdir, unlink};
+pub use removals::{leaf_at, released, removable, rmdir, unlink};

@@ -71,11 +71,39 @@ pub fn unlink(
     Ok(key)
 }
 
-/// Removes a directory that shows no name, as rmdir(2). The root is EBUSY; the way is refused as in
-/// `unlink`; a name that shows nothing is ENOENT, one that shows no directory ENOTDIR and a
-/// directory that shows a name ENOTEMPTY. It hands back the key of the upper's directory that went,
-/// which stays until it is freed. A refusal changes nothing, and an allocation failure changes
-/// nothing that is shown.
+/// The merged directory in which the name of a directory stands that shows no name, or why rmdir(2)
+/// refuses it: the root is EBUSY; the way is refused as in `unlink`; a name that shows nothing is
+/// ENOENT, one that shows no directory ENOTDIR and a directory that shows a name ENOTEMPTY.
+pub fn removable(layers: &Layers, path: &Path) -> Result<Stack, Errno>
+    ensures refused { IfErr result (λ e. (full : Bool) →
+        TellsNames (layers_of layers.now) path.now full →
+        rmdir_fault (layers_of layers.now) path.now full ≡ Some e) }
+    ensures refuses { IfErr result (λ e.
+        (s : State) → IsMountOf (layer_of layers.now.upper) (lowers_of layers.now) s → (c : ℕ) →
+        refusal s c (call.Rmdir path.now) ≡ Some e) }
+    ensures allowed { OnOk result (rmdir_fault (layers_of layers.now) path.now false ≡ None) }
+    ensures bare { OnOk result (ShowsNoName (layers_of layers.now) path.now) }
+    ensures directory { IfOk result (λ s. IsStackOf layers.now (parent path.now) s) }
+{
+    let Some(_) = path.split_last() else {
+        return Err(ROOT_REFUSAL);
+    };
+    let (directory, found) = match layers.walk_in(path) {
+        Ok(walked) => walked,
+        Err(errno) => return Err(errno),
+    };
+    let Found::Directory(stack) = found else {
+        return Err(Errno::ENOTDIR);
+    };
+    if shows_names(layers, &stack) {
+        return Err(Errno::ENOTEMPTY);
+    }
+    Ok(directory)
+}
+
+/// Removes a directory that shows no name, as rmdir(2), unless `removable` refuses it. It hands back
+/// the key of the upper's directory that went, which stays until it is freed. A refusal changes
+/// nothing, and an allocation failure changes nothing that is shown.
 pub fn rmdir(layers: &mut Layers, path: &Path) -> Result<Result<Option<usize>, Errno>, AllocError>
     ensures refused { IfOk result (λ r. IfErr r (λ e.
         (full : Bool) → TellsNames (layers_of layers.old) path.now full →
@@ -98,19 +126,13 @@ pub fn rmdir(layers: &mut Layers, path: &Path) -> Result<Result<Option<usize>, E
         (ChangesNoSight layers.old layers.new (GainsParents layers.old layers.new path.now)) }
     ensures sound { StaysSound layers.old layers.new }
 {
-    let Some((name, parents)) = path.split_last() else {
-        return Ok(Err(ROOT_REFUSAL));
-    };
-    let (directory, found) = match layers.walk_in(path) {
-        Ok(walked) => walked,
+    let directory = match removable(layers, path) {
+        Ok(directory) => directory,
         Err(errno) => return Ok(Err(errno)),
     };
-    let Found::Directory(stack) = found else {
-        return Ok(Err(Errno::ENOTDIR));
+    let Some((name, parents)) = path.split_last() else {
+        unreachable!()
     };
-    if shows_names(layers, &stack) {
-        return Ok(Err(Errno::ENOTEMPTY));
-    }
     let key = take_away(layers, directory, parents, name)?;
     Ok(Ok(key))
 }

@@ -1,6 +1,7 @@
 // Where symbolic links lead.
 ghost use Rattle.std.specs.Prelude.{◌≡◌, nat_eq, Ok, IfOk};
 ghost use Rattle.std.specs.List.{list_any};
+ghost use Rattle.std.specs.Result.{result_err};
 ghost use Rattle.ov_base.specs.Targets.{target_of};
 
 use crate::bytes::Bytes;
@@ -44,22 +45,32 @@ pub(crate) fn has_nul(bytes: &[u8]) -> bool
 }
 
 impl LinkTarget {
-    /// The target of these bytes, as symlink(2) takes it: over 4,095 bytes is ENAMETOOLONG, none ENOENT, with a NUL EINVAL.
+    /// Why bytes are no target, as symlink(2) says it: over 4,095 is ENAMETOOLONG, none ENOENT, and
+    /// a NUL EINVAL.
+    pub fn fault(bytes: &[u8]) -> Option<Errno>
+        ensures { result ≡ result_err (target_of bytes.now) }
+    {
+        if bytes.len() > TARGET_MAX {
+            return Some(Errno::ENAMETOOLONG);
+        }
+        if bytes.is_empty() {
+            return Some(Errno::ENOENT);
+        }
+        if has_nul(bytes) {
+            return Some(Errno::EINVAL);
+        }
+        None
+    }
+
+    /// The target of these bytes, unless they have a fault.
     pub fn parse(bytes: Bytes) -> Result<LinkTarget, Errno>
         ensures told { result ≡ target_of bytes }
         ensures same { IfOk result (λ target. target ≡ bytes) }
     {
-        let text = bytes.as_slice();
-        if text.len() > TARGET_MAX {
-            return Err(Errno::ENAMETOOLONG);
+        match LinkTarget::fault(bytes.as_slice()) {
+            Some(errno) => Err(errno),
+            None => Ok(LinkTarget { bytes }),
         }
-        if text.is_empty() {
-            return Err(Errno::ENOENT);
-        }
-        if has_nul(text) {
-            return Err(Errno::EINVAL);
-        }
-        Ok(LinkTarget { bytes })
     }
 
     /// The bytes.

@@ -10,6 +10,6 @@ mod relation;
 mod renames;
 mod seen;
 
-pub use links::link;
-pub use renames::{Renamed, rename};
+pub use links::{link, linkable};
+pub use renames::{Renamed, movable, rename};
 pub use seen::Seen;

@@ -54,11 +54,14 @@ pub fn link(
     Ok(Ok(key))
 }
 
-// What link finds at its two paths: the merged directories in which they stand, and the place of the
-// file or symbolic link that gets a further name; or why it is refused.
-fn linkable(from: Seen, onto: Seen) -> Result<(Stack, Stack, Place), Errno>
-    ensures refused { IfErr result (λ e. (l : LayersOf) (p q : Names) → IsSeen l p from → IsSeen l q onto → link_fault (layers_of l) p q ≡ Some e) }
-    ensures may { IfOk result (λ w. (l : LayersOf) (p q : Names) → IsSeen l p from → IsSeen l q onto → MayLink l p q w.0 w.1 w.2) }
+/// What link finds at its two paths, by what was seen at them: the merged directories in which they
+/// stand, and the place of the file or symbolic link that gets a further name; or why link(2)
+/// refuses it.
+pub fn linkable(from: Seen, onto: Seen) -> Result<(Stack, Stack, Place), Errno>
+    ensures refused { IfErr result (λ e. (l : LayersOf) (p q : Names) →
+        IsSeen l p from → IsSeen l q onto → link_fault (layers_of l) p q ≡ Some e) }
+    ensures may { IfOk result (λ w. (l : LayersOf) (p q : Names) →
+        IsSeen l p from → IsSeen l q onto → MayLink l p q w.0 w.1 w.2) }
 {
     let (directory, top) = match there(from) {
         Ok(shown) => shown,

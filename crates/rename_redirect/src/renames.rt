@@ -91,9 +91,10 @@ pub fn rename(
     Ok(Ok(renamed))
 }
 
-// The merged directory from which a name is to move, what was found there, and the merged directory that it goes to; none where both
-// paths are one object.
-fn movable(
+/// The merged directory from which a name is to move, what was found there, and the merged directory
+/// that it goes to; none where both paths are one object, and else why rename(2) refuses it, judged
+/// by what was seen at the two paths.
+pub fn movable(
     layers: &Layers,
     old: &Path,
     new: &Path,
@@ -103,10 +104,15 @@ fn movable(
 ) -> Result<Option<(Stack, Found, Stack)>, Errno>
     requires from { IsSeen layers.now old.now from }
     requires onto { IsSeen layers.now new.now onto }
-    ensures refused { IfErr result (λ e. IsFaultOf layers.now new.now (rename_fault (layer_of layers.now.upper) (lowers_of layers.now) redirects old.now new.now) e) }
-    ensures one { IfOk result (λ o. o ≡ None → is_one (layer_of layers.now.upper) old.now new.now ≡ true) }
-    ensures fine { OnOk result (rename_fault (layer_of layers.now.upper) (lowers_of layers.now) redirects old.now new.now false ≡ None) }
-    ensures moves { IfOk result (λ o. IfSome o (λ w. MayMove layers.now redirects old.now new.now w.0 w.1 w.2)) }
+    ensures refused { IfErr result (λ e. IsFaultOf layers.now new.now
+        (rename_fault (layer_of layers.now.upper) (lowers_of layers.now) redirects
+        old.now new.now) e) }
+    ensures one { IfOk result (λ o.
+        o ≡ None → is_one (layer_of layers.now.upper) old.now new.now ≡ true) }
+    ensures fine { OnOk result (rename_fault (layer_of layers.now.upper) (lowers_of layers.now)
+        redirects old.now new.now false ≡ None) }
+    ensures moves { IfOk result (λ o.
+        IfSome o (λ w. MayMove layers.now redirects old.now new.now w.0 w.1 w.2)) }
 {
     if old.names().is_empty() || new.names().is_empty() {
         return Err(Errno::EBUSY);
