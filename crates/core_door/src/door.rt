@@ -53,7 +53,7 @@ impl<F: Callback, R: Rule> CoreDoor<F, R> {
         }
         let place = self.core.finished();
         let mut job = Job::new(self.client, call);
-        match self.core.advance(&mut job) {
+        match self.core.complete(&mut job) {
             Turn::Done(reply) => (job.into_call(), Answer::Replied { place, reply }),
             Turn::NoMemory => (job.into_call(), Answer::NotTaken(Errno::ENOMEM)),
             Turn::More => unreachable!(),

@@ -11,8 +11,11 @@ use Rattle.plain_model.proofs.Histories.{legal-push}
 use Rattle.merged_lookup.specs.declared.layers.Layers.{Layers}
 use Rattle.copy_up.specs.Showing.{StaysThin}
 use Rattle.mount_calls.specs.declared.clients.Clients.{Clients}
-use Rattle.mount_calls.specs.Attaching.{is_attached}
-use Rattle.overlay_core.specs.Views.{CoreGoes, CoreStays, core_clients, core_layers, has_client, next_client}
+use Rattle.mount_calls.specs.Attaching.{KeepsAttached, is_attached}
+use Rattle.mount_calls.specs.declared.mount.Mount.{Mount}
+use Rattle.notice_laws.specs.Notified.{Notified}
+use Rattle.overlay_core.specs.Watching.{Stays}
+use Rattle.overlay_core.specs.Views.{CoreGoes, CoreSame, CoreStays, core_clients, core_layers, core_mount, core_watches, has_client, next_client}
 use Rattle.overlay_core.specs.declared.mounted.Core.{Core}
 use Rattle.watch_table.specs.declared.hook.Callback.{Ghosts as Callback}
 use Rattle.watch_table.specs.declared.hook.Rule.{Ghosts as Rule}
@@ -104,3 +107,24 @@ known_push {A} known xs ys is all =
 -- it appends the entry that its receipt claims
 pub appends : {N F G : Type 0} {name : MountName N} {asks : Callback F} {rule : Rule G} (old : Locked N F G name asks rule) {new : Locked N F G name asks rule} (made : Claim) (entry : Kept) (place : ℕ) → made ≡ record { place = place; entry = entry; counted = true } → entries_in new ≡ entries_in old ++ entry ∷ [] → place ≡ length (entries_in old) → CoreGoes (core_in old) entry.client (told entry.deed) (core_in new) → Appends old made new
 appends old {new} made entry place is longer last goes = subst (λ (c : Claim). Appends old c new) (sym is) (record { entries = longer; place = last; counted = refl; goes = goes })
+
+-- ---- a job that is dropped
+
+stays_same : (m n : Mount) (k l : Notified) → n ≡ m → l ≡ k → Stays m k n l
+stays_same m n k l p q s a = rw (p, q) a
+
+module _ {F G : Type 0} {asks : Callback F} {rule : Rule G} (old new : Core F G asks rule) (same : CoreSame old new) where
+  -- each state that agreed agrees still
+  pub same_stays : CoreStays old new
+  same_stays = stays_same (core_mount old) (core_mount new) (core_watches old) (core_watches new) same.mount same.watches
+
+  -- the same clients are attached
+  pub same_clients : KeepsAttached (core_clients old) (core_clients new)
+  same_clients = record {
+    attached = λ n. ap (λ (m : Mount). is_attached m.clients n) same.mount;
+    next = ap (λ (m : Mount). m.clients.next) same.mount;
+  }
+
+  -- the layers are the same
+  pub same_layers : core_layers new ≡ core_layers old
+  same_layers = ap (λ (m : Mount). m.layers) same.mount

@@ -2,7 +2,8 @@
 use Rattle.std.specs.Prelude.{◌≡◌, ℕ, suc, ◌<◌, true, List, count_by}
 use Rattle.plain_model.specs.Runs.{is_of}
 use Rattle.ov_base.specs.declared.call.Call.{Call}
-use Rattle.overlay_core.specs.Views.{core_room, has_client}
+use Rattle.work_dir.specs.OpenJobs as jobs
+use Rattle.overlay_core.specs.Views.{core_room, core_work, has_client}
 use Rattle.overlay_core.specs.declared.job.Standing.TheVariants.{Open}
 use Rattle.overlay_core.specs.declared.mounted.Core.{Core}
 use Rattle.watch_table.specs.declared.hook.Callback.{Ghosts as Callback}
@@ -18,6 +19,11 @@ use Rattle.locked_history.specs.Entries.{history_of}
 abbrev pub IsStill : Pending → ℕ → Call → Type 0
 IsStill (More job room) c call = (job.client ≡ c) × (job.call ≡ call) × (job.standing ≡ Open)
 IsStill (Refused why) c call = Unit {0}
+
+-- no call of the client is on its way
+abbrev pub IsIdle : {F G : Type 0} {asks : Callback F} {rule : Rule G} →
+    Core F G asks rule → ℕ → Type 0
+IsIdle core c = count_by (jobs.is_of c) (core_work core) ≡ 0
 
 module _ {F G : Type 0} {asks : Callback F} {rule : Rule G} (es : List Entry) (core : Core F G asks rule) where
   -- the client is attached, and this is the number of its next entry

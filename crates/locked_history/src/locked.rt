@@ -122,7 +122,8 @@ fn append<N: MountName, H: Wait>(
 impl<N: MountName, F: Callback, R: Rule> Locked<N, F, R> {
     ghost use Rattle.overlay_core.specs.Histories.{attach_refusal};
     ghost use Rattle.locked_history.specs.Claims.{IsAttachOf, IsCallOf, IsDetachOf};
-    ghost use Rattle.locked_history.specs.Steps.{HasPlace, IsCause, IsDue, IsPendingWhere, IsStill};
+    ghost use Rattle.locked_history.specs.Steps.{HasPlace, IsCause, IsDue, IsIdle};
+    ghost use Rattle.locked_history.specs.Steps.{IsPendingWhere, IsStill};
     ghost use Rattle.locked_history.specs.Views.{Appends, LeavesAlone, core_in, entries_in};
 
     // Whether the session's number is that of its client's next entry.
@@ -132,6 +133,15 @@ impl<N: MountName, F: Callback, R: Rule> Locked<N, F, R> {
     {
         self.core.is_attached(session.client)
             && self.numbers[session.client as usize] == session.number
+    }
+
+    // Whether the session is due, and no call of its client is on its way.
+    fn may_leave(&self, session: Session) -> bool
+        ensures { IsTrue result
+            ↔ (IsDue (entries_in self.now) (core_in self.now) session.client session.number
+            × IsIdle (core_in self.now) session.client) }
+    {
+        self.is_due(session) && self.core.open_jobs(session.client) == 0
     }
 
     // Gives the box for the entry of a session's call back, or says why there can be no call.
@@ -191,7 +201,7 @@ impl<N: MountName, F: Callback, R: Rule> Locked<N, F, R> {
         let room = match self.judge(session, room) {
             Ok(room) => room,
             Err(why) => {
-                let _ = self.core.drop_job(job);
+                self.give_up(job);
                 return Err(Pending::Refused(why));
             }
         };
@@ -297,16 +307,17 @@ impl<N: MountName, F: Callback, R: Rule> Locked<N, F, R> {
     ) -> Result<(Vec<Hook<F, R>>, Receipt<N>), Refused>
         requires row { map cell_name row.now ≡ N.cells }
         ensures due { OnOk result (
-            IsDue (entries_in self.old) (core_in self.old) session.client session.number) }
+            IsDue (entries_in self.old) (core_in self.old) session.client session.number
+            × IsIdle (core_in self.old) session.client) }
         ensures made { IfOk result (λ r. Appends self.old r.1 self.new) }
         ensures detach { IfOk result (λ r.
             IsDetachOf r.1.entry session.client session.number) }
         ensures stays { OnErr result (self.new ≡ self.old) }
         ensures refused { IfErr result (λ why. (why ≡ Refused.Session)
             × (IsDue (entries_in self.old) (core_in self.old) session.client session.number
-            → ⊥)) }
+            → IsIdle (core_in self.old) session.client → ⊥)) }
     {
-        if !self.is_due(session) || self.core.open_jobs(session.client) != 0 {
+        if !self.may_leave(session) {
             return Err(Refused::Session);
         }
         let Some(room) = self.boxes[session.client as usize].take() else {

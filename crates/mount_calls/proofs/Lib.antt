@@ -40,3 +40,7 @@ pub mod Makings
 pub mod CopiedOpens
 pub mod Frames
 pub mod Keys
+pub mod Lacking
+pub mod Having
+pub mod Placing
+pub mod Judging

@@ -93,9 +93,13 @@ pub(crate) fn alter_seen(
     Ok(Ok(key))
 }
 
-// What a call changes at a path that was looked at, and the merged directory in which that stands;
-// or why the call is refused. It takes no memory.
-fn judged(layers: &Layers, look: Look, call: &AttributeCall) -> Result<(Stack, Topmost), Errno>
+/// What a call changes at a path that was looked at, and the merged directory in which that stands;
+/// or why the call is refused. It takes no memory.
+pub(crate) fn judged(
+    layers: &Layers,
+    look: Look,
+    call: &AttributeCall,
+) -> Result<(Stack, Topmost), Errno>
     requires { (p : Names) × IsLook layers.now p look }
     ensures { (p : Names) → IsLook layers.now p look → Judges layers.now p call.now result }
 {
@@ -124,8 +128,8 @@ fn target_seen(look: Look) -> Result<(Stack, Topmost), Errno>
     }
 }
 
-// Why a mode isn't one.
-fn mode_fault(bits: u32) -> Option<Errno>
+/// Why a mode isn't one.
+pub(crate) fn mode_fault(bits: u32) -> Option<Errno>
     ensures { result ≡ bad_mode bits }
 {
     match Mode::parse(bits) {

@@ -83,7 +83,7 @@ fn call<F: Callback, A: Rule>(core: &mut Core<F, A>, client: u64, call: Call) ->
         return None.context("not attached");
     }
     let mut job = Job::new(client, call);
-    let turn = core.advance(&mut job);
+    let turn = core.complete(&mut job);
     let _ = job.into_call();
     match turn {
         Turn::Done(reply) => Ok(reply),

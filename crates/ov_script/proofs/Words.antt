@@ -6,7 +6,7 @@ use Rattle.std.proofs.lemmas.Option.{cond_some}
 use Rattle.std.proofs.lemmas.List.Splits.{slice_split_none, slice_split_first, length-slice_split}
 use Rattle.ov_base.proofs.PathLemmas.{none-passes}
 use Rattle.ov_script.specs.Words.{words}
-use Rattle.ov_script.specs.Commands.{call_text, more_words, client_call}
+use Rattle.ov_script.specs.Commands.{call_text, client_words, more_words, steps_of_words}
 
 -- a text without a space is one word
 pub words_one : (text : List ℕ) → None ≡ position (λ b. nat_eq b 32) text → words text ≡ text ∷ []
@@ -31,7 +31,12 @@ pub call_text_long : (name u v w : List ℕ) (all after_u after_v rest : List (L
 call_text_long name u v w all after_u after_v [] e f g some = absurd (some refl)
 call_text_long name u v w all after_u after_v (x ∷ more) e f g some = rw (e, f, g) refl
 
+-- a number of steps has no second word
+pub steps_of_words_long : (w : List ℕ) (all rest : List (List ℕ)) → all ≡ w ∷ rest → (rest ≡ [] → ⊥) → None ≡ steps_of_words all
+steps_of_words_long w all [] e some = absurd (some refl)
+steps_of_words_long w all (x ∷ more) e some = rw e refl
+
 -- a line of three words or more is a client's call
-pub more_words_long : (first second : List ℕ) (all rest : List (List ℕ)) → all ≡ second ∷ rest → (rest ≡ [] → ⊥) → more_words first all ≡ client_call first (call_text second rest)
+pub more_words_long : (first second : List ℕ) (all rest : List (List ℕ)) → all ≡ second ∷ rest → (rest ≡ [] → ⊥) → more_words first all ≡ client_words first second rest
 more_words_long first second all [] e some = absurd (some refl)
 more_words_long first second all (w ∷ rest) e some = rw e refl

@@ -8,10 +8,10 @@ use Rattle.ov_base.specs.declared.call.Call.TheVariants as call
 use Rattle.ov_base.specs.declared.errno.Errno.{Errno}
 use Rattle.ov_script.specs.Escapes.{spelled_word}
 use Rattle.ov_script.specs.Flags.{flags_of}
-use Rattle.ov_script.specs.Numbers.{number_of, mask_of, mode_of, size_of, slot_of, offset_of, watch_of}
+use Rattle.ov_script.specs.Numbers.{number_of, mask_of, mode_of, size_of, slot_of, offset_of, steps_of, watch_of}
 use Rattle.ov_script.specs.Words.{words}
 use Rattle.ov_script.specs.declared.script.Command.{Command}
-use Rattle.ov_script.specs.declared.script.Command.TheVariants.{Attach, Detach, Call as CallOf, Layer, Merge}
+use Rattle.ov_script.specs.declared.script.Command.TheVariants.{Attach, Detach, Call as CallOf, Start, Step, Drop, Layer, Merge, Work}
 use Rattle.ov_script.specs.declared.script.CallText.{CallText}
 use Rattle.ov_script.specs.declared.script.CallText.TheVariants.{Stat, Readlink, Mkdir, Symlink, Link, Rename, Unlink, Rmdir, Open, Read, Write, Seek, Truncate, Fstat, ListNames, Close, Arm, Disarm, TakeNotices}
 use Rattle.ov_script.specs.declared.script.CallText.TheVariants.{Chmod, Chown, SetAttribute, GetAttribute, DeleteAttribute, ListAttributes}
@@ -95,25 +95,56 @@ call_text name (v ∷ w ∷ []) = call_of_two name v w
 call_text name (u ∷ v ∷ w ∷ []) = call_of_three name u v w
 call_text name (u ∷ v ∷ w ∷ x ∷ more) = None
 
--- `attach`, `merge`
+-- `attach`, `merge`, `work`
 abbrev pub one_word : List ℕ → Option Command
-one_word w = if bytes_eq w (codes "attach") then Some Attach else (if bytes_eq w (codes "merge") then Some Merge else None)
+one_word w =
+    if bytes_eq w (codes "attach") then Some Attach
+    else (if bytes_eq w (codes "merge") then Some Merge
+    else (if bytes_eq w (codes "work") then Some Work else None))
 
--- `layer I`, `C detach`
+-- `layer I`, `C detach`, `C step`, which makes one step, `C drop`
 abbrev pub two_words : List ℕ → List ℕ → Option Command
 two_words v w =
     if bytes_eq v (codes "layer") then option_map Layer (number_of 10 w)
-    else (if bytes_eq w (codes "detach") then option_map Detach (number_of 10 v) else None)
+    else (if bytes_eq w (codes "detach") then option_map Detach (number_of 10 v)
+    else (if bytes_eq w (codes "step") then option_map (λ client. Step client 1) (number_of 10 v)
+    else (if bytes_eq w (codes "drop") then option_map Drop (number_of 10 v) else None)))
 
 -- `C CALL`
 abbrev pub client_call : List ℕ → Option CallText → Option Command
 client_call client text = both CallOf (number_of 10 client) text
 
+-- `C start CALL`
+abbrev pub client_start : List ℕ → Option CallText → Option Command
+client_start client text = both Start (number_of 10 client) text
+
+-- `C step N`
+abbrev pub client_steps : List ℕ → Option ℕ → Option Command
+client_steps client steps = both Step (number_of 10 client) steps
+
+-- the call of its name and the words after it
+abbrev pub call_of_words : List (List ℕ) → Option CallText
+call_of_words [] = None
+call_of_words (name ∷ rest) = call_text name rest
+
+-- how many steps one word spells
+abbrev pub steps_of_words : List (List ℕ) → Option ℕ
+steps_of_words [] = None
+steps_of_words (w ∷ []) = steps_of w
+steps_of_words (w ∷ x ∷ more) = None
+
+-- what a client asks for by a word and those after it
+abbrev pub client_words : List ℕ → List ℕ → List (List ℕ) → Option Command
+client_words client name rest =
+    if bytes_eq name (codes "start") then client_start client (call_of_words rest)
+    else (if bytes_eq name (codes "step") then client_steps client (steps_of_words rest)
+    else client_call client (call_text name rest))
+
 -- the command of a word and those after it
 abbrev pub more_words : List ℕ → List (List ℕ) → Option Command
 more_words first [] = one_word first
 more_words first (second ∷ []) = two_words first second
-more_words first (second ∷ w ∷ rest) = client_call first (call_text second (w ∷ rest))
+more_words first (second ∷ w ∷ rest) = client_words first second (w ∷ rest)
 
 -- the command of the words of a line
 abbrev pub command_of_words : List (List ℕ) → Option Command

@@ -60,6 +60,10 @@ negated (suc n) = negsuc n
 abbrev pub size_of : List ℕ → Option ℕ
 size_of digits = spelled_number 10 digits
 
+-- how many steps one decimal digit or more spell, from 1, where they fit 64 bits
+abbrev pub steps_of : List ℕ → Option ℕ
+steps_of digits = go_on (λ n. cond (nat_eq n 0) None (Some n)) (spelled_number 10 digits)
+
 -- the offset that decimal digits spell, of which one `-` may stand in front, where it fits 64 bits with a sign
 abbrev pub offset_of : List ℕ → Option ℤ
 offset_of [] = None

@@ -1,7 +1,7 @@
 // The numbers that words spell.
 ghost use Rattle.std.specs.Prelude.{◌≡◌, ◌≤◌, ◌+◌, ◌^◌, Some, option_map};
 ghost use Rattle.ov_script.specs.Numbers as numbers;
-ghost use Rattle.ov_script.specs.Numbers.{mask_of, mode_of, number_of, offset_of, size_of, slot_of, spelled_number, watch_of};
+ghost use Rattle.ov_script.specs.Numbers.{mask_of, mode_of, number_of, offset_of, size_of, slot_of, spelled_number, steps_of, watch_of};
 
 /// The most digits of a mode.
 const MODE_DIGITS: usize = 6;
@@ -76,6 +76,17 @@ pub fn size(word: &[u8]) -> Option<u64>
     ensures { result ≡ size_of word.now }
 {
     number(word, 10)
+}
+
+/// A number of steps: decimal digits, where it is at least 1 and fits 64 bits.
+pub fn steps(word: &[u8]) -> Option<u64>
+    ensures { result ≡ steps_of word.now }
+{
+    let number = number(word, 10)?;
+    if number == 0 {
+        return None;
+    }
+    Some(number)
 }
 
 /// The offset of a seek: decimal digits, of which one `-` may stand in front, from -9,223,372,036,854,775,808 to

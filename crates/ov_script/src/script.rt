@@ -8,7 +8,7 @@ ghost use Rattle.ov_script.specs.Words.{words};
 
 use crate::escape::EscapedWord;
 use crate::flags::open_flags;
-use crate::numbers::{decimal, mask, octal_mode, offset, size, slot, watch};
+use crate::numbers::{decimal, mask, octal_mode, offset, size, slot, steps, watch};
 use ov_base::OpenFlags;
 
 /// A line that is no command.
@@ -21,8 +21,16 @@ pub enum Command<'a> {
     Attach,
     Detach { client: u32 },
     Call { client: u32, call: CallText<'a> },
+    /// A call that is made in steps. This makes none of them.
+    Start { client: u32, call: CallText<'a> },
+    /// So many steps of the call that was started, at least one.
+    Step { client: u32, steps: u64 },
+    /// The call that was started is dropped.
+    Drop { client: u32 },
     Layer { index: u32 },
     Merge,
+    /// How many temps there are.
+    Work,
 }
 
 /// A call as a line spells it. Its words have their form; whether a path is one is judged later.
@@ -126,6 +134,9 @@ pub enum CallText<'a> {
     },
 }
 
+/// How many steps `step` makes where the line has no number.
+const STEPS_DEFAULT: u64 = 1;
+
 /// The mode of `open` where the line has none.
 const MODE_DEFAULT: u32 = 0o644;
 
@@ -165,6 +176,8 @@ fn one_word<'a>(word: &[u8]) -> Option<Command<'a>>
         Some(Command::Attach)
     } else if word == b"merge".as_slice() {
         Some(Command::Merge)
+    } else if word == b"work".as_slice() {
+        Some(Command::Work)
     } else {
         None
     }
@@ -176,7 +189,7 @@ fn more_words<'a>(first: &[u8], rest: &'a [u8]) -> Option<Command<'a>>
     let (second, rest) = split_word(rest);
     match rest {
         None => two_words(first, second),
-        Some(rest) => client_call(first, second, rest),
+        Some(rest) => client_words(first, second, rest),
     }
 }
 
@@ -189,9 +202,45 @@ fn two_words<'a>(first: &[u8], second: &[u8]) -> Option<Command<'a>>
     } else if second == b"detach".as_slice() {
         let client = decimal(first)?;
         Some(Command::Detach { client })
+    } else if second == b"step".as_slice() {
+        let client = decimal(first)?;
+        let steps = STEPS_DEFAULT;
+        Some(Command::Step { client, steps })
+    } else if second == b"drop".as_slice() {
+        let client = decimal(first)?;
+        Some(Command::Drop { client })
     } else {
         None
     }
+}
+
+// What a client asks for by a word and those after it.
+fn client_words<'a>(client: &[u8], name: &[u8], rest: &'a [u8]) -> Option<Command<'a>>
+    ensures { result ≡ commands.client_words client.now name.now (words rest.now) }
+{
+    if name == b"start".as_slice() {
+        client_start(client, rest)
+    } else if name == b"step".as_slice() {
+        client_steps(client, rest)
+    } else {
+        client_call(client, name, rest)
+    }
+}
+
+fn client_start<'a>(client: &[u8], rest: &'a [u8]) -> Option<Command<'a>>
+    ensures { result ≡ commands.client_start client.now (commands.call_of_words (words rest.now)) }
+{
+    let client = decimal(client)?;
+    let call = call_of_words(rest)?;
+    Some(Command::Start { client, call })
+}
+
+fn client_steps<'a>(client: &[u8], rest: &[u8]) -> Option<Command<'a>>
+    ensures { result ≡ commands.client_steps client.now (commands.steps_of_words (words rest.now)) }
+{
+    let client = decimal(client)?;
+    let steps = steps_of_words(rest)?;
+    Some(Command::Step { client, steps })
 }
 
 fn client_call<'a>(client: &[u8], name: &[u8], rest: &'a [u8]) -> Option<Command<'a>>
@@ -200,6 +249,25 @@ fn client_call<'a>(client: &[u8], name: &[u8], rest: &'a [u8]) -> Option<Command
     let client = decimal(client)?;
     let call = call_text(name, rest)?;
     Some(Command::Call { client, call })
+}
+
+// How many steps a text of one word spells.
+fn steps_of_words(text: &[u8]) -> Option<u64>
+    ensures { result ≡ commands.steps_of_words (words text.now) }
+{
+    let (word, rest) = split_word(text);
+    match rest {
+        None => steps(word),
+        Some(_more) => None,
+    }
+}
+
+// The call of its name and the words after it.
+fn call_of_words<'a>(text: &'a [u8]) -> Option<CallText<'a>>
+    ensures { result ≡ commands.call_of_words (words text.now) }
+{
+    let (name, rest) = split_word(text);
+    call_text(name, rest?)
 }
 
 // The call of a name and the words after it.

@@ -1,4 +1,6 @@
 pub mod Clients
 pub mod Histories
+pub mod JobSteps
 pub mod Manifests
 pub mod Scripts
+pub mod Stages

@@ -9,15 +9,15 @@ use Rattle.std.proofs.lemmas.List.Elements.{All-append, All-nil}
 use Rattle.std.proofs.lemmas.List.Sums.{fails_before_first, passes_at_first, split_at_first}
 use Rattle.std.proofs.lemmas.List.Splits.{slice_split_none, slice_split_at}
 use Rattle.ov_base.proofs.PathLemmas.{none-passes}
-use Rattle.overlay_core.specs.declared.mounted.Core.{Core}
 use Rattle.watch_table.specs.declared.hook.Callback.{Ghosts as Callback}
 use Rattle.watch_table.specs.declared.hook.Rule.{Ghosts as Rule}
 use Rattle.ov_server.specs.declared.fault.DeviceFault.{DeviceFault}
 use Rattle.ov_server.specs.declared.fault.DeviceFault.TheVariants.{Stream, Memory}
 use Rattle.ov_server.specs.declared.play.PlayFault.{PlayFault}
 use Rattle.ov_server.specs.declared.play.PlayFault.TheVariants.{BadLine, Device}
+use Rattle.ov_server.specs.declared.stage.Stage.{Stage}
 use Rattle.ov_server.specs.Devices.{IsInputFault, IsToldBy, Notes, Reads}
-use Rattle.ov_server.specs.Plays.{BeginsOn, EndsBy, GoesOn, IsBadOn, IsLineFault, IsPlayFault, IsPlayed, IsStreamFault, PlaysLine, TellsPlay, layers_in}
+use Rattle.ov_server.specs.Plays.{EndsBy, GoesOn, IsBadOn, IsLineFault, IsPlayFault, IsPlayed, IsRosterOf, IsStreamFault, PlaysLine, TellsPlay, layers_in}
 use Rattle.ov_server.specs.Rosters.{ArePlayed, LineLeaves, Roster, is_good, nobody}
 use Rattle.ov_server.specs.Scripts.{IsBadLine, IsGoodScript, script_lines}
 
@@ -75,7 +75,7 @@ more_played layers [] line r s t p good leaves = rw (← p) (good, (t, (leaves, 
 more_played layers (first ∷ lines) line r s t p good leaves = (p.0, (p.1.0, (p.1.1.0, more_played layers lines line p.1.0 s t p.1.1.1 good leaves)))
 
 -- the line that ends at a line break was played
-pub line_played : {F G : Type 0} {asks : Callback F} {rule : Rule G} (text front after begun : List ℕ) (count : ℕ) (m n : Core F G asks rule) → AtBreak text front after → PlaysLine m (begun ++ front) n → GoesOn text begun count m after [] (count + 1) n
+pub line_played : {F G : Type 0} {asks : Callback F} {rule : Rule G} (text front after begun : List ℕ) (count : ℕ) (m n : Stage F G asks rule) → AtBreak text front after → PlaysLine m (begun ++ front) n → GoesOn text begun count m after [] (count + 1) n
 line_played text front after begun count m n at plays layers script more p =
     let went = plays.leaves p.roster p.stands in record {
       ended = p.ended ++ (begun ++ front) ∷ [];
@@ -93,7 +93,7 @@ line_played text front after begun count m n at plays layers script more p =
     }
 
 -- the line that ends at a line break is bad
-pub line_bad : {F G : Type 0} {asks : Callback F} {rule : Rule G} (text front after begun : List ℕ) (count : ℕ) (m : Core F G asks rule) → AtBreak text front after → IsBadOn m (begun ++ front) → (layers : ℕ) (script more : List ℕ) → IsPlayed layers script (text ++ more) begun count m → IsBadLine layers script (count + 1)
+pub line_bad : {F G : Type 0} {asks : Callback F} {rule : Rule G} (text front after begun : List ℕ) (count : ℕ) (m : Stage F G asks rule) → AtBreak text front after → IsBadOn m (begun ++ front) → (layers : ℕ) (script more : List ℕ) → IsPlayed layers script (text ++ more) begun count m → IsBadLine layers script (count + 1)
 line_bad text front after begun count m at bad layers script more p = record {
   before = p.ended;
   line = begun ++ front;
@@ -109,12 +109,12 @@ line_bad text front after begun count m at bad layers script more p = record {
 }
 
 -- the play ends by the fault of a line
-pub line_fault : {F G : Type 0} {asks : Callback F} {rule : Rule G} (text front after begun : List ℕ) (count : ℕ) (m : Core F G asks rule) (fault : PlayFault) → AtBreak text front after → IsLineFault m (begun ++ front) (count + 1) fault → EndsBy text begun count m fault
+pub line_fault : {F G : Type 0} {asks : Callback F} {rule : Rule G} (text front after begun : List ℕ) (count : ℕ) (m : Stage F G asks rule) (fault : PlayFault) → AtBreak text front after → IsLineFault m (begun ++ front) (count + 1) fault → EndsBy text begun count m fault
 line_fault text front after begun count m (Device f) at h = λ layers script more p. tt
 line_fault text front after begun count m (BadLine told) at h = λ layers script more p. rw h.0 (line_bad text front after begun count m at h.1 layers script more p)
 
 -- a text without a line break goes on with the begun line
-pub line_begun : {F G : Type 0} {asks : Callback F} {rule : Rule G} (text begun : List ℕ) (count : ℕ) (m : Core F G asks rule) → NoBreak text → GoesOn text begun count m [] (begun ++ text) count m
+pub line_begun : {F G : Type 0} {asks : Callback F} {rule : Rule G} (text begun : List ℕ) (count : ℕ) (m : Stage F G asks rule) → NoBreak text → GoesOn text begun count m [] (begun ++ text) count m
 line_begun text begun count m unbroken layers script more p = record {
   ended = p.ended;
   lines = p.lines ∙ ap (λ (t : List ℕ). p.ended ++ script_lines t) (sym (append_assoc begun text more));
@@ -127,28 +127,28 @@ line_begun text begun count m unbroken layers script more p = record {
 }
 
 -- one more line of a text was played
-pub next_line : {F G : Type 0} {asks : Callback F} {rule : Rule G} (from begun_from text begun line after begun_then : List ℕ) (count_from count count_then place : ℕ) (m_from m n : Core F G asks rule) → GoesOn from begun_from count_from m_from text begun count m → Some place ≡ position (λ b. nat_eq b 10) text → line ≡ begun ++ take place text → PlaysLine m line n → after ≡ drop (place + 1) text → begun_then ≡ [] → count_then ≡ count + 1 → GoesOn from begun_from count_from m_from after begun_then count_then n
+pub next_line : {F G : Type 0} {asks : Callback F} {rule : Rule G} (from begun_from text begun line after begun_then : List ℕ) (count_from count count_then place : ℕ) (m_from m n : Stage F G asks rule) → GoesOn from begun_from count_from m_from text begun count m → Some place ≡ position (λ b. nat_eq b 10) text → line ≡ begun ++ take place text → PlaysLine m line n → after ≡ drop (place + 1) text → begun_then ≡ [] → count_then ≡ count + 1 → GoesOn from begun_from count_from m_from after begun_then count_then n
 next_line from begun_from text begun line after begun_then count_from count count_then place m_from m n so_far found is plays rest none next layers script more p =
     rw (rest, none, next) (line_played text (take place text) (drop (place + 1) text) begun count m n (at_break text place found) (rw is at plays) layers script more (so_far layers script more p))
 
 -- a line of a text ended the play
-pub last_line : {F G : Type 0} {asks : Callback F} {rule : Rule G} (from begun_from text begun line : List ℕ) (count_from count place : ℕ) (m_from m : Core F G asks rule) (fault : PlayFault) → GoesOn from begun_from count_from m_from text begun count m → Some place ≡ position (λ b. nat_eq b 10) text → line ≡ begun ++ take place text → IsLineFault m line (count + 1) fault → EndsBy from begun_from count_from m_from fault
+pub last_line : {F G : Type 0} {asks : Callback F} {rule : Rule G} (from begun_from text begun line : List ℕ) (count_from count place : ℕ) (m_from m : Stage F G asks rule) (fault : PlayFault) → GoesOn from begun_from count_from m_from text begun count m → Some place ≡ position (λ b. nat_eq b 10) text → line ≡ begun ++ take place text → IsLineFault m line (count + 1) fault → EndsBy from begun_from count_from m_from fault
 last_line from begun_from text begun line count_from count place m_from m fault so_far found is ends layers script more p =
     line_fault text (take place text) (drop (place + 1) text) begun count m fault (at_break text place found) (rw is at ends) layers script more (so_far layers script more p)
 
 -- what follows the last line break of a text is begun
-pub rest_begun : {F G : Type 0} {asks : Callback F} {rule : Rule G} (from begun_from text begun begun_then : List ℕ) (count_from count : ℕ) (m_from m : Core F G asks rule) → GoesOn from begun_from count_from m_from text begun count m → None ≡ position (λ b. nat_eq b 10) text → begun_then ≡ begun ++ text → GoesOn from begun_from count_from m_from [] begun_then count m
+pub rest_begun : {F G : Type 0} {asks : Callback F} {rule : Rule G} (from begun_from text begun begun_then : List ℕ) (count_from count : ℕ) (m_from m : Stage F G asks rule) → GoesOn from begun_from count_from m_from text begun count m → None ≡ position (λ b. nat_eq b 10) text → begun_then ≡ begun ++ text → GoesOn from begun_from count_from m_from [] begun_then count m
 rest_begun from begun_from text begun begun_then count_from count m_from m so_far none is layers script more p =
     rw is (line_begun text begun count m (no_break text none) layers script more (so_far layers script more p))
 
 -- of a script that is known, what was read is played as far as its lines have ended
-abbrev pub Plays : {F G : Type 0} {asks : Callback F} {rule : Rule G} → ℕ → Option (List ℕ) → Option (List ℕ) → List ℕ → ℕ → Core F G asks rule → Type 0
+abbrev pub Plays : {F G : Type 0} {asks : Callback F} {rule : Rule G} → ℕ → Option (List ℕ) → Option (List ℕ) → List ℕ → ℕ → Stage F G asks rule → Type 0
 Plays layers None left begun count m = Unit {0}
 Plays layers (Some script) None begun count m = ⊥
 Plays layers (Some script) (Some left) begun count m = IsPlayed layers script left begun count m
 
 -- at the beginning nothing was read
-pub plays_none : {F G : Type 0} {asks : Callback F} {rule : Rule G} (script : Option (List ℕ)) (begun : List ℕ) (count : ℕ) (m : Core F G asks rule) → begun ≡ [] → count ≡ 0 → BeginsOn m → Plays (layers_in m) script script begun count m
+pub plays_none : {F G : Type 0} {asks : Callback F} {rule : Rule G} (script : Option (List ℕ)) (begun : List ℕ) (count : ℕ) (m : Stage F G asks rule) → begun ≡ [] → count ≡ 0 → IsRosterOf m nobody → Plays (layers_in m.core) script script begun count m
 plays_none None begun count m none zero begins = tt
 plays_none (Some script) begun count m none zero begins = record {
   ended = [];
@@ -163,35 +163,35 @@ plays_none (Some script) begun count m none zero begins = record {
 
 module _ (layers : ℕ) where
   -- a read that fails leaves all as it was
-  plays_kept : {F G : Type 0} {asks : Callback F} {rule : Rule G} (script before after : Option (List ℕ)) (begun : List ℕ) (count : ℕ) (m : Core F G asks rule) → Keeps before after → Plays layers script before begun count m → Plays layers script after begun count m
+  plays_kept : {F G : Type 0} {asks : Callback F} {rule : Rule G} (script before after : Option (List ℕ)) (begun : List ℕ) (count : ℕ) (m : Stage F G asks rule) → Keeps before after → Plays layers script before begun count m → Plays layers script after begun count m
   plays_kept None before after begun count m kept p = tt
   plays_kept (Some script) None after begun count m kept p = absurd p
   plays_kept (Some script) (Some left) None begun count m kept p = absurd kept
   plays_kept (Some script) (Some left) (Some right) begun count m kept p = rw kept p
 
   -- a piece that was read is played
-  plays_on : {F G : Type 0} {asks : Callback F} {rule : Rule G} (script before after : Option (List ℕ)) (piece begun begun_then : List ℕ) (count count_then : ℕ) (m n : Core F G asks rule) → Consumes before after piece → GoesOn piece begun count m [] begun_then count_then n → Plays layers script before begun count m → Plays layers script after begun_then count_then n
+  plays_on : {F G : Type 0} {asks : Callback F} {rule : Rule G} (script before after : Option (List ℕ)) (piece begun begun_then : List ℕ) (count count_then : ℕ) (m n : Stage F G asks rule) → Consumes before after piece → GoesOn piece begun count m [] begun_then count_then n → Plays layers script before begun count m → Plays layers script after begun_then count_then n
   plays_on None before after piece begun begun_then count count_then m n read on p = tt
   plays_on (Some script) None after piece begun begun_then count count_then m n read on p = absurd p
   plays_on (Some script) (Some left) None piece begun begun_then count count_then m n read on p = absurd read
   plays_on (Some script) (Some left) (Some right) piece begun begun_then count count_then m n read on p = on layers script right (rw read at p)
 
   -- a piece that was read ends the play
-  plays_until : {F G : Type 0} {asks : Callback F} {rule : Rule G} (script before after : Option (List ℕ)) (piece begun : List ℕ) (count : ℕ) (m : Core F G asks rule) (fault : PlayFault) → Consumes before after piece → EndsBy piece begun count m fault → Plays layers script before begun count m → IfSome script (λ s. IsPlayFault layers s fault)
+  plays_until : {F G : Type 0} {asks : Callback F} {rule : Rule G} (script before after : Option (List ℕ)) (piece begun : List ℕ) (count : ℕ) (m : Stage F G asks rule) (fault : PlayFault) → Consumes before after piece → EndsBy piece begun count m fault → Plays layers script before begun count m → IfSome script (λ s. IsPlayFault layers s fault)
   plays_until None before after piece begun count m fault read ends p = tt
   plays_until (Some script) None after piece begun count m fault read ends p = absurd p
   plays_until (Some script) (Some left) None piece begun count m fault read ends p = absurd read
   plays_until (Some script) (Some left) (Some right) piece begun count m fault read ends p = ends layers script right (rw read at p)
 
   -- nothing is left after a read that gives no byte
-  plays_at_end : {F G : Type 0} {asks : Callback F} {rule : Rule G} (script before after : Option (List ℕ)) (begun : List ℕ) (count : ℕ) (m : Core F G asks rule) → Consumes before after [] → IsAtEnd after → Plays layers script before begun count m → Plays layers script (Some []) begun count m
+  plays_at_end : {F G : Type 0} {asks : Callback F} {rule : Rule G} (script before after : Option (List ℕ)) (begun : List ℕ) (count : ℕ) (m : Stage F G asks rule) → Consumes before after [] → IsAtEnd after → Plays layers script before begun count m → Plays layers script (Some []) begun count m
   plays_at_end None before after begun count m read at_end p = tt
   plays_at_end (Some script) None after begun count m read at_end p = absurd p
   plays_at_end (Some script) (Some left) None begun count m read at_end p = absurd read
   plays_at_end (Some script) (Some left) (Some right) begun count m read at_end p = rw (read, at_end) at p
 
   -- the whole script was played
-  pub plays_whole : {F G : Type 0} {asks : Callback F} {rule : Rule G} (script : Option (List ℕ)) (begun : List ℕ) (count : ℕ) (m n : Core F G asks rule) → PlaysLine m begun n → Plays layers script (Some []) begun count m → IfSome script (IsGoodScript layers)
+  pub plays_whole : {F G : Type 0} {asks : Callback F} {rule : Rule G} (script : Option (List ℕ)) (begun : List ℕ) (count : ℕ) (m n : Stage F G asks rule) → PlaysLine m begun n → Plays layers script (Some []) begun count m → IfSome script (IsGoodScript layers)
   plays_whole None begun count m n plays p = tt
   plays_whole (Some script) begun count m n plays p =
       let went = plays.leaves p.roster p.stands in
@@ -199,7 +199,7 @@ module _ (layers : ℕ) where
       (went.0, rw lines (more_played layers p.ended begun nobody p.roster went.0 p.played (rw p.layered at (plays.good p.roster p.stands)) went.1.0))
 
   -- the last line ended the play
-  pub plays_until_end : {F G : Type 0} {asks : Callback F} {rule : Rule G} (script : Option (List ℕ)) (begun : List ℕ) (count : ℕ) (m : Core F G asks rule) (fault : PlayFault) → IsLineFault m begun (count + 1) fault → Plays layers script (Some []) begun count m → IfSome script (λ s. IsPlayFault layers s fault)
+  pub plays_until_end : {F G : Type 0} {asks : Callback F} {rule : Rule G} (script : Option (List ℕ)) (begun : List ℕ) (count : ℕ) (m : Stage F G asks rule) (fault : PlayFault) → IsLineFault m begun (count + 1) fault → Plays layers script (Some []) begun count m → IfSome script (λ s. IsPlayFault layers s fault)
   plays_until_end None begun count m fault h p = tt
   plays_until_end (Some script) begun count m (Device f) h p = tt
   plays_until_end (Some script) begun count m (BadLine told) h p = record {
@@ -219,20 +219,20 @@ module _ (layers : ℕ) where
   device_ends (Some script) fault = tt
 
   -- what was read is played
-  pub read_on : {F G : Type 0} {asks : Callback F} {rule : Rule G} (script before after : Option (List ℕ)) (piece fed begun begun_then : List ℕ) (read count count_then : ℕ) (m n : Core F G asks rule) → Reads before after read piece → fed ≡ take read piece → GoesOn fed begun count m [] begun_then count_then n → Plays layers script before begun count m → Plays layers script after begun_then count_then n
+  pub read_on : {F G : Type 0} {asks : Callback F} {rule : Rule G} (script before after : Option (List ℕ)) (piece fed begun begun_then : List ℕ) (read count count_then : ℕ) (m n : Stage F G asks rule) → Reads before after read piece → fed ≡ take read piece → GoesOn fed begun count m [] begun_then count_then n → Plays layers script before begun count m → Plays layers script after begun_then count_then n
   read_on script before after piece fed begun begun_then read count count_then m n reads is on p = plays_on script before after fed begun begun_then count count_then m n (rw is reads.1) on p
 
   -- what was read ends the play
-  pub read_until : {F G : Type 0} {asks : Callback F} {rule : Rule G} (script before after : Option (List ℕ)) (piece fed begun : List ℕ) (read count : ℕ) (m : Core F G asks rule) (fault : PlayFault) → Reads before after read piece → fed ≡ take read piece → EndsBy fed begun count m fault → Plays layers script before begun count m → IfSome script (λ s. IsPlayFault layers s fault)
+  pub read_until : {F G : Type 0} {asks : Callback F} {rule : Rule G} (script before after : Option (List ℕ)) (piece fed begun : List ℕ) (read count : ℕ) (m : Stage F G asks rule) (fault : PlayFault) → Reads before after read piece → fed ≡ take read piece → EndsBy fed begun count m fault → Plays layers script before begun count m → IfSome script (λ s. IsPlayFault layers s fault)
   read_until script before after piece fed begun read count m fault reads is ends p = plays_until script before after fed begun count m fault (rw is reads.1) ends p
 
   -- a read that gives no byte leaves nothing
-  pub read_end : {F G : Type 0} {asks : Callback F} {rule : Rule G} (script before after : Option (List ℕ)) (piece begun : List ℕ) (read count : ℕ) (m : Core F G asks rule) → Reads before after read piece → read ≡ 0 → Plays layers script before begun count m → Plays layers script (Some []) begun count m
+  pub read_end : {F G : Type 0} {asks : Callback F} {rule : Rule G} (script before after : Option (List ℕ)) (piece begun : List ℕ) (read count : ℕ) (m : Stage F G asks rule) → Reads before after read piece → read ≡ 0 → Plays layers script before begun count m → Plays layers script (Some []) begun count m
   read_end script before after piece begun read count m reads none p =
       plays_at_end script before after begun count m (rw none at reads.1) (reads.2 none) p
 
   -- a read that was interrupted leaves all as it was
-  pub read_kept : {F G : Type 0} {asks : Callback F} {rule : Rule G} (read : Option ℕ) (script before after : Option (List ℕ)) (piece begun : List ℕ) (count : ℕ) (m : Core F G asks rule) → MatchOption read (Keeps before after) (λ n. Reads before after n piece) → ((n : ℕ) → read ≡ Some n → ⊥) → Plays layers script before begun count m → Plays layers script after begun count m
+  pub read_kept : {F G : Type 0} {asks : Callback F} {rule : Rule G} (read : Option ℕ) (script before after : Option (List ℕ)) (piece begun : List ℕ) (count : ℕ) (m : Stage F G asks rule) → MatchOption read (Keeps before after) (λ n. Reads before after n piece) → ((n : ℕ) → read ≡ Some n → ⊥) → Plays layers script before begun count m → Plays layers script after begun count m
   read_kept None script before after piece begun count m kept never p = plays_kept script before after begun count m kept p
   read_kept (Some n) script before after piece begun count m kept never p = absurd (never n refl)
 

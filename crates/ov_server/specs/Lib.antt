@@ -9,3 +9,4 @@ pub mod Plays
 pub mod ProgramHooks
 pub mod Rosters
 pub mod Scripts
+pub mod Stages

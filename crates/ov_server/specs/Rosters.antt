@@ -1,30 +1,54 @@
--- Who is attached, as the lines of a script tell.
-use Rattle.std.specs.Prelude.{◌≡◌, ℕ, ◌+◌, Bool, true, false, not, ◌||◌, List, [], ◌∷◌, Option, None, MatchOption, ◌⊎◌, cond, nat_eq, nat_lt}
+-- Who is attached and who makes a call in steps, as the lines of a script tell.
+use Rattle.std.specs.Prelude.{◌≡◌, ℕ, ◌+◌, Bool, true, false, not, ◌&&◌, ◌||◌, List, [], ◌∷◌, Option, None, MatchOption, Result, Ok, Err, ◌⊎◌, cond, nat_eq, nat_lt}
 use Rattle.std.specs.List.{list_any, filter}
 use Rattle.std.specs.Option.{option_map_or}
-use Rattle.ov_script.specs.Commands.{command_of}
+use Rattle.ov_base.specs.declared.call.Call.{Call}
+use Rattle.ov_base.specs.declared.errno.Errno.{Errno}
+use Rattle.ov_script.specs.Commands.{call_of, command_of}
 use Rattle.ov_script.specs.declared.script.Command.{Command}
 use Rattle.ov_script.specs.declared.script.Command.TheVariants as command
 
--- the clients that are attached, and the number of the next one
+-- the clients that are attached, those whose calls are on their way, and the number of the next one
 pub record Roster : Type 0 where
   pub attached : List ℕ
+  pub calling : List ℕ
   pub next : ℕ
 
 -- at the beginning nobody is attached, and the first number is 0
 abbrev pub nobody : Roster
-nobody = record { attached = []; next = 0 }
+nobody = record { attached = []; calling = []; next = 0 }
+
+-- whether a number is in a list, and the others of it
+abbrev pub has : List ℕ → ℕ → Bool
+has clients client = list_any (nat_eq client) clients
+
+abbrev pub others : ℕ → List ℕ → List ℕ
+others client clients = filter (λ c. not (nat_eq client c)) clients
 
 abbrev pub is_attached : Roster → ℕ → Bool
-is_attached r client = list_any (nat_eq client) r.attached
+is_attached r client = has r.attached client
+
+abbrev pub is_calling : Roster → ℕ → Bool
+is_calling r client = has r.calling client
+
+-- whether a client is attached and has no call on its way
+abbrev pub may_call : Roster → ℕ → Bool
+may_call r client = is_attached r client && not (is_calling r client)
 
 -- the next client is attached
 abbrev pub with_next : Roster → Roster
-with_next r = record { attached = r.next ∷ r.attached; next = r.next + 1 }
+with_next r = record r { attached = r.next ∷ r.attached; next = r.next + 1 }
 
--- a client is detached
+-- a client's call is on its way, and is no more
+abbrev pub with_call : ℕ → Roster → Roster
+with_call client r = record r { calling = client ∷ r.calling }
+
+abbrev pub without_call : ℕ → Roster → Roster
+without_call client r = record r { calling = others client r.calling }
+
+-- a client is detached, and its call goes first
 abbrev pub without : ℕ → Roster → Roster
-without client r = record r { attached = filter (λ c. not (nat_eq client c)) r.attached }
+without client r = record (without_call client r) { attached = others client r.attached }
 
 -- an empty line and a comment do nothing
 abbrev pub is_skipped : List ℕ → Bool
@@ -35,25 +59,38 @@ is_skipped (b ∷ line) = nat_eq b 35
 abbrev pub command_in : List ℕ → Option Command
 command_in line = cond (is_skipped line) None (command_of line)
 
--- whether a command can be played: the client that it names is attached, or the layer is one of so many
+-- whether a command can be played: the client that it names is attached, and has a call on its way
+-- where one is stepped or dropped, and none where one is made; or the layer is one of so many
 abbrev pub is_good_command : ℕ → Roster → Command → Bool
 is_good_command layers r command.Attach = true
 is_good_command layers r (command.Detach client) = is_attached r client
-is_good_command layers r (command.Call client text) = is_attached r client
+is_good_command layers r (command.Call client text) = may_call r client
+is_good_command layers r (command.Start client text) = may_call r client
+is_good_command layers r (command.Step client steps) = is_calling r client
+is_good_command layers r (command.Drop client) = is_calling r client
 is_good_command layers r (command.Layer index) = nat_lt index layers
 is_good_command layers r command.Merge = true
+is_good_command layers r command.Work = true
 
 -- whether a line can be played: it does nothing, or is such a command
 abbrev pub is_good : ℕ → Roster → List ℕ → Bool
 is_good layers r line = is_skipped line || option_map_or (is_good_command layers r) (command_of line) false
 
--- who is attached after a command; an attach may be refused
+-- what a start leaves: no call where the text is refused, else one, unless memory runs out
+abbrev pub StartLeaves : ℕ → Roster → Result Call Errno → Roster → Type 0
+StartLeaves client r (Err errno) s = s ≡ r
+StartLeaves client r (Ok call) s = (s ≡ r) ⊎ (s ≡ with_call client r)
+
+-- what a command leaves; an attach may be refused, and steps may end their call
 abbrev pub CommandLeaves : Roster → Command → Roster → Type 0
 CommandLeaves r command.Attach s = (s ≡ r) ⊎ (s ≡ with_next r)
 CommandLeaves r (command.Detach client) s = s ≡ without client r
+CommandLeaves r (command.Start client text) s = StartLeaves client r (call_of text) s
+CommandLeaves r (command.Step client steps) s = (s ≡ r) ⊎ (s ≡ without_call client r)
+CommandLeaves r (command.Drop client) s = s ≡ without_call client r
 CommandLeaves r _ s = s ≡ r
 
--- who is attached after a line
+-- what a line leaves
 abbrev pub LineLeaves : Roster → List ℕ → Roster → Type 0
 LineLeaves r line s = MatchOption (command_in line) (s ≡ r) (λ command. CommandLeaves r command s)
 

@@ -16,6 +16,12 @@ pub enum Answer {
     Replied { client: u32, reply: Reply },
     /// The call was not made, for its path text or because memory ran out.
     NotTaken { client: u32, errno: Errno },
+    /// The call has steps left.
+    More { client: u32 },
+    /// The call was dropped.
+    Dropped { client: u32 },
+    /// How many temps there are.
+    Work { temps: u64 },
 }
 
 /// The line of an answer, without its line break.
@@ -42,6 +48,9 @@ impl fmt::Display for AnswerLine<'_> {
                 let errno = errno.text();
                 write!(f, "{client} not taken {errno}")
             }
+            Answer::More { client } => write!(f, "{client} more"),
+            Answer::Dropped { client } => write!(f, "{client} dropped"),
+            Answer::Work { temps } => write!(f, "work {temps}"),
         }
     }
 }

@@ -8,6 +8,8 @@ ghost use Rattle.ov_server.specs.Deeds.{AttachGoes, CallGoes, TextGoes};
 ghost use Rattle.overlay_core.specs.Histories as histories;
 ghost use Rattle.overlay_core.specs.Histories.{HasPlaces};
 ghost use Rattle.ov_server.specs.Histories.{AnswersAttach, AnswersCall, call_refusal};
+ghost use Rattle.ov_server.specs.Stages.{IsInOrder, KeepsCalls, KeepsOtherCalls};
+ghost use Rattle.ov_server.specs.declared.answers.Answer.TheVariants as answers;
 ghost use Rattle.ov_server.specs.Rosters as rosters;
 ghost use Rattle.ov_server.specs.Plays as plays;
 ghost use Rattle.ov_server.specs.Plays.{CannotPlay, IsRefusal, PlaysCommand, PlaysLine, TellsLine};
@@ -16,9 +18,11 @@ use crate::answers::{Answer, write_answer};
 use crate::devices::Output;
 use crate::fault::DeviceFault;
 use crate::print_tree::{write_layer, write_merge};
+use crate::stage::Stage;
+use crate::stepping::{answer_of, dropped, started, stepped, temps_of};
 use ov_base::{Call, Errno};
 use ov_script::{BadCommand, CallText, Command, command_of};
-use overlay_core::{Core, Job, Turn};
+use overlay_core::{Core, Job};
 use std::alloc::{AllocError, Global};
 use std::io::Write;
 use watch_table::{Callback, HOOKS_MAX, Hook, Rule};
@@ -33,22 +37,22 @@ pub enum LineFault {
 /// Plays a line on a mount, where each client comes with copies of these hooks, and puts its answer out.
 pub fn play_line<W: Write, F: Callback + Copy, H: Rule>(
     alloc: Global,
-    core: &mut Core<F, H>,
+    stage: &mut Stage<F, H>,
     hooks: &[Hook<F, H>],
     line: &[u8],
     output: &mut Output<W>,
 ) -> Result<(), LineFault>
-    requires { HasPlaces core.old }
-    ensures places { HasPlaces core.new }
-    ensures counted { core_finished core.new ≤ core_finished core.old + 1 }
-    ensures ok { OnOk result (PlaysLine core.old line.now core.new) }
-    ensures err { IfErr result (IsRefusal core.old line.now) }
+    requires { IsInOrder stage.old }
+    ensures order { IsInOrder stage.new }
+    ensures counted { core_finished stage.new.core ≤ core_finished stage.old.core + 1 }
+    ensures ok { OnOk result (PlaysLine stage.old line.now stage.new) }
+    ensures err { IfErr result (IsRefusal stage.old line.now) }
     ensures stream { TellsLine output.old.failed output.new.failed result }
 {
     if is_skipped(line) {
         Ok(())
     } else {
-        play_command(alloc, core, hooks, command_of(line)?, output)
+        play_command(alloc, stage, hooks, command_of(line)?, output)
     }
 }
 
@@ -65,26 +69,46 @@ fn is_skipped(line: &[u8]) -> bool
 // Plays a command and puts its answer out.
 fn play_command<W: Write, F: Callback + Copy, H: Rule>(
     alloc: Global,
-    core: &mut Core<F, H>,
+    stage: &mut Stage<F, H>,
     hooks: &[Hook<F, H>],
     command: Command<'_>,
     output: &mut Output<W>,
 ) -> Result<(), LineFault>
-    requires { HasPlaces core.old }
-    ensures places { HasPlaces core.new }
-    ensures counted { core_finished core.new ≤ core_finished core.old + 1 }
-    ensures ok { OnOk result (PlaysCommand core.old command.entry core.new) }
-    ensures err { IfErr result (plays.IsCommandRefusal core.old command.entry) }
+    requires { IsInOrder stage.old }
+    ensures order { IsInOrder stage.new }
+    ensures counted { core_finished stage.new.core ≤ core_finished stage.old.core + 1 }
+    ensures ok { OnOk result (PlaysCommand stage.old command.entry stage.new) }
+    ensures err { IfErr result (plays.IsCommandRefusal stage.old command.entry) }
     ensures stream { TellsLine output.old.failed output.new.failed result }
 {
     match command {
-        Command::Attach => put_answer(&attached(alloc, core, hooks), output),
-        Command::Detach { client } => put_answer(&detached(core, client)?, output),
+        Command::Attach => put_answer(&attached(alloc, stage, hooks), output),
+        Command::Detach { client } => put_answer(&detached(stage, client)?, output),
         Command::Call { client, call } => {
-            put_answer(&called(alloc, core, client, &call)?, output)
+            put_answer(&called(alloc, stage, client, &call)?, output)
         }
-        Command::Layer { index } => put_layer(alloc, core, index, output),
-        Command::Merge => put_merge(alloc, core, output),
+        Command::Start { client, call } => {
+            put_answer_if_any(started(alloc, stage, client, &call)?, output)
+        }
+        Command::Step { client, steps } => put_answer(&stepped(stage, client, steps)?, output),
+        Command::Drop { client } => put_answer(&dropped(stage, client)?, output),
+        Command::Layer { index } => put_layer(alloc, stage, index, output),
+        Command::Merge => put_merge(alloc, stage, output),
+        Command::Work => put_answer(&temps_of(stage), output),
+    }
+}
+
+// Puts an answer out, where there is one.
+fn put_answer_if_any<W: Write>(
+    answer: Option<Answer>,
+    output: &mut Output<W>,
+) -> Result<(), LineFault>
+    ensures err { IfErr result plays.IsOfDevice }
+    ensures stream { TellsLine output.old.failed output.new.failed result }
+{
+    match answer {
+        Some(answer) => put_answer(&answer, output),
+        None => Ok(()),
     }
 }
 
@@ -99,15 +123,15 @@ fn put_answer<W: Write>(answer: &Answer, output: &mut Output<W>) -> Result<(), L
 
 fn put_layer<W: Write, F: Callback, H: Rule>(
     alloc: Global,
-    core: &Core<F, H>,
+    stage: &Stage<F, H>,
     index: u32,
     output: &mut Output<W>,
 ) -> Result<(), LineFault>
-    ensures ok { OnOk result (PlaysCommand core.now (asked.Layer index) core.now) }
-    ensures err { IfErr result (plays.IsCommandRefusal core.now (asked.Layer index)) }
+    ensures ok { OnOk result (PlaysCommand stage.now (asked.Layer index) stage.now) }
+    ensures err { IfErr result (plays.IsCommandRefusal stage.now (asked.Layer index)) }
     ensures stream { TellsLine output.old.failed output.new.failed result }
 {
-    let Some(layer) = core.layers().layer(index as usize) else {
+    let Some(layer) = stage.core.layers().layer(index as usize) else {
         return Err(LineFault::BadCommand);
     };
     write_layer(alloc, layer, output)?;
@@ -116,32 +140,34 @@ fn put_layer<W: Write, F: Callback, H: Rule>(
 
 fn put_merge<W: Write, F: Callback, H: Rule>(
     alloc: Global,
-    core: &Core<F, H>,
+    stage: &Stage<F, H>,
     output: &mut Output<W>,
 ) -> Result<(), LineFault>
     ensures err { IfErr result plays.IsOfDevice }
     ensures stream { TellsLine output.old.failed output.new.failed result }
 {
-    write_merge(alloc, core.layers(), output)?;
+    write_merge(alloc, stage.core.layers(), output)?;
     Ok(())
 }
 
 fn attached<F: Callback + Copy, H: Rule>(
     alloc: Global,
-    core: &mut Core<F, H>,
+    stage: &mut Stage<F, H>,
     hooks: &[Hook<F, H>],
 ) -> Answer
-    requires { HasPlaces core.old }
-    ensures places { HasPlaces core.new }
-    ensures counted { core_finished core.new ≤ core_finished core.old + 1 }
-    ensures plays { PlaysCommand core.old asked.Attach core.new }
-    ensures answer { AnswersAttach (histories.attach_refusal core.old (length hooks.now))
-        (next_client core.old) result }
+    requires { IsInOrder stage.old }
+    ensures order { IsInOrder stage.new }
+    ensures counted { core_finished stage.new.core ≤ core_finished stage.old.core + 1 }
+    ensures plays { PlaysCommand stage.old asked.Attach stage.new }
+    ensures answer { AnswersAttach (histories.attach_refusal stage.old.core (length hooks.now))
+        (next_client stage.old.core) result }
     ensures refused { (errno : Errno) →
-        histories.attach_refusal core.old (length hooks.now) ≡ Some errno → core.new ≡ core.old }
-    ensures goes { AttachGoes core.old (map (λ h. h.tag) hooks.now) core.new result }
+        histories.attach_refusal stage.old.core (length hooks.now) ≡ Some errno →
+        stage.new ≡ stage.old }
+    ensures goes { AttachGoes stage.old.core (map (λ h. h.tag) hooks.now) stage.new.core result }
+    ensures calls { KeepsCalls stage.old stage.new }
 {
-    if let Some(errno) = attach_refusal(core, hooks.len()) {
+    if let Some(errno) = attach_refusal(&stage.core, hooks.len()) {
         return Answer::NotAttached { errno };
     }
     let Ok(copies) = copies_of(alloc, hooks) else {
@@ -149,7 +175,7 @@ fn attached<F: Callback + Copy, H: Rule>(
             errno: Errno::ENOMEM,
         };
     };
-    match core.attach(copies) {
+    match stage.core.attach(copies) {
         Ok(client) => Answer::Attached { client },
         Err(_) => Answer::NotAttached {
             errno: Errno::ENOMEM,
@@ -187,44 +213,49 @@ fn attach_refusal<F: Callback, H: Rule>(core: &Core<F, H>, hooks: usize) -> Opti
     }
 }
 
+// Detaches a client; its call that is on its way is dropped first.
 fn detached<F: Callback + Drop, H: Rule>(
-    core: &mut Core<F, H>,
+    stage: &mut Stage<F, H>,
     client: u32,
 ) -> Result<Answer, BadCommand>
-    requires { HasPlaces core.old }
-    ensures places { HasPlaces core.new }
-    ensures counted { core_finished core.new ≤ core_finished core.old + 1 }
-    ensures ok { OnOk result (PlaysCommand core.old (asked.Detach client) core.new) }
-    ensures err { OnErr result (CannotPlay core.old (asked.Detach client)) }
-    ensures goes { OnOk result (CoreGoes core.old client runs.Detached core.new) }
-    ensures refused { OnErr result (core.new ≡ core.old) }
+    requires { IsInOrder stage.old }
+    ensures order { IsInOrder stage.new }
+    ensures counted { core_finished stage.new.core ≤ core_finished stage.old.core + 1 }
+    ensures ok { OnOk result (PlaysCommand stage.old (asked.Detach client) stage.new) }
+    ensures err { OnErr result (CannotPlay stage.old (asked.Detach client)) }
+    ensures answer { IfOk result (λ answer. answer ≡ answers.Detached client) }
+    ensures goes { OnOk result (CoreGoes stage.old.core client runs.Detached stage.new.core) }
+    ensures others { KeepsOtherCalls stage.old stage.new client }
+    ensures refused { OnErr result (stage.new ≡ stage.old) }
 {
-    if !core.is_attached(client as u64) {
+    if !stage.core.is_attached(client as u64) {
         return Err(BadCommand);
     }
-    let _ = core.detach(client as u64);
+    stage.drop_call(client as u64);
+    let _ = stage.core.detach(client as u64);
     Ok(Answer::Detached { client })
 }
 
 fn called<F: Callback, H: Rule>(
     alloc: Global,
-    core: &mut Core<F, H>,
+    stage: &mut Stage<F, H>,
     client: u32,
     text: &CallText<'_>,
 ) -> Result<Answer, BadCommand>
-    requires { HasPlaces core.old }
-    ensures places { HasPlaces core.new }
-    ensures counted { core_finished core.new ≤ core_finished core.old + 1 }
-    ensures ok { OnOk result (PlaysCommand core.old (asked.Call client text.now) core.new) }
-    ensures err { OnErr result (CannotPlay core.old (asked.Call client text.now)) }
+    requires { IsInOrder stage.old }
+    ensures order { IsInOrder stage.new }
+    ensures counted { core_finished stage.new.core ≤ core_finished stage.old.core + 1 }
+    ensures ok { OnOk result (PlaysCommand stage.old (asked.Call client text.now) stage.new) }
+    ensures err { OnErr result (CannotPlay stage.old (asked.Call client text.now)) }
     ensures answer { IfOk result (
-        AnswersCall (call_refusal (core_room core.old) (call_of text.now)) client) }
-    ensures goes { IfOk result (TextGoes core.old client (call_of text.now) core.new) }
-    ensures refused { OnErr result (core.new ≡ core.old) }
-    ensures full { core_room core.old ≡ 0 → core.new ≡ core.old }
+        AnswersCall (call_refusal (core_room stage.old.core) (call_of text.now)) client) }
+    ensures goes { IfOk result (TextGoes stage.old.core client (call_of text.now) stage.new.core) }
+    ensures calls { KeepsCalls stage.old stage.new }
+    ensures refused { OnErr result (stage.new ≡ stage.old) }
+    ensures full { core_room stage.old.core ≡ 0 → stage.new ≡ stage.old }
 {
-    if core.is_attached(client as u64) {
-        Ok(call_answer(alloc, core, client, text))
+    if stage.may_call(client as u64) {
+        Ok(call_answer(alloc, &mut stage.core, client, text))
     } else {
         Err(BadCommand)
     }
@@ -276,7 +307,7 @@ fn answer_in_room<F: Callback, H: Rule>(core: &mut Core<F, H>, client: u32, call
     made(core, client, call)
 }
 
-// The answer to a call for which there is a place. It is made in one step.
+// The answer to a call for which there is a place. All its steps are made.
 fn made<F: Callback, H: Rule>(core: &mut Core<F, H>, client: u32, call: Call) -> Answer
     requires attached { has_client core.old client ≡ true }
     requires places { HasPlaces core.old }
@@ -288,16 +319,9 @@ fn made<F: Callback, H: Rule>(core: &mut Core<F, H>, client: u32, call: Call) ->
     ensures goes { CallGoes core.old client call core.new result }
 {
     let mut job = Job::new(client as u64, call);
-    let turn = core.advance(&mut job);
+    let turn = core.complete(&mut job);
     let _ = job.into_call();
-    match turn {
-        Turn::Done(reply) => Answer::Replied { client, reply },
-        Turn::NoMemory => Answer::NotTaken {
-            client,
-            errno: Errno::ENOMEM,
-        },
-        Turn::More => unreachable!(),
-    }
+    answer_of(client, turn)
 }
 
 impl From<BadCommand> for LineFault {

@@ -11,6 +11,8 @@ mod play;
 mod print_tree;
 mod program_hooks;
 mod show;
+mod stage;
+mod stepping;
 
 pub use arguments::{Invocation, command_line};
 pub use devices::{Input, Output};

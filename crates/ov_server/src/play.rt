@@ -4,12 +4,15 @@ ghost use Rattle.overlay_core.specs.Views.{core_finished};
 ghost use Rattle.ov_server.specs.Faults.{AnswersManifest, IsManifestFault, layers_told};
 ghost use Rattle.overlay_core.specs.Histories.{HasPlaces};
 ghost use Rattle.ov_server.specs.Plays as plays;
-ghost use Rattle.ov_server.specs.Plays.{BeginsOn, EndsBy, GoesOn, IsLineFault, IsPlayFault, PlaysLine, TellsPlay, layers_in};
+ghost use Rattle.ov_server.specs.Plays.{BeginsOn, EndsBy, GoesOn, IsLineFault, IsPlayFault, IsRosterOf, PlaysLine, TellsPlay, layers_in};
+ghost use Rattle.ov_server.specs.Rosters.{nobody};
 ghost use Rattle.ov_server.specs.Scripts.{IsGoodScript, IsRunFault, IsStreamFault};
+ghost use Rattle.ov_server.specs.Stages.{IsInOrder};
 
 use crate::commands::{LineFault, play_line};
 use crate::devices::{Input, Output};
 use crate::fault::{DeviceFault, Fault};
+use crate::stage::Stage;
 use ov_wire::manifest_of;
 use overlay_core::{Core, LOOK_UPS_KEPT};
 use std::alloc::{AllocError, Global};
@@ -79,13 +82,15 @@ fn play_on<R: Read, W: Write, F: Callback + Copy, H: Rule>(
     ensures well { OnOk result ((input.new.failed ≡ input.old.failed) × (output.new.failed ≡ output.old.failed)) }
 {
     let mut script = Script {
-        core,
+        stage: Stage::new(alloc, core),
         hooks,
         pending: Vec::new(alloc),
         lines: 0,
         alloc,
     };
-    script.play(input, output)
+    let outcome = script.play(input, output);
+    script.close();
+    outcome
 }
 
 /// The mount of the layers that the bytes of a manifest spell, without a client.
@@ -134,16 +139,15 @@ pub enum PlayFault {
     Device(DeviceFault),
 }
 
-// A script on its way: the mount as the lines before left it, the hooks with which clients come, how many the lines were, and the begun
-// line. Its type keeps that the history of the mount is never longer than it may be.
-#[derive(Drop)]
+// A script on its way: the stage as the lines before left it, the hooks with which clients come, how
+// many the lines were, and the begun line. Its type keeps that the stage is in order.
 struct Script<'h, F: Callback, H: Rule> {
-    core: Core<F, H>,
+    stage: Stage<F, H>,
     hooks: &'h [Hook<F, H>],
     pending: Vec<u8>,
     lines: u64,
     alloc: Global,
-    ghost places: { HasPlaces core },
+    ghost order: { IsInOrder stage },
 }
 
 impl<F: Callback + Copy, H: Rule> Script<'_, F, H> {
@@ -154,9 +158,9 @@ impl<F: Callback + Copy, H: Rule> Script<'_, F, H> {
     ) -> Result<(), PlayFault>
         requires pending { self.old.pending.items ≡ [] }
         requires lines { self.old.lines ≡ 0 }
-        requires core { BeginsOn self.old.core }
-        ensures ok { OnOk result (IfSome (R.remaining input.old.reader) (IsGoodScript (layers_in self.old.core))) }
-        ensures err { IfErr result (λ fault. IfSome (R.remaining input.old.reader) (λ script. IsPlayFault (layers_in self.old.core) script fault)) }
+        requires begins { IsRosterOf self.old.stage nobody }
+        ensures ok { OnOk result (IfSome (R.remaining input.old.reader) (IsGoodScript (layers_in self.old.stage.core))) }
+        ensures err { IfErr result (λ fault. IfSome (R.remaining input.old.reader) (λ script. IsPlayFault (layers_in self.old.stage.core) script fault)) }
         ensures stream { IfErr result (plays.IsStreamFault input.new.failed input.new.reads_left output.new.failed) }
         ensures well { OnOk result ((input.new.failed ≡ input.old.failed) × (output.new.failed ≡ output.old.failed)) }
     {
@@ -178,8 +182,8 @@ impl<F: Callback + Copy, H: Rule> Script<'_, F, H> {
     // Plays the lines that end in a piece and keeps what begins a further one.
     fn feed<W: Write>(&mut self, piece: &[u8], output: &mut Output<W>) -> Result<(), PlayFault>
         requires { self.old.lines + length piece.now < 2 ^ 63 }
-        ensures ok { OnOk result (GoesOn piece.now self.old.pending.items self.old.lines self.old.core [] self.new.pending.items self.new.lines self.new.core) }
-        ensures err { IfErr result (EndsBy piece.now self.old.pending.items self.old.lines self.old.core) }
+        ensures ok { OnOk result (GoesOn piece.now self.old.pending.items self.old.lines self.old.stage [] self.new.pending.items self.new.lines self.new.stage) }
+        ensures err { IfErr result (EndsBy piece.now self.old.pending.items self.old.lines self.old.stage) }
         ensures lines { self.new.lines ≤ self.old.lines + length piece.now }
         ensures stream { TellsPlay output.old.failed output.new.failed result }
     {
@@ -196,8 +200,8 @@ impl<F: Callback + Copy, H: Rule> Script<'_, F, H> {
     // Plays the line that the end of the input ends.
     fn end<W: Write>(&mut self, output: &mut Output<W>) -> Result<(), PlayFault>
         requires { self.old.lines + 1 < 2 ^ 63 }
-        ensures ok { OnOk result (PlaysLine self.old.core self.old.pending.items self.new.core) }
-        ensures err { IfErr result (IsLineFault self.old.core self.old.pending.items (self.old.lines + 1)) }
+        ensures ok { OnOk result (PlaysLine self.old.stage self.old.pending.items self.new.stage) }
+        ensures err { IfErr result (IsLineFault self.old.stage self.old.pending.items (self.old.lines + 1)) }
         ensures stream { TellsPlay output.old.failed output.new.failed result }
     {
         if self.pending.is_empty() {
@@ -210,8 +214,8 @@ impl<F: Callback + Copy, H: Rule> Script<'_, F, H> {
     // Plays the pending line.
     fn line<W: Write>(&mut self, output: &mut Output<W>) -> Result<(), PlayFault>
         requires { self.old.lines + 1 < 2 ^ 63 }
-        ensures ok { OnOk result (PlaysLine self.old.core self.old.pending.items self.new.core) }
-        ensures err { IfErr result (IsLineFault self.old.core self.old.pending.items (self.old.lines + 1)) }
+        ensures ok { OnOk result (PlaysLine self.old.stage self.old.pending.items self.new.stage) }
+        ensures err { IfErr result (IsLineFault self.old.stage self.old.pending.items (self.old.lines + 1)) }
         ensures stream { TellsPlay output.old.failed output.new.failed result }
         ensures pending { self.new.pending.items ≡ [] }
         ensures lines { self.new.lines ≡ self.old.lines + 1 }
@@ -219,7 +223,7 @@ impl<F: Callback + Copy, H: Rule> Script<'_, F, H> {
         self.lines += 1;
         let outcome = play_line(
             self.alloc,
-            &mut self.core,
+            &mut self.stage,
             self.hooks,
             self.pending.as_slice(),
             output,
@@ -230,6 +234,18 @@ impl<F: Callback + Copy, H: Rule> Script<'_, F, H> {
             Err(LineFault::BadCommand) => Err(PlayFault::BadLine { line: self.lines }),
             Err(LineFault::Device(fault)) => Err(PlayFault::Device(fault)),
         }
+    }
+
+    // Gives up the calls that are on their way.
+    fn close(self) {
+        let Script {
+            stage,
+            hooks: _,
+            pending: _,
+            lines: _,
+            alloc: _,
+        } = self;
+        let _ = stage.end();
     }
 }
 

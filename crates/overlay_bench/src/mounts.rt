@@ -89,7 +89,7 @@ pub fn made<F: Callback, R: Rule>(
         return Err(AllocError);
     }
     let mut job = Job::new(client, call);
-    let turn = core.advance(&mut job);
+    let turn = core.complete(&mut job);
     let _ = job.into_call();
     match turn {
         Turn::Done(reply) => Ok(reply),

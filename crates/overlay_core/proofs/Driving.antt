@@ -1,24 +1,22 @@
 -- Runs grow at their end, and what a change of one job makes of counts.
-use Rattle.std.proofs.Common.{arith, ◌≡◌, ℕ, suc, zero, ◌+◌, ◌<◌, ◌≤◌, Bool, true, false, not, ◌&&◌, ◌||◌, ◌⊎◌, inl, inr, List, [], ◌∷◌, ◌++◌, length, get_or, cond, Option, Some, None, refl, sym, ap, subst, ◌∙◌, slice_get, nat_eq, take, option_map}
-use Rattle.mount_calls.proofs.Words.{Call, cases_eq, eq-eqb, list_any, ne_eqb, Reply, State}
+use Rattle.std.proofs.Common.{arith, ◌≡◌, ℕ, suc, zero, ◌+◌, ◌<◌, ◌≤◌, Bool, true, false, ◌&&◌, ◌⊎◌, inl, inr, List, [], ◌∷◌, ◌++◌, length, get_or, cond, Option, Some, None, refl, sym, ap, subst, ◌∙◌, slice_get, nat_eq, nat_lt, take, option_map}
+use Rattle.mount_calls.proofs.Words.{Call, cases_eq, eq-eqb, ne_eqb, Reply, State}
 use Rattle.std.proofs.Math.ListN.{set}
-use Rattle.std.proofs.Math.Bool.{or-false}
-use Rattle.std.proofs.lemmas.List.Folds.{list_any-append}
 use Rattle.std.proofs.lemmas.Option.{same_Some, slice_get-map, slice_get_within}
 use Rattle.std.proofs.lemmas.List.{take_more}
-use Rattle.std.proofs.lemmas.Bool.{and_cases, and_left, and_parts, and_right, cases_Bool, false≢true, or_parts}
+use Rattle.std.proofs.lemmas.Bool.{and_parts, false≢true}
 use Rattle.plain_model.specs.Watching as watching
 use Rattle.plain_model.specs.Runs.{Called, Entry, Does, Run}
 use Rattle.mount_calls.specs.declared.clients.Clients.{Clients}
 use Rattle.overlay_core.specs.declared.job.Job.{Job}
 use Rattle.overlay_core.specs.declared.job.Standing.{Standing}
-use Rattle.overlay_core.specs.declared.job.Standing.TheVariants.{Open, Answered, GivenUp}
+use Rattle.overlay_core.specs.declared.job.Standing.TheVariants.{Open, Answered}
 use Rattle.overlay_core.specs.declared.mounted.Core.{Core}
 use Rattle.overlay_core.specs.Views.{CoreKeeps, CoreStays}
 use Rattle.watch_table.specs.declared.hook.Callback.{Ghosts as Callback}
 use Rattle.watch_table.specs.declared.hook.Rule.{Ghosts as Rule}
 use Rattle.mount_calls.specs.Attaching.{KeepsAttached, is_attached}
-use Rattle.overlay_core.specs.Drives.{call_of, calls_of, AreEntries, Drives, Answers, one_if_open, one_if_answered, open_count, answered, replies_to, asks_for, is_due, is_open, is_over, GivesNoStep, PassesOver}
+use Rattle.overlay_core.specs.Drives.{call_of, calls_of, AreEntries, Drives, Answers, one_if_open, one_if_answered, open_count, answered, replies_to, times, gets, is_due, is_open, GivesNoStep, OpenMakes, PassesOver}
 use Rattle.mount_calls.proofs.Serving.{get-set, get-others}
 
 -- one more entry, and one more deed of a run
@@ -103,49 +101,89 @@ once-set jobs n j k h stood i = grind (arith, cases_eq, set-here, eq-eqb, get-ot
 pub once-done : (jobs : List Job) (n : ℕ) (j k : Job) → slice_get jobs n ≡ Some j → j.standing ≡ Open → k.standing ≡ Answered → (i : ℕ) → answered (set jobs n k) i ≡ answered jobs i + cond (nat_eq n i) 1 0
 once-done jobs n j k h stood done i = once-set jobs n j k h stood i ∙ ap (λ x. answered jobs i + cond (nat_eq n i) (one_if_answered x) 0) done
 
-pub once-none : (jobs : List Job) (n : ℕ) (j k : Job) → slice_get jobs n ≡ Some j → j.standing ≡ Open → k.standing ≡ GivenUp → (i : ℕ) → answered (set jobs n k) i ≡ answered jobs i + 0
-once-none jobs n j k h stood given i = grind (arith, once-set)
+pub once-none : (jobs : List Job) (n : ℕ) (j k : Job) → slice_get jobs n ≡ Some j → j.standing ≡ Open → one_if_answered k.standing ≡ 0 → (i : ℕ) → answered (set jobs n k) i ≡ answered jobs i + 0
+once-none jobs n j k h stood given i =
+    once-set jobs n j k h stood i ∙ ap (λ x. answered jobs i + x) (none (nat_eq n i) (one_if_answered k.standing) given)
+  where
+    none : (b : Bool) (x : ℕ) → x ≡ 0 → cond b x 0 ≡ 0
+    none b x h = grind arith
+
+pub room-same : (jobs : List Job) (n : ℕ) (j k : Job) → slice_get jobs n ≡ Some j → j.standing ≡ Open → k.standing ≡ Open → open_count (set jobs n k) + 0 ≤ open_count jobs
+room-same jobs n j k h stood still =
+    let one : one_if_open j.standing ≡ 1 = ap one_if_open stood in
+    let same : one_if_open k.standing ≡ 1 = ap one_if_open still in
+    omega (arith, open-set jobs n j k h, one, same)
 
 pub room-less : (jobs : List Job) (n : ℕ) (j k : Job) → slice_get jobs n ≡ Some j → j.standing ≡ Open → one_if_open k.standing ≡ 0 → open_count (set jobs n k) + 1 ≤ open_count jobs
 room-less jobs n j k h stood over = let one : one_if_open j.standing ≡ 1 = ap one_if_open stood in omega (arith, open-set jobs n j k h)
 
--- a job that is as it was, as one is that gets no step
-pub passes-same : (clients : Clients) (old new : Option Job) (asked : Bool) →
-    asked && is_due clients old ≡ false → new ≡ old → PassesOver clients old new asked
-passes-same clients old new asked idle same = record {
+-- a job that gets no step is as it was
+still-makes : (clients : Clients) (o : Option Job) (n : ℕ) →
+    nat_lt 0 n && is_due clients o ≡ false → OpenMakes o o (gets clients o n)
+still-makes clients (Some j) n idle =
+    λ still. (still, refl, none (is_open j.standing) (is_attached clients j.client) still idle)
+  where
+    none : (opened there : Bool) → opened ≡ true → nat_lt 0 n && (opened && there) ≡ false →
+        j.steps ≡ j.steps + cond there n 0
+    none opened there is h = grind arith
+still-makes clients None n idle = tt
+
+pub passes-same : (clients : Clients) (old new : Option Job) (n : ℕ) →
+    nat_lt 0 n && is_due clients old ≡ false → new ≡ old → PassesOver clients old new n
+passes-same clients old new n idle same = record {
   skipped = λ h. same;
-  stepped = λ due. absurd (false≢true (sym idle ∙ due));
+  makes = subst (λ o. OpenMakes old o (gets clients old n)) (sym same) (still-makes clients old n idle);
 }
 
 -- before the first step each job is as it was
 pub passes-start : (clients : Clients) (jobs : List Job) (schedule : List ℕ) (i : ℕ) →
-    PassesOver clients (slice_get jobs i) (slice_get jobs i) (asks_for (take 0 schedule) i)
+    PassesOver clients (slice_get jobs i) (slice_get jobs i) (times i (take 0 schedule))
 passes-start clients jobs schedule i =
-    passes-same clients (slice_get jobs i) (slice_get jobs i) false refl refl
+    passes-same clients (slice_get jobs i) (slice_get jobs i) 0 refl refl
 
--- the job of one index gets a step and is over
-pub passes-end : (clients : Clients) (jobs : List Job) (n : ℕ) (j k : Job) →
-    slice_get jobs n ≡ Some j → is_due clients (slice_get jobs n) ≡ true → is_open k.standing ≡ false → (i : ℕ) →
-    PassesOver clients (slice_get jobs i) (slice_get (set jobs n k) i) (nat_eq n i)
-passes-end clients jobs n j k at due over i = by (cases_eq n i)
+-- one step of a job
+makes-one : (clients : Clients) (a b : Option Job) (j k : Job) (n : ℕ) → a ≡ Some j → b ≡ Some k →
+    n ≡ 1 → is_due clients (Some j) ≡ true → k.client ≡ j.client → k.steps ≡ j.steps + 1 →
+    OpenMakes a b (gets clients a n)
+makes-one clients a b j k n is now one due client steps =
+    let there : is_attached clients j.client ≡ true =
+    (and_parts (is_open j.standing) (is_attached clients j.client) due).1 in
+    let opened : is_open j.standing ≡ true =
+    (and_parts (is_open j.standing) (is_attached clients j.client) due).0 in
+    let makes : OpenMakes (Some j) (Some k) (cond (is_attached clients j.client) 1 0) =
+    λ still. (opened, client, steps ∙ ap (λ b. j.steps + cond b 1 0) (sym there)) in
+    rw (is, now, one) makes
+
+-- the job of one index gets a step
+pub passes-step : (clients : Clients) (jobs : List Job) (n : ℕ) (j k : Job) →
+    slice_get jobs n ≡ Some j → is_due clients (slice_get jobs n) ≡ true → k.client ≡ j.client →
+    k.steps ≡ j.steps + 1 → (i : ℕ) →
+    PassesOver clients (slice_get jobs i) (slice_get (set jobs n k) i) (cond (nat_eq n i) 1 0)
+passes-step clients jobs n j k at due client steps i = by (cases_eq n i)
   where
-    asked : nat_eq n n && is_due clients (slice_get jobs n) ≡ true
-    asked = ap (λ b. b && is_due clients (slice_get jobs n)) (eq-eqb n n refl) ∙ due
+    one : ◌≡◌ {A = ℕ} (cond (nat_eq n n) 1 0) 1
+    one = ap (λ b. cond b 1 0) (eq-eqb n n refl)
 
-    here : PassesOver clients (slice_get jobs n) (slice_get (set jobs n k) n) (nat_eq n n)
+    asked : nat_lt 0 (cond (nat_eq n n) 1 0) && is_due clients (slice_get jobs n) ≡ true
+    asked = ap (λ m. nat_lt 0 m && is_due clients (slice_get jobs n)) one ∙ due
+
+    here : PassesOver clients (slice_get jobs n) (slice_get (set jobs n k) n) (cond (nat_eq n n) 1 0)
     here = record {
       skipped = λ idle. absurd (false≢true (sym idle ∙ asked));
-      stepped = λ yes. ap is_over (set-here jobs n j k at) ∙ ap not over;
+      makes = makes-one clients (slice_get jobs n) (slice_get (set jobs n k) n) j k
+          (cond (nat_eq n n) 1 0) at (set-here jobs n j k at) one
+          (ap (is_due clients) (sym at) ∙ due) client steps;
     }
 
     by : (n ≡ i) ⊎ (n ≡ i → ⊥) →
-        PassesOver clients (slice_get jobs i) (slice_get (set jobs n k) i) (nat_eq n i)
+        PassesOver clients (slice_get jobs i) (slice_get (set jobs n k) i) (cond (nat_eq n i) 1 0)
     by (inl is) =
-        subst (λ x. PassesOver clients (slice_get jobs x) (slice_get (set jobs n k) x) (nat_eq n x))
+        subst
+        (λ x. PassesOver clients (slice_get jobs x) (slice_get (set jobs n k) x) (cond (nat_eq n x) 1 0))
         is here
     by (inr other) =
-        passes-same clients (slice_get jobs i) (slice_get (set jobs n k) i) (nat_eq n i)
-        (and_left (nat_eq n i) (is_due clients (slice_get jobs i)) (ne_eqb n i other))
+        passes-same clients (slice_get jobs i) (slice_get (set jobs n k) i) (cond (nat_eq n i) 1 0)
+        (ap (λ b. nat_lt 0 (cond b 1 0) && is_due clients (slice_get jobs i)) (ne_eqb n i other))
         (get-others jobs n i k (λ e. other (sym e)))
 
 -- where the same clients are attached the same jobs get steps
@@ -154,121 +192,113 @@ same-due : (clients between : Clients) (o : Option Job) →
 same-due clients between (Some j) same = ap (λ b. is_open j.standing && b) (same j.client)
 same-due clients between None same = refl
 
--- a job that is over gets no step
-over-idle : (clients : Clients) (o : Option Job) → is_over o ≡ true → is_due clients o ≡ false
-over-idle clients (Some j) over =
-    and_left (is_open j.standing) (is_attached clients j.client) (by (is_open j.standing) over)
+-- steps one after the other
+makes-on : (clients between : Clients) (a b c : Option Job) (p q : ℕ) →
+    ((n : ℕ) → is_attached between n ≡ is_attached clients n) →
+    OpenMakes a b (gets clients a p) → OpenMakes b c (gets between b q) →
+    OpenMakes a c (gets clients a (p + q))
+makes-on clients between (Some x) (Some y) (Some z) p q same h g = λ still.
+    let u = g still in
+    let v = h u.0 in
+    let there : is_attached between y.client ≡ is_attached clients x.client =
+    same y.client ∙ ap (is_attached clients) v.1 in
+    (v.0, u.1 ∙ v.1, sum (is_attached between y.client) (is_attached clients x.client) there u.2 v.2)
   where
-    by : (b : Bool) → not b ≡ true → b ≡ false
-    by true h = absurd (false≢true h)
-    by false h = refl
-over-idle clients None over = refl
+    sum : (s t : Bool) → s ≡ t → z.steps ≡ y.steps + cond s q 0 → y.steps ≡ x.steps + cond t p 0 →
+        z.steps ≡ x.steps + cond t (p + q) 0
+    sum s t e k l = grind arith
+makes-on clients between (Some x) (Some y) None p q same h g = absurd g
+makes-on clients between (Some x) None (Some z) p q same h g = absurd h
+makes-on clients between (Some x) None None p q same h g = absurd h
+makes-on clients between None (Some y) (Some z) p q same h g = absurd h
+makes-on clients between None (Some y) None p q same h g = tt
+makes-on clients between None None (Some z) p q same h g = absurd g
+makes-on clients between None None None p q same h g = tt
 
 -- what two parts of a schedule do to a job, the whole does
-passes-on : (clients between : Clients) (a b c : Option Job) (p q : Bool) →
+passes-on : (clients between : Clients) (a b c : Option Job) (p q : ℕ) →
     ((n : ℕ) → is_attached between n ≡ is_attached clients n) →
-    PassesOver clients a b p → PassesOver between b c q → PassesOver clients a c (p || q)
+    PassesOver clients a b p → PassesOver between b c q → PassesOver clients a c (p + q)
 passes-on clients between a b c p q same h g = record {
-  skipped = λ idle. skip (and_cases (p || q) (is_due clients a) idle);
-  stepped = λ due.
-      let parts = and_parts (p || q) (is_due clients a) due in
-      step (cases_Bool p) parts.0 parts.1;
+  skipped = λ idle. skip idle;
+  makes = makes-on clients between a b c p q same h.makes g.makes;
 }
   where
-    -- a job that the first part leaves gets a step in the second as it did before
-    still : b ≡ a → is_due between b ≡ is_due clients a
-    still is = ap (is_due between) is ∙ same-due clients between a same
+    first : (due : Bool) → nat_lt 0 (p + q) && due ≡ false → nat_lt 0 p && due ≡ false
+    first due idle = grind arith
 
-    skip : ((p || q) ≡ false) ⊎ (is_due clients a ≡ false) → c ≡ a
-    skip (inl none) =
-        let parts = or_parts p q none in
-        g.skipped (and_left q (is_due between b) parts.1)
-        ∙ h.skipped (and_left p (is_due clients a) parts.0)
-    skip (inr idle) =
-        let is = h.skipped (and_right p (is_due clients a) idle) in
-        g.skipped (and_right q (is_due between b) (still is ∙ idle)) ∙ is
+    second : (due : Bool) → nat_lt 0 (p + q) && due ≡ false → nat_lt 0 q && due ≡ false
+    second due idle = grind arith
 
-    step : (p ≡ true) ⊎ (p ≡ false) → (p || q) ≡ true → is_due clients a ≡ true → is_over c ≡ true
-    step (inl first) asked due =
-        let over = h.stepped (ap (λ x. x && is_due clients a) first ∙ due) in
-        ap is_over (g.skipped (and_right q (is_due between b) (over-idle between b over))) ∙ over
-    step (inr later) asked due =
-        let is = h.skipped (and_left p (is_due clients a) later) in
-        let second : q ≡ true = ap (λ x. x || q) (sym later) ∙ asked in
-        g.stepped (ap (λ x. x && is_due between b) second ∙ (still is ∙ due))
+    skip : nat_lt 0 (p + q) && is_due clients a ≡ false → c ≡ a
+    skip idle =
+        let is : b ≡ a = h.skipped (first (is_due clients a) idle) in
+        let due : is_due between b ≡ is_due clients a =
+        ap (is_due between) is ∙ same-due clients between a same in
+        g.skipped (ap (λ d. nat_lt 0 q && d) due ∙ second (is_due clients a) idle) ∙ is
 
 -- a schedule asks for what it asked for so far, and for its next index
+times-last : (i : ℕ) (xs : List ℕ) (x : ℕ) → times i (xs ++ x ∷ []) ≡ times i xs + cond (nat_eq x i) 1 0
+times-last i [] x = omega arith
+times-last i (y ∷ xs) x = omega (arith, times-last i xs x)
+
 asks-more : (schedule : List ℕ) (at i : ℕ) → at < length schedule →
-    asks_for (take (at + 1) schedule) i
-    ≡ asks_for (take at schedule) i || nat_eq (get_or schedule at 0) i
+    times i (take (at + 1) schedule)
+    ≡ times i (take at schedule) + cond (nat_eq (get_or schedule at 0) i) 1 0
 asks-more schedule at i within =
-    ap (list_any (λ x. nat_eq x i)) (take_more schedule at 0 within)
-    ∙ list_any-append (λ x. nat_eq x i) (take at schedule) (get_or schedule at 0 ∷ [])
-    ∙ ap (λ b. asks_for (take at schedule) i || b) (or-false (nat_eq (get_or schedule at 0) i))
+    ap (times i) (take_more schedule at 0 within)
+    ∙ times-last i (take at schedule) (get_or schedule at 0)
 
 -- what a schedule did to a job so far and what its next index does
 pub passes-more : (clients between : Clients) (a b c : List Job) (schedule : List ℕ) (at i : ℕ) →
     KeepsAttached clients between → at < length schedule →
-    PassesOver clients (slice_get a i) (slice_get b i) (asks_for (take at schedule) i) →
-    PassesOver between (slice_get b i) (slice_get c i) (nat_eq (get_or schedule at 0) i) →
-    PassesOver clients (slice_get a i) (slice_get c i) (asks_for (take (at + 1) schedule) i)
+    PassesOver clients (slice_get a i) (slice_get b i) (times i (take at schedule)) →
+    PassesOver between (slice_get b i) (slice_get c i) (cond (nat_eq (get_or schedule at 0) i) 1 0) →
+    PassesOver clients (slice_get a i) (slice_get c i) (times i (take (at + 1) schedule))
 passes-more clients between a b c schedule at i same within h g =
     subst (λ asked. PassesOver clients (slice_get a i) (slice_get c i) asked)
     (sym (asks-more schedule at i within))
     (passes-on clients between (slice_get a i) (slice_get b i) (slice_get c i)
-    (asks_for (take at schedule) i) (nat_eq (get_or schedule at 0) i) same.attached h g)
+    (times i (take at schedule)) (cond (nat_eq (get_or schedule at 0) i) 1 0) same.attached h g)
 
 -- where a schedule gives no step, the jobs are as they were when its next index comes
 module _ (clients between : Clients) (jobs now : List Job) (schedule : List ℕ) (at : ℕ)
     (within : at < length schedule) (none : GivesNoStep clients jobs (take (at + 1) schedule)) where
   idle-at : (i : ℕ) →
-      (asks_for (take at schedule) i || nat_eq (get_or schedule at 0) i)
+      nat_lt 0 (times i (take at schedule) + cond (nat_eq (get_or schedule at 0) i) 1 0)
       && is_due clients (slice_get jobs i) ≡ false
   idle-at i =
-      ap (λ b. b && is_due clients (slice_get jobs i)) (sym (asks-more schedule at i within))
+      ap (λ n. nat_lt 0 n && is_due clients (slice_get jobs i)) (sym (asks-more schedule at i within))
       ∙ none i
 
   -- it gave none so far
   pub none-before : GivesNoStep clients jobs (take at schedule)
-  none-before i = by (and_cases (so_far || nat_eq (get_or schedule at 0) i) due (idle-at i))
+  none-before i =
+      fewer (times i (take at schedule)) (cond (nat_eq (get_or schedule at 0) i) 1 0)
+      (is_due clients (slice_get jobs i)) (idle-at i)
     where
-      so_far : Bool
-      so_far = asks_for (take at schedule) i
-
-      due : Bool
-      due = is_due clients (slice_get jobs i)
-
-      by : ((so_far || nat_eq (get_or schedule at 0) i) ≡ false) ⊎ (due ≡ false) →
-          so_far && due ≡ false
-      by (inl free) =
-          and_left so_far due (or_parts so_far (nat_eq (get_or schedule at 0) i) free).0
-      by (inr idle) = and_right so_far due idle
+      fewer : (n m : ℕ) (due : Bool) → nat_lt 0 (n + m) && due ≡ false → nat_lt 0 n && due ≡ false
+      fewer n m due h = grind arith
 
   -- and its next index gives none
   pub none-here : KeepsAttached clients between →
       ((i : ℕ) →
-      PassesOver clients (slice_get jobs i) (slice_get now i) (asks_for (take at schedule) i)) →
+      PassesOver clients (slice_get jobs i) (slice_get now i) (times i (take at schedule))) →
       is_due between (slice_get now (get_or schedule at 0)) ≡ false
   none-here same passed =
       same-due clients between (slice_get now n) same.attached
-      ∙ ap (is_due clients) ((passed n).skipped (and_right so_far due idle)) ∙ idle
+      ∙ ap (is_due clients) ((passed n).skipped (none-before n)) ∙ idle
     where
       n : ℕ
       n = get_or schedule at 0
 
-      so_far : Bool
-      so_far = asks_for (take at schedule) n
+      own : (m k : ℕ) (due : Bool) → k ≡ 1 → nat_lt 0 (m + k) && due ≡ false → due ≡ false
+      own m k due one h = grind arith
 
-      due : Bool
-      due = is_due clients (slice_get jobs n)
-
-      by : ((so_far || nat_eq n n) ≡ false) ⊎ (due ≡ false) → due ≡ false
-      by (inl free) =
-          absurd (false≢true (sym (or_parts so_far (nat_eq n n) free).1 ∙ eq-eqb n n refl))
-      by (inr idle) = idle
-
-      idle : due ≡ false
-      idle = by (and_cases (so_far || nat_eq n n) due (idle-at n))
+      idle : is_due clients (slice_get jobs n) ≡ false
+      idle =
+          own (times n (take at schedule)) (cond (nat_eq n n) 1 0) (is_due clients (slice_get jobs n))
+          (ap (λ b. cond b 1 0) (eq-eqb n n refl)) (idle-at n)
 
 -- the same clients are attached after two changes
 pub keeps-on : (a b c : Clients) → KeepsAttached a b → KeepsAttached b c → KeepsAttached a c

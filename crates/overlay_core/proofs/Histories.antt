@@ -18,8 +18,8 @@ use Rattle.overlay_core.specs.Views.{client_count, core_clients, core_finished, 
 use Rattle.overlay_core.specs.declared.mounted.Core.{Core}
 use Rattle.watch_table.specs.declared.hook.Callback.{Ghosts as Callback}
 use Rattle.watch_table.specs.declared.hook.Rule.{Ghosts as Rule}
-use Rattle.overlay_core.specs.declared.mounted.Turn.{Turn}
-use Rattle.overlay_core.specs.declared.mounted.Turn.TheVariants.{More, Done, NoMemory}
+use Rattle.overlay_core.specs.declared.turn.Turn.{Turn}
+use Rattle.overlay_core.specs.declared.turn.Turn.TheVariants.{More, Done, NoMemory}
 use Rattle.overlay_core.specs.Histories.{AreAttached, HasPlaces, attach_refusal}
 
 -- what a map has at a number

@@ -22,4 +22,8 @@ pub mod MovesHeld
 pub mod RenamesTold
 pub mod Agreeing
 pub mod Driving
+pub mod TempFits
+pub mod NextSteps
+pub mod StepsMade
+pub mod Completing
 pub mod Histories

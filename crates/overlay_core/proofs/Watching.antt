@@ -100,7 +100,7 @@ stays old new from to h live tracks s a = record {
 }
 
 -- whether a reply is a refusal
-abbrev refuses : Reply → Bool
+abbrev pub refuses : Reply → Bool
 refuses (Refused e) = true
 refuses _ = false
 
@@ -121,7 +121,7 @@ fstat-answers t (Some h) = by h.view
     by (Frozen bytes a links) = refl
 
 -- no answer of a call is one
-answers : (s : State) (c : ℕ) (k : Call) → refuses (reply_of s c k) ≡ false
+pub answers : (s : State) (c : ℕ) (k : Call) → refuses (reply_of s c k) ≡ false
 answers s c (call.Stat p) = stat-answers (node_of s.tree (node_at s.tree p))
 answers s c (call.Readlink p) = refl
 answers s c (call.Chmod p mode) = refl

@@ -1,6 +1,5 @@
 -- What a schedule of steps leaves.
-use Rattle.std.specs.Prelude.{◌≡◌, ℕ, ◌+◌, ◌&&◌, Bool, true, false, not, List, [], ◌∷◌, nat_eq, cond, map, Option, Some, None, slice_get}
-use Rattle.std.specs.List.{list_any}
+use Rattle.std.specs.Prelude.{◌≡◌, ℕ, ◌+◌, ◌&&◌, Bool, true, false, List, [], ◌∷◌, nat_eq, nat_lt, cond, map, Option, Some, None, slice_get}
 use Rattle.ov_base.specs.declared.call.Call.{Call}
 use Rattle.ov_base.specs.declared.reply.Reply.{Reply}
 use Rattle.plain_model.specs.Machine.{State}
@@ -91,22 +90,33 @@ abbrev pub is_due : Clients → Option Job → Bool
 is_due clients (Some j) = is_open j.standing && is_attached clients j.client
 is_due clients None = false
 
--- the job of this index is over
-abbrev pub is_over : Option Job → Bool
-is_over (Some j) = not (is_open j.standing)
-is_over None = false
+-- how often an index stands in a schedule
+abbrev pub times : ℕ → List ℕ → ℕ
+times i [] = 0
+times i (x ∷ xs) = cond (nat_eq x i) 1 0 + times i xs
 
--- WHAT BECOMES OF A JOB. One that the schedule doesn't ask for is as it was, and so is one that was
--- over or whose client isn't attached. One that gets a step is over then.
-pub record PassesOver (clients : Clients) (old new : Option Job) (asked : Bool) : Type 0 where
-  pub skipped : asked && is_due clients old ≡ false → new ≡ old
-  pub stepped : asked && is_due clients old ≡ true → is_over new ≡ true
+-- a job that is open in the end was open, is the same client's, and made so many steps
+abbrev pub OpenMakes : Option Job → Option Job → ℕ → Type 0
+OpenMakes (Some old) (Some new) n =
+    is_open new.standing ≡ true →
+    (is_open old.standing ≡ true) × (new.client ≡ old.client) × (new.steps ≡ old.steps + n)
+OpenMakes None None n = Unit {0}
+OpenMakes (Some old) None n = ⊥
+OpenMakes None (Some new) n = ⊥
 
--- a schedule asks for this index
-abbrev pub asks_for : List ℕ → ℕ → Bool
-asks_for schedule i = list_any (λ x. nat_eq x i) schedule
+-- how many steps a job gets that is asked for so often: none where its client isn't attached
+abbrev pub gets : Clients → Option Job → ℕ → ℕ
+gets clients (Some j) n = cond (is_attached clients j.client) n 0
+gets clients None n = 0
+
+-- WHAT BECOMES OF A JOB that a schedule asks for so often. One that it doesn't ask for is as it was,
+-- and so is one that was over or whose client isn't attached. One that is still open in the end made
+-- a step each time that it was asked for.
+pub record PassesOver (clients : Clients) (old new : Option Job) (asked : ℕ) : Type 0 where
+  pub skipped : nat_lt 0 asked && is_due clients old ≡ false → new ≡ old
+  pub makes : OpenMakes old new (gets clients old asked)
 
 -- no job that a schedule asks for gets a step
 abbrev pub GivesNoStep : Clients → List Job → List ℕ → Type 0
 GivesNoStep clients jobs schedule =
-    (i : ℕ) → asks_for schedule i && is_due clients (slice_get jobs i) ≡ false
+    (i : ℕ) → nat_lt 0 (times i schedule) && is_due clients (slice_get jobs i) ≡ false

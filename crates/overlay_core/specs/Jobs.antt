@@ -4,9 +4,11 @@ use Rattle.plain_model.specs.Runs.{Called}
 use Rattle.overlay_core.specs.declared.job.Job.{Job}
 use Rattle.overlay_core.specs.declared.job.Standing.TheVariants as standing
 use Rattle.overlay_core.specs.declared.mounted.Core.{Core}
-use Rattle.overlay_core.specs.declared.mounted.Turn.{Turn}
-use Rattle.overlay_core.specs.declared.mounted.Turn.TheVariants.{More, Done, NoMemory}
-use Rattle.overlay_core.specs.Views.{CoreGoes, CoreStays}
+use Rattle.overlay_core.specs.declared.turn.Turn.{Turn}
+use Rattle.overlay_core.specs.declared.turn.Turn.TheVariants.{More, Done, NoMemory}
+use Rattle.work_dir.specs.declared.next.Next.{Next}
+use Rattle.overlay_core.specs.Steps.{StepsBy, held_by, without}
+use Rattle.overlay_core.specs.Views.{CoreGoes, CoreStays, core_work}
 use Rattle.watch_table.specs.declared.hook.Callback.{Ghosts as Callback}
 use Rattle.watch_table.specs.declared.hook.Rule.{Ghosts as Rule}
 
@@ -23,3 +25,11 @@ TurnsTo old job new next NoMemory = CoreStays old new × (next.standing ≡ stan
 abbrev pub finished_after : Turn → ℕ → ℕ
 finished_after (Done reply) finished = finished + 1
 finished_after _ finished = finished
+
+-- WHAT A STEP OF THIS KIND DOES to the layers, the open jobs and the job, which holds the temp under
+-- its number
+abbrev pub CoreSteps : {F G : Type 0} {asks : Callback F} {rule : Rule G} →
+    Core F G asks rule → Job → Core F G asks rule → Job → Turn → Next → Type 0
+CoreSteps old job new after turn next =
+    StepsBy old.watched new.watched (without (core_work old) job) (core_work new) job after turn
+    next (held_by (core_work old) job)

@@ -7,3 +7,7 @@ pub mod Views
 pub mod Jobs
 pub mod Drives
 pub mod Histories
+pub mod Standings
+pub mod Temps
+pub mod Steps
+pub mod Placing

@@ -1,5 +1,5 @@
 -- What a core shows, and what a deed does to it.
-use Rattle.std.specs.Prelude.{◌≡◌, ℕ, Bool}
+use Rattle.std.specs.Prelude.{◌≡◌, ℕ, Bool, List, Option}
 use Rattle.std.specs.BTreeMap.{btree_map_len}
 use Rattle.ov_base.specs.declared.options.Options.{Options}
 use Rattle.plain_model.specs.Machine.{State}
@@ -10,6 +10,7 @@ use Rattle.copy_up.specs.Showing.{StaysThin}
 use Rattle.mount_calls.specs.declared.clients.Clients.{Clients}
 use Rattle.mount_calls.specs.declared.mount.Mount.{Mount}
 use Rattle.mount_calls.specs.Attaching.{is_attached}
+use Rattle.work_dir.specs.declared.table.OpenJob.{OpenJob}
 use Rattle.overlay_core.specs.Mounting.{machine_options, places_left}
 use Rattle.overlay_core.specs.Watching.{Agrees, BeginsWith, Goes, Stays}
 use Rattle.overlay_core.specs.declared.mounted.Core.{Core}
@@ -30,6 +31,10 @@ module _ {F G : Type 0} {asks : Callback F} {rule : Rule G} where
   -- how many attaches, finished calls and detaches there were
   abbrev pub core_finished : Core F G asks rule → ℕ
   core_finished core = core.finished
+
+  -- the open jobs by their numbers, each with its temp
+  abbrev pub core_work : Core F G asks rule → List (Option OpenJob)
+  core_work core = core.work
 
   -- the layers as they are now
   abbrev pub core_layers : Core F G asks rule → Layers
@@ -81,3 +86,11 @@ pub record CoreKeeps {F G : Type 0} {asks : Callback F} {rule : Rule G}
   pub options : core_options new ≡ core_options old
   pub lowers : (core_layers new).lowers ≡ (core_layers old).lowers
   pub thin : StaysThin (core_layers old) (core_layers new)
+
+-- Nothing but the open jobs changes.
+pub record CoreSame {F G : Type 0} {asks : Callback F} {rule : Rule G}
+    (old new : Core F G asks rule) : Type 0 where
+  pub mount : core_mount new ≡ core_mount old
+  pub watches : core_watches new ≡ core_watches old
+  pub options : core_options new ≡ core_options old
+  pub finished : core_finished new ≡ core_finished old

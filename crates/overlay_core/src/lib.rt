@@ -11,11 +11,14 @@ mod name_notices;
 mod open_notices;
 mod perform;
 mod schedule;
+mod stepping;
+mod turn;
 mod use_notices;
 mod watch_calls;
 mod watched;
 
 pub use job::{Job, Standing};
-pub use mounted::{Core, LOOK_UPS_KEPT, MountFault, Turn, Unmounted};
+pub use mounted::{Core, LOOK_UPS_KEPT, MountFault, Unmounted};
 pub use schedule::drive;
+pub use turn::Turn;
 pub use watched::Watched;

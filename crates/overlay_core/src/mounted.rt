@@ -1,25 +1,34 @@
 // The core of a mount: what is done to it, each deed one of the plain machine.
-ghost use Rattle.std.specs.Prelude.{◌≡◌, ◌≢◌, ◌+◌, ◌-◌, ◌<◌, ◌≤◌, ◌^◌, ℕ, true, ◌∷◌, map, Some, None, All, IfOk, IfErr, IfSome, OnOk, OnErr, length, nat_lt, unwrap_or, vec_len};
+ghost use Rattle.std.specs.Prelude.{◌≡◌, ◌≢◌, ◌+◌, ◌-◌, ◌<◌, ◌≤◌, ◌^◌, ℕ, true, false, [], ◌∷◌, map, count_by, is_some, Some, None, All, IfOk, IfErr, IfSome, OnOk, OnErr, length, nat_lt, unwrap_or, vec_len};
 ghost use Rattle.plain_model.specs.Layers.{AreLayers};
 ghost use Rattle.plain_model.specs.Limits.{IsWithinLimits};
 ghost use Rattle.plain_model.specs.Runs.{Attached, Detached};
-ghost use Rattle.plain_model.specs.Machine.{instance_of};
+ghost use Rattle.plain_model.specs.Machine.{State, instance_of};
+ghost use Rattle.plain_model.specs.Refusals.{refusal};
 ghost use Rattle.layer_tree.specs.Tree.{layer_of};
 ghost use Rattle.overlay_core.specs.Watching.{BeginsUntil, HasState};
 ghost use Rattle.mount_calls.specs.Attaching.{attach_refusal, Attaches, Detaches, KeepsAttached};
 ghost use Rattle.mount_calls.specs.Keeping.{KeepsLayers, takes_no_memory};
 ghost use Rattle.mount_calls.specs.Living.{KeepsPaths};
+ghost use Rattle.merged_lookup.specs.Merged.{lowers_of};
+ghost use Rattle.mount_calls.specs.Lacks.{may_lack};
+ghost use Rattle.work_dir.specs.OpenJobs.{has_temp, is_of, unless_of};
 ghost use Rattle.overlay_core.specs.Mounting.{machine_options, mount_fault};
+ghost use Rattle.overlay_core.specs.Temps.{AreTemps};
+ghost use Rattle.ov_base.specs.declared.reply.Reply.TheVariants as Reply;
 
 use crate::job::{Job, Standing};
+use crate::stepping::step;
+use crate::turn::Turn;
 use crate::watched::Watched;
 use layer_tree::Layer;
 use merged_lookup::Layers;
 use mount_calls::CLIENTS_MAX;
-use ov_base::{Call, Errno, Options, Reply};
+use ov_base::{Call, Errno, Options};
 use std::alloc::{AllocError, Global};
 use std::hash::RandomState;
 use watch_table::{Callback, HOOKS_MAX, Hook, NotAttached, Rule};
+use work_dir::{STEPS_MAX, WorkDir};
 
 /// The most lower layers of a mount.
 const LOWERS_MAX: usize = 16;
@@ -49,34 +58,32 @@ pub struct Unmounted {
     pub lowers: Vec<Layer>,
 }
 
-/// What one step of a job gives: there is more to do, or the call's reply, or memory ran out.
-#[derive(Drop)]
-pub enum Turn {
-    More,
-    Done(Reply),
-    NoMemory,
-}
-
-/// A mount, its clients and what is kept for their watches. Its type keeps that some state of the
-/// plain machine agrees with it, and that one that begins with the merge of its layers does as long
-/// as nothing was done.
+/// A mount, its clients, what is kept for their watches, and the work directory, which has the open
+/// jobs with their temps. Its type keeps that some state of the plain machine agrees with the mount,
+/// that one that begins with the merge of its layers does as long as nothing was done, and that each
+/// temp is a beginning of a lower file.
 #[derive(Drop)]
 pub struct Core<F: Callback, R: Rule> {
     watched: Watched<F, R>,
     options: Options,
     finished: u64,
+    work: WorkDir,
     ghost agrees: { ∥ HasState watched.mount watched.notifier ∥₁ },
     ghost begins: { ∥ BeginsUntil finished (machine_options options) watched.mount watched.notifier ∥₁ },
     ghost given: { watched.mount.clients.next ≤ finished },
     ghost short: { options.history ≤ 1000000 },
+    ghost temps: { AreTemps (lowers_of watched.mount.layers) work },
+    ghost limits: { ∥ All IsWithinLimits (lowers_of watched.mount.layers) ∥₁ },
 }
 
 impl<F: Callback, R: Rule> Core<F, R> {
-    ghost use Rattle.overlay_core.specs.Views.{CoreBegins, CoreGoes, CoreKeeps, CoreStays};
+    ghost use Rattle.overlay_core.specs.Views.{CoreAgrees, CoreBegins, CoreGoes, CoreKeeps, CoreStays};
     ghost use Rattle.overlay_core.specs.Views.{core_finished, core_layers, core_options, core_room};
     ghost use Rattle.overlay_core.specs.Views.{client_count, core_clients, has_client, next_client};
     ghost use Rattle.overlay_core.specs.Views.{core_watches};
-    ghost use Rattle.overlay_core.specs.Jobs.{TurnsTo, finished_after};
+    ghost use Rattle.overlay_core.specs.Views.{core_mount, core_work, CoreSame};
+    ghost use Rattle.overlay_core.specs.Jobs.{TurnsTo, CoreSteps, finished_after};
+    ghost use Rattle.overlay_core.specs.Steps.{held_by, next_by, without};
 
     /// Mounts lower layers, the nearest first, under an upper. The names of open directories and the
     /// numbers of watched objects are hashed with these keys. A fault needs no memory and hands the
@@ -109,6 +116,7 @@ impl<F: Callback, R: Rule> Core<F, R> {
             next_client core ≡ 0)) }
         ensures begins { IfOk result (λ mounting. IfOk mounting (λ core.
             CoreBegins core options)) }
+        ensures idle { IfOk result (λ mounting. IfOk mounting (λ core. core_work core ≡ [])) }
     {
         Core::mount_keeping(alloc, keys, upper, lowers, options, LOOK_UPS_KEPT)
     }
@@ -145,6 +153,7 @@ impl<F: Callback, R: Rule> Core<F, R> {
             next_client core ≡ 0)) }
         ensures begins { IfOk result (λ mounting. IfOk mounting (λ core.
             CoreBegins core options)) }
+        ensures idle { IfOk result (λ mounting. IfOk mounting (λ core. core_work core ≡ [])) }
     {
         if let Some(fault) = fault_of(lowers.len(), options) {
             return Ok(Err(Unmounted {
@@ -156,10 +165,12 @@ impl<F: Callback, R: Rule> Core<F, R> {
         let mut layers = Layers::new(alloc, keys, upper, lowers, look_ups.max(1))?;
         layers.keep_look_ups(alloc, look_ups);
         let watched = Watched::new(alloc, keys, layers, options.redirects)?;
+        let work = WorkDir::new(alloc);
         Ok(Ok(Core {
             watched,
             options,
             finished: 0,
+            work,
         }))
     }
 
@@ -185,6 +196,7 @@ impl<F: Callback, R: Rule> Core<F, R> {
             Attaches (core_clients self.old) (core_clients self.new)) }
         ensures finished { OnOk result (core_finished self.new ≡ core_finished self.old + 1) }
         ensures layers { core_layers self.new ≡ core_layers self.old }
+        ensures work { core_work self.new ≡ core_work self.old }
         ensures kept { CoreKeeps self.old self.new }
     {
         if let Some(errno) = refusal_of(hooks.len(), self.watched.mount.clients_attached()) {
@@ -197,7 +209,8 @@ impl<F: Callback, R: Rule> Core<F, R> {
     }
 
     /// Detaches a client, which closes its descriptors in rising order: a file without a name goes
-    /// with its last handle. Gives as many hooks as it has, with the same tags in the same order.
+    /// with its last handle. What is kept of its open jobs goes too. Gives as many hooks as it has,
+    /// with the same tags in the same order.
     pub fn detach(&mut self, client: u64) -> Vec<Hook<F, R>>
         requires attached { has_client self.old client ≡ true }
         requires bound { core_finished self.old + 1 < 2 ^ 63 }
@@ -207,9 +220,12 @@ impl<F: Callback, R: Rule> Core<F, R> {
         ensures clients { Detaches (core_clients self.old) (core_clients self.new) client }
         ensures finished { core_finished self.new ≡ core_finished self.old + 1 }
         ensures layers { KeepsPaths (core_layers self.old) (core_layers self.new) }
+        ensures work { core_work self.new ≡ map (unless_of client) (core_work self.old) }
+        ensures no_jobs { count_by (is_of client) (core_work self.new) ≡ 0 }
         ensures kept { CoreKeeps self.old self.new }
     {
         self.finished += 1;
+        self.work.forget(client);
         self.watched.detach(client)
     }
 
@@ -220,10 +236,43 @@ impl<F: Callback, R: Rule> Core<F, R> {
         self.watched.mount.is_attached(client)
     }
 
-    /// One step of a job that is open, of a client that is attached. Each call is finished in one
-    /// step, and those who watch are notified; an allocation failure gives it up and leaves all
+    /// One step of a job that is open, of a client that is attached: what the call would answer now
+    /// is asked first. Where something has to be copied up before it, the step places one missing
+    /// parent, begins a temp of the lower file, or copies 4,096 bytes into it. Else it makes the
+    /// call, and those who watch are notified. An allocation failure gives the job up and leaves all
     /// that is shown as it was.
     pub fn advance(&mut self, job: &mut Job) -> Turn
+        requires open { job.old.standing ≡ Standing.Open }
+        requires attached { has_client self.old job.old.client ≡ true }
+        requires bound { core_finished self.old + 1 < 2 ^ 63 }
+        ensures job { (job.new.client ≡ job.old.client) × (job.new.call ≡ job.old.call) }
+        ensures turn { TurnsTo self.old job.old self.new job.new result }
+        ensures steps { job.new.steps ≡ job.old.steps + 1 }
+        ensures step { (s : State) → CoreAgrees self.old s → CoreSteps self.old job.old
+            self.new job.new result (next_by (core_mount self.old) job.old
+            (held_by (core_work self.old) job.old) (refusal s job.old.client job.old.call)) }
+        ensures at_once { may_lack job.old.call ≡ false → result ≢ Turn.More }
+        ensures memory { takes_no_memory job.old.call ≡ true → result ≢ Turn.NoMemory }
+        ensures finished { core_finished self.new ≡ finished_after result (core_finished self.old) }
+        ensures clients { KeepsAttached (core_clients self.old) (core_clients self.new) }
+        ensures layers { KeepsLayers job.old.call (core_layers self.old) (core_layers self.new) }
+        ensures refused { (errno : Errno) → result ≡ Turn.Done (Reply.Refused errno) →
+            core_layers self.new ≡ core_layers self.old }
+        ensures kept { CoreKeeps self.old self.new }
+    {
+        match step(&mut self.watched, &mut self.work, job) {
+            Turn::Done(reply) => {
+                self.finished += 1;
+                Turn::Done(reply)
+            }
+            Turn::More => Turn::More,
+            Turn::NoMemory => Turn::NoMemory,
+        }
+    }
+
+    /// All steps of a job that is open, of a client that is attached, one after the other. An
+    /// allocation failure gives the job up and leaves all that is shown as it was.
+    pub fn complete(&mut self, job: &mut Job) -> Turn
         requires open { job.old.standing ≡ Standing.Open }
         requires attached { has_client self.old job.old.client ≡ true }
         requires bound { core_finished self.old + 1 < 2 ^ 63 }
@@ -233,40 +282,43 @@ impl<F: Callback, R: Rule> Core<F, R> {
         ensures memory { takes_no_memory job.old.call ≡ true → result ≢ Turn.NoMemory }
         ensures finished { core_finished self.new ≡ finished_after result (core_finished self.old) }
         ensures clients { KeepsAttached (core_clients self.old) (core_clients self.new) }
-        ensures layers { KeepsLayers job.old.call (core_layers self.old) (core_layers self.new) }
         ensures refused { (errno : Errno) → result ≡ Turn.Done (Reply.Refused errno) →
             core_layers self.new ≡ core_layers self.old }
         ensures kept { CoreKeeps self.old self.new }
     {
-        let outcome = self.watched.perform(job.client(), job.call());
-        match outcome {
-            Ok(reply) => {
-                self.finished += 1;
-                job.end(Standing::Answered);
-                Turn::Done(reply)
-            }
-            Err(AllocError) => {
-                job.end(Standing::GivenUp);
-                Turn::NoMemory
+        for _ in 0..STEPS_MAX {
+            match self.advance(job) {
+                Turn::More => {}
+                Turn::Done(reply) => return Turn::Done(reply),
+                Turn::NoMemory => return Turn::NoMemory,
             }
         }
+        unreachable!()
     }
 
-    /// Gives up a job, and hands its call back; nothing that is shown changes.
+    /// Gives up a job, with its temp, and hands its call back; nothing that is shown changes.
     pub fn drop_job(&mut self, job: Job) -> Call
         ensures call { result ≡ job.call }
-        ensures same { self.new ≡ self.old }
+        ensures same { CoreSame self.old self.new }
+        ensures work { core_work self.new ≡ without (core_work self.old) job }
     {
-        let _ = &self.watched;
+        let _ = self.work.close(job.number(), job.client(), job.chunks());
         job.let_go()
     }
 
     /// How many jobs of a client have made a step and aren't over.
-    pub fn open_jobs(&self, _client: u64) -> usize
-        ensures { result ≡ 0 }
+    pub fn open_jobs(&self, client: u64) -> usize
+        ensures { result ≡ count_by (is_of client) (core_work self.now) }
     {
-        let _ = &self.watched;
-        0
+        self.work.open_jobs(client)
+    }
+
+    /// How many temps there are: each is an open job's.
+    pub fn temps(&self) -> usize
+        ensures count { result ≡ count_by has_temp (core_work self.now) }
+        ensures none { count_by is_some (core_work self.now) ≡ 0 → result ≡ 0 }
+    {
+        self.work.count()
     }
 
     /// How many attaches, finished calls and detaches there were.

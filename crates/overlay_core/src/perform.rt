@@ -20,17 +20,6 @@ impl<F: Callback, R: Rule> Watched<F, R> {
         ensures performs { Performs R.shows client call.now self.old self.new result }
         ensures memory { takes_no_memory call.now ≡ true → IsOk result }
     {
-        self.mount.remember(call);
-        self.make(client, call)
-    }
-
-    // The same, of a call whose paths were looked up.
-    fn make(&mut self, client: u64, call: &Call) -> Result<Reply, AllocError>
-        requires there { is_attached self.old.mount.clients client ≡ true }
-        requires state { ∥ HasState self.old.mount self.old.notifier ∥₁ }
-        ensures performs { Performs R.shows client call.now self.old self.new result }
-        ensures memory { takes_no_memory call.now ≡ true → IsOk result }
-    {
         match call {
             Call::Stat { path } => Ok(self.mount.stat(path)),
             Call::Readlink { path } => self.mount.readlink(path),

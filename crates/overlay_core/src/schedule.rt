@@ -1,17 +1,18 @@
 // Jobs that are given steps in the order of a schedule.
-ghost use Rattle.std.specs.Prelude.{◌≡◌, ◌+◌, ◌<◌, ◌≤◌, ◌^◌, ℕ, false, None, IfOk, IfSome, OnErr, OnOk, slice_get, length, nat_eq};
+ghost use Rattle.std.specs.Prelude.{◌≡◌, ◌+◌, ◌<◌, ◌≤◌, ◌^◌, ℕ, false, None, IfOk, IfSome, OnErr, OnOk, slice_get, length, nat_eq, cond};
 ghost use Rattle.overlay_core.specs.Views.{CoreKeeps, CoreStays, core_clients, core_finished};
 ghost use Rattle.mount_calls.specs.Attaching.{KeepsAttached};
-ghost use Rattle.overlay_core.specs.Drives.{Answers, Drives, GivesNoStep, PassesOver, answered, asks_for, calls_of, count_some, is_due, one_if_some, open_count, replies_to};
+ghost use Rattle.overlay_core.specs.Drives.{Answers, Drives, GivesNoStep, PassesOver, answered, calls_of, count_some, is_due, one_if_some, open_count, replies_to, times};
 
 use crate::job::{Job, Standing};
-use crate::mounted::{Core, Turn};
+use crate::mounted::Core;
+use crate::turn::Turn;
 use ov_base::Reply;
 use std::alloc::{AllocError, Global};
 use watch_table::{Callback, Rule};
 
 /// Gives jobs steps in the order of a schedule, and answers the replies, each with its job's index,
-/// in the order of finishing. An index past the end, of a job that is over or of a client that
+/// in the order of finishing. A job that the schedule doesn't end stays open. An index past the end, of a job that is over or of a client that
 /// isn't attached is skipped; a job that gets no step is left alone. An allocation failure for the
 /// replies changes nothing.
 pub fn drive<F: Callback, R: Rule>(
@@ -28,7 +29,7 @@ pub fn drive<F: Callback, R: Rule>(
         answered jobs.new i ≡ answered jobs.old i + replies_to i replies.items) }
     ensures passed { OnOk result ((i : ℕ) →
         PassesOver (core_clients core.old) (slice_get jobs.old i) (slice_get jobs.new i)
-        (asks_for schedule.now i)) }
+        (times i schedule.now)) }
     ensures idle { OnOk result (
         GivesNoStep (core_clients core.old) jobs.old schedule.now → core.new ≡ core.old) }
     ensures finished { IfOk result (λ replies.
@@ -59,7 +60,7 @@ fn one<F: Callback, R: Rule>(core: &mut Core<F, R>, jobs: &mut [Job], index: usi
         answered jobs.new i ≡ answered jobs.old i + one_if_some result index i }
     ensures passed { (i : ℕ) →
         PassesOver (core_clients core.old) (slice_get jobs.old i) (slice_get jobs.new i)
-        (nat_eq index i) }
+        (cond (nat_eq index i) 1 0) }
     ensures idle { is_due (core_clients core.old) (slice_get jobs.old index) ≡ false →
         core.new ≡ core.old }
     ensures finished { core_finished core.new ≡ core_finished core.old + count_some result }

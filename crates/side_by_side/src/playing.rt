@@ -204,6 +204,9 @@ fn answer_of(alloc: Global, mount: &mut PlainMount, line: &[u8]) -> Result<Answe
         Command::Call { client, call } => called(alloc, mount, client, &call),
         Command::Layer { index } => Ok(layer_answer(index as usize, mount.layers)),
         Command::Merge => Ok(Answer::Lines(mount.merge_lines(alloc)?)),
+        Command::Start { .. } | Command::Step { .. } | Command::Drop { .. } | Command::Work => {
+            Ok(Answer::BadCommand)
+        }
     }
 }
 

@@ -61,6 +61,9 @@ impl<N: MountName> Clients<N> {
             Command::Call { client, call } => self.call(rt, alloc, mount, client, &call),
             Command::Layer { index } => Ok(Answer::Asks(Sight::Layer(index as usize))),
             Command::Merge => Ok(Answer::Asks(Sight::Tree)),
+            Command::Start { .. } | Command::Step { .. } | Command::Drop { .. } | Command::Work => {
+                Ok(Answer::BadCommand)
+            }
         }
     }
 

@@ -56,7 +56,7 @@ pub fn reply<F: Callback + Copy, H: Rule>(
         return Err(Fail::from("not attached"));
     }
     let mut job = Job::new(client, call);
-    let turn = core.advance(&mut job);
+    let turn = core.complete(&mut job);
     let _ = job.into_call();
     match turn {
         Turn::Done(reply) => Ok(reply),

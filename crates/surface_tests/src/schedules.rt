@@ -14,7 +14,7 @@ use watch_table::{Callback, Hook, Rule};
 const DIRECTORY: &str = "layer = [{}, {entry = [{path = '/d', kind = 'dir'}]}]";
 
 // Gives up what is left of jobs, the last one first.
-fn drop_all<F: Callback + Copy, H: Rule>(core: &mut Core<F, H>, jobs: Vec<Job>) {
+pub fn drop_all<F: Callback + Copy, H: Rule>(core: &mut Core<F, H>, jobs: Vec<Job>) {
     let mut jobs = jobs;
     'jobs: while let Some(job) = jobs.pop() {
         let _ = core.drop_job(job);
@@ -58,7 +58,7 @@ fn answers_on<F: Callback + Copy, H: Rule>(
     let mut jobs = Vec::with_capacity(alloc, 2)?;
     jobs.push_reserved(Job::new(client, Call::Mkdir { path: made, mode }));
     jobs.push_reserved(Job::new(client, Call::Stat { path: looked_up }));
-    let outcome = drive(alloc, core, jobs.as_mut_slice(), &[1, 7, 0, 1]);
+    let outcome = drive(alloc, core, jobs.as_mut_slice(), &[1, 7, 0, 1, 0]);
     drop_all(core, jobs);
     let replies = outcome?;
     let mut indexes = [9, 9];

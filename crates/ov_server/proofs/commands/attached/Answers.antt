@@ -1,29 +1,31 @@
-use Rattle.std.proofs.Common.{length}
+use Rattle.std.proofs.Common.{◌∙◌, length, refl}
 use Rattle.ov_server.proofs.Clients.{attach_plays, attach_refused}
 use Rattle.overlay_core.proofs.Histories.{attach_places, few, kept_places, two_places}
+use Rattle.ov_server.proofs.Stages.{attached_still, order_kept, with_core}
 use Rattle.ov_server.proofs.commands.attached.Goals as goal
 use Rattle.ov_server.proofs.commands.attached.Goals.{in-Ok-attach, in-Err}
 
 pub attach-requires : goal.attach-requires
-attach-requires g c = few c.args.core.now c.requires
+attach-requires g c = few c.args.stage.now.core c.requires.places
 
-pub returns-clause-places : goal.returns-clause-places
-returns-clause-places g c =
-    let old = c.args.core.now in
-    let new = c.attach.new.self in
+pub returns-clause-order : goal.returns-clause-order
+returns-clause-order g c =
+    let old = c.args.stage.now in
+    let core = c.attach.new.self in
+    let new = with_core old core in
     let same = c.attach.ensures.kept.options in
-    let two = two_places old (length c.args.hooks.now) c.attach_refusal.result c.attach_refusal.ensures c.in_default.not-Some in
+    let two = two_places old.core (length c.args.hooks.now) c.attach_refusal.result c.attach_refusal.ensures c.in_default.not-Some in
     elim c.match-attach.branch [
-      | in-Ok-attach w ↦ attach_places old new same w.in-Ok-attach.client w.in-Ok-attach.ensures.clients two w.in-Ok-attach.ensures.finished c.requires
-      | in-Err w ↦ kept_places old new same w.in-Err.ensures.stays.1 w.in-Err.ensures.stays.2 c.requires
+      | in-Ok-attach w ↦ order_kept old new c.requires (attach_places old.core core same w.in-Ok-attach.client w.in-Ok-attach.ensures.clients two w.in-Ok-attach.ensures.finished c.requires.places) (attached_still old.core core w.in-Ok-attach.client w.in-Ok-attach.ensures.clients) (λ n. refl)
+      | in-Err w ↦ order_kept old new c.requires (kept_places old.core core same w.in-Err.ensures.stays.1 w.in-Err.ensures.stays.2 c.requires.places) (λ n is. w.in-Err.ensures.stays.1.attached n ∙ is) (λ n. refl)
     ]
 
 pub returns-clause-plays : goal.returns-clause-plays
 returns-clause-plays g c =
-    let old = c.args.core.now in
-    let new = c.attach.new.self in
+    let old = c.args.stage.now in
+    let new = with_core old c.attach.new.self in
     let layers = c.attach.ensures.layers in
     elim c.match-attach.branch [
-      | in-Ok-attach w ↦ attach_plays old new w.in-Ok-attach.client w.in-Ok-attach.ensures.clients layers
-      | in-Err w ↦ attach_refused old new w.in-Err.ensures.stays.1 layers
+      | in-Ok-attach w ↦ attach_plays old new w.in-Ok-attach.client w.in-Ok-attach.ensures.clients layers (λ n. refl)
+      | in-Err w ↦ attach_refused old new w.in-Err.ensures.stays.1 layers (λ n. refl)
     ]

@@ -9,4 +9,4 @@ pub returns-in_ok-command_of-clause-ok : goal.returns-in_ok-command_of-clause-ok
 returns-in_ok-command_of-clause-ok g c =
     let skipped : is_skipped c.args.line.now ≡ false = search rules in
     let is : command_of c.args.line.now ≡ Some c.in_ok-command_of.field-0 = sym c.in_ok-command_of.ensures in
-    on_ok_weaker c.play_command.result (λ (plays : _). line_plays c.args.core.now c.play_command.new.core c.args.line.now c.in_ok-command_of.field-0 skipped is plays) c.play_command.ensures.ok
+    on_ok_weaker c.play_command.result (λ (plays : _). line_plays c.args.stage.now c.play_command.new.stage c.args.line.now c.in_ok-command_of.field-0 skipped is plays) c.play_command.ensures.ok

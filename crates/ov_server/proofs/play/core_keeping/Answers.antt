@@ -1,10 +1,9 @@
 use Rattle.std.proofs.Common.{◌≡◌}
 use Rattle.std.specs.Vec.{vec_len}
 use Rattle.std.proofs.lemmas.Result.{err_from_is_err_and}
-use Rattle.overlay_core.specs.Views.{core_finished, core_options, next_client}
+use Rattle.overlay_core.specs.Views.{core_finished, core_options}
 use Rattle.overlay_core.proofs.Agreeing.{bounded}
 use Rattle.overlay_core.proofs.Histories.{first_places}
-use Rattle.ov_server.proofs.Histories.{begun}
 use Rattle.ov_server.proofs.Manifests.{counted, refuses_none, refuses_told}
 use Rattle.ov_server.proofs.play.core_keeping.Goals as goal
 
@@ -32,6 +31,7 @@ returns-clause-places g c =
     first_places c.in-Ok.core (rw options (bounded (vec_len c.in_ok-upper.lowers) c.in_ok-upper.options (rw c.in-Ok.is at c.in_ok-core.ensures.mounted))) finished (rw c.in-Ok.is at c.in_ok-core.ensures.nobody)
 
 pub returns-clause-begins : goal.returns-clause-begins
-returns-clause-begins g c =
-    let first : next_client c.in-Ok.core ≡ 0 = rw c.in-Ok.is at c.in_ok-core.ensures.first in
-    begun c.in-Ok.core first (rw c.in-Ok.is at c.in_ok-core.ensures.nobody)
+returns-clause-begins g c = record {
+  nobody = rw c.in-Ok.is at c.in_ok-core.ensures.nobody;
+  first = rw c.in-Ok.is at c.in_ok-core.ensures.first;
+}

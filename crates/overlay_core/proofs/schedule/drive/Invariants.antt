@@ -2,7 +2,7 @@ use Rattle.std.proofs.Common.{◌≡◌, ℕ, ◌+◌, ◌≤◌, vec_len, slice
 use Rattle.std.specs.Vec.{vec_capacity}
 use Rattle.mount_calls.specs.Attaching.{KeepsAttached}
 use Rattle.overlay_core.specs.Views.{CoreKeeps, core_clients, core_finished}
-use Rattle.overlay_core.specs.Drives.{calls_of, Drives, open_count, answered, replies_to, asks_for, GivesNoStep, PassesOver}
+use Rattle.overlay_core.specs.Drives.{calls_of, Drives, open_count, answered, replies_to, times, GivesNoStep, PassesOver}
 use Rattle.overlay_core.proofs.schedule.drive.Given as goal
 
 abbrev pub invariant-loop-index : goal.invariant-loop-index
@@ -12,7 +12,7 @@ invariant-loop-index g l = record {
   once : (i : ℕ) → answered l.jobs i ≡ answered l.fn.jobs i + replies_to i l.replies.items;
   passed : (i : ℕ) →
       PassesOver (core_clients l.fn.core) (slice_get l.fn.jobs i) (slice_get l.jobs i)
-      (asks_for (take l.index-index l.schedule) i);
+      (times i (take l.index-index l.schedule));
   idle : GivesNoStep (core_clients l.fn.core) l.fn.jobs (take l.index-index l.schedule) →
       l.core ≡ l.fn.core;
   finished : core_finished l.core ≡ core_finished l.fn.core + length l.replies.items;

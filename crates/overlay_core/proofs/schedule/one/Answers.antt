@@ -3,8 +3,8 @@ use Rattle.std.proofs.lemmas.Option.{slice_get-get_or}
 use Rattle.overlay_core.specs.declared.job.Job.{Job}
 use Rattle.overlay_core.specs.declared.job.Standing.TheVariants.{Open}
 use Rattle.overlay_core.specs.Views.{core_clients, has_client}
-use Rattle.overlay_core.specs.Drives.{is_due, is_open, one_if_open}
-use Rattle.overlay_core.proofs.Driving.{calls-set, call-here, once-done, once-none, room-less, passes-end}
+use Rattle.overlay_core.specs.Drives.{is_due, one_if_answered, one_if_open}
+use Rattle.overlay_core.proofs.Driving.{calls-set, call-here, once-done, once-none, room-less, room-same, passes-step}
 use Rattle.overlay_core.proofs.schedule.one.Given.{Over}
 use Rattle.overlay_core.proofs.schedule.one.Goals.{After-advance}
 use Rattle.overlay_core.proofs.schedule.one.Goals as goal
@@ -49,8 +49,8 @@ returns-in-Done-clause-once g c =
 pub returns-in-Done-clause-passed : goal.returns-in-Done-clause-passed
 returns-in-Done-clause-passed g c =
     let x = (goal.at.returns-in-Done-clause-passed g c).After-advance in
-    passes-end (core_clients c.args.core.now) c.args.jobs.now c.args.index (job g x)
-    c.advance.new.job (here g x) (due g x) (ap is_open c.in-Done.ensures.turn.1)
+    passes-step (core_clients c.args.core.now) c.args.jobs.now c.args.index (job g x)
+    c.advance.new.job (here g x) (due g x) c.advance.ensures.job.0 c.advance.ensures.steps
 
 pub returns-in-NoMemory-clause-calls : goal.returns-in-NoMemory-clause-calls
 returns-in-NoMemory-clause-calls g c =
@@ -65,10 +65,33 @@ returns-in-NoMemory-clause-room g c =
 pub returns-in-NoMemory-clause-once : goal.returns-in-NoMemory-clause-once
 returns-in-NoMemory-clause-once g c =
     let x = (goal.at.returns-in-NoMemory-clause-once g c).After-advance in
-    once-none c.args.jobs.now c.args.index (job g x) c.advance.new.job (here g x) (stands g x) c.in-NoMemory.ensures.turn.1
+    once-none c.args.jobs.now c.args.index (job g x) c.advance.new.job (here g x) (stands g x)
+    (ap one_if_answered c.in-NoMemory.ensures.turn.1)
 
 pub returns-in-NoMemory-clause-passed : goal.returns-in-NoMemory-clause-passed
 returns-in-NoMemory-clause-passed g c =
     let x = (goal.at.returns-in-NoMemory-clause-passed g c).After-advance in
-    passes-end (core_clients c.args.core.now) c.args.jobs.now c.args.index (job g x)
-    c.advance.new.job (here g x) (due g x) (ap is_open c.in-NoMemory.ensures.turn.1)
+    passes-step (core_clients c.args.core.now) c.args.jobs.now c.args.index (job g x)
+    c.advance.new.job (here g x) (due g x) c.advance.ensures.job.0 c.advance.ensures.steps
+
+pub returns-in-More-clause-calls : goal.returns-in-More-clause-calls
+returns-in-More-clause-calls g c =
+    let x = (goal.at.returns-in-More-clause-calls g c).After-advance in
+    calls-set c.args.jobs.now c.args.index (job g x) c.advance.new.job (here g x) c.advance.ensures.job.0 c.advance.ensures.job.1
+
+pub returns-in-More-clause-room : goal.returns-in-More-clause-room
+returns-in-More-clause-room g c =
+    let x = (goal.at.returns-in-More-clause-room g c).After-advance in
+    room-same c.args.jobs.now c.args.index (job g x) c.advance.new.job (here g x) (stands g x) c.in-More.ensures.turn.1
+
+pub returns-in-More-clause-once : goal.returns-in-More-clause-once
+returns-in-More-clause-once g c =
+    let x = (goal.at.returns-in-More-clause-once g c).After-advance in
+    once-none c.args.jobs.now c.args.index (job g x) c.advance.new.job (here g x) (stands g x)
+    (ap one_if_answered c.in-More.ensures.turn.1)
+
+pub returns-in-More-clause-passed : goal.returns-in-More-clause-passed
+returns-in-More-clause-passed g c =
+    let x = (goal.at.returns-in-More-clause-passed g c).After-advance in
+    passes-step (core_clients c.args.core.now) c.args.jobs.now c.args.index (job g x)
+    c.advance.new.job (here g x) (due g x) c.advance.ensures.job.0 c.advance.ensures.steps

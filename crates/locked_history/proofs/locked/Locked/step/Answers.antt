@@ -15,6 +15,18 @@ use Rattle.locked_history.proofs.locked.Locked.step.Goals as goal
 pub advance-requires-clause-bound : goal.advance-requires-clause-bound
 advance-requires-clause-bound g c = few c.args.self.now.core c.args.self.now.places
 
+pub invariant_of-self-clause-legal : goal.invariant_of-self-clause-legal
+invariant_of-self-clause-legal g c = legal_stays c.args.self.now.core c.advance.new.self c.args.self.now.legal c.in-More.ensures.turn.0 c.in-More.ensures.kept.thin
+
+pub invariant_of-self-clause-due : goal.invariant_of-self-clause-due
+invariant_of-self-clause-due g c = numbers_stay c.args.self.now.due c.in-More.ensures.clients
+
+pub invariant_of-self-clause-spare : goal.invariant_of-self-clause-spare
+invariant_of-self-clause-spare g c = boxes_stay c.args.self.now.boxes.items c.args.self.now.spare c.in-More.ensures.clients
+
+pub invariant_of-self-clause-places : goal.invariant_of-self-clause-places
+invariant_of-self-clause-places g c = kept_places c.args.self.now.core c.advance.new.self c.in-More.ensures.kept.options c.in-More.ensures.clients c.in-More.ensures.finished c.args.self.now.places
+
 pub invariant_of-self-in-NoMemory-clause-legal : goal.invariant_of-self-in-NoMemory-clause-legal
 invariant_of-self-in-NoMemory-clause-legal g c = legal_stays c.args.self.now.core c.advance.new.self c.args.self.now.legal c.in-NoMemory.ensures.turn.0 c.in-NoMemory.ensures.kept.thin
 

@@ -15,3 +15,9 @@ returns-clause-stand g c =
     let s = subst (λ (rs : List Claim). All (StandsIn es) rs) c.count_all.ensures.items l.stand in
     let b = stand_back es c.args.receipts.items s in
     subst (λ (x : List Entry). All (StandsIn x) c.args.receipts.items) (ap (map (λ n. entry_in n.known)) (sym l.notes.0)) b
+
+pub invariant_of-past-clause-legal : goal.invariant_of-past-clause-legal
+invariant_of-past-clause-legal g c = rw c.leave_past_end.ensures.notes.0 c.into_inner-core.result.legal
+
+pub invariant_of-past-clause-known : goal.invariant_of-past-clause-known
+invariant_of-past-clause-known g c = rw c.leave_past_end.ensures.notes.0 c.into_inner-core.result.known

@@ -30,7 +30,7 @@ none_left left read stop first all past is = omega arith
 
 pub loop-read-init : goal.loop-read-init
 loop-read-init g c = record {
-  played = plays_none (g.R.Read.remaining c.args.input.now.reader) c.args.self.now.pending.items c.args.self.now.lines c.args.self.now.core c.requires.pending c.requires.lines c.requires.core;
+  played = plays_none (g.R.Read.remaining c.args.input.now.reader) c.args.self.now.pending.items c.args.self.now.lines c.args.self.now.stage c.requires.pending c.requires.lines c.requires.begins;
   few = no_lines _ c.requires.lines;
   left = add-zero _;
   piece = c.as_mut_slice-piece.ensures.len ∙ c.in_ok-buffer.ensures.len;
@@ -41,7 +41,7 @@ loop-read-init g c = record {
 pub returns-in_err-count-clause-err : goal.returns-in_err-count-clause-err
 returns-in_err-count-clause-err g c =
     let p = err_from_is_err_and c.from_residual-in_err-count.result c.from_residual-in_err-count.ensures.1 in
-    rw (p.1, p.2) (device_ends (layers_in c.args.self.now.core) (g.R.Read.remaining c.args.input.now.reader) c.in_err-count.field-0.0)
+    rw (p.1, p.2) (device_ends (layers_in c.args.self.now.stage.core) (g.R.Read.remaining c.args.input.now.reader) c.in_err-count.field-0.0)
 
 pub returns-in_err-count-clause-stream : goal.returns-in_err-count-clause-stream
 returns-in_err-count-clause-stream g c =
@@ -51,7 +51,7 @@ returns-in_err-count-clause-stream g c =
 pub loop-read-preserved-in_default : goal.loop-read-preserved-in_default
 loop-read-preserved-in_default g c =
     let invariant = c.loop-read.invariant in record {
-      played = read_kept (layers_in c.args.self.now.core) c.in_ok-count.field-0 (g.R.Read.remaining c.args.input.now.reader) (g.R.Read.remaining c.loop-read.input.reader) (g.R.Read.remaining c.read.new.self.reader) c.read.new.piece c.loop-read.self.pending.items c.loop-read.self.lines c.loop-read.self.core c.in_ok-count.ensures.ok c.in_default.not-Some invariant.played;
+      played = read_kept (layers_in c.args.self.now.stage.core) c.in_ok-count.field-0 (g.R.Read.remaining c.args.input.now.reader) (g.R.Read.remaining c.loop-read.input.reader) (g.R.Read.remaining c.read.new.self.reader) c.read.new.piece c.loop-read.self.pending.items c.loop-read.self.lines c.loop-read.self.stage c.in_ok-count.ensures.ok c.in_default.not-Some invariant.played;
       few = more_reads _ _ invariant.few;
       left = one_read _ _ _ _ c.in_ok-count.ensures.reads invariant.left;
       piece = c.read.auto.piece ∙ invariant.piece;
@@ -65,14 +65,14 @@ end-requires g c = room _ _ _ c.loop-read.invariant.few c.loop-read-test.true c.
 pub returns-then-count-eq0-clause-ok : goal.returns-then-count-eq0-clause-ok
 returns-then-count-eq0-clause-ok g c =
     let reads = rw c.in-Some.is at c.in_ok-count.ensures.ok in
-    let whole = read_end (layers_in c.args.self.now.core) (g.R.Read.remaining c.args.input.now.reader) (g.R.Read.remaining c.loop-read.input.reader) (g.R.Read.remaining c.read.new.self.reader) c.read.new.piece c.loop-read.self.pending.items c.in-Some.count c.loop-read.self.lines c.loop-read.self.core reads c.if-count-eq0.true c.loop-read.invariant.played in
-    on_ok_weaker c.end.result (λ (plays : _). plays_whole (layers_in c.args.self.now.core) (g.R.Read.remaining c.args.input.now.reader) c.loop-read.self.pending.items c.loop-read.self.lines c.loop-read.self.core c.end.new.self.core plays whole) c.end.ensures.ok
+    let whole = read_end (layers_in c.args.self.now.stage.core) (g.R.Read.remaining c.args.input.now.reader) (g.R.Read.remaining c.loop-read.input.reader) (g.R.Read.remaining c.read.new.self.reader) c.read.new.piece c.loop-read.self.pending.items c.in-Some.count c.loop-read.self.lines c.loop-read.self.stage reads c.if-count-eq0.true c.loop-read.invariant.played in
+    on_ok_weaker c.end.result (λ (plays : _). plays_whole (layers_in c.args.self.now.stage.core) (g.R.Read.remaining c.args.input.now.reader) c.loop-read.self.pending.items c.loop-read.self.lines c.loop-read.self.stage c.end.new.self.stage plays whole) c.end.ensures.ok
 
 pub returns-then-count-eq0-clause-err : goal.returns-then-count-eq0-clause-err
 returns-then-count-eq0-clause-err g c =
     let reads = rw c.in-Some.is at c.in_ok-count.ensures.ok in
-    let whole = read_end (layers_in c.args.self.now.core) (g.R.Read.remaining c.args.input.now.reader) (g.R.Read.remaining c.loop-read.input.reader) (g.R.Read.remaining c.read.new.self.reader) c.read.new.piece c.loop-read.self.pending.items c.in-Some.count c.loop-read.self.lines c.loop-read.self.core reads c.if-count-eq0.true c.loop-read.invariant.played in
-    IfErr-weaker c.end.result _ _ (λ fault h. plays_until_end (layers_in c.args.self.now.core) (g.R.Read.remaining c.args.input.now.reader) c.loop-read.self.pending.items c.loop-read.self.lines c.loop-read.self.core fault h whole) c.end.ensures.err
+    let whole = read_end (layers_in c.args.self.now.stage.core) (g.R.Read.remaining c.args.input.now.reader) (g.R.Read.remaining c.loop-read.input.reader) (g.R.Read.remaining c.read.new.self.reader) c.read.new.piece c.loop-read.self.pending.items c.in-Some.count c.loop-read.self.lines c.loop-read.self.stage reads c.if-count-eq0.true c.loop-read.invariant.played in
+    IfErr-weaker c.end.result _ _ (λ fault h. plays_until_end (layers_in c.args.self.now.stage.core) (g.R.Read.remaining c.args.input.now.reader) c.loop-read.self.pending.items c.loop-read.self.lines c.loop-read.self.stage fault h whole) c.end.ensures.err
 
 pub returns-then-count-eq0-clause-stream : goal.returns-then-count-eq0-clause-stream
 returns-then-count-eq0-clause-stream g c = output_stream c.read.new.self.failed c.loop-read.output.failed c.end.new.output.failed c.read.new.self.reads_left c.end.result c.end.ensures.stream
@@ -87,7 +87,7 @@ pub returns-in_err-feed-clause-err : goal.returns-in_err-feed-clause-err
 returns-in_err-feed-clause-err g c =
     let reads = rw c.in-Some.is at c.in_ok-count.ensures.ok in
     let p = err_from_is_err_and c.from_residual-in_err-feed.result c.from_residual-in_err-feed.ensures.1 in
-    rw (p.1, p.2) (read_until (layers_in c.args.self.now.core) (g.R.Read.remaining c.args.input.now.reader) (g.R.Read.remaining c.loop-read.input.reader) (g.R.Read.remaining c.read.new.self.reader) c.read.new.piece (take c.in-Some.count c.read.new.piece) c.loop-read.self.pending.items c.in-Some.count c.loop-read.self.lines c.loop-read.self.core c.in_err-feed.field-0.0 reads refl c.in_err-feed.ensures.err c.loop-read.invariant.played)
+    rw (p.1, p.2) (read_until (layers_in c.args.self.now.stage.core) (g.R.Read.remaining c.args.input.now.reader) (g.R.Read.remaining c.loop-read.input.reader) (g.R.Read.remaining c.read.new.self.reader) c.read.new.piece (take c.in-Some.count c.read.new.piece) c.loop-read.self.pending.items c.in-Some.count c.loop-read.self.lines c.loop-read.self.stage c.in_err-feed.field-0.0 reads refl c.in_err-feed.ensures.err c.loop-read.invariant.played)
 
 pub returns-in_err-feed-clause-stream : goal.returns-in_err-feed-clause-stream
 returns-in_err-feed-clause-stream g c =
@@ -97,7 +97,7 @@ returns-in_err-feed-clause-stream g c =
 pub returns-in_err-flush-clause-err : goal.returns-in_err-flush-clause-err
 returns-in_err-flush-clause-err g c =
     let p = err_from_is_err_and c.from_residual-in_err-flush.result c.from_residual-in_err-flush.ensures.1 in
-    rw (p.1, p.2) (device_ends (layers_in c.args.self.now.core) (g.R.Read.remaining c.args.input.now.reader) c.in_err-flush.field-0.0)
+    rw (p.1, p.2) (device_ends (layers_in c.args.self.now.stage.core) (g.R.Read.remaining c.args.input.now.reader) c.in_err-flush.field-0.0)
 
 pub returns-in_err-flush-clause-stream : goal.returns-in_err-flush-clause-stream
 returns-in_err-flush-clause-stream g c =
@@ -108,7 +108,7 @@ pub loop-read-preserved : goal.loop-read-preserved
 loop-read-preserved g c =
     let reads = rw c.in-Some.is at c.in_ok-count.ensures.ok in
     let invariant = c.loop-read.invariant in record {
-      played = read_on (layers_in c.args.self.now.core) (g.R.Read.remaining c.args.input.now.reader) (g.R.Read.remaining c.loop-read.input.reader) (g.R.Read.remaining c.read.new.self.reader) c.read.new.piece (take c.in-Some.count c.read.new.piece) c.loop-read.self.pending.items c.feed.new.self.pending.items c.in-Some.count c.loop-read.self.lines c.feed.new.self.lines c.loop-read.self.core c.feed.new.self.core reads refl c.in_ok-feed.ensures.ok invariant.played;
+      played = read_on (layers_in c.args.self.now.stage.core) (g.R.Read.remaining c.args.input.now.reader) (g.R.Read.remaining c.loop-read.input.reader) (g.R.Read.remaining c.read.new.self.reader) c.read.new.piece (take c.in-Some.count c.read.new.piece) c.loop-read.self.pending.items c.feed.new.self.pending.items c.in-Some.count c.loop-read.self.lines c.feed.new.self.lines c.loop-read.self.stage c.feed.new.self.stage reads refl c.in_ok-feed.ensures.ok invariant.played;
       few = more_lines _ _ _ c.in-Some.count _ _ _ c.in_ok-feed.ensures.lines (length-take c.in-Some.count c.read.new.piece) c.read.auto.piece invariant.piece invariant.few;
       left = one_read _ _ _ _ c.in_ok-count.ensures.reads invariant.left;
       piece = c.read.auto.piece ∙ invariant.piece;
@@ -117,7 +117,7 @@ loop-read-preserved g c =
     }
 
 pub returns-clause-err : goal.returns-clause-err
-returns-clause-err g c = device_ends (layers_in c.args.self.now.core) (g.R.Read.remaining c.args.input.now.reader) Stream
+returns-clause-err g c = device_ends (layers_in c.args.self.now.stage.core) (g.R.Read.remaining c.args.input.now.reader) Stream
 
 pub returns-clause-stream : goal.returns-clause-stream
 returns-clause-stream g c = inr (inl (none_left _ _ _ _ c.loop-read.invariant.left c.loop-read-test.false c.reads_left-read-end.ensures))

@@ -1,36 +1,106 @@
-use Rattle.std.proofs.Common.{◌+◌}
+use Rattle.std.proofs.Common.{◌+◌, refl}
 use Rattle.plain_model.specs.Runs.{Called}
 use Rattle.overlay_core.specs.Mounting.{machine_options}
-use Rattle.overlay_core.proofs.Agreeing.{given-more, given-same, goes-on, has-begun, some-finished, some-more, stays-on}
+use Rattle.overlay_core.proofs.Agreeing.{given-more, given-same, goes-on, has-begun, limits-on, some-finished, some-more, stays-on}
 use Rattle.overlay_core.proofs.mounted.Core.advance.Goals as goal
 
 pub invariant_of-self : goal.invariant_of-self
 invariant_of-self g c =
     let old = c.args.self.now.watched in
-    let new = c.perform-outcome.new.self in
+    let new = c.step.new.watched in
     let job = c.args.job.now in
+    let made = c.in-Done.ensures.makes.2 in
     record {
-      agrees = goes-on g.R.Rule.shows old.mount new.mount old.notifier new.notifier job.client (Called job.call c.in-Ok.reply) c.args.self.now.agrees (rw (c.client.ensures, c.call.ensures) at c.in-Ok.ensures.performs.goes);
+      agrees = goes-on g.R.Rule.shows old.mount new.mount old.notifier new.notifier job.client (Called job.call c.in-Done.reply) c.args.self.now.agrees made.turns.0;
       begins = has-begun (c.args.self.now.finished + 1) (machine_options c.args.self.now.options) new.mount new.notifier (some-more c.args.self.now.finished);
-      given = given-more old.mount.clients.next new.mount.clients.next c.args.self.now.finished c.args.self.now.given c.in-Ok.ensures.performs.kept.clients.next;
+      given = given-more old.mount.clients.next new.mount.clients.next c.args.self.now.finished c.args.self.now.given made.clients.next;
       short = c.args.self.now.short;
+      temps = made.temps;
+      limits = limits-on old.mount.layers new.mount.layers made.lowers c.args.self.now.limits;
     }
 
-pub invariant_of-self-in-Err : goal.invariant_of-self-in-Err
-invariant_of-self-in-Err g c =
+pub returns-in-Done-clause-turn : goal.returns-in-Done-clause-turn
+returns-in-Done-clause-turn g c = c.in-Done.ensures.makes.2.turns
+
+pub returns-in-Done-clause-step : goal.returns-in-Done-clause-step
+returns-in-Done-clause-step g c = λ s a. rw (c.in-Done.ensures.makes.1 s a) c.in-Done.ensures.makes.2.steps
+
+pub returns-in-Done-clause-kept : goal.returns-in-Done-clause-kept
+returns-in-Done-clause-kept g c =
+    let made = c.in-Done.ensures.makes.2 in
+    record { options = refl; lowers = made.lowers; thin = made.thin }
+
+pub returns-in-Done-clause-layers : goal.returns-in-Done-clause-layers
+returns-in-Done-clause-layers g c = c.in-Done.ensures.makes.2.layers
+
+pub returns-in-Done-clause-clients : goal.returns-in-Done-clause-clients
+returns-in-Done-clause-clients g c = c.in-Done.ensures.makes.2.clients
+
+pub returns-in-Done-clause-refused : goal.returns-in-Done-clause-refused
+returns-in-Done-clause-refused g c = c.in-Done.ensures.makes.2.refused
+
+pub invariant_of-self-in-More : goal.invariant_of-self-in-More
+invariant_of-self-in-More g c =
     let old = c.args.self.now.watched in
-    let new = c.perform-outcome.new.self in
+    let new = c.step.new.watched in
     let before = c.args.self.now.given in
+    let made = c.in-More.ensures.makes.2 in
     let there = old.mount.clients.rising c.args.job.now.client c.requires.attached in
     record {
-      agrees = stays-on old.mount new.mount old.notifier new.notifier c.args.self.now.agrees c.in-Err.ensures.performs.no_memory;
+      agrees = stays-on old.mount new.mount old.notifier new.notifier c.args.self.now.agrees made.turns.0;
       begins = has-begun c.args.self.now.finished (machine_options c.args.self.now.options) new.mount new.notifier (some-finished c.args.job.now.client old.mount.clients.next c.args.self.now.finished there before);
-      given = given-same old.mount.clients.next new.mount.clients.next c.args.self.now.finished before c.in-Err.ensures.performs.kept.clients.next;
+      given = given-same old.mount.clients.next new.mount.clients.next c.args.self.now.finished before made.clients.next;
       short = c.args.self.now.short;
+      temps = made.temps;
+      limits = limits-on old.mount.layers new.mount.layers made.lowers c.args.self.now.limits;
     }
 
-pub returns-in-Ok-clause-turn : goal.returns-in-Ok-clause-turn
-returns-in-Ok-clause-turn g c = (rw (c.client.ensures, c.call.ensures) at c.in-Ok.ensures.performs.goes, c.end.ensures.standing)
+pub returns-in-More-clause-turn : goal.returns-in-More-clause-turn
+returns-in-More-clause-turn g c = c.in-More.ensures.makes.2.turns
 
-pub returns-in-Err-clause-turn : goal.returns-in-Err-clause-turn
-returns-in-Err-clause-turn g c = (c.in-Err.ensures.performs.no_memory, c.end-in-Err.ensures.standing)
+pub returns-in-More-clause-step : goal.returns-in-More-clause-step
+returns-in-More-clause-step g c = λ s a. rw (c.in-More.ensures.makes.1 s a) c.in-More.ensures.makes.2.steps
+
+pub returns-in-More-clause-kept : goal.returns-in-More-clause-kept
+returns-in-More-clause-kept g c =
+    let made = c.in-More.ensures.makes.2 in
+    record { options = refl; lowers = made.lowers; thin = made.thin }
+
+pub returns-in-More-clause-layers : goal.returns-in-More-clause-layers
+returns-in-More-clause-layers g c = c.in-More.ensures.makes.2.layers
+
+pub returns-in-More-clause-clients : goal.returns-in-More-clause-clients
+returns-in-More-clause-clients g c = c.in-More.ensures.makes.2.clients
+
+pub invariant_of-self-in-NoMemory : goal.invariant_of-self-in-NoMemory
+invariant_of-self-in-NoMemory g c =
+    let old = c.args.self.now.watched in
+    let new = c.step.new.watched in
+    let before = c.args.self.now.given in
+    let made = c.in-NoMemory.ensures.makes.2 in
+    let there = old.mount.clients.rising c.args.job.now.client c.requires.attached in
+    record {
+      agrees = stays-on old.mount new.mount old.notifier new.notifier c.args.self.now.agrees made.turns.0;
+      begins = has-begun c.args.self.now.finished (machine_options c.args.self.now.options) new.mount new.notifier (some-finished c.args.job.now.client old.mount.clients.next c.args.self.now.finished there before);
+      given = given-same old.mount.clients.next new.mount.clients.next c.args.self.now.finished before made.clients.next;
+      short = c.args.self.now.short;
+      temps = made.temps;
+      limits = limits-on old.mount.layers new.mount.layers made.lowers c.args.self.now.limits;
+    }
+
+pub returns-in-NoMemory-clause-turn : goal.returns-in-NoMemory-clause-turn
+returns-in-NoMemory-clause-turn g c = c.in-NoMemory.ensures.makes.2.turns
+
+pub returns-in-NoMemory-clause-step : goal.returns-in-NoMemory-clause-step
+returns-in-NoMemory-clause-step g c = λ s a. c.in-NoMemory.ensures.makes.2.steps
+
+pub returns-in-NoMemory-clause-kept : goal.returns-in-NoMemory-clause-kept
+returns-in-NoMemory-clause-kept g c =
+    let made = c.in-NoMemory.ensures.makes.2 in
+    record { options = refl; lowers = made.lowers; thin = made.thin }
+
+pub returns-in-NoMemory-clause-layers : goal.returns-in-NoMemory-clause-layers
+returns-in-NoMemory-clause-layers g c = c.in-NoMemory.ensures.makes.2.layers
+
+pub returns-in-NoMemory-clause-clients : goal.returns-in-NoMemory-clause-clients
+returns-in-NoMemory-clause-clients g c = c.in-NoMemory.ensures.makes.2.clients

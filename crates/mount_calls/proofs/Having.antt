@@ -1,0 +1,159 @@
+-- What a call lacks can be had: a parent is on a way that is shown, and a file has the bytes that its layer's limits allow.
+use Rattle.std.specs.Prelude.{slice_get}
+use Rattle.std.proofs.Common.{◌≡◌, ◌≢◌, map, ℕ, zero, suc, ◌<◌, ◌≤◌, Bool, true, false, cond, nat_lt, List, [], ◌∷◌, length, Option, None, Some, All, refl, ap, ◌∙◌, subst, arith}
+use Rattle.std.specs.Option.{option_and_then}
+use Rattle.std.proofs.lemmas.Bool.{ltb-true}
+use Rattle.ov_base.specs.declared.bytes.Content.{Content}
+use Rattle.ov_base.specs.declared.bytes.Content.TheVariants as content
+use Rattle.ov_base.specs.declared.call.Call.{Call}
+use Rattle.plain_model.specs.Layers.{Path, Object, Directory, Named, Whiteout, Inode, Layer, held, below, cuts, Shown, Folder, Contents, over, unless, shows}
+use Rattle.plain_model.specs.Limits.{IsContentWithin, IsWithinLimits}
+use Rattle.layer_tree.specs.Tree as tree
+use Rattle.layer_tree.specs.Tree.{Tree, inode_at, layer_of}
+use Rattle.merged_lookup.specs.declared.layers.Layers.{Layers}
+use Rattle.merged_lookup.specs.Lower.{file_bytes}
+use Rattle.merged_lookup.specs.Merged.{layers_of, lowers_of, parents_fault}
+use Rattle.merged_lookup.proofs.Preparing.{lower-shown}
+use Rattle.copy_up.specs.Needs.{IsNeed}
+use Rattle.work_dir.specs.declared.limits.TheConstants.{FILE_MAX}
+use Rattle.work_dir.specs.declared.next.Lack.{Lack}
+use Rattle.work_dir.specs.declared.source.Source.{Source}
+use Rattle.mount_calls.specs.declared.mount.Mount.{Mount}
+use Rattle.mount_calls.specs.Lacks.{bytes_at, file_lack, lack_among, lacking, low_file, need_of, parent_lack, path_of_call, source_of, CanBeHad, OpensToChange}
+use Rattle.mount_calls.proofs.Lacking.{need-lacking}
+use Rattle.mount_calls.proofs.Stating.{the_layers, the_lowers, the_upper}
+
+-- what holds of each of a list holds of those after the first
+all-tail : (P : Layer → Type 0) (x : Layer) (xs : List Layer) → All P (x ∷ xs) → All P xs
+all-tail P x xs a = λ k d less. a (suc k) d (omega (arith, less))
+
+-- where a layer holds or lets through what is shown, it is within the limits
+over-within : (i : ℕ) (L : Layer) (p : Path) (j k : ℕ) (x : Inode) (o : Option Object) (c : Bool) (y : Option Shown) → IsWithinLimits L → held L p ≡ o →
+    (y ≡ Some (Contents j k (Some x)) → IsContentWithin x.content) → over i L.inodes o (unless c y) ≡ Some (Contents j k (Some x)) → IsContentWithin x.content
+over-within i L p j k x None true y w is rest h = cc
+over-within i L p j k x None false y w is rest h = rest h
+over-within i L p j k x (Some Whiteout) c y w is rest h = cc
+over-within i L p j k x (Some (Directory m a u r)) c y w is rest h = cc
+over-within i L p j k x (Some (Named m)) c y w is rest h = let there : L.inodes m ≡ Some x = cc in w.contents p m x is there
+
+-- what a file or link holds that is shown is within the limits of layers that are
+shown-within : (i : ℕ) (Ls : List Layer) → All IsWithinLimits Ls → (p : Path) (j k : ℕ) (x : Inode) → shows i Ls p ≡ Some (Contents j k (Some x)) → IsContentWithin x.content
+shown-within i [] a p j k x h = cc
+shown-within i (L ∷ Ls) a p j k x h =
+    over-within i L p j k x (held L p) (cuts L p) (shows (suc i) Ls (below L p)) (a 0 L (omega arith)) refl
+    (shown-within (suc i) Ls (all-tail IsWithinLimits L Ls a) (below L p) j k x) h
+
+-- what is shown of a lower layer comes through the upper
+low-through : (inodes : ℕ → Option Inode) (o : Option Object) (c : Bool) (y : Option Shown) (j k : ℕ) (x : Option Inode) → over 0 inodes o (unless c y) ≡ Some (Contents (suc j) k x) → y ≡ Some (Contents (suc j) k x)
+low-through inodes None true y j k x h = cc
+low-through inodes None false y j k x h = h
+low-through inodes (Some Whiteout) c y j k x h = cc
+low-through inodes (Some (Directory m a u r)) c y j k x h = cc
+low-through inodes (Some (Named m)) c y j k x h = let e : 0 ≡ suc j = cc in absurd (omega (arith, e))
+
+-- the bytes of a file are within the limits where it is
+bytes-within : (c : Content) (b : List ℕ) → c ≡ content.File b → IsContentWithin c → length b ≤ FILE_MAX
+bytes-within c b is w = subst IsContentWithin is w
+
+-- a lower file has bytes, no more than its layer's limits allow
+abbrev pub HasBytes : List Layer → Source → Type 0
+HasBytes lowers d = (b : List ℕ) × (bytes_at lowers d ≡ Some b) × (All IsWithinLimits lowers → length b ≤ FILE_MAX)
+
+low-bytes : (l : Layers) (p : Path) (j k : ℕ) (i : Inode) (b : List ℕ) → i.content ≡ content.File b → shows 0 (layers_of l) p ≡ Some (Contents j k (Some i)) → 0 < j →
+    HasBytes (lowers_of l) (record { layer = j; key = k })
+low-bytes l p zero k i b is shown lower = absurd (omega (arith, lower))
+low-bytes l p (suc j) k i b is shown lower =
+    let U = layer_of l.upper in (
+      b,
+      ap (option_and_then (λ (x : Inode). file_bytes x.content)) (lower-shown l p j k (Some i) shown) ∙ ap file_bytes is,
+      λ a. bytes-within i.content b is
+          (shown-within 1 (lowers_of l) a (below U p) (suc j) k i
+          (low-through U.inodes (held U p) (cuts U p) (shows 1 (lowers_of l) (below U p)) j k (Some i) shown)),
+    )
+
+-- a lower file that is shown is there
+record IsLowFile (s : Option Shown) (d : Source) : Type 0 where
+  pub inode : Inode
+  pub bytes : List ℕ
+  pub content : inode.content ≡ content.File bytes
+  pub shown : s ≡ Some (Contents d.layer d.key (Some inode))
+  pub lower : 0 < d.layer
+
+low-file-in : (j k : ℕ) (i : Inode) (d : Source) (b : Bool) (c : Content) → nat_lt 0 j ≡ b → i.content ≡ c → cond b (source_of j k c) None ≡ Some d → IsLowFile (Some (Contents j k (Some i))) d
+low-file-in j k i d false c less is h = cc
+low-file-in j k i d true (content.SymbolicLink target) less is h = cc
+low-file-in j k i d true (content.File bytes) less is h =
+    let place : Source = record { layer = j; key = k } in
+    let e : Some place ≡ Some d = h in
+    let same : place ≡ d = cc in
+    subst (λ z. IsLowFile (Some (Contents j k (Some i))) z) same
+    (record { inode = i; bytes = bytes; content = is; shown = refl; lower = ltb-true 0 j less })
+
+is-low-file : (s : Option Shown) (d : Source) → low_file s ≡ Some d → IsLowFile s d
+is-low-file None d h = cc
+is-low-file (Some (Folder j k a)) d h = cc
+is-low-file (Some (Contents j k None)) d h = cc
+is-low-file (Some (Contents j k (Some i))) d h = low-file-in j k i d (nat_lt 0 j) i.content refl refl h
+
+-- each file that is lacking has bytes
+abbrev pub IsOfBytes : Mount → Option Source → Type 0
+IsOfBytes m file = (d : Source) → file ≡ Some d → HasBytes (the_lowers m) d
+
+pub none-bytes : (m : Mount) → IsOfBytes m None
+none-bytes m d h = cc
+
+pub shown-bytes : (m : Mount) (p : Path) → IsOfBytes m (low_file (shows 0 (the_layers m) p))
+shown-bytes m p d h =
+    let f = is-low-file (shows 0 (the_layers m) p) d h in
+    low-bytes m.layers p d.layer d.key f.inode f.bytes f.content f.shown f.lower
+
+-- a file that is lacking can be had
+can-file : (m : Mount) (k : Call) (file : Option Source) → IsOfBytes m file → CanBeHad m k (file_lack file)
+can-file m k None has = tt
+can-file m k (Some d) has = has d refl
+
+-- a path of a call, first or second, to which the way is shown
+pub record IsWay (m : Mount) (k : Call) (second : Bool) (p : Path) : Type 0 where
+  pub path : path_of_call k second ≡ Some p
+  pub way : parents_fault (the_layers m) p ≡ None
+  pub opens : OpensToChange (the_layers m) k
+
+-- a parent that is lacking can be had, and else what is lacking besides
+can-parent : (m : Mount) (k : Call) (second : Bool) (p : Path) → IsWay m k second p → (o : Option ℕ) → IsNeed (the_upper m) p (need_of o) → (besides : Lack) → CanBeHad m k besides →
+    CanBeHad m k (parent_lack second o besides)
+can-parent m k second p w None need besides has = has
+can-parent m k second p w (Some count) need besides has = (p, w.path, w.way, need, w.opens)
+
+can-way : (m : Mount) (k : Call) (second : Bool) (p : Path) → IsWay m k second p → (besides : Lack) → CanBeHad m k besides → CanBeHad m k (parent_lack second (lacking (the_upper m) p) besides)
+can-way m k second p w besides has = can-parent m k second p w (lacking (the_upper m) p) (need-lacking (the_upper m) p) besides has
+
+-- what is lacking for one path, and for two
+pub can-one : (m : Mount) (k : Call) (p : Path) (file : Option Source) → IsWay m k false p → IsOfBytes m file → CanBeHad m k (lack_among (the_upper m) false (p ∷ []) file)
+can-one m k p file w has = can-way m k false p w (file_lack file) (can-file m k file has)
+
+pub can-both : (m : Mount) (k : Call) (p q : Path) (file : Option Source) → IsWay m k false p → IsWay m k true q → IsOfBytes m file →
+    CanBeHad m k (lack_among (the_upper m) false (p ∷ (q ∷ [])) file)
+can-both m k p q file w v has =
+    can-way m k false p w (parent_lack true (lacking (the_upper m) q) (file_lack file)) (can-way m k true q v (file_lack file) (can-file m k file has))
+
+-- the bytes of a lower file are those that its layer has under its key
+content-bytes : (c : Content) → tree.file_bytes c ≡ file_bytes c
+content-bytes (content.File b) = refl
+content-bytes (content.SymbolicLink target) = refl
+
+inode-bytes : (o : Option Inode) → option_and_then (λ (i : Inode). tree.file_bytes i.content) o ≡ option_and_then (λ (i : Inode). file_bytes i.content) o
+inode-bytes None = refl
+inode-bytes (Some i) = content-bytes i.content
+
+pub lower-read : (u : Tree) (ts : List Tree) (j k : ℕ) → option_and_then (λ t. tree.bytes_at t k) (slice_get (u ∷ ts) (suc j)) ≡ bytes_at (map layer_of ts) (record { layer = suc j; key = k })
+lower-read u [] j k = refl
+lower-read u (t ∷ ts) zero k = inode-bytes (inode_at t k)
+lower-read u (t ∷ ts) (suc j) k = lower-read t ts j k
+
+-- the upper is no lower layer
+pub source-read : (u : Tree) (ts : List Tree) (d : Source) → d.layer ≢ 0 → option_and_then (λ t. tree.bytes_at t d.key) (slice_get (u ∷ ts) d.layer) ≡ bytes_at (map layer_of ts) d
+source-read u ts d low = at d.layer low
+  where
+    at : (j : ℕ) → j ≢ 0 → option_and_then (λ t. tree.bytes_at t d.key) (slice_get (u ∷ ts) j) ≡ bytes_at (map layer_of ts) (record { layer = j; key = d.key })
+    at zero low = absurd (low refl)
+    at (suc j) low = lower-read u ts j d.key

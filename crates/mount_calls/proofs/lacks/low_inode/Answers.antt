@@ -1,0 +1,9 @@
+use Rattle.std.proofs.Common.{◌∙◌, arith}
+use Rattle.mount_calls.proofs.Lacking.{low-lower, low-own}
+use Rattle.mount_calls.proofs.lacks.low_inode.Goals as goal
+
+pub returns-then-place-gt0 : goal.returns-then-place-gt0
+returns-then-place-gt0 c = λ p at. c.source_of.ensures ∙ low-lower _ _ _ _ c.if-place-gt0.true (c.inode_at-inode.ensures p at)
+
+pub returns : goal.returns
+returns c = λ p at. low-own _ _ _ _ (omega arith) at.shown

@@ -1,0 +1,17 @@
+use Rattle.layer_tree.specs.Tree.{layer_of}
+use Rattle.copy_up.specs.declared.needs.Need.TheVariants as need
+use Rattle.mount_calls.specs.Lacks.{lacking}
+use Rattle.mount_calls.proofs.Lacking.{lack-besides, lack-parent, law_of_needs}
+use Rattle.mount_calls.proofs.lacks.way_lack.Goals as goal
+
+pub returns-in-Directory : goal.returns-in-Directory
+returns-in-Directory c =
+    let U = layer_of c.args.layers.now.upper in
+    let p = c.args.path.now in
+    lack-parent c.args.second (lacking U p) c.in-Directory.count c.args.besides ((law_of_needs U p (need.Directory c.in-Directory.count)).0 c.in-Directory.ensures)
+
+pub returns-in-Nothing : goal.returns-in-Nothing
+returns-in-Nothing c =
+    let U = layer_of c.args.layers.now.upper in
+    let p = c.args.path.now in
+    lack-besides c.args.second (lacking U p) c.args.besides ((law_of_needs U p need.Nothing).0 c.in-Nothing.ensures)

@@ -1,0 +1,35 @@
+use Rattle.std.proofs.Common.{false, [], ◌∷◌, None, Some, refl, ap, ◌∙◌}
+use Rattle.ov_base.specs.declared.call.Call.TheVariants as call
+use Rattle.mount_calls.specs.Lacks.{lack_among, low_file}
+use Rattle.plain_model.specs.Layers.{shows}
+use Rattle.mount_calls.proofs.Judging.{refuses-link, tells-both, tells-refusal}
+use Rattle.mount_calls.proofs.Having.{shown-bytes}
+use Rattle.mount_calls.proofs.Keys.{look-seen}
+use Rattle.mount_calls.proofs.Stating.{the_layers, the_upper}
+use Rattle.mount_calls.proofs.mount.Mount.link_lack.Goals as goal
+
+pub returns-in-Err : goal.returns-in-Err
+returns-in-Err c = λ client.
+    let m = c.args.self.now in
+    let p = c.args.old.now in
+    let q = c.args.new.now in
+    tells-refusal m client (call.Hardlink p q) c.in-Err.errno
+    (refuses-link m client p q (Some c.in-Err.errno) (c.in-Err.ensures.refused m.layers p q
+    (look-seen m.layers p c.look-from.result c.look-from.ensures) (look-seen m.layers q c.look-onto.result c.look-onto.ensures)))
+
+pub low_inode-file-requires : goal.low_inode-file-requires
+low_inode-file-requires c =
+    let m = c.args.self.now in
+    let p = c.args.old.now in
+    let q = c.args.new.now in
+    (p, (c.in-Ok.ensures.may m.layers p q (look-seen m.layers p c.look-from.result c.look-from.ensures) (look-seen m.layers q c.look-onto.result c.look-onto.ensures)).shown)
+
+pub returns : goal.returns
+returns c = λ client.
+    let m = c.args.self.now in
+    let p = c.args.old.now in
+    let q = c.args.new.now in
+    let may = c.in-Ok.ensures.may m.layers p q (look-seen m.layers p c.look-from.result c.look-from.ensures) (look-seen m.layers q c.look-onto.result c.look-onto.ensures) in
+    tells-both m client (call.Hardlink p q) p q (low_file (shows 0 (the_layers m) p)) c.lack_on_both.result (refuses-link m client p q None may.fine)
+    (c.lack_on_both.ensures ∙ ap (λ d. lack_among (the_upper m) false (p ∷ (q ∷ [])) d) (c.low_inode-file.ensures p may.shown)) refl
+    (record { path = refl; way = may.way; opens = tt }) (record { path = refl; way = may.parents; opens = tt }) (shown-bytes m p)

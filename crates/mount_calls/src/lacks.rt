@@ -1,0 +1,345 @@
+// What a call lacks in the upper before it can be made there, or why it is refused.
+ghost use Rattle.std.specs.Prelude.{◌≡◌, ◌||◌, ◌∷◌, [], ℕ, true, false, None, Some, IsSome};
+ghost use Rattle.std.specs.BTreeMap.{get};
+ghost use Rattle.std.specs.Ordering.{nat_cmp};
+ghost use Rattle.plain_model.specs.Layers.{Path as Names, shows};
+ghost use Rattle.plain_model.specs.Machine.{State};
+ghost use Rattle.plain_model.specs.Refusals.{refusal};
+ghost use Rattle.layer_tree.specs.Tree.{layer_of};
+ghost use Rattle.merged_lookup.specs.Merged.{layers_of, lowers_of, IsFound, IsTopmost, ShowsInode};
+ghost use Rattle.mount_calls.specs.AttributeCalls.{call_at};
+ghost use Rattle.mount_calls.specs.Lacks as lacks;
+ghost use Rattle.mount_calls.specs.Lacks.{lacking, parent_lack, lack_among, lack_of};
+ghost use Rattle.mount_calls.specs.Lacks.{HoldsObject, LawOfNeeds, TellsLack};
+ghost use Rattle.mount_calls.specs.States.{IsStateOf};
+ghost use Rattle.work_dir.specs.declared.next.Lack.TheVariants as Lacking;
+
+use crate::attribute_changes::{AttributeCall, judged, mode_fault};
+use crate::mount::Mount;
+use copy_up::{Need, need_at};
+use layer_tree::Entry;
+use make_remove::{leaf_at, removable, vacant};
+use merged_lookup::{Found, Layers, Place, Topmost};
+use ov_base::{Bytes, Call, Content, Errno, LinkTarget, OpenFlags, Path};
+use rename_redirect::{linkable, movable};
+use work_dir::{Lack, Source};
+
+/// Whether a call changes what paths show, or opens what one shows, so that it may lack something.
+pub fn may_lack(call: &Call) -> bool
+    ensures { result ≡ lacks.may_lack call.now }
+{
+    match call {
+        Call::Chmod { .. }
+        | Call::Chown { .. }
+        | Call::SetAttribute { .. }
+        | Call::DeleteAttribute { .. }
+        | Call::Mkdir { .. }
+        | Call::Symlink { .. }
+        | Call::Open { .. }
+        | Call::Unlink { .. }
+        | Call::Rmdir { .. }
+        | Call::Hardlink { .. }
+        | Call::Rename { .. } => true,
+        _ => false,
+    }
+}
+
+/// What `need_at` tells is the lacking parent; it does nothing.
+pub fn law_of_needs()
+    ensures { LawOfNeeds }
+{}
+
+impl Mount {
+    /// What a call of a client lacks in the upper, or why it is refused. Nothing changes, and it
+    /// takes no memory.
+    pub fn lack(&self, client: u64, call: &Call) -> Result<Lack, Errno>
+        requires attached { IsSome (get nat_cmp self.now.clients.attached client) }
+        requires may { lacks.may_lack call.now ≡ true }
+        ensures { TellsLack self.now client call.now result }
+    {
+        match call {
+            Call::Chmod { path, mode } => self.attribute_lack(path, AttributeCall::Mode(*mode)),
+            Call::Chown { path, uid, gid } => {
+                self.attribute_lack(path, AttributeCall::Owner(*uid, *gid))
+            }
+            Call::SetAttribute { path, name, value } => {
+                self.attribute_lack(path, AttributeCall::Set(name, value))
+            }
+            Call::DeleteAttribute { path, name } => {
+                self.attribute_lack(path, AttributeCall::Delete(name))
+            }
+            Call::Mkdir { path, mode } => self.mkdir_lack(path, *mode),
+            Call::Symlink { target, path } => self.symlink_lack(target, path),
+            Call::Open { path, flags, mode } => self.open_lack(client, path, *flags, *mode),
+            Call::Unlink { path } => self.unlink_lack(path),
+            Call::Rmdir { path } => self.rmdir_lack(path),
+            Call::Hardlink { old, new } => self.link_lack(old, new),
+            Call::Rename { old, new } => self.rename_lack(old, new),
+            _ => unreachable!(),
+        }
+    }
+
+    /// Whether the upper has all that a call may lack, so that it lacks nothing unless it is
+    /// refused. It looks into the upper alone, and a call for which it says no may lack nothing all
+    /// the same.
+    pub fn has_all(&self, call: &Call) -> bool
+        ensures { result ≡ true → (s : State) → IsStateOf self.now s → (c : ℕ) →
+            refusal s c call.now ≡ None →
+            lack_of (layer_of self.now.layers.upper) (lowers_of self.now.layers) call.now
+            ≡ Lacking.Nothing }
+    {
+        match call {
+            Call::Chmod { path, .. }
+            | Call::Chown { path, .. }
+            | Call::SetAttribute { path, .. }
+            | Call::DeleteAttribute { path, .. } => holds_object(&self.layers, path),
+            Call::Mkdir { path, .. }
+            | Call::Symlink { path, .. }
+            | Call::Unlink { path }
+            | Call::Rmdir { path } => holds_parents(&self.layers, path),
+            Call::Open { path, flags, .. } => {
+                !may_change(*flags) || holds_object(&self.layers, path)
+            }
+            Call::Hardlink { old, new } | Call::Rename { old, new } => {
+                holds_both(&self.layers, old, new)
+            }
+            _ => true,
+        }
+    }
+
+    // `lack`, of a change of attributes.
+    fn attribute_lack(&self, path: &Path, ask: AttributeCall) -> Result<Lack, Errno>
+        ensures { (c : ℕ) → TellsLack self.now c (call_at path.now ask.entry) result }
+    {
+        let look = self.look(path);
+        let (_, top) = match judged(&self.layers, look, &ask) {
+            Ok(target) => target,
+            Err(errno) => return Err(errno),
+        };
+        let file = low_file(&self.layers, top);
+        Ok(lack_on(&self.layers, path, file))
+    }
+
+    // `lack`, of `mkdir`.
+    fn mkdir_lack(&self, path: &Path, mode: u32) -> Result<Lack, Errno>
+        ensures { (c : ℕ) → TellsLack self.now c (Call.Mkdir path.now mode) result }
+    {
+        if let Some(errno) = mode_fault(mode) {
+            return Err(errno);
+        }
+        match vacant(&self.layers, path) {
+            Ok(_) => Ok(lack_on(&self.layers, path, None)),
+            Err(errno) => Err(errno),
+        }
+    }
+
+    // `lack`, of `symlink`.
+    fn symlink_lack(&self, target: &Bytes, path: &Path) -> Result<Lack, Errno>
+        ensures { (c : ℕ) → TellsLack self.now c (Call.Symlink target.now path.now) result }
+    {
+        if let Some(errno) = LinkTarget::fault(target.as_slice()) {
+            return Err(errno);
+        }
+        match vacant(&self.layers, path) {
+            Ok(_) => Ok(lack_on(&self.layers, path, None)),
+            Err(errno) => Err(errno),
+        }
+    }
+
+    // `lack`, of `open`.
+    fn open_lack(
+        &self,
+        client: u64,
+        path: &Path,
+        flags: OpenFlags,
+        mode: u32,
+    ) -> Result<Lack, Errno>
+        requires { IsSome (get nat_cmp self.now.clients.attached client) }
+        ensures { TellsLack self.now client (Call.Open path.now flags mode) result }
+    {
+        let look = self.look(path);
+        let judged = match self.judge_open(client, look, flags, mode) {
+            Ok(judged) => judged,
+            Err(errno) => return Err(errno),
+        };
+        let Some(top) = judged.top else {
+            return Ok(lack_on(&self.layers, path, None));
+        };
+        if flags.writes {
+            let file = low_file(&self.layers, top);
+            let lack = lack_on(&self.layers, path, file);
+            return Ok(lack);
+        }
+        Ok(Lack::Nothing)
+    }
+
+    // `lack`, of `unlink`.
+    fn unlink_lack(&self, path: &Path) -> Result<Lack, Errno>
+        ensures { (c : ℕ) → TellsLack self.now c (Call.Unlink path.now) result }
+    {
+        match leaf_at(&self.layers, path) {
+            Ok(_) => Ok(lack_on(&self.layers, path, None)),
+            Err(errno) => Err(errno),
+        }
+    }
+
+    // `lack`, of `rmdir`.
+    fn rmdir_lack(&self, path: &Path) -> Result<Lack, Errno>
+        ensures { (c : ℕ) → TellsLack self.now c (Call.Rmdir path.now) result }
+    {
+        match removable(&self.layers, path) {
+            Ok(_) => Ok(lack_on(&self.layers, path, None)),
+            Err(errno) => Err(errno),
+        }
+    }
+
+    // `lack`, of `link`.
+    fn link_lack(&self, old: &Path, new: &Path) -> Result<Lack, Errno>
+        ensures { (c : ℕ) → TellsLack self.now c (Call.Hardlink old.now new.now) result }
+    {
+        let from = self.look(old);
+        let onto = self.look(new);
+        let (_, _, place) = match linkable(from.shown, onto.shown) {
+            Ok(found) => found,
+            Err(errno) => return Err(errno),
+        };
+        let file = low_inode(&self.layers, place);
+        Ok(lack_on_both(&self.layers, old, new, file))
+    }
+
+    // `lack`, of `rename`.
+    fn rename_lack(&self, old: &Path, new: &Path) -> Result<Lack, Errno>
+        ensures { (c : ℕ) → TellsLack self.now c (Call.Rename old.now new.now) result }
+    {
+        let from = self.look(old);
+        let onto = self.look(new);
+        let layers = &self.layers;
+        let moved = match movable(layers, old, new, self.redirects, from.shown, onto.shown) {
+            Ok(Some(moved)) => moved,
+            Ok(None) => return Ok(Lack::Nothing),
+            Err(errno) => return Err(errno),
+        };
+        let file = found_file(layers, &moved.1);
+        Ok(lack_on_both(layers, old, new, file))
+    }
+}
+
+// Whether the upper holds each parent of a path.
+fn holds_parents(layers: &Layers, path: &Path) -> bool
+    ensures { result ≡ true → lacking (layer_of layers.now.upper) path.now ≡ None }
+{
+    matches!(need_at(layers, path), Need::Nothing)
+}
+
+// Whether the upper holds a directory, file or symbolic link at a path, and so its parents too.
+fn holds_object(layers: &Layers, path: &Path) -> bool
+    ensures { result ≡ true → HoldsObject layers.now path.now }
+{
+    let upper = layers.upper();
+    upper.lawful();
+    match upper.find(path) {
+        Some(Entry::Object(key)) => upper.node(key).is_some(),
+        _ => false,
+    }
+}
+
+// Whether the upper holds an object at one path, and each parent of another.
+fn holds_both(layers: &Layers, old: &Path, new: &Path) -> bool
+    ensures object { result ≡ true → HoldsObject layers.now old.now }
+    ensures parents { result ≡ true → lacking (layer_of layers.now.upper) new.now ≡ None }
+{
+    holds_object(layers, old) && holds_parents(layers, new)
+}
+
+// Whether an open writes, or makes its file where there is none.
+fn may_change(flags: OpenFlags) -> bool
+    ensures { result ≡ (flags.writes || flags.create) }
+{
+    flags.writes || flags.create
+}
+
+// What is lacking on the way to a path, and else a file's bytes.
+fn lack_on(layers: &Layers, path: &Path, file: Option<Source>) -> Lack
+    ensures { result ≡ lack_among (layer_of layers.now.upper) false (path.now ∷ []) file }
+{
+    way_lack(layers, path, false, file_lack(file))
+}
+
+// What is lacking on the way to one path, then to another, and else a file's bytes.
+fn lack_on_both(layers: &Layers, old: &Path, new: &Path, file: Option<Source>) -> Lack
+    ensures { result ≡ lack_among (layer_of layers.now.upper) false (old.now ∷ (new.now ∷ []))
+        file }
+{
+    let besides = way_lack(layers, new, true, file_lack(file));
+    way_lack(layers, old, false, besides)
+}
+
+// The topmost parent of a path that the upper lacks, and else what is lacking besides.
+fn way_lack(layers: &Layers, path: &Path, second: bool, besides: Lack) -> Lack
+    ensures { result ≡ parent_lack second (lacking (layer_of layers.now.upper) path.now) besides }
+{
+    match need_at(layers, path) {
+        Need::Directory(count) => Lack::Parent { second, count },
+        Need::Nothing => besides,
+    }
+}
+
+// A file's bytes, where some are lacking.
+fn file_lack(file: Option<Source>) -> Lack
+    ensures { result ≡ lacks.file_lack file }
+{
+    match file {
+        Some(source) => Lack::File(source),
+        None => Lack::Nothing,
+    }
+}
+
+// Where a file of a lower layer is that is shown as the topmost object.
+fn low_file(layers: &Layers, top: Topmost) -> Option<Source>
+    requires { (p : Names) × IsTopmost layers.now p (Some top) }
+    ensures { (p : Names) → IsTopmost layers.now p (Some top) →
+        result ≡ lacks.low_file (shows 0 (layers_of layers.now) p) }
+{
+    match top {
+        Topmost::Inode(place) => low_inode(layers, place),
+        Topmost::Directory(_) => None,
+    }
+}
+
+// Where a file of a lower layer is that was found.
+fn found_file(layers: &Layers, found: &Found) -> Option<Source>
+    requires { (p : Names) × IsFound layers.now p found.now }
+    ensures { (p : Names) → IsFound layers.now p found.now →
+        result ≡ lacks.low_file (shows 0 (layers_of layers.now) p) }
+{
+    match found {
+        Found::Inode(place) => low_inode(layers, *place),
+        Found::Directory(_) => None,
+    }
+}
+
+// Where a file of a lower layer is that is shown at a place.
+fn low_inode(layers: &Layers, place: Place) -> Option<Source>
+    requires { (p : Names) × ShowsInode layers.now p place }
+    ensures { (p : Names) → ShowsInode layers.now p place →
+        result ≡ lacks.low_file (shows 0 (layers_of layers.now) p) }
+{
+    if place.layer > 0 {
+        let inode = layers.inode_at(place);
+        return source_of(place, &inode.content);
+    }
+    None
+}
+
+// Where a file is; a symbolic link is no file.
+fn source_of(place: Place, content: &Content) -> Option<Source>
+    ensures { result ≡ lacks.source_of place.layer place.key content.now }
+{
+    match content {
+        Content::File(_) => Some(Source {
+            layer: place.layer,
+            key: place.key,
+        }),
+        Content::SymbolicLink(_) => None,
+    }
+}

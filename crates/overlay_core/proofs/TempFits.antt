@@ -1,0 +1,139 @@
+-- What the steps of a job leave: temps that are beginnings of their files, and the mount as it was.
+use Rattle.std.proofs.Common.{arith, ◌≡◌, ℕ, ◌+◌, ◌*◌, ◌<◌, ◌≤◌, ◌⊎◌, inl, inr, Bool, true, false, cond, nat_lt, nat_eq, List, [], length, take, Option, None, Some, option_map, unwrap_or, refl, sym, ap, ◌∙◌, subst}
+use Rattle.std.specs.Option.{ForSome}
+use Rattle.std.proofs.lemmas.Bool.{ltb-true}
+use Rattle.std.proofs.lemmas.Option.{same_Some}
+use Rattle.std.proofs.lemmas.List.{take_all, length-take}
+use Rattle.plain_model.specs.Layers.{Layer}
+use Rattle.work_dir.specs.Beginnings.{Beginning, IsBeginning}
+use Rattle.work_dir.specs.OpenJobs.{job_at, temp_at, temp_of, of_client, unless_of, of_chunks, is_of, held, closed_any, Changes, Same}
+use Rattle.work_dir.specs.declared.limits.TheConstants.{CHUNK, FILE_MAX}
+use Rattle.work_dir.specs.declared.next.Lack.TheVariants.{File}
+use Rattle.work_dir.specs.declared.source.Source.{Source}
+use Rattle.work_dir.specs.declared.table.OpenJob.{OpenJob}
+use Rattle.mount_calls.specs.Lacks.{bytes_at, lack_size}
+use Rattle.mount_calls.proofs.Words.{cases_eq}
+use Rattle.overlay_core.specs.declared.job.Job.{Job}
+use Rattle.overlay_core.specs.Steps.{begun, held_by, longer}
+use Rattle.overlay_core.specs.Temps.{AreTemps, IsTemp}
+
+-- a job's entry, where its temp is one
+abbrev pub FitsJob : List Layer → Option OpenJob → Type 0
+FitsJob lowers o = ForSome (temp_of o) (IsTemp lowers)
+
+-- where one entry changes to one whose temp is one, all temps are
+pub changes-fit : (lowers : List Layer) (old new : List (Option OpenJob)) (n : ℕ) (x : Option OpenJob) →
+    Changes old new n x → AreTemps lowers old → FitsJob lowers x → AreTemps lowers new
+changes-fit lowers old new n x h temps fits m = by (cases_eq n m)
+  where
+    by : (n ≡ m) ⊎ (n ≡ m → ⊥) → FitsJob lowers (job_at new m)
+    by (inl is) = subst (λ k. FitsJob lowers (job_at new k)) is (subst (FitsJob lowers) (sym h.here) fits)
+    by (inr other) = subst (FitsJob lowers) (sym (h.others m (λ e. other (sym e)))) (temps m)
+
+-- so they are where nothing changes
+pub same-fit : (lowers : List Layer) (old new : List (Option OpenJob)) →
+    Same old new → AreTemps lowers old → AreTemps lowers new
+same-fit lowers old new same temps n = subst (FitsJob lowers) (sym (same n)) (temps n)
+
+-- and where an entry goes that is a client's
+pub unless-fits : (lowers : List Layer) (client : ℕ) (o : Option OpenJob) →
+    FitsJob lowers o → FitsJob lowers (unless_of client o)
+unless-fits lowers client o fits = by (is_of client o)
+  where
+    by : (own : Bool) → FitsJob lowers (cond own None o)
+    by true = λ t e. absurd (cc)
+    by false = fits
+
+-- so where what is kept of a job goes
+pub closed-fit : (lowers : List Layer) (old new : List (Option OpenJob)) (number : Option ℕ) (client : ℕ) →
+    new ≡ closed_any old number client →
+    ForSome number (λ n. Changes old new n (unless_of client (job_at old n))) →
+    AreTemps lowers old → AreTemps lowers new
+closed-fit lowers old new None client same changes temps = subst (AreTemps lowers) (sym same) temps
+closed-fit lowers old new (Some n) client same changes temps =
+    changes-fit lowers old new n (unless_of client (job_at old n)) (changes n refl) temps
+    (unless-fits lowers client (job_at old n) (temps n))
+
+-- so where all of a client's go
+pub forgotten-fit : (lowers : List Layer) (old new : List (Option OpenJob)) (client : ℕ) →
+    ((n : ℕ) → job_at new n ≡ unless_of client (job_at old n)) → AreTemps lowers old → AreTemps lowers new
+forgotten-fit lowers old new client gone temps n =
+    subst (FitsJob lowers) (sym (gone n)) (unless-fits lowers client (job_at old n) (temps n))
+
+-- THE TEMP THAT A JOB HOLDS is one that it began, with as many chunks as it counts
+pub held-begun : (work : List (Option OpenJob)) (j : Job) (t : Beginning) → held_by work j ≡ Some t →
+    (0 < j.begins) × (t.chunks ≡ j.chunks)
+held-begun work j t e = by (nat_lt 0 j.begins) refl e
+  where
+    chunks : (o : Option Beginning) → of_chunks j.chunks o ≡ Some t → t.chunks ≡ j.chunks
+    chunks None h = cc
+    chunks (Some x) h = grind arith
+
+    counted : (n : Option ℕ) → held work n j.client j.chunks ≡ Some t → t.chunks ≡ j.chunks
+    counted None h = cc
+    counted (Some n) h = chunks (temp_of (of_client j.client (job_at work n))) h
+
+    by : (b : Bool) → nat_lt 0 j.begins ≡ b → cond b (held work j.number j.client j.chunks) None ≡ Some t →
+        (0 < j.begins) × (t.chunks ≡ j.chunks)
+    by true some h = (ltb-true 0 j.begins some, counted j.number h)
+    by false none h = cc
+
+-- and is one of those that are kept
+pub held-fits : (lowers : List Layer) (work : List (Option OpenJob)) (j : Job) → AreTemps lowers work →
+    ForSome (held_by work j) (IsTemp lowers)
+held-fits lowers work j temps t e = by (nat_lt 0 j.begins) e
+  where
+    of-chunks : (o : Option Beginning) → of_chunks j.chunks o ≡ Some t → o ≡ Some t
+    of-chunks None h = cc
+    of-chunks (Some x) h = grind arith
+
+    of-client : (o : Option OpenJob) → temp_of (of_client j.client o) ≡ Some t → temp_of o ≡ Some t
+    of-client o h = own (is_of j.client o) h
+      where
+        own : (b : Bool) → temp_of (cond b o None) ≡ Some t → temp_of o ≡ Some t
+        own true h = h
+        own false h = cc
+
+    counted : (n : Option ℕ) → held work n j.client j.chunks ≡ Some t → IsTemp lowers t
+    counted None h = cc
+    counted (Some n) h =
+        temps n t (of-client (job_at work n) (of-chunks (temp_of (of_client j.client (job_at work n))) h))
+
+    by : (b : Bool) → cond b (held work j.number j.client j.chunks) None ≡ Some t → IsTemp lowers t
+    by true h = counted j.number h
+    by false h = cc
+
+module _ (lowers : List Layer) where
+  -- a temp without a byte is one
+  pub begun-fits : (d : Source) (b : List ℕ) → bytes_at lowers d ≡ Some b → length b ≤ FILE_MAX →
+      IsTemp lowers (begun lowers d)
+  begun-fits d b is few =
+      (ap (option_map (take (CHUNK * 0))) is, λ x e. subst (λ y. length y ≤ FILE_MAX) (same_Some b x (sym is ∙ e)) few)
+
+  module _ (t : Beginning) (b : List ℕ) (fits : IsTemp lowers t) (is : bytes_at lowers t.source ≡ Some b) where
+    -- its bytes are the file's first ones
+    pub temp-begins : IsBeginning b t
+    temp-begins =
+        sym (same_Some (take (CHUNK * t.chunks) b) t.bytes (ap (option_map (take (CHUNK * t.chunks))) (sym is) ∙ fits.0))
+
+    -- the file is no greater than a file may be
+    pub temp-within : length b ≤ FILE_MAX
+    temp-within = fits.1 b is
+
+    -- with a chunk more it is one still
+    pub longer-fits : IsTemp lowers (longer lowers t)
+    longer-fits =
+        let e : unwrap_or (bytes_at lowers t.source) [] ≡ b = ap (λ o. unwrap_or o []) is in
+        (ap (option_map (take (CHUNK * (t.chunks + 1)))) is ∙ ap (λ y. Some (take (CHUNK * (t.chunks + 1)) y)) (sym e), fits.1)
+
+    -- one that has as many bytes as its file has them all
+    pub temp-whole : length b ≤ length t.bytes → bytes_at lowers t.source ≡ Some t.bytes
+    temp-whole covers =
+        let many : length b ≤ length (take (CHUNK * t.chunks) b) =
+        subst (λ y. length b ≤ length y) temp-begins covers in
+        let most : length b ≤ CHUNK * t.chunks = omega (arith, many, length-take (CHUNK * t.chunks) b) in
+        is ∙ ap Some (sym (temp-begins ∙ take_all (CHUNK * t.chunks) b most))
+
+    -- there is more to copy where the file has more bytes
+    pub temp-part : length t.bytes < lack_size lowers (File t.source) → length t.bytes < length b
+    temp-part less = subst (λ o. length t.bytes < unwrap_or (option_map length o) 0) is less

@@ -1,0 +1,16 @@
+use Rattle.merged_lookup.specs.Merged.{lowers_of}
+use Rattle.overlay_core.proofs.TempFits.{closed-fit}
+use Rattle.overlay_core.proofs.mounted.Core.drop_job.Goals as goal
+
+pub invariant_of-self : goal.invariant_of-self
+invariant_of-self g c =
+    let self = c.args.self.now in
+    record {
+      agrees = self.agrees;
+      begins = self.begins;
+      given = self.given;
+      short = self.short;
+      temps = closed-fit (lowers_of self.watched.mount.layers) self.work c.close.new.self c.number.result c.client.result
+          c.close.ensures.table c.close.ensures.numbers self.temps;
+      limits = self.limits;
+    }

@@ -1,0 +1,20 @@
+-- The temps of the open jobs: each is a beginning of a lower file.
+use Rattle.std.specs.Prelude.{◌≡◌, ℕ, ◌≤◌, ◌*◌, List, Option, Some, length, take, option_map}
+use Rattle.std.specs.Option.{ForSome}
+use Rattle.plain_model.specs.Layers.{Layer}
+use Rattle.work_dir.specs.Beginnings.{Beginning}
+use Rattle.work_dir.specs.OpenJobs.{temp_at}
+use Rattle.work_dir.specs.declared.limits.TheConstants.{CHUNK, FILE_MAX}
+use Rattle.work_dir.specs.declared.table.OpenJob.{OpenJob}
+use Rattle.mount_calls.specs.Lacks.{bytes_at}
+
+-- it holds the first bytes of its file, as many as its chunks hold, and the file is no greater than a
+-- file may be
+abbrev pub IsTemp : List Layer → Beginning → Type 0
+IsTemp lowers t =
+    (option_map (take (CHUNK * t.chunks)) (bytes_at lowers t.source) ≡ Some t.bytes)
+    × ForSome (bytes_at lowers t.source) (λ b. length b ≤ FILE_MAX)
+
+-- each temp of an open job is one
+abbrev pub AreTemps : List Layer → List (Option OpenJob) → Type 0
+AreTemps lowers work = (n : ℕ) → ForSome (temp_at work n) (IsTemp lowers)
