@@ -14,8 +14,6 @@ mod freed_places;
 #[cfg(test)]
 mod hooks;
 #[cfg(test)]
-mod interleaved;
-#[cfg(test)]
 mod look_ups;
 #[cfg(test)]
 mod manifests;
