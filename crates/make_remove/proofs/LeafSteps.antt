@@ -74,27 +74,27 @@ leaf-thin start old new same stays names low keep p n q key c a e absent placed 
 not-zero : (n : ℕ) → 0 < n → nat_eq n 0 ≡ false
 not-zero n h = grind arith
 
--- a link of a target, where something may be made
-pub symlink-fine : (Ls : List Layer) (target : List ℕ) (p : Path) → target_of target ≡ Ok target → vacancy_fault Ls p ≡ None → symlink_fault Ls target p ≡ None
-symlink-fine Ls target p h e = of (nat_lt 0 (length target)) (nat_le (length target) 4095) (has_nul target) refl refl refl h
+-- a symbolic link of a target is refused as anything is that is made
+pub symlink-vacancy : (Ls : List Layer) (target : List ℕ) (p : Path) → target_of target ≡ Ok target → symlink_fault Ls target p ≡ vacancy_fault Ls p
+symlink-vacancy Ls target p h = of (nat_lt 0 (length target)) (nat_le (length target) 4095) (has_nul target) refl refl refl h
   where
-    of : (a b c : Bool) → nat_lt 0 (length target) ≡ a → nat_le (length target) 4095 ≡ b → has_nul target ≡ c → cond (a && b && not c) (Ok target) (Err (target_fault target)) ≡ Ok target → symlink_fault Ls target p ≡ None
+    of : (a b c : Bool) → nat_lt 0 (length target) ≡ a → nat_le (length target) 4095 ≡ b → has_nul target ≡ c → cond (a && b && not c) (Ok target) (Err (target_fault target)) ≡ Ok target → symlink_fault Ls target p ≡ vacancy_fault Ls p
     of false b c some short plain told = cc
     of true false c some short plain told = cc
     of true true true some short plain told = cc
     of true true false some short plain told =
         let long : nat_lt 4095 (length target) ≡ false = le-ltb 4095 (length target) (leb-true (length target) 4095 short) in
         let bare : nat_eq (length target) 0 ≡ false = not-zero (length target) (ltb-true 0 (length target) some) in
-        rw (long, bare, plain) e
+        rw (long, bare, plain) refl
 
 -- symlink is the machine's step where the link is made
 pub symlink-steps : (old new : Layers) (target : List ℕ) (p : Path) → symlink_fault (layers_of old) target p ≡ None → MakesLeaf old new p (content.SymbolicLink target) (new_attributes 0o777) → SymlinkSteps old new target p
 symlink-steps old new target p fine made s h c =
     subst (λ (Ls : List Layer). MakesLink (layer_of new.upper) Ls s c target p) (sym (lowers-same old new made.lowers)) (law_of_link_made (layer_of old.upper) (layer_of new.upper) (lowers_of old) s h c target p fine (made.gains h.layers))
 
--- a mode that may be given, where something may be made
-pub mkdir-fine : (Ls : List Layer) (p : Path) (mode : ℕ) → mode ≤ 0o7777 → vacancy_fault Ls p ≡ None → mkdir_fault Ls p mode ≡ None
-mkdir-fine Ls p mode h e = ap (λ b. or_else (when b errno.EINVAL) (vacancy_fault Ls p)) (small mode h) ∙ e
+-- of a mode that may be given a directory is refused as anything is that is made
+pub mkdir-vacancy : (Ls : List Layer) (p : Path) (mode : ℕ) → mode ≤ 0o7777 → mkdir_fault Ls p mode ≡ vacancy_fault Ls p
+mkdir-vacancy Ls p mode h = ap (λ b. or_else (when b errno.EINVAL) (vacancy_fault Ls p)) (small mode h)
   where
     small : (mode : ℕ) → mode ≤ 0o7777 → nat_lt 0o7777 mode ≡ false
     small mode h = grind arith

@@ -4,3 +4,4 @@ pub mod LeafSteps
 pub mod Unnaming
 pub mod Freed
 pub mod Removing
+pub mod Sights

@@ -133,6 +133,16 @@ allowed-chain r d w h = grind arith
 pub unlink-allowed : (Ls : List Layer) (p : Path) → unlink_fault Ls p ≡ None → (is_root p ≡ false) × (walk_fault Ls p ≡ None) × (is_directory (shows 0 Ls p) ≡ false)
 unlink-allowed Ls p h = allowed-chain (is_root p) (is_directory (shows 0 Ls p)) (walk_fault Ls p) h
 
+-- below the root an unlink is refused as the walk is, and then what is a directory
+unlink-below : (Ls : List Layer) (p q : Path) (n : Name) → p ≡ n ∷ q → unlink_fault Ls p ≡ or_else (walk_fault Ls p) (when (is_directory (shows 0 Ls p)) errno.EISDIR)
+unlink-below Ls p q n e = ap (λ r. or_else (when r errno.EBUSY) (or_else (walk_fault Ls p) (when (is_directory (shows 0 Ls p)) errno.EISDIR))) (below-root p q n e)
+
+pub unlink-walk : (Ls : List Layer) (p q : Path) (n : Name) (e : Errno) → p ≡ n ∷ q → walk_fault Ls p ≡ Some e → unlink_fault Ls p ≡ Some e
+unlink-walk Ls p q n e is walk = unlink-below Ls p q n is ∙ ap (λ w. or_else w (when (is_directory (shows 0 Ls p)) errno.EISDIR)) walk
+
+pub unlink-found : (Ls : List Layer) (p q : Path) (n : Name) (d : Bool) → p ≡ n ∷ q → walk_fault Ls p ≡ None → is_directory (shows 0 Ls p) ≡ d → unlink_fault Ls p ≡ when d errno.EISDIR
+unlink-found Ls p q n d is walk dir = unlink-below Ls p q n is ∙ ap₂ (λ w d. or_else w (when d errno.EISDIR)) walk dir
+
 -- an unlink that takes the name away is the machine's step
 pub unlink-step : (old new : Layers) (p q : Path) (n : Name) → p ≡ n ∷ q → unlink_fault (layers_of old) p ≡ None → TakesName old new (n ∷ q) → (s : State) → IsMountOf (layer_of old.upper) (lowers_of old) s → (c : ℕ) → Removes (layer_of new.upper) (lowers_of new) s c p (call.Unlink p)
 unlink-step old new p q n e fine t s m c =
@@ -156,6 +166,23 @@ rmdir-step old new p q n e dir unshown t s m c =
     let fine : rmdir_fault (layers_of old) p false ≡ None = rmdir-below (layers_of old) p q n false e ∙ ap₂ (λ w d. or_else w (or_else (when (not d) errno.ENOTDIR) None)) (walk-none (trees old) p dir) dir in
     let lost : Loses U V (lowers_of old) p = subst (λ (x : Path). Loses U V (lowers_of old) x) (sym e) (t.loses m.layers) in
     subst (λ (Ls : List Layer). Removes V Ls s c p (call.Rmdir p)) (sym (lowers-same old new t.lowers)) (law_of_removed_directory U V (lowers_of old) s m c p fine unshown lost)
+
+-- rmdir is refused as the walk is, whatever names are told
+pub rmdir-walked : (Ls : List Layer) (p q : Path) (n : Name) (e : Errno) (full : Bool) → p ≡ n ∷ q → walk_fault Ls p ≡ Some e → rmdir_fault Ls p full ≡ Some e
+rmdir-walked Ls p q n e full is walk =
+    rmdir-below Ls p q n full is
+    ∙ ap (λ w. or_else w (or_else (when (not (is_directory (shows 0 Ls p))) errno.ENOTDIR) (when full errno.ENOTEMPTY))) walk
+
+-- and as what it finds: what is no directory is refused, and a directory isn't where none of its names is told
+pub rmdir-unfit : (Ls : List Layer) (p q : Path) (n : Name) (full : Bool) → p ≡ n ∷ q → walk_fault Ls p ≡ None → is_directory (shows 0 Ls p) ≡ false → rmdir_fault Ls p full ≡ Some errno.ENOTDIR
+rmdir-unfit Ls p q n full is walk file =
+    rmdir-below Ls p q n full is
+    ∙ ap₂ (λ w d. or_else w (or_else (when (not d) errno.ENOTDIR) (when full errno.ENOTEMPTY))) walk file
+
+pub rmdir-fine : (Ls : List Layer) (p q : Path) (n : Name) → p ≡ n ∷ q → walk_fault Ls p ≡ None → is_directory (shows 0 Ls p) ≡ true → rmdir_fault Ls p false ≡ None
+rmdir-fine Ls p q n is walk dir =
+    rmdir-below Ls p q n false is
+    ∙ ap₂ (λ w d. or_else w (or_else (when (not d) errno.ENOTDIR) None)) walk dir
 
 -- rmdir's refusals are the machine's: on the way, of what is no directory, and of a directory that shows a name
 pub rmdir-walk : (l : Layers) (p q : Path) (n : Name) (e : Errno) → p ≡ n ∷ q → walk_fault (layers_of l) p ≡ Some e → (s : State) → IsMountOf (layer_of l.upper) (lowers_of l) s → (c : ℕ) → refusal s c (call.Rmdir p) ≡ Some e

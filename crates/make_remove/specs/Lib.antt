@@ -1,3 +1,4 @@
 pub mod Making
 pub mod Leaves
 pub mod Removing
+pub mod Sights

@@ -4,8 +4,10 @@ ghost use Rattle.plain_model.specs.Layers.{shows};
 ghost use Rattle.merged_lookup.specs.Merged.{layers_of, parents_fault, parent, IsStackOf};
 ghost use Rattle.copy_up.specs.Showing.{ChangesNoSight, GainsParents, StaysSound};
 ghost use Rattle.make_remove.specs.Making.{MakesDirectory, MkdirSteps, mkdir_fault};
+ghost use Rattle.make_remove.specs.Sights.{IsSeen};
 
 use crate::objects::{new_attributes, vacant};
+use crate::seen::Seen;
 use copy_up::{insert_directory, place_parents};
 use merged_lookup::{Layers, Stack};
 use ov_base::{Errno, Mode, Path};
@@ -13,14 +15,16 @@ use std::alloc::{AllocError, Global};
 
 /// Makes a directory with this mode, owner 0, group 0 and no user attributes, as mkdir(2). On the
 /// way to the last name a name that shows nothing is ENOENT, a file ENOTDIR and a symbolic link
-/// ELOOP; where something is shown it is EEXIST. A refusal changes nothing, and an allocation
-/// failure changes nothing that is shown.
+/// ELOOP; where something is shown it is EEXIST. All that is judged by what was seen at the path. A
+/// refusal changes nothing, and an allocation failure changes nothing that is shown.
 pub fn mkdir(
     alloc: Global,
     layers: &mut Layers,
     path: &Path,
+    seen: Seen,
     mode: Mode,
 ) -> Result<Result<(), Errno>, AllocError>
+    requires { IsSeen layers.old path.now seen }
     ensures refused { IfOk result (λ r. IfErr r (λ e.
         mkdir_fault (layers_of layers.old) path.now mode ≡ Some e)) }
     ensures unchanged { IfOk result (λ r. OnErr r (layers.new ≡ layers.old)) }
@@ -33,7 +37,7 @@ pub fn mkdir(
     ensures sound { StaysSound layers.old layers.new }
 {
     mode.lawful();
-    let directory = match vacant(layers, path) {
+    let directory = match vacant(seen) {
         Ok(directory) => directory,
         Err(errno) => return Ok(Err(errno)),
     };

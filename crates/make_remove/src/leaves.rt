@@ -6,23 +6,28 @@ ghost use Rattle.merged_lookup.specs.Merged.{layers_of, parents_fault, parent, I
 ghost use Rattle.copy_up.specs.Showing.{ChangesNoSight, GainsParents, StaysSound};
 ghost use Rattle.make_remove.specs.Making as made;
 ghost use Rattle.make_remove.specs.Leaves.{MakesLeaf, SymlinkSteps, CreateSteps};
+ghost use Rattle.make_remove.specs.Sights.{IsSeen};
 ghost use Rattle.ov_base.specs.declared.bytes.Content.TheVariants as content;
 
 use crate::objects::{new_attributes, vacant};
+use crate::seen::Seen;
 use copy_up::{insert_leaf, place_parents};
 use merged_lookup::{Layers, Stack};
 use ov_base::{Attributes, Bytes, Content, Errno, LinkTarget, Mode, Path};
 use std::alloc::{AllocError, Global};
 
 /// Makes a symbolic link of this target, with mode 0777, owner 0, group 0 and no user attributes,
-/// as symlink(2). The way to the last name is refused as `mkdir`'s, and where something is shown it
-/// is EEXIST. A refusal changes nothing, and an allocation failure changes nothing that is shown.
+/// as symlink(2). By what was seen at the path, the way to the last name is refused as `mkdir`'s, and
+/// where something is shown it is EEXIST. A refusal changes nothing, and an allocation failure
+/// changes nothing that is shown.
 pub fn symlink(
     alloc: Global,
     layers: &mut Layers,
     target: LinkTarget,
     path: &Path,
+    seen: Seen,
 ) -> Result<Result<(), Errno>, AllocError>
+    requires { IsSeen layers.old path.now seen }
     ensures refused { IfOk result (λ r. IfErr r (λ e.
         symlink_fault (layers_of layers.old) target path.now ≡ Some e)) }
     ensures unchanged { IfOk result (λ r. OnErr r (layers.new ≡ layers.old)) }
@@ -37,7 +42,7 @@ pub fn symlink(
     ensures sound { StaysSound layers.old layers.new }
 {
     target.lawful();
-    let directory = match vacant(layers, path) {
+    let directory = match vacant(seen) {
         Ok(directory) => directory,
         Err(errno) => return Ok(Err(errno)),
     };

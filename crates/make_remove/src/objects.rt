@@ -1,29 +1,39 @@
 // What every call that makes an object asks and gives.
 ghost use Rattle.std.specs.Prelude.{◌≡◌, None, Some, IfOk, MatchResult};
-ghost use Rattle.plain_model.specs.Layers.{shows};
+ghost use Rattle.plain_model.specs.Layers.{Path as Names, shows};
+ghost use Rattle.merged_lookup.specs.declared.layers.Layers.{Layers as LayersOf};
 ghost use Rattle.merged_lookup.specs.Merged.{layers_of, parents_fault, parent, IsStackOf};
 ghost use Rattle.make_remove.specs.Making as made;
 ghost use Rattle.make_remove.specs.Making.{vacancy_fault};
+ghost use Rattle.make_remove.specs.Sights.{IsSeen};
 
-use merged_lookup::{Layers, Stack};
-use ov_base::{Attributes, Errno, Mode, Path, UserAttributes};
+use crate::seen::Seen;
+use merged_lookup::Stack;
+use ov_base::{Attributes, Errno, Mode, UserAttributes};
 use std::alloc::Global;
 
-/// The merged directory in which an object may be made at a path. The way to the last name is refused as `mkdir`'s, and where something
-/// is shown it is EEXIST.
-pub fn vacant(layers: &Layers, path: &Path) -> Result<Stack, Errno>
-    ensures cases { MatchResult result (λ _. vacancy_fault (layers_of layers.now) path.now ≡ None) (λ e. vacancy_fault (layers_of layers.now) path.now ≡ Some e) }
-    ensures parents { IfOk result (λ _. parents_fault (layers_of layers.now) path.now ≡ None) }
-    ensures absent { IfOk result (λ _. shows 0 (layers_of layers.now) path.now ≡ None) }
-    ensures parent { IfOk result (λ s. IsStackOf layers.now (parent path.now) s) }
+/// The merged directory in which an object may be made at a path, by what was seen there. The way
+/// to the last name is refused as `mkdir`'s, and where something is shown it is EEXIST.
+pub fn vacant(seen: Seen) -> Result<Stack, Errno>
+    ensures cases { MatchResult result
+        (λ _. (l : LayersOf) (p : Names) → IsSeen l p seen → vacancy_fault (layers_of l) p ≡ None)
+        (λ e. (l : LayersOf) (p : Names) → IsSeen l p seen →
+        vacancy_fault (layers_of l) p ≡ Some e) }
+    ensures parents { IfOk result (λ _. (l : LayersOf) (p : Names) → IsSeen l p seen →
+        parents_fault (layers_of l) p ≡ None) }
+    ensures absent { IfOk result (λ _. (l : LayersOf) (p : Names) → IsSeen l p seen →
+        shows 0 (layers_of l) p ≡ None) }
+    ensures parent { IfOk result (λ s. (l : LayersOf) (p : Names) → IsSeen l p seen →
+        IsStackOf l (parent p) s) }
 {
-    let Some(parent) = layers.parent_of(path)? else {
-        return Err(Errno::EEXIST);
+    let (directory, top) = match seen {
+        Ok(shown) => shown,
+        Err(errno) => return Err(errno),
     };
-    if layers.shows(&parent.stack, parent.name) {
-        return Err(Errno::EEXIST);
+    match top {
+        Some(_) => Err(Errno::EEXIST),
+        None => Ok(directory),
     }
-    Ok(parent.stack)
 }
 
 // The attributes of a new object: this mode, owner 0, group 0 and no user attributes.

@@ -11,10 +11,13 @@ ghost use Rattle.layer_tree.specs.Nameless.{IsNameless, KeepsObjects};
 ghost use Rattle.layer_tree.specs.Table.{object_key};
 ghost use Rattle.layer_tree.specs.Tree.{layer_of, inode_at, with_less, entry, child, key_at, IsDirectory, HoldsNoObjects, ReplacesPath, Unbinds, SameTree, SameObjects};
 ghost use Rattle.layer_tree.specs.declared.name_table.Entry.TheVariants as bound;
+ghost use Rattle.merged_lookup.specs.declared.layers.Layers.{Layers as LayersOf};
 ghost use Rattle.merged_lookup.specs.Merged.{layers_of, lowers_of, parent, way_fault, IsStackOf, ShowsInode};
 ghost use Rattle.copy_up.specs.Showing.{ChangesNoSight, GainsParents, StaysSound};
+ghost use Rattle.make_remove.specs.Sights.{IsSeen};
 ghost use Rattle.make_remove.specs.Removing.{unlink_fault, rmdir_fault, ShowsNoName, TakesAway, Removes, TellsNames, TakesName, Unnames, released_by, has_more};
 
+use crate::seen::{Seen, found_in, there};
 use copy_up::place_parents;
 use dir_listing::shows_names;
 use layer_tree::{Entry, Layer, Node};
@@ -25,19 +28,27 @@ use std::alloc::AllocError;
 /// Why the root is not removed: the mount stands on it.
 const ROOT_REFUSAL: Errno = Errno::EBUSY;
 
-/// The file or symbolic link that a path shows, with the merged directory in which its name stands, or why unlink(2) refuses it: the root is
-/// EBUSY; on the way to the last name a name that shows nothing is ENOENT, a file ENOTDIR and a symbolic link ELOOP; then a name that shows
+/// The file or symbolic link that was seen at a path, with the merged directory in which its name
+/// stands, or why unlink(2) refuses it: the root is EBUSY; on the way to the last name a name that
+/// shows nothing is ENOENT, a file ENOTDIR and a symbolic link ELOOP; then a name that shows
 /// nothing is ENOENT and a directory EISDIR.
-pub fn leaf_at(layers: &Layers, path: &Path) -> Result<(Stack, Place), Errno>
-    ensures refused { IfErr result (λ e. unlink_fault (layers_of layers.now) path.now ≡ Some e) }
-    ensures allowed { OnOk result (unlink_fault (layers_of layers.now) path.now ≡ None) }
-    ensures directory { IfOk result (λ leaf. IsStackOf layers.now (parent path.now) leaf.0) }
-    ensures shown { IfOk result (λ leaf. ShowsInode layers.now path.now leaf.1) }
+pub fn leaf_at(path: &Path, seen: Seen) -> Result<(Stack, Place), Errno>
+    ensures refused { IfErr result (λ e. (l : LayersOf) → IsSeen l path.now seen →
+        unlink_fault (layers_of l) path.now ≡ Some e) }
+    ensures allowed { OnOk result ((l : LayersOf) → IsSeen l path.now seen →
+        unlink_fault (layers_of l) path.now ≡ None) }
+    ensures directory { IfOk result (λ leaf. (l : LayersOf) → IsSeen l path.now seen →
+        IsStackOf l (parent path.now) leaf.0) }
+    ensures shown { IfOk result (λ leaf. (l : LayersOf) → IsSeen l path.now seen →
+        ShowsInode l path.now leaf.1) }
 {
     let Some(_) = path.split_last() else {
         return Err(ROOT_REFUSAL);
     };
-    let (directory, shown) = layers.topmost_in(path)?;
+    let (directory, shown) = match there(seen) {
+        Ok(found) => found,
+        Err(errno) => return Err(errno),
+    };
     let Topmost::Inode(place) = shown else {
         return Err(Errno::EISDIR);
     };
@@ -72,9 +83,11 @@ pub fn unlink(
 }
 
 /// The merged directory in which the name of a directory stands that shows no name, or why rmdir(2)
-/// refuses it: the root is EBUSY; the way is refused as in `unlink`; a name that shows nothing is
-/// ENOENT, one that shows no directory ENOTDIR and a directory that shows a name ENOTEMPTY.
-pub fn removable(layers: &Layers, path: &Path) -> Result<Stack, Errno>
+/// refuses it, judged by what was seen there: the root is EBUSY; the way is refused as in `unlink`;
+/// a name that shows nothing is ENOENT, one that shows no directory ENOTDIR and a directory that
+/// shows a name ENOTEMPTY.
+pub fn removable(layers: &Layers, path: &Path, seen: Seen) -> Result<Stack, Errno>
+    requires { IsSeen layers.now path.now seen }
     ensures refused { IfErr result (λ e. (full : Bool) →
         TellsNames (layers_of layers.now) path.now full →
         rmdir_fault (layers_of layers.now) path.now full ≡ Some e) }
@@ -88,10 +101,11 @@ pub fn removable(layers: &Layers, path: &Path) -> Result<Stack, Errno>
     let Some(_) = path.split_last() else {
         return Err(ROOT_REFUSAL);
     };
-    let (directory, found) = match layers.walk_in(path) {
-        Ok(walked) => walked,
+    let (directory, top) = match there(seen) {
+        Ok(shown) => shown,
         Err(errno) => return Err(errno),
     };
+    let found = found_in(layers, &directory, path, top);
     let Found::Directory(stack) = found else {
         return Err(Errno::ENOTDIR);
     };
@@ -104,7 +118,12 @@ pub fn removable(layers: &Layers, path: &Path) -> Result<Stack, Errno>
 /// Removes a directory that shows no name, as rmdir(2), unless `removable` refuses it. It hands back
 /// the key of the upper's directory that went, which stays until it is freed. A refusal changes
 /// nothing, and an allocation failure changes nothing that is shown.
-pub fn rmdir(layers: &mut Layers, path: &Path) -> Result<Result<Option<usize>, Errno>, AllocError>
+pub fn rmdir(
+    layers: &mut Layers,
+    path: &Path,
+    seen: Seen,
+) -> Result<Result<Option<usize>, Errno>, AllocError>
+    requires { IsSeen layers.old path.now seen }
     ensures refused { IfOk result (λ r. IfErr r (λ e.
         (full : Bool) → TellsNames (layers_of layers.old) path.now full →
         rmdir_fault (layers_of layers.old) path.now full ≡ Some e)) }
@@ -126,7 +145,7 @@ pub fn rmdir(layers: &mut Layers, path: &Path) -> Result<Result<Option<usize>, E
         (ChangesNoSight layers.old layers.new (GainsParents layers.old layers.new path.now)) }
     ensures sound { StaysSound layers.old layers.new }
 {
-    let directory = match removable(layers, path) {
+    let directory = match removable(layers, path, seen) {
         Ok(directory) => directory,
         Err(errno) => return Ok(Err(errno)),
     };

@@ -32,14 +32,14 @@ use Rattle.mount_calls.specs.declared.clients.Clients.{Clients}
 use Rattle.mount_calls.specs.declared.mount.Mount.{Mount}
 use Rattle.mount_calls.specs.Attaching.{ChangesClient}
 use Rattle.mount_calls.specs.Files.{file_at}
-use Rattle.mount_calls.specs.Keeping.{KeepsAround}
+use Rattle.mount_calls.specs.Keeping.{BringsNone}
 use Rattle.mount_calls.specs.Living.{KeepsFiles, SetsFile}
 use Rattle.mount_calls.specs.Opening.{OpensFile}
 use Rattle.mount_calls.specs.States.{IsStateOf, Serves}
 use Rattle.mount_calls.proofs.Carrying.{state-on}
 use Rattle.mount_calls.proofs.Changing.{handle-on}
 use Rattle.mount_calls.proofs.Directories.{seen}
-use Rattle.mount_calls.proofs.Frames.{around-others, around-parents}
+use Rattle.mount_calls.proofs.Frames.{none-named, none-parents}
 use Rattle.mount_calls.proofs.Lasting.{chown-leaves, other-names}
 use Rattle.mount_calls.proofs.Makings.{reserved-state}
 use Rattle.mount_calls.proofs.Openings.{IsShownFile, leaf-seen, file-there, free-there, fresh-one, open-leads, state-open, unfaulted}
@@ -75,9 +75,9 @@ copied-lowers old new q d a i shown (Err e) h kept = kept.beneath.lowers
 pub copied-around :
     (old new : Layers) (q : Path) (d : Place) (a : Attributes) (i : Inode) →
     shows 0 (layers_of old) q ≡ Some (Contents d.layer d.key (Some i)) → (r : Result ℕ AllocError) →
-    IfOk r (Copied old new q d (λ i. a)) → OnErr r (ChangesNoSight old new (GainsParents old new q)) → KeepsAround old new q
-copied-around old new q d a i shown (Ok key) h kept = let copy = h i shown in around-others old new q copy.0.others
-copied-around old new q d a i shown (Err e) h kept = around-parents old new q kept.beneath
+    IfOk r (Copied old new q d (λ i. a)) → OnErr r (ChangesNoSight old new (GainsParents old new q)) → BringsNone old new q
+copied-around old new q d a i shown (Ok key) h kept = let copy = h i shown in none-named old new q copy.0.number copy.0.held_there copy.0.others
+copied-around old new q d a i shown (Err e) h kept = none-parents old new q kept.beneath
 
 -- a node that is put at an identity twice is put there once
 put-again : (t : Tree) (d : NodeId) (o q : Option Node) → put (put t d o) d q ≡ put t d q

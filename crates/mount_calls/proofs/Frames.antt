@@ -1,29 +1,39 @@
 -- What calls leave of what the upper holds at each path.
-use Rattle.std.proofs.Common.{◌≡◌, ◌≢◌, ◌⊎◌, ℕ, Bool, true, false, cond, ◌||◌, ◌&&◌, is_none, [], ◌∷◌, ◌++◌, Option, refl, sym, ap, ◌∙◌, inl, inr, arith, length, length-append}
+use Rattle.std.proofs.Common.{◌≡◌, ◌≢◌, ◌⊎◌, ℕ, Bool, true, false, cond, ◌||◌, ◌&&◌, is_none, is_some, [], ◌∷◌, ◌++◌, List, Option, None, Some, refl, sym, ap, ◌∙◌, inl, inr, arith, length, length-append}
 use Rattle.std.proofs.lemmas.Bool.{false≢true}
 use Rattle.ov_base.specs.declared.call.Call.{Call}
 use Rattle.ov_base.specs.declared.call.Call.TheVariants as call
 use Rattle.ov_base.specs.declared.call.OpenFlags.{OpenFlags}
-use Rattle.plain_model.specs.Layers.{Name, Path, held, shows}
+use Rattle.plain_model.specs.Layers.{Name, Path, Layer, Object, Named, Whiteout, held, holds_directory, shows, under}
+use Rattle.plain_model.specs.Laws.{left_at}
 use Rattle.plain_model.specs.Refusals.{bad_flags}
 use Rattle.layer_tree.specs.Tree.{layer_of, SameObjects}
 use Rattle.merged_lookup.specs.declared.layers.Layers.{Layers}
-use Rattle.merged_lookup.specs.Merged.{layers_of}
-use Rattle.copy_up.specs.Showing.{GainsParents, KeepsOthers, KeepsPath}
+use Rattle.merged_lookup.specs.Merged.{layers_of, lowers_of}
+use Rattle.copy_up.specs.Showing.{GainsParents, IsParent, KeepsOthers, KeepsPath}
 use Rattle.copy_up.proofs.Frames.{parent-then, path-then}
-use Rattle.rename_redirect.specs.Linking.{GainsBoth}
+use Rattle.make_remove.specs.Removing as removing
+use Rattle.make_remove.specs.Removing.{TakesName}
+use Rattle.rename_redirect.specs.Linking.{GainsBoth, GivesName}
 use Rattle.rename_redirect.specs.Renaming.{is_one, KeepsMoved, Moves}
 use Rattle.rename_redirect.proofs.Gained.{gains-paths}
-use Rattle.mount_calls.specs.Keeping.{KeepsAround, KeepsBut, KeepsLayers, KeepsRenamed}
+use Rattle.mount_calls.specs.Keeping.{BringsNone, HoldsNoDirectory, KeepsAround, KeepsBut, KeepsLayers, KeepsRenamed}
 
--- no path below p is one of its parents
-below-parent : (old new : Layers) (p : Path) (n : Name) (r : Path) → KeepsPath old new p (n ∷ r ++ p) → held (layer_of new.upper) (n ∷ r ++ p) ≡ held (layer_of old.upper) (n ∷ r ++ p)
-below-parent old new p n r (inl e) = e
-below-parent old new p n r (inr g) =
-    let a = ap length g.parent.2 in
-    let b = length-append g.parent.1 (n ∷ r ++ p) in
+-- a path at p or below it is no parent of p
+pub no-parent : (p r : Path) → IsParent (r ++ p) p → ⊥
+no-parent p r g =
+    let a = ap length g.2 in
+    let b = length-append g.1 (r ++ p) in
     let c = length-append r p in
     absurd (omega (arith, a, b, c))
+
+-- so there what the upper holds is kept
+at-or-below : (old new : Layers) (p r : Path) → KeepsPath old new p (r ++ p) → held (layer_of new.upper) (r ++ p) ≡ held (layer_of old.upper) (r ++ p)
+at-or-below old new p r (inl e) = e
+at-or-below old new p r (inr g) = absurd (no-parent p r g.parent)
+
+below-parent : (old new : Layers) (p : Path) (n : Name) (r : Path) → KeepsPath old new p (n ∷ r ++ p) → held (layer_of new.upper) (n ∷ r ++ p) ≡ held (layer_of old.upper) (n ∷ r ++ p)
+below-parent old new p n r = at-or-below old new p (n ∷ r)
 
 -- what only p changes is kept around it
 pub around-paths : (old new : Layers) (p : Path) → ((x : Path) → x ≢ p → KeepsPath old new p x) → KeepsAround old new p
@@ -57,13 +67,66 @@ around-then a b c p same k = record {
   below = λ n r. elim (k.below n r) [ inl e ↦ inl (same (n ∷ r ++ p) ∙ e) | inr z ↦ inr (z.0, same (n ∷ r ++ p) ∙ z.1) ];
 }
 
+-- where parents of p are gained alone, none comes at p
+pub none-parents : (old new : Layers) (p : Path) → GainsParents old new p → BringsNone old new p
+none-parents old new p g = record { around = around-parents old new p g; here = inl (at-or-below old new p [] (g.paths p)) }
+
+-- nor where nothing changes
+pub none-same : (old new : Layers) (p : Path) → new ≡ old → BringsNone old new p
+none-same old new p e = record { around = around-same old new p e; here = inl (ap (λ (l : Layers). held (layer_of l.upper) p) e) }
+
+-- nor where a name of an inode stands then
+pub no-directory : (l : Layers) (p : Path) (o : Option Object) → held (layer_of l.upper) p ≡ o → holds_directory o ≡ false → HoldsNoDirectory l p
+no-directory l p o is off = ap holds_directory is ∙ off
+
+pub none-named : (old new : Layers) (p : Path) (k : ℕ) → held (layer_of new.upper) p ≡ Some (Named k) → KeepsOthers old new p → BringsNone old new p
+none-named old new p k is others = record { around = around-others old new p others; here = inr (no-directory new p (Some (Named k)) is refl) }
+
+-- nor where a name went
+whiteout-or-nothing : (b : Bool) → holds_directory (cond b (Some Whiteout) None) ≡ false
+whiteout-or-nothing true = refl
+whiteout-or-nothing false = refl
+
+pub none-left : (U : Layer) (lowers : List Layer) (p : Path) → holds_directory (left_at U lowers p) ≡ false
+none-left U lowers [] = refl
+none-left U lowers (n ∷ p) = whiteout-or-nothing (is_some (under U lowers n p))
+
+none-behind : (l : Layers) (p : Path) → holds_directory (removing.left_at l p) ≡ false
+none-behind l [] = refl
+none-behind l (n ∷ p) = whiteout-or-nothing (is_some (under (layer_of l.upper) (lowers_of l) n p))
+
+pub none-taken : (old new : Layers) (p : Path) → TakesName old new p → BringsNone old new p
+none-taken old new p takes = record {
+  around = around-others old new p takes.others;
+  here = inr (no-directory new p (removing.left_at old p) takes.left (none-behind old p));
+}
+
+-- nor by what leaves every path as it is
+pub none-then : (a b c : Layers) (p : Path) → SameObjects (layer_of b.upper) (layer_of c.upper) → BringsNone a b p → BringsNone a c p
+none-then a b c p same k = record {
+  around = around-then a b c p same k.around;
+  here = elim k.here [ inl e ↦ inl (same p ∙ e) | inr none ↦ inr (ap holds_directory (same p) ∙ none) ];
+}
+
 -- parents of two paths that are gained are all that a link gains that wants memory
 pub but-parents : (old new : Layers) (p q : Path) → GainsBoth old new p q → KeepsBut old new p q
-but-parents old new p q g = λ x a b. gains-paths old new p q g x
+but-parents old new p q g = record { others = λ x a b. gains-paths old new p q g x; ends = inl (gains-paths old new p q g) }
 
 -- a link that is refused gains nothing
 pub but-same : (old new : Layers) (p q : Path) → new ≡ old → KeepsBut old new p q
-but-same old new p q e = λ x a b. inl (inl (ap (λ (l : Layers). held (layer_of l.upper) x) e))
+but-same old new p q e = record { others = λ x a b. stays x; ends = inl stays }
+  where
+    stays : (x : Path) → KeepsPath old new p x ⊎ KeepsPath old new q x
+    stays x = inl (inl (ap (λ (l : Layers). held (layer_of l.upper) x) e))
+
+-- one that is made names an inode at both
+pub but-given : (old new : Layers) (p q : Path) → GivesName old new p q → KeepsBut old new p q
+but-given old new p q gives = record {
+  others = gives.paths;
+  ends = inr (λ are.
+      let both = (gives.gains are).together in
+      (no-directory new p (Some (Named both.number)) both.first refl, no-directory new q (Some (Named both.number)) both.second refl));
+}
 
 -- one or the other holds where both do
 pub either : (b : Bool) (A B : Type 0) → A → B → cond b A B
@@ -97,7 +160,10 @@ renames-parents old new p q apart g = record { one = λ h. absurd (false≢true 
 pub renames-moved : (a b c : Layers) (p q : Path) (directory : Bool) (released : Option ℕ) → Moves a b p q directory released → SameObjects (layer_of b.upper) (layer_of c.upper) → KeepsRenamed a c p q
 renames-moved a b c p q directory released moves same = record {
   one = λ h. absurd (false≢true (sym moves.apart ∙ h));
-  paths = inl (λ x y f off. by x y (moves.over.paths x y f off));
+  paths = inl (record {
+    along = λ x y f off. by x y (moves.over.paths x y f off);
+    left = no-directory c p (left_at (layer_of a.upper) (lowers_of a) p) (same p ∙ moves.over.left) (none-left (layer_of a.upper) (lowers_of a) p);
+  });
 }
   where
     by : (x y : Path) → KeepsMoved a b p q x y → KeepsMoved a c p q x y
@@ -116,12 +182,12 @@ same-layers (call.GetAttribute p n) l = refl
 same-layers (call.DeleteAttribute p n) l = around-same l l p refl
 same-layers (call.ListAttributes p) l = refl
 same-layers (call.Mkdir p mode) l = around-same l l p refl
-same-layers (call.Symlink target p) l = around-same l l p refl
-same-layers (call.Unlink p) l = around-same l l p refl
-same-layers (call.Rmdir p) l = around-same l l p refl
+same-layers (call.Symlink target p) l = none-same l l p refl
+same-layers (call.Unlink p) l = none-same l l p refl
+same-layers (call.Rmdir p) l = none-same l l p refl
 same-layers (call.Hardlink p q) l = but-same l l p q refl
 same-layers (call.Rename p q) l = renames-same l l p q refl
-same-layers (call.Open p f mode) l = either (f.writes || (f.create && is_none (shows 0 (layers_of l) p))) (KeepsAround l l p) (l ≡ l) (around-same l l p refl) refl
+same-layers (call.Open p f mode) l = either (f.writes || (f.create && is_none (shows 0 (layers_of l) p))) (BringsNone l l p) (l ≡ l) (none-same l l p refl) refl
 same-layers (call.Read d n) l = refl
 same-layers (call.Write d bytes) l = λ x. refl
 same-layers (call.Seek d offset whence) l = refl

@@ -39,8 +39,10 @@ pub mod Freed
 pub mod Makings
 pub mod CopiedOpens
 pub mod Frames
+pub mod ComingUp
 pub mod Keys
 pub mod Lacking
 pub mod Having
 pub mod Placing
 pub mod Judging
+pub mod Seen

@@ -1,8 +1,8 @@
 -- What stands at a path of the layers, as far as watches need it.
-use Rattle.std.proofs.Common.{◌≡◌, false, List, [], ◌∷◌, Option, None, Some, Result, Ok, Err, refl, ap, ◌∙◌, map}
+use Rattle.std.proofs.Common.{◌≡◌, false, List, [], ◌∷◌, Option, None, Some, Result, Ok, Err, refl, ap, map}
 use Rattle.std.specs.Prelude.{IfErr, IfOk}
 use Rattle.ov_base.specs.declared.errno.Errno.{Errno}
-use Rattle.plain_model.specs.Layers.{Name, Path, Shown, Folder, Contents, shows, is_directory}
+use Rattle.plain_model.specs.Layers.{Path, Shown, Folder, Contents, shows, is_directory}
 use Rattle.layer_tree.specs.Tree.{Tree, layer_of}
 use Rattle.mount_laws.specs.Looks.{absent, fault, or_else, parents_fault, way_fault, walk_fault}
 use Rattle.merged_lookup.specs.declared.found.Topmost.{Topmost}

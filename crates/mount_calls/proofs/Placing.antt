@@ -1,21 +1,15 @@
 -- What placing a lacking parent leaves alone, and that a call lacks nothing where the upper holds all.
-use Rattle.std.proofs.Common.{◌≡◌, ◌⊎◌, inl, inr, ℕ, Bool, true, false, cond, ◌||◌, is_none, is_some, List, [], ◌∷◌, length, Option, None, Some, option_map, refl, sym, ap, ap₂, ◌∙◌, subst, arith}
-use Rattle.std.specs.Prelude.{option_copied}
-use Rattle.std.specs.Option.{option_and_then, option_or}
-use denote.Bor.{Bor}
+use Rattle.std.proofs.Common.{◌≡◌, ◌⊎◌, inl, inr, ℕ, Bool, true, false, cond, ◌||◌, is_none, is_some, List, [], ◌∷◌, length, Option, None, Some, refl, sym, ap₂, ◌∙◌, subst, arith}
+use Rattle.std.specs.Option.{option_or}
 use Rattle.std.proofs.lemmas.Bool.{false≢true}
-use Rattle.slab.specs.Slab.{get}
 use Rattle.ov_base.specs.declared.call.Call.{Call}
 use Rattle.ov_base.specs.declared.call.Call.TheVariants as call
 use Rattle.ov_base.specs.declared.call.OpenFlags.{OpenFlags}
 use Rattle.ov_base.specs.declared.errno.Errno.TheVariants.{EINVAL}
 use Rattle.plain_model.specs.Machine.{State, lowest_free}
 use Rattle.plain_model.specs.Refusals.{bad_flags, bad_mode, refusal, when}
-use Rattle.plain_model.specs.Layers.{Path, Object, Directory, Named, Whiteout, Inode, Layer, held, holds_directory, Shown, over, shows, through}
-use Rattle.layer_tree.specs.Tree.{Tree, entry_at, layer_of, seen, seen_entry, IsHeldTogether}
-use Rattle.layer_tree.specs.declared.name_table.Entry.TheVariants as bound
-use Rattle.layer_tree.specs.declared.node.Node.{Node}
-use Rattle.layer_tree.specs.declared.node.Node.TheVariants as node
+use Rattle.plain_model.specs.Layers.{Path, Object, Layer, held, holds_directory, Shown, shows}
+use Rattle.layer_tree.specs.Tree.{layer_of, IsHeldTogether}
 use Rattle.merged_lookup.specs.declared.layers.Layers.{Layers}
 use Rattle.merged_lookup.specs.Merged.{layers_of, lowers_of}
 use Rattle.mount_laws.specs.Looks.{parents_fault}
@@ -23,18 +17,17 @@ use Rattle.mount_laws.specs.Opening.{opening_fault, shown_fault}
 use Rattle.mount_laws.specs.Renaming.{is_one}
 use Rattle.mount_laws.proofs.Links.{first-none, second-none}
 use Rattle.mount_laws.proofs.Opening.{law_of_open_refusal}
-use Rattle.copy_up.specs.Showing.{is_object, GainsParents, KeepsPath}
-use Rattle.copy_up.specs.declared.needs.Need.TheVariants as need
+use Rattle.copy_up.specs.Showing.{GainsParents, KeepsPath}
 use Rattle.rename_redirect.specs.Renaming.{KeepsMoved}
 use Rattle.work_dir.specs.declared.next.Lack.TheVariants as lack
 use Rattle.work_dir.specs.declared.source.Source.{Source}
-use Rattle.mount_calls.specs.Keeping.{KeepsAround, KeepsLayers, KeepsRenamed}
-use Rattle.mount_calls.specs.Lacks.{file_lack, lack_among, lack_of, lacking, lacking_to, low_file, need_of, parent_lack, path_of_call, CanBeHad, HoldsObject, OpensToChange}
+use Rattle.mount_calls.specs.Keeping.{BringsNone, KeepsAround, KeepsLayers, KeepsRenamed}
+use Rattle.mount_calls.specs.Lacks.{file_lack, lack_among, lack_of, lacking, lacking_to, low_file, parent_lack, path_of_call, CanBeHad, OpensToChange}
 use Rattle.mount_calls.specs.declared.mount.Mount.{Mount}
 use Rattle.mount_calls.specs.States.{IsStateOf}
 use Rattle.mount_calls.proofs.Stating.{the_layers, the_lowers, the_upper}
-use Rattle.mount_calls.proofs.Frames.{around-parents}
-use Rattle.mount_calls.proofs.Lacking.{low-own, rename_lack, open_lack}
+use Rattle.mount_calls.proofs.Frames.{around-parents, none-parents}
+use Rattle.mount_calls.proofs.Lacking.{rename_lack, open_lack}
 
 -- a rename that lacks a parent is not of one object
 apart-lacking : (U : Layer) (p q : Path) (one : Bool) (file : Option Source) (second : Bool) (count : ℕ) → rename_lack U p q one file ≡ lack.Parent second count → one ≡ false
@@ -45,6 +38,9 @@ apart-lacking U p q false file second count h = refl
 module _ (old new : Layers) where
   around-path : (a p : Path) → Some a ≡ Some p → GainsParents old new p → KeepsAround old new a
   around-path a p at g = let e : a ≡ p = cc in subst (λ z. KeepsAround old new z) (sym e) (around-parents old new p g)
+
+  none-path : (a p : Path) → Some a ≡ Some p → GainsParents old new p → BringsNone old new a
+  none-path a p at g = let e : a ≡ p = cc in subst (λ z. BringsNone old new z) (sym e) (none-parents old new p g)
 
   either-path : (a b p : Path) (second : Bool) → Some (cond second b a) ≡ Some p → GainsParents old new p → (x : Path) → KeepsPath old new a x ⊎ KeepsPath old new b x
   either-path a b p true at g x = let e : b ≡ p = cc in inr (subst (λ z. KeepsPath old new z x) (sym e) (g.paths x))
@@ -80,18 +76,19 @@ module _ (old new : Layers) where
   place-keeps (call.Mkdir a mode) true count p is at opens g = cc
   place-keeps (call.Mkdir a mode) false count p is at opens g = around-path a p at g
   place-keeps (call.Symlink target a) true count p is at opens g = cc
-  place-keeps (call.Symlink target a) false count p is at opens g = around-path a p at g
+  place-keeps (call.Symlink target a) false count p is at opens g = none-path a p at g
   place-keeps (call.Unlink a) true count p is at opens g = cc
-  place-keeps (call.Unlink a) false count p is at opens g = around-path a p at g
+  place-keeps (call.Unlink a) false count p is at opens g = none-path a p at g
   place-keeps (call.Rmdir a) true count p is at opens g = cc
-  place-keeps (call.Rmdir a) false count p is at opens g = around-path a p at g
-  place-keeps (call.Hardlink a b) second count p is at opens g = λ x off away. either-path a b p second at g x
+  place-keeps (call.Rmdir a) false count p is at opens g = none-path a p at g
+  place-keeps (call.Hardlink a b) second count p is at opens g =
+      record { others = λ x off away. either-path a b p second at g x; ends = inl (either-path a b p second at g) }
   place-keeps (call.Rename a b) second count p is at opens g =
       renames-path a b p second
       (apart-lacking (layer_of old.upper) a b (is_one (layer_of old.upper) a b) (low_file (shows 0 (layers_of old) a)) second count is) at g
   place-keeps (call.Open a f mode) true count p is at opens g = cc
   place-keeps (call.Open a f mode) false count p is at opens g =
-      subst (λ b. cond b (KeepsAround old new a) (new ≡ old)) (sym opens) (around-path a p at g)
+      subst (λ b. cond b (BringsNone old new a) (new ≡ old)) (sym opens) (none-path a p at g)
   place-keeps (call.Read d n) second count p is at opens g = cc
   place-keeps (call.Write d bytes) second count p is at opens g = cc
   place-keeps (call.Seek d offset whence) second count p is at opens g = cc
@@ -103,48 +100,15 @@ module _ (old new : Layers) where
   place-keeps (call.Disarm watch) second count p is at opens g = cc
   place-keeps (call.TakeNotices n) second count p is at opens g = cc
 
--- the object under a key
-object-seen : (key : ℕ) (o : Option Node) → is_some o ≡ true → is_object (option_map (seen key) o) ≡ true
-object-seen key None h = cc
-object-seen key (Some (node.Directory d)) h = refl
-object-seen key (Some (node.Inode i)) h = refl
-
-object-held : (t : Tree) (p : Path) (key : ℕ) → entry_at t p ≡ Some (bound.Object key) → is_some (get t key) ≡ true → is_object (held (layer_of t) p) ≡ true
-object-held t [] key is there = refl
-object-held t (n ∷ p) key is there =
-    ap (λ e. is_object (option_and_then (seen_entry t) e)) is ∙ object-seen key (get t key) there
-
--- what the upper holds is shown, and is no file of a lower layer
-own-shown : (inodes : ℕ → Option Inode) (o : Option Object) (y : Option Shown) → is_object o ≡ true → (low_file (over 0 inodes o y) ≡ None) × (is_none (over 0 inodes o y) ≡ false)
-own-shown inodes None y h = cc
-own-shown inodes (Some Whiteout) y h = cc
-own-shown inodes (Some (Directory k a u r)) y h = (refl, refl)
-own-shown inodes (Some (Named k)) y h = (sym (low-own (over 0 inodes (Some (Named k)) y) 0 k (inodes k) refl refl), refl)
-
 directory-some : (o : Option Object) → holds_directory o ≡ true → is_some o ≡ true
 directory-some None h = cc
 directory-some (Some x) h = refl
 
-object-some : (o : Option Object) → is_object o ≡ true → is_some o ≡ true
-object-some None h = cc
-object-some (Some x) h = refl
-
 -- a directory that is held stands in directories that are
-held-to : (U : Layer) → IsHeldTogether U → (p : Path) → holds_directory (held U p) ≡ true → lacking_to U p ≡ None
+pub held-to : (U : Layer) → IsHeldTogether U → (p : Path) → holds_directory (held U p) ≡ true → lacking_to U p ≡ None
 held-to U t [] h = refl
 held-to U t (n ∷ p) h =
     ap₂ (λ o b. option_or o (cond b None (Some (length (n ∷ p))))) (held-to U t p (t.parents n p (directory-some (held U (n ∷ p)) h))) h
-
-held-parents : (U : Layer) → IsHeldTogether U → (p : Path) → is_object (held U p) ≡ true → lacking U p ≡ None
-held-parents U t [] h = refl
-held-parents U t (n ∷ p) h = held-to U t p (t.parents n p (object-some (held U (n ∷ p)) h))
-
--- so nothing is lacking at a path at which the upper holds an object
-pub holds-object : (l : Layers) (p : Path) (key : ℕ) → IsHeldTogether (layer_of l.upper) → entry_at l.upper p ≡ Some (bound.Object key) → is_some (get l.upper key) ≡ true → HoldsObject l p
-holds-object l p key together is there =
-    let h = object-held l.upper p key is there in
-    let own = own-shown (layer_of l.upper).inodes (held (layer_of l.upper) p) (through (layer_of l.upper) (lowers_of l) p) h in
-    record { parents = held-parents (layer_of l.upper) together p h; own = own.0; shown = own.1 }
 
 first-false : (a b : Bool) → (a || b) ≡ false → (a ≡ false) × (b ≡ false)
 first-false true b h = cc
@@ -159,11 +123,6 @@ opening-shown : (Ls : List Layer) (p : Path) (f : OpenFlags) (mode : ℕ) (free 
 opening-shown Ls p f mode free h =
     first-none (shown_fault f (shows 0 Ls p)) _
     (second-none (parents_fault Ls p) _ (second-none (bad_mode mode) _ (second-none (when (bad_flags f) EINVAL) _ h)))
-
--- nothing has to be placed where nothing is lacking
-pub no-need : (o : Option ℕ) → need.Nothing ≡ need_of o → o ≡ None
-no-need None h = refl
-no-need (Some count) h = cc
 
 -- a call lacks nothing whose paths have their parents, and whose file is the upper's
 module _ (U : Layer) where
@@ -180,19 +139,15 @@ module _ (U : Layer) where
   pub nothing-read : (p : Path) (writes absent : Bool) (s : Option Shown) → writes ≡ false → absent ≡ false → open_lack U p writes absent s ≡ lack.Nothing
   nothing-read p writes absent s h g = ap₂ (λ w b. open_lack U p w b s) h g
 
-  pub nothing-opened : (p : Path) (writes absent : Bool) (s : Option Shown) → lacking U p ≡ None → low_file s ≡ None → absent ≡ false → open_lack U p writes absent s ≡ lack.Nothing
-  nothing-opened p true absent s h e g = nothing-one p (low_file s) h e
-  nothing-opened p false absent s h e g = nothing-read p false absent s refl g
+  pub nothing-opened : (p : Path) (writes absent : Bool) (s : Option Shown) → lacking U p ≡ None → low_file s ≡ None → open_lack U p writes absent s ≡ lack.Nothing
+  nothing-opened p true absent s h e = nothing-one p (low_file s) h e
+  nothing-opened p false true s h e = nothing-one p None h refl
+  nothing-opened p false false s h e = refl
 
 -- what a lack of a parent tells of the path that it is of
 pub can-here : (m : Mount) (k : Call) (second : Bool) (count : ℕ) (q : Path) → Some q ≡ path_of_call k second → CanBeHad m k (lack.Parent second count) →
     (path_of_call k second ≡ Some q) × OpensToChange (the_layers m) k
 can-here m k second count q is can = (sym is, can.4)
-
--- an option that was copied has a value where it had one
-pub copied-some : {X : Type 0} (o : Option (Bor X)) (x : Option X) → option_copied o ≡ x → is_some o ≡ true → is_some x ≡ true
-copied-some None x e h = cc
-copied-some (Some b) x e h = ap is_some (sym e)
 
 -- an open that neither writes nor makes its file lacks nothing, where it is allowed
 pub nothing-unopened : (m : Mount) (p : Path) (f : OpenFlags) (mode : ℕ) → (f.writes || f.create) ≡ false → (s : State) → IsStateOf m s → (c : ℕ) →
@@ -202,12 +157,3 @@ nothing-unopened m p f mode off s st c fine =
     let shown = shown-there f (shows 0 (the_layers m) p) flags.1
     (opening-shown (the_layers m) p f mode (lowest_free s.tables c) (sym (law_of_open_refusal (the_upper m) (the_lowers m) s st.layers c p f mode) ∙ fine)) in
     nothing-read (the_upper m) p f.writes (is_none (shows 0 (the_layers m) p)) (shows 0 (the_layers m) p) flags.0 shown
-
--- a link or a rename lacks nothing whose paths have their parents, and whose object is the upper's
-pub nothing-given : (m : Mount) (k : Call) (p q : Path) → (k ≡ call.Hardlink p q) ⊎ (k ≡ call.Rename p q) → HoldsObject m.layers p → lacking (the_upper m) q ≡ None →
-    lack_of (the_upper m) (the_lowers m) k ≡ lack.Nothing
-nothing-given m k p q (inl e) h g =
-    ap (lack_of (the_upper m) (the_lowers m)) e ∙ nothing-both (the_upper m) p q (low_file (shows 0 (the_layers m) p)) h.parents g h.own
-nothing-given m k p q (inr e) h g =
-    ap (lack_of (the_upper m) (the_lowers m)) e
-    ∙ nothing-moved (the_upper m) p q (is_one (the_upper m) p q) (low_file (shows 0 (the_layers m) p)) h.parents g h.own

@@ -16,7 +16,7 @@ use Rattle.copy_up.specs.Showing.{StaysThin}
 use Rattle.make_remove.specs.Removing.{TakesName}
 use Rattle.notice_laws.specs.declared.object.Object.{Object}
 use Rattle.mount_calls.specs.declared.mount.Mount.{Mount}
-use Rattle.mount_calls.specs.Keeping.{KeepsAround}
+use Rattle.mount_calls.specs.Keeping.{BringsNone}
 use Rattle.mount_calls.specs.Living.{KeepsHeld}
 use Rattle.mount_calls.specs.Making.{MakesCall}
 use Rattle.mount_calls.specs.Status.{outcome_reply, outcome_result}
@@ -35,7 +35,7 @@ module _ (m : Mount) (new : Layers) (p : Path) where
   pub unlink-made : (outcome : Result Object Errno) (c : ℕ) → AreCounted m.clients →
       IfErr outcome (λ e. unlink_fault (layers_of m.layers) p ≡ Some e) → OnErr outcome (new ≡ m.layers) →
       OnOk outcome (unlink_fault (layers_of m.layers) p ≡ None) → OnOk outcome (TakesName m.layers new p) → OnOk outcome RemovalSteps →
-      OnOk outcome (KeepsHeld m.clients m.layers new (call.Unlink p)) → KeepsAround m.layers new p → StaysThin m.layers new →
+      OnOk outcome (KeepsHeld m.clients m.layers new (call.Unlink p)) → BringsNone m.layers new p → StaysThin m.layers new →
       MakesCall c (call.Unlink p) m (record m { layers = new }) (Ok (outcome_reply outcome))
   unlink-made (Ok object) c counted fault same allowed takes steps live around thin =
       makes-done c (call.Unlink p) m new

@@ -3,7 +3,7 @@ use Rattle.std.specs.Prelude.{◌≡◌, ◌≢◌, ◌⊎◌, Bool, true, false
 use Rattle.std.specs.Prelude.{None, is_none}
 use Rattle.ov_base.specs.declared.call.Call.{Call}
 use Rattle.ov_base.specs.declared.call.Call.TheVariants as call
-use Rattle.plain_model.specs.Layers.{Name, Path, held, shows}
+use Rattle.plain_model.specs.Layers.{Name, Path, held, holds_directory, shows, AreLayers}
 use Rattle.plain_model.specs.Laws.{IsOutside}
 use Rattle.mount_laws.specs.Moving.{Follows}
 use Rattle.layer_tree.specs.Tree.{layer_of, SameObjects}
@@ -33,15 +33,34 @@ pub record KeepsAround (old new : Layers) (p : Path) : Type 0 where
   pub outside : (x : Path) → IsOutside p x → KeepsPath old new p x
   pub below : (n : Name) (r : Path) → LosesNoObject old new (n ∷ r ++ p)
 
+-- the upper holds no directory at p
+abbrev pub HoldsNoDirectory : Layers → Path → Type 0
+HoldsNoDirectory l p = holds_directory (held (layer_of l.upper) p) ≡ false
+
+-- So it is around p, and at p the upper holds what it held, or no directory.
+pub record BringsNone (old new : Layers) (p : Path) : Type 0 where
+  pub around : KeepsAround old new p
+  pub here :
+      (held (layer_of new.upper) p ≡ held (layer_of old.upper) p) ⊎ HoldsNoDirectory new p
+
+-- the upper holds at x what it held, or x is a missing parent of p, or of q, that it gained
+abbrev pub KeepsEither : Layers → Layers → Path → Path → Path → Type 0
+KeepsEither old new p q x = KeepsPath old new p x ⊎ KeepsPath old new q x
+
 -- At every path but p and q the upper holds what it held, but for missing parents of the two that
--- it gained, each as it was shown.
-abbrev pub KeepsBut : Layers → Layers → Path → Path → Type 0
-KeepsBut old new p q = (x : Path) → x ≢ p → x ≢ q → KeepsPath old new p x ⊎ KeepsPath old new q x
+-- it gained, each as it was shown. So it is at p and q too, or it holds no directory there.
+pub record KeepsBut (old new : Layers) (p q : Path) : Type 0 where
+  pub others : (x : Path) → x ≢ p → x ≢ q → KeepsEither old new p q x
+  pub ends :
+      ((x : Path) → KeepsEither old new p q x)
+      ⊎ (AreLayers (layers_of old) → HoldsNoDirectory new p × HoldsNoDirectory new q)
 
 -- What the upper held at a path other than p, it holds at the path that follows it where p moves to
--- q, but for missing parents of the two that it gained, each as it was shown.
-abbrev pub MovesAlong : Layers → Layers → Path → Path → Type 0
-MovesAlong old new p q = (x y : Path) → Follows p q x y → x ≢ p → KeepsMoved old new p q x y
+-- q, but for missing parents of the two that it gained, each as it was shown. It holds no directory
+-- at p then.
+pub record MovesAlong (old new : Layers) (p q : Path) : Type 0 where
+  pub along : (x y : Path) → Follows p q x y → x ≢ p → KeepsMoved old new p q x y
+  pub left : HoldsNoDirectory new p
 
 -- Where p and q are one object, the layers stay the very same. Else what the upper held below p went
 -- along to q, and all else stayed, but for missing parents that it gained; or it gained these alone.
@@ -52,22 +71,23 @@ pub record KeepsRenamed (old new : Layers) (p q : Path) : Type 0 where
 -- What a call leaves of the layers. One that changes something at a path leaves what the upper holds
 -- around it, but for missing parents of the path that it gained; so does an open that writes, or that
 -- makes the file where nothing is shown. A link does so with its two paths, and a rename too, but what
--- the upper holds below the old path goes along. A write and a truncate leave what every path holds,
--- and a close may free a file without a name. Every other call leaves the layers the very same.
+-- the upper holds below the old path goes along. Where the call's own object is no directory that
+-- stays, none comes at its path. A write and a truncate leave what every path holds, and a close may
+-- free a file without a name. Every other call leaves the layers the very same.
 abbrev pub KeepsLayers : Call → Layers → Layers → Type 0
 KeepsLayers (call.Chmod p mode) old new = KeepsAround old new p
 KeepsLayers (call.Chown p uid gid) old new = KeepsAround old new p
 KeepsLayers (call.SetAttribute p n v) old new = KeepsAround old new p
 KeepsLayers (call.DeleteAttribute p n) old new = KeepsAround old new p
 KeepsLayers (call.Mkdir p mode) old new = KeepsAround old new p
-KeepsLayers (call.Symlink target p) old new = KeepsAround old new p
-KeepsLayers (call.Unlink p) old new = KeepsAround old new p
-KeepsLayers (call.Rmdir p) old new = KeepsAround old new p
+KeepsLayers (call.Symlink target p) old new = BringsNone old new p
+KeepsLayers (call.Unlink p) old new = BringsNone old new p
+KeepsLayers (call.Rmdir p) old new = BringsNone old new p
 KeepsLayers (call.Hardlink p q) old new = KeepsBut old new p q
 KeepsLayers (call.Rename p q) old new = KeepsRenamed old new p q
 KeepsLayers (call.Open p f mode) old new =
     cond (f.writes || (f.create && is_none (shows 0 (layers_of old) p)))
-    (KeepsAround old new p) (new ≡ old)
+    (BringsNone old new p) (new ≡ old)
 KeepsLayers (call.Write d bytes) old new = SameObjects (layer_of old.upper) (layer_of new.upper)
 KeepsLayers (call.Truncate d size) old new = SameObjects (layer_of old.upper) (layer_of new.upper)
 KeepsLayers (call.Close d) old new = KeepsPaths old new

@@ -127,11 +127,17 @@ lack_among U second (p ∷ ps) d =
 abbrev pub lack_of : Layer → List Layer → Call → Lack
 lack_of U lowers k = lack_among U false (changed_paths U lowers k) (data_place U lowers k)
 
--- the upper holds an object at a path and its parents, so that nothing is lacking there
-pub record HoldsObject (l : Layers) (p : Path) : Type 0 where
+-- the upper has the parents of a path, and what is shown there is no file of a lower layer, so that
+-- nothing is lacking
+pub record HasAllAt (l : Layers) (p : Path) : Type 0 where
   pub parents : lacking (layer_of l.upper) p ≡ None
   pub own : low_file (shows 0 (layers_of l) p) ≡ None
-  pub shown : is_none (shows 0 (layers_of l) p) ≡ false
+
+-- the upper has all that is lacking for the first of these paths, and the parents of a second one
+abbrev pub HasAllOf : Layers → List Path → Type 0
+HasAllOf l [] = Unit {0}
+HasAllOf l (p ∷ []) = HasAllAt l p
+HasAllOf l (p ∷ (q ∷ qs)) = HasAllAt l p × (lacking (layer_of l.upper) q ≡ None)
 
 -- the bytes of a lower file
 abbrev pub bytes_at : List Layer → Source → Option (List ℕ)

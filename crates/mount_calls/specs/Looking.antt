@@ -1,6 +1,8 @@
 -- What was seen at a path, and what was judged of an open, for a call and for those who are told of it
 -- (POSIX.1-2017, General Concepts, Pathname Resolution).
-use Rattle.std.specs.Prelude.{◌≡◌, ℕ, Bool, Option, None, Some, Result, Ok, Err, IfOk, IfErr, OnOk}
+use Rattle.std.specs.Prelude.{◌≡◌, ℕ, Bool, List, [], ◌∷◌, Option, None, Some, Result, Ok, Err, IfOk, IfErr, OnOk}
+use Rattle.ov_base.specs.declared.call.Call.{Call}
+use Rattle.ov_base.specs.declared.call.Call.TheVariants as call
 use Rattle.ov_base.specs.declared.call.OpenFlags.{OpenFlags}
 use Rattle.ov_base.specs.declared.errno.Errno.{Errno}
 use Rattle.plain_model.specs.Layers.{Path}
@@ -13,6 +15,8 @@ use Rattle.mount_laws.specs.Opening.{opening_fault}
 use Rattle.notice_laws.specs.Objects.{IsObject}
 use Rattle.notice_laws.specs.declared.object.Object.TheVariants as object
 use Rattle.mount_calls.specs.declared.look.Look.{Look}
+use Rattle.mount_calls.specs.declared.looks.Looks.{Looks}
+use Rattle.mount_calls.specs.declared.looks.Looks.TheVariants as looks
 use Rattle.mount_calls.specs.declared.mount.Mount.{Mount}
 use Rattle.mount_calls.specs.declared.open_calls.Judged.{Judged}
 use Rattle.mount_calls.specs.FreeDescriptors.{IsLowestFree}
@@ -28,6 +32,33 @@ pub record IsLook (l : Layers) (p : Path) (look : Look) : Type 0 where
   pub way : OnOk look.shown (parents_fault (layers_of l) p ≡ None)
   pub directory : IfOk look.shown (λ seen. IsStackOf l (parent p) seen.0)
   pub top : IfOk look.shown (λ seen. IsTopmost l p seen.1)
+
+-- the paths of a call that are looked at once for all that it asks: of a change of attributes, an
+-- open, and what makes or removes a name its path, of a link or a rename both
+abbrev pub looked_paths : Call → List Path
+looked_paths (call.Chmod p mode) = p ∷ []
+looked_paths (call.Chown p uid gid) = p ∷ []
+looked_paths (call.SetAttribute p n v) = p ∷ []
+looked_paths (call.DeleteAttribute p n) = p ∷ []
+looked_paths (call.Mkdir p mode) = p ∷ []
+looked_paths (call.Symlink target p) = p ∷ []
+looked_paths (call.Open p f mode) = p ∷ []
+looked_paths (call.Unlink p) = p ∷ []
+looked_paths (call.Rmdir p) = p ∷ []
+looked_paths (call.Hardlink old new) = old ∷ (new ∷ [])
+looked_paths (call.Rename old new) = old ∷ (new ∷ [])
+looked_paths _ = []
+
+-- these looks saw what the layers show at these paths
+abbrev pub SawEach : Layers → List Path → Looks → Type 0
+SawEach l [] looks.None = Unit {0}
+SawEach l (p ∷ []) (looks.One look) = IsLook l p look
+SawEach l (p ∷ (q ∷ [])) (looks.Both from onto) = IsLook l p from × IsLook l q onto
+SawEach l ps saw = ⊥
+
+-- the looks of a call
+abbrev pub AreLooks : Layers → Call → Looks → Type 0
+AreLooks l k saw = SawEach l (looked_paths k) saw
 
 -- the file of the upper that is shown at p, if one is, stands under this key
 abbrev pub IsKeyAt : Layers → Path → ℕ → Type 0

@@ -1,5 +1,5 @@
 -- The state of the plain machine that a mount stands for: the tree that its layers show, and for each client its descriptors, some of them on files.
-use Rattle.std.specs.Prelude.{◌≡◌, ℕ, true, cond, List, [], ◌∷◌, Option, None, Some, is_some, length, take, drop, nat_eq}
+use Rattle.std.specs.Prelude.{◌≡◌, ℕ, true, cond, List, [], Option, None, Some, is_some, length, take, drop, nat_eq}
 use Rattle.std.specs.List.{list_any}
 use Rattle.std.specs.BTreeMap.{get}
 use Rattle.std.specs.Ordering.{nat_cmp}

@@ -10,14 +10,15 @@ ghost use Rattle.merged_lookup.specs.Merged.{layers_of, lowers_of, IsFound, IsTo
 ghost use Rattle.mount_calls.specs.AttributeCalls.{call_at};
 ghost use Rattle.mount_calls.specs.Lacks as lacks;
 ghost use Rattle.mount_calls.specs.Lacks.{lacking, parent_lack, lack_among, lack_of};
-ghost use Rattle.mount_calls.specs.Lacks.{HoldsObject, LawOfNeeds, TellsLack};
+ghost use Rattle.mount_calls.specs.Lacks.{LawOfNeeds, TellsLack};
+ghost use Rattle.mount_calls.specs.Looking.{AreLooks};
 ghost use Rattle.mount_calls.specs.States.{IsStateOf};
 ghost use Rattle.work_dir.specs.declared.next.Lack.TheVariants as Lacking;
 
 use crate::attribute_changes::{AttributeCall, judged, mode_fault};
+use crate::looks::Looks;
 use crate::mount::Mount;
 use copy_up::{Need, need_at};
-use layer_tree::Entry;
 use make_remove::{leaf_at, removable, vacant};
 use merged_lookup::{Found, Layers, Place, Topmost};
 use ov_base::{Bytes, Call, Content, Errno, LinkTarget, OpenFlags, Path};
@@ -80,29 +81,25 @@ impl Mount {
     }
 
     /// Whether the upper has all that a call may lack, so that it lacks nothing unless it is
-    /// refused. It looks into the upper alone, and a call for which it says no may lack nothing all
-    /// the same.
-    pub fn has_all(&self, call: &Call) -> bool
+    /// refused, as its looks saw it. It walks no lower layer, and a call for which it says no may
+    /// lack nothing all the same.
+    pub fn has_all(&self, call: &Call, looks: &Looks) -> bool
+        requires looks { AreLooks self.now.layers call.now looks.now }
         ensures { result ≡ true → (s : State) → IsStateOf self.now s → (c : ℕ) →
             refusal s c call.now ≡ None →
             lack_of (layer_of self.now.layers.upper) (lowers_of self.now.layers) call.now
             ≡ Lacking.Nothing }
     {
         match call {
-            Call::Chmod { path, .. }
-            | Call::Chown { path, .. }
-            | Call::SetAttribute { path, .. }
-            | Call::DeleteAttribute { path, .. } => holds_object(&self.layers, path),
-            Call::Mkdir { path, .. }
-            | Call::Symlink { path, .. }
-            | Call::Unlink { path }
-            | Call::Rmdir { path } => holds_parents(&self.layers, path),
-            Call::Open { path, flags, .. } => {
-                !may_change(*flags) || holds_object(&self.layers, path)
-            }
-            Call::Hardlink { old, new } | Call::Rename { old, new } => {
-                holds_both(&self.layers, old, new)
-            }
+            Call::Mkdir { .. } | Call::Symlink { .. } | Call::Unlink { .. } | Call::Rmdir { .. } =>
+                looks.saw_parents(&self.layers),
+            Call::Open { flags, .. } => !may_change(*flags) || looks.saw_all(&self.layers),
+            Call::Chmod { .. }
+            | Call::Chown { .. }
+            | Call::SetAttribute { .. }
+            | Call::DeleteAttribute { .. }
+            | Call::Hardlink { .. }
+            | Call::Rename { .. } => looks.saw_all(&self.layers),
             _ => true,
         }
     }
@@ -127,7 +124,8 @@ impl Mount {
         if let Some(errno) = mode_fault(mode) {
             return Err(errno);
         }
-        match vacant(&self.layers, path) {
+        let look = self.look(path);
+        match vacant(look.shown) {
             Ok(_) => Ok(lack_on(&self.layers, path, None)),
             Err(errno) => Err(errno),
         }
@@ -140,7 +138,8 @@ impl Mount {
         if let Some(errno) = LinkTarget::fault(target.as_slice()) {
             return Err(errno);
         }
-        match vacant(&self.layers, path) {
+        let look = self.look(path);
+        match vacant(look.shown) {
             Ok(_) => Ok(lack_on(&self.layers, path, None)),
             Err(errno) => Err(errno),
         }
@@ -177,7 +176,8 @@ impl Mount {
     fn unlink_lack(&self, path: &Path) -> Result<Lack, Errno>
         ensures { (c : ℕ) → TellsLack self.now c (Call.Unlink path.now) result }
     {
-        match leaf_at(&self.layers, path) {
+        let look = self.look(path);
+        match leaf_at(path, look.shown) {
             Ok(_) => Ok(lack_on(&self.layers, path, None)),
             Err(errno) => Err(errno),
         }
@@ -187,7 +187,8 @@ impl Mount {
     fn rmdir_lack(&self, path: &Path) -> Result<Lack, Errno>
         ensures { (c : ℕ) → TellsLack self.now c (Call.Rmdir path.now) result }
     {
-        match removable(&self.layers, path) {
+        let look = self.look(path);
+        match removable(&self.layers, path, look.shown) {
             Ok(_) => Ok(lack_on(&self.layers, path, None)),
             Err(errno) => Err(errno),
         }
@@ -222,33 +223,6 @@ impl Mount {
         let file = found_file(layers, &moved.1);
         Ok(lack_on_both(layers, old, new, file))
     }
-}
-
-// Whether the upper holds each parent of a path.
-fn holds_parents(layers: &Layers, path: &Path) -> bool
-    ensures { result ≡ true → lacking (layer_of layers.now.upper) path.now ≡ None }
-{
-    matches!(need_at(layers, path), Need::Nothing)
-}
-
-// Whether the upper holds a directory, file or symbolic link at a path, and so its parents too.
-fn holds_object(layers: &Layers, path: &Path) -> bool
-    ensures { result ≡ true → HoldsObject layers.now path.now }
-{
-    let upper = layers.upper();
-    upper.lawful();
-    match upper.find(path) {
-        Some(Entry::Object(key)) => upper.node(key).is_some(),
-        _ => false,
-    }
-}
-
-// Whether the upper holds an object at one path, and each parent of another.
-fn holds_both(layers: &Layers, old: &Path, new: &Path) -> bool
-    ensures object { result ≡ true → HoldsObject layers.now old.now }
-    ensures parents { result ≡ true → lacking (layer_of layers.now.upper) new.now ≡ None }
-{
-    holds_object(layers, old) && holds_parents(layers, new)
 }
 
 // Whether an open writes, or makes its file where there is none.

@@ -1,5 +1,5 @@
 // A mount and the clients on it: what each call does, by the plain machine.
-ghost use Rattle.std.specs.Prelude.{◌≡◌, ◌<◌, ◌+◌, ◌^◌, ℕ, false, List, Some, None, Ok, IfOk, IfErr, OnOk, OnErr, IsSome, IsSomeAnd, IfNone, IfSome, is_some, MatchResult, option_copied, true};
+ghost use Rattle.std.specs.Prelude.{◌≡◌, ◌<◌, ◌+◌, ◌^◌, ℕ, false, List, Some, None, Ok, IfOk, IfErr, OnOk, OnErr, IsSome, IsSomeAnd, is_some, MatchResult, option_copied, true};
 ghost use Rattle.plain_model.specs.Layers.{AreLayers};
 ghost use Rattle.layer_tree.specs.Tree.{layer_of, inode_of};
 ghost use Rattle.merged_lookup.specs.Merged.{layers_of, lowers_of};
@@ -11,6 +11,7 @@ ghost use Rattle.std.specs.Option.{option_and_then};
 ghost use Rattle.mount_laws.specs.Leaves.{inode_target};
 
 use crate::clients::Clients;
+use crate::look::Look;
 use crate::removals::{free_closed, rmdir_and_free, unlink_and_free};
 use crate::status::status_at;
 use dir_listing::{Cursor, names};
@@ -19,7 +20,7 @@ use make_remove::{mkdir, symlink};
 use merged_lookup::{Found, Layers, Topmost};
 use notice_laws::Object;
 use open_handles::{FileSource, Handle, OpenFile};
-use ov_base::{Attributes, Bytes, Call, Content, Errno, LinkTarget, Mode, NameList, Path, Reply};
+use ov_base::{Bytes, Call, Content, Errno, LinkTarget, Mode, NameList, Path, Reply};
 use std::alloc::{AllocError, Global};
 use std::hash::RandomState;
 
@@ -48,8 +49,7 @@ impl Mount {
     ghost use Rattle.mount_calls.specs.Attaching as attaching;
     ghost use Rattle.mount_calls.specs.Attaching.{HasNoRoom, Attaches, Detaches, TakesBack, IsSame, KeepsAttached, KeepsOthers, opened_by, directory_by};
     ghost use Rattle.mount_calls.specs.States.{HasStateOf, IsStateOf, Serves, StaysState, Pages};
-    ghost use Rattle.mount_calls.specs.Removing.{IsOpenNowhere, HasAttributes};
-    ghost use Rattle.mount_laws.specs.Removals.{rmdir_fault};
+    ghost use Rattle.mount_calls.specs.Looking.{IsLook};
     ghost use Rattle.mount_calls.specs.Opening.{list_fault};
     ghost use Rattle.mount_calls.specs.Living.{KeepsNamed, StaysLive};
     ghost use Rattle.mount_calls.specs.Keeping.{KeepsLayers};
@@ -171,8 +171,9 @@ impl Mount {
         }
     }
 
-    /// Makes a directory.
-    pub fn mkdir(&mut self, path: &Path, mode: u32) -> Result<Reply, AllocError>
+    /// Makes a directory at a path that was looked at.
+    pub fn mkdir(&mut self, path: &Path, look: Look, mode: u32) -> Result<Reply, AllocError>
+        requires { IsLook self.old.layers path.now look }
         ensures makes { MakesEach (Call.Mkdir path.now mode) self.old self.new result }
         ensures clients { self.new.clients ≡ self.old.clients }
     {
@@ -180,14 +181,15 @@ impl Mount {
             Ok(mode) => mode,
             Err(errno) => return Ok(Reply::Refused(errno)),
         };
-        match mkdir(self.alloc, &mut self.layers, path, mode)? {
+        match mkdir(self.alloc, &mut self.layers, path, look.shown, mode)? {
             Ok(()) => Ok(Reply::Done),
             Err(errno) => Ok(Reply::Refused(errno)),
         }
     }
 
-    /// Makes a symbolic link.
-    pub fn symlink(&mut self, target: &Bytes, path: &Path) -> Result<Reply, AllocError>
+    /// Makes a symbolic link at a path that was looked at.
+    pub fn symlink(&mut self, target: &Bytes, path: &Path, look: Look) -> Result<Reply, AllocError>
+        requires { IsLook self.old.layers path.now look }
         ensures makes { MakesEach (Call.Symlink target.now path.now) self.old self.new result }
         ensures clients { self.new.clients ≡ self.old.clients }
     {
@@ -195,32 +197,39 @@ impl Mount {
             Ok(target) => target,
             Err(errno) => return Ok(Reply::Refused(errno)),
         };
-        match symlink(self.alloc, &mut self.layers, target, path)? {
+        match symlink(self.alloc, &mut self.layers, target, path, look.shown)? {
             Ok(()) => Ok(Reply::Done),
             Err(errno) => Ok(Reply::Refused(errno)),
         }
     }
 
-    /// Removes a name of a file or link, and returns what stood there. An allocation failure leaves
-    /// all that is shown as it was.
-    pub fn unlink_telling(&mut self, path: &Path) -> Result<Result<Object, Errno>, AllocError>
+    /// Removes the name of the file or link that was seen at a path, and returns what stood there. An
+    /// allocation failure leaves all that is shown as it was.
+    pub fn unlink_telling(
+        &mut self,
+        path: &Path,
+        look: Look,
+    ) -> Result<Result<Object, Errno>, AllocError>
+        requires { IsLook self.old.layers path.now look }
         ensures makes { MakesEach (Call.Unlink path.now) self.old self.new (outcome_result result) }
         ensures object { IfOk result (λ outcome. IfOk outcome (IsObject (layer_of self.old.layers.upper) (lowers_of self.old.layers) path.now)) }
         ensures clients { self.new.clients ≡ self.old.clients }
     {
         self.clients.lawful();
-        let outcome = unlink_and_free(&mut self.layers, &self.clients, path)?;
+        let outcome = unlink_and_free(&mut self.layers, &self.clients, path, look)?;
         Ok(outcome)
     }
 
-    /// Removes an empty directory; handles on it stay, and keep its attributes.
-    pub fn rmdir(&mut self, path: &Path) -> Result<Reply, AllocError>
-        requires { ∥ HasStateOf self.old ∥₁ }
+    /// Removes the empty directory that was seen at a path; handles on it stay, and keep its
+    /// attributes.
+    pub fn rmdir(&mut self, path: &Path, look: Look) -> Result<Reply, AllocError>
+        requires state { ∥ HasStateOf self.old ∥₁ }
+        requires look { IsLook self.old.layers path.now look }
         ensures { MakesEach (Call.Rmdir path.now) self.old self.new result }
     {
         self.clients.lawful();
-        let attributes = self.attributes_left(path)?;
-        match rmdir_and_free(&mut self.layers, &self.clients, path)? {
+        let attributes = self.attributes_seen(path, &look)?;
+        match rmdir_and_free(&mut self.layers, &self.clients, path, look)? {
             Ok(()) => {
                 if let Some(attributes) = attributes {
                     self.clients.remove(path, attributes);
@@ -228,20 +237,6 @@ impl Mount {
                 Ok(Reply::Done)
             }
             Err(errno) => Ok(Reply::Refused(errno)),
-        }
-    }
-
-    // A copy of the attributes of the directory at a path, where it is open, for the handles that hold it once it is removed.
-    pub(crate) fn attributes_left(&self, path: &Path) -> Result<Option<Attributes>, AllocError>
-        ensures left { IfOk result (λ left. IfSome left (HasAttributes (layers_of self.now.layers) path.now)) }
-        ensures none { IfOk result (λ left. IfNone left (rmdir_fault (layers_of self.now.layers) path.now false ≡ None → IsOpenNowhere self.now.clients path.now)) }
-    {
-        if !self.clients.is_open_at(path) {
-            return Ok(None);
-        }
-        match self.layers.walk_topmost(path) {
-            Ok(Topmost::Directory(place)) => { Ok(Some(self.layers.attributes_at(place).clone()?)) }
-            _ => Ok(None),
         }
     }
 

@@ -16,7 +16,7 @@ ghost use Rattle.mount_laws.specs.Opening.{opening_fault, shown_fault};
 ghost use Rattle.copy_up.specs.Leaves.{CopiesLeaf};
 ghost use Rattle.copy_up.specs.Showing.{ChangesNoSight, GainsParents, StaysSound, StaysThin};
 ghost use Rattle.mount_calls.specs.Attaching.{KeepsAttached};
-ghost use Rattle.mount_calls.specs.Keeping.{KeepsAround, KeepsLayers};
+ghost use Rattle.mount_calls.specs.Keeping.{BringsNone, KeepsLayers};
 ghost use Rattle.mount_calls.specs.FreeDescriptors.{IsLowestFree};
 ghost use Rattle.mount_calls.specs.Looking.{IsJudged, IsLook};
 ghost use Rattle.mount_calls.specs.Making.{AnswersCall, RunsOut};
@@ -180,7 +180,7 @@ impl Mount {
             self.old self.new (Reply.Descriptor descriptor)) }
         ensures no_memory { OnErr result (RunsOut self.old self.new) }
         ensures clients { KeepsAttached self.old.clients self.new.clients }
-        ensures around { KeepsAround self.old.layers self.new.layers path.now }
+        ensures around { BringsNone self.old.layers self.new.layers path.now }
         ensures lowers { self.new.layers.lowers ≡ self.old.layers.lowers }
         ensures thin { StaysThin self.old.layers self.new.layers }
     {
@@ -215,7 +215,7 @@ impl Mount {
             self.old self.new (Reply.Descriptor descriptor)) }
         ensures no_memory { OnErr result (RunsOut self.old self.new) }
         ensures clients { KeepsAttached self.old.clients self.new.clients }
-        ensures around { KeepsAround self.old.layers self.new.layers path.now }
+        ensures around { BringsNone self.old.layers self.new.layers path.now }
         ensures lowers { self.new.layers.lowers ≡ self.old.layers.lowers }
         ensures thin { StaysThin self.old.layers self.new.layers }
     {
@@ -305,7 +305,7 @@ fn bring_up(
         shows 0 (layers_of layers.old) path.now ≡ Some (Contents place.layer place.key (Some i)) →
         (leaf : CopiesLeaf layers.old layers.new path.now i.content i.attributes) ×
         (leaf.number ≡ key)) }
-    ensures around { KeepsAround layers.old layers.new path.now }
+    ensures around { BringsNone layers.old layers.new path.now }
     ensures lowers { layers.new.lowers ≡ layers.old.lowers }
     ensures no_memory { OnErr result
         (ChangesNoSight layers.old layers.new (GainsParents layers.old layers.new path.now)) }

@@ -13,7 +13,7 @@ ghost use Rattle.copy_up.specs.Showing.{ShowsSame, ChangesNoSight, StaysLayers, 
 ghost use Rattle.make_remove.specs.Removing.{TakesName};
 ghost use Rattle.plain_model.specs.Layers.{AreLayers, Inode as HeldInode};
 ghost use Rattle.notice_laws.specs.Objects.{IsObject};
-ghost use Rattle.mount_calls.specs.Keeping.{KeepsAround, KeepsRenamed};
+ghost use Rattle.mount_calls.specs.Keeping.{BringsNone, KeepsRenamed};
 ghost use Rattle.mount_calls.specs.Looking.{IsKeyAt, IsLook};
 ghost use Rattle.mount_calls.specs.Living.{FreesClosed, KeepsHeld, StaysHeld, StaysLive};
 ghost use Rattle.mount_calls.specs.Renaming.{MovesOrStays, RefusesRenames};
@@ -30,13 +30,15 @@ use ov_base::{Errno, Path};
 use rename_redirect::{Renamed, rename};
 use std::alloc::{AllocError, Global};
 
-/// `unlink`, which frees the inode whose last name this was, unless a handle holds it, and returns
-/// what stood there.
+/// `unlink` of what was seen at a path, which frees the inode whose last name this was, unless a
+/// handle holds it, and returns what stood there.
 pub(crate) fn unlink_and_free(
     layers: &mut Layers,
     clients: &Clients,
     path: &Path,
+    look: Look,
 ) -> Result<Result<Object, Errno>, AllocError>
+    requires { IsLook layers.old path.now look }
     ensures refused { IfOk result (λ r. IfErr r (λ e.
         unlink_fault (layers_of layers.old) path.now ≡ Some e)) }
     ensures unchanged { IfOk result (λ r. OnErr r (layers.new ≡ layers.old)) }
@@ -49,14 +51,14 @@ pub(crate) fn unlink_and_free(
         IsMountOf (layer_of layers.old.upper) (lowers_of layers.old) s → (c : ℕ) →
         Removes (layer_of layers.new.upper) (lowers_of layers.new) s c path.now
         (call.Unlink path.now))) }
-    ensures around { KeepsAround layers.old layers.new path.now }
+    ensures around { BringsNone layers.old layers.new path.now }
     ensures live { IfOk result (λ r.
         OnOk r (KeepsHeld clients.now layers.old layers.new (call.Unlink path.now))) }
     ensures no_memory { OnErr result
         (ChangesNoSight layers.old layers.new (StaysLive layers.old layers.new)) }
     ensures sound { StaysSound layers.old layers.new }
 {
-    let (directory, place) = match leaf_at(layers, path) {
+    let (directory, place) = match leaf_at(path, look.shown) {
         Ok(leaf) => leaf,
         Err(errno) => return Ok(Err(errno)),
     };
@@ -66,12 +68,14 @@ pub(crate) fn unlink_and_free(
     Ok(Ok(object))
 }
 
-/// `rmdir`, which frees the upper's directory.
+/// `rmdir` of what was seen at a path, which frees the upper's directory.
 pub(crate) fn rmdir_and_free(
     layers: &mut Layers,
     clients: &Clients,
     path: &Path,
+    look: Look,
 ) -> Result<Result<(), Errno>, AllocError>
+    requires { IsLook layers.old path.now look }
     ensures refused { IfOk result (λ r. IfErr r (λ e.
         (full : Bool) → TellsNames (layers_of layers.old) path.now full →
         rmdir_fault (layers_of layers.old) path.now full ≡ Some e)) }
@@ -87,14 +91,14 @@ pub(crate) fn rmdir_and_free(
         IsMountOf (layer_of layers.old.upper) (lowers_of layers.old) s → (c : ℕ) →
         Removes (layer_of layers.new.upper) (lowers_of layers.new) s c path.now
         (call.Rmdir path.now))) }
-    ensures around { KeepsAround layers.old layers.new path.now }
+    ensures around { BringsNone layers.old layers.new path.now }
     ensures live { IfOk result (λ r.
         OnOk r (KeepsHeld clients.now layers.old layers.new (call.Rmdir path.now))) }
     ensures no_memory { OnErr result
         (ChangesNoSight layers.old layers.new (StaysLive layers.old layers.new)) }
     ensures sound { StaysSound layers.old layers.new }
 {
-    match rmdir(layers, path)? {
+    match rmdir(layers, path, look.shown)? {
         Ok(key) => {
             free_released(layers, clients, key);
             Ok(Ok(()))

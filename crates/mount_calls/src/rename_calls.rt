@@ -74,8 +74,13 @@ impl Mount {
         }
     }
 
-    // A copy of the attributes of the directory that was seen at a path, where it is open, for the handles that hold it once it is replaced.
-    fn attributes_seen(&self, path: &Path, look: &Look) -> Result<Option<Attributes>, AllocError>
+    // A copy of the attributes of the directory that was seen at a path, where it is open, for the
+    // handles that hold it once it is replaced or removed.
+    pub(crate) fn attributes_seen(
+        &self,
+        path: &Path,
+        look: &Look,
+    ) -> Result<Option<Attributes>, AllocError>
         requires { IsLook self.now.layers path.now look.now }
         ensures left { IfOk result (λ left. IfSome left (HasAttributes (layers_of self.now.layers) path.now)) }
         ensures none { IfOk result (λ left. IfNone left (rmdir_fault (layers_of self.now.layers) path.now false ≡ None → IsOpenNowhere self.now.clients path.now)) }

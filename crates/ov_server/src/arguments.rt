@@ -19,6 +19,10 @@ use std::convert::AsStr;
 /// The version of the program, which `overlayd --version` prints.
 pub const VERSION: &str = "0.3.0";
 
+// What `play` does, with the commands of a script.
+const PLAYED: &str =
+    "Plays lines: attach, C CALL, C start CALL, C step [N], C drop, C detach, work, layer I, merge";
+
 /// What the command line asks for.
 #[derive(Clone, Copy, Debug, PartialEq, Eq)]
 pub enum Invocation<'a> {
@@ -66,11 +70,7 @@ fn overlayd<'a>(alloc: Global) -> Result<Command<'a>, AllocError>
     ensures { IfOk result (λ command. app_of command ≡ overlayd_app) }
 {
     let show = subcommand(alloc, "show", "Prints the merged tree of a manifest")?;
-    let play = subcommand(
-        alloc,
-        "play",
-        "Plays the script on standard input on the mount of a manifest",
-    )?;
+    let play = subcommand(alloc, "play", PLAYED)?;
     let serve = serve(alloc)?;
     Command::new(alloc, "overlayd")
         .version(VERSION)

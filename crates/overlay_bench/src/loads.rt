@@ -1,7 +1,7 @@
 // The loads by their names, each timed by the monotonic clock.
 use crate::deeds::Deed;
 use crate::manifests::ManifestText;
-use crate::mounts::{attached, made, mounted_alone, unmount};
+use crate::mounts::{Pace, attached, made, mounted_alone, unmount};
 use crate::operations::{before, operations};
 use crate::redirects::redirected;
 use crate::sessions::{Asking, copy, serve};
@@ -23,7 +23,7 @@ const BATCH: u32 = 64;
 #[derive(Clone, Copy)]
 pub enum Load {
     /// What a client does.
-    Deed(Deed),
+    Deed(Deed, Pace),
     /// What so many clients that watch a directory are told.
     Notices(u32),
     /// What a client asks in a session.
@@ -42,8 +42,16 @@ impl Load {
             "session_stat_bytes" => Some(Load::Session(Asking::StatBytes)),
             "session_write_64k" => Some(Load::Session(Asking::Write)),
             "plain_copy_64k" => Some(Load::PlainCopy),
-            _ => Some(Load::Deed(Deed::named(word)?)),
+            _ => deed_named(word),
         }
+    }
+}
+
+// The load of a deed's word, behind which `_steps` says that each call is made step by step.
+fn deed_named(word: &str) -> Option<Load> {
+    match word.strip_suffix("_steps") {
+        Some(word) => Some(Load::Deed(Deed::named(word)?, Pace::InSteps)),
+        None => Some(Load::Deed(Deed::named(word)?, Pace::AtOnce)),
     }
 }
 
@@ -77,7 +85,7 @@ fn measure_on<C: Clock, F: Callback + Copy, R: Rule>(
     count: u32,
 ) -> io::Result<(u64, u32)> {
     match load {
-        Load::Deed(deed) => do_on(clock, alloc, core, hook, deed, count),
+        Load::Deed(deed, pace) => do_on(clock, alloc, core, hook, deed, pace, count),
         Load::Notices(watchers) => tell_on(clock, alloc, core, hook, watchers, count),
         Load::PlainCopy | Load::Session(_) => copy(clock, alloc, count),
     }
@@ -90,7 +98,7 @@ fn layers_for(
     lowers: u32,
     count: u32,
 ) -> Result<ManifestText, AllocError> {
-    let Load::Deed(deed) = load else {
+    let Load::Deed(deed, _) = load else {
         return served(alloc, lowers);
     };
     match deed {
@@ -112,13 +120,14 @@ fn do_on<C: Clock, F: Callback + Copy, R: Rule>(
     core: &mut Core<F, R>,
     hook: &Hook<F, R>,
     deed: Deed,
+    pace: Pace,
     count: u32,
 ) -> io::Result<(u64, u32)> {
     let client = attached(alloc, core, hook, 0)?;
     if matches!(&deed, Deed::CreateWatched) {
         watch_elsewhere(alloc, core, hook)?;
     }
-    let _ = do_all(core, client, deed, before(alloc, deed)?)?;
+    let _ = do_all(core, client, deed, pace, before(alloc, deed)?)?;
     let count = match deed {
         Deed::Whiteout => count.min(OBJECTS),
         _ => count,
@@ -131,7 +140,7 @@ fn do_on<C: Clock, F: Callback + Copy, R: Rule>(
         let calls = operations(alloc, deed, first, number)?;
         let all = calls.len();
         let start = Instant::now(clock)?;
-        let fine = do_all(core, client, deed, calls)?;
+        let fine = do_all(core, client, deed, pace, calls)?;
         nanos = nanos.saturating_add(since(clock, start)?);
         if fine == all {
             done = done.saturating_add(number);
@@ -145,11 +154,12 @@ pub fn do_all<F: Callback + Copy, R: Rule>(
     core: &mut Core<F, R>,
     client: u64,
     deed: Deed,
+    pace: Pace,
     calls: Vec<Call>,
 ) -> Result<usize, AllocError> {
     let mut fine = 0usize;
     for call in calls {
-        if is_fine(deed, &made(core, client, call)?) {
+        if is_fine(deed, &made(core, client, call, pace)?) {
             fine = fine.saturating_add(1);
         }
     }

@@ -5,7 +5,7 @@ ghost use Rattle.overlay_core.specs.Views.{core_finished};
 
 use crate::loads::since;
 use crate::manifests::{child, nested};
-use crate::mounts::{attached, made, unmount};
+use crate::mounts::{Pace, attached, made, unmount};
 use crate::trees::{DIRECTORIES, served};
 use locked_history::{Blank, Deed, Mount, MountName, Open};
 use ov_base::{Call, Path, Reply};
@@ -117,7 +117,7 @@ fn by_one<C: Clock, F: Callback + Copy, R: Rule>(
     let mut done = 0u32;
     for _ in 0..count {
         let call = stat_of(alloc, text)?;
-        if let Reply::Status(_) = made(core, client, call)? {
+        if let Reply::Status(_) = made(core, client, call, Pace::AtOnce)? {
             done = done.saturating_add(1);
         }
     }

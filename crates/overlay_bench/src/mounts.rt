@@ -1,12 +1,16 @@
 // Mounts of the layers that manifests spell, and their clients.
 
+ghost use Rattle.std.specs.Prelude.{◌≡◌, ◌+◌, ◌<◌, ◌^◌, true};
+ghost use Rattle.overlay_core.specs.Views.{core_finished, has_client};
+
 use crate::manifests::{ManifestText, child};
 use ov_base::{Call, Event, Notice, Path, Reply};
 use ov_wire::manifest_of;
-use overlay_core::{Core, Job, Turn};
+use overlay_core::{Core, Job, Standing, Turn};
 use std::alloc::{AllocError, Global};
 use std::hash::RandomState;
 use watch_table::{AnyAnswer, Callback, Hook, Rule};
+use work_dir::STEPS_MAX;
 
 /// More attaches, calls and detaches than are ever measured.
 const DEEDS_MAX: u64 = 1 << 62;
@@ -78,23 +82,52 @@ pub fn attached<F: Callback + Copy, R: Rule>(
     }
 }
 
+/// How a call is made.
+#[derive(Clone, Copy)]
+pub enum Pace {
+    /// At once.
+    AtOnce,
+    /// Step by step.
+    InSteps,
+}
+
 /// The reply to a call of a client; that it isn't attached, or was too often, is answered as an
 /// allocation failure is.
 pub fn made<F: Callback, R: Rule>(
     core: &mut Core<F, R>,
     client: u64,
     call: Call,
+    pace: Pace,
 ) -> Result<Reply, AllocError> {
     if core.finished() >= DEEDS_MAX || !core.is_attached(client) {
         return Err(AllocError);
     }
     let mut job = Job::new(client, call);
-    let turn = core.complete(&mut job);
-    let _ = job.into_call();
+    let turn = match pace {
+        Pace::AtOnce => core.complete(&mut job),
+        Pace::InSteps => stepped(core, &mut job),
+    };
+    let _ = core.drop_job(job);
     match turn {
         Turn::Done(reply) => Ok(reply),
         Turn::More | Turn::NoMemory => Err(AllocError),
     }
+}
+
+// The steps of a job, one after the other.
+fn stepped<F: Callback, R: Rule>(core: &mut Core<F, R>, job: &mut Job) -> Turn
+    requires open { job.old.standing ≡ Standing.Open }
+    requires attached { has_client core.old job.old.client ≡ true }
+    requires bound { core_finished core.old + 1 < 2 ^ 63 }
+{
+    for _ in 0..STEPS_MAX {
+        match core.advance(job) {
+            Turn::More => {}
+            Turn::Done(reply) => return Turn::Done(reply),
+            Turn::NoMemory => return Turn::NoMemory,
+        }
+    }
+    Turn::More
 }
 
 /// The path of a text; what is no path is answered as an allocation failure is.

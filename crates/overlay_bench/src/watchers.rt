@@ -2,7 +2,7 @@
 use crate::deeds::Deed;
 use crate::loads::{do_all, since};
 use crate::manifests::nested;
-use crate::mounts::{attached, made, path_of, path_to};
+use crate::mounts::{Pace, attached, made, path_of, path_to};
 use crate::operations::operations;
 use crate::trees::{DIRECTORIES, WIDE};
 use ov_base::{Call, Path, Reply};
@@ -47,7 +47,7 @@ pub fn tell_on<C: Clock, F: Callback + Copy, R: Rule>(
     for _ in 0..count.div_ceil(READ_EVERY) {
         let calls = operations(alloc, Deed::Create, 0, READ_EVERY)?;
         let start = Instant::now(clock)?;
-        let _ = do_all(core, maker, Deed::Create, calls)?;
+        let _ = do_all(core, maker, Deed::Create, Pace::AtOnce, calls)?;
         told = told.saturating_add(read_all(core, clients.as_slice())?);
         nanos = nanos.saturating_add(since(clock, start)?);
     }
@@ -85,7 +85,8 @@ fn arm<F: Callback + Copy, R: Rule>(
     path: Path,
     mask: u32,
 ) -> Result<(), AllocError> {
-    match made(core, client, Call::Arm { slot, path, mask })? {
+    let arming = Call::Arm { slot, path, mask };
+    match made(core, client, arming, Pace::AtOnce)? {
         Reply::Watch(_) => Ok(()),
         _ => Err(AllocError),
     }
@@ -98,7 +99,8 @@ fn read_all<F: Callback + Copy, R: Rule>(
 ) -> Result<u32, AllocError> {
     let mut told = 0u32;
     for client in clients {
-        let reply = made(core, *client, Call::TakeNotices { count: ALL })?;
+        let taking = Call::TakeNotices { count: ALL };
+        let reply = made(core, *client, taking, Pace::AtOnce)?;
         if let Reply::Unread(notices) = &reply {
             let read = u32::try_from(notices.as_slice().len()).unwrap_or(0);
             told = told.saturating_add(read);

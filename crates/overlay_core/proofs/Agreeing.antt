@@ -42,6 +42,10 @@ goes-on shows old new k l c deed has goes = ∥∥₁_map has (λ x. let after =
 pub stays-on : (old new : Mount) (k l : Notified) → ∥ HasState old k ∥₁ → Stays old k new l → ∥ HasState new l ∥₁
 stays-on old new k l has stays = ∥∥₁_map has (λ x. (x.0, stays x.0 x.1))
 
+-- where some state agrees the layers are layers
+pub are-layers : (m : Mount) (k : Notified) → ∥ HasState m k ∥₁ → ∥ AreLayers (layers_of m.layers) ∥₁
+are-layers m k has = ∥∥₁_map has (λ x. x.1.stands.layers.layers)
+
 -- as long as nothing is finished and the layers are the same, the mount begins as before
 pub begins-on : (finished : ℕ) (options : MountOptions) (old new : Mount) (k l : Notified) → ∥ BeginsUntil finished options old k ∥₁ → new.layers ≡ old.layers → Stays old k new l → ∥ BeginsUntil finished options new l ∥₁
 begins-on finished options old new k l has same stays =

@@ -25,5 +25,5 @@ pub mod Driving
 pub mod TempFits
 pub mod NextSteps
 pub mod StepsMade
-pub mod Completing
 pub mod Histories
+pub mod Waited

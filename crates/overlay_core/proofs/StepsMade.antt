@@ -7,6 +7,7 @@ use Rattle.ov_base.specs.declared.reply.Reply.{Reply}
 use Rattle.ov_base.specs.declared.reply.Reply.TheVariants.{Refused}
 use Rattle.plain_model.specs.Machine.{State}
 use Rattle.plain_model.specs.Refusals.{refusal}
+use Rattle.plain_model.specs.Runs.{Called}
 use Rattle.plain_model.specs.Watching.{Rule}
 use Rattle.layer_tree.specs.Tree.{layer_of}
 use Rattle.merged_lookup.specs.Merged.{lowers_of}
@@ -16,6 +17,8 @@ use Rattle.work_dir.specs.declared.next.Next.{Next}
 use Rattle.work_dir.specs.declared.next.Next.TheVariants.{Place}
 use Rattle.work_dir.specs.declared.table.OpenJob.{OpenJob}
 use Rattle.mount_calls.specs.Attaching.{KeepsAttached}
+use Rattle.mount_calls.specs.ComingUp.{BringsUp}
+use Rattle.mount_calls.proofs.ComingUp.{brings-up}
 use Rattle.mount_calls.specs.declared.clients.Clients.{Clients}
 use Rattle.mount_calls.specs.declared.mount.Mount.{Mount}
 use Rattle.mount_calls.specs.States.{IsStateOf}
@@ -29,7 +32,8 @@ use Rattle.overlay_core.specs.Performing.{Performs}
 use Rattle.overlay_core.specs.Placing.{PlacesFor}
 use Rattle.overlay_core.specs.Steps.{Counts, GoesOn, IsLast, Makes, StepsBy, TurnsWatched, next_by}
 use Rattle.overlay_core.specs.Temps.{AreTemps}
-use Rattle.overlay_core.specs.Watching.{Agrees}
+use Rattle.overlay_core.specs.Watching.{Agrees, HasState}
+use Rattle.overlay_core.proofs.Agreeing.{are-layers, goes-on, stays-on}
 use Rattle.overlay_core.proofs.Watching.{stays}
 
 -- the same clients are attached
@@ -160,3 +164,27 @@ module _ {F G : Type 0} (shows : Rule) (w0 new : Watched F G) (m1 : Mount) (e0 e
       × Makes w0 new e0 w j k shows turn x t0
   step-aside aside same next makes =
       step-made same next (subst (λ z. Makes z new e1 w j k shows turn n t1) aside makes)
+
+-- the same of a call that is made at once
+pub made-over : {F G : Type 0} (shows : Rule) (w0 new : Watched F G) (m1 : Mount) (e0 e1 w : List (Option OpenJob)) (j k : Job)
+    (turn : Turn) (n : Next) (t : Option Beginning) → m1 ≡ w0.mount → e1 ≡ e0 →
+    Makes (record { mount = m1; notifier = w0.notifier }) new e1 w j k shows turn n t → Makes w0 new e0 w j k shows turn n t
+made-over shows w0 new m1 e0 e1 w j k turn n t mount jobs makes =
+    subst (λ m. Makes (record { mount = m; notifier = w0.notifier }) new e0 w j k shows turn n t) mount
+    (subst (λ e. Makes (record { mount = m1; notifier = w0.notifier }) new e w j k shows turn n t) jobs makes)
+
+module _ {F G : Type 0} (shows : Rule) (old new : Watched F G) (e w : List (Option OpenJob)) (j k : Job) where
+  -- some state agrees after a step too
+  after-turn : (turn : Turn) → ∥ HasState old.mount old.notifier ∥₁ → TurnsWatched old new e w j k shows turn →
+      ∥ HasState new.mount new.notifier ∥₁
+  after-turn More has turns = stays-on old.mount new.mount old.notifier new.notifier has turns.0
+  after-turn (Done r) has turns =
+      goes-on shows old.mount new.mount old.notifier new.notifier j.client (Called j.call r) has turns.0
+  after-turn NoMemory has turns = stays-on old.mount new.mount old.notifier new.notifier has turns.0
+
+  -- so a step brings up no directory but what its call may
+  pub brings-made : (turn : Turn) (next : Next) (t : Option Beginning) → ∥ HasState old.mount old.notifier ∥₁ →
+      Makes old new e w j k shows turn next t → BringsUp j.call old.mount.layers new.mount.layers
+  brings-made turn next t has made =
+      brings-up j.call old.mount.layers new.mount.layers (are-layers old.mount old.notifier has)
+      (are-layers new.mount new.notifier (after-turn turn has made.turns)) made.layers

@@ -5,33 +5,35 @@ ghost use Rattle.layer_tree.specs.Tree.{layer_of};
 ghost use Rattle.merged_lookup.specs.Merged.{lowers_of};
 ghost use Rattle.notice_laws.specs.Objects.{IsObject};
 ghost use Rattle.mount_calls.specs.Attaching.{is_attached};
+ghost use Rattle.mount_calls.specs.Looking.{IsLook};
 ghost use Rattle.mount_calls.specs.AttributeCalls.{call_at};
 ghost use Rattle.overlay_core.specs.Watching.{Goes, HasState, Keeps, Stays};
 
 use crate::watched::Watched;
-use mount_calls::AttributeCall;
+use mount_calls::{AttributeCall, Look};
 use notice_laws::Object;
 use ov_base::{Call, Errno, Path, Reply};
 use std::alloc::AllocError;
 use watch_table::{Callback, Rule};
 
 impl<F: Callback, R: Rule> Watched<F, R> {
-    /// Changes attributes of what stands at a path, and notifies its directory and the object.
+    /// Changes attributes of what was seen at a path, and notifies its directory and the object.
     pub(crate) fn alter(
         &mut self,
         client: u64,
         path: &Path,
+        look: Look,
         call: AttributeCall,
     ) -> Result<Reply, AllocError>
         requires there { is_attached self.old.mount.clients client ≡ true }
         requires state { ∥ HasState self.old.mount self.old.notifier ∥₁ }
+        requires look { IsLook self.old.mount.layers path.now look }
         ensures goes { IfOk result (λ reply. Goes R.shows self.old.mount self.old.notifier client (Called (call_at path.now call.entry) reply) self.new.mount self.new.notifier) }
         ensures err { OnErr result (Stays self.old.mount self.old.notifier self.new.mount self.new.notifier) }
         ensures kept { Keeps (call_at path.now call.entry) self.old.mount self.new.mount }
         ensures refused { IfOk result (λ reply. (errno : Errno) → reply ≡ Reply.Refused errno → self.new.mount.layers ≡ self.old.mount.layers) }
     {
         self.notifier.lawful();
-        let look = self.mount.look(path);
         let object = self.mount.object_seen(&look);
         self.notifier.prepare_lift(path, object)?;
         match self.mount.alter(path, look, call)? {
@@ -44,17 +46,21 @@ impl<F: Callback, R: Rule> Watched<F, R> {
         }
     }
 
-    /// Gives what stands at the old path the new path too, and notifies the directory of that and
+    /// Gives what was seen at the old path the new path too, and notifies the directory of that and
     /// the object.
     pub(crate) fn link(
         &mut self,
         client: u64,
         old: &Path,
         new: &Path,
+        from: Look,
+        onto: Look,
         call: &Call,
     ) -> Result<Reply, AllocError>
         requires there { is_attached self.old.mount.clients client ≡ true }
         requires state { ∥ HasState self.old.mount self.old.notifier ∥₁ }
+        requires from { IsLook self.old.mount.layers old.now from }
+        requires onto { IsLook self.old.mount.layers new.now onto }
         requires call { call.now ≡ Call.Hardlink old.now new.now }
         ensures goes { IfOk result (λ reply. Goes R.shows self.old.mount self.old.notifier client (Called call.now reply) self.new.mount self.new.notifier) }
         ensures err { OnErr result (Stays self.old.mount self.old.notifier self.new.mount self.new.notifier) }
@@ -62,10 +68,8 @@ impl<F: Callback, R: Rule> Watched<F, R> {
         ensures refused { IfOk result (λ reply. (errno : Errno) → reply ≡ Reply.Refused errno → self.new.mount.layers ≡ self.old.mount.layers) }
     {
         self.notifier.lawful();
-        let from = self.mount.look(old);
         let object = self.mount.object_seen(&from);
         self.notifier.prepare_lift(old, object)?;
-        let onto = self.mount.look(new);
         match self.mount.give_name(old, new, from, onto)? {
             Ok(key) => {
                 self.notifier.linked(old, new, object, key);

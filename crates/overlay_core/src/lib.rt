@@ -14,6 +14,7 @@ mod schedule;
 mod stepping;
 mod turn;
 mod use_notices;
+mod waiting;
 mod watch_calls;
 mod watched;
 

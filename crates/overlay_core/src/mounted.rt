@@ -8,6 +8,7 @@ ghost use Rattle.plain_model.specs.Refusals.{refusal};
 ghost use Rattle.layer_tree.specs.Tree.{layer_of};
 ghost use Rattle.overlay_core.specs.Watching.{BeginsUntil, HasState};
 ghost use Rattle.mount_calls.specs.Attaching.{attach_refusal, Attaches, Detaches, KeepsAttached};
+ghost use Rattle.mount_calls.specs.ComingUp.{BringsUp};
 ghost use Rattle.mount_calls.specs.Keeping.{KeepsLayers, takes_no_memory};
 ghost use Rattle.mount_calls.specs.Living.{KeepsPaths};
 ghost use Rattle.merged_lookup.specs.Merged.{lowers_of};
@@ -15,11 +16,13 @@ ghost use Rattle.mount_calls.specs.Lacks.{may_lack};
 ghost use Rattle.work_dir.specs.OpenJobs.{has_temp, is_of, unless_of};
 ghost use Rattle.overlay_core.specs.Mounting.{machine_options, mount_fault};
 ghost use Rattle.overlay_core.specs.Temps.{AreTemps};
+ghost use Rattle.overlay_core.specs.Waits.{WaitsForAny};
 ghost use Rattle.ov_base.specs.declared.reply.Reply.TheVariants as Reply;
 
 use crate::job::{Job, Standing};
-use crate::stepping::step;
+use crate::stepping::{make, step};
 use crate::turn::Turn;
+use crate::waiting::Waiting;
 use crate::watched::Watched;
 use layer_tree::Layer;
 use merged_lookup::Layers;
@@ -28,7 +31,7 @@ use ov_base::{Call, Errno, Options};
 use std::alloc::{AllocError, Global};
 use std::hash::RandomState;
 use watch_table::{Callback, HOOKS_MAX, Hook, NotAttached, Rule};
-use work_dir::{STEPS_MAX, WorkDir};
+use work_dir::WorkDir;
 
 /// The most lower layers of a mount.
 const LOWERS_MAX: usize = 16;
@@ -68,11 +71,14 @@ pub struct Core<F: Callback, R: Rule> {
     options: Options,
     finished: u64,
     work: WorkDir,
+    // The open whose file is copied, as long as nothing else is done.
+    waiting: Option<Waiting>,
     ghost agrees: { ∥ HasState watched.mount watched.notifier ∥₁ },
     ghost begins: { ∥ BeginsUntil finished (machine_options options) watched.mount watched.notifier ∥₁ },
     ghost given: { watched.mount.clients.next ≤ finished },
     ghost short: { options.history ≤ 1000000 },
     ghost temps: { AreTemps (lowers_of watched.mount.layers) work },
+    ghost waits: { WaitsForAny watched.mount waiting },
     ghost limits: { ∥ All IsWithinLimits (lowers_of watched.mount.layers) ∥₁ },
 }
 
@@ -171,6 +177,7 @@ impl<F: Callback, R: Rule> Core<F, R> {
             options,
             finished: 0,
             work,
+            waiting: None,
         }))
     }
 
@@ -202,6 +209,7 @@ impl<F: Callback, R: Rule> Core<F, R> {
         if let Some(errno) = refusal_of(hooks.len(), self.watched.mount.clients_attached()) {
             return Err(NotAttached { errno, hooks });
         }
+        self.waiting = None;
         let alloc = self.watched.mount.alloc();
         let client = self.watched.attach(alloc, hooks)?;
         self.finished += 1;
@@ -225,6 +233,7 @@ impl<F: Callback, R: Rule> Core<F, R> {
         ensures kept { CoreKeeps self.old self.new }
     {
         self.finished += 1;
+        self.waiting = None;
         self.work.forget(client);
         self.watched.detach(client)
     }
@@ -256,11 +265,12 @@ impl<F: Callback, R: Rule> Core<F, R> {
         ensures finished { core_finished self.new ≡ finished_after result (core_finished self.old) }
         ensures clients { KeepsAttached (core_clients self.old) (core_clients self.new) }
         ensures layers { KeepsLayers job.old.call (core_layers self.old) (core_layers self.new) }
+        ensures brings { BringsUp job.old.call (core_layers self.old) (core_layers self.new) }
         ensures refused { (errno : Errno) → result ≡ Turn.Done (Reply.Refused errno) →
             core_layers self.new ≡ core_layers self.old }
         ensures kept { CoreKeeps self.old self.new }
     {
-        match step(&mut self.watched, &mut self.work, job) {
+        match step(&mut self.watched, &mut self.work, &mut self.waiting, job) {
             Turn::Done(reply) => {
                 self.finished += 1;
                 Turn::Done(reply)
@@ -270,30 +280,36 @@ impl<F: Callback, R: Rule> Core<F, R> {
         }
     }
 
-    /// All steps of a job that is open, of a client that is attached, one after the other. An
-    /// allocation failure gives the job up and leaves all that is shown as it was.
+    /// Makes the call of a job that is open, of a client that is attached, at once, with all that is
+    /// copied up for it: as all its steps, where no other call comes between them. An allocation
+    /// failure gives the job up and leaves all that is shown as it was.
     pub fn complete(&mut self, job: &mut Job) -> Turn
         requires open { job.old.standing ≡ Standing.Open }
         requires attached { has_client self.old job.old.client ≡ true }
         requires bound { core_finished self.old + 1 < 2 ^ 63 }
         ensures job { (job.new.client ≡ job.old.client) × (job.new.call ≡ job.old.call) }
         ensures turn { TurnsTo self.old job.old self.new job.new result }
+        ensures steps { job.new.steps ≡ job.old.steps + 1 }
         ensures at_once { result ≢ Turn.More }
         ensures memory { takes_no_memory job.old.call ≡ true → result ≢ Turn.NoMemory }
         ensures finished { core_finished self.new ≡ finished_after result (core_finished self.old) }
         ensures clients { KeepsAttached (core_clients self.old) (core_clients self.new) }
+        ensures layers { KeepsLayers job.old.call (core_layers self.old) (core_layers self.new) }
+        ensures brings { BringsUp job.old.call (core_layers self.old) (core_layers self.new) }
         ensures refused { (errno : Errno) → result ≡ Turn.Done (Reply.Refused errno) →
             core_layers self.new ≡ core_layers self.old }
+        ensures work { core_work self.new ≡ without (core_work self.old) job.old }
         ensures kept { CoreKeeps self.old self.new }
     {
-        for _ in 0..STEPS_MAX {
-            match self.advance(job) {
-                Turn::More => {}
-                Turn::Done(reply) => return Turn::Done(reply),
-                Turn::NoMemory => return Turn::NoMemory,
+        self.waiting = None;
+        match make(&mut self.watched, &mut self.work, job) {
+            Turn::Done(reply) => {
+                self.finished += 1;
+                Turn::Done(reply)
             }
+            Turn::NoMemory => Turn::NoMemory,
+            Turn::More => unreachable!(),
         }
-        unreachable!()
     }
 
     /// Gives up a job, with its temp, and hands its call back; nothing that is shown changes.

@@ -1,22 +1,31 @@
 // Names that come and go: what making and removing directories, links and files tells.
 ghost use Rattle.std.specs.Prelude.{◌≡◌, true};
 ghost use Rattle.mount_calls.specs.Attaching.{is_attached};
+ghost use Rattle.mount_calls.specs.Looking.{IsLook};
 ghost use Rattle.overlay_core.specs.Performing.{Performs};
 ghost use Rattle.overlay_core.specs.Watching.{HasState};
 
 use crate::watched::Watched;
+use mount_calls::Look;
 use notifier::{CREATE, ISDIR};
 use ov_base::{Bytes, Call, Path, Reply};
 use std::alloc::AllocError;
 use watch_table::{Callback, Rule};
 
 impl<F: Callback, R: Rule> Watched<F, R> {
-    /// Makes a directory, and notifies the directory that it is in.
-    pub(crate) fn mkdir(&mut self, client: u64, path: &Path, mode: u32) -> Result<Reply, AllocError>
-        requires { is_attached self.old.mount.clients client ≡ true }
+    /// Makes a directory at a path that was looked at, and notifies the directory that it is in.
+    pub(crate) fn mkdir(
+        &mut self,
+        client: u64,
+        path: &Path,
+        look: Look,
+        mode: u32,
+    ) -> Result<Reply, AllocError>
+        requires there { is_attached self.old.mount.clients client ≡ true }
+        requires look { IsLook self.old.mount.layers path.now look }
         ensures { Performs R.shows client (Call.Mkdir path.now mode) self.old self.new result }
     {
-        let reply = self.mount.mkdir(path, mode)?;
+        let reply = self.mount.mkdir(path, look, mode)?;
         let Reply::Done = reply else {
             return Ok(reply);
         };
@@ -25,17 +34,20 @@ impl<F: Callback, R: Rule> Watched<F, R> {
         Ok(Reply::Done)
     }
 
-    /// Makes a symbolic link, and notifies the directory that it is in.
+    /// Makes a symbolic link at a path that was looked at, and notifies the directory that it is
+    /// in.
     pub(crate) fn symlink(
         &mut self,
         client: u64,
         target: &Bytes,
         path: &Path,
+        look: Look,
     ) -> Result<Reply, AllocError>
-        requires { is_attached self.old.mount.clients client ≡ true }
+        requires there { is_attached self.old.mount.clients client ≡ true }
+        requires look { IsLook self.old.mount.layers path.now look }
         ensures { Performs R.shows client (Call.Symlink target.now path.now) self.old self.new result }
     {
-        let reply = self.mount.symlink(target, path)?;
+        let reply = self.mount.symlink(target, path, look)?;
         let Reply::Done = reply else {
             return Ok(reply);
         };
@@ -44,13 +56,19 @@ impl<F: Callback, R: Rule> Watched<F, R> {
         Ok(Reply::Done)
     }
 
-    /// Removes a name of a file or link, and notifies its directory and the file, and the end of
-    /// the file where it has neither name nor handle.
-    pub(crate) fn unlink(&mut self, client: u64, path: &Path) -> Result<Reply, AllocError>
-        requires { is_attached self.old.mount.clients client ≡ true }
+    /// Removes the name of the file or link that was seen at a path, and notifies its directory and
+    /// the file, and the end of the file where it has neither name nor handle.
+    pub(crate) fn unlink(
+        &mut self,
+        client: u64,
+        path: &Path,
+        look: Look,
+    ) -> Result<Reply, AllocError>
+        requires there { is_attached self.old.mount.clients client ≡ true }
+        requires look { IsLook self.old.mount.layers path.now look }
         ensures { Performs R.shows client (Call.Unlink path.now) self.old self.new result }
     {
-        match self.mount.unlink_telling(path)? {
+        match self.mount.unlink_telling(path, look)? {
             Ok(object) => {
                 self.notifier.unlinked(path, object);
                 self.notifier.lawful();
@@ -60,14 +78,20 @@ impl<F: Callback, R: Rule> Watched<F, R> {
         }
     }
 
-    /// Removes a directory, and notifies the directory that it was in, and its end where no handle
-    /// is on it.
-    pub(crate) fn rmdir(&mut self, client: u64, path: &Path) -> Result<Reply, AllocError>
+    /// Removes the directory that was seen at a path, and notifies the directory that it was in,
+    /// and its end where no handle is on it.
+    pub(crate) fn rmdir(
+        &mut self,
+        client: u64,
+        path: &Path,
+        look: Look,
+    ) -> Result<Reply, AllocError>
         requires there { is_attached self.old.mount.clients client ≡ true }
         requires state { ∥ HasState self.old.mount self.old.notifier ∥₁ }
+        requires look { IsLook self.old.mount.layers path.now look }
         ensures { Performs R.shows client (Call.Rmdir path.now) self.old self.new result }
     {
-        let reply = self.mount.rmdir(path)?;
+        let reply = self.mount.rmdir(path, look)?;
         let Reply::Done = reply else {
             return Ok(reply);
         };

@@ -8,11 +8,11 @@ ghost use Rattle.merged_lookup.specs.Merged.{lowers_of};
 ghost use Rattle.notice_laws.specs.declared.object.Object.TheVariants as stands;
 ghost use Rattle.notice_laws.specs.Objects.{IsObject};
 ghost use Rattle.mount_calls.specs.Attaching.{is_attached};
-ghost use Rattle.mount_calls.specs.Looking.{IsJudged};
+ghost use Rattle.mount_calls.specs.Looking.{IsJudged, IsLook};
 ghost use Rattle.overlay_core.specs.Watching.{Agrees, Goes, HasState, Keeps, Stays};
 
 use crate::watched::Watched;
-use mount_calls::Judged;
+use mount_calls::{Judged, Look};
 use notice_laws::Object;
 use ov_base::{Call, Errno, OpenFlags, Path, Reply};
 use std::alloc::AllocError;
@@ -94,24 +94,25 @@ impl<F: Callback, R: Rule> Watched<F, R> {
         }
     }
 
-    /// Opens what stands at a path, or makes a file there, and notifies its directory and the
+    /// Opens what was seen at a path, or makes a file there, and notifies its directory and the
     /// object. An open that is refused takes no memory.
     pub(crate) fn open(
         &mut self,
         client: u64,
         path: &Path,
+        look: Look,
         flags: OpenFlags,
         mode: u32,
     ) -> Result<Reply, AllocError>
         requires there { is_attached self.old.mount.clients client ≡ true }
         requires state { ∥ HasState self.old.mount self.old.notifier ∥₁ }
+        requires look { IsLook self.old.mount.layers path.now look }
         ensures goes { IfOk result (λ reply. Goes R.shows self.old.mount self.old.notifier client (Called (Call.Open path.now flags mode) reply) self.new.mount self.new.notifier) }
         ensures err { OnErr result (Stays self.old.mount self.old.notifier self.new.mount self.new.notifier) }
         ensures kept { Keeps (Call.Open path.now flags mode) self.old.mount self.new.mount }
         ensures refused { IfOk result (λ reply. (errno : Errno) → reply ≡ Reply.Refused errno → self.new.mount.layers ≡ self.old.mount.layers) }
         ensures memory { (s : State) → Agrees self.old.mount self.old.notifier s → IsSome (refusal s client (Call.Open path.now flags mode)) → IsOk result }
     {
-        let look = self.mount.look(path);
         let object = self.mount.object_seen(&look);
         let judged = match self.mount.judge_open(client, look, flags, mode) {
             Ok(judged) => judged,

@@ -2,46 +2,75 @@
 ghost use Rattle.std.specs.Prelude.{◌≡◌, true, IsOk};
 ghost use Rattle.mount_calls.specs.Attaching.{is_attached};
 ghost use Rattle.mount_calls.specs.Keeping.{takes_no_memory};
+ghost use Rattle.mount_calls.specs.Looking.{AreLooks};
 ghost use Rattle.overlay_core.specs.Performing.{Performs};
 ghost use Rattle.overlay_core.specs.Watching.{HasState};
 
 use crate::watched::Watched;
-use mount_calls::AttributeCall;
+use mount_calls::{AttributeCall, Looks};
 use ov_base::{Call, Reply};
 use std::alloc::AllocError;
 use watch_table::{Callback, Rule};
 
 impl<F: Callback, R: Rule> Watched<F, R> {
-    /// Makes a call of a client that is attached, and notifies of it. An allocation failure leaves
-    /// all that is shown as it was, and notifies nobody.
-    pub fn perform(&mut self, client: u64, call: &Call) -> Result<Reply, AllocError>
+    /// Makes a call of a client that is attached, with what its paths were seen to show, and notifies
+    /// of it. An allocation failure leaves all that is shown as it was, and notifies nobody.
+    pub fn perform(&mut self, client: u64, call: &Call, looks: Looks) -> Result<Reply, AllocError>
         requires there { is_attached self.old.mount.clients client ≡ true }
         requires state { ∥ HasState self.old.mount self.old.notifier ∥₁ }
+        requires looks { AreLooks self.old.mount.layers call.now looks }
         ensures performs { Performs R.shows client call.now self.old self.new result }
         ensures memory { takes_no_memory call.now ≡ true → IsOk result }
     {
         match call {
             Call::Stat { path } => Ok(self.mount.stat(path)),
             Call::Readlink { path } => self.mount.readlink(path),
-            Call::Chmod { path, mode } => self.alter(client, path, AttributeCall::Mode(*mode)),
+            Call::Chmod { path, mode } => {
+                let look = looks.one();
+                self.alter(client, path, look, AttributeCall::Mode(*mode))
+            }
             Call::Chown { path, uid, gid } => {
-                self.alter(client, path, AttributeCall::Owner(*uid, *gid))
+                let look = looks.one();
+                self.alter(client, path, look, AttributeCall::Owner(*uid, *gid))
             }
             Call::SetAttribute { path, name, value } => {
-                self.alter(client, path, AttributeCall::Set(name, value))
+                let look = looks.one();
+                self.alter(client, path, look, AttributeCall::Set(name, value))
             }
             Call::GetAttribute { path, name } => self.mount.get_attribute(path, name),
             Call::DeleteAttribute { path, name } => {
-                self.alter(client, path, AttributeCall::Delete(name))
+                let look = looks.one();
+                self.alter(client, path, look, AttributeCall::Delete(name))
             }
             Call::ListAttributes { path } => self.mount.list_attributes(path),
-            Call::Mkdir { path, mode } => self.mkdir(client, path, *mode),
-            Call::Symlink { target, path } => self.symlink(client, target, path),
-            Call::Open { path, flags, mode } => self.open(client, path, *flags, *mode),
-            Call::Unlink { path } => self.unlink(client, path),
-            Call::Rmdir { path } => self.rmdir(client, path),
-            Call::Hardlink { old, new } => self.link(client, old, new, call),
-            Call::Rename { old, new } => self.rename(client, old, new, call),
+            Call::Mkdir { path, mode } => {
+                let look = looks.one();
+                self.mkdir(client, path, look, *mode)
+            }
+            Call::Symlink { target, path } => {
+                let look = looks.one();
+                self.symlink(client, target, path, look)
+            }
+            Call::Open { path, flags, mode } => {
+                let look = looks.one();
+                self.open(client, path, look, *flags, *mode)
+            }
+            Call::Unlink { path } => {
+                let look = looks.one();
+                self.unlink(client, path, look)
+            }
+            Call::Rmdir { path } => {
+                let look = looks.one();
+                self.rmdir(client, path, look)
+            }
+            Call::Hardlink { old, new } => {
+                let (from, onto) = looks.both();
+                self.link(client, old, new, from, onto, call)
+            }
+            Call::Rename { old, new } => {
+                let (from, onto) = looks.both();
+                self.rename(client, old, new, from, onto, call)
+            }
             Call::Read { descriptor, count } => self.read(client, *descriptor, *count),
             Call::Write { descriptor, bytes } => self.write(client, *descriptor, bytes),
             Call::Seek {

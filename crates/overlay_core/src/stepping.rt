@@ -15,25 +15,30 @@ ghost use Rattle.mount_calls.specs.Attaching.{is_attached};
 ghost use Rattle.mount_calls.specs.Keeping.{takes_no_memory};
 ghost use Rattle.mount_calls.specs.Lacks as lacks;
 ghost use Rattle.mount_calls.specs.Lacks.{bytes_at, lack_size, CanBeHad};
+ghost use Rattle.mount_calls.specs.Looking.{AreLooks};
 ghost use Rattle.mount_calls.specs.States.{IsStateOf};
 ghost use Rattle.overlay_core.specs.Placing.{PlacesFor};
 ghost use Rattle.overlay_core.specs.Steps as steps;
 ghost use Rattle.overlay_core.specs.Steps.{begun, held_by, lack_by, next_by, without, IsLast, IsNext, IsStepped, Makes};
 ghost use Rattle.overlay_core.specs.Temps.{AreTemps, IsTemp};
+ghost use Rattle.overlay_core.specs.Waits.{WaitsForAny};
 ghost use Rattle.overlay_core.specs.Watching.{Agrees, HasState};
 
 use crate::job::{Job, Standing};
 use crate::turn::Turn;
+use crate::waiting::{Waiting, copies_on};
 use crate::watched::Watched;
-use mount_calls::{Mount, may_lack};
+use mount_calls::{Looks, Mount, may_lack};
 use std::alloc::AllocError;
 use watch_table::{Callback, Rule};
 use work_dir::{Lack, Next, OpenJob, Source, Temp, WorkDir, next_after};
 
-// Makes the next step of a job.
+// Makes the next step of a job. What waits is kept where the step copies, and noted anew where it
+// begins a copy.
 pub(crate) fn step<F: Callback, R: Rule>(
     watched: &mut Watched<F, R>,
     work: &mut WorkDir,
+    waiting: &mut Option<Waiting>,
     job: &mut Job,
 ) -> Turn
     requires open { job.old.standing ≡ Standing.Open }
@@ -41,6 +46,8 @@ pub(crate) fn step<F: Callback, R: Rule>(
     requires state { ∥ HasState watched.old.mount watched.old.notifier ∥₁ }
     requires temps { AreTemps (lowers_of watched.old.mount.layers) work.old }
     requires limits { ∥ All IsWithinLimits (lowers_of watched.old.mount.layers) ∥₁ }
+    requires waits { WaitsForAny watched.old.mount waiting.old }
+    ensures waits { WaitsForAny watched.new.mount waiting.new }
     ensures makes { (next : Next) × ((s : State) →
         Agrees watched.old.mount watched.old.notifier s →
         next_by watched.old.mount job.old (held_by work.old job.old)
@@ -52,17 +59,46 @@ pub(crate) fn step<F: Callback, R: Rule>(
     ensures at_once { lacks.may_lack job.old.call ≡ false → result ≢ Turn.More }
 {
     let temp = held(work, job);
-    watched.mount.remember(job.call());
-    match next_step(&watched.mount, job, temp.as_ref()) {
-        Next::Finish => finish(watched, job, temp),
-        Next::AtOnce => finish(watched, job, None),
-        Next::Place { second, count } => place(watched, work, job, second, count, temp),
-        Next::Begin(source) => begin(watched, work, job, source),
-        Next::Copy => match temp {
-            Some(temp) => copy(watched, work, job, temp),
-            None => unreachable!(),
-        },
+    if copies_on(waiting.as_ref(), job, temp.as_ref()) {
+        return copy_on(watched, work, job, temp);
     }
+    *waiting = None;
+    watched.mount.remember(job.call());
+    let looks = watched.mount.looks(job.call());
+    match next_step(&watched.mount, job, &looks, temp.as_ref()) {
+        Next::Finish => finish(watched, job, looks, temp),
+        Next::AtOnce => finish(watched, job, looks, None),
+        Next::Place { second, count } => place(watched, work, job, second, count, temp),
+        Next::Begin(source) => {
+            *waiting = waiting_for(&watched.mount, job, source);
+            begin(watched, work, job, source)
+        }
+        Next::Copy => copy_on(watched, work, job, temp),
+    }
+}
+
+// Makes the call of a job at once, and all that is copied up for it. A temp that the job holds and
+// that is whole becomes the copy of its file.
+pub(crate) fn make<F: Callback, R: Rule>(
+    watched: &mut Watched<F, R>,
+    work: &mut WorkDir,
+    job: &mut Job,
+) -> Turn
+    requires open { job.old.standing ≡ Standing.Open }
+    requires attached { is_attached watched.old.mount.clients job.old.client ≡ true }
+    requires state { ∥ HasState watched.old.mount watched.old.notifier ∥₁ }
+    requires temps { AreTemps (lowers_of watched.old.mount.layers) work.old }
+    ensures makes { Makes watched.old watched.new (without work.old job.old) work.new job.old
+        job.new R.shows result Next.Finish (held_by work.old job.old) }
+    ensures work { work.new ≡ without work.old job.old }
+    ensures stepped { IsStepped job.old job.new }
+    ensures memory { takes_no_memory job.old.call ≡ true → result ≢ Turn.NoMemory }
+    ensures over { result ≢ Turn.More }
+{
+    let temp = held(work, job);
+    watched.mount.remember(job.call());
+    let looks = watched.mount.looks(job.call());
+    finish(watched, job, looks, temp)
 }
 
 // Takes out what is kept of a job, and gives the temp that it holds.
@@ -76,9 +112,10 @@ fn held(work: &mut WorkDir, job: &Job) -> Option<Temp>
     if job.begins() > 0 { temp } else { None }
 }
 
-// The next step of a job that holds this temp.
-fn next_step(mount: &Mount, job: &Job, temp: Option<&Temp>) -> Next
+// The next step of a job that holds this temp, whose paths were seen to show this.
+fn next_step(mount: &Mount, job: &Job, looks: &Looks, temp: Option<&Temp>) -> Next
     requires attached { is_attached mount.now.clients job.now.client ≡ true }
+    requires looks { AreLooks mount.now.layers job.now.call looks.now }
     ensures next { (s : State) → IsStateOf mount.now s →
         next_by mount.now job.now (option_copied temp.entry)
         (refusal s job.now.client job.now.call) ≡ result }
@@ -86,7 +123,7 @@ fn next_step(mount: &Mount, job: &Job, temp: Option<&Temp>) -> Next
     ensures plain { lacks.may_lack job.now.call ≡ false → result ≡ Next.Finish }
 {
     let call = job.call();
-    if !may_lack(call) || mount.has_all(call) {
+    if !may_lack(call) || mount.has_all(call, looks) {
         return Next::Finish;
     }
     match mount.lack(job.client(), call) {
@@ -96,6 +133,17 @@ fn next_step(mount: &Mount, job: &Job, temp: Option<&Temp>) -> Next
         }
         Err(_errno) => Next::Finish,
     }
+}
+
+// The open of a job that lacks this file, kept for its next steps.
+fn waiting_for(mount: &Mount, job: &Job, source: Source) -> Option<Waiting>
+    requires lacks { lack_by mount.now job.now ≡ Lacking.File source }
+    requires allowed { (s : State) → IsStateOf mount.now s →
+        refusal s job.now.client job.now.call ≡ None }
+    ensures { WaitsForAny mount.now result }
+{
+    let size = size_of(mount, Lack::File(source));
+    Waiting::of(mount.alloc(), job, source, size)
 }
 
 // How many bytes the file has that is lacking.
@@ -115,11 +163,13 @@ fn size_of(mount: &Mount, lack: Lack) -> usize
 fn finish<F: Callback, R: Rule>(
     watched: &mut Watched<F, R>,
     job: &mut Job,
+    looks: Looks,
     temp: Option<Temp>,
 ) -> Turn
     requires open { job.old.standing ≡ Standing.Open }
     requires attached { is_attached watched.old.mount.clients job.old.client ≡ true }
     requires state { ∥ HasState watched.old.mount watched.old.notifier ∥₁ }
+    requires looks { AreLooks watched.old.mount.layers job.old.call looks }
     requires temp { ForSome temp (IsTemp (lowers_of watched.old.mount.layers)) }
     ensures makes { (work : List (Option OpenJob)) (next : Next) (t : Option Beginning) →
         IsLast next → AreTemps (lowers_of watched.old.mount.layers) work →
@@ -129,7 +179,7 @@ fn finish<F: Callback, R: Rule>(
     ensures over { result ≢ Turn.More }
 {
     offer(&mut watched.mount, temp);
-    let outcome = watched.perform(job.client(), job.call());
+    let outcome = watched.perform(job.client(), job.call(), looks);
     watched.mount.withdraw();
     match outcome {
         Ok(reply) => {
@@ -270,6 +320,29 @@ fn keep_begun(
     let size = size_of(mount, Lack::File(source));
     let temp = Temp::begin(mount.alloc(), source, size)?;
     keep(work, job, temp)
+}
+
+// A step that copies a chunk into the temp that there is.
+fn copy_on<F: Callback, R: Rule>(
+    watched: &Watched<F, R>,
+    work: &mut WorkDir,
+    job: &mut Job,
+    temp: Option<Temp>,
+) -> Turn
+    requires open { job.old.standing ≡ Standing.Open }
+    requires counts { ForSome temp (λ t. (0 < job.old.begins)
+        × (t.chunks ≡ job.old.chunks)) }
+    requires due { IsNext watched.now.mount job.old temp Next.Copy }
+    requires temps { AreTemps (lowers_of watched.now.mount.layers) work.old }
+    requires temp { ForSome temp (IsTemp (lowers_of watched.now.mount.layers)) }
+    ensures makes { Makes watched.now watched.now work.old work.new job.old job.new R.shows result
+        Next.Copy temp }
+    ensures stepped { IsStepped job.old job.new }
+{
+    match temp {
+        Some(temp) => copy(watched, work, job, temp),
+        None => unreachable!(),
+    }
 }
 
 // A step that copies a chunk.

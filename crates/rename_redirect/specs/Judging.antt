@@ -1,5 +1,5 @@
 -- What rename finds at its two paths, and whether it may go on (rename(2)).
-use Rattle.std.specs.Prelude.{◌≡◌, ℕ, Bool, true, false, not, ◌&&◌, Option, None, Some, Result, IfErr, IfOk, OnOk}
+use Rattle.std.specs.Prelude.{◌≡◌, ℕ, Bool, true, false, not, ◌&&◌, Option, None, Some}
 use Rattle.ov_base.specs.declared.errno.Errno.{Errno}
 use Rattle.plain_model.specs.Layers.{Path, Object, Named, shows, base, is_directory}
 use Rattle.plain_model.specs.Laws.{IsOutside}
@@ -10,17 +10,10 @@ use Rattle.mount_laws.specs.Renaming.{is_one, move_fault, rename_fault}
 use Rattle.layer_tree.specs.Tree.{layer_of}
 use Rattle.merged_lookup.specs.declared.layers.Layers.{Layers}
 use Rattle.merged_lookup.specs.declared.found.Found.{Found}
-use Rattle.merged_lookup.specs.declared.found.Topmost.{Topmost}
 use Rattle.merged_lookup.specs.declared.stack.Place.{Place}
 use Rattle.merged_lookup.specs.declared.stack.Stack.{Stack}
-use Rattle.merged_lookup.specs.Merged.{layers_of, lowers_of, parents_fault, parent, IsFound, IsStackOf, IsTopmost, ShowsInode}
-
--- what was seen at p is what the layers show there and the directory in which that stands, or why the way there is refused
-pub record IsSeen (l : Layers) (p : Path) (seen : Result (Stack × Option Topmost) Errno) : Type 0 where
-  pub refused : IfErr seen (λ e. parents_fault (layers_of l) p ≡ Some e)
-  pub way : OnOk seen (parents_fault (layers_of l) p ≡ None)
-  pub directory : IfOk seen (λ shown. IsStackOf l (parent p) shown.0)
-  pub top : IfOk seen (λ shown. IsTopmost l p shown.1)
+use Rattle.merged_lookup.specs.Merged.{layers_of, lowers_of, parents_fault, parent, IsFound, IsStackOf, ShowsInode}
+pub use Rattle.make_remove.specs.Sights.{IsSeen}
 
 -- what p shows, in this merged directory and at this place, may get the further name q, in the other directory
 pub record MayLink (l : Layers) (p q : Path) (s t : Stack) (d : Place) : Type 0 where

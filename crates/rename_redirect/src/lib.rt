@@ -12,4 +12,3 @@ mod seen;
 
 pub use links::{link, linkable};
 pub use renames::{Renamed, movable, rename};
-pub use seen::Seen;

@@ -11,8 +11,8 @@ ghost use Rattle.rename_redirect.specs.Linking.{GainsBoth, GivesName, LinkSteps}
 
 use crate::copies::link_copy;
 use crate::names::link_in_upper;
-use crate::seen::{Seen, free, there};
 use copy_up::place_parents;
+use make_remove::{Seen, there, vacant};
 use merged_lookup::{Layers, Place, Stack, Topmost};
 use ov_base::{Errno, Path};
 use std::alloc::AllocError;
@@ -67,7 +67,7 @@ pub fn linkable(from: Seen, onto: Seen) -> Result<(Stack, Stack, Place), Errno>
         Ok(shown) => shown,
         Err(errno) => return Err(errno),
     };
-    let onto = match free(onto) {
+    let onto = match vacant(onto) {
         Ok(onto) => onto,
         Err(errno) => return Err(errno),
     };

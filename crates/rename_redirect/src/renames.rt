@@ -19,8 +19,9 @@ ghost use Rattle.rename_redirect.specs.Renaming.{is_one, rename_fault, DoesRenam
 
 use crate::moves::move_object;
 use crate::relation::{is_below, same_path};
-use crate::seen::{Seen, answer_in, found_in, there};
+use crate::seen::answer_in;
 use dir_listing::shows_names;
+use make_remove::{Seen, found_in, there};
 use merged_lookup::{Found, Layers, Stack};
 use ov_base::{Errno, Path};
 use std::alloc::{AllocError, Global};

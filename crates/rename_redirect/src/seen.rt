@@ -1,70 +1,10 @@
-// What was seen at a path, as far as link and rename judge by it.
-ghost use Rattle.std.specs.Prelude.{◌≡◌, ◌≢◌, [], Some, None, IfOk, IfErr, OnOk};
-ghost use Rattle.plain_model.specs.Layers.{Path as Names, shows};
-ghost use Rattle.merged_lookup.specs.declared.layers.Layers.{Layers as LayersOf};
-ghost use Rattle.merged_lookup.specs.Merged.{layers_of, parents_fault, walk_fault, parent, IsFound, IsAnswer, IsStackOf, IsTopmost};
-ghost use Rattle.make_remove.specs.Making.{vacancy_fault};
-ghost use Rattle.rename_redirect.specs.Judging.{IsSeen};
+// What a path shows by what was seen there, where that may be nothing.
+ghost use Rattle.std.specs.Prelude.{◌≢◌, []};
+ghost use Rattle.merged_lookup.specs.Merged.{parent, IsAnswer, IsStackOf, IsTopmost};
 
+use make_remove::found_in;
 use merged_lookup::{Found, Layers, Stack, Topmost};
-use ov_base::{Errno, Path};
-
-/// What was seen at a path: the merged directory in which its last name stands and the topmost
-/// object there, if there is one; or why the way there is refused.
-pub type Seen = Result<(Stack, Option<Topmost>), Errno>;
-
-// The merged directory in which something was seen, and the topmost object; or why a walk there is refused.
-pub(crate) fn there(seen: Seen) -> Result<(Stack, Topmost), Errno>
-    ensures refused { IfErr result (λ e. (l : LayersOf) (p : Names) → IsSeen l p seen → walk_fault (layers_of l) p ≡ Some e) }
-    ensures fine { OnOk result ((l : LayersOf) (p : Names) → IsSeen l p seen → walk_fault (layers_of l) p ≡ None) }
-    ensures directory { IfOk result (λ w. (l : LayersOf) (p : Names) → IsSeen l p seen → IsStackOf l (parent p) w.0) }
-    ensures top { IfOk result (λ w. (l : LayersOf) (p : Names) → IsSeen l p seen → IsTopmost l p (Some w.1)) }
-{
-    let (directory, top) = match seen {
-        Ok(shown) => shown,
-        Err(errno) => return Err(errno),
-    };
-    match top {
-        Some(top) => Ok((directory, top)),
-        None => Err(Errno::ENOENT),
-    }
-}
-
-// The merged directory in which something may be made, where nothing was seen.
-pub(crate) fn free(seen: Seen) -> Result<Stack, Errno>
-    ensures refused { IfErr result (λ e. (l : LayersOf) (p : Names) → IsSeen l p seen → vacancy_fault (layers_of l) p ≡ Some e) }
-    ensures parents { OnOk result ((l : LayersOf) (p : Names) → IsSeen l p seen → parents_fault (layers_of l) p ≡ None) }
-    ensures absent { OnOk result ((l : LayersOf) (p : Names) → IsSeen l p seen → shows 0 (layers_of l) p ≡ None) }
-    ensures directory { IfOk result (λ s. (l : LayersOf) (p : Names) → IsSeen l p seen → IsStackOf l (parent p) s) }
-{
-    let (directory, top) = match seen {
-        Ok(shown) => shown,
-        Err(errno) => return Err(errno),
-    };
-    match top {
-        Some(_) => Err(Errno::EEXIST),
-        None => Ok(directory),
-    }
-}
-
-// What a path shows, by the merged directory in which it stands and the topmost object there.
-pub(crate) fn found_in(layers: &Layers, directory: &Stack, path: &Path, top: Topmost) -> Found
-    requires directory { IsStackOf layers.now (parent path.now) directory.now }
-    requires top { IsTopmost layers.now path.now (Some top) }
-    requires below { path.now ≢ [] }
-    ensures { IsFound layers.now path.now result }
-{
-    if let Topmost::Inode(place) = top {
-        return Found::Inode(place);
-    }
-    let Some((name, _)) = path.split_last() else {
-        unreachable!()
-    };
-    let Some(found) = layers.step(directory, name) else {
-        unreachable!()
-    };
-    found
-}
+use ov_base::Path;
 
 // `found_in`, where something may be there or not.
 pub(crate) fn answer_in(

@@ -2,8 +2,8 @@ use Rattle.std.proofs.Common.{◌∷◌, reverse, sym, ap, ◌∙◌, refl, subs
 use Rattle.plain_model.specs.Layers.{shows}
 use Rattle.merged_lookup.specs.Merged.{layers_of}
 use Rattle.mount_calls.proofs.CopiedOpens.{attributes-stored, copied-as, copied-lowers, copied-around}
-use Rattle.mount_calls.specs.Keeping.{KeepsAround}
-use Rattle.mount_calls.proofs.Frames.{around-same}
+use Rattle.mount_calls.specs.Keeping.{BringsNone}
+use Rattle.mount_calls.proofs.Frames.{none-same}
 use Rattle.mount_calls.proofs.open_calls.bring_up.Goals as goal
 
 pub all_at_once-requires-clause-shown : goal.all_at_once-requires-clause-shown
@@ -20,12 +20,12 @@ returns-clause-lowers c =
     copied-lowers c.args.layers.now c.all_at_once.new.layers (c.in-Some.name.now ∷ reverse c.in-Some.parents.now) c.args.place c.in_ok-attributes.attributes (record { content = i.content; attributes = i.attributes; links = i.links }) (sym (ap (shows 0 (layers_of c.args.layers.now)) c.in-Some.ensures) ∙ c.inode_at.ensures c.args.path.now c.requires.shown) c.all_at_once.result c.all_at_once.ensures.copied c.all_at_once.ensures.no_memory
 
 pub returns-in_err-attributes-clause-around : goal.returns-in_err-attributes-clause-around
-returns-in_err-attributes-clause-around c = around-same c.args.layers.now c.args.layers.now c.args.path.now refl
+returns-in_err-attributes-clause-around c = none-same c.args.layers.now c.args.layers.now c.args.path.now refl
 
 pub returns-clause-around : goal.returns-clause-around
 returns-clause-around c =
     let i = c.inode_at.result.now in
-    subst (KeepsAround c.args.layers.now c.all_at_once.new.layers) (sym c.in-Some.ensures)
+    subst (BringsNone c.args.layers.now c.all_at_once.new.layers) (sym c.in-Some.ensures)
     (copied-around c.args.layers.now c.all_at_once.new.layers (c.in-Some.name.now ∷ reverse c.in-Some.parents.now) c.args.place c.in_ok-attributes.attributes
     (record { content = i.content; attributes = i.attributes; links = i.links })
     (sym (ap (shows 0 (layers_of c.args.layers.now)) c.in-Some.ensures) ∙ c.inode_at.ensures c.args.path.now c.requires.shown)

@@ -1,9 +1,13 @@
 use Rattle.ov_base.specs.declared.call.Call.TheVariants as call
 use Rattle.mount_calls.proofs.Freed.{takes-then, removes-then}
 use Rattle.mount_calls.proofs.Lasting.{parents-live, rmdir-held}
-use Rattle.mount_calls.proofs.Frames.{around-same, around-others, around-parents}
+use Rattle.mount_calls.proofs.Frames.{none-parents, none-same, none-taken}
+use Rattle.mount_calls.proofs.Keys.{look-seen}
 use Rattle.copy_up.proofs.Keeping.{on-err, sound-then}
 use Rattle.mount_calls.proofs.removals.rmdir_and_free.Goals as goal
+
+pub rmdir-requires : goal.rmdir-requires
+rmdir-requires c = look-seen c.args.layers.now c.args.path.now c.args.look c.requires
 
 pub returns-in-Ok-clause-takes : goal.returns-in-Ok-clause-takes
 returns-in-Ok-clause-takes c = takes-then c.args.layers.now c.rmdir.new.layers c.free_released.new.layers c.args.path.now c.free_released.ensures.held c.free_released.ensures.same c.free_released.ensures.sound.layers (rw c.in-Ok.is at c.in_ok-key.ensures.takes)
@@ -22,13 +26,13 @@ returns-in-Ok-clause-live c = λ s m client d k some on live.
 pub returns-in-Ok-clause-around : goal.returns-in-Ok-clause-around
 returns-in-Ok-clause-around c =
     let taken = returns-in-Ok-clause-takes c in
-    around-others c.args.layers.now c.free_released.new.layers c.args.path.now taken.others
+    none-taken c.args.layers.now c.free_released.new.layers c.args.path.now taken
 
 pub returns-in-Err-clause-around : goal.returns-in-Err-clause-around
-returns-in-Err-clause-around c = around-same c.args.layers.now c.rmdir.new.layers c.args.path.now (rw c.in-Err.is at c.in_ok-key.ensures.unchanged)
+returns-in-Err-clause-around c = none-same c.args.layers.now c.rmdir.new.layers c.args.path.now (rw c.in-Err.is at c.in_ok-key.ensures.unchanged)
 
 pub returns-in_err-key-clause-around : goal.returns-in_err-key-clause-around
-returns-in_err-key-clause-around c = around-parents c.args.layers.now c.rmdir.new.layers c.args.path.now c.in_err-key.ensures.no_memory.beneath
+returns-in_err-key-clause-around c = none-parents c.args.layers.now c.rmdir.new.layers c.args.path.now c.in_err-key.ensures.no_memory.beneath
 
 pub returns-in_err-key-clause-no_memory : goal.returns-in_err-key-clause-no_memory
 returns-in_err-key-clause-no_memory c =

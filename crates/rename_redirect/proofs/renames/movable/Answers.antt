@@ -1,6 +1,7 @@
 use Rattle.std.proofs.Common.{sym, ◌∙◌}
 use Rattle.rename_redirect.proofs.Judged.{may-move, fault-fit, fault-walk, fault-way, rooted, two-objects}
-use Rattle.rename_redirect.proofs.Sights.{below-root, seen-directory, seen-refused, seen-top, seen-way}
+use Rattle.make_remove.proofs.Sights.{seen-directory, seen-refused, seen-top, seen-way}
+use Rattle.rename_redirect.proofs.Sights.{below-root}
 use Rattle.rename_redirect.proofs.renames.movable.Goals as goal
 
 pub returns-in-Err-clause-refused : goal.returns-in-Err-clause-refused

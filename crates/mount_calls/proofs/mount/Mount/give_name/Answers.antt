@@ -7,7 +7,7 @@ use Rattle.mount_calls.proofs.Changing.{link-done}
 use Rattle.mount_calls.proofs.MakingCalls.{makes-done, makes-unmade, makes-unshown}
 use Rattle.mount_calls.proofs.Lasting.{both-live, link-live, link-leaves}
 use Rattle.mount_calls.proofs.Named.{keeps-named}
-use Rattle.mount_calls.proofs.Frames.{but-parents}
+use Rattle.mount_calls.proofs.Frames.{but-given, but-parents}
 use Rattle.mount_calls.specs.Status.{outcome_result}
 use Rattle.mount_calls.proofs.Unlinking.{outcome-err}
 use Rattle.mount_calls.proofs.Keys.{look-seen, named-key}
@@ -35,7 +35,7 @@ returns-in-Ok-clause-makes c = λ client.
     makes-done client (call.Hardlink p q) m new
     (λ s st. link-done m s st new client p q allowed c.link.ensures.lowers (steps s st.layers client) live (link-leaves p q))
     (λ s st fine. keeps-named m.layers new (call.Hardlink p q) live s st.layers client)
-    linked.paths c.link.ensures.lowers c.link.ensures.sound.thin
+    (but-given m.layers new p q linked) c.link.ensures.lowers c.link.ensures.sound.thin
 
 pub returns-in-Err-clause-makes : goal.returns-in-Err-clause-makes
 returns-in-Err-clause-makes c = λ client.

@@ -5,11 +5,15 @@ use Rattle.merged_lookup.specs.Merged.{lowers_of}
 use Rattle.mount_laws.proofs.Looks.{law_of_mkdir}
 use Rattle.mount_calls.proofs.Changing.{mkdir-done}
 use Rattle.mount_calls.proofs.Frames.{around-others, around-parents}
+use Rattle.mount_calls.proofs.Keys.{look-seen}
 use Rattle.mount_calls.proofs.Lasting.{mkdir-live, mkdir-leaves, parents-live}
 use Rattle.mount_calls.proofs.MakingCalls.{makes-done, makes-unmade, makes-unshown}
 use Rattle.mount_calls.proofs.Named.{keeps-named}
 use Rattle.mount_calls.proofs.Parsed.{mode-fault}
 use Rattle.mount_calls.proofs.mount.Mount.mkdir.Goals as goal
+
+pub mkdir-requires : goal.mkdir-requires
+mkdir-requires c = look-seen c.args.self.now.layers c.args.path.now c.args.look c.requires
 
 pub returns-in-Err-clause-makes : goal.returns-in-Err-clause-makes
 returns-in-Err-clause-makes c = λ client.

@@ -11,7 +11,7 @@ use Rattle.ov_base.specs.declared.reply.Reply.TheVariants as reply
 use Rattle.mount_calls.specs.Living.{KeepsFiles}
 use Rattle.mount_calls.proofs.Named.{open-paths, stays-named}
 use Rattle.mount_calls.proofs.Stating.{the_lowers, the_upper}
-use Rattle.mount_calls.proofs.Frames.{around-same, around-then}
+use Rattle.mount_calls.proofs.Frames.{none-same, none-then}
 use Rattle.mount_calls.proofs.Lasting.{parents-live}
 use Rattle.mount_calls.specs.Making.{ServesEach}
 use Rattle.mount_calls.proofs.MakingCalls.{answers-open}
@@ -40,13 +40,13 @@ open_reserved-requires-clause-fresh c = λ k of.
     ]
 
 pub returns-in_err-reserve_file-clause-around : goal.returns-in_err-reserve_file-clause-around
-returns-in_err-reserve_file-clause-around c = around-same c.args.self.now.layers c.args.self.now.layers c.args.path.now refl
+returns-in_err-reserve_file-clause-around c = none-same c.args.self.now.layers c.args.self.now.layers c.args.path.now refl
 
 pub returns-clause-around : goal.returns-clause-around
 returns-clause-around c = elim c.if-flags.branch [
   | then-flags+in_ok-resize_file w ↦
       rw w.self-is
-      (around-then c.args.self.now.layers c.bring_up.new.layers w.resize_file.new.layers c.args.path.now w.resize_file.ensures.objects c.bring_up.ensures.around)
+      (none-then c.args.self.now.layers c.bring_up.new.layers w.resize_file.new.layers c.args.path.now w.resize_file.ensures.objects c.bring_up.ensures.around)
   | else-flags w ↦ rw w.self-is c.bring_up.ensures.around
 ]
 

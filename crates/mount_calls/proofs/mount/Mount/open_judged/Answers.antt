@@ -1,8 +1,8 @@
 use Rattle.std.proofs.Common.{◌≡◌, ◌&&◌, refl, is_none}
 use Rattle.plain_model.specs.Layers.{shows}
 use Rattle.merged_lookup.specs.Merged.{layers_of}
-use Rattle.mount_calls.specs.Keeping.{KeepsAround}
-use Rattle.mount_calls.proofs.Frames.{around-same, around-then, reads-whole, unless-first}
+use Rattle.mount_calls.specs.Keeping.{BringsNone}
+use Rattle.mount_calls.proofs.Frames.{none-same, none-then, reads-whole, unless-first}
 use Rattle.mount_calls.proofs.Openings.{flags-fine}
 use Rattle.mount_calls.proofs.mount.Mount.open_judged.Goals as goal
 
@@ -13,6 +13,6 @@ returns-in-Some-clause-layers c =
     let p = c.args.path.now in
     let f = c.args.flags in
     let fine = flags-fine (layers_of old) p f c.args.judged.mode c.requires.judged.allowed in
-    unless-first f.writes (f.create && is_none (shows 0 (layers_of old) p)) (KeepsAround old new p) (new ≡ old)
-    (around-then old old new p c.open_shown.ensures.objects (around-same old old p refl))
+    unless-first f.writes (f.create && is_none (shows 0 (layers_of old) p)) (BringsNone old new p) (new ≡ old)
+    (none-then old old new p c.open_shown.ensures.objects (none-same old old p refl))
     (λ off. c.open_shown.ensures.layers (reads-whole f fine off))

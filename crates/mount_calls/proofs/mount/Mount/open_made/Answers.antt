@@ -8,7 +8,7 @@ use Rattle.mount_calls.proofs.Makings.{none-holds, reserved-state, wanted-state,
 use Rattle.ov_base.specs.declared.call.Call.TheVariants as call
 use Rattle.mount_calls.proofs.Lasting.{create-live, parents-live}
 use Rattle.mount_calls.proofs.Named.{keeps-named}
-use Rattle.mount_calls.proofs.Frames.{around-same, around-others, around-parents}
+use Rattle.mount_calls.proofs.Frames.{none-named, none-parents, none-same}
 use Rattle.mount_calls.proofs.MakingCalls.{answers-open}
 use Rattle.mount_calls.proofs.mount.Mount.open_made.Goals as goal
 
@@ -21,13 +21,15 @@ open_reserved-requires-clause-fresh c = λ k of.
     none-holds c.args.self.now c.args.client c.reserve_file.new.self c.reserve_file.ensures.same c.requires.state c.lawful.ensures.files c.in_ok-key.key (λ s st. ap (get c.args.self.now.layers.upper) (sym made.1) ∙ made.0.vacant) k (ap (λ (x : OpenFile). x.source) (sym c.file_at-file.ensures) ∙ of)
 
 pub returns-in_err-reserve_file-clause-around : goal.returns-in_err-reserve_file-clause-around
-returns-in_err-reserve_file-clause-around c = around-same c.args.self.now.layers c.args.self.now.layers c.args.path.now refl
+returns-in_err-reserve_file-clause-around c = none-same c.args.self.now.layers c.args.self.now.layers c.args.path.now refl
 
 pub returns-in_err-key-clause-around : goal.returns-in_err-key-clause-around
-returns-in_err-key-clause-around c = around-parents c.args.self.now.layers c.create.new.layers c.args.path.now c.in_err-key.ensures.no_memory.beneath
+returns-in_err-key-clause-around c = none-parents c.args.self.now.layers c.create.new.layers c.args.path.now c.in_err-key.ensures.no_memory.beneath
 
 pub returns-clause-around : goal.returns-clause-around
-returns-clause-around c = around-others c.args.self.now.layers c.create.new.layers c.args.path.now c.in_ok-key.ensures.made.0.others
+returns-clause-around c =
+    let made = c.in_ok-key.ensures.made.0 in
+    none-named c.args.self.now.layers c.create.new.layers c.args.path.now made.number made.held_there made.others
 
 pub returns-in_err-key-clause-no_memory : goal.returns-in_err-key-clause-no_memory
 returns-in_err-key-clause-no_memory c =

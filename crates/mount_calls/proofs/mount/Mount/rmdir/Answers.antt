@@ -21,7 +21,7 @@ returns-in-Err c = λ client.
     (rw c.in-Err.is at c.in_ok-rmdir_and_free.ensures.unchanged)
 
 pub remove-requires-clause-below : goal.remove-requires-clause-below
-remove-requires-clause-below c = λ k n r is. ∥∥₁_elim c.requires ⊥_prop (λ x. none-below c.args.self.now x.0 x.1 c.rmdir_and_free.new.layers c.args.path.now (rw c.in-Ok.is at c.in_ok-rmdir_and_free.ensures.bare) c.lawful.ensures.held k n r is)
+remove-requires-clause-below c = λ k n r is. ∥∥₁_elim c.requires.state ⊥_prop (λ x. none-below c.args.self.now x.0 x.1 c.rmdir_and_free.new.layers c.args.path.now (rw c.in-Ok.is at c.in_ok-rmdir_and_free.ensures.bare) c.lawful.ensures.held k n r is)
 
 pub returns-after-attributes-3 : goal.returns-after-attributes-3
 returns-after-attributes-3 c = λ client.

@@ -1,9 +1,13 @@
 use Rattle.std.proofs.Common.{None, refl}
 use Rattle.ov_base.specs.declared.call.Call.TheVariants as call
 use Rattle.mount_calls.proofs.Having.{none-bytes}
+use Rattle.mount_calls.proofs.Keys.{look-seen}
 use Rattle.mount_calls.proofs.Judging.{allows-rmdir, tells-one, tells-refusal, way-first}
 use Rattle.mount_calls.proofs.Stating.{the_layers}
 use Rattle.mount_calls.proofs.mount.Mount.rmdir_lack.Goals as goal
+
+pub removable-requires : goal.removable-requires
+removable-requires c = look-seen c.args.self.now.layers c.args.path.now c.look-look.result c.look-look.ensures
 
 pub returns-in-Ok : goal.returns-in-Ok
 returns-in-Ok c = λ client.

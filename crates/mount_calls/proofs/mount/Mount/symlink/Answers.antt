@@ -4,12 +4,16 @@ use Rattle.layer_tree.specs.Tree.{layer_of}
 use Rattle.merged_lookup.specs.Merged.{lowers_of}
 use Rattle.mount_laws.proofs.Refusing.{law_of_symlink}
 use Rattle.mount_calls.proofs.Changing.{symlink-done}
-use Rattle.mount_calls.proofs.Frames.{around-others, around-parents}
+use Rattle.mount_calls.proofs.Frames.{none-named, none-parents}
+use Rattle.mount_calls.proofs.Keys.{look-seen}
 use Rattle.mount_calls.proofs.Lasting.{symlink-live, symlink-leaves, parents-live}
 use Rattle.mount_calls.proofs.MakingCalls.{makes-done, makes-nothing, makes-unmade, makes-unshown}
 use Rattle.mount_calls.proofs.Named.{keeps-named}
 use Rattle.mount_calls.proofs.Parsed.{target-fault}
 use Rattle.mount_calls.proofs.mount.Mount.symlink.Goals as goal
+
+pub symlink-requires : goal.symlink-requires
+symlink-requires c = look-seen c.args.self.now.layers c.args.path.now c.args.look c.requires
 
 pub returns-in_err-clone-clause-makes : goal.returns-in_err-clone-clause-makes
 returns-in_err-clone-clause-makes c = λ client.
@@ -38,7 +42,7 @@ returns-in-Ok-2-clause-makes c = λ client.
     makes-done client (call.Symlink target p) m new
     (λ s st. symlink-done m s st new client target p allowed made.lowers (steps s st.layers client) live (symlink-leaves target p))
     (λ s st fine. keeps-named m.layers new (call.Symlink target p) live s st.layers client)
-    (around-others m.layers new p made.others) made.lowers c.symlink.ensures.sound.thin
+    (none-named m.layers new p made.number made.held_there made.others) made.lowers c.symlink.ensures.sound.thin
 
 pub returns-in-Err-2-clause-makes : goal.returns-in-Err-2-clause-makes
 returns-in-Err-2-clause-makes c = λ client.
@@ -59,4 +63,4 @@ returns-in_err-symlink-clause-makes c = λ client.
     let kept = c.in_err-symlink.ensures.no_memory in
     makes-unshown client (call.Symlink c.args.target.now p) m new
     c.from_residual-in_err-symlink.result c.from_residual-in_err-symlink.ensures.0 kept.mount
-    (parents-live m.layers new p kept.beneath) (around-parents m.layers new p kept.beneath) kept.beneath.lowers c.symlink.ensures.sound.thin
+    (parents-live m.layers new p kept.beneath) (none-parents m.layers new p kept.beneath) kept.beneath.lowers c.symlink.ensures.sound.thin

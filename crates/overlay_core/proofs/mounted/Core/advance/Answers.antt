@@ -2,6 +2,7 @@ use Rattle.std.proofs.Common.{◌+◌, refl}
 use Rattle.plain_model.specs.Runs.{Called}
 use Rattle.overlay_core.specs.Mounting.{machine_options}
 use Rattle.overlay_core.proofs.Agreeing.{given-more, given-same, goes-on, has-begun, limits-on, some-finished, some-more, stays-on}
+use Rattle.overlay_core.proofs.StepsMade.{brings-made}
 use Rattle.overlay_core.proofs.mounted.Core.advance.Goals as goal
 
 pub invariant_of-self : goal.invariant_of-self
@@ -15,6 +16,7 @@ invariant_of-self g c =
       begins = has-begun (c.args.self.now.finished + 1) (machine_options c.args.self.now.options) new.mount new.notifier (some-more c.args.self.now.finished);
       given = given-more old.mount.clients.next new.mount.clients.next c.args.self.now.finished c.args.self.now.given made.clients.next;
       short = c.args.self.now.short;
+      waits = c.in-Done.ensures.waits;
       temps = made.temps;
       limits = limits-on old.mount.layers new.mount.layers made.lowers c.args.self.now.limits;
     }
@@ -32,6 +34,11 @@ returns-in-Done-clause-kept g c =
 
 pub returns-in-Done-clause-layers : goal.returns-in-Done-clause-layers
 returns-in-Done-clause-layers g c = c.in-Done.ensures.makes.2.layers
+
+pub returns-in-Done-clause-brings : goal.returns-in-Done-clause-brings
+returns-in-Done-clause-brings g c =
+    brings-made g.R.Rule.shows c.args.self.now.watched c.step.new.watched _ _ _ _ _ _ _ c.args.self.now.agrees
+    c.in-Done.ensures.makes.2
 
 pub returns-in-Done-clause-clients : goal.returns-in-Done-clause-clients
 returns-in-Done-clause-clients g c = c.in-Done.ensures.makes.2.clients
@@ -51,6 +58,7 @@ invariant_of-self-in-More g c =
       begins = has-begun c.args.self.now.finished (machine_options c.args.self.now.options) new.mount new.notifier (some-finished c.args.job.now.client old.mount.clients.next c.args.self.now.finished there before);
       given = given-same old.mount.clients.next new.mount.clients.next c.args.self.now.finished before made.clients.next;
       short = c.args.self.now.short;
+      waits = c.in-More.ensures.waits;
       temps = made.temps;
       limits = limits-on old.mount.layers new.mount.layers made.lowers c.args.self.now.limits;
     }
@@ -69,6 +77,11 @@ returns-in-More-clause-kept g c =
 pub returns-in-More-clause-layers : goal.returns-in-More-clause-layers
 returns-in-More-clause-layers g c = c.in-More.ensures.makes.2.layers
 
+pub returns-in-More-clause-brings : goal.returns-in-More-clause-brings
+returns-in-More-clause-brings g c =
+    brings-made g.R.Rule.shows c.args.self.now.watched c.step.new.watched _ _ _ _ _ _ _ c.args.self.now.agrees
+    c.in-More.ensures.makes.2
+
 pub returns-in-More-clause-clients : goal.returns-in-More-clause-clients
 returns-in-More-clause-clients g c = c.in-More.ensures.makes.2.clients
 
@@ -84,6 +97,7 @@ invariant_of-self-in-NoMemory g c =
       begins = has-begun c.args.self.now.finished (machine_options c.args.self.now.options) new.mount new.notifier (some-finished c.args.job.now.client old.mount.clients.next c.args.self.now.finished there before);
       given = given-same old.mount.clients.next new.mount.clients.next c.args.self.now.finished before made.clients.next;
       short = c.args.self.now.short;
+      waits = c.in-NoMemory.ensures.waits;
       temps = made.temps;
       limits = limits-on old.mount.layers new.mount.layers made.lowers c.args.self.now.limits;
     }
@@ -101,6 +115,11 @@ returns-in-NoMemory-clause-kept g c =
 
 pub returns-in-NoMemory-clause-layers : goal.returns-in-NoMemory-clause-layers
 returns-in-NoMemory-clause-layers g c = c.in-NoMemory.ensures.makes.2.layers
+
+pub returns-in-NoMemory-clause-brings : goal.returns-in-NoMemory-clause-brings
+returns-in-NoMemory-clause-brings g c =
+    brings-made g.R.Rule.shows c.args.self.now.watched c.step.new.watched _ _ _ _ _ _ _ c.args.self.now.agrees
+    c.in-NoMemory.ensures.makes.2
 
 pub returns-in-NoMemory-clause-clients : goal.returns-in-NoMemory-clause-clients
 returns-in-NoMemory-clause-clients g c = c.in-NoMemory.ensures.makes.2.clients

@@ -17,7 +17,7 @@ use Rattle.mount_calls.specs.Status.{outcome_reply}
 use Rattle.overlay_core.proofs.watched.Watched.alter.Goals as goal
 
 pub object_seen-object-requires : goal.object_seen-object-requires
-object_seen-object-requires g c = (c.args.path.now, c.look-look.ensures)
+object_seen-object-requires g c = (c.args.path.now, c.requires.look)
 
 pub returns-in_err-prepare_lift-clause-err : goal.returns-in_err-prepare_lift-clause-err
 returns-in_err-prepare_lift-clause-err g c =
@@ -64,7 +64,7 @@ altered-requires-clause-free g c =
     let passes = passing g.R.Rule.shows c.args.client call Done old new mid done s a fine in
     free-key (upper_of old) (upper_of new) (lowers_of old.layers) s c.args.client call passes path (altered-touches s path call asks) (altered-file s c.args.client path call asks)
     (altered-leads (upper_of old) (upper_of new) (lowers_of old.layers) s c.args.client path call asks passes) mid a.tracks c.in-Ok.key
-    c.object_seen-object.result (c.object_seen-object.ensures path c.look-look.ensures)
+    c.object_seen-object.result (c.object_seen-object.ensures path c.requires.look)
     (λ lower j last is. held-key new.layers path c.in-Ok.key (rw c.in-Ok.is at said.key) j last (subst (λ (x : List Layer). IsObject (upper_of new) x path (object.Upper j last)) (sym (ap (λ x. map layer_of x.items) (said.makes c.args.client).lowers)) is)))
 
 pub returns-in-Ok-clause-goes : goal.returns-in-Ok-clause-goes
@@ -79,9 +79,9 @@ returns-in-Ok-clause-goes g c = λ s a.
     let asks = asked-alters path c.args.call in
     let done = outcome-so c.args.client call (Ok c.in-Ok.key) _ old new (sym c.in-Ok.is) c.requires.there (said.makes c.args.client) in
     goes-done g.R.Rule.shows c.args.client call Done old new mid done to refl (λ s a passes. law_of_altered g.R.Rule.shows (upper_of old) (upper_of new) (lowers_of old.layers) s c.args.client path call asks passes
-    c.object_seen-object.result c.in-Ok.key (c.object_seen-object.ensures path c.look-look.ensures) mid to
+    c.object_seen-object.result c.in-Ok.key (c.object_seen-object.ensures path c.requires.look) mid to
     (lifted-key (upper_of old) (upper_of new) (lowers_of old.layers) s c.args.client call passes path (altered-touches s path call asks) (altered-file s c.args.client path call asks)
-    (altered-leads (upper_of old) (upper_of new) (lowers_of old.layers) s c.args.client path call asks passes) mid a.tracks c.in-Ok.key c.object_seen-object.result (c.object_seen-object.ensures path c.look-look.ensures)
+    (altered-leads (upper_of old) (upper_of new) (lowers_of old.layers) s c.args.client path call asks passes) mid a.tracks c.in-Ok.key c.object_seen-object.result (c.object_seen-object.ensures path c.requires.look)
     (λ lower j last is. held-key new.layers path c.in-Ok.key (rw c.in-Ok.is at said.key) j last (subst (λ (x : List Layer). IsObject (upper_of new) x path (object.Upper j last)) (sym (ap (λ x. map layer_of x.items) (said.makes c.args.client).lowers)) is)))
     a.tracks c.lawful-in-Ok.ensures.known c.altered.ensures) s
     (subst (λ k. Agrees old k s) (sym c.prepare_lift.ensures.rest) (agrees-room c.args.self.now.notifier mid.objects c.prepare_lift.ensures.same c.lawful.ensures.known old s a))

@@ -17,7 +17,7 @@ use Rattle.mount_calls.specs.Status.{outcome_reply}
 use Rattle.overlay_core.proofs.watched.Watched.link.Goals as goal
 
 pub object_seen-object-requires : goal.object_seen-object-requires
-object_seen-object-requires g c = (c.args.old.now, c.look-from.ensures)
+object_seen-object-requires g c = (c.args.old.now, c.requires.from)
 
 pub returns-in_err-prepare_lift-clause-err : goal.returns-in_err-prepare_lift-clause-err
 returns-in_err-prepare_lift-clause-err g c =
@@ -64,7 +64,7 @@ linked-requires-clause-free g c =
     let fine = allowed-by s c.args.client call Done new (done.serves s a.stands) (λ e refused. cc) in
     let passes = passing g.R.Rule.shows c.args.client call Done old new mid done s a fine in
     free-key (upper_of old) (upper_of new) (lowers_of old.layers) s c.args.client call passes c.args.old.now refl (linked-file s c.args.client c.args.old.now c.args.new.now) (linked-leads (upper_of old) (upper_of new) (lowers_of old.layers) s c.args.client c.args.old.now c.args.new.now passes) mid a.tracks c.in-Ok.key
-    c.object_seen-object.result (c.object_seen-object.ensures c.args.old.now c.look-from.ensures) (λ lower j last is. under j last (subst (λ (x : List Layer). IsObject (upper_of new) x c.args.old.now (object.Upper j last)) (sym (ap (λ x. map layer_of x.items) (said.makes c.args.client).lowers)) is)))
+    c.object_seen-object.result (c.object_seen-object.ensures c.args.old.now c.requires.from) (λ lower j last is. under j last (subst (λ (x : List Layer). IsObject (upper_of new) x c.args.old.now (object.Upper j last)) (sym (ap (λ x. map layer_of x.items) (said.makes c.args.client).lowers)) is)))
 
 pub returns-in-Ok-clause-goes : goal.returns-in-Ok-clause-goes
 returns-in-Ok-clause-goes g c = λ s a.
@@ -78,8 +78,8 @@ returns-in-Ok-clause-goes g c = λ s a.
     let under = rw c.in-Ok.is at said.key in
     let goes = goes-done g.R.Rule.shows c.args.client call Done old new mid done to refl (λ s a passes.
     law_of_linked g.R.Rule.shows (upper_of old) (upper_of new) (lowers_of old.layers) s c.args.client c.args.old.now c.args.new.now passes
-    c.object_seen-object.result c.in-Ok.key (c.object_seen-object.ensures c.args.old.now c.look-from.ensures) mid to
-    (lifted-key (upper_of old) (upper_of new) (lowers_of old.layers) s c.args.client call passes c.args.old.now refl (linked-file s c.args.client c.args.old.now c.args.new.now) (linked-leads (upper_of old) (upper_of new) (lowers_of old.layers) s c.args.client c.args.old.now c.args.new.now passes) mid a.tracks c.in-Ok.key c.object_seen-object.result (c.object_seen-object.ensures c.args.old.now c.look-from.ensures) (λ lower j last is. under j last (subst (λ (x : List Layer). IsObject (upper_of new) x c.args.old.now (object.Upper j last)) (sym (ap (λ x. map layer_of x.items) (said.makes c.args.client).lowers)) is)))
+    c.object_seen-object.result c.in-Ok.key (c.object_seen-object.ensures c.args.old.now c.requires.from) mid to
+    (lifted-key (upper_of old) (upper_of new) (lowers_of old.layers) s c.args.client call passes c.args.old.now refl (linked-file s c.args.client c.args.old.now c.args.new.now) (linked-leads (upper_of old) (upper_of new) (lowers_of old.layers) s c.args.client c.args.old.now c.args.new.now passes) mid a.tracks c.in-Ok.key c.object_seen-object.result (c.object_seen-object.ensures c.args.old.now c.requires.from) (λ lower j last is. under j last (subst (λ (x : List Layer). IsObject (upper_of new) x c.args.old.now (object.Upper j last)) (sym (ap (λ x. map layer_of x.items) (said.makes c.args.client).lowers)) is)))
     a.tracks c.lawful-in-Ok.ensures.known c.linked.ensures) in
     subst (λ (k : Call). Goes g.R.Rule.shows old mid c.args.client (Called k Done) new to) (sym c.requires.call) goes s
     (subst (λ k. Agrees old k s) (sym c.prepare_lift.ensures.rest) (agrees-room c.args.self.now.notifier mid.objects c.prepare_lift.ensures.same c.lawful.ensures.known old s a))

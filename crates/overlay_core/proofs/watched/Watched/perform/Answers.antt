@@ -3,7 +3,7 @@ use Rattle.std.proofs.lemmas.Int.{to_z-of_z}
 use Rattle.std.proofs.lemmas.Result.{on_err_weaker}
 use mir.Syntax.{w32, w64}
 use mir.Val.{SFits}
-use Rattle.overlay_core.proofs.Making.{performs-as, performs-asked, performs-each, performs-silent, performs-watch}
+use Rattle.overlay_core.proofs.Making.{looks-of, performs-as, performs-asked, performs-each, performs-silent, performs-watch}
 use Rattle.overlay_core.proofs.watched.Watched.perform.Goals as goal
 
 pub returns-in-Stat-clause-performs : goal.returns-in-Stat-clause-performs
@@ -109,3 +109,99 @@ pub returns-in-TakeNotices-clause-performs : goal.returns-in-TakeNotices-clause-
 returns-in-TakeNotices-clause-performs g c = performs-as c.in-TakeNotices.is
     (performs-watch c.notices.result c.notices.ensures.goes
     (on_err_weaker c.notices.result (λ same. rw same (λ s a. a)) c.notices.ensures.err) c.notices.ensures.mount)
+
+pub one-look-requires : goal.one-look-requires
+one-look-requires g c =
+    (c.args.self.now.mount.layers, c.in-Chmod.path, looks-of _ _ _ _ c.in-Chmod.is c.requires.looks)
+
+pub alter-requires-clause-look : goal.alter-requires-clause-look
+alter-requires-clause-look g c =
+    c.one-look.ensures c.args.self.now.mount.layers c.in-Chmod.path (looks-of _ _ _ _ c.in-Chmod.is c.requires.looks)
+
+pub one-look-requires-in-Chown : goal.one-look-requires-in-Chown
+one-look-requires-in-Chown g c =
+    (c.args.self.now.mount.layers, c.in-Chown.path, looks-of _ _ _ _ c.in-Chown.is c.requires.looks)
+
+pub alter-requires-in-Chown-clause-look : goal.alter-requires-in-Chown-clause-look
+alter-requires-in-Chown-clause-look g c =
+    c.one-look-in-Chown.ensures c.args.self.now.mount.layers c.in-Chown.path (looks-of _ _ _ _ c.in-Chown.is c.requires.looks)
+
+pub one-look-requires-in-SetAttribute : goal.one-look-requires-in-SetAttribute
+one-look-requires-in-SetAttribute g c =
+    (c.args.self.now.mount.layers, c.in-SetAttribute.path, looks-of _ _ _ _ c.in-SetAttribute.is c.requires.looks)
+
+pub alter-requires-in-SetAttribute-clause-look : goal.alter-requires-in-SetAttribute-clause-look
+alter-requires-in-SetAttribute-clause-look g c =
+    c.one-look-in-SetAttribute.ensures c.args.self.now.mount.layers c.in-SetAttribute.path (looks-of _ _ _ _ c.in-SetAttribute.is c.requires.looks)
+
+pub one-look-requires-in-DeleteAttribute : goal.one-look-requires-in-DeleteAttribute
+one-look-requires-in-DeleteAttribute g c =
+    (c.args.self.now.mount.layers, c.in-DeleteAttribute.path, looks-of _ _ _ _ c.in-DeleteAttribute.is c.requires.looks)
+
+pub alter-requires-in-DeleteAttribute-clause-look : goal.alter-requires-in-DeleteAttribute-clause-look
+alter-requires-in-DeleteAttribute-clause-look g c =
+    c.one-look-in-DeleteAttribute.ensures c.args.self.now.mount.layers c.in-DeleteAttribute.path (looks-of _ _ _ _ c.in-DeleteAttribute.is c.requires.looks)
+
+pub one-look-requires-in-Open : goal.one-look-requires-in-Open
+one-look-requires-in-Open g c =
+    (c.args.self.now.mount.layers, c.in-Open.path, looks-of _ _ _ _ c.in-Open.is c.requires.looks)
+
+pub open-requires-clause-look : goal.open-requires-clause-look
+open-requires-clause-look g c =
+    c.one-look-in-Open.ensures c.args.self.now.mount.layers c.in-Open.path (looks-of _ _ _ _ c.in-Open.is c.requires.looks)
+
+pub both-from-requires : goal.both-from-requires
+both-from-requires g c =
+    (c.args.self.now.mount.layers, c.in-Hardlink.old, c.in-Hardlink.new, looks-of _ _ _ _ c.in-Hardlink.is c.requires.looks)
+
+pub link-requires-clause-from : goal.link-requires-clause-from
+link-requires-clause-from g c =
+    (c.both-from.ensures c.args.self.now.mount.layers c.in-Hardlink.old c.in-Hardlink.new (looks-of _ _ _ _ c.in-Hardlink.is c.requires.looks)).0
+
+pub link-requires-clause-onto : goal.link-requires-clause-onto
+link-requires-clause-onto g c =
+    (c.both-from.ensures c.args.self.now.mount.layers c.in-Hardlink.old c.in-Hardlink.new (looks-of _ _ _ _ c.in-Hardlink.is c.requires.looks)).1
+
+pub both-from-requires-in-Rename : goal.both-from-requires-in-Rename
+both-from-requires-in-Rename g c =
+    (c.args.self.now.mount.layers, c.in-Rename.old, c.in-Rename.new, looks-of _ _ _ _ c.in-Rename.is c.requires.looks)
+
+pub rename-requires-clause-from : goal.rename-requires-clause-from
+rename-requires-clause-from g c =
+    (c.both-from-in-Rename.ensures c.args.self.now.mount.layers c.in-Rename.old c.in-Rename.new (looks-of _ _ _ _ c.in-Rename.is c.requires.looks)).0
+
+pub rename-requires-clause-onto : goal.rename-requires-clause-onto
+rename-requires-clause-onto g c =
+    (c.both-from-in-Rename.ensures c.args.self.now.mount.layers c.in-Rename.old c.in-Rename.new (looks-of _ _ _ _ c.in-Rename.is c.requires.looks)).1
+
+pub one-look-requires-in-Mkdir : goal.one-look-requires-in-Mkdir
+one-look-requires-in-Mkdir g c =
+    (c.args.self.now.mount.layers, c.in-Mkdir.path, looks-of _ _ _ _ c.in-Mkdir.is c.requires.looks)
+
+pub mkdir-requires-clause-look : goal.mkdir-requires-clause-look
+mkdir-requires-clause-look g c =
+    c.one-look-in-Mkdir.ensures c.args.self.now.mount.layers c.in-Mkdir.path (looks-of _ _ _ _ c.in-Mkdir.is c.requires.looks)
+
+pub one-look-requires-in-Symlink : goal.one-look-requires-in-Symlink
+one-look-requires-in-Symlink g c =
+    (c.args.self.now.mount.layers, c.in-Symlink.path, looks-of _ _ _ _ c.in-Symlink.is c.requires.looks)
+
+pub symlink-requires-clause-look : goal.symlink-requires-clause-look
+symlink-requires-clause-look g c =
+    c.one-look-in-Symlink.ensures c.args.self.now.mount.layers c.in-Symlink.path (looks-of _ _ _ _ c.in-Symlink.is c.requires.looks)
+
+pub one-look-requires-in-Unlink : goal.one-look-requires-in-Unlink
+one-look-requires-in-Unlink g c =
+    (c.args.self.now.mount.layers, c.in-Unlink.path, looks-of _ _ _ _ c.in-Unlink.is c.requires.looks)
+
+pub unlink-requires-clause-look : goal.unlink-requires-clause-look
+unlink-requires-clause-look g c =
+    c.one-look-in-Unlink.ensures c.args.self.now.mount.layers c.in-Unlink.path (looks-of _ _ _ _ c.in-Unlink.is c.requires.looks)
+
+pub one-look-requires-in-Rmdir : goal.one-look-requires-in-Rmdir
+one-look-requires-in-Rmdir g c =
+    (c.args.self.now.mount.layers, c.in-Rmdir.path, looks-of _ _ _ _ c.in-Rmdir.is c.requires.looks)
+
+pub rmdir-requires-clause-look : goal.rmdir-requires-clause-look
+rmdir-requires-clause-look g c =
+    c.one-look-in-Rmdir.ensures c.args.self.now.mount.layers c.in-Rmdir.path (looks-of _ _ _ _ c.in-Rmdir.is c.requires.looks)

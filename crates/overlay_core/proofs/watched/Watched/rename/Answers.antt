@@ -24,10 +24,10 @@ pub rename_moving-requires-clause-state : goal.rename_moving-requires-clause-sta
 rename_moving-requires-clause-state g c = state-of c.args.self.now.mount c.args.self.now.notifier c.requires.state
 
 pub object_seen-object-requires : goal.object_seen-object-requires
-object_seen-object-requires g c = (c.args.old.now, c.look-from.ensures)
+object_seen-object-requires g c = (c.args.old.now, c.requires.from)
 
 pub object_seen-replaced-requires : goal.object_seen-replaced-requires
-object_seen-replaced-requires g c = (c.args.new.now, c.look-onto.ensures)
+object_seen-replaced-requires g c = (c.args.new.now, c.requires.onto)
 
 pub prepare_move-prepared-requires-clause-clients : goal.prepare_move-prepared-requires-clause-clients
 prepare_move-prepared-requires-clause-clients g c =
@@ -54,7 +54,7 @@ moved-requires-clause-free g c =
     (performed-by c.requires.there (c.in-Ok-Ok-Some.ensures.makes c.args.client))
     (ap outcome_reply c.in-Ok-Ok-Some.field-0-is)
     (moved-told c.in-Ok-Ok-Some.field-0 c.in-Ok-Ok-Some.field-0-0 (Some c.in-Ok-Ok-Some.key) _ c.in-Ok-Ok-Some.field-0-is c.in-Ok-Ok-Some.field-0-0-is c.in-Ok-Ok-Some.ensures.moves)
-    c.lawful-2.ensures.known c.object_seen-object.result c.object_seen-replaced.result (c.object_seen-object.ensures c.args.old.now c.look-from.ensures) (c.object_seen-replaced.ensures c.args.new.now c.look-onto.ensures)
+    c.lawful-2.ensures.known c.object_seen-object.result c.object_seen-replaced.result (c.object_seen-object.ensures c.args.old.now c.requires.from) (c.object_seen-replaced.ensures c.args.new.now c.requires.onto)
     c.in-Ok-Ok-Some.key (λ lower. key-told c.in-Ok-Ok-Some.field-0 c.in-Ok-Ok-Some.field-0-0 c.in-Ok-Ok-Some.key (IsKeyAt c.rename_moving.new.self.layers c.args.new.now) c.in-Ok-Ok-Some.field-0-is c.in-Ok-Ok-Some.field-0-0-is c.in-Ok-Ok-Some.ensures.key) c.requires.state
 
 pub moved-requires-clause-place : goal.moved-requires-clause-place
@@ -68,7 +68,7 @@ moved-requires-clause-place g c =
     (performed-by c.requires.there (c.in-Ok-Ok-Some.ensures.makes c.args.client))
     (ap outcome_reply c.in-Ok-Ok-Some.field-0-is)
     (moved-told c.in-Ok-Ok-Some.field-0 c.in-Ok-Ok-Some.field-0-0 (Some c.in-Ok-Ok-Some.key) _ c.in-Ok-Ok-Some.field-0-is c.in-Ok-Ok-Some.field-0-0-is c.in-Ok-Ok-Some.ensures.moves)
-    c.lawful-2.ensures.known c.object_seen-object.result c.object_seen-replaced.result (c.object_seen-object.ensures c.args.old.now c.look-from.ensures) (c.object_seen-replaced.ensures c.args.new.now c.look-onto.ensures)
+    c.lawful-2.ensures.known c.object_seen-object.result c.object_seen-replaced.result (c.object_seen-object.ensures c.args.old.now c.requires.from) (c.object_seen-replaced.ensures c.args.new.now c.requires.onto)
     c.in-Ok-Ok-Some.key (λ lower. key-told c.in-Ok-Ok-Some.field-0 c.in-Ok-Ok-Some.field-0-0 c.in-Ok-Ok-Some.key (IsKeyAt c.rename_moving.new.self.layers c.args.new.now) c.in-Ok-Ok-Some.field-0-is c.in-Ok-Ok-Some.field-0-0-is c.in-Ok-Ok-Some.ensures.key) c.requires.state below
 
 pub returns-in-Ok-Ok-Some-clause-goes : goal.returns-in-Ok-Ok-Some-clause-goes
@@ -83,7 +83,7 @@ returns-in-Ok-Ok-Some-clause-goes g c =
     (performed-by c.requires.there (c.in-Ok-Ok-Some.ensures.makes c.args.client))
     (ap outcome_reply c.in-Ok-Ok-Some.field-0-is)
     (moved-told c.in-Ok-Ok-Some.field-0 c.in-Ok-Ok-Some.field-0-0 (Some c.in-Ok-Ok-Some.key) _ c.in-Ok-Ok-Some.field-0-is c.in-Ok-Ok-Some.field-0-0-is c.in-Ok-Ok-Some.ensures.moves)
-    c.lawful-2.ensures.known c.object_seen-object.result c.object_seen-replaced.result (c.object_seen-object.ensures c.args.old.now c.look-from.ensures) (c.object_seen-replaced.ensures c.args.new.now c.look-onto.ensures)
+    c.lawful-2.ensures.known c.object_seen-object.result c.object_seen-replaced.result (c.object_seen-object.ensures c.args.old.now c.requires.from) (c.object_seen-replaced.ensures c.args.new.now c.requires.onto)
     c.in-Ok-Ok-Some.key (λ lower. key-told c.in-Ok-Ok-Some.field-0 c.in-Ok-Ok-Some.field-0-0 c.in-Ok-Ok-Some.key (IsKeyAt c.rename_moving.new.self.layers c.args.new.now) c.in-Ok-Ok-Some.field-0-is c.in-Ok-Ok-Some.field-0-0-is c.in-Ok-Ok-Some.ensures.key) c.moved.new.self c.lawful-in-Ok-Ok-Some.ensures.known c.moved.ensures)
 
 pub returns-in-Ok-Ok-None-clause-goes : goal.returns-in-Ok-Ok-None-clause-goes

@@ -6,8 +6,8 @@ use Rattle.overlay_core.proofs.Performing.{state-of}
 use Rattle.overlay_core.proofs.Watching.{upper_of}
 use Rattle.overlay_core.proofs.watched.Watched.rmdir.Goals as goal
 
-pub rmdir-requires : goal.rmdir-requires
-rmdir-requires g c = state-of c.args.self.now.mount c.args.self.now.notifier c.requires.state
+pub rmdir-requires-clause-state : goal.rmdir-requires-clause-state
+rmdir-requires-clause-state g c = state-of c.args.self.now.mount c.args.self.now.notifier c.requires.state
 
 pub returns-in_err-reply : goal.returns-in_err-reply
 returns-in_err-reply g c =

@@ -12,13 +12,13 @@ returns-in_err-reply g c =
 
 pub returns-in_default : goal.returns-in_default
 returns-in_default g c =
-    performs-refused c.in_ok-reply.reply c.requires (c.in_ok-reply.ensures.makes c.args.client) (λ s. refl) c.in_default.not-Done
+    performs-refused c.in_ok-reply.reply c.requires.there (c.in_ok-reply.ensures.makes c.args.client) (λ s. refl) c.in_default.not-Done
 
 pub returns : goal.returns
 returns g c =
     let old = c.args.self.now.mount in
     let p = c.args.path.now in
     let to = c.made.new.self in
-    performs-done c.in_ok-reply.reply c.requires (c.in_ok-reply.ensures.makes c.args.client) c.in-Done.is
+    performs-done c.in_ok-reply.reply c.requires.there (c.in_ok-reply.ensures.makes c.args.client) c.in-Done.is
     (λ s a passes. law_of_made g.R.Rule.shows (upper_of old) (upper_of c.symlink.new.self) (lowers_of old.layers) s c.args.client p (Symlink c.args.target.now p) _ refl refl passes
     c.args.self.now.notifier to a.tracks c.lawful.ensures.known c.made.ensures)

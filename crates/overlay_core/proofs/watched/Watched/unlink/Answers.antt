@@ -20,14 +20,14 @@ returns-in-Ok g c =
     let path = c.args.path.now in
     let old = c.args.self.now.mount in
     let new = c.unlink_telling.new.self in
-    performs-done Done c.requires
+    performs-done Done c.requires.there
     (subst (λ o. MakesCall client (Unlink path) old new (Ok (outcome_reply o))) c.in-Ok.is (said.makes client)) refl
     (λ s a passes. law_of_unlinked g.R.Rule.shows (upper_of old) (upper_of new) (lowers_of old.layers) s client path passes
     c.in-Ok.object (rw c.in-Ok.is at said.object) c.args.self.now.notifier c.unlinked.new.self a.tracks c.lawful.ensures.known c.unlinked.ensures)
 
 pub returns-in-Err : goal.returns-in-Err
 returns-in-Err g c =
-    performs-refused (Refused c.in-Err.errno) c.requires
+    performs-refused (Refused c.in-Err.errno) c.requires.there
     (subst (λ o. MakesCall c.args.client (Unlink c.args.path.now) c.args.self.now.mount c.unlink_telling.new.self (Ok (outcome_reply o))) c.in-Err.is
     (c.in_ok-object.ensures.makes c.args.client))
     (λ s. refl) (λ same. cc)

@@ -1,5 +1,5 @@
-use Rattle.rename_redirect.proofs.Sights.{seen-directory, seen-refused, seen-some, walk-nothing, walk-refused, walk-some}
-use Rattle.rename_redirect.proofs.seen.there.Goals as goal
+use Rattle.make_remove.proofs.Sights.{seen-directory, seen-refused, seen-some, walk-nothing, walk-refused, walk-some}
+use Rattle.make_remove.proofs.seen.there.Goals as goal
 
 pub returns-in-Err-clause-refused : goal.returns-in-Err-clause-refused
 returns-in-Err-clause-refused c = λ l p h. walk-refused l p c.in-Err.errno (seen-refused l p c.args.seen c.in-Err.errno c.in-Err.is h)

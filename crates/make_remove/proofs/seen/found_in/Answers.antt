@@ -1,7 +1,7 @@
 use Rattle.std.proofs.Common.{reverse, sym, subst}
 use Rattle.merged_lookup.specs.Merged.{parent, IsAnswer, IsStackOf}
-use Rattle.rename_redirect.proofs.Sights.{answer-none, answer-some, top-inode, top-some}
-use Rattle.rename_redirect.proofs.seen.found_in.Goals as goal
+use Rattle.make_remove.proofs.Sights.{answer-none, answer-some, top-inode, top-some}
+use Rattle.make_remove.proofs.seen.found_in.Goals as goal
 
 pub returns-in-Inode : goal.returns-in-Inode
 returns-in-Inode c = top-inode c.args.layers.now c.args.path.now c.args.top c.in-Inode.place c.in-Inode.is c.requires.top

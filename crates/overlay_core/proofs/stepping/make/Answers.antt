@@ -1,0 +1,18 @@
+use Rattle.std.proofs.Common.{subst}
+use Rattle.merged_lookup.specs.Merged.{lowers_of}
+use Rattle.work_dir.specs.declared.next.Next.TheVariants.{Finish}
+use Rattle.overlay_core.specs.Steps.{held_by, without}
+use Rattle.overlay_core.proofs.StepsMade.{made-over}
+use Rattle.overlay_core.proofs.stepping.make.Goals as goal
+
+pub finish-requires-clause-state : goal.finish-requires-clause-state
+finish-requires-clause-state g c = rw c.remember.ensures c.requires.state
+
+pub returns-clause-makes : goal.returns-clause-makes
+returns-clause-makes g c =
+    made-over g.R.Rule.shows c.args.watched.now c.finish.new.watched c.remember.new.self
+    (without c.args.work.now c.args.job.now) c.held-temp.new.work c.held-temp.new.work
+    c.args.job.now c.finish.new.job c.finish.result Finish (held_by c.args.work.now c.args.job.now)
+    c.remember.ensures c.held-temp.ensures.table
+    (c.finish.ensures.makes c.held-temp.new.work Finish (held_by c.args.work.now c.args.job.now) tt
+    (rw c.remember.ensures (c.held-temp.ensures.temps (lowers_of c.args.watched.now.mount.layers) c.requires.temps).0))
