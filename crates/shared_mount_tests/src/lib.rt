@@ -1,9 +1,11 @@
-//! Tests of a mount that threads share, and of its server: full histories, stale sessions, a gate
-//! that stops, threads whose calls race, and clients of a Unix socket.
+//! Tests of a mount that threads share, and of its server: full histories, stale sessions, gates
+//! that stop and hold calls, threads whose calls race, and clients of a Unix socket.
 #![tactic(auto)]
 
 #[cfg(test)]
 mod doors;
+#[cfg(test)]
+mod gates;
 #[cfg(test)]
 mod mounts;
 #[cfg(test)]

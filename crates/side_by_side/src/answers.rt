@@ -30,3 +30,18 @@ pub fn reply_line(alloc: Global, client: u32, reply: &Reply) -> Result<String, A
     let line = ReplyLine { client, reply };
     format!(in alloc; "{line}\n")
 }
+
+/// The line of a call that has steps left.
+pub fn more_line(alloc: Global, client: u32) -> Result<String, AllocError> {
+    format!(in alloc; "{client} more\n")
+}
+
+/// The line of a call that was given up.
+pub fn dropped_line(alloc: Global, client: u32) -> Result<String, AllocError> {
+    format!(in alloc; "{client} dropped\n")
+}
+
+/// The line of how many temps there are.
+pub fn work_line(alloc: Global, temps: usize) -> Result<String, AllocError> {
+    format!(in alloc; "work {temps}\n")
+}

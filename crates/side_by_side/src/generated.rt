@@ -32,8 +32,7 @@ pub fn play_generated<R: Files + AllocGlobal + Print>(
     (file, layers): (&str, u32),
 ) -> io::Result<()> {
     let follows = fs::read(rt, file)?;
-    let mut makes = Vec::from_slice(rt.alloc(), REDIRECTS)?;
-    makes.extend_from_slice(follows.as_slice())?;
+    let makes = with_redirects(rt.alloc(), follows.as_slice())?;
     let mut count = 0u64;
     for seed in 0..SCRIPTS {
         let manifest = if seed & 1 == 0 { &follows } else { &makes };
@@ -44,6 +43,13 @@ pub fn play_generated<R: Files + AllocGlobal + Print>(
         }
     }
     println!(rt; "{count} generated scripts over {file} agree")
+}
+
+/// A manifest as that of a mount that makes redirects.
+pub fn with_redirects(alloc: Global, manifest: &[u8]) -> Result<Vec<u8>, AllocError> {
+    let mut makes = Vec::from_slice(alloc, REDIRECTS)?;
+    makes.extend_from_slice(manifest)?;
+    Ok(makes)
 }
 
 fn script_difference(

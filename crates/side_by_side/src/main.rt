@@ -10,25 +10,30 @@ mod engine;
 mod entries;
 mod expanded;
 mod generated;
+mod generated_steps;
 mod history;
 mod kept_trees;
 mod layer_lines;
 mod merged;
 mod mount;
 mod opening;
+mod pending;
 mod plain_layer;
 mod playing;
 mod random_calls;
+mod random_steps;
 mod random_watches;
 mod rows;
 mod shared;
 mod shared_clients;
 mod sights;
+mod stepper;
 mod told_entries;
 mod told_layers;
 mod tree_lines;
 
 use crate::generated::play_generated;
+use crate::generated_steps::play_generated_steps;
 use crate::playing::{Verdict, judged};
 use crate::rows::rows_in;
 use std::hash::RandomState;
@@ -37,7 +42,7 @@ use std::sync::Wait;
 use std::{fs, io};
 
 /// The files of the rows, each on one subject.
-const FILES: [&str; 18] = [
+const FILES: [&str; 19] = [
     "look_up.rows",
     "kept.rows",
     "redirects.rows",
@@ -56,6 +61,7 @@ const FILES: [&str; 18] = [
     "opens.rows",
     "files.rows",
     "watches.rows",
+    "steps.rows",
 ];
 
 /// The manifests over which generated scripts are played, and how many layers each has.
@@ -79,7 +85,7 @@ impl Counts {
                 self.rows = self.rows.saturating_add(1);
                 self.mounts = self.mounts.saturating_add(1);
             }
-            Verdict::NoMount => self.rows = self.rows.saturating_add(1),
+            Verdict::NoMount | Verdict::NotShared => self.rows = self.rows.saturating_add(1),
             Verdict::Differs(_) => (),
         }
     }
@@ -96,7 +102,7 @@ fn main(rt: HostRuntime) -> io::Result<()> {
     for manifest in MANIFESTS {
         play_generated(&rt, keys, manifest)?;
     }
-    Ok(())
+    play_generated_steps(&rt, keys)
 }
 
 // Plays the rows of a file, tells of each, and counts those that agree.

@@ -1,21 +1,27 @@
 // The mount of a manifest, by the slow reference.
+use crate::answers::{not_taken_line, reply_line};
 use crate::entries::layers_of;
 use crate::history::History;
 use crate::layer_lines::push_layer;
 use crate::opening::reference_of;
+use crate::pending::Begun;
 use crate::plain_layer::PlainLayer;
 use crate::tree_lines::push_tree;
+use ov_base::{Call, Errno};
 use plain_reference::Reference;
 use std::alloc::{AllocError, Global};
+use std::collections::BTreeMap;
 use toml::{Table, Value};
 
-/// The reference, what its mount began with, and its history.
+/// The reference, what its mount began with, its history, and the calls in steps of its clients.
 #[derive(Drop)]
 pub struct PlainMount {
     pub reference: Reference,
     manifest: Table,
     pub layers: usize,
     pub history: History,
+    /// The call of each client that has begun one and to which no answer came.
+    pub begun: BTreeMap<u32, Begun>,
 }
 
 /// The mount of a manifest. None where it isn't one.
@@ -32,6 +38,7 @@ pub fn mount_of(alloc: Global, manifest: &[u8]) -> Result<Option<PlainMount>, Al
         manifest,
         layers,
         history,
+        begun: BTreeMap::new(alloc),
     }))
 }
 
@@ -52,6 +59,25 @@ fn makes_redirects(manifest: &Table) -> bool {
 }
 
 impl PlainMount {
+    /// Whether a client is attached and has begun no call.
+    pub fn may_call(&self, client: u32) -> bool {
+        self.reference.is_attached(client) && !self.begun.contains_key(&client)
+    }
+
+    /// The line of a call, which is made if the history has a place for it.
+    pub fn make(&mut self, alloc: Global, client: u32, call: &Call) -> Result<String, AllocError> {
+        if self.history.room() == 0 {
+            return not_taken_line(alloc, client, Errno::ENOSPC);
+        }
+        match self.reference.call(client, call)? {
+            Some(reply) => {
+                self.history.finish();
+                reply_line(alloc, client, &reply)
+            }
+            None => String::from_str(alloc, "not offered\n"),
+        }
+    }
+
     /// The lines of the merged tree.
     pub fn merge_lines(&self, alloc: Global) -> Result<String, AllocError> {
         let mut lines = String::new(alloc);

@@ -1,12 +1,13 @@
 // A row on the engine, on the slow reference and on a mount that threads share; a script over a
 // manifest on the first two.
-use crate::answers::{attached_line, detached_line, not_attached_line, not_taken_line, reply_line};
+use crate::answers::{attached_line, detached_line, not_attached_line, not_taken_line};
 use crate::engine::{look_ups_difference, run_of};
 use crate::mount::{PlainMount, mount_of};
+use crate::pending::{counted, dropped, has_steps, started, stepped};
 use crate::rows::Row;
 use crate::shared::shared_text;
 use crate::told_layers::layer_difference;
-use ov_base::{Call, Errno};
+use ov_base::Errno;
 use ov_script::{CallText, Command, command_of};
 use std::alloc::{AllocError, Global};
 use std::hash::RandomState;
@@ -30,6 +31,8 @@ pub enum Verdict {
     Agrees,
     /// The engine refuses the manifest as is wanted, so that there is no mount.
     NoMount,
+    /// The engine and the slow reference do. A mount that threads share has no calls in steps.
+    NotShared,
     Differs(String),
 }
 
@@ -56,6 +59,9 @@ pub fn judged<R: AllocGlobal + Wait>(
     }
     if let Some(found) = reference_difference(alloc, manifest, script, wanted)? {
         return Ok(Verdict::Differs(found));
+    }
+    if script.is_some_and(has_steps) {
+        return Ok(Verdict::NotShared);
     }
     let shared = shared_text(rt, alloc, keys, manifest, script)?;
     if shared.as_bytes() != wanted {
@@ -119,7 +125,7 @@ fn played_difference(
     let mut number = 0u64;
     for line in script.split(|byte| *byte == b'\n') {
         number = number.saturating_add(1);
-        match answer_of(alloc, mount, line)? {
+        match answer_of(alloc, mount, line, left)? {
             Answer::Layer(index) => {
                 let rest = after_layer(left);
                 let told = left.strip_suffix(rest).unwrap_or(left);
@@ -191,22 +197,33 @@ fn is_object_below_root(lines: &[u8]) -> bool {
     }
 }
 
-fn answer_of(alloc: Global, mount: &mut PlainMount, line: &[u8]) -> Result<Answer, AllocError> {
+// What the reference answers to a line, where these are the lines that are wanted.
+fn answer_of(
+    alloc: Global,
+    mount: &mut PlainMount,
+    line: &[u8],
+    wanted: &[u8],
+) -> Result<Answer, AllocError> {
     if matches!(line, [] | [b'#', ..]) {
         return Ok(Answer::Lines(String::new(alloc)));
     }
     let Ok(command) = command_of(line) else {
         return Ok(Answer::BadCommand);
     };
-    match command {
-        Command::Attach => attached(alloc, mount),
-        Command::Detach { client } => detached(alloc, mount, client),
-        Command::Call { client, call } => called(alloc, mount, client, &call),
-        Command::Layer { index } => Ok(layer_answer(index as usize, mount.layers)),
-        Command::Merge => Ok(Answer::Lines(mount.merge_lines(alloc)?)),
-        Command::Start { .. } | Command::Step { .. } | Command::Drop { .. } | Command::Work => {
-            Ok(Answer::BadCommand)
-        }
+    let lines = match command {
+        Command::Attach => Some(attached(alloc, mount)?),
+        Command::Detach { client } => detached(alloc, mount, client)?,
+        Command::Call { client, call } => called(alloc, mount, client, &call)?,
+        Command::Start { client, call } => started(alloc, mount, client, &call)?,
+        Command::Step { client, steps } => stepped(alloc, mount, client, steps, wanted)?,
+        Command::Drop { client } => dropped(alloc, mount, client)?,
+        Command::Layer { index } => return Ok(layer_answer(index as usize, mount.layers)),
+        Command::Merge => Some(mount.merge_lines(alloc)?),
+        Command::Work => Some(counted(alloc, mount, wanted)?),
+    };
+    match lines {
+        Some(lines) => Ok(Answer::Lines(lines)),
+        None => Ok(Answer::BadCommand),
     }
 }
 
@@ -218,16 +235,16 @@ fn layer_answer(index: usize, layers: usize) -> Answer {
     }
 }
 
-fn attached(alloc: Global, mount: &mut PlainMount) -> Result<Answer, AllocError> {
+fn attached(alloc: Global, mount: &mut PlainMount) -> Result<String, AllocError> {
     if mount.history.refuses_attach() {
-        return Ok(Answer::Lines(not_attached_line(alloc, Errno::ENOSPC)?));
+        return not_attached_line(alloc, Errno::ENOSPC);
     }
     match mount.reference.attach(program_tags(alloc)?)? {
         Some(client) => {
             mount.history.attach();
-            Ok(Answer::Lines(attached_line(alloc, u64::from(client))?))
+            attached_line(alloc, u64::from(client))
         }
-        None => Ok(Answer::Lines(not_attached_line(alloc, Errno::ENFILE)?)),
+        None => not_attached_line(alloc, Errno::ENFILE),
     }
 }
 
@@ -240,45 +257,32 @@ fn program_tags(alloc: Global) -> Result<Vec<u32>, AllocError> {
     Ok(tags)
 }
 
-fn detached(alloc: Global, mount: &mut PlainMount, client: u32) -> Result<Answer, AllocError> {
-    if mount.reference.detach(client) {
-        mount.history.detach();
-        Ok(Answer::Lines(detached_line(alloc, client)?))
-    } else {
-        Ok(Answer::BadCommand)
+// Detaches a client, which gives up the call that it has begun. None where it isn't attached.
+fn detached(
+    alloc: Global,
+    mount: &mut PlainMount,
+    client: u32,
+) -> Result<Option<String>, AllocError> {
+    if !mount.reference.detach(client) {
+        return Ok(None);
     }
+    mount.begun.remove(&client);
+    mount.history.detach();
+    Ok(Some(detached_line(alloc, client)?))
 }
 
+// None where the client can't make a call.
 fn called(
     alloc: Global,
     mount: &mut PlainMount,
     client: u32,
     call: &CallText<'_>,
-) -> Result<Answer, AllocError> {
-    if !mount.reference.is_attached(client) {
-        return Ok(Answer::BadCommand);
+) -> Result<Option<String>, AllocError> {
+    if !mount.may_call(client) {
+        return Ok(None);
     }
     match call.call(alloc)? {
-        Err(errno) => Ok(Answer::Lines(not_taken_line(alloc, client, errno)?)),
-        Ok(call) => Ok(Answer::Lines(made(alloc, mount, client, &call)?)),
-    }
-}
-
-// The line of a call, which is made if the history has a place for it.
-fn made(
-    alloc: Global,
-    mount: &mut PlainMount,
-    client: u32,
-    call: &Call,
-) -> Result<String, AllocError> {
-    if mount.history.room() == 0 {
-        return not_taken_line(alloc, client, Errno::ENOSPC);
-    }
-    match mount.reference.call(client, call)? {
-        Some(reply) => {
-            mount.history.finish();
-            reply_line(alloc, client, &reply)
-        }
-        None => String::from_str(alloc, "not offered\n"),
+        Err(errno) => Ok(Some(not_taken_line(alloc, client, errno)?)),
+        Ok(call) => Ok(Some(mount.make(alloc, client, &call)?)),
     }
 }

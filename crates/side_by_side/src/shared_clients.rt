@@ -170,8 +170,8 @@ fn refused(alloc: Global, client: u32, why: Refused) -> Result<Answer, AllocErro
     Ok(Answer::Lines(not_taken_line(alloc, client, errno)?))
 }
 
-// Other hooks of the same tags and callbacks.
-fn copies_of<F: Callback + Copy, R: Rule>(
+/// Other hooks of the same tags and callbacks.
+pub fn copies_of<F: Callback + Copy, R: Rule>(
     alloc: Global,
     hooks: &[Hook<F, R>],
 ) -> Result<Vec<Hook<F, R>>, AllocError> {

@@ -14,6 +14,8 @@ mod freed_places;
 #[cfg(test)]
 mod hooks;
 #[cfg(test)]
+mod interleaved;
+#[cfg(test)]
 mod look_ups;
 #[cfg(test)]
 mod manifests;

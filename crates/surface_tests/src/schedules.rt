@@ -14,7 +14,7 @@ use watch_table::{Callback, Hook, Rule};
 const DIRECTORY: &str = "layer = [{}, {entry = [{path = '/d', kind = 'dir'}]}]";
 
 // Gives up what is left of jobs, the last one first.
-fn drop_all<F: Callback + Copy, H: Rule>(core: &mut Core<F, H>, jobs: Vec<Job>) {
+pub fn drop_all<F: Callback + Copy, H: Rule>(core: &mut Core<F, H>, jobs: Vec<Job>) {
     let mut jobs = jobs;
     'jobs: while let Some(job) = jobs.pop() {
         let _ = core.drop_job(job);

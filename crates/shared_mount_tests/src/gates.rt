@@ -1,0 +1,354 @@
+// Calls that a gate holds between their steps, while other calls are made, and calls that it stops.
+use crate::mounts::{Silent, path_of, reply_in};
+use crate::opened::{Trial, named};
+use locked_history::{Gate, Mount, MountName, Open, Pass, Past, Receipt, Refused, Session};
+use merged_lookup::Topmost;
+use ov_base::{Call, OpenFlags, Path, Reply};
+use std::alloc::{AllocError, Global};
+use std::hash::RandomState;
+use std::process::Abort;
+use std::rt::Clock;
+use std::sync::Wait;
+use std::sync::atomic::{AtomicBool, Ordering};
+use std::test::Fail;
+use std::thread;
+use std::thread::Threads;
+use std::time::Duration;
+use watch_table::{AnyAnswer, Callback, Rule};
+
+/// In the lower layer a file of three chunks, and one of a byte.
+const FILES: &str = "history = 10
+layer = [{}, {entry = [
+  {path = '/f', kind = 'file', zeros = 8193},
+  {path = '/g', kind = 'file', text = 'x'},
+]}]";
+
+/// `open w /f` begins a temp, copies three chunks, and is made: so many steps.
+const STEPS: u64 = 5;
+
+/// How often a thread looks whether another went on, and how many microseconds it sleeps between.
+const TURNS_MAX: u32 = 100_000;
+
+const TURN: u64 = 10;
+
+// Whether a flag is set before so many turns are over.
+fn comes<H: Clock>(clock: &H, flag: &AtomicBool) -> bool {
+    for _turn in 0..TURNS_MAX {
+        if flag.load(Ordering::SeqCst) {
+            return true;
+        }
+        thread::sleep(clock, Duration::from_micros(TURN));
+    }
+    false
+}
+
+/// Holds a call before one of its steps, until another client's call is answered.
+#[derive(Drop)]
+struct Holding<'a, H: Clock> {
+    clock: &'a H,
+    step: u64,
+    reached: AtomicBool,
+    answered: AtomicBool,
+}
+
+impl<H: Clock> Gate for Holding<'_, H> {
+    fn pass(&self, _client: u64, step: u64) -> Pass {
+        if step != self.step {
+            return Pass::On;
+        }
+        self.reached.store(true, Ordering::SeqCst);
+        if comes(self.clock, &self.answered) {
+            Pass::On
+        } else {
+            Pass::Stop
+        }
+    }
+}
+
+// `open` for writing, for appending too where that is asked.
+fn opening(alloc: Global, text: &str, append: bool) -> Result<Call, AllocError> {
+    let path = path_of(alloc, text)?;
+    let flags = OpenFlags {
+        reads: false,
+        writes: true,
+        create: false,
+        exclusive: false,
+        truncate: false,
+        append,
+        directory: false,
+        unknown: false,
+    };
+    Ok(Call::Open {
+        path,
+        flags,
+        mode: 0,
+    })
+}
+
+// Makes a call that the gate holds.
+fn is_held<N: MountName, F: Callback, R: Rule, H: Clock + Wait>(
+    rt: &H,
+    mount: &Mount<N, F, R>,
+    session: Session,
+    call: Call,
+    gate: &Holding<'_, H>,
+) -> Option<Receipt<N>> {
+    let mut session = session;
+    mount.call(rt, &mut session, call, gate).ok()
+}
+
+// Makes a call while the gate holds another, and tells the gate.
+fn goes_between<N: MountName, F: Callback, R: Rule, H: Clock + Wait>(
+    rt: &H,
+    mount: &Mount<N, F, R>,
+    session: Session,
+    call: Call,
+    gate: &Holding<'_, H>,
+) -> Option<Receipt<N>> {
+    if !comes(rt, &gate.reached) {
+        return None;
+    }
+    let mut session = session;
+    let made = mount.call(rt, &mut session, call, &Open).ok();
+    gate.answered.store(true, Ordering::SeqCst);
+    made
+}
+
+// The session of a new client.
+fn attached<N: MountName, F: Callback + Drop, R: Rule, H: Wait>(
+    rt: &H,
+    alloc: Global,
+    mount: &Mount<N, F, R>,
+) -> Result<Session, Fail> {
+    let (session, _came) = mount.attach(rt, Vec::new(alloc)).map_err(|_| "attach")?;
+    Ok(session)
+}
+
+// Both calls, each in a thread of its own.
+fn both<
+    N: MountName + Send + Sync,
+    F: Callback + Drop + Send,
+    R: Rule + Send,
+    H: Threads + Wait + Clock + Sync,
+>(
+    rt: &H,
+    alloc: Global,
+    mount: &Mount<N, F, R>,
+    step: u64,
+) -> Result<(Option<Receipt<N>>, Option<Receipt<N>>), Fail> {
+    let first = attached(rt, alloc, mount)?;
+    let second = attached(rt, alloc, mount)?;
+    let copies = opening(alloc, "/f", false)?;
+    let other = opening(alloc, "/g", true)?;
+    let gate = Holding {
+        clock: rt,
+        step,
+        reached: AtomicBool::new(false),
+        answered: AtomicBool::new(false),
+    };
+    let held = &gate;
+    Ok(thread::join(
+        rt,
+        move || is_held(rt, mount, first, copies, held),
+        move || goes_between(rt, mount, second, other, held),
+    ))
+}
+
+// Whether a call was answered with the client's first descriptor, at this place.
+fn is_opened<N: MountName, F: Callback, R: Rule>(
+    mount: &Mount<N, F, R>,
+    made: Option<Receipt<N>>,
+    place: usize,
+) -> bool {
+    let Some(mut receipt) = made else {
+        return false;
+    };
+    let at = receipt.place() == place;
+    at && matches!(
+        reply_in(mount.event_of(&mut receipt)),
+        Some(Reply::Descriptor(0))
+    )
+}
+
+/// While a call is held before a step, another client's call is answered; then it goes on.
+pub fn lets_through<
+    N: MountName + Send + Sync,
+    F: Callback + Drop + Send,
+    R: Rule + Send,
+    H: Threads + Wait + Abort + Clock + Sync,
+>(rt: &H, alloc: Global, mount: Mount<N, F, R>, step: u64) -> Result<(), Fail> {
+    let (held, between) = both(rt, alloc, &mount, step)?;
+    assert!(rt; is_opened(&mount, between, 2));
+    assert!(rt; is_opened(&mount, held, 3));
+    let (past, _left) = mount.finish(Vec::new(alloc));
+    assert_eq!(rt; past.len(), 4);
+    assert_eq!(rt; past.core().temps(), 0);
+    Ok(())
+}
+
+#[test]
+fn gate_lets_others_through(rt: HostRuntime) -> Result<(), Fail> {
+    let keys = RandomState::new(&rt)?;
+    for step in 2..=STEPS {
+        let trial = Trial::LetsThrough(step);
+        named::<Silent, AnyAnswer, _>(&rt, rt.alloc(), keys, FILES, trial)?;
+    }
+    Ok(())
+}
+
+/// Stops a call before one of its steps.
+#[derive(Drop)]
+struct Stopping {
+    step: u64,
+}
+
+impl Gate for Stopping {
+    fn pass(&self, _client: u64, step: u64) -> Pass {
+        if step == self.step {
+            Pass::Stop
+        } else {
+            Pass::On
+        }
+    }
+}
+
+// Whether `/f` is the lower layer's file still, and no temp is left.
+fn is_untouched<N: MountName, F: Callback, R: Rule>(alloc: Global, past: &Past<N, F, R>) -> bool {
+    let Ok(path) = path_of(alloc, "/f") else {
+        return false;
+    };
+    let core = past.core();
+    match core.layers().walk_topmost(&path) {
+        Ok(Topmost::Inode(place)) => place.layer == 1 && core.temps() == 0,
+        _ => false,
+    }
+}
+
+// The gate stops a call before this step, and the session's number stays.
+fn stops_one<N: MountName, F: Callback + Drop, R: Rule, H: Wait + Abort>(
+    rt: &H,
+    alloc: Global,
+    mount: &Mount<N, F, R>,
+    step: u64,
+) -> Result<(), Fail> {
+    let mut session = attached(rt, alloc, mount)?;
+    let copies = opening(alloc, "/f", false)?;
+    let gate = Stopping { step };
+    let stopped = mount.call(rt, &mut session, copies, &gate).err();
+    assert_eq!(rt; stopped, Some(Refused::Stopped));
+    assert_eq!(rt; session.number, 2);
+    Ok(())
+}
+
+/// A call that is stopped before a step is no entry, and leaves neither a copy nor a temp.
+pub fn stops_at<N: MountName, F: Callback + Drop, R: Rule, H: Wait + Abort>(
+    rt: &H,
+    alloc: Global,
+    mount: Mount<N, F, R>,
+    step: u64,
+) -> Result<(), Fail> {
+    stops_one(rt, alloc, &mount, step)?;
+    let (past, _left) = mount.finish(Vec::new(alloc));
+    assert_eq!(rt; past.len(), 1);
+    assert!(rt; is_untouched(alloc, &past));
+    Ok(())
+}
+
+#[test]
+fn gate_stops_at_each_step(rt: HostRuntime) -> Result<(), Fail> {
+    let keys = RandomState::new(&rt)?;
+    for step in 1..=STEPS {
+        let trial = Trial::StopsAt(step);
+        named::<Silent, AnyAnswer, _>(&rt, rt.alloc(), keys, FILES, trial)?;
+    }
+    Ok(())
+}
+
+/// Before the step behind a chunk it uses copies of the session whose call it holds.
+#[derive(Drop)]
+struct Meddling<'a, N: MountName, F: Callback + Drop, R: Rule, H: Wait> {
+    rt: &'a H,
+    alloc: Global,
+    mount: &'a Mount<N, F, R>,
+    session: Session,
+    told: AtomicBool,
+}
+
+impl<N: MountName, F: Callback + Drop, R: Rule, H: Wait> Meddling<'_, N, F, R, H> {
+    // A detach by one copy is refused, and a `stat` by another is answered.
+    fn meddles(&self) -> bool {
+        let detached = self.mount.detach(self.rt, self.session).err();
+        let Ok(path) = path_of(self.alloc, "/g") else {
+            return false;
+        };
+        let mut copy = self.session;
+        let looked = self
+            .mount
+            .call(self.rt, &mut copy, Call::Stat { path }, &Open);
+        detached == Some(Refused::Session) && looked.is_ok()
+    }
+}
+
+impl<N: MountName, F: Callback + Drop, R: Rule, H: Wait> Gate for Meddling<'_, N, F, R, H> {
+    fn pass(&self, _client: u64, step: u64) -> Pass {
+        if step == 3 {
+            self.told.store(self.meddles(), Ordering::SeqCst);
+        }
+        Pass::On
+    }
+}
+
+// Whether the gate was told what it is to be, and why the call that it held was refused.
+fn meddled<'a, N: MountName, F: Callback + Drop, R: Rule, H: Wait>(
+    rt: &'a H,
+    alloc: Global,
+    mount: &'a Mount<N, F, R>,
+    session: &mut Session,
+) -> Result<(bool, Option<Refused>), AllocError> {
+    let copies = opening(alloc, "/f", false)?;
+    let gate = Meddling {
+        rt,
+        alloc,
+        mount,
+        session: *session,
+        told: AtomicBool::new(false),
+    };
+    let refused = mount.call(rt, session, copies, &gate).err();
+    Ok((gate.told.load(Ordering::SeqCst), refused))
+}
+
+// The call that the gate held is refused, since a copy of its session used the number.
+fn refuses_held<N: MountName, F: Callback + Drop, R: Rule, H: Wait + Abort>(
+    rt: &H,
+    alloc: Global,
+    mount: &Mount<N, F, R>,
+) -> Result<(), Fail> {
+    let mut session = attached(rt, alloc, mount)?;
+    let (told, refused) = meddled(rt, alloc, mount, &mut session)?;
+    assert!(rt; told);
+    assert_eq!(rt; refused, Some(Refused::Session));
+    assert_eq!(rt; session.number, 2);
+    session.number = 3;
+    let _gone = mount.detach(rt, session).map_err(|_| "detach")?;
+    Ok(())
+}
+
+/// A client whose call is on its way isn't detached. A call by a copy of its session is answered;
+/// the one that was on its way is refused then, and its temp goes.
+pub fn is_meddled_with<N: MountName, F: Callback + Drop, R: Rule, H: Wait + Abort>(
+    rt: &H,
+    alloc: Global,
+    mount: Mount<N, F, R>,
+) -> Result<(), Fail> {
+    refuses_held(rt, alloc, &mount)?;
+    let (past, _left) = mount.finish(Vec::new(alloc));
+    assert_eq!(rt; past.len(), 3);
+    assert!(rt; is_untouched(alloc, &past));
+    Ok(())
+}
+
+#[test]
+fn held_call_keeps_its_client(rt: HostRuntime) -> Result<(), Fail> {
+    let keys = RandomState::new(&rt)?;
+    named::<Silent, AnyAnswer, _>(&rt, rt.alloc(), keys, FILES, Trial::IsMeddledWith)
+}

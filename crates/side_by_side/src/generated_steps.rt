@@ -1,0 +1,252 @@
+// Scripts of calls in steps made by a seeded generator, on the engine and on the slow reference.
+use crate::dice::Dice;
+use crate::engine::{look_ups_difference_in_turn, run_of};
+use crate::expanded::push_line;
+use crate::generated::with_redirects;
+use crate::playing::reference_difference;
+use crate::random_calls::push_open_of;
+use crate::random_steps::{FILES, PLACES, push_turn};
+use crate::random_watches::push_arm_of;
+use crate::stepper::Stepper;
+use ov_server::{core_of, hooks_by_slot};
+use std::alloc::{AllocError, Global};
+use std::hash::RandomState;
+use std::rt::Files;
+use std::{fs, io};
+use watch_table::{Callback, Hook, Rule};
+
+/// The manifest over which they are played, in which repeated words are written once.
+const MANIFEST: &str = "steps.toml";
+
+/// How many layers it has.
+const LAYERS: u32 = 3;
+
+/// How many scripts are played, and how many lines each has: of arms and opens at first, then of
+/// calls in steps and others between them, and more after a client went.
+const SCRIPTS: u64 = 5_000;
+
+const ARMS: u32 = 4;
+
+const OPENS: u32 = 3;
+
+const LINES: u32 = 60;
+
+const LINES_MORE: u32 = 40;
+
+/// Plays generated scripts, half of them on a mount that makes redirects, and tells how many get
+/// the same lines from the engine and from the reference.
+pub fn play_generated_steps<R: Files + AllocGlobal + Print>(
+    rt: &R,
+    keys: RandomState,
+) -> io::Result<()> {
+    let text = fs::read_to_string(rt, MANIFEST)?;
+    let follows = expanded(rt.alloc(), text.as_str())?;
+    let makes = with_redirects(rt.alloc(), follows.as_slice())?;
+    let mut count = 0u64;
+    for seed in 0..SCRIPTS {
+        let manifest = if seed & 1 == 0 { &follows } else { &makes };
+        match step_difference(rt.alloc(), keys, manifest.as_slice(), seed)? {
+            None => count = count.saturating_add(1),
+            Some(found) => println!(rt; "script {seed} in steps differs: {found}")?,
+        }
+    }
+    println!(rt; "{count} generated scripts in steps agree")
+}
+
+fn expanded(alloc: Global, text: &str) -> Result<Vec<u8>, AllocError> {
+    let mut bytes = Vec::new(alloc);
+    for line in text.lines() {
+        push_line(alloc, &mut bytes, line)?;
+    }
+    Ok(bytes)
+}
+
+// How the engine and the reference differ in what they answer to the script of a seed.
+fn step_difference(
+    alloc: Global,
+    keys: RandomState,
+    manifest: &[u8],
+    seed: u64,
+) -> io::Result<Option<String>> {
+    let hooks = hooks_by_slot(alloc)?;
+    match drafted(alloc, keys, manifest, hooks.as_slice(), seed)? {
+        Some(script) => script_difference(alloc, keys, seed, (manifest, script.as_bytes())),
+        None => Ok(Some(String::from_str(alloc, "there is no mount")?)),
+    }
+}
+
+// A further number of kept look-ups goes by turns, and each number goes with either manifest.
+fn script_difference(
+    alloc: Global,
+    keys: RandomState,
+    seed: u64,
+    (manifest, script): (&[u8], &[u8]),
+) -> io::Result<Option<String>> {
+    let engine = run_of(alloc, keys, manifest, Some(script))?;
+    let text = engine.text.as_slice();
+    let kept = look_ups_difference_in_turn(alloc, keys, seed >> 1, (manifest, script), text)?;
+    if let Some(kept) = kept {
+        return Ok(Some(format!(in alloc; "with {kept} look-ups kept")?));
+    }
+    let found = reference_difference(alloc, manifest, Some(script), text)?;
+    Ok(found)
+}
+
+// The script of a seed. None where there is no mount.
+fn drafted<F: Callback + Copy, R: Rule>(
+    alloc: Global,
+    keys: RandomState,
+    manifest: &[u8],
+    hooks: &[Hook<F, R>],
+    seed: u64,
+) -> Result<Option<String>, AllocError> {
+    let Ok(core) = core_of::<F, R>(alloc, keys, manifest) else {
+        return Ok(None);
+    };
+    let mut draft = Draft {
+        dice: Dice::new(seed),
+        text: String::new(alloc),
+        stepper: Stepper::new(alloc, core),
+    };
+    let outcome = draft.fill(alloc, hooks);
+    let text = draft.end();
+    outcome?;
+    Ok(Some(text))
+}
+
+// A script on its way, and the mount on which its lines were played, which tells whose call goes
+// on.
+struct Draft<F: Callback, R: Rule> {
+    dice: Dice,
+    text: String,
+    stepper: Stepper<F, R>,
+}
+
+impl<F: Callback + Copy, R: Rule> Draft<F, R> {
+    // Three clients come, and some watch and open files. Then they make calls in steps, one goes,
+    // another comes, and there are more. What stands at some paths is read, while calls may go on.
+    fn fill(&mut self, alloc: Global, hooks: &[Hook<F, R>]) -> Result<(), AllocError> {
+        let mut lines = String::from_str(alloc, "attach\nattach\nattach\n")?;
+        push_first(&mut self.dice, &mut lines)?;
+        self.add(alloc, hooks, &mut lines)?;
+        self.add_turns(alloc, hooks, LINES, &["0", "1", "2"])?;
+        lines.push_str("1 detach\nattach\n")?;
+        self.add(alloc, hooks, &mut lines)?;
+        self.add_turns(alloc, hooks, LINES_MORE, &["0", "2", "3"])?;
+        push_readings(alloc, &mut lines)?;
+        self.add(alloc, hooks, &mut lines)?;
+        self.add_ends(alloc, hooks, &["0", "2", "3"])?;
+        push_sights(alloc, &mut lines)?;
+        self.add(alloc, hooks, &mut lines)
+    }
+
+    // Adds so many lines of these clients.
+    fn add_turns(
+        &mut self,
+        alloc: Global,
+        hooks: &[Hook<F, R>],
+        count: u32,
+        clients: &[&'static str],
+    ) -> Result<(), AllocError> {
+        let mut line = String::new(alloc);
+        for _ in 0..count {
+            let client = self.dice.pick(clients);
+            let is_calling = self.stepper.is_calling(number_of(client));
+            push_turn(&mut self.dice, client, is_calling, &mut line)?;
+            self.add(alloc, hooks, &mut line)?;
+        }
+        Ok(())
+    }
+
+    // Ends the calls of these clients, which read what they have heard then.
+    fn add_ends(
+        &mut self,
+        alloc: Global,
+        hooks: &[Hook<F, R>],
+        clients: &[&'static str],
+    ) -> Result<(), AllocError> {
+        let mut lines = String::new(alloc);
+        for client in clients {
+            let is_calling = self.stepper.is_calling(number_of(client));
+            push_end(client, is_calling, &mut lines)?;
+        }
+        self.add(alloc, hooks, &mut lines)
+    }
+
+    // Plays lines and adds them to the script. None are left.
+    fn add(
+        &mut self,
+        alloc: Global,
+        hooks: &[Hook<F, R>],
+        lines: &mut String,
+    ) -> Result<(), AllocError> {
+        self.stepper.play(alloc, hooks, lines.as_bytes())?;
+        self.text.push_str(lines.as_str())?;
+        lines.clear();
+        Ok(())
+    }
+
+    // The script.
+    fn end(self) -> String {
+        let Draft {
+            dice: _,
+            text,
+            stepper,
+        } = self;
+        stepper.end();
+        text
+    }
+}
+
+fn number_of(client: &str) -> u32 {
+    client.parse::<u32>().unwrap_or(0)
+}
+
+fn push_end(client: &str, is_calling: bool, lines: &mut String) -> Result<(), AllocError> {
+    if is_calling {
+        lines.push_str(client)?;
+        lines.push_str(" step 100000\n")?;
+    }
+    lines.push_str(client)?;
+    lines.push_str(" notices 65\n")
+}
+
+// Lines of arms and opens.
+fn push_first(dice: &mut Dice, lines: &mut String) -> Result<(), AllocError> {
+    for _ in 0..ARMS {
+        push_arm_of(dice, &["0", "1", "2"], lines)?;
+    }
+    for _ in 0..OPENS {
+        push_open_of(dice, &["0", "1", "2"], lines)?;
+    }
+    Ok(())
+}
+
+// A further client reads bytes at the beginning, about the end of the first chunk and at the end
+// of each file.
+fn push_readings(alloc: Global, lines: &mut String) -> Result<(), AllocError> {
+    lines.push_str("attach\n")?;
+    for path in FILES {
+        push_reading(alloc, path, lines)?;
+    }
+    for path in PLACES {
+        push_reading(alloc, path, lines)?;
+    }
+    Ok(())
+}
+
+fn push_reading(alloc: Global, path: &str, lines: &mut String) -> Result<(), AllocError> {
+    let opened = format!(in alloc; "4 open r {path}\n4 fstat 0\n4 read 0 20\n")?;
+    lines.push_str(opened.as_str())?;
+    lines.push_str("4 seek 0 4090 set\n4 read 0 12\n")?;
+    lines.push_str("4 seek 0 -9 end\n4 read 0 20\n4 close 0\n")
+}
+
+// The layers and the tree. In the end no client is there, and no temp.
+fn push_sights(alloc: Global, lines: &mut String) -> Result<(), AllocError> {
+    lines.push_str("work\n")?;
+    for layer in 0..LAYERS {
+        lines.push_str(format!(in alloc; "layer {layer}\n")?.as_str())?;
+    }
+    lines.push_str("merge\n0 detach\n2 detach\n3 detach\n4 detach\nwork\nlayer 0\n")
+}

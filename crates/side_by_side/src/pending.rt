@@ -1,0 +1,118 @@
+// Calls in steps on the reference, which has none: it keeps a call that was begun, and makes it at
+// once where its last step is wanted, or where no call has as many steps.
+use crate::answers::{dropped_line, more_line, not_taken_line, work_line};
+use crate::mount::PlainMount;
+use ov_base::Call;
+use ov_script::{CallText, Command, command_of};
+use std::alloc::{AllocError, Global};
+
+/// The most steps that a call takes.
+const STEPS_MOST: u64 = 66_049;
+
+/// A call that was begun, and how many steps of it were made.
+#[derive(Drop)]
+pub struct Begun {
+    call: Call,
+    steps: u64,
+}
+
+/// Whether a line of a script is of a call in steps.
+pub fn has_steps(script: &[u8]) -> bool {
+    script.split(|byte| *byte == b'\n').any(is_of_steps)
+}
+
+fn is_of_steps(line: &[u8]) -> bool {
+    matches!(
+        command_of(line),
+        Ok(Command::Start { .. } | Command::Step { .. } | Command::Drop { .. } | Command::Work)
+    )
+}
+
+/// Begins a call, which makes nothing of it. None where the client can't begin one.
+pub fn started(
+    alloc: Global,
+    mount: &mut PlainMount,
+    client: u32,
+    text: &CallText<'_>,
+) -> Result<Option<String>, AllocError> {
+    if !mount.may_call(client) {
+        return Ok(None);
+    }
+    match text.call(alloc)? {
+        Err(errno) => Ok(Some(not_taken_line(alloc, client, errno)?)),
+        Ok(call) => {
+            mount.begun.insert(client, Begun { call, steps: 0 })?;
+            Ok(Some(String::new(alloc)))
+        }
+    }
+}
+
+/// The line of so many steps. The call goes on where it may and the wanted lines begin with that;
+/// else it is made. None where the client has begun none.
+pub fn stepped(
+    alloc: Global,
+    mount: &mut PlainMount,
+    client: u32,
+    steps: u64,
+    wanted: &[u8],
+) -> Result<Option<String>, AllocError> {
+    let Some(
+        Begun {
+            call,
+            steps: before,
+        },
+    ) = mount.begun.remove(&client)
+    else {
+        return Ok(None);
+    };
+    let steps = before.saturating_add(steps);
+    let may_go_on = steps < STEPS_MOST && may_copy_up(&call) && mount.history.room() > 0;
+    let more = more_line(alloc, client)?;
+    if may_go_on && wanted.starts_with(more.as_bytes()) {
+        mount.begun.insert(client, Begun { call, steps })?;
+        return Ok(Some(more));
+    }
+    Ok(Some(mount.make(alloc, client, &call)?))
+}
+
+// Whether a call may want something in the upper layer that isn't there. One on a descriptor
+// doesn't: what is open for writing is there.
+fn may_copy_up(call: &Call) -> bool {
+    match call {
+        Call::Open { flags, .. } => flags.writes || flags.create,
+        Call::Chmod { .. }
+        | Call::Chown { .. }
+        | Call::SetAttribute { .. }
+        | Call::DeleteAttribute { .. }
+        | Call::Mkdir { .. }
+        | Call::Symlink { .. }
+        | Call::Hardlink { .. }
+        | Call::Rename { .. }
+        | Call::Unlink { .. }
+        | Call::Rmdir { .. } => true,
+        _ => false,
+    }
+}
+
+/// Gives a call up. None where the client has begun none.
+pub fn dropped(
+    alloc: Global,
+    mount: &mut PlainMount,
+    client: u32,
+) -> Result<Option<String>, AllocError> {
+    match mount.begun.remove(&client) {
+        Some(_) => Ok(Some(dropped_line(alloc, client)?)),
+        None => Ok(None),
+    }
+}
+
+/// The line of how many temps there are, which is wanted: at most one for each call that was begun.
+pub fn counted(alloc: Global, mount: &PlainMount, wanted: &[u8]) -> Result<String, AllocError> {
+    for temps in 0..mount.begun.len() {
+        let line = work_line(alloc, temps)?;
+        if wanted.starts_with(line.as_bytes()) {
+            return Ok(line);
+        }
+    }
+    work_line(alloc, mount.begun.len())
+}

@@ -1,0 +1,115 @@
+// Lines of calls in steps, as dice choose them.
+use crate::dice::Dice;
+use crate::random_calls::{push_call, push_one_of, push_open_of, push_path};
+use crate::random_watches::push_watch_call;
+use std::alloc::AllocError;
+
+/// Where the mount begins with files.
+pub const FILES: [&str; 15] = [
+    "/a/a/a", "/a/a/b", "/a/a/c", "/a/b/a", "/a/b/b", "/a/b/c", "/a/c", "/b", "/c/a/a", "/c/a/b",
+    "/c/a/c", "/c/b/a", "/c/b/b", "/c/b/c", "/c/c",
+];
+
+/// Places to which files go, where it begins with nothing.
+pub const PLACES: [&str; 6] = ["/a/d", "/a/a/d", "/a/b/d", "/c/d", "/c/a/d", "/d"];
+
+// Words that stand twice are chosen more often.
+const STEPS: [&str; 16] = [
+    " step\n",
+    " step\n",
+    " step\n",
+    " step\n",
+    " step\n",
+    " step\n",
+    " step\n",
+    " step\n",
+    " step\n",
+    " step\n",
+    " step\n",
+    " step 2\n",
+    " step 2\n",
+    " step 3\n",
+    " step 9\n",
+    " drop\n",
+];
+
+const FLAGS: [&str; 12] = [
+    "w", "w", "w", "wa", "wa", "wc", "b", "b", "ba", "bc", "wt", "r",
+];
+
+/// Appends the line of a client, of which a call goes on or not, or one that shows something.
+pub fn push_turn(
+    dice: &mut Dice,
+    client: &'static str,
+    is_calling: bool,
+    line: &mut String,
+) -> Result<(), AllocError> {
+    match dice.roll(32) {
+        0 => line.push_str("layer 0\n"),
+        1 => line.push_str("merge\n"),
+        2 | 3 => line.push_str("work\n"),
+        _ if is_calling => {
+            line.push_str(client)?;
+            line.push_str(dice.pick(&STEPS))
+        }
+        _ => push_call_of(dice, client, line),
+    }
+}
+
+// A call that is begun in steps, often one on a file with which the mount began, or one that is
+// made at once.
+fn push_call_of(
+    dice: &mut Dice,
+    client: &'static str,
+    line: &mut String,
+) -> Result<(), AllocError> {
+    match dice.roll(16) {
+        0..=8 => {
+            line.push_str(client)?;
+            line.push_str(" start")?;
+            push_on_file(dice, line)
+        }
+        9 | 10 => {
+            line.push_str(client)?;
+            line.push_str(" ")?;
+            push_call(dice, &["start"], line)
+        }
+        11 => push_watch_call(dice, &[client], line),
+        12 => push_open_of(dice, &[client], line),
+        _ => push_call(dice, &[client], line),
+    }
+}
+
+// A call that needs a file in the upper layer, or a place in a directory there.
+fn push_on_file(dice: &mut Dice, line: &mut String) -> Result<(), AllocError> {
+    match dice.roll(16) {
+        0..=7 => {
+            line.push_str(" open")?;
+            push_one_of(dice, &FLAGS, line)?;
+            push_one_of(dice, &FILES, line)?;
+        }
+        8 => {
+            line.push_str(dice.pick(&[" chmod 600", " chown 7 8"]))?;
+            push_one_of(dice, &FILES, line)?;
+        }
+        9 => {
+            line.push_str(" setattr")?;
+            push_one_of(dice, &FILES, line)?;
+            line.push_str(" user.a 2")?;
+        }
+        10 => {
+            line.push_str(dice.pick(&[" mkdir 755", " symlink t"]))?;
+            push_one_of(dice, &PLACES, line)?;
+        }
+        11 => {
+            line.push_str(dice.pick(&[" unlink", " rmdir", " open wc"]))?;
+            push_path(dice, line)?;
+        }
+        _ => {
+            line.push_str(dice.pick(&[" rename", " link"]))?;
+            push_one_of(dice, &FILES, line)?;
+            push_one_of(dice, &PLACES, line)?;
+        }
+    }
+    line.push_str("\n")
+}
