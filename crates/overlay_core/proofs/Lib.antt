@@ -26,4 +26,3 @@ pub mod TempFits
 pub mod NextSteps
 pub mod StepsMade
 pub mod Histories
-pub mod Waited

@@ -11,4 +11,3 @@ pub mod Standings
 pub mod Temps
 pub mod Steps
 pub mod Placing
-pub mod Waits

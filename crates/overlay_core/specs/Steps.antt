@@ -139,8 +139,7 @@ abbrev pub IsNext : Mount → Job → Option Beginning → Next → Type 0
 IsNext m j temp (Place second count) =
     (lack_by m j ≡ Parent second count) × CanBeHad m j.call (Parent second count)
     × (j.placings < PLACINGS_MAX)
-IsNext m j temp (Begin d) =
-    (lack_by m j ≡ File d) × CanBeHad m j.call (File d) × (j.begins < BEGINS_MAX)
+IsNext m j temp (Begin d) = CanBeHad m j.call (File d) × (j.begins < BEGINS_MAX)
 IsNext m j temp Copy =
     IsSomeAnd temp (λ t. length t.bytes < lack_size (lowers_of m.layers) (File t.source))
 IsNext m j temp _ = Unit {0}

@@ -14,7 +14,6 @@ mod schedule;
 mod stepping;
 mod turn;
 mod use_notices;
-mod waiting;
 mod watch_calls;
 mod watched;
 

@@ -21,24 +21,20 @@ ghost use Rattle.overlay_core.specs.Placing.{PlacesFor};
 ghost use Rattle.overlay_core.specs.Steps as steps;
 ghost use Rattle.overlay_core.specs.Steps.{begun, held_by, lack_by, next_by, without, IsLast, IsNext, IsStepped, Makes};
 ghost use Rattle.overlay_core.specs.Temps.{AreTemps, IsTemp};
-ghost use Rattle.overlay_core.specs.Waits.{WaitsForAny};
 ghost use Rattle.overlay_core.specs.Watching.{Agrees, HasState};
 
 use crate::job::{Job, Standing};
 use crate::turn::Turn;
-use crate::waiting::{Waiting, copies_on};
 use crate::watched::Watched;
 use mount_calls::{Looks, Mount, may_lack};
 use std::alloc::AllocError;
 use watch_table::{Callback, Rule};
 use work_dir::{Lack, Next, OpenJob, Source, Temp, WorkDir, next_after};
 
-// Makes the next step of a job. What waits is kept where the step copies, and noted anew where it
-// begins a copy.
+// Makes the next step of a job.
 pub(crate) fn step<F: Callback, R: Rule>(
     watched: &mut Watched<F, R>,
     work: &mut WorkDir,
-    waiting: &mut Option<Waiting>,
     job: &mut Job,
 ) -> Turn
     requires open { job.old.standing ≡ Standing.Open }
@@ -46,8 +42,6 @@ pub(crate) fn step<F: Callback, R: Rule>(
     requires state { ∥ HasState watched.old.mount watched.old.notifier ∥₁ }
     requires temps { AreTemps (lowers_of watched.old.mount.layers) work.old }
     requires limits { ∥ All IsWithinLimits (lowers_of watched.old.mount.layers) ∥₁ }
-    requires waits { WaitsForAny watched.old.mount waiting.old }
-    ensures waits { WaitsForAny watched.new.mount waiting.new }
     ensures makes { (next : Next) × ((s : State) →
         Agrees watched.old.mount watched.old.notifier s →
         next_by watched.old.mount job.old (held_by work.old job.old)
@@ -59,21 +53,17 @@ pub(crate) fn step<F: Callback, R: Rule>(
     ensures at_once { lacks.may_lack job.old.call ≡ false → result ≢ Turn.More }
 {
     let temp = held(work, job);
-    if copies_on(waiting.as_ref(), job, temp.as_ref()) {
-        return copy_on(watched, work, job, temp);
-    }
-    *waiting = None;
     watched.mount.remember(job.call());
     let looks = watched.mount.looks(job.call());
     match next_step(&watched.mount, job, &looks, temp.as_ref()) {
         Next::Finish => finish(watched, job, looks, temp),
         Next::AtOnce => finish(watched, job, looks, None),
         Next::Place { second, count } => place(watched, work, job, second, count, temp),
-        Next::Begin(source) => {
-            *waiting = waiting_for(&watched.mount, job, source);
-            begin(watched, work, job, source)
-        }
-        Next::Copy => copy_on(watched, work, job, temp),
+        Next::Begin(source) => begin(watched, work, job, source),
+        Next::Copy => match temp {
+            Some(temp) => copy(watched, work, job, temp),
+            None => unreachable!(),
+        },
     }
 }
 
@@ -133,17 +123,6 @@ fn next_step(mount: &Mount, job: &Job, looks: &Looks, temp: Option<&Temp>) -> Ne
         }
         Err(_errno) => Next::Finish,
     }
-}
-
-// The open of a job that lacks this file, kept for its next steps.
-fn waiting_for(mount: &Mount, job: &Job, source: Source) -> Option<Waiting>
-    requires lacks { lack_by mount.now job.now ≡ Lacking.File source }
-    requires allowed { (s : State) → IsStateOf mount.now s →
-        refusal s job.now.client job.now.call ≡ None }
-    ensures { WaitsForAny mount.now result }
-{
-    let size = size_of(mount, Lack::File(source));
-    Waiting::of(mount.alloc(), job, source, size)
 }
 
 // How many bytes the file has that is lacking.
@@ -320,29 +299,6 @@ fn keep_begun(
     let size = size_of(mount, Lack::File(source));
     let temp = Temp::begin(mount.alloc(), source, size)?;
     keep(work, job, temp)
-}
-
-// A step that copies a chunk into the temp that there is.
-fn copy_on<F: Callback, R: Rule>(
-    watched: &Watched<F, R>,
-    work: &mut WorkDir,
-    job: &mut Job,
-    temp: Option<Temp>,
-) -> Turn
-    requires open { job.old.standing ≡ Standing.Open }
-    requires counts { ForSome temp (λ t. (0 < job.old.begins)
-        × (t.chunks ≡ job.old.chunks)) }
-    requires due { IsNext watched.now.mount job.old temp Next.Copy }
-    requires temps { AreTemps (lowers_of watched.now.mount.layers) work.old }
-    requires temp { ForSome temp (IsTemp (lowers_of watched.now.mount.layers)) }
-    ensures makes { Makes watched.now watched.now work.old work.new job.old job.new R.shows result
-        Next.Copy temp }
-    ensures stepped { IsStepped job.old job.new }
-{
-    match temp {
-        Some(temp) => copy(watched, work, job, temp),
-        None => unreachable!(),
-    }
 }
 
 // A step that copies a chunk.
