@@ -1,5 +1,5 @@
 -- What clients do to a mount leaves some state that agrees, and a mount begins with the merges of its layers as long as nothing was done.
-use Rattle.std.proofs.Common.{arith, ◌≡◌, ℕ, ◌+◌, ◌<◌, ◌≤◌, Bool, true, false, ◌||◌, List, [], ◌∷◌, suc, Option, Some, None, All, map, ap, cond, nat_eq, nat_lt, refl, sym, subst}
+use Rattle.std.proofs.Common.{arith, ◌≡◌, ℕ, ◌+◌, ◌<◌, ◌≤◌, Bool, true, false, ◌||◌, List, [], ◌∷◌, suc, Option, Some, None, All, map, cond, nat_eq, nat_lt, refl, sym, subst}
 use Rattle.std.proofs.lemmas.Bool.{ltb-false}
 use Rattle.ov_base.specs.declared.options.Options.{Options}
 use Rattle.overlay_core.specs.Mounting.{mount_fault}

@@ -1,5 +1,5 @@
 -- The calls that change attributes: each answers that it is done.
-use Rattle.std.proofs.Common.{◌≡◌, ℕ, true, refl}
+use Rattle.std.proofs.Common.{◌≡◌, ℕ, refl}
 use Rattle.ov_base.specs.declared.call.Call.{Call}
 use Rattle.ov_base.specs.declared.call.Call.TheVariants.{Chmod, Chown, DeleteAttribute, SetAttribute}
 use Rattle.ov_base.specs.declared.reply.Reply.TheVariants.{Done}

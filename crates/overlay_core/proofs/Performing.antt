@@ -26,7 +26,7 @@ use Rattle.mount_calls.specs.States.{HasStateOf, IsStateOf, Serves}
 use Rattle.mount_calls.specs.Status.{outcome_reply}
 use Rattle.mount_calls.proofs.Frames.{same-layers}
 use Rattle.overlay_core.specs.Watching.{Agrees, Goes, HasState, Keeps}
-use Rattle.overlay_core.proofs.Watching.{goes, passes, stays, tracks-same, upper_of}
+use Rattle.overlay_core.proofs.Watching.{goes, passes, tracks-same, upper_of}
 
 -- what a call says that a mount made, and answered so
 pub record Performed (c : ℕ) (k : Call) (r : Reply) (old new : Mount) : Type 0 where

@@ -1,6 +1,6 @@
 -- Renames of a mount: what is kept for watches agrees with each state where one is told, where nothing moved, and where one is given up.
 use Rattle.std.proofs.Common.{◌≡◌, ◌≢◌, ◌*◌, ◌<◌, ◌≤◌, ◌^◌, ◌⊎◌, inl, inr, ℕ, Bool, true, false, not, List, [], Option, None, Some, is_some, refl, sym, ap, subst, ◌∙◌, length, map, arith}
-use Rattle.std.specs.Prelude.{IfOk, IfSome, MatchOption, OnErr, Result, Ok, Err}
+use Rattle.std.specs.Prelude.{IfOk, IfSome, MatchOption, Result, Ok}
 use Rattle.std.proofs.lemmas.Bool.{cases_lt, false≢true}
 use mathlib.Core.Logic.{∥∥₁_elim}
 use mathlib.Core.HLevel.{⊥_prop}
@@ -28,10 +28,8 @@ use Rattle.notice_laws.proofs.ShownParents.{new-shown}
 use Rattle.notice_laws.proofs.Staying.{law_of_unmoved}
 use Rattle.notifier.specs.Moving.{IsFreeFor, IsPlaceFor}
 use Rattle.mount_calls.specs.declared.mount.Mount.{Mount}
-use Rattle.mount_calls.specs.Attaching.{is_attached}
-use Rattle.mount_calls.specs.Living.{KeepsNamed, StaysLive}
-use Rattle.mount_calls.specs.Status.{outcome_reply}
-use Rattle.mount_calls.specs.States.{IsStateOf, Serves, StaysState}
+use Rattle.mount_calls.specs.Living.{StaysLive}
+use Rattle.mount_calls.specs.States.{StaysState}
 use Rattle.overlay_core.specs.Watching.{Agrees, Goes, HasState, Stays}
 use Rattle.overlay_core.proofs.MovesFree.{found-one, is-bare, key-free, key-squashed, lifted-found, place-squashed, root-refused}
 use Rattle.overlay_core.proofs.MovesHeld.{IsGivenUp, IsHeldFor, back-tracks, few-clients, ready-tracks}

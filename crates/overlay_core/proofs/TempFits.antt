@@ -1,12 +1,12 @@
 -- What the steps of a job leave: temps that are beginnings of their files, and the mount as it was.
-use Rattle.std.proofs.Common.{arith, ◌≡◌, ℕ, ◌+◌, ◌*◌, ◌<◌, ◌≤◌, ◌⊎◌, inl, inr, Bool, true, false, cond, nat_lt, nat_eq, List, [], length, take, Option, None, Some, option_map, unwrap_or, refl, sym, ap, ◌∙◌, subst}
+use Rattle.std.proofs.Common.{arith, ◌≡◌, ℕ, ◌+◌, ◌*◌, ◌<◌, ◌≤◌, ◌⊎◌, inl, inr, Bool, true, false, cond, nat_lt, List, [], length, take, Option, None, Some, option_map, unwrap_or, refl, sym, ap, ◌∙◌, subst}
 use Rattle.std.specs.Option.{ForSome}
 use Rattle.std.proofs.lemmas.Bool.{ltb-true}
 use Rattle.std.proofs.lemmas.Option.{same_Some}
 use Rattle.std.proofs.lemmas.List.{take_all, length-take}
 use Rattle.plain_model.specs.Layers.{Layer}
 use Rattle.work_dir.specs.Beginnings.{Beginning, IsBeginning}
-use Rattle.work_dir.specs.OpenJobs.{job_at, temp_at, temp_of, of_client, unless_of, of_chunks, is_of, held, closed_any, Changes, Same}
+use Rattle.work_dir.specs.OpenJobs.{job_at, temp_of, of_client, unless_of, of_chunks, is_of, held, closed_any, Changes, Same}
 use Rattle.work_dir.specs.declared.limits.TheConstants.{CHUNK, FILE_MAX}
 use Rattle.work_dir.specs.declared.next.Lack.TheVariants.{File}
 use Rattle.work_dir.specs.declared.source.Source.{Source}

@@ -1,10 +1,8 @@
 -- The step that a job makes next, and what it does.
-use Rattle.std.specs.Prelude.{◌≡◌, ℕ, ◌+◌, ◌<◌, Bool, cond, nat_lt, length, List, [], Option, None, Some, IsSomeAnd, IfSome, unwrap_or, option_map}
+use Rattle.std.specs.Prelude.{◌≡◌, ℕ, ◌+◌, ◌<◌, cond, nat_lt, length, List, [], Option, None, Some, IsSomeAnd, IfSome, unwrap_or}
 use Rattle.ov_base.specs.declared.errno.Errno.{Errno}
 use Rattle.ov_base.specs.declared.reply.Reply.TheVariants.{Refused}
 use Rattle.plain_model.specs.Layers.{Layer}
-use Rattle.plain_model.specs.Machine.{State}
-use Rattle.plain_model.specs.Refusals.{refusal}
 use Rattle.plain_model.specs.Runs.{Called}
 use Rattle.plain_model.specs.Watching.{Rule}
 use Rattle.layer_tree.specs.Tree.{layer_of}
@@ -31,7 +29,7 @@ use Rattle.overlay_core.specs.declared.turn.Turn.{Turn}
 use Rattle.overlay_core.specs.declared.turn.Turn.TheVariants.{More, Done, NoMemory}
 use Rattle.overlay_core.specs.declared.watched.Watched.{Watched}
 use Rattle.overlay_core.specs.Temps.{AreTemps}
-use Rattle.overlay_core.specs.Watching.{Agrees, Goes, Stays}
+use Rattle.overlay_core.specs.Watching.{Goes, Stays}
 
 -- the temp that a job holds: the one under its number, where it began it
 abbrev pub held_by : List (Option OpenJob) → Job → Option Beginning

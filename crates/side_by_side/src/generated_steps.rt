@@ -23,7 +23,7 @@ const LAYERS: u32 = 3;
 
 /// How many scripts are played, and how many lines each has: of arms and opens at first, then of
 /// calls in steps and others between them, and more after a client went.
-const SCRIPTS: u64 = 5_000;
+const SCRIPTS: u64 = 2_000;
 
 const ARMS: u32 = 4;
 

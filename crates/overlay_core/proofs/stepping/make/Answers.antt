@@ -1,4 +1,3 @@
-use Rattle.std.proofs.Common.{subst}
 use Rattle.merged_lookup.specs.Merged.{lowers_of}
 use Rattle.work_dir.specs.declared.next.Next.TheVariants.{Finish}
 use Rattle.overlay_core.specs.Steps.{held_by, without}

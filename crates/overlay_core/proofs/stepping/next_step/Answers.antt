@@ -1,4 +1,4 @@
-use Rattle.std.proofs.Common.{rules, ◌≡◌, None, option_copied}
+use Rattle.std.proofs.Common.{◌≡◌, None, option_copied}
 use Rattle.plain_model.specs.Refusals.{refusal}
 use Rattle.layer_tree.specs.Tree.{layer_of}
 use Rattle.merged_lookup.specs.Merged.{lowers_of}
