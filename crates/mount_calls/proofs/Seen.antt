@@ -21,6 +21,10 @@ use Rattle.mount_calls.specs.Lacks.{lack_among, lack_of, lacking, low_file, HasA
 use Rattle.mount_calls.specs.Looking.{looked_paths, AreLooks, IsLook, SawEach}
 use Rattle.mount_calls.proofs.Placing.{held-to, nothing-both, nothing-moved, nothing-one, nothing-opened}
 
+-- the looks of a call are those of what it is
+pub looks-of : (l : Layers) (k j : Call) (saw : Looks) → k ≡ j → AreLooks l k saw → AreLooks l j saw
+looks-of l k j saw e a = subst (λ z. AreLooks l z saw) e a
+
 -- a look that saw a directory of the upper on the way: the upper has each parent
 pub saw-parents : (l : Layers) (p : Path) (look : Look) (directory : Stack) (top : Option Topmost) → IsHeldTogether (layer_of l.upper) → IsLook l p look →
     look.shown ≡ Ok (directory, top) → (top_of directory.places.items).layer ≡ 0 → lacking (layer_of l.upper) p ≡ None

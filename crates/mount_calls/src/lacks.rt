@@ -11,7 +11,7 @@ ghost use Rattle.mount_calls.specs.AttributeCalls.{call_at};
 ghost use Rattle.mount_calls.specs.Lacks as lacks;
 ghost use Rattle.mount_calls.specs.Lacks.{lacking, parent_lack, lack_among, lack_of};
 ghost use Rattle.mount_calls.specs.Lacks.{LawOfNeeds, TellsLack};
-ghost use Rattle.mount_calls.specs.Looking.{AreLooks};
+ghost use Rattle.mount_calls.specs.Looking.{AreLooks, SawEach};
 ghost use Rattle.mount_calls.specs.States.{IsStateOf};
 ghost use Rattle.work_dir.specs.declared.next.Lack.TheVariants as Lacking;
 
@@ -51,31 +51,34 @@ pub fn law_of_needs()
 {}
 
 impl Mount {
-    /// What a call of a client lacks in the upper, or why it is refused. Nothing changes, and it
-    /// takes no memory.
-    pub fn lack(&self, client: u64, call: &Call) -> Result<Lack, Errno>
+    /// What a call of a client lacks in the upper, as its looks saw it, or why it is refused. Nothing
+    /// changes, and it takes no memory.
+    pub fn lack(&self, client: u64, call: &Call, looks: Looks) -> Result<Lack, Errno>
         requires attached { IsSome (get nat_cmp self.now.clients.attached client) }
         requires may { lacks.may_lack call.now ≡ true }
+        requires looks { AreLooks self.now.layers call.now looks }
         ensures { TellsLack self.now client call.now result }
     {
         match call {
-            Call::Chmod { path, mode } => self.attribute_lack(path, AttributeCall::Mode(*mode)),
+            Call::Chmod { path, mode } => {
+                self.attribute_lack(path, looks, AttributeCall::Mode(*mode))
+            }
             Call::Chown { path, uid, gid } => {
-                self.attribute_lack(path, AttributeCall::Owner(*uid, *gid))
+                self.attribute_lack(path, looks, AttributeCall::Owner(*uid, *gid))
             }
             Call::SetAttribute { path, name, value } => {
-                self.attribute_lack(path, AttributeCall::Set(name, value))
+                self.attribute_lack(path, looks, AttributeCall::Set(name, value))
             }
             Call::DeleteAttribute { path, name } => {
-                self.attribute_lack(path, AttributeCall::Delete(name))
+                self.attribute_lack(path, looks, AttributeCall::Delete(name))
             }
-            Call::Mkdir { path, mode } => self.mkdir_lack(path, *mode),
-            Call::Symlink { target, path } => self.symlink_lack(target, path),
-            Call::Open { path, flags, mode } => self.open_lack(client, path, *flags, *mode),
-            Call::Unlink { path } => self.unlink_lack(path),
-            Call::Rmdir { path } => self.rmdir_lack(path),
-            Call::Hardlink { old, new } => self.link_lack(old, new),
-            Call::Rename { old, new } => self.rename_lack(old, new),
+            Call::Mkdir { path, mode } => self.mkdir_lack(path, looks, *mode),
+            Call::Symlink { target, path } => self.symlink_lack(target, path, looks),
+            Call::Open { path, flags, mode } => self.open_lack(client, path, looks, *flags, *mode),
+            Call::Unlink { path } => self.unlink_lack(path, looks),
+            Call::Rmdir { path } => self.rmdir_lack(path, looks),
+            Call::Hardlink { old, new } => self.link_lack(old, new, looks),
+            Call::Rename { old, new } => self.rename_lack(old, new, looks),
             _ => unreachable!(),
         }
     }
@@ -105,42 +108,46 @@ impl Mount {
     }
 
     // `lack`, of a change of attributes.
-    fn attribute_lack(&self, path: &Path, ask: AttributeCall) -> Result<Lack, Errno>
+    fn attribute_lack(&self, path: &Path, looks: Looks, ask: AttributeCall) -> Result<Lack, Errno>
+        requires { SawEach self.now.layers (path.now ∷ []) looks }
         ensures { (c : ℕ) → TellsLack self.now c (call_at path.now ask.entry) result }
     {
-        let look = self.look(path);
+        let look = looks.one();
+        let near = look.saw_parents(&self.layers);
         let (_, top) = match judged(&self.layers, look, &ask) {
             Ok(target) => target,
             Err(errno) => return Err(errno),
         };
         let file = low_file(&self.layers, top);
-        Ok(lack_on(&self.layers, path, file))
+        Ok(lack_on(&self.layers, path, near, file))
     }
 
     // `lack`, of `mkdir`.
-    fn mkdir_lack(&self, path: &Path, mode: u32) -> Result<Lack, Errno>
+    fn mkdir_lack(&self, path: &Path, looks: Looks, mode: u32) -> Result<Lack, Errno>
+        requires { SawEach self.now.layers (path.now ∷ []) looks }
         ensures { (c : ℕ) → TellsLack self.now c (Call.Mkdir path.now mode) result }
     {
         if let Some(errno) = mode_fault(mode) {
             return Err(errno);
         }
-        let look = self.look(path);
+        let look = looks.one();
         match vacant(look.shown) {
-            Ok(_) => Ok(lack_on(&self.layers, path, None)),
+            Ok(_) => Ok(lack_on(&self.layers, path, false, None)),
             Err(errno) => Err(errno),
         }
     }
 
     // `lack`, of `symlink`.
-    fn symlink_lack(&self, target: &Bytes, path: &Path) -> Result<Lack, Errno>
+    fn symlink_lack(&self, target: &Bytes, path: &Path, looks: Looks) -> Result<Lack, Errno>
+        requires { SawEach self.now.layers (path.now ∷ []) looks }
         ensures { (c : ℕ) → TellsLack self.now c (Call.Symlink target.now path.now) result }
     {
         if let Some(errno) = LinkTarget::fault(target.as_slice()) {
             return Err(errno);
         }
-        let look = self.look(path);
+        let look = looks.one();
         match vacant(look.shown) {
-            Ok(_) => Ok(lack_on(&self.layers, path, None)),
+            Ok(_) => Ok(lack_on(&self.layers, path, false, None)),
             Err(errno) => Err(errno),
         }
     }
@@ -150,70 +157,79 @@ impl Mount {
         &self,
         client: u64,
         path: &Path,
+        looks: Looks,
         flags: OpenFlags,
         mode: u32,
     ) -> Result<Lack, Errno>
-        requires { IsSome (get nat_cmp self.now.clients.attached client) }
+        requires attached { IsSome (get nat_cmp self.now.clients.attached client) }
+        requires looks { SawEach self.now.layers (path.now ∷ []) looks }
         ensures { TellsLack self.now client (Call.Open path.now flags mode) result }
     {
-        let look = self.look(path);
+        let look = looks.one();
+        let near = look.saw_parents(&self.layers);
         let judged = match self.judge_open(client, look, flags, mode) {
             Ok(judged) => judged,
             Err(errno) => return Err(errno),
         };
         let Some(top) = judged.top else {
-            return Ok(lack_on(&self.layers, path, None));
+            return Ok(lack_on(&self.layers, path, near, None));
         };
         if flags.writes {
             let file = low_file(&self.layers, top);
-            let lack = lack_on(&self.layers, path, file);
+            let lack = lack_on(&self.layers, path, near, file);
             return Ok(lack);
         }
         Ok(Lack::Nothing)
     }
 
     // `lack`, of `unlink`.
-    fn unlink_lack(&self, path: &Path) -> Result<Lack, Errno>
+    fn unlink_lack(&self, path: &Path, looks: Looks) -> Result<Lack, Errno>
+        requires { SawEach self.now.layers (path.now ∷ []) looks }
         ensures { (c : ℕ) → TellsLack self.now c (Call.Unlink path.now) result }
     {
-        let look = self.look(path);
+        let look = looks.one();
         match leaf_at(path, look.shown) {
-            Ok(_) => Ok(lack_on(&self.layers, path, None)),
+            Ok(_) => Ok(lack_on(&self.layers, path, false, None)),
             Err(errno) => Err(errno),
         }
     }
 
     // `lack`, of `rmdir`.
-    fn rmdir_lack(&self, path: &Path) -> Result<Lack, Errno>
+    fn rmdir_lack(&self, path: &Path, looks: Looks) -> Result<Lack, Errno>
+        requires { SawEach self.now.layers (path.now ∷ []) looks }
         ensures { (c : ℕ) → TellsLack self.now c (Call.Rmdir path.now) result }
     {
-        let look = self.look(path);
+        let look = looks.one();
         match removable(&self.layers, path, look.shown) {
-            Ok(_) => Ok(lack_on(&self.layers, path, None)),
+            Ok(_) => Ok(lack_on(&self.layers, path, false, None)),
             Err(errno) => Err(errno),
         }
     }
 
     // `lack`, of `link`.
-    fn link_lack(&self, old: &Path, new: &Path) -> Result<Lack, Errno>
+    fn link_lack(&self, old: &Path, new: &Path, looks: Looks) -> Result<Lack, Errno>
+        requires { SawEach self.now.layers (old.now ∷ (new.now ∷ [])) looks }
         ensures { (c : ℕ) → TellsLack self.now c (Call.Hardlink old.now new.now) result }
     {
-        let from = self.look(old);
-        let onto = self.look(new);
+        let (from, onto) = looks.both();
+        let from_near = from.saw_parents(&self.layers);
+        let onto_near = onto.saw_parents(&self.layers);
         let (_, _, place) = match linkable(from.shown, onto.shown) {
             Ok(found) => found,
             Err(errno) => return Err(errno),
         };
         let file = low_inode(&self.layers, place);
-        Ok(lack_on_both(&self.layers, old, new, file))
+        Ok(lack_on_both(&self.layers, old, new, (from_near, onto_near), file))
     }
 
     // `lack`, of `rename`.
-    fn rename_lack(&self, old: &Path, new: &Path) -> Result<Lack, Errno>
+    fn rename_lack(&self, old: &Path, new: &Path, looks: Looks) -> Result<Lack, Errno>
+        requires { SawEach self.now.layers (old.now ∷ (new.now ∷ [])) looks }
         ensures { (c : ℕ) → TellsLack self.now c (Call.Rename old.now new.now) result }
     {
-        let from = self.look(old);
-        let onto = self.look(new);
+        let (from, onto) = looks.both();
+        let from_near = from.saw_parents(&self.layers);
+        let onto_near = onto.saw_parents(&self.layers);
         let layers = &self.layers;
         let moved = match movable(layers, old, new, self.redirects, from.shown, onto.shown) {
             Ok(Some(moved)) => moved,
@@ -221,7 +237,7 @@ impl Mount {
             Err(errno) => return Err(errno),
         };
         let file = found_file(layers, &moved.1);
-        Ok(lack_on_both(layers, old, new, file))
+        Ok(lack_on_both(layers, old, new, (from_near, onto_near), file))
     }
 }
 
@@ -232,26 +248,42 @@ fn may_change(flags: OpenFlags) -> bool
     flags.writes || flags.create
 }
 
-// What is lacking on the way to a path, and else a file's bytes.
-fn lack_on(layers: &Layers, path: &Path, file: Option<Source>) -> Lack
+// What is lacking on the way to a path, where its parents weren't seen in the upper, and else a
+// file's bytes.
+fn lack_on(layers: &Layers, path: &Path, near: bool, file: Option<Source>) -> Lack
+    requires { near ≡ true → lacking (layer_of layers.now.upper) path.now ≡ None }
     ensures { result ≡ lack_among (layer_of layers.now.upper) false (path.now ∷ []) file }
 {
-    way_lack(layers, path, false, file_lack(file))
+    way_lack(layers, path, near, false, file_lack(file))
 }
 
-// What is lacking on the way to one path, then to another, and else a file's bytes.
-fn lack_on_both(layers: &Layers, old: &Path, new: &Path, file: Option<Source>) -> Lack
+// What is lacking on the way to one path, then to another, where their parents weren't seen in the
+// upper, and else a file's bytes.
+fn lack_on_both(
+    layers: &Layers,
+    old: &Path,
+    new: &Path,
+    near: (bool, bool),
+    file: Option<Source>,
+) -> Lack
+    requires old { near.0 ≡ true → lacking (layer_of layers.now.upper) old.now ≡ None }
+    requires new { near.1 ≡ true → lacking (layer_of layers.now.upper) new.now ≡ None }
     ensures { result ≡ lack_among (layer_of layers.now.upper) false (old.now ∷ (new.now ∷ []))
         file }
 {
-    let besides = way_lack(layers, new, true, file_lack(file));
-    way_lack(layers, old, false, besides)
+    let besides = way_lack(layers, new, near.1, true, file_lack(file));
+    way_lack(layers, old, near.0, false, besides)
 }
 
-// The topmost parent of a path that the upper lacks, and else what is lacking besides.
-fn way_lack(layers: &Layers, path: &Path, second: bool, besides: Lack) -> Lack
+// The topmost parent of a path that the upper lacks, where they weren't all seen there, and else
+// what is lacking besides.
+fn way_lack(layers: &Layers, path: &Path, near: bool, second: bool, besides: Lack) -> Lack
+    requires { near ≡ true → lacking (layer_of layers.now.upper) path.now ≡ None }
     ensures { result ≡ parent_lack second (lacking (layer_of layers.now.upper) path.now) besides }
 {
+    if near {
+        return besides;
+    }
     match need_at(layers, path) {
         Need::Directory(count) => Lack::Parent { second, count },
         Need::Nothing => besides,

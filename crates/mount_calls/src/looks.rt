@@ -101,7 +101,7 @@ impl Mount {
 impl Look {
     // Whether it saw a directory of the upper on the way to the last name: then the upper has each
     // parent of the path.
-    fn saw_parents(&self, layers: &Layers) -> bool
+    pub(crate) fn saw_parents(&self, layers: &Layers) -> bool
         ensures { result ≡ true → (p : Names) → IsLook layers.now p self.now →
             lacking (layer_of layers.now.upper) p ≡ None }
     {

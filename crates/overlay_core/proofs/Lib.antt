@@ -26,3 +26,4 @@ pub mod TempFits
 pub mod NextSteps
 pub mod StepsMade
 pub mod Histories
+pub mod Waited

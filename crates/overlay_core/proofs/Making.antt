@@ -10,14 +10,11 @@ use Rattle.plain_model.specs.Watching.{Rule}
 use Rattle.plain_model.specs.Machine.{State}
 use Rattle.plain_model.specs.Replies.{reply_of}
 use Rattle.plain_model.specs.Runs.{Called}
-use Rattle.merged_lookup.specs.declared.layers.Layers.{Layers}
 use Rattle.merged_lookup.specs.Merged.{lowers_of}
 use Rattle.notice_laws.specs.Notified.{Passes, Resumes}
 use Rattle.notice_laws.specs.Steps.{IsSilent, keeps_handles}
 use Rattle.mount_calls.specs.declared.mount.Mount.{Mount}
 use Rattle.mount_calls.specs.Attaching.{is_attached}
-use Rattle.mount_calls.specs.Looking.{AreLooks}
-use Rattle.mount_calls.specs.declared.looks.Looks.{Looks}
 use Rattle.mount_calls.specs.Making.{MakesCall, TellsCall, TellsEach}
 use Rattle.mount_calls.proofs.MakingCalls.{attached-same, makes-nothing, makes-read}
 use Rattle.overlay_core.specs.declared.watched.Watched.{Watched}
@@ -103,7 +100,3 @@ module _ {F G : Type 0} {shows : Rule} where
       told : (x : Result Reply AllocError) → IfOk x (TellsEach k old.mount) → IfOk x (TellsCall c k old.mount)
       told (Ok r) h = h c
       told (Err e) h = tt
-
--- the looks of a call are those of what it is
-pub looks-of : (l : Layers) (k j : Call) (saw : Looks) → k ≡ j → AreLooks l k saw → AreLooks l j saw
-looks-of l k j saw e a = subst (λ z. AreLooks l z saw) e a

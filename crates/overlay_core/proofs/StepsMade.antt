@@ -1,5 +1,5 @@
 -- What each kind of step makes.
-use Rattle.std.proofs.Common.{◌≡◌, ℕ, ◌+◌, Bool, List, Option, None, Result, Ok, Err, map, refl, sym, ap, ◌∙◌, subst}
+use Rattle.std.proofs.Common.{◌≡◌, ◌≢◌, ℕ, ◌+◌, Bool, List, Option, None, Result, Ok, Err, IsOk, map, refl, sym, ap, ◌∙◌, subst}
 use Rattle.std.specs.declared.alloc.AllocError.{AllocError}
 use Rattle.ov_base.specs.declared.call.Call.{Call}
 use Rattle.ov_base.specs.declared.reply.Reply.{Reply}
@@ -29,7 +29,7 @@ use Rattle.overlay_core.specs.declared.turn.Turn.TheVariants.{More, Done, NoMemo
 use Rattle.overlay_core.specs.declared.watched.Watched.{Watched}
 use Rattle.overlay_core.specs.Performing.{Performs}
 use Rattle.overlay_core.specs.Placing.{PlacesFor}
-use Rattle.overlay_core.specs.Steps.{Counts, GoesOn, IsLast, Makes, StepsBy, TurnsWatched, next_by}
+use Rattle.overlay_core.specs.Steps.{Counts, EndsBy, GoesOn, IsLast, Makes, StepsBy, TurnsWatched, next_by}
 use Rattle.overlay_core.specs.Temps.{AreTemps}
 use Rattle.overlay_core.specs.Watching.{Agrees, HasState}
 use Rattle.overlay_core.proofs.Agreeing.{are-layers, goes-on, stays-on}
@@ -132,6 +132,26 @@ module _ {F G : Type 0} (shows : Rule) where
       temps = subst (λ ls. AreTemps (map layer_of ls.items) work) (sym p.kept.lowers) temps;
     }
 
+  -- so the step that makes a call ends the job by what the call came to
+  pub made-ended : (old new : Watched F G) (work : List (Option OpenJob)) (j k : Job) (next : Next) (t : Option Beginning) →
+      IsLast next → AreTemps (lowers_of old.mount.layers) work → (r : Result Reply AllocError) (turn : Turn) → EndsBy k r turn →
+      Performs shows j.client j.call old new r → Makes old new work work j k shows turn next t
+  made-ended old new work j k next t last temps (Ok r) turn ends p =
+      subst (λ z. Makes old new work work j k shows z next t) (sym ends.0)
+      (made-done old new work j k next t last temps ends.2 r p ends.1)
+  made-ended old new work j k next t last temps (Err a) turn ends p =
+      subst (λ z. Makes old new work work j k shows z next t) (sym ends.0)
+      (made-none old new work j k next t last temps ends.2 a p ends.1)
+
+-- a job that ended goes on no more, and ran out of memory only where its call did
+pub ended-over : (k : Job) (r : Result Reply AllocError) (turn : Turn) → EndsBy k r turn → turn ≢ More
+ended-over k (Ok r) turn ends is = let e : Done r ≡ More = sym ends.0 ∙ is in cc
+ended-over k (Err a) turn ends is = let e : NoMemory ≡ More = sym ends.0 ∙ is in cc
+
+pub ended-memory : (k : Job) (r : Result Reply AllocError) (turn : Turn) → EndsBy k r turn → IsOk r → turn ≢ NoMemory
+ended-memory k (Ok r) turn ends fine is = let e : Done r ≡ NoMemory = sym ends.0 ∙ is in cc
+ended-memory k (Err a) turn ends fine is = cc
+
 module _ {F G : Type 0} (shows : Rule) (w0 new : Watched F G) (m1 : Mount) (e0 e1 w : List (Option OpenJob)) (j k : Job)
     (turn : Turn) (n : Next) (t0 t1 t2 : Option Beginning) (mount : m1 ≡ w0.mount) (jobs : e1 ≡ e0) (temp : t1 ≡ t0) where
   -- the step that was next over a mount that is the same
@@ -154,15 +174,6 @@ module _ {F G : Type 0} (shows : Rule) (w0 new : Watched F G) (m1 : Mount) (e0 e
         (subst (λ e. Makes (record { mount = m1; notifier = w0.notifier }) new e w j k shows turn n t0) jobs
         (subst (λ t. Makes (record { mount = m1; notifier = w0.notifier }) new e1 w j k shows turn n t) temp makes)),
   )
-
-  -- the same, where the mount is not changed by the step
-  pub step-aside : new ≡ record { mount = m1; notifier = w0.notifier } → t2 ≡ t1 →
-      ((s : State) → IsStateOf m1 s → next_by m1 j t2 (refusal s j.client j.call) ≡ n) →
-      Makes new new e1 w j k shows turn n t1 →
-      (x : Next) × ((s : State) → Agrees w0.mount w0.notifier s → next_by w0.mount j t0 (refusal s j.client j.call) ≡ x)
-      × Makes w0 new e0 w j k shows turn x t0
-  step-aside aside same next makes =
-      step-made same next (subst (λ z. Makes z new e1 w j k shows turn n t1) aside makes)
 
 -- the same of a call that is made at once
 pub made-over : {F G : Type 0} (shows : Rule) (w0 new : Watched F G) (m1 : Mount) (e0 e1 w : List (Option OpenJob)) (j k : Job)

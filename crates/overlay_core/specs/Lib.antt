@@ -11,3 +11,4 @@ pub mod Standings
 pub mod Temps
 pub mod Steps
 pub mod Placing
+pub mod Waits

@@ -1,6 +1,8 @@
 -- The step that a job makes next, and what it does.
-use Rattle.std.specs.Prelude.{◌≡◌, ℕ, ◌+◌, ◌<◌, cond, nat_lt, length, List, [], Option, None, Some, IsSomeAnd, IfSome, unwrap_or}
+use Rattle.std.specs.Prelude.{◌≡◌, ℕ, ◌+◌, ◌<◌, cond, nat_lt, length, List, [], Option, None, Some, IsSomeAnd, IfSome, unwrap_or, Result, Ok, Err}
+use Rattle.std.specs.declared.alloc.AllocError.{AllocError}
 use Rattle.ov_base.specs.declared.errno.Errno.{Errno}
+use Rattle.ov_base.specs.declared.reply.Reply.{Reply}
 use Rattle.ov_base.specs.declared.reply.Reply.TheVariants.{Refused}
 use Rattle.plain_model.specs.Layers.{Layer}
 use Rattle.plain_model.specs.Runs.{Called}
@@ -126,6 +128,11 @@ module _ {F G : Type 0} (old new : Watched F G) (e w : List (Option OpenJob)) (j
     pub thin : StaysThin old.mount.layers new.mount.layers
     pub temps : AreTemps (lowers_of new.mount.layers) w
 
+-- a job's last step by what its call came to: it is answered, or given up when out of memory
+abbrev pub EndsBy : Job → Result Reply AllocError → Turn → Type 0
+EndsBy k (Ok r) turn = (turn ≡ Done r) × (k.standing ≡ standing.Answered) × (k.number ≡ None)
+EndsBy k (Err a) turn = (turn ≡ NoMemory) × (k.standing ≡ standing.GivenUp) × (k.number ≡ None)
+
 -- the job is the same client's and the same call's, with one step more
 pub record IsStepped (j k : Job) : Type 0 where
   pub client : k.client ≡ j.client
@@ -137,7 +144,8 @@ abbrev pub IsNext : Mount → Job → Option Beginning → Next → Type 0
 IsNext m j temp (Place second count) =
     (lack_by m j ≡ Parent second count) × CanBeHad m j.call (Parent second count)
     × (j.placings < PLACINGS_MAX)
-IsNext m j temp (Begin d) = CanBeHad m j.call (File d) × (j.begins < BEGINS_MAX)
+IsNext m j temp (Begin d) =
+    (lack_by m j ≡ File d) × CanBeHad m j.call (File d) × (j.begins < BEGINS_MAX)
 IsNext m j temp Copy =
     IsSomeAnd temp (λ t. length t.bytes < lack_size (lowers_of m.layers) (File t.source))
 IsNext m j temp _ = Unit {0}

@@ -4,6 +4,7 @@
 mod arm_calls;
 mod attribute_notices;
 mod client_notices;
+mod finishing;
 mod job;
 mod mounted;
 mod move_notices;
@@ -14,6 +15,7 @@ mod schedule;
 mod stepping;
 mod turn;
 mod use_notices;
+mod waiting;
 mod watch_calls;
 mod watched;
 

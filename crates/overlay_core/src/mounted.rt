@@ -16,11 +16,13 @@ ghost use Rattle.mount_calls.specs.Lacks.{may_lack};
 ghost use Rattle.work_dir.specs.OpenJobs.{has_temp, is_of, unless_of};
 ghost use Rattle.overlay_core.specs.Mounting.{machine_options, mount_fault};
 ghost use Rattle.overlay_core.specs.Temps.{AreTemps};
+ghost use Rattle.overlay_core.specs.Waits.{WaitsForAny};
 ghost use Rattle.ov_base.specs.declared.reply.Reply.TheVariants as Reply;
 
 use crate::job::{Job, Standing};
 use crate::stepping::{make, step};
 use crate::turn::Turn;
+use crate::waiting::Waiting;
 use crate::watched::Watched;
 use layer_tree::Layer;
 use merged_lookup::Layers;
@@ -69,11 +71,14 @@ pub struct Core<F: Callback, R: Rule> {
     options: Options,
     finished: u64,
     work: WorkDir,
+    // The open whose file is copied, at most one, as long as nothing else is done.
+    waiting: Vec<Waiting>,
     ghost agrees: { ∥ HasState watched.mount watched.notifier ∥₁ },
     ghost begins: { ∥ BeginsUntil finished (machine_options options) watched.mount watched.notifier ∥₁ },
     ghost given: { watched.mount.clients.next ≤ finished },
     ghost short: { options.history ≤ 1000000 },
     ghost temps: { AreTemps (lowers_of watched.mount.layers) work },
+    ghost waits: { WaitsForAny watched.mount waiting.items },
     ghost limits: { ∥ All IsWithinLimits (lowers_of watched.mount.layers) ∥₁ },
 }
 
@@ -172,6 +177,7 @@ impl<F: Callback, R: Rule> Core<F, R> {
             options,
             finished: 0,
             work,
+            waiting: Vec::new(alloc),
         }))
     }
 
@@ -203,6 +209,7 @@ impl<F: Callback, R: Rule> Core<F, R> {
         if let Some(errno) = refusal_of(hooks.len(), self.watched.mount.clients_attached()) {
             return Err(NotAttached { errno, hooks });
         }
+        self.waiting.clear();
         let alloc = self.watched.mount.alloc();
         let client = self.watched.attach(alloc, hooks)?;
         self.finished += 1;
@@ -226,6 +233,7 @@ impl<F: Callback, R: Rule> Core<F, R> {
         ensures kept { CoreKeeps self.old self.new }
     {
         self.finished += 1;
+        self.waiting.clear();
         self.work.forget(client);
         self.watched.detach(client)
     }
@@ -262,7 +270,7 @@ impl<F: Callback, R: Rule> Core<F, R> {
             core_layers self.new ≡ core_layers self.old }
         ensures kept { CoreKeeps self.old self.new }
     {
-        match step(&mut self.watched, &mut self.work, job) {
+        match step(&mut self.watched, &mut self.work, &mut self.waiting, job) {
             Turn::Done(reply) => {
                 self.finished += 1;
                 Turn::Done(reply)
@@ -293,6 +301,7 @@ impl<F: Callback, R: Rule> Core<F, R> {
         ensures work { core_work self.new ≡ without (core_work self.old) job.old }
         ensures kept { CoreKeeps self.old self.new }
     {
+        self.waiting.clear();
         match make(&mut self.watched, &mut self.work, job) {
             Turn::Done(reply) => {
                 self.finished += 1;

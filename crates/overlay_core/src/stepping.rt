@@ -1,5 +1,5 @@
 // One step of a job: which one is next, and what it does.
-ghost use Rattle.std.specs.Prelude.{◌≡◌, ◌≢◌, ◌<◌, ℕ, List, Option, true, false, All, Some, IfOk, IsOk, OnOk, OnErr, option_copied, length};
+ghost use Rattle.std.specs.Prelude.{◌≡◌, ◌≢◌, ◌<◌, List, [], Option, true, false, All, Some, IfOk, IsOk, OnErr, option_copied, length};
 ghost use Rattle.std.specs.Option.{ForSome};
 ghost use Rattle.plain_model.specs.Layers.{Layer};
 ghost use Rattle.plain_model.specs.Limits.{IsWithinLimits};
@@ -8,33 +8,38 @@ ghost use Rattle.plain_model.specs.Refusals.{refusal};
 ghost use Rattle.merged_lookup.specs.Merged.{lowers_of};
 ghost use Rattle.work_dir.specs.Beginnings.{Beginning};
 ghost use Rattle.work_dir.specs.OpenJobs.{job_at, Same, Changes};
-ghost use Rattle.work_dir.specs.declared.limits.TheConstants.{PLACINGS_MAX, BEGINS_MAX, CHUNKS_MAX};
+ghost use Rattle.work_dir.specs.declared.limits.TheConstants.{CHUNKS_MAX};
 ghost use Rattle.work_dir.specs.declared.next.Lack.TheVariants as Lacking;
 ghost use Rattle.work_dir.specs.declared.table.OpenJob.{OpenJob};
 ghost use Rattle.mount_calls.specs.Attaching.{is_attached};
 ghost use Rattle.mount_calls.specs.Keeping.{takes_no_memory};
 ghost use Rattle.mount_calls.specs.Lacks as lacks;
-ghost use Rattle.mount_calls.specs.Lacks.{bytes_at, lack_size, CanBeHad};
+ghost use Rattle.mount_calls.specs.Lacks.{lack_size, CanBeHad};
 ghost use Rattle.mount_calls.specs.Looking.{AreLooks};
 ghost use Rattle.mount_calls.specs.States.{IsStateOf};
 ghost use Rattle.overlay_core.specs.Placing.{PlacesFor};
 ghost use Rattle.overlay_core.specs.Steps as steps;
-ghost use Rattle.overlay_core.specs.Steps.{begun, held_by, lack_by, next_by, without, IsLast, IsNext, IsStepped, Makes};
+ghost use Rattle.overlay_core.specs.Steps.{begun, held_by, lack_by, next_by, without, IsNext, IsStepped, Makes};
 ghost use Rattle.overlay_core.specs.Temps.{AreTemps, IsTemp};
+ghost use Rattle.overlay_core.specs.Waits.{WaitsForAny};
 ghost use Rattle.overlay_core.specs.Watching.{Agrees, HasState};
 
+use crate::finishing::{finish, finish_seen, plain};
 use crate::job::{Job, Standing};
 use crate::turn::Turn;
+use crate::waiting::{Waiting, copies_on};
 use crate::watched::Watched;
 use mount_calls::{Looks, Mount, may_lack};
 use std::alloc::AllocError;
 use watch_table::{Callback, Rule};
 use work_dir::{Lack, Next, OpenJob, Source, Temp, WorkDir, next_after};
 
-// Makes the next step of a job.
+// Makes the next step of a job. What waits is kept where the step copies, and noted anew where it
+// begins a copy.
 pub(crate) fn step<F: Callback, R: Rule>(
     watched: &mut Watched<F, R>,
     work: &mut WorkDir,
+    waiting: &mut Vec<Waiting>,
     job: &mut Job,
 ) -> Turn
     requires open { job.old.standing ≡ Standing.Open }
@@ -42,6 +47,8 @@ pub(crate) fn step<F: Callback, R: Rule>(
     requires state { ∥ HasState watched.old.mount watched.old.notifier ∥₁ }
     requires temps { AreTemps (lowers_of watched.old.mount.layers) work.old }
     requires limits { ∥ All IsWithinLimits (lowers_of watched.old.mount.layers) ∥₁ }
+    requires waits { WaitsForAny watched.old.mount waiting.old.items }
+    ensures waits { WaitsForAny watched.new.mount waiting.new.items }
     ensures makes { (next : Next) × ((s : State) →
         Agrees watched.old.mount watched.old.notifier s →
         next_by watched.old.mount job.old (held_by work.old job.old)
@@ -53,17 +60,54 @@ pub(crate) fn step<F: Callback, R: Rule>(
     ensures at_once { lacks.may_lack job.old.call ≡ false → result ≢ Turn.More }
 {
     let temp = held(work, job);
+    if copies_on(waiting.first(), job, temp.as_ref()) {
+        return copy_on(watched, work, job, temp);
+    }
+    waiting.clear();
     watched.mount.remember(job.call());
+    if !may_lack(job.call()) {
+        return plain(watched, job);
+    }
+    step_seen(watched, work, waiting, job, temp)
+}
+
+// Makes the next step of a job whose call may lack something, and which holds this temp, by what its
+// paths show.
+fn step_seen<F: Callback, R: Rule>(
+    watched: &mut Watched<F, R>,
+    work: &mut WorkDir,
+    waiting: &mut Vec<Waiting>,
+    job: &mut Job,
+    temp: Option<Temp>,
+) -> Turn
+    requires open { job.old.standing ≡ Standing.Open }
+    requires attached { is_attached watched.old.mount.clients job.old.client ≡ true }
+    requires state { ∥ HasState watched.old.mount watched.old.notifier ∥₁ }
+    requires may { lacks.may_lack job.old.call ≡ true }
+    requires temps { AreTemps (lowers_of watched.old.mount.layers) work.old }
+    requires temp { ForSome temp (IsTemp (lowers_of watched.old.mount.layers)) }
+    requires counts { ForSome temp (λ t. (0 < job.old.begins) × (t.chunks ≡ job.old.chunks)) }
+    requires limits { ∥ All IsWithinLimits (lowers_of watched.old.mount.layers) ∥₁ }
+    requires none { waiting.old.items ≡ [] }
+    ensures waits { WaitsForAny watched.new.mount waiting.new.items }
+    ensures makes { (next : Next) × ((s : State) → IsStateOf watched.old.mount s →
+        next_by watched.old.mount job.old temp (refusal s job.old.client job.old.call) ≡ next)
+        × Makes watched.old watched.new work.old work.new job.old job.new R.shows result next temp }
+    ensures stepped { IsStepped job.old job.new }
+{
     let looks = watched.mount.looks(job.call());
-    match next_step(&watched.mount, job, &looks, temp.as_ref()) {
-        Next::Finish => finish(watched, job, looks, temp),
-        Next::AtOnce => finish(watched, job, looks, None),
+    if watched.mount.has_all(job.call(), &looks) {
+        return finish_seen(watched, job, looks, temp);
+    }
+    match next_step(&watched.mount, job, looks, temp.as_ref()) {
+        Next::Finish => finish(watched, job, temp),
+        Next::AtOnce => finish(watched, job, None),
         Next::Place { second, count } => place(watched, work, job, second, count, temp),
-        Next::Begin(source) => begin(watched, work, job, source),
-        Next::Copy => match temp {
-            Some(temp) => copy(watched, work, job, temp),
-            None => unreachable!(),
-        },
+        Next::Begin(source) => {
+            note(waiting, &watched.mount, job, source);
+            begin(watched, work, job, source)
+        }
+        Next::Copy => copy_on(watched, work, job, temp),
     }
 }
 
@@ -87,8 +131,10 @@ pub(crate) fn make<F: Callback, R: Rule>(
 {
     let temp = held(work, job);
     watched.mount.remember(job.call());
-    let looks = watched.mount.looks(job.call());
-    finish(watched, job, looks, temp)
+    if !may_lack(job.call()) {
+        return plain(watched, job);
+    }
+    finish(watched, job, temp)
 }
 
 // Takes out what is kept of a job, and gives the temp that it holds.
@@ -102,26 +148,37 @@ fn held(work: &mut WorkDir, job: &Job) -> Option<Temp>
     if job.begins() > 0 { temp } else { None }
 }
 
-// The next step of a job that holds this temp, whose paths were seen to show this.
-fn next_step(mount: &Mount, job: &Job, looks: &Looks, temp: Option<&Temp>) -> Next
+// The next step of a job that holds this temp, where its call may lack something, by what its looks
+// saw.
+fn next_step(mount: &Mount, job: &Job, looks: Looks, temp: Option<&Temp>) -> Next
     requires attached { is_attached mount.now.clients job.now.client ≡ true }
-    requires looks { AreLooks mount.now.layers job.now.call looks.now }
+    requires may { lacks.may_lack job.now.call ≡ true }
+    requires looks { AreLooks mount.now.layers job.now.call looks }
     ensures next { (s : State) → IsStateOf mount.now s →
         next_by mount.now job.now (option_copied temp.entry)
         (refusal s job.now.client job.now.call) ≡ result }
     ensures due { IsNext mount.now job.now (option_copied temp.entry) result }
-    ensures plain { lacks.may_lack job.now.call ≡ false → result ≡ Next.Finish }
 {
-    let call = job.call();
-    if !may_lack(call) || mount.has_all(call, looks) {
-        return Next::Finish;
-    }
-    match mount.lack(job.client(), call) {
+    match mount.lack(job.client(), job.call(), looks) {
         Ok(lack) => {
             let size = size_of(mount, lack);
             next_after(None, lack, job.placings(), job.begins(), temp, size)
         }
         Err(_errno) => Next::Finish,
+    }
+}
+
+// Notes the open of a job that lacks this file, for its next steps, where there is memory for it.
+fn note(waiting: &mut Vec<Waiting>, mount: &Mount, job: &Job, source: Source)
+    requires none { waiting.old.items ≡ [] }
+    requires lacks { lack_by mount.now job.now ≡ Lacking.File source }
+    requires allowed { (s : State) → IsStateOf mount.now s →
+        refusal s job.now.client job.now.call ≡ None }
+    ensures { WaitsForAny mount.now waiting.new.items }
+{
+    let size = size_of(mount, Lack::File(source));
+    if let Some(open) = Waiting::of(mount.alloc(), job, source, size) {
+        let _ = waiting.push(open);
     }
 }
 
@@ -135,64 +192,6 @@ fn size_of(mount: &Mount, lack: Lack) -> usize
             None => 0,
         },
         _ => 0,
-    }
-}
-
-// The step that makes the call. A temp that is whole becomes the copy of its file.
-fn finish<F: Callback, R: Rule>(
-    watched: &mut Watched<F, R>,
-    job: &mut Job,
-    looks: Looks,
-    temp: Option<Temp>,
-) -> Turn
-    requires open { job.old.standing ≡ Standing.Open }
-    requires attached { is_attached watched.old.mount.clients job.old.client ≡ true }
-    requires state { ∥ HasState watched.old.mount watched.old.notifier ∥₁ }
-    requires looks { AreLooks watched.old.mount.layers job.old.call looks }
-    requires temp { ForSome temp (IsTemp (lowers_of watched.old.mount.layers)) }
-    ensures makes { (work : List (Option OpenJob)) (next : Next) (t : Option Beginning) →
-        IsLast next → AreTemps (lowers_of watched.old.mount.layers) work →
-        Makes watched.old watched.new work work job.old job.new R.shows result next t }
-    ensures stepped { IsStepped job.old job.new }
-    ensures memory { takes_no_memory job.old.call ≡ true → result ≢ Turn.NoMemory }
-    ensures over { result ≢ Turn.More }
-{
-    offer(&mut watched.mount, temp);
-    let outcome = watched.perform(job.client(), job.call(), looks);
-    watched.mount.withdraw();
-    match outcome {
-        Ok(reply) => {
-            job.end(Standing::Answered);
-            Turn::Done(reply)
-        }
-        Err(AllocError) => {
-            job.end(Standing::GivenUp);
-            Turn::NoMemory
-        }
-    }
-}
-
-// Offers the bytes of a temp, if it is whole.
-fn offer(mount: &mut Mount, temp: Option<Temp>)
-    requires { ForSome temp (IsTemp (lowers_of mount.old.layers)) }
-    ensures { mount.new ≡ mount.old }
-{
-    if let Some(temp) = temp
-        && is_whole(mount, &temp)
-    {
-        mount.offer(temp.source(), temp.into_bytes());
-    }
-}
-
-// Whether a temp has all bytes of its file.
-fn is_whole(mount: &Mount, temp: &Temp) -> bool
-    requires { IsTemp (lowers_of mount.now.layers) temp.now }
-    ensures { result ≡ true →
-        bytes_at (lowers_of mount.now.layers) temp.now.source ≡ Some temp.now.bytes }
-{
-    match mount.low_bytes(temp.source()) {
-        Some(bytes) => temp.is_whole(bytes.len()),
-        None => false,
     }
 }
 
@@ -299,6 +298,29 @@ fn keep_begun(
     let size = size_of(mount, Lack::File(source));
     let temp = Temp::begin(mount.alloc(), source, size)?;
     keep(work, job, temp)
+}
+
+// A step that copies a chunk into the temp that there is.
+fn copy_on<F: Callback, R: Rule>(
+    watched: &Watched<F, R>,
+    work: &mut WorkDir,
+    job: &mut Job,
+    temp: Option<Temp>,
+) -> Turn
+    requires open { job.old.standing ≡ Standing.Open }
+    requires counts { ForSome temp (λ t. (0 < job.old.begins)
+        × (t.chunks ≡ job.old.chunks)) }
+    requires due { IsNext watched.now.mount job.old temp Next.Copy }
+    requires temps { AreTemps (lowers_of watched.now.mount.layers) work.old }
+    requires temp { ForSome temp (IsTemp (lowers_of watched.now.mount.layers)) }
+    ensures makes { Makes watched.now watched.now work.old work.new job.old job.new R.shows result
+        Next.Copy temp }
+    ensures stepped { IsStepped job.old job.new }
+{
+    match temp {
+        Some(temp) => copy(watched, work, job, temp),
+        None => unreachable!(),
+    }
 }
 
 // A step that copies a chunk.

@@ -1,6 +1,7 @@
 use Rattle.layer_tree.specs.Tree.{layer_of}
 use Rattle.copy_up.specs.declared.needs.Need.TheVariants as need
-use Rattle.mount_calls.specs.Lacks.{lacking}
+use Rattle.std.proofs.Common.{sym, ap}
+use Rattle.mount_calls.specs.Lacks.{lacking, need_of}
 use Rattle.mount_calls.proofs.Lacking.{lack-besides, lack-parent, law_of_needs}
 use Rattle.mount_calls.proofs.lacks.way_lack.Goals as goal
 
@@ -15,3 +16,9 @@ returns-in-Nothing c =
     let U = layer_of c.args.layers.now.upper in
     let p = c.args.path.now in
     lack-besides c.args.second (lacking U p) c.args.besides ((law_of_needs U p need.Nothing).0 c.in-Nothing.ensures)
+
+pub returns-then-near : goal.returns-then-near
+returns-then-near c =
+    let U = layer_of c.args.layers.now.upper in
+    let p = c.args.path.now in
+    lack-besides c.args.second (lacking U p) c.args.besides (sym (ap need_of (c.requires c.if-near.true)))

@@ -21,7 +21,7 @@ returns-in-Err-clause-makes g c = λ t.
     (λ s a. a, c.end.ensures.standing) (c.in-Err.ensures.same, c.end.ensures.number)
 
 pub keep_begun-requires-clause-can : goal.keep_begun-requires-clause-can
-keep_begun-requires-clause-can g c = (c.requires.due None).0
+keep_begun-requires-clause-can g c = (c.requires.due None).1
 
 pub begin-requires-clause-few : goal.begin-requires-clause-few
-begin-requires-clause-few g c = (c.requires.due None).1
+begin-requires-clause-few g c = (c.requires.due None).2

@@ -7,6 +7,18 @@ use Rattle.overlay_core.proofs.stepping.make.Goals as goal
 pub finish-requires-clause-state : goal.finish-requires-clause-state
 finish-requires-clause-state g c = rw c.remember.ensures c.requires.state
 
+pub plain-requires-clause-state : goal.plain-requires-clause-state
+plain-requires-clause-state g c = rw c.remember.ensures c.requires.state
+
+pub returns-then-not-may_lack-clause-makes : goal.returns-then-not-may_lack-clause-makes
+returns-then-not-may_lack-clause-makes g c =
+    made-over g.R.Rule.shows c.args.watched.now c.plain.new.watched c.remember.new.self
+    (without c.args.work.now c.args.job.now) c.held-temp.new.work c.held-temp.new.work
+    c.args.job.now c.plain.new.job c.plain.result Finish (held_by c.args.work.now c.args.job.now)
+    c.remember.ensures c.held-temp.ensures.table
+    (c.plain.ensures.makes c.held-temp.new.work Finish (held_by c.args.work.now c.args.job.now) tt
+    (rw c.remember.ensures (c.held-temp.ensures.temps (lowers_of c.args.watched.now.mount.layers) c.requires.temps).0))
+
 pub returns-clause-makes : goal.returns-clause-makes
 returns-clause-makes g c =
     made-over g.R.Rule.shows c.args.watched.now c.finish.new.watched c.remember.new.self

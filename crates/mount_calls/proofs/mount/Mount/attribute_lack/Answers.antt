@@ -10,24 +10,30 @@ use Rattle.mount_calls.proofs.Stating.{the_layers, the_lowers, the_upper}
 use Rattle.mount_calls.proofs.mount.Mount.attribute_lack.Goals as goal
 
 pub judged-requires : goal.judged-requires
-judged-requires c = (c.args.path.now, c.look-look.ensures)
+judged-requires c = (c.args.path.now, (c.one-look.ensures c.args.self.now.layers c.args.path.now c.requires))
 
 pub low_file-file-requires : goal.low_file-file-requires
 low_file-file-requires c =
-    let target : IsTarget c.args.self.now.layers c.args.path.now c.args.ask c.in-Ok.target = rw c.in-Ok.is at c.judged.ensures c.args.path.now c.look-look.ensures in
+    let target : IsTarget c.args.self.now.layers c.args.path.now c.args.ask c.in-Ok.target = rw c.in-Ok.is at c.judged.ensures c.args.path.now (c.one-look.ensures c.args.self.now.layers c.args.path.now c.requires) in
     (c.args.path.now, target.top)
 
 pub returns-in-Err : goal.returns-in-Err
 returns-in-Err c = λ client.
     let m = c.args.self.now in
     let p = c.args.path.now in
-    tells-refusal m client (call_at p c.args.ask) c.in-Err.errno (refuses-asked m client p c.args.ask (Some c.in-Err.errno) (rw c.in-Err.is at c.judged.ensures p c.look-look.ensures))
+    tells-refusal m client (call_at p c.args.ask) c.in-Err.errno (refuses-asked m client p c.args.ask (Some c.in-Err.errno) (rw c.in-Err.is at c.judged.ensures p (c.one-look.ensures c.args.self.now.layers c.args.path.now c.requires)))
 
 pub returns : goal.returns
 returns c = λ client.
     let m = c.args.self.now in
     let p = c.args.path.now in
-    let target : IsTarget m.layers p c.args.ask c.in-Ok.target = rw c.in-Ok.is at c.judged.ensures p c.look-look.ensures in
+    let target : IsTarget m.layers p c.args.ask c.in-Ok.target = rw c.in-Ok.is at c.judged.ensures p (c.one-look.ensures c.args.self.now.layers c.args.path.now c.requires) in
     tells-one m client (call_at p c.args.ask) p (low_file (shows 0 (the_layers m) p)) c.lack_on.result (refuses-asked m client p c.args.ask None target.allowed)
     (c.lack_on.ensures ∙ ap (λ d. lack_among (the_upper m) false (p ∷ []) d) (c.low_file-file.ensures p target.top))
     (attribute-lack (the_upper m) (the_lowers m) p c.args.ask) (attribute-way m p c.args.ask target.way) (shown-bytes m p)
+
+pub one-look-requires : goal.one-look-requires
+one-look-requires c = (c.args.self.now.layers, c.args.path.now, c.requires)
+
+pub lack_on-requires : goal.lack_on-requires
+lack_on-requires c = λ yes. c.saw_parents-near.ensures yes c.args.path.now (c.one-look.ensures c.args.self.now.layers c.args.path.now c.requires)

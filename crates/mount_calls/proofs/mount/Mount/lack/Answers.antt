@@ -1,4 +1,5 @@
 use Rattle.mount_calls.proofs.Judging.{tells-same}
+use Rattle.mount_calls.proofs.Seen.{looks-of}
 use Rattle.mount_calls.proofs.mount.Mount.lack.Goals as goal
 
 pub returns-in-Chmod : goal.returns-in-Chmod
@@ -30,3 +31,36 @@ returns-in-Hardlink c = tells-same c.args.self.now c.args.client _ _ c.link_lack
 
 pub returns-in-Rename : goal.returns-in-Rename
 returns-in-Rename c = tells-same c.args.self.now c.args.client _ _ c.rename_lack.result c.in-Rename.is (c.rename_lack.ensures c.args.client)
+
+pub attribute_lack-requires : goal.attribute_lack-requires
+attribute_lack-requires c = looks-of _ _ _ _ c.in-Chmod.is c.requires.looks
+
+pub attribute_lack-requires-in-Chown : goal.attribute_lack-requires-in-Chown
+attribute_lack-requires-in-Chown c = looks-of _ _ _ _ c.in-Chown.is c.requires.looks
+
+pub attribute_lack-requires-in-SetAttribute : goal.attribute_lack-requires-in-SetAttribute
+attribute_lack-requires-in-SetAttribute c = looks-of _ _ _ _ c.in-SetAttribute.is c.requires.looks
+
+pub attribute_lack-requires-in-DeleteAttribute : goal.attribute_lack-requires-in-DeleteAttribute
+attribute_lack-requires-in-DeleteAttribute c = looks-of _ _ _ _ c.in-DeleteAttribute.is c.requires.looks
+
+pub mkdir_lack-requires : goal.mkdir_lack-requires
+mkdir_lack-requires c = looks-of _ _ _ _ c.in-Mkdir.is c.requires.looks
+
+pub symlink_lack-requires : goal.symlink_lack-requires
+symlink_lack-requires c = looks-of _ _ _ _ c.in-Symlink.is c.requires.looks
+
+pub unlink_lack-requires : goal.unlink_lack-requires
+unlink_lack-requires c = looks-of _ _ _ _ c.in-Unlink.is c.requires.looks
+
+pub rmdir_lack-requires : goal.rmdir_lack-requires
+rmdir_lack-requires c = looks-of _ _ _ _ c.in-Rmdir.is c.requires.looks
+
+pub link_lack-requires : goal.link_lack-requires
+link_lack-requires c = looks-of _ _ _ _ c.in-Hardlink.is c.requires.looks
+
+pub rename_lack-requires : goal.rename_lack-requires
+rename_lack-requires c = looks-of _ _ _ _ c.in-Rename.is c.requires.looks
+
+pub open_lack-requires-clause-looks : goal.open_lack-requires-clause-looks
+open_lack-requires-clause-looks c = looks-of _ _ _ _ c.in-Open.is c.requires.looks

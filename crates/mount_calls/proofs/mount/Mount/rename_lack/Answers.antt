@@ -14,10 +14,10 @@ use Rattle.mount_calls.proofs.Stating.{the_layers, the_upper}
 use Rattle.mount_calls.proofs.mount.Mount.rename_lack.Goals as goal
 
 pub movable-requires-clause-from : goal.movable-requires-clause-from
-movable-requires-clause-from c = look-seen c.args.self.now.layers c.args.old.now c.look-from.result c.look-from.ensures
+movable-requires-clause-from c = look-seen c.args.self.now.layers c.args.old.now c.both-from.result.0 (c.both-from.ensures c.args.self.now.layers c.args.old.now c.args.new.now c.requires).0
 
 pub movable-requires-clause-onto : goal.movable-requires-clause-onto
-movable-requires-clause-onto c = look-seen c.args.self.now.layers c.args.new.now c.look-onto.result c.look-onto.ensures
+movable-requires-clause-onto c = look-seen c.args.self.now.layers c.args.new.now c.both-from.result.1 (c.both-from.ensures c.args.self.now.layers c.args.old.now c.args.new.now c.requires).1
 
 pub returns-in-Err : goal.returns-in-Err
 returns-in-Err c = λ client.
@@ -53,3 +53,12 @@ returns c = λ client.
     (c.lack_on_both.ensures ∙ ap (λ d. lack_among (the_upper m) false (p ∷ (q ∷ [])) d) (c.found_file-file.ensures p may.shown))
     (rename-apart (the_upper m) p q (is_one (the_upper m) p q) (low_file (shows 0 (the_layers m) p)) may.apart)
     (record { path = refl; way = may.way; opens = tt }) (record { path = refl; way = may.parents; opens = tt }) (shown-bytes m p)
+
+pub both-from-requires : goal.both-from-requires
+both-from-requires c = (c.args.self.now.layers, c.args.old.now, c.args.new.now, c.requires)
+
+pub lack_on_both-requires-clause-old : goal.lack_on_both-requires-clause-old
+lack_on_both-requires-clause-old c = λ yes. c.saw_parents-from_near.ensures yes c.args.old.now (c.both-from.ensures c.args.self.now.layers c.args.old.now c.args.new.now c.requires).0
+
+pub lack_on_both-requires-clause-new : goal.lack_on_both-requires-clause-new
+lack_on_both-requires-clause-new c = λ yes. c.saw_parents-onto_near.ensures yes c.args.new.now (c.both-from.ensures c.args.self.now.layers c.args.old.now c.args.new.now c.requires).1

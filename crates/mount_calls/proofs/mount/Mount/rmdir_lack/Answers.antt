@@ -7,7 +7,7 @@ use Rattle.mount_calls.proofs.Stating.{the_layers}
 use Rattle.mount_calls.proofs.mount.Mount.rmdir_lack.Goals as goal
 
 pub removable-requires : goal.removable-requires
-removable-requires c = look-seen c.args.self.now.layers c.args.path.now c.look-look.result c.look-look.ensures
+removable-requires c = look-seen c.args.self.now.layers c.args.path.now c.one-look.result (c.one-look.ensures c.args.self.now.layers c.args.path.now c.requires)
 
 pub returns-in-Ok : goal.returns-in-Ok
 returns-in-Ok c = λ client.
@@ -21,3 +21,6 @@ returns-in-Err c = λ client.
     let m = c.args.self.now in
     let p = c.args.path.now in
     tells-refusal m client (call.Rmdir p) c.in-Err.errno (λ s st. c.in-Err.ensures.refuses s st.layers client)
+
+pub one-look-requires : goal.one-look-requires
+one-look-requires c = (c.args.self.now.layers, c.args.path.now, c.requires)

@@ -16,6 +16,7 @@ invariant_of-self g c =
       begins = has-begun (c.args.self.now.finished + 1) (machine_options c.args.self.now.options) new.mount new.notifier (some-more c.args.self.now.finished);
       given = given-more old.mount.clients.next new.mount.clients.next c.args.self.now.finished c.args.self.now.given made.clients.next;
       short = c.args.self.now.short;
+      waits = c.in-Done.ensures.waits;
       temps = made.temps;
       limits = limits-on old.mount.layers new.mount.layers made.lowers c.args.self.now.limits;
     }
@@ -57,6 +58,7 @@ invariant_of-self-in-More g c =
       begins = has-begun c.args.self.now.finished (machine_options c.args.self.now.options) new.mount new.notifier (some-finished c.args.job.now.client old.mount.clients.next c.args.self.now.finished there before);
       given = given-same old.mount.clients.next new.mount.clients.next c.args.self.now.finished before made.clients.next;
       short = c.args.self.now.short;
+      waits = c.in-More.ensures.waits;
       temps = made.temps;
       limits = limits-on old.mount.layers new.mount.layers made.lowers c.args.self.now.limits;
     }
@@ -95,6 +97,7 @@ invariant_of-self-in-NoMemory g c =
       begins = has-begun c.args.self.now.finished (machine_options c.args.self.now.options) new.mount new.notifier (some-finished c.args.job.now.client old.mount.clients.next c.args.self.now.finished there before);
       given = given-same old.mount.clients.next new.mount.clients.next c.args.self.now.finished before made.clients.next;
       short = c.args.self.now.short;
+      waits = c.in-NoMemory.ensures.waits;
       temps = made.temps;
       limits = limits-on old.mount.layers new.mount.layers made.lowers c.args.self.now.limits;
     }

@@ -3,6 +3,7 @@ use Rattle.plain_model.specs.Runs.{Attached}
 use Rattle.merged_lookup.specs.declared.layers.Layers.{Layers}
 use Rattle.overlay_core.specs.Mounting.{machine_options}
 use Rattle.overlay_core.proofs.Agreeing.{begins-on, given-next, given-same, goes-on, has-begun, some-more, stays-on, temps-on, limits-on}
+use Rattle.overlay_core.proofs.Waited.{none-waits}
 use Rattle.overlay_core.proofs.mounted.Core.attach.Goals as goal
 
 pub invariant_of-self : goal.invariant_of-self
@@ -14,6 +15,7 @@ invariant_of-self g c =
       begins = begins-on c.args.self.now.finished (machine_options c.args.self.now.options) old.mount new.mount old.notifier new.notifier c.args.self.now.begins c.attach.ensures.layers c.in_err-client.ensures.stays;
       given = given-same old.mount.clients.next new.mount.clients.next c.args.self.now.finished c.args.self.now.given c.in_err-client.ensures.kept.next;
       short = c.args.self.now.short;
+      waits = none-waits new.mount c.clear.new.self.items c.clear.ensures.items;
       temps = temps-on c.args.self.now.work old.mount.layers new.mount.layers (ap (λ (l : Layers). l.lowers) c.attach.ensures.layers) c.args.self.now.temps;
       limits = limits-on old.mount.layers new.mount.layers (ap (λ (l : Layers). l.lowers) c.attach.ensures.layers) c.args.self.now.limits;
     }
@@ -29,6 +31,7 @@ invariant_of-self-2 g c =
       begins = has-begun (c.args.self.now.finished + 1) (machine_options c.args.self.now.options) new.mount new.notifier (some-more c.args.self.now.finished);
       given = given-next old.mount.clients.next new.mount.clients.next c.in_ok-client.client c.args.self.now.finished c.args.self.now.given came.next came.rises;
       short = c.args.self.now.short;
+      waits = none-waits new.mount c.clear.new.self.items c.clear.ensures.items;
       temps = temps-on c.args.self.now.work old.mount.layers new.mount.layers (ap (λ (l : Layers). l.lowers) c.attach.ensures.layers) c.args.self.now.temps;
       limits = limits-on old.mount.layers new.mount.layers (ap (λ (l : Layers). l.lowers) c.attach.ensures.layers) c.args.self.now.limits;
     }

@@ -3,6 +3,7 @@ use Rattle.plain_model.specs.Runs.{Called}
 use Rattle.overlay_core.specs.Mounting.{machine_options}
 use Rattle.overlay_core.proofs.Agreeing.{given-more, given-same, goes-on, has-begun, limits-on, some-finished, some-more, stays-on}
 use Rattle.overlay_core.proofs.StepsMade.{brings-made}
+use Rattle.overlay_core.proofs.Waited.{none-waits}
 use Rattle.overlay_core.proofs.mounted.Core.complete.Goals as goal
 
 pub invariant_of-self : goal.invariant_of-self
@@ -16,6 +17,7 @@ invariant_of-self g c =
       begins = has-begun (c.args.self.now.finished + 1) (machine_options c.args.self.now.options) new.mount new.notifier (some-more c.args.self.now.finished);
       given = given-more old.mount.clients.next new.mount.clients.next c.args.self.now.finished c.args.self.now.given made.clients.next;
       short = c.args.self.now.short;
+      waits = none-waits new.mount c.clear.new.self.items c.clear.ensures.items;
       temps = made.temps;
       limits = limits-on old.mount.layers new.mount.layers made.lowers c.args.self.now.limits;
     }
@@ -49,6 +51,7 @@ invariant_of-self-in-NoMemory g c =
       begins = has-begun c.args.self.now.finished (machine_options c.args.self.now.options) new.mount new.notifier (some-finished c.args.job.now.client old.mount.clients.next c.args.self.now.finished there before);
       given = given-same old.mount.clients.next new.mount.clients.next c.args.self.now.finished before made.clients.next;
       short = c.args.self.now.short;
+      waits = none-waits new.mount c.clear.new.self.items c.clear.ensures.items;
       temps = made.temps;
       limits = limits-on old.mount.layers new.mount.layers made.lowers c.args.self.now.limits;
     }

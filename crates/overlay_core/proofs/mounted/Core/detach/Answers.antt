@@ -4,6 +4,7 @@ use Rattle.overlay_core.specs.Mounting.{machine_options}
 use Rattle.overlay_core.proofs.Agreeing.{given-more, goes-on, has-begun, limits-on, some-more, temps-on}
 use Rattle.merged_lookup.specs.Merged.{lowers_of}
 use Rattle.overlay_core.proofs.TempFits.{forgotten-fit}
+use Rattle.overlay_core.proofs.Waited.{none-waits}
 use Rattle.overlay_core.proofs.mounted.Core.detach.Goals as goal
 
 pub invariant_of-self : goal.invariant_of-self
@@ -15,6 +16,7 @@ invariant_of-self g c =
       begins = has-begun (c.args.self.now.finished + 1) (machine_options c.args.self.now.options) new.mount new.notifier (some-more c.args.self.now.finished);
       given = given-more old.mount.clients.next new.mount.clients.next c.args.self.now.finished c.args.self.now.given c.detach.ensures.clients.next;
       short = c.args.self.now.short;
+      waits = none-waits new.mount c.clear.new.self.items c.clear.ensures.items;
       temps = temps-on c.forget.new.self old.mount.layers new.mount.layers c.detach.ensures.layers.lowers
           (forgotten-fit (lowers_of old.mount.layers) c.args.self.now.work c.forget.new.self c.args.client c.forget.ensures.numbers c.args.self.now.temps);
       limits = limits-on old.mount.layers new.mount.layers c.detach.ensures.layers.lowers c.args.self.now.limits;

@@ -10,6 +10,7 @@ invariant_of-self g c =
       begins = self.begins;
       given = self.given;
       short = self.short;
+      waits = self.waits;
       temps = closed-fit (lowers_of self.watched.mount.layers) self.work c.close.new.self c.number.result c.client.result
           c.close.ensures.table c.close.ensures.numbers self.temps;
       limits = self.limits;

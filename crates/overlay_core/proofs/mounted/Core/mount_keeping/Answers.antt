@@ -8,6 +8,7 @@ use Rattle.merged_lookup.specs.Merged.{layers_of, lowers_of}
 use Rattle.overlay_core.specs.Mounting.{machine_options, mount_fault}
 use Rattle.overlay_core.specs.Watching.{BeginsWith}
 use Rattle.overlay_core.proofs.Agreeing.{all-below, bounded, has-state, no-temps}
+use Rattle.overlay_core.proofs.Waited.{none-waits}
 use Rattle.overlay_core.proofs.mounted.Core.mount_keeping.Goals as goal
 
 pub invariant_of-result : goal.invariant_of-result
@@ -22,6 +23,7 @@ invariant_of-result g c =
       begins = merely (λ none. begins);
       given = omega (arith, c.in_ok-watched.ensures.first);
       short = bounded (vec_len c.args.lowers) c.args.options none;
+      waits = none-waits w.mount c.new-3.result.items c.new-3.ensures.items;
       temps = no-temps (lowers_of w.mount.layers) c.new-work.result c.new-work.ensures;
       limits = merely (rw (c.in_ok-watched.ensures.layers, same, c.in_ok-layers.ensures.lowers)
           (all-below (layer_of c.args.upper) (map layer_of c.args.lowers.items) c.requires.limits));

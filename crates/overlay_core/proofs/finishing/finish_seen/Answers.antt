@@ -1,0 +1,19 @@
+use Rattle.overlay_core.proofs.StepsMade.{ended-over, made-ended, performs-on}
+use Rattle.overlay_core.proofs.finishing.finish_seen.Goals as goal
+
+pub returns-clause-makes : goal.returns-clause-makes
+returns-clause-makes g c = λ work next t last temps.
+    let old = c.args.watched.now in
+    let made = c.perform-outcome.new.self in
+    let j = c.args.job.now in
+    made-ended g.R.Rule.shows old (record { mount = c.withdraw.new.self; notifier = made.notifier }) work j
+    c.ended.new.job next t last temps c.perform-outcome.result c.ended.result c.ended.ensures.ends
+    (performs-on g.R.Rule.shows old made c.offer.new.mount c.withdraw.new.self j.client c.client.result j.call
+    c.call.result.now c.perform-outcome.result c.offer.ensures c.withdraw.ensures c.client.ensures c.call.ensures
+    c.perform-outcome.ensures)
+
+pub returns-clause-over : goal.returns-clause-over
+returns-clause-over g c = ended-over c.ended.new.job c.perform-outcome.result c.ended.result c.ended.ensures.ends
+
+pub perform-outcome-requires-clause-state : goal.perform-outcome-requires-clause-state
+perform-outcome-requires-clause-state g c = rw c.offer.ensures c.requires.state

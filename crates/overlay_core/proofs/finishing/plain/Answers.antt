@@ -1,0 +1,22 @@
+use Rattle.std.proofs.Common.{refl}
+use Rattle.overlay_core.proofs.StepsMade.{ended-memory, ended-over, made-ended, performs-on}
+use Rattle.overlay_core.proofs.finishing.plain.Goals as goal
+
+pub returns-clause-makes : goal.returns-clause-makes
+returns-clause-makes g c = λ work next t last temps.
+    let old = c.args.watched.now in
+    let made = c.perform_plain-outcome.new.self in
+    let j = c.args.job.now in
+    made-ended g.R.Rule.shows old made work j
+    c.ended.new.job next t last temps c.perform_plain-outcome.result c.ended.result c.ended.ensures.ends
+    (performs-on g.R.Rule.shows old made old.mount made.mount j.client c.client.result j.call
+    c.call.result.now c.perform_plain-outcome.result refl refl c.client.ensures c.call.ensures
+    c.perform_plain-outcome.ensures.performs)
+
+pub returns-clause-over : goal.returns-clause-over
+returns-clause-over g c = ended-over c.ended.new.job c.perform_plain-outcome.result c.ended.result c.ended.ensures.ends
+
+pub returns-clause-memory : goal.returns-clause-memory
+returns-clause-memory g c = λ none.
+    ended-memory c.ended.new.job c.perform_plain-outcome.result c.ended.result c.ended.ensures.ends
+    ((rw c.call.ensures at c.perform_plain-outcome.ensures.memory) none)
