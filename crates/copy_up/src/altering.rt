@@ -13,7 +13,7 @@ ghost use Rattle.copy_up.specs.Showing.{number_of, ShowsSame, ChangesNoSight, Ga
 ghost use Rattle.copy_up.specs.Altering.{AltersObject, AltersAs, AltersObjectAs};
 
 use crate::leaves::all_at_once;
-use crate::parents::{place_parent, place_parents};
+use crate::parents::{place_parent, place_parents, placed_or};
 use merged_lookup::{Layers, Place, Stack, Topmost};
 use ov_base::{AttributeChange, Attributes, Path};
 use std::alloc::AllocError;
@@ -26,12 +26,12 @@ use std::alloc::AllocError;
 pub fn alter(
     layers: &mut Layers,
     path: &Path,
-    directory: Stack,
+    directory: &Stack,
     top: Topmost,
     change: AttributeChange,
 ) -> Result<usize, AllocError>
     requires way { parents_fault (layers_of layers.old) path.now ≡ None }
-    requires directory { IsStackOf layers.old (parent path.now) directory }
+    requires directory { IsStackOf layers.old (parent path.now) directory.now }
     requires shown { IsTopmost layers.old path.now (Some top) }
     ensures altered { OnOk result (AltersAs layers.old layers.new path.now change) }
     ensures object { OnOk result (AltersObjectAs layers.old layers.new path.now change) }
@@ -58,12 +58,12 @@ pub fn alter(
 fn place_changed(
     layers: &mut Layers,
     path: &Path,
-    directory: Stack,
+    directory: &Stack,
     place: Place,
     change: AttributeChange,
 ) -> Result<usize, AllocError>
     requires way { parents_fault (layers_of layers.old) path.now ≡ None }
-    requires directory { IsStackOf layers.old (parent path.now) directory }
+    requires directory { IsStackOf layers.old (parent path.now) directory.now }
     requires shown { (a : AttributesOf) ×
         (shows 0 (layers_of layers.old) path.now ≡ Some (Folder place.layer place.key a)) }
     requires lower { 0 < place.layer }
@@ -100,11 +100,11 @@ fn changed_directory(
 fn place_with(
     layers: &mut Layers,
     path: &Path,
-    directory: Stack,
+    directory: &Stack,
     attributes: Attributes,
 ) -> Result<usize, AllocError>
     requires way { parents_fault (layers_of layers.old) path.now ≡ None }
-    requires directory { IsStackOf layers.old (parent path.now) directory }
+    requires directory { IsStackOf layers.old (parent path.now) directory.now }
     requires shown { is_directory (shows 0 (layers_of layers.old) path.now) ≡ true }
     requires below { path.now ≢ [] }
     ensures altered { OnOk result (AreLayers (layers_of layers.old) →
@@ -128,9 +128,9 @@ fn place_with(
 
 // The merged directory that a path below the root shows, where the upper has it: it is placed there
 // where the upper lacks it, and so are its parents.
-fn place_at(layers: &mut Layers, path: &Path, directory: Stack) -> Result<Stack, AllocError>
+fn place_at(layers: &mut Layers, path: &Path, directory: &Stack) -> Result<Stack, AllocError>
     requires way { parents_fault (layers_of layers.old) path.now ≡ None }
-    requires directory { IsStackOf layers.old (parent path.now) directory }
+    requires directory { IsStackOf layers.old (parent path.now) directory.now }
     requires shown { is_directory (shows 0 (layers_of layers.old) path.now) ≡ true }
     requires below { path.now ≢ [] }
     ensures same { ShowsSame layers.old layers.new }
@@ -143,20 +143,20 @@ fn place_at(layers: &mut Layers, path: &Path, directory: Stack) -> Result<Stack,
     let Some((name, parents)) = path.split_last() else {
         unreachable!()
     };
-    let parent = place_parents(layers, directory, parents)?;
-    place_parent(layers, &parent, name)
+    let placed = place_parents(layers, directory, parents)?;
+    place_parent(layers, placed_or(&placed, directory), name)
 }
 
 // `alter` of a file or symbolic link of a lower layer, which is copied up.
 fn copy_changed(
     layers: &mut Layers,
     path: &Path,
-    directory: Stack,
+    directory: &Stack,
     place: Place,
     change: AttributeChange,
 ) -> Result<usize, AllocError>
     requires way { parents_fault (layers_of layers.old) path.now ≡ None }
-    requires directory { IsStackOf layers.old (parent path.now) directory }
+    requires directory { IsStackOf layers.old (parent path.now) directory.now }
     requires shown { ShowsInode layers.old path.now place }
     requires lower { 0 < place.layer }
     ensures altered { OnOk result (AltersAs layers.old layers.new path.now change) }

@@ -9,7 +9,7 @@ ghost use Rattle.merged_lookup.specs.Merged.{layers_of, way_fault, IsStackOf};
 ghost use Rattle.copy_up.specs.Showing.{ChangesNoSight, HasPlace, GainsParents, StaysSound};
 ghost use Rattle.copy_up.specs.Leaves.{CopiesLeaf};
 
-use crate::parents::place_parents;
+use crate::parents::{place_parents, placed_or};
 use layer_tree::Object;
 use merged_lookup::{Layers, Place, Stack};
 use ov_base::{Attributes, Content, Name};
@@ -21,14 +21,14 @@ use std::alloc::AllocError;
 /// fails only when out of memory, and changes nothing that is shown then.
 pub fn all_at_once(
     layers: &mut Layers,
-    directory: Stack,
+    directory: &Stack,
     parents: &[Name],
     name: &Name,
     place: Place,
     attributes: Attributes,
 ) -> Result<usize, AllocError>
     requires way { way_fault (layers_of layers.old) (reverse parents.now) ≡ None }
-    requires directory { IsStackOf layers.old (reverse parents.now) directory }
+    requires directory { IsStackOf layers.old (reverse parents.now) directory.now }
     requires shown { (i : Inode) ×
         (shows 0 (layers_of layers.old) (name.now ∷ reverse parents.now) ≡
         Some (Contents place.layer place.key (Some i))) }
@@ -43,8 +43,8 @@ pub fn all_at_once(
     ensures sound { StaysSound layers.old layers.new }
 {
     let content = layers.content_of(place)?;
-    let parent = place_parents(layers, directory, parents)?;
-    let dir = parent.top();
+    let placed = place_parents(layers, directory, parents)?;
+    let dir = placed_or(&placed, directory).top();
     let key = insert_leaf(layers, dir.key, name, content, attributes)?;
     Ok(key)
 }

@@ -9,4 +9,4 @@ mod parents;
 pub use altering::alter;
 pub use leaves::{all_at_once, insert_leaf};
 pub use needs::{Need, need_at, place_dir};
-pub use parents::{insert_directory, place_parents};
+pub use parents::{insert_directory, place_parents, placed_or};

@@ -1,5 +1,5 @@
 // Directories that only lower layers have, placed in the upper.
-ghost use Rattle.std.specs.Prelude.{◌≡◌, ◌∷◌, ℕ, Some, None, true, false, reverse, IfOk, OnOk, OnErr};
+ghost use Rattle.std.specs.Prelude.{◌≡◌, ◌∷◌, ℕ, Some, None, true, false, reverse, unwrap_or, IfOk, OnOk, OnErr};
 ghost use Rattle.ov_base.specs.declared.attributes.Attributes.{Attributes};
 ghost use Rattle.plain_model.specs.Layers as held;
 ghost use Rattle.plain_model.specs.Layers.{Path, shows, is_directory, IsLayer};
@@ -14,29 +14,42 @@ use merged_lookup::{Found, Layers, Stack};
 use ov_base::{Attributes, Name};
 use std::alloc::AllocError;
 
-/// The merged directory at these names from the root down, where the upper has one: the one that is
-/// given, if the upper has it. Those that the upper lacks are placed first, from the root down,
-/// with the attributes that they show. It fails only when out of memory; what is shown stays the
-/// same in each case.
+/// Places those directories at these names from the root down that the upper lacks, with the
+/// attributes that they show, and gives the merged directory at the last one then; none where the
+/// upper has the one that is given, so that it stays as it is. It fails only when out of memory;
+/// what is shown stays the same in each case.
 pub fn place_parents(
     layers: &mut Layers,
-    directory: Stack,
+    directory: &Stack,
     names: &[Name],
-) -> Result<Stack, AllocError>
+) -> Result<Option<Stack>, AllocError>
     requires way { way_fault (layers_of layers.old) (reverse names.now) ≡ None }
-    requires directory { IsStackOf layers.old (reverse names.now) directory }
+    requires directory { IsStackOf layers.old (reverse names.now) directory.now }
     ensures same { ShowsSame layers.old layers.new }
-    ensures stack { IfOk result (λ s. IsStackOf layers.new (reverse names.now) s) }
-    ensures upper { IfOk result (λ s. (top_of s.places.items).layer ≡ 0) }
+    ensures stack { IfOk result (λ s.
+        IsStackOf layers.new (reverse names.now) (unwrap_or s directory.now)) }
+    ensures upper { IfOk result (λ s.
+        (top_of (unwrap_or s directory.now).places.items).layer ≡ 0) }
     ensures stays { Stays layers.old layers.new }
     ensures gains { (n : held.Name) → GainsParents layers.old layers.new (n ∷ reverse names.now) }
     ensures proper { OnErr result (GainsParents layers.old layers.new (reverse names.now)) }
 {
     let top = directory.top();
     if top.layer == 0 {
-        return Ok(directory);
+        return Ok(None);
     }
-    place_from_root(layers, names)
+    let placed = place_from_root(layers, names)?;
+    Ok(Some(placed))
+}
+
+/// The merged directory that was placed, or else the one that was there.
+pub fn placed_or<'a>(placed: &'a Option<Stack>, directory: &'a Stack) -> &'a Stack
+    ensures { result.now ≡ unwrap_or placed.now directory.now }
+{
+    match placed {
+        Some(placed) => placed,
+        None => directory,
+    }
 }
 
 // `place_parents`, name by name.

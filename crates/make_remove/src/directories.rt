@@ -8,7 +8,7 @@ ghost use Rattle.make_remove.specs.Sights.{IsSeen};
 
 use crate::objects::{new_attributes, vacant};
 use crate::seen::Seen;
-use copy_up::{insert_directory, place_parents};
+use copy_up::{insert_directory, place_parents, placed_or};
 use merged_lookup::{Layers, Stack};
 use ov_base::{Errno, Mode, Path};
 use std::alloc::{AllocError, Global};
@@ -21,10 +21,10 @@ pub fn mkdir(
     alloc: Global,
     layers: &mut Layers,
     path: &Path,
-    seen: Seen,
+    seen: &Seen,
     mode: Mode,
 ) -> Result<Result<(), Errno>, AllocError>
-    requires { IsSeen layers.old path.now seen }
+    requires { IsSeen layers.old path.now seen.now }
     ensures refused { IfOk result (λ r. IfErr r (λ e.
         mkdir_fault (layers_of layers.old) path.now mode ≡ Some e)) }
     ensures unchanged { IfOk result (λ r. OnErr r (layers.new ≡ layers.old)) }
@@ -49,11 +49,11 @@ pub fn mkdir(
 fn make(
     alloc: Global,
     layers: &mut Layers,
-    directory: Stack,
+    directory: &Stack,
     path: &Path,
     mode: Mode,
 ) -> Result<(), AllocError>
-    requires directory { IsStackOf layers.old (parent path.now) directory }
+    requires directory { IsStackOf layers.old (parent path.now) directory.now }
     requires parents { parents_fault (layers_of layers.old) path.now ≡ None }
     requires absent { shows 0 (layers_of layers.old) path.now ≡ None }
     requires allowed { mkdir_fault (layers_of layers.old) path.now mode ≡ None }
@@ -66,8 +66,9 @@ fn make(
     let Some((name, parents)) = path.split_last() else {
         unreachable!()
     };
-    let parent = place_parents(layers, directory, parents)?;
-    let opaque = layers.lowers_show_directory(&parent, name);
+    let placed = place_parents(layers, directory, parents)?;
+    let parent = placed_or(&placed, directory);
+    let opaque = layers.lowers_show_directory(parent, name);
     let attributes = new_attributes(alloc, mode);
     let dir = parent.top();
     insert_directory(layers, dir.key, name, attributes, opaque)?;

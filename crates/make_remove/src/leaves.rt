@@ -11,7 +11,7 @@ ghost use Rattle.ov_base.specs.declared.bytes.Content.TheVariants as content;
 
 use crate::objects::{new_attributes, vacant};
 use crate::seen::Seen;
-use copy_up::{insert_leaf, place_parents};
+use copy_up::{insert_leaf, place_parents, placed_or};
 use merged_lookup::{Layers, Stack};
 use ov_base::{Attributes, Bytes, Content, Errno, LinkTarget, Mode, Path};
 use std::alloc::{AllocError, Global};
@@ -25,9 +25,9 @@ pub fn symlink(
     layers: &mut Layers,
     target: LinkTarget,
     path: &Path,
-    seen: Seen,
+    seen: &Seen,
 ) -> Result<Result<(), Errno>, AllocError>
-    requires { IsSeen layers.old path.now seen }
+    requires { IsSeen layers.old path.now seen.now }
     ensures refused { IfOk result (λ r. IfErr r (λ e.
         symlink_fault (layers_of layers.old) target path.now ≡ Some e)) }
     ensures unchanged { IfOk result (λ r. OnErr r (layers.new ≡ layers.old)) }
@@ -63,11 +63,11 @@ pub fn symlink(
 pub fn create(
     alloc: Global,
     layers: &mut Layers,
-    directory: Stack,
+    directory: &Stack,
     path: &Path,
     mode: Mode,
 ) -> Result<usize, AllocError>
-    requires directory { IsStackOf layers.old (parent path.now) directory }
+    requires directory { IsStackOf layers.old (parent path.now) directory.now }
     requires parents { parents_fault (layers_of layers.old) path.now ≡ None }
     requires absent { shows 0 (layers_of layers.old) path.now ≡ None }
     ensures made { IfOk result (λ key.
@@ -93,12 +93,12 @@ pub fn create(
 // Makes a file or symbolic link in this merged directory, where nothing is shown, and gives its key.
 fn make_leaf(
     layers: &mut Layers,
-    directory: Stack,
+    directory: &Stack,
     path: &Path,
     content: Content,
     attributes: Attributes,
 ) -> Result<usize, AllocError>
-    requires directory { IsStackOf layers.old (parent path.now) directory }
+    requires directory { IsStackOf layers.old (parent path.now) directory.now }
     requires parents { parents_fault (layers_of layers.old) path.now ≡ None }
     requires absent { shows 0 (layers_of layers.old) path.now ≡ None }
     ensures made { IfOk result (λ key.
@@ -111,8 +111,8 @@ fn make_leaf(
     let Some((name, parents)) = path.split_last() else {
         unreachable!()
     };
-    let parent = place_parents(layers, directory, parents)?;
-    let dir = parent.top();
+    let placed = place_parents(layers, directory, parents)?;
+    let dir = placed_or(&placed, directory).top();
     let key = insert_leaf(layers, dir.key, name, content, attributes)?;
     Ok(key)
 }

@@ -14,21 +14,21 @@ use std::alloc::Global;
 
 /// The merged directory in which an object may be made at a path, by what was seen there. The way
 /// to the last name is refused as `mkdir`'s, and where something is shown it is EEXIST.
-pub fn vacant(seen: Seen) -> Result<Stack, Errno>
+pub fn vacant(seen: &Seen) -> Result<&Stack, Errno>
     ensures cases { MatchResult result
-        (λ _. (l : LayersOf) (p : Names) → IsSeen l p seen → vacancy_fault (layers_of l) p ≡ None)
-        (λ e. (l : LayersOf) (p : Names) → IsSeen l p seen →
+        (λ _. (l : LayersOf) (p : Names) → IsSeen l p seen.now → vacancy_fault (layers_of l) p ≡ None)
+        (λ e. (l : LayersOf) (p : Names) → IsSeen l p seen.now →
         vacancy_fault (layers_of l) p ≡ Some e) }
-    ensures parents { IfOk result (λ _. (l : LayersOf) (p : Names) → IsSeen l p seen →
+    ensures parents { IfOk result (λ _. (l : LayersOf) (p : Names) → IsSeen l p seen.now →
         parents_fault (layers_of l) p ≡ None) }
-    ensures absent { IfOk result (λ _. (l : LayersOf) (p : Names) → IsSeen l p seen →
+    ensures absent { IfOk result (λ _. (l : LayersOf) (p : Names) → IsSeen l p seen.now →
         shows 0 (layers_of l) p ≡ None) }
-    ensures parent { IfOk result (λ s. (l : LayersOf) (p : Names) → IsSeen l p seen →
-        IsStackOf l (parent p) s) }
+    ensures parent { IfOk result (λ s. (l : LayersOf) (p : Names) → IsSeen l p seen.now →
+        IsStackOf l (parent p) s.now) }
 {
     let (directory, top) = match seen {
         Ok(shown) => shown,
-        Err(errno) => return Err(errno),
+        Err(errno) => return Err(*errno),
     };
     match top {
         Some(_) => Err(Errno::EEXIST),

@@ -18,7 +18,7 @@ ghost use Rattle.make_remove.specs.Sights.{IsSeen};
 ghost use Rattle.make_remove.specs.Removing.{unlink_fault, rmdir_fault, ShowsNoName, TakesAway, Removes, TellsNames, TakesName, Unnames, released_by, has_more};
 
 use crate::seen::{Seen, found_in, there};
-use copy_up::place_parents;
+use copy_up::{place_parents, placed_or};
 use dir_listing::shows_names;
 use layer_tree::{Entry, Layer, Node};
 use merged_lookup::{Found, Layers, Place, Stack, Topmost};
@@ -32,14 +32,14 @@ const ROOT_REFUSAL: Errno = Errno::EBUSY;
 /// stands, or why unlink(2) refuses it: the root is EBUSY; on the way to the last name a name that
 /// shows nothing is ENOENT, a file ENOTDIR and a symbolic link ELOOP; then a name that shows
 /// nothing is ENOENT and a directory EISDIR.
-pub fn leaf_at(path: &Path, seen: Seen) -> Result<(Stack, Place), Errno>
-    ensures refused { IfErr result (λ e. (l : LayersOf) → IsSeen l path.now seen →
+pub fn leaf_at<'a>(path: &Path, seen: &'a Seen) -> Result<(&'a Stack, Place), Errno>
+    ensures refused { IfErr result (λ e. (l : LayersOf) → IsSeen l path.now seen.now →
         unlink_fault (layers_of l) path.now ≡ Some e) }
-    ensures allowed { OnOk result ((l : LayersOf) → IsSeen l path.now seen →
+    ensures allowed { OnOk result ((l : LayersOf) → IsSeen l path.now seen.now →
         unlink_fault (layers_of l) path.now ≡ None) }
-    ensures directory { IfOk result (λ leaf. (l : LayersOf) → IsSeen l path.now seen →
-        IsStackOf l (parent path.now) leaf.0) }
-    ensures shown { IfOk result (λ leaf. (l : LayersOf) → IsSeen l path.now seen →
+    ensures directory { IfOk result (λ leaf. (l : LayersOf) → IsSeen l path.now seen.now →
+        IsStackOf l (parent path.now) leaf.0.now) }
+    ensures shown { IfOk result (λ leaf. (l : LayersOf) → IsSeen l path.now seen.now →
         ShowsInode l path.now leaf.1) }
 {
     let Some(_) = path.split_last() else {
@@ -60,11 +60,11 @@ pub fn leaf_at(path: &Path, seen: Seen) -> Result<(Stack, Place), Errno>
 /// until it is freed. An allocation failure changes nothing that is shown.
 pub fn unlink(
     layers: &mut Layers,
-    directory: Stack,
+    directory: &Stack,
     path: &Path,
 ) -> Result<Option<usize>, AllocError>
     requires allowed { unlink_fault (layers_of layers.old) path.now ≡ None }
-    requires directory { IsStackOf layers.old (parent path.now) directory }
+    requires directory { IsStackOf layers.old (parent path.now) directory.now }
     ensures takes { OnOk result (TakesName layers.old layers.new path.now) }
     ensures steps { OnOk result ((s : State) →
         IsMountOf (layer_of layers.old.upper) (lowers_of layers.old) s → (c : ℕ) →
@@ -86,8 +86,8 @@ pub fn unlink(
 /// refuses it, judged by what was seen there: the root is EBUSY; the way is refused as in `unlink`;
 /// a name that shows nothing is ENOENT, one that shows no directory ENOTDIR and a directory that
 /// shows a name ENOTEMPTY.
-pub fn removable(layers: &Layers, path: &Path, seen: Seen) -> Result<Stack, Errno>
-    requires { IsSeen layers.now path.now seen }
+pub fn removable<'a>(layers: &Layers, path: &Path, seen: &'a Seen) -> Result<&'a Stack, Errno>
+    requires { IsSeen layers.now path.now seen.now }
     ensures refused { IfErr result (λ e. (full : Bool) →
         TellsNames (layers_of layers.now) path.now full →
         rmdir_fault (layers_of layers.now) path.now full ≡ Some e) }
@@ -96,7 +96,7 @@ pub fn removable(layers: &Layers, path: &Path, seen: Seen) -> Result<Stack, Errn
         refusal s c (call.Rmdir path.now) ≡ Some e) }
     ensures allowed { OnOk result (rmdir_fault (layers_of layers.now) path.now false ≡ None) }
     ensures bare { OnOk result (ShowsNoName (layers_of layers.now) path.now) }
-    ensures directory { IfOk result (λ s. IsStackOf layers.now (parent path.now) s) }
+    ensures directory { IfOk result (λ s. IsStackOf layers.now (parent path.now) s.now) }
 {
     let Some(_) = path.split_last() else {
         return Err(ROOT_REFUSAL);
@@ -105,7 +105,7 @@ pub fn removable(layers: &Layers, path: &Path, seen: Seen) -> Result<Stack, Errn
         Ok(shown) => shown,
         Err(errno) => return Err(errno),
     };
-    let found = found_in(layers, &directory, path, top);
+    let found = found_in(layers, directory, path, top);
     let Found::Directory(stack) = found else {
         return Err(Errno::ENOTDIR);
     };
@@ -121,9 +121,9 @@ pub fn removable(layers: &Layers, path: &Path, seen: Seen) -> Result<Stack, Errn
 pub fn rmdir(
     layers: &mut Layers,
     path: &Path,
-    seen: Seen,
+    seen: &Seen,
 ) -> Result<Result<Option<usize>, Errno>, AllocError>
-    requires { IsSeen layers.old path.now seen }
+    requires { IsSeen layers.old path.now seen.now }
     ensures refused { IfOk result (λ r. IfErr r (λ e.
         (full : Bool) → TellsNames (layers_of layers.old) path.now full →
         rmdir_fault (layers_of layers.old) path.now full ≡ Some e)) }
@@ -159,12 +159,12 @@ pub fn rmdir(
 // Takes away what a name of this merged directory shows and in which no name is shown, and gives the key of what lost its last name.
 fn take_away(
     layers: &mut Layers,
-    directory: Stack,
+    directory: &Stack,
     parents: &[Name],
     name: &Name,
 ) -> Result<Option<usize>, AllocError>
     requires parents { way_fault (layers_of layers.old) (reverse parents.now) ≡ None }
-    requires directory { IsStackOf layers.old (reverse parents.now) directory }
+    requires directory { IsStackOf layers.old (reverse parents.now) directory.now }
     requires bare { ShowsNoName (layers_of layers.old) (name.now ∷ reverse parents.now) }
     ensures takes { OnOk result (TakesName layers.old layers.new (name.now ∷ reverse parents.now)) }
     ensures unnames { IfOk result (λ released.
@@ -173,8 +173,9 @@ fn take_away(
         (GainsParents layers.old layers.new (name.now ∷ reverse parents.now))) }
     ensures sound { StaysSound layers.old layers.new }
 {
-    let parent = place_parents(layers, directory, parents)?;
-    let covered = layers.lowers_show(&parent, name);
+    let placed = place_parents(layers, directory, parents)?;
+    let parent = placed_or(&placed, directory);
+    let covered = layers.lowers_show(parent, name);
     let dir = parent.top();
     layers.lawful();
     let key = remove_name(layers, dir.key, name, covered)?;

@@ -15,22 +15,22 @@ pub type Seen = Result<(Stack, Option<Topmost>), Errno>;
 
 /// The merged directory in which something was seen, and the topmost object; or why a walk there is
 /// refused.
-pub fn there(seen: Seen) -> Result<(Stack, Topmost), Errno>
-    ensures refused { IfErr result (λ e. (l : LayersOf) (p : Names) → IsSeen l p seen →
+pub fn there(seen: &Seen) -> Result<(&Stack, Topmost), Errno>
+    ensures refused { IfErr result (λ e. (l : LayersOf) (p : Names) → IsSeen l p seen.now →
         walk_fault (layers_of l) p ≡ Some e) }
-    ensures fine { OnOk result ((l : LayersOf) (p : Names) → IsSeen l p seen →
+    ensures fine { OnOk result ((l : LayersOf) (p : Names) → IsSeen l p seen.now →
         walk_fault (layers_of l) p ≡ None) }
-    ensures directory { IfOk result (λ w. (l : LayersOf) (p : Names) → IsSeen l p seen →
-        IsStackOf l (parent p) w.0) }
-    ensures top { IfOk result (λ w. (l : LayersOf) (p : Names) → IsSeen l p seen →
+    ensures directory { IfOk result (λ w. (l : LayersOf) (p : Names) → IsSeen l p seen.now →
+        IsStackOf l (parent p) w.0.now) }
+    ensures top { IfOk result (λ w. (l : LayersOf) (p : Names) → IsSeen l p seen.now →
         IsTopmost l p (Some w.1)) }
 {
     let (directory, top) = match seen {
         Ok(shown) => shown,
-        Err(errno) => return Err(errno),
+        Err(errno) => return Err(*errno),
     };
     match top {
-        Some(top) => Ok((directory, top)),
+        Some(top) => Ok((directory, *top)),
         None => Err(Errno::ENOENT),
     }
 }

@@ -1,24 +1,23 @@
 -- What the upper hands down, and what is kept for it.
-use Rattle.std.proofs.Common.{◌≡◌, ℕ, ◌+◌, ◌<◌, ◌++◌, Bool, true, false, not, List, [], ◌∷◌, Option, None, Some, refl, sym, ap, ◌∙◌, subst, inl, inr, ◌⊎◌, ◌==◌, Contains, Result, Ok, Err, OnOk, OnErr, IfSome, Bor, slice_get, is_some, length, map, drop, take, reverse, arith, nat_eq, get_or}
+use Rattle.std.proofs.Common.{◌≡◌, ℕ, ◌+◌, ◌<◌, ◌++◌, Bool, true, false, not, List, [], ◌∷◌, Option, None, Some, refl, sym, ap, ◌∙◌, subst, inl, inr, ◌⊎◌, ◌==◌, Contains, Result, Ok, Err, OnOk, OnErr, slice_get, is_some, length, drop, take, reverse, arith, nat_eq, get_or}
 use Rattle.std.proofs.lemmas.Bool.{false≢true}
 use Rattle.std.proofs.lemmas.List.{length-map}
-use Rattle.std.specs.Option.{option_copied, option_map}
+use Rattle.std.specs.Option.{option_map}
 use Rattle.std.specs.Cmp.Lexicographic.{pointwise}
-use Rattle.std.specs.Map.{lookup}
 use Rattle.std.specs.Global.{Vec}
 use Rattle.lru.specs.LruCache.{LruCache, lru_cache, promoted, put_entries}
-use Rattle.lru.proofs.CallerLemmas.{IsPut, Contains-lookup, Contains-promoted, Contains-put_entries}
+use Rattle.lru.proofs.CallerLemmas.{IsPut, Contains-promoted, Contains-put_entries}
 use Rattle.lru.proofs.Splits.{Contains-head, Contains-tail}
 use Rattle.ov_base.specs.declared.attributes.Attributes.{Attributes}
 use Rattle.ov_base.specs.declared.errno.Errno.{Errno}
-use Rattle.plain_model.specs.Layers.{Name, Path, Object, Directory, Named, Whiteout, Inode, Layer, held, below, cuts, cut, spell, Shown, Folder, Contents, over, unless, shows, holds_directory, is_directory}
+use Rattle.plain_model.specs.Layers.{Name, Path, Object, Directory, Named, Whiteout, Inode, Layer, held, below, cuts, cut, spell, Shown, over, unless, shows, holds_directory, is_directory}
 use Rattle.layer_tree.specs.Tree.{Tree, layer_of, key_at}
 use Rattle.merged_lookup.specs.declared.found.Topmost.{Topmost}
 use Rattle.merged_lookup.specs.declared.found.Topmost.TheVariants as shown
 use Rattle.merged_lookup.specs.declared.kept.Kept.{Kept}
 use Rattle.merged_lookup.specs.declared.layers.Layers.{Layers}
 use Rattle.merged_lookup.specs.declared.stack.Place.{Place}
-use Rattle.merged_lookup.specs.Merged.{trees, layers_of, lowers_of, level, place_in, unless_cut, places_at, parents_fault, way_fault, parent, IsTopmost, IsStackOf}
+use Rattle.merged_lookup.specs.Merged.{trees, layers_of, lowers_of, place_in, unless_cut, places_at, way_fault, IsTopmost}
 use Rattle.merged_lookup.specs.Descent.{holds_in, places_from, descend, first, place_shown, leads, without_upper}
 use Rattle.merged_lookup.specs.Locating.{place_of}
 use Rattle.merged_lookup.specs.Passing.{directory_key, holds_under}

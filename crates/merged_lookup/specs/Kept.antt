@@ -1,10 +1,9 @@
 -- What the lower layers show at a spelling. It never changes, so it can be kept.
-use Rattle.std.specs.Prelude.{◌≡◌, ℕ, false, List, ◌∷◌, Option, None, Some, Contains, reverse}
+use Rattle.std.specs.Prelude.{◌≡◌, ℕ, false, List, Option, None, Some, Contains, reverse}
 use Rattle.std.specs.Global.{Vec}
 use Rattle.ov_base.specs.declared.attributes.Attributes.{Attributes}
 use Rattle.plain_model.specs.Layers.{Name, Path, Object, Directory, Named, Whiteout, Inode, Layer, Folder, Contents, held, below, cuts, shows}
 use Rattle.layer_tree.specs.Tree.{Tree, layer_of}
-use Rattle.merged_lookup.specs.declared.stack.Place.{Place}
 use Rattle.merged_lookup.specs.declared.found.Topmost.{Topmost}
 use Rattle.merged_lookup.specs.declared.found.Topmost.TheVariants as shown
 use Rattle.merged_lookup.specs.declared.kept.Kept.{Kept}

@@ -243,15 +243,33 @@ impl Layers {
         ensures directory { IfOk result (λ look. IsStackOf self.now (parent path.now) look.0) }
         ensures topmost { IfOk result (λ look. IsTopmost self.now path.now look.1) }
     {
+        let mut places = roots(self, 0);
+        let shown = self.look_into(path, &mut places)?;
+        Ok((Stack { places }, shown))
+    }
+
+    // `look`, where the places of the roots become those of the directory.
+    fn look_into(&self, path: &Path, places: &mut Places) -> Result<Option<Topmost>, Errno>
+        requires roots { places.old.items ≡ places_at 0 (layers_of self.now) [] }
+        requires some { 0 < length places.old.items }
+        ensures refused { IfErr result (λ e. parents_fault (layers_of self.now) path.now ≡ Some e) }
+        ensures way { OnOk result (parents_fault (layers_of self.now) path.now ≡ None) }
+        ensures directory { OnOk result
+            (places.new.items ≡ places_at 0 (layers_of self.now) (parent path.now)) }
+        ensures some { OnOk result (0 < length places.new.items) }
+        ensures topmost { IfOk result (IsTopmost self.now path.now) }
+    {
         let Some((name, parents)) = path.split_last() else {
-            return Ok((self.root(), Some(ROOT_SHOWN)));
+            return Ok(Some(ROOT_SHOWN));
         };
-        if let Some(look) = self.kept_look(path) {
-            return Ok(look);
+        if self.has_kept
+            && let Some((kept, shown)) = self.kept_look(path)
+        {
+            *places = kept.places;
+            return Ok(shown);
         }
-        let stack = self.directory(parents)?;
-        let shown = self.topmost(&stack, name);
-        Ok((stack, shown))
+        self.go_down(parents, places)?;
+        Ok(topmost(self, places.as_slice(), name))
     }
 
     /// The merged directory in which the last name of a path stands, with that name; none for the root. On the way to the last name a
@@ -315,26 +333,27 @@ impl Layers {
         }
     }
 
-    /// `walk_topmost`, with the merged directory in which the last name stands; the root's is the root.
-    pub fn topmost_in(&self, path: &Path) -> Result<(Stack, Topmost), Errno>
-        ensures parent { IfOk result (λ w. IsStackOf self.now (parent path.now) w.0) }
-        ensures found { IfOk result (λ w. IsTopmost self.now path.now (Some w.1)) }
-        ensures refused { IfErr result (λ e. walk_fault (layers_of self.now) path.now ≡ Some e) }
-        ensures answers { IsOk result ↔ (walk_fault (layers_of self.now) path.now ≡ None) }
-    {
-        let (stack, topmost) = self.look(path)?;
-        match topmost {
-            Some(shown) => Ok((stack, shown)),
-            None => Err(Errno::ENOENT),
-        }
-    }
-
-    /// The directory that names lead to from the root, name by name as long as no more than one of them crosses the layers.
-    pub(crate) fn directory<'a>(&'a self, names: &'a [Name]) -> Result<Stack, Errno>
+    /// The directory that names lead to from the root.
+    pub(crate) fn directory(&self, names: &[Name]) -> Result<Stack, Errno>
         ensures found { IfOk result (λ s. (way_fault (layers_of self.now) (reverse names.now) ≡ None) × IsStackOf self.now (reverse names.now) s) }
         ensures refused { IfErr result (λ e. way_fault (layers_of self.now) (reverse names.now) ≡ Some e) }
     {
         let mut places = roots(self, 0);
+        self.go_down(names, &mut places)?;
+        Ok(Stack { places })
+    }
+
+    // From the roots to the directory that names lead to, name by name as long as no more than one of
+    // them crosses the layers.
+    fn go_down<'a>(&'a self, names: &'a [Name], places: &mut Places) -> Result<(), Errno>
+        requires roots { places.old.items ≡ places_at 0 (layers_of self.now) [] }
+        requires some { 0 < length places.old.items }
+        ensures way { OnOk result (way_fault (layers_of self.now) (reverse names.now) ≡ None) }
+        ensures reached { OnOk result
+            (places.new.items ≡ places_at 0 (layers_of self.now) (reverse names.now)) }
+        ensures some { OnOk result (0 < length places.new.items) }
+        ensures refused { IfErr result (λ e. way_fault (layers_of self.now) (reverse names.now) ≡ Some e) }
+    {
         let mut trail = Some(Trail {
             redirect: &[],
             since: &[],
@@ -342,9 +361,9 @@ impl Layers {
         let mut crossed = false;
         for (index, name) in names.iter().enumerate() {
             let mut again = false;
-            let inode = enter(self, &mut places, name, trail, &mut again);
+            let inode = enter(self, places, name, trail, &mut again);
             if crossed && again {
-                return self.directory_at_once(names);
+                return self.go_down_at_once(names, places);
             }
             crossed |= again;
             if places.is_empty() {
@@ -352,7 +371,7 @@ impl Layers {
             }
             trail = self.trail_on(trail, places.as_slice()[0], names, index + 1);
         }
-        Ok(Stack { places })
+        Ok(())
     }
 
     // The trail one name on, where this is the first place that so many of the names lead to; none where that isn't the upper's, which then
@@ -391,16 +410,20 @@ impl Layers {
         }
     }
 
-    /// `directory`, whatever redirects are on the way: by one crossing of the layers, and a few more where there is no directory.
-    fn directory_at_once(&self, names: &[Name]) -> Result<Stack, Errno>
-        ensures found { IfOk result (λ s. (way_fault (layers_of self.now) (reverse names.now) ≡ None) × IsStackOf self.now (reverse names.now) s) }
+    // `go_down`, whatever redirects are on the way: by one crossing of the layers, and a few more
+    // where there is no directory.
+    fn go_down_at_once(&self, names: &[Name], places: &mut Places) -> Result<(), Errno>
+        ensures way { OnOk result (way_fault (layers_of self.now) (reverse names.now) ≡ None) }
+        ensures reached { OnOk result
+            (places.new.items ≡ places_at 0 (layers_of self.now) (reverse names.now)) }
+        ensures some { OnOk result (0 < length places.new.items) }
         ensures refused { IfErr result (λ e. way_fault (layers_of self.now) (reverse names.now) ≡ Some e) }
     {
-        let places = cross_all(self, 0, names);
+        *places = cross_all(self, 0, names);
         if places.is_empty() {
             return Err(self.fault_on(names));
         }
-        Ok(Stack { places })
+        Ok(())
     }
 
     /// Why names lead to no directory: the fault of the first one that leads to none.

@@ -7,23 +7,12 @@ use crate::found::Topmost;
 use crate::kept::{Kept, copied_below, handed_down, places_over, topmost_over};
 use crate::layers::Layers;
 use crate::stack::{Places, Stack};
-use ov_base::{Name, Path};
-use std::alloc::{AllocError, Global};
+use ov_base::{Name, Path, copy_names};
+use std::alloc::Global;
 use std::num::NonZeroUsize;
 
 // From how many layers on look-ups are kept.
 const KEPT_FROM: usize = 3;
-
-// Copies of names.
-fn copies_of(alloc: Global, names: &[Name]) -> Result<Vec<Name>, AllocError>
-    ensures { IfOk result (λ copies. copies.items ≡ names.now) }
-{
-    let mut copies = Vec::with_capacity(alloc, names.len())?;
-    for name in names {
-        copies.push(name.clone()?)?;
-    }
-    Ok(copies)
-}
 
 impl Layers {
     ghost use Rattle.merged_lookup.specs.Merged.{lowers_of, places_at};
@@ -81,7 +70,7 @@ impl Layers {
         }
         let directory = self.handed_places(parents);
         let shown = topmost(self, directory.as_slice(), name);
-        let Ok(copies) = copies_of(alloc, path.names()) else {
+        let Ok(copies) = copy_names(alloc, path.names()) else {
             return false;
         };
         self.keep(copies, Kept { directory, shown })

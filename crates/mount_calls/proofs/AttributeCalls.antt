@@ -1,5 +1,6 @@
 -- The calls that change attributes: the laws of each, told of all of them.
 use Rattle.std.proofs.Common.{◌≡◌, ℕ, List, ◌∷◌, Option, None, Some, Result, Ok, Err, IfOk, IfErr, OnOk, MatchResult, length, nat_lt, refl, sym, ap, ◌∙◌, subst}
+use Rattle.std.specs.Borrow.{Bor}
 use Rattle.ov_base.specs.declared.errno.Errno.{Errno}
 use Rattle.ov_base.specs.declared.errno.Errno.TheVariants.{EFBIG, ELOOP, ENOENT}
 use Rattle.ov_base.specs.declared.reply.Reply.TheVariants.{Done}
@@ -148,11 +149,19 @@ is-seen l p look is = by look.shown is.refused is.way is.directory is.top
     by (Ok seen) refused way directory top = in_it seen.0 seen.1 way directory top
     by (Err e) refused way directory top = chown-way (layers_of l) p e refused
 
-pub seen-ok : (l : Layers) (p : Path) (look : Look) → IsLook l p look → (r : Result (Stack × Topmost) Errno) → r ≡ target_of look.shown → (t : Stack × Topmost) → r ≡ Ok t → IsSeen l p t
-seen-ok l p look is r same t ok = subst (λ (o : Result (Stack × Topmost) Errno). MatchResult o (IsSeen l p) (λ e. chown_fault (layers_of l) p ≡ Some e)) (sym same ∙ ok) (is-seen l p look is)
+-- it is told by reference
+abbrev TellsTarget : Look → Result (Bor Stack × Topmost) Errno → Type 0
+TellsTarget look r = MatchResult r (λ target. target_of look.shown ≡ Ok (target.0.now, target.1)) (λ e. target_of look.shown ≡ Err e)
 
-pub seen-err : (l : Layers) (p : Path) (look : Look) → IsLook l p look → (r : Result (Stack × Topmost) Errno) → r ≡ target_of look.shown → (e : Errno) → r ≡ Err e → chown_fault (layers_of l) p ≡ Some e
-seen-err l p look is r same e err = subst (λ (o : Result (Stack × Topmost) Errno). MatchResult o (IsSeen l p) (λ e. chown_fault (layers_of l) p ≡ Some e)) (sym same ∙ err) (is-seen l p look is)
+pub seen-ok : (l : Layers) (p : Path) (look : Look) → IsLook l p look → (r : Result (Bor Stack × Topmost) Errno) → TellsTarget look r → (t : Bor Stack × Topmost) → r ≡ Ok t → IsSeen l p (t.0.now, t.1)
+seen-ok l p look is r told t ok =
+    let at : target_of look.shown ≡ Ok (t.0.now, t.1) = subst (λ (o : Result (Bor Stack × Topmost) Errno). TellsTarget look o) ok told in
+    subst (λ (o : Result (Stack × Topmost) Errno). MatchResult o (IsSeen l p) (λ e. chown_fault (layers_of l) p ≡ Some e)) at (is-seen l p look is)
+
+pub seen-err : (l : Layers) (p : Path) (look : Look) → IsLook l p look → (r : Result (Bor Stack × Topmost) Errno) → TellsTarget look r → (e : Errno) → r ≡ Err e → chown_fault (layers_of l) p ≡ Some e
+seen-err l p look is r told e err =
+    let at : target_of look.shown ≡ Err e = subst (λ (o : Result (Bor Stack × Topmost) Errno). TellsTarget look o) err told in
+    subst (λ (o : Result (Stack × Topmost) Errno). MatchResult o (IsSeen l p) (λ e. chown_fault (layers_of l) p ≡ Some e)) at (is-seen l p look is)
 
 -- a walk to what was seen isn't refused
 pub walk-seen : (l : Layers) (p : Path) (t : Stack × Topmost) → IsSeen l p t → walk_fault (layers_of l) p ≡ None

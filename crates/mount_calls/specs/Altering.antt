@@ -1,5 +1,6 @@
 -- What the calls on attributes read at a path, and what those that change them leave of the layers of a mount.
 use Rattle.std.specs.Prelude.{◌≡◌, ℕ, false, List, Option, None, Some, Result, Ok, Err, MatchResult, IfOk, IfErr, OnOk, OnErr}
+use Rattle.std.specs.Borrow.{Bor}
 use Rattle.std.specs.declared.alloc.AllocError.{AllocError}
 use Rattle.ov_base.specs.declared.attributes.Attributes.{Attributes}
 use Rattle.ov_base.specs.declared.call.Call.{Call}
@@ -72,5 +73,5 @@ pub record IsTarget (l : Layers) (p : Path) (x : AttributeCall) (target : Stack 
   pub shown : shown_attributes (shows 0 (layers_of l) p) ≡ Some attributes
 
 -- so a call is judged, or its fault is told
-abbrev pub Judges : Layers → Path → AttributeCall → Result (Stack × Topmost) Errno → Type 0
-Judges l p x r = MatchResult r (IsTarget l p x) (λ e. asked_fault (layers_of l) p x ≡ Some e)
+abbrev pub Judges : Layers → Path → AttributeCall → Result (Bor Stack × Topmost) Errno → Type 0
+Judges l p x r = MatchResult r (λ target. IsTarget l p x (target.0.now, target.1)) (λ e. asked_fault (layers_of l) p x ≡ Some e)

@@ -15,6 +15,8 @@ use Rattle.mount_laws.specs.Opening.{opening_fault}
 use Rattle.notice_laws.specs.Objects.{IsObject}
 use Rattle.notice_laws.specs.declared.object.Object.TheVariants as object
 use Rattle.mount_calls.specs.declared.look.Look.{Look}
+use Rattle.mount_calls.specs.declared.looks.LookedPaths.{LookedPaths}
+use Rattle.mount_calls.specs.declared.looks.LookedPaths.TheVariants as looked
 use Rattle.mount_calls.specs.declared.looks.Looks.{Looks}
 use Rattle.mount_calls.specs.declared.looks.Looks.TheVariants as looks
 use Rattle.mount_calls.specs.declared.mount.Mount.{Mount}
@@ -49,11 +51,17 @@ looked_paths (call.Hardlink old new) = old ∷ (new ∷ [])
 looked_paths (call.Rename old new) = old ∷ (new ∷ [])
 looked_paths _ = []
 
+-- the paths that are given
+abbrev pub paths_of : LookedPaths → List Path
+paths_of looked.None = []
+paths_of (looked.One p) = p.now ∷ []
+paths_of (looked.Both p q) = p.now ∷ (q.now ∷ [])
+
 -- these looks saw what the layers show at these paths
 abbrev pub SawEach : Layers → List Path → Looks → Type 0
 SawEach l [] looks.None = Unit {0}
-SawEach l (p ∷ []) (looks.One look) = IsLook l p look
-SawEach l (p ∷ (q ∷ [])) (looks.Both from onto) = IsLook l p from × IsLook l q onto
+SawEach l (p ∷ []) (looks.One look) = IsLook l p look.now
+SawEach l (p ∷ (q ∷ [])) (looks.Both from onto) = IsLook l p from.now × IsLook l q onto.now
 SawEach l ps saw = ⊥
 
 -- the looks of a call
@@ -64,9 +72,9 @@ AreLooks l k saw = SawEach l (looked_paths k) saw
 abbrev pub IsKeyAt : Layers → Path → ℕ → Type 0
 IsKeyAt l p key = (k : ℕ) (last : Bool) → IsObject (layer_of l.upper) (lowers_of l) p (object.Upper k last) → key ≡ k
 
--- AN OPEN WAS JUDGED: nothing refuses it, its descriptor is the lowest free one, and this is where it opens
+-- AN OPEN WAS JUDGED: nothing refuses it, its descriptor is the lowest free one, and this is what it
+-- opens
 pub record IsJudged (m : Mount) (c : ℕ) (p : Path) (f : OpenFlags) (judged : Judged) : Type 0 where
   pub allowed : opening_fault (layers_of m.layers) p f judged.mode (Some 0) ≡ None
   pub free : IsLowestFree m.clients c judged.descriptor
-  pub directory : IsStackOf m.layers (parent p) judged.directory
   pub top : IsTopmost m.layers p judged.top

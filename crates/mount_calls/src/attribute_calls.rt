@@ -22,10 +22,10 @@ impl Mount {
     pub fn alter(
         &mut self,
         path: &Path,
-        look: Look,
+        look: &Look,
         call: AttributeCall,
     ) -> Result<Result<usize, Errno>, AllocError>
-        requires { IsLook self.old.layers path.now look }
+        requires { IsLook self.old.layers path.now look.now }
         ensures makes { MakesEach (call_at path.now call.entry) self.old self.new
             (outcome_result result) }
         ensures key { IfOk result (λ outcome. IfOk outcome (λ key.

@@ -1,5 +1,5 @@
 // The calls that change the attributes of what a path shows: they are judged, and then made.
-ghost use Rattle.std.specs.Prelude.{◌≡◌, None, IfOk};
+ghost use Rattle.std.specs.Prelude.{◌≡◌, None, Ok, Err, IfOk, MatchResult};
 ghost use Rattle.ov_base.specs.AttributeChanges.{changed};
 ghost use Rattle.ov_base.specs.UserValues.{set_value, drop_value};
 ghost use Rattle.ov_base.specs.declared.attributes.Attributes.{Attributes};
@@ -77,10 +77,10 @@ impl<'a> AttributeCall<'a> {
 pub(crate) fn alter_seen(
     layers: &mut Layers,
     path: &Path,
-    look: Look,
+    look: &Look,
     call: &AttributeCall,
 ) -> Result<Result<usize, Errno>, AllocError>
-    requires { IsLook layers.old path.now look }
+    requires { IsLook layers.old path.now look.now }
     ensures { AltersUnless call.now layers.old layers.new path.now result }
 {
     let (directory, top) = match judged(layers, look, call) {
@@ -95,13 +95,13 @@ pub(crate) fn alter_seen(
 
 /// What a call changes at a path that was looked at, and the merged directory in which that stands;
 /// or why the call is refused. It takes no memory.
-pub(crate) fn judged(
+pub(crate) fn judged<'a>(
     layers: &Layers,
-    look: Look,
+    look: &'a Look,
     call: &AttributeCall,
-) -> Result<(Stack, Topmost), Errno>
-    requires { (p : Names) × IsLook layers.now p look }
-    ensures { (p : Names) → IsLook layers.now p look → Judges layers.now p call.now result }
+) -> Result<(&'a Stack, Topmost), Errno>
+    requires { (p : Names) × IsLook layers.now p look.now }
+    ensures { (p : Names) → IsLook layers.now p look.now → Judges layers.now p call.now result }
 {
     if let Some(errno) = call.fault() {
         return Err(errno);
@@ -116,15 +116,14 @@ pub(crate) fn judged(
 
 // What a look saw, and the merged directory in which that stands; where it saw nothing, that is
 // ENOENT.
-fn target_seen(look: Look) -> Result<(Stack, Topmost), Errno>
-    ensures { result ≡ target_of look.shown }
+fn target_seen(look: &Look) -> Result<(&Stack, Topmost), Errno>
+    ensures { MatchResult result (λ target. target_of look.now.shown ≡ Ok (target.0.now, target.1))
+        (λ e. target_of look.now.shown ≡ Err e) }
 {
-    match look.shown {
-        Ok((directory, top)) => match top {
-            Some(top) => Ok((directory, top)),
-            None => Err(Errno::ENOENT),
-        },
-        Err(errno) => Err(errno),
+    match &look.shown {
+        Ok((directory, Some(top))) => Ok((directory, *top)),
+        Ok((_, None)) => Err(Errno::ENOENT),
+        Err(errno) => Err(*errno),
     }
 }
 

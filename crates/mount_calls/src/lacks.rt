@@ -53,7 +53,7 @@ pub fn law_of_needs()
 impl Mount {
     /// What a call of a client lacks in the upper, as its looks saw it, or why it is refused. Nothing
     /// changes, and it takes no memory.
-    pub fn lack(&self, client: u64, call: &Call, looks: Looks) -> Result<Lack, Errno>
+    pub fn lack(&self, client: u64, call: &Call, looks: Looks<'_>) -> Result<Lack, Errno>
         requires attached { IsSome (get nat_cmp self.now.clients.attached client) }
         requires may { lacks.may_lack call.now ≡ true }
         requires looks { AreLooks self.now.layers call.now looks }
@@ -86,8 +86,8 @@ impl Mount {
     /// Whether the upper has all that a call may lack, so that it lacks nothing unless it is
     /// refused, as its looks saw it. It walks no lower layer, and a call for which it says no may
     /// lack nothing all the same.
-    pub fn has_all(&self, call: &Call, looks: &Looks) -> bool
-        requires looks { AreLooks self.now.layers call.now looks.now }
+    pub fn has_all(&self, call: &Call, looks: Looks<'_>) -> bool
+        requires looks { AreLooks self.now.layers call.now looks }
         ensures { result ≡ true → (s : State) → IsStateOf self.now s → (c : ℕ) →
             refusal s c call.now ≡ None →
             lack_of (layer_of self.now.layers.upper) (lowers_of self.now.layers) call.now
@@ -108,7 +108,12 @@ impl Mount {
     }
 
     // `lack`, of a change of attributes.
-    fn attribute_lack(&self, path: &Path, looks: Looks, ask: AttributeCall) -> Result<Lack, Errno>
+    fn attribute_lack(
+        &self,
+        path: &Path,
+        looks: Looks<'_>,
+        ask: AttributeCall,
+    ) -> Result<Lack, Errno>
         requires { SawEach self.now.layers (path.now ∷ []) looks }
         ensures { (c : ℕ) → TellsLack self.now c (call_at path.now ask.entry) result }
     {
@@ -123,7 +128,7 @@ impl Mount {
     }
 
     // `lack`, of `mkdir`.
-    fn mkdir_lack(&self, path: &Path, looks: Looks, mode: u32) -> Result<Lack, Errno>
+    fn mkdir_lack(&self, path: &Path, looks: Looks<'_>, mode: u32) -> Result<Lack, Errno>
         requires { SawEach self.now.layers (path.now ∷ []) looks }
         ensures { (c : ℕ) → TellsLack self.now c (Call.Mkdir path.now mode) result }
     {
@@ -131,14 +136,14 @@ impl Mount {
             return Err(errno);
         }
         let look = looks.one();
-        match vacant(look.shown) {
+        match vacant(&look.shown) {
             Ok(_) => Ok(lack_on(&self.layers, path, false, None)),
             Err(errno) => Err(errno),
         }
     }
 
     // `lack`, of `symlink`.
-    fn symlink_lack(&self, target: &Bytes, path: &Path, looks: Looks) -> Result<Lack, Errno>
+    fn symlink_lack(&self, target: &Bytes, path: &Path, looks: Looks<'_>) -> Result<Lack, Errno>
         requires { SawEach self.now.layers (path.now ∷ []) looks }
         ensures { (c : ℕ) → TellsLack self.now c (Call.Symlink target.now path.now) result }
     {
@@ -146,7 +151,7 @@ impl Mount {
             return Err(errno);
         }
         let look = looks.one();
-        match vacant(look.shown) {
+        match vacant(&look.shown) {
             Ok(_) => Ok(lack_on(&self.layers, path, false, None)),
             Err(errno) => Err(errno),
         }
@@ -157,7 +162,7 @@ impl Mount {
         &self,
         client: u64,
         path: &Path,
-        looks: Looks,
+        looks: Looks<'_>,
         flags: OpenFlags,
         mode: u32,
     ) -> Result<Lack, Errno>
@@ -183,38 +188,38 @@ impl Mount {
     }
 
     // `lack`, of `unlink`.
-    fn unlink_lack(&self, path: &Path, looks: Looks) -> Result<Lack, Errno>
+    fn unlink_lack(&self, path: &Path, looks: Looks<'_>) -> Result<Lack, Errno>
         requires { SawEach self.now.layers (path.now ∷ []) looks }
         ensures { (c : ℕ) → TellsLack self.now c (Call.Unlink path.now) result }
     {
         let look = looks.one();
-        match leaf_at(path, look.shown) {
+        match leaf_at(path, &look.shown) {
             Ok(_) => Ok(lack_on(&self.layers, path, false, None)),
             Err(errno) => Err(errno),
         }
     }
 
     // `lack`, of `rmdir`.
-    fn rmdir_lack(&self, path: &Path, looks: Looks) -> Result<Lack, Errno>
+    fn rmdir_lack(&self, path: &Path, looks: Looks<'_>) -> Result<Lack, Errno>
         requires { SawEach self.now.layers (path.now ∷ []) looks }
         ensures { (c : ℕ) → TellsLack self.now c (Call.Rmdir path.now) result }
     {
         let look = looks.one();
-        match removable(&self.layers, path, look.shown) {
+        match removable(&self.layers, path, &look.shown) {
             Ok(_) => Ok(lack_on(&self.layers, path, false, None)),
             Err(errno) => Err(errno),
         }
     }
 
     // `lack`, of `link`.
-    fn link_lack(&self, old: &Path, new: &Path, looks: Looks) -> Result<Lack, Errno>
+    fn link_lack(&self, old: &Path, new: &Path, looks: Looks<'_>) -> Result<Lack, Errno>
         requires { SawEach self.now.layers (old.now ∷ (new.now ∷ [])) looks }
         ensures { (c : ℕ) → TellsLack self.now c (Call.Hardlink old.now new.now) result }
     {
         let (from, onto) = looks.both();
         let from_near = from.saw_parents(&self.layers);
         let onto_near = onto.saw_parents(&self.layers);
-        let (_, _, place) = match linkable(from.shown, onto.shown) {
+        let (_, _, place) = match linkable(&from.shown, &onto.shown) {
             Ok(found) => found,
             Err(errno) => return Err(errno),
         };
@@ -223,7 +228,7 @@ impl Mount {
     }
 
     // `lack`, of `rename`.
-    fn rename_lack(&self, old: &Path, new: &Path, looks: Looks) -> Result<Lack, Errno>
+    fn rename_lack(&self, old: &Path, new: &Path, looks: Looks<'_>) -> Result<Lack, Errno>
         requires { SawEach self.now.layers (old.now ∷ (new.now ∷ [])) looks }
         ensures { (c : ℕ) → TellsLack self.now c (Call.Rename old.now new.now) result }
     {
@@ -231,7 +236,7 @@ impl Mount {
         let from_near = from.saw_parents(&self.layers);
         let onto_near = onto.saw_parents(&self.layers);
         let layers = &self.layers;
-        let moved = match movable(layers, old, new, self.redirects, from.shown, onto.shown) {
+        let moved = match movable(layers, old, new, self.redirects, &from.shown, &onto.shown) {
             Ok(Some(moved)) => moved,
             Ok(None) => return Ok(Lack::Nothing),
             Err(errno) => return Err(errno),

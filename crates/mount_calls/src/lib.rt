@@ -29,7 +29,7 @@ pub use attribute_changes::AttributeCall;
 pub use clients::{CLIENTS_MAX, Clients};
 pub use lacks::{law_of_needs, may_lack};
 pub use look::Look;
-pub use looks::Looks;
+pub use looks::{LookedPaths, Looks, looked_paths};
 pub use mount::Mount;
 pub use open_calls::Judged;
 pub use status::{status_at, status_of};

@@ -18,17 +18,17 @@ impl Mount {
         &mut self,
         old: &Path,
         new: &Path,
-        from: Look,
-        onto: Look,
+        from: &Look,
+        onto: &Look,
     ) -> Result<Result<usize, Errno>, AllocError>
-        requires from { IsLook self.old.layers old.now from }
-        requires onto { IsLook self.old.layers new.now onto }
+        requires from { IsLook self.old.layers old.now from.now }
+        requires onto { IsLook self.old.layers new.now onto.now }
         ensures makes { MakesEach (Call.Hardlink old.now new.now) self.old self.new
             (outcome_result result) }
         ensures key { IfOk result (λ outcome. IfOk outcome (IsKeyAt self.new.layers old.now)) }
         ensures clients { self.new.clients ≡ self.old.clients }
     {
-        match link(&mut self.layers, old, new, from.shown, onto.shown)? {
+        match link(&mut self.layers, old, new, &from.shown, &onto.shown)? {
             Ok(key) => Ok(Ok(key)),
             Err(errno) => Ok(Err(errno)),
         }

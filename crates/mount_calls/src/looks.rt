@@ -6,27 +6,36 @@ ghost use Rattle.merged_lookup.specs.Merged.{layers_of, IsTopmost};
 ghost use Rattle.merged_lookup.specs.declared.layers.Layers.{Layers as Held};
 ghost use Rattle.mount_calls.specs.Lacks as lacks;
 ghost use Rattle.mount_calls.specs.Lacks.{lacking, HasAllAt, HasAllOf};
-ghost use Rattle.mount_calls.specs.Looking.{AreLooks, IsLook, SawEach};
+ghost use Rattle.mount_calls.specs.Looking as looking;
+ghost use Rattle.mount_calls.specs.Looking.{paths_of, IsLook, SawEach};
 
 use crate::look::Look;
-use crate::mount::Mount;
 use merged_lookup::{Layers, Topmost};
-use ov_base::Call;
+use ov_base::{Call, Path};
 
-/// What the paths of a call show: the one of a change of attributes, of an open, or of what is made
-/// or removed, or both of a link or a rename. Other calls look for themselves.
-#[derive(Drop)]
-pub enum Looks {
+/// The paths of a call that are looked at once for all that it asks: the one of a change of
+/// attributes, of an open, or of what is made or removed, or both of a link or a rename. Other calls
+/// look for themselves.
+#[derive(Clone, Copy)]
+pub enum LookedPaths<'a> {
     None,
-    One(Look),
-    Both(Look, Look),
+    One(&'a Path),
+    Both(&'a Path, &'a Path),
 }
 
-impl Looks {
+/// What these paths of a call show.
+#[derive(Clone, Copy)]
+pub enum Looks<'a> {
+    None,
+    One(&'a Look),
+    Both(&'a Look, &'a Look),
+}
+
+impl<'a> Looks<'a> {
     /// The look of a call that has one.
-    pub fn one(self) -> Look
+    pub fn one(self) -> &'a Look
         requires { (l : Held) × (p : Names) × SawEach l (p ∷ []) self }
-        ensures { (l : Held) (p : Names) → SawEach l (p ∷ []) self → IsLook l p result }
+        ensures { (l : Held) (p : Names) → SawEach l (p ∷ []) self.entry → IsLook l p result.now }
     {
         match self {
             Looks::One(look) => look,
@@ -36,10 +45,10 @@ impl Looks {
     }
 
     /// The looks of a call that has two.
-    pub fn both(self) -> (Look, Look)
+    pub fn both(self) -> (&'a Look, &'a Look)
         requires { (l : Held) × (p : Names) × (q : Names) × SawEach l (p ∷ (q ∷ [])) self }
-        ensures { (l : Held) (p q : Names) → SawEach l (p ∷ (q ∷ [])) self →
-            IsLook l p result.0 × IsLook l q result.1 }
+        ensures { (l : Held) (p q : Names) → SawEach l (p ∷ (q ∷ [])) self.entry →
+            IsLook l p result.0.now × IsLook l q result.1.now }
     {
         match self {
             Looks::Both(from, onto) => (from, onto),
@@ -49,8 +58,8 @@ impl Looks {
     }
 
     // Whether these looks saw that the upper has all that may be lacking.
-    pub(crate) fn saw_all(&self, layers: &Layers) -> bool
-        ensures { result ≡ true → (ps : List Names) → SawEach layers.now ps self.now →
+    pub(crate) fn saw_all(self, layers: &Layers) -> bool
+        ensures { result ≡ true → (ps : List Names) → SawEach layers.now ps self.entry →
             HasAllOf layers.now ps }
     {
         match self {
@@ -61,8 +70,8 @@ impl Looks {
     }
 
     // Whether the look of a call that has one saw that the upper has each parent of its path.
-    pub(crate) fn saw_parents(&self, layers: &Layers) -> bool
-        ensures { result ≡ true → (p : Names) → SawEach layers.now (p ∷ []) self.now →
+    pub(crate) fn saw_parents(self, layers: &Layers) -> bool
+        ensures { result ≡ true → (p : Names) → SawEach layers.now (p ∷ []) self.entry →
             lacking (layer_of layers.now.upper) p ≡ None }
     {
         match self {
@@ -73,28 +82,22 @@ impl Looks {
     }
 }
 
-impl Mount {
-    /// What the paths of a call show, looked at once for `has_all` and for the call.
-    pub fn looks(&self, call: &Call) -> Looks
-        ensures { AreLooks self.now.layers call.now result }
-    {
-        match call {
-            Call::Chmod { path, .. }
-            | Call::Chown { path, .. }
-            | Call::SetAttribute { path, .. }
-            | Call::DeleteAttribute { path, .. }
-            | Call::Mkdir { path, .. }
-            | Call::Symlink { path, .. }
-            | Call::Open { path, .. }
-            | Call::Unlink { path }
-            | Call::Rmdir { path } => Looks::One(self.look(path)),
-            Call::Hardlink { old, new } | Call::Rename { old, new } => {
-                let from = self.look(old);
-                let onto = self.look(new);
-                Looks::Both(from, onto)
-            }
-            _ => Looks::None,
-        }
+/// The paths of a call that are looked at once, before `has_all` and the call.
+pub fn looked_paths(call: &Call) -> LookedPaths<'_>
+    ensures { paths_of result ≡ looking.looked_paths call.now }
+{
+    match call {
+        Call::Chmod { path, .. }
+        | Call::Chown { path, .. }
+        | Call::SetAttribute { path, .. }
+        | Call::DeleteAttribute { path, .. }
+        | Call::Mkdir { path, .. }
+        | Call::Symlink { path, .. }
+        | Call::Open { path, .. }
+        | Call::Unlink { path }
+        | Call::Rmdir { path } => LookedPaths::One(path),
+        Call::Hardlink { old, new } | Call::Rename { old, new } => LookedPaths::Both(old, new),
+        _ => LookedPaths::None,
     }
 }
 

@@ -172,8 +172,8 @@ impl Mount {
     }
 
     /// Makes a directory at a path that was looked at.
-    pub fn mkdir(&mut self, path: &Path, look: Look, mode: u32) -> Result<Reply, AllocError>
-        requires { IsLook self.old.layers path.now look }
+    pub fn mkdir(&mut self, path: &Path, look: &Look, mode: u32) -> Result<Reply, AllocError>
+        requires { IsLook self.old.layers path.now look.now }
         ensures makes { MakesEach (Call.Mkdir path.now mode) self.old self.new result }
         ensures clients { self.new.clients ≡ self.old.clients }
     {
@@ -181,15 +181,15 @@ impl Mount {
             Ok(mode) => mode,
             Err(errno) => return Ok(Reply::Refused(errno)),
         };
-        match mkdir(self.alloc, &mut self.layers, path, look.shown, mode)? {
+        match mkdir(self.alloc, &mut self.layers, path, &look.shown, mode)? {
             Ok(()) => Ok(Reply::Done),
             Err(errno) => Ok(Reply::Refused(errno)),
         }
     }
 
     /// Makes a symbolic link at a path that was looked at.
-    pub fn symlink(&mut self, target: &Bytes, path: &Path, look: Look) -> Result<Reply, AllocError>
-        requires { IsLook self.old.layers path.now look }
+    pub fn symlink(&mut self, target: &Bytes, path: &Path, look: &Look) -> Result<Reply, AllocError>
+        requires { IsLook self.old.layers path.now look.now }
         ensures makes { MakesEach (Call.Symlink target.now path.now) self.old self.new result }
         ensures clients { self.new.clients ≡ self.old.clients }
     {
@@ -197,7 +197,7 @@ impl Mount {
             Ok(target) => target,
             Err(errno) => return Ok(Reply::Refused(errno)),
         };
-        match symlink(self.alloc, &mut self.layers, target, path, look.shown)? {
+        match symlink(self.alloc, &mut self.layers, target, path, &look.shown)? {
             Ok(()) => Ok(Reply::Done),
             Err(errno) => Ok(Reply::Refused(errno)),
         }
@@ -208,9 +208,9 @@ impl Mount {
     pub fn unlink_telling(
         &mut self,
         path: &Path,
-        look: Look,
+        look: &Look,
     ) -> Result<Result<Object, Errno>, AllocError>
-        requires { IsLook self.old.layers path.now look }
+        requires { IsLook self.old.layers path.now look.now }
         ensures makes { MakesEach (Call.Unlink path.now) self.old self.new (outcome_result result) }
         ensures object { IfOk result (λ outcome. IfOk outcome (IsObject (layer_of self.old.layers.upper) (lowers_of self.old.layers) path.now)) }
         ensures clients { self.new.clients ≡ self.old.clients }
@@ -222,13 +222,13 @@ impl Mount {
 
     /// Removes the empty directory that was seen at a path; handles on it stay, and keep its
     /// attributes.
-    pub fn rmdir(&mut self, path: &Path, look: Look) -> Result<Reply, AllocError>
+    pub fn rmdir(&mut self, path: &Path, look: &Look) -> Result<Reply, AllocError>
         requires state { ∥ HasStateOf self.old ∥₁ }
-        requires look { IsLook self.old.layers path.now look }
+        requires look { IsLook self.old.layers path.now look.now }
         ensures { MakesEach (Call.Rmdir path.now) self.old self.new result }
     {
         self.clients.lawful();
-        let attributes = self.attributes_seen(path, &look)?;
+        let attributes = self.attributes_seen(path, look)?;
         match rmdir_and_free(&mut self.layers, &self.clients, path, look)? {
             Ok(()) => {
                 if let Some(attributes) = attributes {

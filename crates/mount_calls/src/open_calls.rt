@@ -34,13 +34,12 @@ use merged_lookup::{Layers, Place, Stack, Topmost};
 use ov_base::{Call, Content, Errno, Mode, OpenFlags, Path, Reply};
 use std::alloc::AllocError;
 
-/// An open that was judged, which nothing refuses: the descriptor and the mode that it gets, the
-/// merged directory in which the last name of its path stands, and what is shown there.
-#[derive(Drop)]
+/// An open that was judged, which nothing refuses: the descriptor and the mode that it gets, and what
+/// its path shows.
+#[derive(Clone, Copy)]
 pub struct Judged {
     pub descriptor: u32,
     pub mode: Mode,
-    pub(crate) directory: Stack,
     pub(crate) top: Option<Topmost>,
 }
 
@@ -51,24 +50,24 @@ impl Mount {
     pub fn judge_open(
         &self,
         client: u64,
-        look: Look,
+        look: &Look,
         flags: OpenFlags,
         mode: u32,
     ) -> Result<Judged, Errno>
         requires attached { IsSome (get nat_cmp self.now.clients.attached client) }
-        requires look { (p : Names) × IsLook self.now.layers p look }
-        ensures refused { IfErr result (λ errno. (p : Names) → IsLook self.now.layers p look → (s : State) → IsStateOf self.now s → refusal s client (Call.Open p flags mode) ≡ Some errno) }
-        ensures allowed { OnOk result ((p : Names) → IsLook self.now.layers p look → (s : State) → IsStateOf self.now s → refusal s client (Call.Open p flags mode) ≡ None) }
-        ensures judged { IfOk result (λ judged. (p : Names) → IsLook self.now.layers p look → IsJudged self.now client p flags judged) }
+        requires look { (p : Names) × IsLook self.now.layers p look.now }
+        ensures refused { IfErr result (λ errno. (p : Names) → IsLook self.now.layers p look.now → (s : State) → IsStateOf self.now s → refusal s client (Call.Open p flags mode) ≡ Some errno) }
+        ensures allowed { OnOk result ((p : Names) → IsLook self.now.layers p look.now → (s : State) → IsStateOf self.now s → refusal s client (Call.Open p flags mode) ≡ None) }
+        ensures judged { IfOk result (λ judged. (p : Names) → IsLook self.now.layers p look.now → IsJudged self.now client p flags judged) }
         ensures mode { IfOk result (λ judged. judged.mode ≡ mode) }
     {
         let mode = match accepted(flags, mode) {
             Ok(mode) => mode,
             Err(errno) => return Err(errno),
         };
-        let (directory, top) = match look.shown {
-            Ok(shown) => shown,
-            Err(errno) => return Err(errno),
+        let top = match &look.shown {
+            Ok((_, top)) => *top,
+            Err(errno) => return Err(*errno),
         };
         if let Some(errno) = shown_refusal(&self.layers, top, flags) {
             return Err(errno);
@@ -79,23 +78,24 @@ impl Mount {
         Ok(Judged {
             descriptor,
             mode,
-            directory,
             top,
         })
     }
 
-    /// Makes an open that was judged, on this mount: of what the path shows, or of a file that is
-    /// made where it shows nothing; a symbolic link isn't followed. A file of a lower layer that is
-    /// opened for writing is copied up first (overlayfs.rst, "Non-directories").
+    /// Makes an open that was judged, by what was seen at its path: of what the path shows, or of a
+    /// file that is made where it shows nothing; a symbolic link isn't followed. A file of a lower
+    /// layer that is opened for writing is copied up first (overlayfs.rst, "Non-directories").
     pub fn open_judged(
         &mut self,
         client: u64,
         path: &Path,
+        look: &Look,
         flags: OpenFlags,
         judged: Judged,
     ) -> Result<(), AllocError>
         requires attached { IsSome (get nat_cmp self.old.clients.attached client) }
         requires state { ∥ HasStateOf self.old ∥₁ }
+        requires look { IsLook self.old.layers path.now look.now }
         requires judged { IsJudged self.old client path.now flags judged }
         ensures answers { OnOk result (AnswersCall client (Call.Open path.now flags judged.mode)
             self.old self.new (Reply.Descriptor judged.descriptor)) }
@@ -108,9 +108,11 @@ impl Mount {
         let Judged {
             descriptor,
             mode,
-            directory,
             top,
         } = judged;
+        let Ok((directory, _)) = &look.shown else {
+            unreachable!()
+        };
         match top {
             None => self.open_made(client, descriptor, path, flags, mode, directory),
             Some(Topmost::Inode(place)) if flags.writes && place.layer > 0 => {
@@ -165,14 +167,14 @@ impl Mount {
         path: &Path,
         flags: OpenFlags,
         mode: Mode,
-        directory: Stack,
+        directory: &Stack,
         place: Place,
     ) -> Result<(), AllocError>
         requires attached { IsSome (get nat_cmp self.old.clients.attached client) }
         requires free { IsLowestFree self.old.clients client descriptor }
         requires state { ∥ HasStateOf self.old ∥₁ }
         requires allowed { opening_fault (layers_of self.old.layers) path.now flags mode (Some 0) ≡ None }
-        requires directory { IsStackOf self.old.layers (parent path.now) directory }
+        requires directory { IsStackOf self.old.layers (parent path.now) directory.now }
         requires shown { IsTopmost self.old.layers path.now (Some (topmost.Inode place)) }
         requires writes { flags.writes ≡ true }
         requires lower { 0 < place.layer }
@@ -203,13 +205,13 @@ impl Mount {
         path: &Path,
         flags: OpenFlags,
         mode: Mode,
-        directory: Stack,
+        directory: &Stack,
     ) -> Result<(), AllocError>
         requires attached { IsSome (get nat_cmp self.old.clients.attached client) }
         requires free { IsLowestFree self.old.clients client descriptor }
         requires state { ∥ HasStateOf self.old ∥₁ }
         requires allowed { opening_fault (layers_of self.old.layers) path.now flags mode (Some 0) ≡ None }
-        requires directory { IsStackOf self.old.layers (parent path.now) directory }
+        requires directory { IsStackOf self.old.layers (parent path.now) directory.now }
         requires absent { shows 0 (layers_of self.old.layers) path.now ≡ None }
         ensures answers { OnOk result (AnswersCall client (Call.Open path.now flags mode)
             self.old self.new (Reply.Descriptor descriptor)) }
@@ -294,11 +296,11 @@ fn inode_refusal(layers: &Layers, place: Place, flags: OpenFlags) -> Option<Errn
 fn bring_up(
     layers: &mut Layers,
     path: &Path,
-    directory: Stack,
+    directory: &Stack,
     place: Place,
 ) -> Result<usize, AllocError>
     requires way { parents_fault (layers_of layers.old) path.now ≡ None }
-    requires directory { IsStackOf layers.old (parent path.now) directory }
+    requires directory { IsStackOf layers.old (parent path.now) directory.now }
     requires shown { ShowsInode layers.old path.now place }
     requires lower { 0 < place.layer }
     ensures copied { IfOk result (λ key. (i : HeldInode) →

@@ -36,9 +36,9 @@ pub(crate) fn unlink_and_free(
     layers: &mut Layers,
     clients: &Clients,
     path: &Path,
-    look: Look,
+    look: &Look,
 ) -> Result<Result<Object, Errno>, AllocError>
-    requires { IsLook layers.old path.now look }
+    requires { IsLook layers.old path.now look.now }
     ensures refused { IfOk result (λ r. IfErr r (λ e.
         unlink_fault (layers_of layers.old) path.now ≡ Some e)) }
     ensures unchanged { IfOk result (λ r. OnErr r (layers.new ≡ layers.old)) }
@@ -58,7 +58,7 @@ pub(crate) fn unlink_and_free(
         (ChangesNoSight layers.old layers.new (StaysLive layers.old layers.new)) }
     ensures sound { StaysSound layers.old layers.new }
 {
-    let (directory, place) = match leaf_at(path, look.shown) {
+    let (directory, place) = match leaf_at(path, &look.shown) {
         Ok(leaf) => leaf,
         Err(errno) => return Ok(Err(errno)),
     };
@@ -73,9 +73,9 @@ pub(crate) fn rmdir_and_free(
     layers: &mut Layers,
     clients: &Clients,
     path: &Path,
-    look: Look,
+    look: &Look,
 ) -> Result<Result<(), Errno>, AllocError>
-    requires { IsLook layers.old path.now look }
+    requires { IsLook layers.old path.now look.now }
     ensures refused { IfOk result (λ r. IfErr r (λ e.
         (full : Bool) → TellsNames (layers_of layers.old) path.now full →
         rmdir_fault (layers_of layers.old) path.now full ≡ Some e)) }
@@ -98,7 +98,7 @@ pub(crate) fn rmdir_and_free(
         (ChangesNoSight layers.old layers.new (StaysLive layers.old layers.new)) }
     ensures sound { StaysSound layers.old layers.new }
 {
-    match rmdir(layers, path, look.shown)? {
+    match rmdir(layers, path, &look.shown)? {
         Ok(key) => {
             free_released(layers, clients, key);
             Ok(Ok(()))
@@ -117,11 +117,11 @@ pub(crate) fn rename_and_free(
     old: &Path,
     new: &Path,
     redirects: bool,
-    from: Look,
-    onto: Look,
+    from: &Look,
+    onto: &Look,
 ) -> Result<Result<Option<usize>, Errno>, AllocError>
-    requires from { IsLook layers.old old.now from }
-    requires onto { IsLook layers.old new.now onto }
+    requires from { IsLook layers.old old.now from.now }
+    requires onto { IsLook layers.old new.now onto.now }
     ensures refuses { IfOk result (λ r.
         IfErr r (RefusesRenames layers.old redirects old.now new.now)) }
     ensures unchanged { IfOk result (λ r. OnErr r (layers.new ≡ layers.old)) }
@@ -138,7 +138,7 @@ pub(crate) fn rename_and_free(
     ensures no_memory { OnErr result
         (ChangesNoSight layers.old layers.new (StaysLive layers.old layers.new)) }
 {
-    match rename(alloc, layers, old, new, redirects, from.shown, onto.shown)? {
+    match rename(alloc, layers, old, new, redirects, &from.shown, &onto.shown)? {
         Ok(Renamed::Unchanged) => Ok(Ok(None)),
         Ok(Renamed::Directory(released)) => {
             free_released(layers, clients, released);

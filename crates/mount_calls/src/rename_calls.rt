@@ -27,12 +27,12 @@ impl Mount {
         &mut self,
         old: &Path,
         new: &Path,
-        from: Look,
-        onto: Look,
+        from: &Look,
+        onto: &Look,
     ) -> Result<Result<Option<usize>, Errno>, AllocError>
         requires state { ∥ HasStateOf self.old ∥₁ }
-        requires from { IsLook self.old.layers old.now from }
-        requires onto { IsLook self.old.layers new.now onto }
+        requires from { IsLook self.old.layers old.now from.now }
+        requires onto { IsLook self.old.layers new.now onto.now }
         ensures makes { MakesEach (Call.Rename old.now new.now) self.old self.new
             (outcome_result result) }
         ensures moves { IfOk result (λ outcome. IfOk outcome (λ moved.
@@ -42,7 +42,7 @@ impl Mount {
         ensures settled { IsSettled self.old.clients.directories →
             IsSettled self.new.clients.directories }
     {
-        let replaced = self.attributes_seen(new, &onto)?;
+        let replaced = self.attributes_seen(new, onto)?;
         self.clients.prepare_rename(old, new)?;
         self.clients.lawful();
         match rename_and_free(

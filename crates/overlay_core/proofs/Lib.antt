@@ -25,5 +25,6 @@ pub mod Driving
 pub mod TempFits
 pub mod NextSteps
 pub mod StepsMade
+pub mod KeptTemps
 pub mod Histories
 pub mod Waited

@@ -1,8 +1,7 @@
 -- What waits from step to step: an open whose file is copied.
-use Rattle.std.proofs.Common.{◌≡◌, ℕ, ◌<◌, Bool, true, false, not, ◌&&◌, cond, nat_lt, List, [], Option, None, Some, length, refl, sym, ap, ap₂, ◌∙◌, subst, arith}
+use Rattle.std.proofs.Common.{◌≡◌, ℕ, ◌<◌, Bool, true, false, not, ◌&&◌, List, [], Option, None, Some, length, refl, sym, ap, ap₂, ◌∙◌, subst}
 use Rattle.std.specs.Prelude.{IsSomeAnd}
-use Rattle.std.specs.Option.{ForSome}
-use Rattle.std.proofs.lemmas.Bool.{and_parts, ltb-true}
+use Rattle.std.proofs.lemmas.Bool.{and_parts}
 use mathlib.Core.Bool.{beq}
 use Rattle.ov_base.specs.declared.call.OpenFlags.{OpenFlags}
 use Rattle.ov_base.specs.declared.errno.Errno.{Errno}
@@ -12,8 +11,6 @@ use Rattle.layer_tree.specs.Tree.{layer_of}
 use Rattle.merged_lookup.specs.Merged.{lowers_of}
 use Rattle.work_dir.specs.Beginnings.{Beginning}
 use Rattle.work_dir.specs.NextSteps.{next_of, IsDue, IsPartial}
-use Rattle.work_dir.specs.OpenJobs.{held, job_at, of_chunks, of_client, temp_of}
-use Rattle.work_dir.specs.declared.table.OpenJob.{OpenJob}
 use Rattle.work_dir.specs.declared.next.Lack.{Lack}
 use Rattle.work_dir.specs.declared.next.Lack.TheVariants.{File}
 use Rattle.work_dir.specs.declared.next.Next.TheVariants.{Begin, Copy}
@@ -23,7 +20,7 @@ use Rattle.mount_calls.specs.States.{IsStateOf}
 use Rattle.mount_calls.specs.declared.mount.Mount.{Mount}
 use Rattle.overlay_core.specs.declared.job.Job.{Job}
 use Rattle.overlay_core.specs.declared.waiting.Waiting.{Waiting}
-use Rattle.overlay_core.specs.Steps.{held_by, lack_by, next_by, IsNext}
+use Rattle.overlay_core.specs.Steps.{lack_by, next_by, IsNext}
 use Rattle.overlay_core.specs.Waits.{IsFor, WaitsFor, WaitsForAny}
 
 -- nothing waits
@@ -61,25 +58,6 @@ copies-part m w (Some x) waits part =
 pub copies-due : (m : Mount) (w : Waiting) (j : Job) (t : Option Beginning) → WaitsFor m w →
     IsDue Copy None (File w.source) j.placings j.begins t w.size → IsNext m j t Copy
 copies-due m w j t waits due = copies-part m w t waits due.1
-
--- the temp that a job holds has as many chunks as the job counts, which began it
-abbrev pub IsCounted : Job → Beginning → Type 0
-IsCounted j t = (0 < j.begins) × (t.chunks ≡ j.chunks)
-
-pub held-counts : (work : List (Option OpenJob)) (j : Job) → ForSome (held_by work j) (IsCounted j)
-held-counts work j t e = by (nat_lt 0 j.begins) refl e
-  where
-    of-chunks : (o : Option Beginning) → of_chunks j.chunks o ≡ Some t → t.chunks ≡ j.chunks
-    of-chunks None h = cc
-    of-chunks (Some x) h = grind arith
-
-    counted : (n : Option ℕ) → held work n j.client j.chunks ≡ Some t → t.chunks ≡ j.chunks
-    counted None h = cc
-    counted (Some n) h = of-chunks (temp_of (of_client j.client (job_at work n))) h
-
-    by : (b : Bool) → nat_lt 0 j.begins ≡ b → cond b (held work j.number j.client j.chunks) None ≡ Some t → IsCounted j t
-    by true less h = (ltb-true 0 j.begins less, counted j.number h)
-    by false less h = cc
 
 -- flags that are told to be the same are
 beq-same : (a b : Bool) → beq a b ≡ true → a ≡ b

@@ -22,19 +22,19 @@ impl<F: Callback, R: Rule> Watched<F, R> {
         &mut self,
         client: u64,
         path: &Path,
-        look: Look,
+        look: &Look,
         call: AttributeCall,
     ) -> Result<Reply, AllocError>
         requires there { is_attached self.old.mount.clients client ≡ true }
         requires state { ∥ HasState self.old.mount self.old.notifier ∥₁ }
-        requires look { IsLook self.old.mount.layers path.now look }
+        requires look { IsLook self.old.mount.layers path.now look.now }
         ensures goes { IfOk result (λ reply. Goes R.shows self.old.mount self.old.notifier client (Called (call_at path.now call.entry) reply) self.new.mount self.new.notifier) }
         ensures err { OnErr result (Stays self.old.mount self.old.notifier self.new.mount self.new.notifier) }
         ensures kept { Keeps (call_at path.now call.entry) self.old.mount self.new.mount }
         ensures refused { IfOk result (λ reply. (errno : Errno) → reply ≡ Reply.Refused errno → self.new.mount.layers ≡ self.old.mount.layers) }
     {
         self.notifier.lawful();
-        let object = self.mount.object_seen(&look);
+        let object = self.mount.object_seen(look);
         self.notifier.prepare_lift(path, object)?;
         match self.mount.alter(path, look, call)? {
             Ok(key) => {
@@ -53,14 +53,14 @@ impl<F: Callback, R: Rule> Watched<F, R> {
         client: u64,
         old: &Path,
         new: &Path,
-        from: Look,
-        onto: Look,
+        from: &Look,
+        onto: &Look,
         call: &Call,
     ) -> Result<Reply, AllocError>
         requires there { is_attached self.old.mount.clients client ≡ true }
         requires state { ∥ HasState self.old.mount self.old.notifier ∥₁ }
-        requires from { IsLook self.old.mount.layers old.now from }
-        requires onto { IsLook self.old.mount.layers new.now onto }
+        requires from { IsLook self.old.mount.layers old.now from.now }
+        requires onto { IsLook self.old.mount.layers new.now onto.now }
         requires call { call.now ≡ Call.Hardlink old.now new.now }
         ensures goes { IfOk result (λ reply. Goes R.shows self.old.mount self.old.notifier client (Called call.now reply) self.new.mount self.new.notifier) }
         ensures err { OnErr result (Stays self.old.mount self.old.notifier self.new.mount self.new.notifier) }
@@ -68,7 +68,7 @@ impl<F: Callback, R: Rule> Watched<F, R> {
         ensures refused { IfOk result (λ reply. (errno : Errno) → reply ≡ Reply.Refused errno → self.new.mount.layers ≡ self.old.mount.layers) }
     {
         self.notifier.lawful();
-        let object = self.mount.object_seen(&from);
+        let object = self.mount.object_seen(from);
         self.notifier.prepare_lift(old, object)?;
         match self.mount.give_name(old, new, from, onto)? {
             Ok(key) => {

@@ -16,7 +16,7 @@ ghost use Rattle.overlay_core.specs.Watching.{HasState};
 use crate::job::{Job, Standing};
 use crate::turn::Turn;
 use crate::watched::Watched;
-use mount_calls::{Looks, Mount};
+use mount_calls::{LookedPaths, Looks, Mount, looked_paths};
 use ov_base::Reply;
 use std::alloc::AllocError;
 use watch_table::{Callback, Rule};
@@ -57,15 +57,25 @@ pub(crate) fn finish<F: Callback, R: Rule>(
     ensures stepped { IsStepped job.old job.new }
     ensures over { result ≢ Turn.More }
 {
-    let looks = watched.mount.looks(job.call());
-    finish_seen(watched, job, looks, temp)
+    match looked_paths(job.call()) {
+        LookedPaths::None => unreachable!(),
+        LookedPaths::One(path) => {
+            let look = watched.mount.look(path);
+            finish_seen(watched, job, Looks::One(&look), temp)
+        }
+        LookedPaths::Both(old, new) => {
+            let from = watched.mount.look(old);
+            let onto = watched.mount.look(new);
+            finish_seen(watched, job, Looks::Both(&from, &onto), temp)
+        }
+    }
 }
 
 // `finish` by what was seen already.
 pub(crate) fn finish_seen<F: Callback, R: Rule>(
     watched: &mut Watched<F, R>,
     job: &mut Job,
-    looks: Looks,
+    looks: Looks<'_>,
     temp: Option<Temp>,
 ) -> Turn
     requires open { job.old.standing ≡ Standing.Open }

@@ -318,6 +318,7 @@ impl<F: Callback, R: Rule> Core<F, R> {
         ensures same { CoreSame self.old self.new }
         ensures work { core_work self.new ≡ without (core_work self.old) job }
     {
+        self.waiting.clear();
         let _ = self.work.close(job.number(), job.client(), job.chunks());
         job.let_go()
     }

@@ -18,13 +18,13 @@ impl<F: Callback, R: Rule> Watched<F, R> {
         client: u64,
         old: &Path,
         new: &Path,
-        from: Look,
-        onto: Look,
+        from: &Look,
+        onto: &Look,
     ) -> Result<Reply, AllocError>
         requires there { is_attached self.old.mount.clients client ≡ true }
         requires state { ∥ HasState self.old.mount self.old.notifier ∥₁ }
-        requires from { IsLook self.old.mount.layers old.now from }
-        requires onto { IsLook self.old.mount.layers new.now onto }
+        requires from { IsLook self.old.mount.layers old.now from.now }
+        requires onto { IsLook self.old.mount.layers new.now onto.now }
         requires root { new.now ≡ [] }
         ensures goes { IfOk result (λ reply. Goes R.shows self.old.mount self.old.notifier client (Called (Call.Rename old.now new.now) reply) self.new.mount self.new.notifier) }
         ensures err { OnErr result (Stays self.old.mount self.old.notifier self.new.mount self.new.notifier) }
@@ -44,14 +44,14 @@ impl<F: Callback, R: Rule> Watched<F, R> {
         client: u64,
         old: &Path,
         new: &Path,
-        from: Look,
-        onto: Look,
+        from: &Look,
+        onto: &Look,
         call: &Call,
     ) -> Result<Reply, AllocError>
         requires there { is_attached self.old.mount.clients client ≡ true }
         requires state { ∥ HasState self.old.mount self.old.notifier ∥₁ }
-        requires from { IsLook self.old.mount.layers old.now from }
-        requires onto { IsLook self.old.mount.layers new.now onto }
+        requires from { IsLook self.old.mount.layers old.now from.now }
+        requires onto { IsLook self.old.mount.layers new.now onto.now }
         requires call { call.now ≡ Call.Rename old.now new.now }
         ensures goes { IfOk result (λ reply. Goes R.shows self.old.mount self.old.notifier client (Called call.now reply) self.new.mount self.new.notifier) }
         ensures err { OnErr result (Stays self.old.mount self.old.notifier self.new.mount self.new.notifier) }
@@ -61,8 +61,8 @@ impl<F: Callback, R: Rule> Watched<F, R> {
         if new.split_last().is_none() {
             return self.rename_onto_root(client, old, new, from, onto);
         }
-        let object = self.mount.object_seen(&from);
-        let replaced = self.mount.object_seen(&onto);
+        let object = self.mount.object_seen(from);
+        let replaced = self.mount.object_seen(onto);
         self.notifier.cancel_move();
         self.notifier.lawful();
         let prepared = self.notifier.prepare_move(old, new, object);

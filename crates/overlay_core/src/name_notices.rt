@@ -18,11 +18,11 @@ impl<F: Callback, R: Rule> Watched<F, R> {
         &mut self,
         client: u64,
         path: &Path,
-        look: Look,
+        look: &Look,
         mode: u32,
     ) -> Result<Reply, AllocError>
         requires there { is_attached self.old.mount.clients client ≡ true }
-        requires look { IsLook self.old.mount.layers path.now look }
+        requires look { IsLook self.old.mount.layers path.now look.now }
         ensures { Performs R.shows client (Call.Mkdir path.now mode) self.old self.new result }
     {
         let reply = self.mount.mkdir(path, look, mode)?;
@@ -41,10 +41,10 @@ impl<F: Callback, R: Rule> Watched<F, R> {
         client: u64,
         target: &Bytes,
         path: &Path,
-        look: Look,
+        look: &Look,
     ) -> Result<Reply, AllocError>
         requires there { is_attached self.old.mount.clients client ≡ true }
-        requires look { IsLook self.old.mount.layers path.now look }
+        requires look { IsLook self.old.mount.layers path.now look.now }
         ensures { Performs R.shows client (Call.Symlink target.now path.now) self.old self.new result }
     {
         let reply = self.mount.symlink(target, path, look)?;
@@ -62,10 +62,10 @@ impl<F: Callback, R: Rule> Watched<F, R> {
         &mut self,
         client: u64,
         path: &Path,
-        look: Look,
+        look: &Look,
     ) -> Result<Reply, AllocError>
         requires there { is_attached self.old.mount.clients client ≡ true }
-        requires look { IsLook self.old.mount.layers path.now look }
+        requires look { IsLook self.old.mount.layers path.now look.now }
         ensures { Performs R.shows client (Call.Unlink path.now) self.old self.new result }
     {
         match self.mount.unlink_telling(path, look)? {
@@ -84,11 +84,11 @@ impl<F: Callback, R: Rule> Watched<F, R> {
         &mut self,
         client: u64,
         path: &Path,
-        look: Look,
+        look: &Look,
     ) -> Result<Reply, AllocError>
         requires there { is_attached self.old.mount.clients client ≡ true }
         requires state { ∥ HasState self.old.mount self.old.notifier ∥₁ }
-        requires look { IsLook self.old.mount.layers path.now look }
+        requires look { IsLook self.old.mount.layers path.now look.now }
         ensures { Performs R.shows client (Call.Rmdir path.now) self.old self.new result }
     {
         let reply = self.mount.rmdir(path, look)?;

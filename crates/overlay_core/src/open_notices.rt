@@ -24,12 +24,14 @@ impl<F: Callback, R: Rule> Watched<F, R> {
         &mut self,
         client: u64,
         path: &Path,
+        look: &Look,
         flags: OpenFlags,
         judged: Judged,
         object: Object,
     ) -> Result<(), AllocError>
         requires there { is_attached self.old.mount.clients client ≡ true }
         requires state { ∥ HasState self.old.mount self.old.notifier ∥₁ }
+        requires look { IsLook self.old.mount.layers path.now look.now }
         requires judged { IsJudged self.old.mount client path.now flags judged }
         requires stands { IsObject (layer_of self.old.mount.layers.upper) (lowers_of self.old.mount.layers) path.now object }
         requires something { object ≢ stands.Other }
@@ -42,7 +44,7 @@ impl<F: Callback, R: Rule> Watched<F, R> {
         let prepared = self.notifier.prepare_open(client, descriptor, path, object);
         self.notifier.lawful();
         prepared?;
-        match self.mount.open_judged(client, path, flags, judged) {
+        match self.mount.open_judged(client, path, look, flags, judged) {
             Ok(()) => {
                 let key = self.mount.key_opened(client, descriptor);
                 self.notifier.opened(client, descriptor, object, key, flags);
@@ -63,11 +65,13 @@ impl<F: Callback, R: Rule> Watched<F, R> {
         &mut self,
         client: u64,
         path: &Path,
+        look: &Look,
         flags: OpenFlags,
         judged: Judged,
     ) -> Result<(), AllocError>
         requires there { is_attached self.old.mount.clients client ≡ true }
         requires state { ∥ HasState self.old.mount self.old.notifier ∥₁ }
+        requires look { IsLook self.old.mount.layers path.now look.now }
         requires judged { IsJudged self.old.mount client path.now flags judged }
         requires nothing { IsObject (layer_of self.old.mount.layers.upper) (lowers_of self.old.mount.layers) path.now stands.Other }
         ensures goes { OnOk result (Goes R.shows self.old.mount self.old.notifier client (Called (Call.Open path.now flags judged.mode) (Reply.Descriptor judged.descriptor)) self.new.mount self.new.notifier) }
@@ -79,7 +83,7 @@ impl<F: Callback, R: Rule> Watched<F, R> {
         let prepared = self.notifier.prepare_new(client, descriptor, path);
         self.notifier.lawful();
         prepared?;
-        match self.mount.open_judged(client, path, flags, judged) {
+        match self.mount.open_judged(client, path, look, flags, judged) {
             Ok(()) => {
                 let key = self.mount.key_opened(client, descriptor);
                 self.notifier.opened_new(client, descriptor, key);
@@ -100,30 +104,30 @@ impl<F: Callback, R: Rule> Watched<F, R> {
         &mut self,
         client: u64,
         path: &Path,
-        look: Look,
+        look: &Look,
         flags: OpenFlags,
         mode: u32,
     ) -> Result<Reply, AllocError>
         requires there { is_attached self.old.mount.clients client ≡ true }
         requires state { ∥ HasState self.old.mount self.old.notifier ∥₁ }
-        requires look { IsLook self.old.mount.layers path.now look }
+        requires look { IsLook self.old.mount.layers path.now look.now }
         ensures goes { IfOk result (λ reply. Goes R.shows self.old.mount self.old.notifier client (Called (Call.Open path.now flags mode) reply) self.new.mount self.new.notifier) }
         ensures err { OnErr result (Stays self.old.mount self.old.notifier self.new.mount self.new.notifier) }
         ensures kept { Keeps (Call.Open path.now flags mode) self.old.mount self.new.mount }
         ensures refused { IfOk result (λ reply. (errno : Errno) → reply ≡ Reply.Refused errno → self.new.mount.layers ≡ self.old.mount.layers) }
         ensures memory { (s : State) → Agrees self.old.mount self.old.notifier s → IsSome (refusal s client (Call.Open path.now flags mode)) → IsOk result }
     {
-        let object = self.mount.object_seen(&look);
+        let object = self.mount.object_seen(look);
         let judged = match self.mount.judge_open(client, look, flags, mode) {
             Ok(judged) => judged,
             Err(errno) => return Ok(Reply::Refused(errno)),
         };
         let descriptor = judged.descriptor;
         let Object::Other = object else {
-            self.open_there(client, path, flags, judged, object)?;
+            self.open_there(client, path, look, flags, judged, object)?;
             return Ok(Reply::Descriptor(descriptor));
         };
-        self.open_new(client, path, flags, judged)?;
+        self.open_new(client, path, look, flags, judged)?;
         Ok(Reply::Descriptor(descriptor))
     }
 }

@@ -50,7 +50,12 @@ impl<F: Callback, R: Rule> Watched<F, R> {
     }
 
     /// Makes any other call, with what its paths were seen to show.
-    pub fn perform(&mut self, client: u64, call: &Call, looks: Looks) -> Result<Reply, AllocError>
+    pub fn perform(
+        &mut self,
+        client: u64,
+        call: &Call,
+        looks: Looks<'_>,
+    ) -> Result<Reply, AllocError>
         requires there { is_attached self.old.mount.clients client ≡ true }
         requires state { ∥ HasState self.old.mount self.old.notifier ∥₁ }
         requires may { may_lack call.now ≡ true }

@@ -1,5 +1,5 @@
 // One step of a job: which one is next, and what it does.
-ghost use Rattle.std.specs.Prelude.{◌≡◌, ◌≢◌, ◌<◌, List, [], Option, true, false, All, Some, IfOk, IsOk, OnErr, option_copied, length};
+ghost use Rattle.std.specs.Prelude.{◌≡◌, ◌≢◌, ◌<◌, List, [], Option, true, false, All, Some, IfOk, IsOk, IsSomeAnd, OnErr, OnOk, option_copied, unwrap_or, length};
 ghost use Rattle.std.specs.Option.{ForSome};
 ghost use Rattle.plain_model.specs.Layers.{Layer};
 ghost use Rattle.plain_model.specs.Limits.{IsWithinLimits};
@@ -7,14 +7,14 @@ ghost use Rattle.plain_model.specs.Machine.{State};
 ghost use Rattle.plain_model.specs.Refusals.{refusal};
 ghost use Rattle.merged_lookup.specs.Merged.{lowers_of};
 ghost use Rattle.work_dir.specs.Beginnings.{Beginning};
-ghost use Rattle.work_dir.specs.OpenJobs.{job_at, Same, Changes};
+ghost use Rattle.work_dir.specs.OpenJobs.{job_at, temp_at, with_chunk, Same, Changes};
 ghost use Rattle.work_dir.specs.declared.limits.TheConstants.{CHUNKS_MAX};
 ghost use Rattle.work_dir.specs.declared.next.Lack.TheVariants as Lacking;
 ghost use Rattle.work_dir.specs.declared.table.OpenJob.{OpenJob};
 ghost use Rattle.mount_calls.specs.Attaching.{is_attached};
 ghost use Rattle.mount_calls.specs.Keeping.{takes_no_memory};
 ghost use Rattle.mount_calls.specs.Lacks as lacks;
-ghost use Rattle.mount_calls.specs.Lacks.{lack_size, CanBeHad};
+ghost use Rattle.mount_calls.specs.Lacks.{bytes_at, lack_size, CanBeHad};
 ghost use Rattle.mount_calls.specs.Looking.{AreLooks};
 ghost use Rattle.mount_calls.specs.States.{IsStateOf};
 ghost use Rattle.overlay_core.specs.Placing.{PlacesFor};
@@ -29,7 +29,7 @@ use crate::job::{Job, Standing};
 use crate::turn::Turn;
 use crate::waiting::{Waiting, copies_on};
 use crate::watched::Watched;
-use mount_calls::{Looks, Mount, may_lack};
+use mount_calls::{LookedPaths, Looks, Mount, looked_paths, may_lack};
 use std::alloc::AllocError;
 use watch_table::{Callback, Rule};
 use work_dir::{Lack, Next, OpenJob, Source, Temp, WorkDir, next_after};
@@ -59,55 +59,101 @@ pub(crate) fn step<F: Callback, R: Rule>(
     ensures memory { takes_no_memory job.old.call ≡ true → result ≢ Turn.NoMemory }
     ensures at_once { lacks.may_lack job.old.call ≡ false → result ≢ Turn.More }
 {
-    let temp = held(work, job);
-    if copies_on(waiting.first(), job, temp.as_ref()) {
-        return copy_on(watched, work, job, temp);
+    if copies_on(waiting.first(), job, temp_of(work, job)) {
+        return copy(watched, work, job);
     }
     waiting.clear();
     watched.mount.remember(job.call());
     if !may_lack(job.call()) {
+        let _ = held(work, job);
         return plain(watched, job);
     }
-    step_seen(watched, work, waiting, job, temp)
+    step_seen(watched, work, waiting, job)
 }
 
-// Makes the next step of a job whose call may lack something, and which holds this temp, by what its
-// paths show.
+// Makes the next step of a job whose call may lack something, by what its paths show.
 fn step_seen<F: Callback, R: Rule>(
     watched: &mut Watched<F, R>,
     work: &mut WorkDir,
     waiting: &mut Vec<Waiting>,
     job: &mut Job,
-    temp: Option<Temp>,
 ) -> Turn
     requires open { job.old.standing ≡ Standing.Open }
     requires attached { is_attached watched.old.mount.clients job.old.client ≡ true }
     requires state { ∥ HasState watched.old.mount watched.old.notifier ∥₁ }
     requires may { lacks.may_lack job.old.call ≡ true }
     requires temps { AreTemps (lowers_of watched.old.mount.layers) work.old }
-    requires temp { ForSome temp (IsTemp (lowers_of watched.old.mount.layers)) }
-    requires counts { ForSome temp (λ t. (0 < job.old.begins) × (t.chunks ≡ job.old.chunks)) }
     requires limits { ∥ All IsWithinLimits (lowers_of watched.old.mount.layers) ∥₁ }
     requires none { waiting.old.items ≡ [] }
     ensures waits { WaitsForAny watched.new.mount waiting.new.items }
     ensures makes { (next : Next) × ((s : State) → IsStateOf watched.old.mount s →
-        next_by watched.old.mount job.old temp (refusal s job.old.client job.old.call) ≡ next)
-        × Makes watched.old watched.new work.old work.new job.old job.new R.shows result next temp }
+        next_by watched.old.mount job.old (held_by work.old job.old)
+        (refusal s job.old.client job.old.call) ≡ next)
+        × Makes watched.old watched.new (without work.old job.old) work.new job.old job.new
+        R.shows result next (held_by work.old job.old) }
     ensures stepped { IsStepped job.old job.new }
 {
-    let looks = watched.mount.looks(job.call());
-    if watched.mount.has_all(job.call(), &looks) {
+    match looked_paths(job.call()) {
+        LookedPaths::None => unreachable!(),
+        LookedPaths::One(path) => {
+            let look = watched.mount.look(path);
+            step_by(watched, work, waiting, job, Looks::One(&look))
+        }
+        LookedPaths::Both(old, new) => {
+            let from = watched.mount.look(old);
+            let onto = watched.mount.look(new);
+            step_by(watched, work, waiting, job, Looks::Both(&from, &onto))
+        }
+    }
+}
+
+// `step_seen` by what its paths showed.
+fn step_by<F: Callback, R: Rule>(
+    watched: &mut Watched<F, R>,
+    work: &mut WorkDir,
+    waiting: &mut Vec<Waiting>,
+    job: &mut Job,
+    looks: Looks<'_>,
+) -> Turn
+    requires open { job.old.standing ≡ Standing.Open }
+    requires attached { is_attached watched.old.mount.clients job.old.client ≡ true }
+    requires state { ∥ HasState watched.old.mount watched.old.notifier ∥₁ }
+    requires may { lacks.may_lack job.old.call ≡ true }
+    requires looks { AreLooks watched.old.mount.layers job.old.call looks }
+    requires temps { AreTemps (lowers_of watched.old.mount.layers) work.old }
+    requires limits { ∥ All IsWithinLimits (lowers_of watched.old.mount.layers) ∥₁ }
+    requires none { waiting.old.items ≡ [] }
+    ensures waits { WaitsForAny watched.new.mount waiting.new.items }
+    ensures makes { (next : Next) × ((s : State) → IsStateOf watched.old.mount s →
+        next_by watched.old.mount job.old (held_by work.old job.old)
+        (refusal s job.old.client job.old.call) ≡ next)
+        × Makes watched.old watched.new (without work.old job.old) work.new job.old job.new
+        R.shows result next (held_by work.old job.old) }
+    ensures stepped { IsStepped job.old job.new }
+{
+    if watched.mount.has_all(job.call(), looks) {
+        let temp = held(work, job);
         return finish_seen(watched, job, looks, temp);
     }
-    match next_step(&watched.mount, job, looks, temp.as_ref()) {
-        Next::Finish => finish(watched, job, temp),
-        Next::AtOnce => finish(watched, job, None),
-        Next::Place { second, count } => place(watched, work, job, second, count, temp),
+    match next_step(&watched.mount, job, looks, temp_of(work, job)) {
+        Next::Finish => {
+            let temp = held(work, job);
+            finish_seen(watched, job, looks, temp)
+        }
+        Next::AtOnce => {
+            let _ = held(work, job);
+            finish_seen(watched, job, looks, None)
+        }
+        Next::Place { second, count } => {
+            let temp = held(work, job);
+            place(watched, work, job, second, count, temp)
+        }
         Next::Begin(source) => {
             note(waiting, &watched.mount, job, source);
+            let _ = held(work, job);
             begin(watched, work, job, source)
         }
-        Next::Copy => copy_on(watched, work, job, temp),
+        Next::Copy => copy(watched, work, job),
     }
 }
 
@@ -148,9 +194,20 @@ fn held(work: &mut WorkDir, job: &Job) -> Option<Temp>
     if job.begins() > 0 { temp } else { None }
 }
 
+// The temp that a job holds, where it is kept.
+fn temp_of<'a>(work: &'a WorkDir, job: &Job) -> Option<&'a Temp>
+    ensures { option_copied result ≡ held_by work.now job.now }
+{
+    if job.begins() > 0 {
+        work.held(job.number(), job.client(), job.chunks())
+    } else {
+        None
+    }
+}
+
 // The next step of a job that holds this temp, where its call may lack something, by what its looks
 // saw.
-fn next_step(mount: &Mount, job: &Job, looks: Looks, temp: Option<&Temp>) -> Next
+fn next_step(mount: &Mount, job: &Job, looks: Looks<'_>, temp: Option<&Temp>) -> Next
     requires attached { is_attached mount.now.clients job.now.client ≡ true }
     requires may { lacks.may_lack job.now.call ≡ true }
     requires looks { AreLooks mount.now.layers job.now.call looks }
@@ -300,98 +357,49 @@ fn keep_begun(
     keep(work, job, temp)
 }
 
-// A step that copies a chunk into the temp that there is.
-fn copy_on<F: Callback, R: Rule>(
-    watched: &Watched<F, R>,
-    work: &mut WorkDir,
-    job: &mut Job,
-    temp: Option<Temp>,
-) -> Turn
+// A step that copies a chunk into the temp that the job holds, where it is kept.
+fn copy<F: Callback, R: Rule>(watched: &Watched<F, R>, work: &mut WorkDir, job: &mut Job) -> Turn
     requires open { job.old.standing ≡ Standing.Open }
-    requires counts { ForSome temp (λ t. (0 < job.old.begins)
-        × (t.chunks ≡ job.old.chunks)) }
-    requires due { IsNext watched.now.mount job.old temp Next.Copy }
+    requires due { IsNext watched.now.mount job.old (held_by work.old job.old) Next.Copy }
     requires temps { AreTemps (lowers_of watched.now.mount.layers) work.old }
-    requires temp { ForSome temp (IsTemp (lowers_of watched.now.mount.layers)) }
-    ensures makes { Makes watched.now watched.now work.old work.new job.old job.new R.shows result
-        Next.Copy temp }
+    ensures makes { Makes watched.now watched.now (without work.old job.old) work.new job.old
+        job.new R.shows result Next.Copy (held_by work.old job.old) }
     ensures stepped { IsStepped job.old job.new }
 {
-    match temp {
-        Some(temp) => copy(watched, work, job, temp),
-        None => unreachable!(),
-    }
-}
-
-// A step that copies a chunk.
-fn copy<F: Callback, R: Rule>(
-    watched: &Watched<F, R>,
-    work: &mut WorkDir,
-    job: &mut Job,
-    temp: Temp,
-) -> Turn
-    requires open { job.old.standing ≡ Standing.Open }
-    requires begun { 0 < job.old.begins }
-    requires chunks { temp.chunks ≡ job.old.chunks }
-    requires more { length temp.bytes
-        < lack_size (lowers_of watched.now.mount.layers) (Lacking.File temp.source) }
-    requires temps { AreTemps (lowers_of watched.now.mount.layers) work.old }
-    requires temp { IsTemp (lowers_of watched.now.mount.layers) temp }
-    ensures makes { Makes watched.now watched.now work.old work.new job.old job.new R.shows result
-        Next.Copy (Some temp) }
-    ensures stepped { IsStepped job.old job.new }
-{
-    match keep_longer(&watched.mount, work, job, temp) {
-        Ok(number) => {
+    let Some(number) = job.number() else {
+        unreachable!()
+    };
+    match lengthen(&watched.mount, work, number) {
+        Ok(()) => {
             job.copy(number);
             Turn::More
         }
         Err(AllocError) => {
+            let _ = work.take_out(number, job.client());
             job.end(Standing::GivenUp);
             Turn::NoMemory
         }
     }
 }
 
-// Copies a chunk, and keeps the job with its temp under the number that it gives.
-fn keep_longer(
-    mount: &Mount,
-    work: &mut WorkDir,
-    job: &Job,
-    temp: Temp,
-) -> Result<usize, AllocError>
-    requires more { length temp.bytes
-        < lack_size (lowers_of mount.now.layers) (Lacking.File temp.source) }
+// Copies a chunk of its file into the temp under a number, where it is kept.
+fn lengthen(mount: &Mount, work: &mut WorkDir, number: usize) -> Result<(), AllocError>
     requires temps { AreTemps (lowers_of mount.now.layers) work.old }
-    requires temp { IsTemp (lowers_of mount.now.layers) temp }
-    ensures kept { IfOk result (λ n. (job_at work.old n ≡ None)
-        × Changes work.old work.new n (Some (record {
-          client = job.now.client;
-          temp = Some (steps.longer (lowers_of mount.now.layers) temp);
-        }))) }
-    ensures same { OnErr result (Same work.old work.new) }
-    ensures temps { AreTemps (lowers_of mount.now.layers) work.new }
-    ensures few { temp.chunks < CHUNKS_MAX }
+    requires more { IsSomeAnd (temp_at work.old number)
+        (λ t. length t.bytes < lack_size (lowers_of mount.now.layers) (Lacking.File t.source)) }
+    ensures ok { OnOk result ((t : Beginning) → temp_at work.old number ≡ Some t →
+        Changes work.old work.new number
+        (with_chunk (unwrap_or (bytes_at (lowers_of mount.now.layers) t.source) [])
+        (job_at work.old number))) }
+    ensures err { OnErr result (work.new ≡ work.old) }
 {
-    let temp = longer(mount, temp)?;
-    keep(work, job, temp)
-}
-
-// A temp with the next chunk of its file.
-fn longer(mount: &Mount, temp: Temp) -> Result<Temp, AllocError>
-    requires more { length temp.bytes
-        < lack_size (lowers_of mount.now.layers) (Lacking.File temp.source) }
-    requires temp { IsTemp (lowers_of mount.now.layers) temp }
-    ensures longer { IfOk result (λ t. t ≡ steps.longer (lowers_of mount.now.layers) temp) }
-    ensures temp { IfOk result (IsTemp (lowers_of mount.now.layers)) }
-    ensures few { temp.chunks < CHUNKS_MAX }
-{
-    let mut temp = temp;
+    let Some(temp) = work.temp_at(number) else {
+        unreachable!()
+    };
     let Some(bytes) = mount.low_bytes(temp.source()) else {
         unreachable!()
     };
-    temp.copy_chunk(bytes)?;
-    Ok(temp)
+    work.copy_chunk(number, bytes)
 }
 
 // Keeps an open job with this temp under the number that it gives.

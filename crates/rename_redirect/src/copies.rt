@@ -8,6 +8,7 @@ ghost use Rattle.rename_redirect.specs.Linking.{GainsBoth, GivesName};
 
 use crate::moves::place_ways;
 use crate::names::insert_in_upper;
+use copy_up::placed_or;
 use merged_lookup::{Layers, Place, Stack};
 use ov_base::{Attributes, Content, Path};
 use std::alloc::AllocError;
@@ -17,16 +18,16 @@ pub(crate) fn link_copy(
     layers: &mut Layers,
     old: &Path,
     new: &Path,
-    directory: Stack,
-    onto: Stack,
+    directory: &Stack,
+    onto: &Stack,
     place: Place,
 ) -> Result<usize, AllocError>
     requires way { parents_fault (layers_of layers.old) old.now ≡ None }
-    requires directory { IsStackOf layers.old (parent old.now) directory }
+    requires directory { IsStackOf layers.old (parent old.now) directory.now }
     requires shown { ShowsInode layers.old old.now place }
     requires lower { 0 < place.layer }
     requires parents { parents_fault (layers_of layers.old) new.now ≡ None }
-    requires onto { IsStackOf layers.old (parent new.now) onto }
+    requires onto { IsStackOf layers.old (parent new.now) onto.now }
     requires absent { shows 0 (layers_of layers.old) new.now ≡ None }
     ensures linked { OnOk result (GivesName layers.old layers.new old.now new.now) }
     ensures key { IfOk result (λ key. held (layer_of layers.new.upper) old.now ≡ Some (Named key)) }
@@ -67,16 +68,16 @@ fn place_both(
     layers: &mut Layers,
     old: &Path,
     new: &Path,
-    directory: Stack,
-    onto: Stack,
+    directory: &Stack,
+    onto: &Stack,
     place: Place,
 ) -> Result<(usize, usize), AllocError>
     requires way { parents_fault (layers_of layers.old) old.now ≡ None }
-    requires directory { IsStackOf layers.old (parent old.now) directory }
+    requires directory { IsStackOf layers.old (parent old.now) directory.now }
     requires shown { ShowsInode layers.old old.now place }
     requires lower { 0 < place.layer }
     requires parents { parents_fault (layers_of layers.old) new.now ≡ None }
-    requires onto { IsStackOf layers.old (parent new.now) onto }
+    requires onto { IsStackOf layers.old (parent new.now) onto.now }
     requires absent { shows 0 (layers_of layers.old) new.now ≡ None }
     ensures same { ShowsSame layers.old layers.new }
     ensures stays { Stays layers.old layers.new }
@@ -85,6 +86,8 @@ fn place_both(
     ensures onto { IfOk result (λ dirs. (n : NameOf) (p : Names) → new.now ≡ n ∷ p → HasPlace (layer_of layers.new.upper) dirs.1 n p) }
     ensures shown { (x : Option Inode) → shows 0 (layers_of layers.old) old.now ≡ Some (Contents place.layer place.key x) → shows 0 (layers_of layers.new) old.now ≡ Some (Contents place.layer place.key x) }
 {
-    let (from, onto) = place_ways(layers, old, new, directory, onto)?;
+    let (placed, placed_onto) = place_ways(layers, old, new, directory, onto)?;
+    let from = placed_or(&placed, directory);
+    let onto = placed_or(&placed_onto, onto);
     Ok((from.top().key, onto.top().key))
 }

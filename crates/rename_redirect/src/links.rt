@@ -11,7 +11,7 @@ ghost use Rattle.rename_redirect.specs.Linking.{GainsBoth, GivesName, LinkSteps}
 
 use crate::copies::link_copy;
 use crate::names::link_in_upper;
-use copy_up::place_parents;
+use copy_up::{place_parents, placed_or};
 use make_remove::{Seen, there, vacant};
 use merged_lookup::{Layers, Place, Stack, Topmost};
 use ov_base::{Errno, Path};
@@ -27,11 +27,11 @@ pub fn link(
     layers: &mut Layers,
     old: &Path,
     new: &Path,
-    from: Seen,
-    onto: Seen,
+    from: &Seen,
+    onto: &Seen,
 ) -> Result<Result<usize, Errno>, AllocError>
-    requires from { IsSeen layers.old old.now from }
-    requires onto { IsSeen layers.old new.now onto }
+    requires from { IsSeen layers.old old.now from.now }
+    requires onto { IsSeen layers.old new.now onto.now }
     ensures refused { IfOk result (λ r. IfErr r (λ e.
         link_fault (layers_of layers.old) old.now new.now ≡ Some e)) }
     ensures unchanged { IfOk result (λ r. OnErr r (layers.new ≡ layers.old)) }
@@ -57,11 +57,11 @@ pub fn link(
 /// What link finds at its two paths, by what was seen at them: the merged directories in which they
 /// stand, and the place of the file or symbolic link that gets a further name; or why link(2)
 /// refuses it.
-pub fn linkable(from: Seen, onto: Seen) -> Result<(Stack, Stack, Place), Errno>
+pub fn linkable<'a>(from: &'a Seen, onto: &'a Seen) -> Result<(&'a Stack, &'a Stack, Place), Errno>
     ensures refused { IfErr result (λ e. (l : LayersOf) (p q : Names) →
-        IsSeen l p from → IsSeen l q onto → link_fault (layers_of l) p q ≡ Some e) }
+        IsSeen l p from.now → IsSeen l q onto.now → link_fault (layers_of l) p q ≡ Some e) }
     ensures may { IfOk result (λ w. (l : LayersOf) (p q : Names) →
-        IsSeen l p from → IsSeen l q onto → MayLink l p q w.0 w.1 w.2) }
+        IsSeen l p from.now → IsSeen l q onto.now → MayLink l p q w.0.now w.1.now w.2) }
 {
     let (directory, top) = match there(from) {
         Ok(shown) => shown,
@@ -82,15 +82,15 @@ fn give_name(
     layers: &mut Layers,
     old: &Path,
     new: &Path,
-    directory: Stack,
-    onto: Stack,
+    directory: &Stack,
+    onto: &Stack,
     place: Place,
 ) -> Result<usize, AllocError>
     requires way { parents_fault (layers_of layers.old) old.now ≡ None }
-    requires directory { IsStackOf layers.old (parent old.now) directory }
+    requires directory { IsStackOf layers.old (parent old.now) directory.now }
     requires shown { ShowsInode layers.old old.now place }
     requires parents { parents_fault (layers_of layers.old) new.now ≡ None }
-    requires onto { IsStackOf layers.old (parent new.now) onto }
+    requires onto { IsStackOf layers.old (parent new.now) onto.now }
     requires absent { shows 0 (layers_of layers.old) new.now ≡ None }
     ensures linked { OnOk result (GivesName layers.old layers.new old.now new.now) }
     ensures key { IfOk result (λ key. held (layer_of layers.new.upper) old.now ≡ Some (Named key)) }
@@ -110,13 +110,13 @@ fn link_own(
     layers: &mut Layers,
     old: &Path,
     new: &Path,
-    onto: Stack,
+    onto: &Stack,
     place: Place,
 ) -> Result<usize, AllocError>
     requires shown { ShowsInode layers.old old.now place }
     requires own { place.layer ≡ 0 }
     requires parents { parents_fault (layers_of layers.old) new.now ≡ None }
-    requires onto { IsStackOf layers.old (parent new.now) onto }
+    requires onto { IsStackOf layers.old (parent new.now) onto.now }
     requires absent { shows 0 (layers_of layers.old) new.now ≡ None }
     ensures linked { OnOk result (GivesName layers.old layers.new old.now new.now) }
     ensures key { IfOk result (λ key. held (layer_of layers.new.upper) old.now ≡ Some (Named key)) }
@@ -128,8 +128,8 @@ fn link_own(
     let Some((name, parents)) = new.split_last() else {
         unreachable!()
     };
-    let parent = place_parents(layers, onto, parents)?;
-    let dir = parent.top();
+    let placed = place_parents(layers, onto, parents)?;
+    let dir = placed_or(&placed, onto).top();
     link_in_upper(layers, dir.key, name, place.key)?;
     Ok(place.key)
 }

@@ -1,5 +1,5 @@
 // What a path shows moves to another path.
-ghost use Rattle.std.specs.Prelude.{◌≡◌, ◌∷◌, true, false, Some, None, IfOk, OnOk, OnErr};
+ghost use Rattle.std.specs.Prelude.{◌≡◌, ◌∷◌, true, false, Some, None, IfOk, OnOk, OnErr, unwrap_or};
 ghost use Rattle.ov_base.specs.declared.redirect.Redirect.TheVariants.{Absolute};
 ghost use Rattle.plain_model.specs.Layers.{Path as Names, Named, held, below, shows, is_directory, base, under, IsLayer, AreLayers};
 ghost use Rattle.plain_model.specs.Laws.{IsOutside};
@@ -17,7 +17,7 @@ ghost use Rattle.rename_redirect.specs.Routes.{IsMove, IsFolderMove};
 use crate::copies::copy_of;
 use crate::entries::{Route, insert_and_move, mark_in_upper, move_in_upper};
 use crate::renames::Renamed;
-use copy_up::place_parents;
+use copy_up::{place_parents, placed_or};
 use layer_tree::{Marks, Object};
 use merged_lookup::{Found, Layers, Place, Stack};
 use ov_base::{Name, Path, Redirect};
@@ -30,15 +30,15 @@ pub(crate) fn move_object(
     layers: &mut Layers,
     old: &Path,
     new: &Path,
-    directory: Stack,
+    directory: &Stack,
     found: Found,
-    onto: Stack,
+    onto: &Stack,
 ) -> Result<Renamed, AllocError>
     requires way { parents_fault (layers_of layers.old) old.now ≡ None }
-    requires directory { IsStackOf layers.old (parent old.now) directory }
+    requires directory { IsStackOf layers.old (parent old.now) directory.now }
     requires shown { IsFound layers.old old.now found }
     requires parents { parents_fault (layers_of layers.old) new.now ≡ None }
-    requires onto { IsStackOf layers.old (parent new.now) onto }
+    requires onto { IsStackOf layers.old (parent new.now) onto.now }
     requires empty { ShowsNoName (layers_of layers.old) new.now }
     requires apart { is_one (layer_of layers.old.upper) old.now new.now ≡ false }
     requires kind { is_directory (shows 0 (layers_of layers.old) old.now) ≡ true →
@@ -52,43 +52,51 @@ pub(crate) fn move_object(
     ensures keeps { StaysLayers layers.old layers.new }
     ensures thin { AreLayers (layers_of layers.old) → StaysThin layers.old layers.new }
 {
-    let (from, onto) = place_ways(layers, old, new, directory, onto)?;
+    let (placed, placed_onto) = place_ways(layers, old, new, directory, onto)?;
+    let from = placed_or(&placed, directory);
+    let onto = placed_or(&placed_onto, onto);
     let renamed = move_placed(alloc, layers, old, new, from, found, onto)?;
     Ok(renamed)
 }
 
-// The merged directories in which the last names of two paths stand; those that the upper lacks are placed. The new path is walked again
-// only where parents of the old one were placed.
+// Places those parents of two paths that the upper lacks, and gives the merged directories in which
+// their last names stand then; none where the upper has the one that is given. The new path is
+// walked again only where parents of the old one were placed.
 pub(crate) fn place_ways(
     layers: &mut Layers,
     old: &Path,
     new: &Path,
-    directory: Stack,
-    onto: Stack,
-) -> Result<(Stack, Stack), AllocError>
+    directory: &Stack,
+    onto: &Stack,
+) -> Result<(Option<Stack>, Option<Stack>), AllocError>
     requires way { parents_fault (layers_of layers.old) old.now ≡ None }
-    requires directory { IsStackOf layers.old (parent old.now) directory }
+    requires directory { IsStackOf layers.old (parent old.now) directory.now }
     requires parents { parents_fault (layers_of layers.old) new.now ≡ None }
-    requires onto { IsStackOf layers.old (parent new.now) onto }
+    requires onto { IsStackOf layers.old (parent new.now) onto.now }
     requires out { IsOutside old.now new.now }
     requires within { IsOutside new.now old.now }
     ensures same { ShowsSame layers.old layers.new }
     ensures stays { Stays layers.old layers.new }
     ensures gains { GainsBoth layers.old layers.new old.now new.now }
-    ensures from { IfOk result (λ ways. IsStackOf layers.new (parent old.now) ways.0) }
-    ensures from_upper { IfOk result (λ ways. (top_of ways.0.places.items).layer ≡ 0) }
-    ensures onto { IfOk result (λ ways. IsStackOf layers.new (parent new.now) ways.1) }
-    ensures onto_upper { IfOk result (λ ways. (top_of ways.1.places.items).layer ≡ 0) }
+    ensures from { IfOk result (λ ways.
+        IsStackOf layers.new (parent old.now) (unwrap_or ways.0 directory.now)) }
+    ensures from_upper { IfOk result (λ ways.
+        (top_of (unwrap_or ways.0 directory.now).places.items).layer ≡ 0) }
+    ensures onto { IfOk result (λ ways.
+        IsStackOf layers.new (parent new.now) (unwrap_or ways.1 onto.now)) }
+    ensures onto_upper { IfOk result (λ ways.
+        (top_of (unwrap_or ways.1 onto.now).places.items).layer ≡ 0) }
 {
     let top = directory.top();
     if top.layer == 0 {
         let Some((_, parents)) = new.split_last() else {
             unreachable!()
         };
-        let onto = place_parents(layers, onto, parents)?;
-        return Ok((directory, onto));
+        let placed = place_parents(layers, onto, parents)?;
+        return Ok((None, placed));
     }
-    place_old_way(layers, old, new, directory)
+    let (placed, onto) = place_old_way(layers, old, new, directory)?;
+    Ok((placed, Some(onto)))
 }
 
 // `place_ways`, where the upper lacks parents of the old path: those of the new one may be there once they are placed, so it is walked.
@@ -96,33 +104,39 @@ fn place_old_way(
     layers: &mut Layers,
     old: &Path,
     new: &Path,
-    directory: Stack,
-) -> Result<(Stack, Stack), AllocError>
+    directory: &Stack,
+) -> Result<(Option<Stack>, Stack), AllocError>
     requires way { parents_fault (layers_of layers.old) old.now ≡ None }
-    requires directory { IsStackOf layers.old (parent old.now) directory }
+    requires directory { IsStackOf layers.old (parent old.now) directory.now }
     requires parents { parents_fault (layers_of layers.old) new.now ≡ None }
     requires out { IsOutside old.now new.now }
     requires within { IsOutside new.now old.now }
     ensures same { ShowsSame layers.old layers.new }
     ensures stays { Stays layers.old layers.new }
     ensures gains { GainsBoth layers.old layers.new old.now new.now }
-    ensures from { IfOk result (λ ways. IsStackOf layers.new (parent old.now) ways.0) }
-    ensures from_upper { IfOk result (λ ways. (top_of ways.0.places.items).layer ≡ 0) }
+    ensures from { IfOk result (λ ways.
+        IsStackOf layers.new (parent old.now) (unwrap_or ways.0 directory.now)) }
+    ensures from_upper { IfOk result (λ ways.
+        (top_of (unwrap_or ways.0 directory.now).places.items).layer ≡ 0) }
     ensures onto { IfOk result (λ ways. IsStackOf layers.new (parent new.now) ways.1) }
     ensures onto_upper { IfOk result (λ ways. (top_of ways.1.places.items).layer ≡ 0) }
 {
     let Some((_, parents)) = old.split_last() else {
         unreachable!()
     };
-    let from = place_parents(layers, directory, parents)?;
+    let placed = place_parents(layers, directory, parents)?;
     let Ok(Some(found)) = layers.parent_of(new) else {
         unreachable!()
     };
     let Some((_, parents)) = new.split_last() else {
         unreachable!()
     };
-    let onto = place_parents(layers, found.stack, parents)?;
-    Ok((from, onto))
+    let onto = place_parents(layers, &found.stack, parents)?;
+    let onto = match onto {
+        Some(onto) => onto,
+        None => found.stack,
+    };
+    Ok((placed, onto))
 }
 
 // `move_object`, where the upper has the parents.
@@ -131,14 +145,14 @@ fn move_placed(
     layers: &mut Layers,
     old: &Path,
     new: &Path,
-    from: Stack,
+    from: &Stack,
     found: Found,
-    onto: Stack,
+    onto: &Stack,
 ) -> Result<Renamed, AllocError>
-    requires from { IsStackOf layers.old (parent old.now) from }
-    requires from_upper { (top_of from.places.items).layer ≡ 0 }
-    requires onto { IsStackOf layers.old (parent new.now) onto }
-    requires onto_upper { (top_of onto.places.items).layer ≡ 0 }
+    requires from { IsStackOf layers.old (parent old.now) from.now }
+    requires from_upper { (top_of from.now.places.items).layer ≡ 0 }
+    requires onto { IsStackOf layers.old (parent new.now) onto.now }
+    requires onto_upper { (top_of onto.now.places.items).layer ≡ 0 }
     requires shown { IsFound layers.old old.now found }
     requires empty { ShowsNoName (layers_of layers.old) new.now }
     requires apart { is_one (layer_of layers.old.upper) old.now new.now ≡ false }
@@ -163,11 +177,11 @@ fn move_placed(
         name,
         to: onto.top().key,
         further,
-        covered: layers.lowers_show(&from, name),
+        covered: layers.lowers_show(from, name),
     };
     match found {
         Found::Directory(stack) => {
-            let marks = moved_marks(alloc, layers, old, &stack, &onto, further)?;
+            let marks = moved_marks(alloc, layers, old, &stack, onto, further)?;
             let released = move_directory(layers, &route, stack.top(), marks)?;
             Ok(Renamed::Directory(released))
         }

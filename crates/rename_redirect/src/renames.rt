@@ -51,11 +51,11 @@ pub fn rename(
     old: &Path,
     new: &Path,
     redirects: bool,
-    from: Seen,
-    onto: Seen,
+    from: &Seen,
+    onto: &Seen,
 ) -> Result<Result<Renamed, Errno>, AllocError>
-    requires from { IsSeen layers.old old.now from }
-    requires onto { IsSeen layers.old new.now onto }
+    requires from { IsSeen layers.old old.now from.now }
+    requires onto { IsSeen layers.old new.now onto.now }
     ensures refused { IfOk result (λ r. IfErr r (λ e.
         (full : Bool) → TellsNames (layers_of layers.old) new.now full →
         rename_fault (layer_of layers.old.upper) (lowers_of layers.old) redirects
@@ -95,16 +95,16 @@ pub fn rename(
 /// The merged directory from which a name is to move, what was found there, and the merged directory
 /// that it goes to; none where both paths are one object, and else why rename(2) refuses it, judged
 /// by what was seen at the two paths.
-pub fn movable(
+pub fn movable<'a>(
     layers: &Layers,
     old: &Path,
     new: &Path,
     redirects: bool,
-    from: Seen,
-    onto: Seen,
-) -> Result<Option<(Stack, Found, Stack)>, Errno>
-    requires from { IsSeen layers.now old.now from }
-    requires onto { IsSeen layers.now new.now onto }
+    from: &'a Seen,
+    onto: &'a Seen,
+) -> Result<Option<(&'a Stack, Found, &'a Stack)>, Errno>
+    requires from { IsSeen layers.now old.now from.now }
+    requires onto { IsSeen layers.now new.now onto.now }
     ensures refused { IfErr result (λ e. IsFaultOf layers.now new.now
         (rename_fault (layer_of layers.now.upper) (lowers_of layers.now) redirects
         old.now new.now) e) }
@@ -113,7 +113,7 @@ pub fn movable(
     ensures fine { OnOk result (rename_fault (layer_of layers.now.upper) (lowers_of layers.now)
         redirects old.now new.now false ≡ None) }
     ensures moves { IfOk result (λ o.
-        IfSome o (λ w. MayMove layers.now redirects old.now new.now w.0 w.1 w.2)) }
+        IfSome o (λ w. MayMove layers.now redirects old.now new.now w.0.now w.1 w.2.now)) }
 {
     if old.names().is_empty() || new.names().is_empty() {
         return Err(Errno::EBUSY);
@@ -123,11 +123,11 @@ pub fn movable(
         Err(errno) => return Err(errno),
     };
     let (onto, target) = match onto {
-        Ok(shown) => shown,
-        Err(errno) => return Err(errno),
+        Ok((onto, target)) => (onto, *target),
+        Err(errno) => return Err(*errno),
     };
-    let found = found_in(layers, &directory, old, top);
-    let target = answer_in(layers, &onto, new, target);
+    let found = found_in(layers, directory, old, top);
+    let target = answer_in(layers, onto, new, target);
     if same_path(old, new) || same_inode(&found, &target) {
         return Ok(None);
     }

@@ -1,7 +1,7 @@
 -- The open jobs by their numbers.
-use Rattle.std.specs.Prelude.{◌≡◌, ◌≢◌, ℕ, Bool, false, cond, List, Option, Some, None, is_some, unwrap_or, nat_eq, slice_get, slice_set}
+use Rattle.std.specs.Prelude.{◌≡◌, ◌≢◌, ◌<◌, ℕ, Bool, false, cond, length, List, Option, Some, None, is_some, option_map, unwrap_or, nat_eq, slice_get, slice_set, IsSomeAnd}
 use Rattle.work_dir.specs.declared.table.OpenJob.{OpenJob}
-use Rattle.work_dir.specs.Beginnings.{Beginning}
+use Rattle.work_dir.specs.Beginnings.{longer_beginning, Beginning, IsBeginning}
 
 -- the open job under a number
 abbrev pub job_at : List (Option OpenJob) → ℕ → Option OpenJob
@@ -32,6 +32,16 @@ of_client client o = cond (is_of client o) o None
 -- a job, where it is not the client's
 abbrev pub unless_of : ℕ → Option OpenJob → Option OpenJob
 unless_of client o = cond (is_of client o) None o
+
+-- a job whose temp has one chunk more of this file
+abbrev pub with_chunk : List ℕ → Option OpenJob → Option OpenJob
+with_chunk whole (Some o) = Some (record o { temp = option_map (longer_beginning whole) o.temp })
+with_chunk whole None = None
+
+-- the job has a temp, which is a beginning of this file and has not all of its bytes
+abbrev pub LacksBytes : List ℕ → Option OpenJob → Type 0
+LacksBytes whole o =
+    IsSomeAnd (temp_of o) (λ t. IsBeginning whole t × (length t.bytes < length whole))
 
 -- the number is in the table, and no job stands under it
 abbrev pub IsFree : List (Option OpenJob) → ℕ → Type 0

@@ -1,7 +1,8 @@
 // The open jobs by their numbers, and with them the temps.
-ghost use Rattle.std.specs.Prelude.{◌≡◌, ◌↔◌, ℕ, [], ◌∷◌, ◌++◌, map, position, slice_set, count_by, Some, None, is_some, is_none, IsTrue, IfOk, IsOk, OnOk, OnErr, option_copied};
+ghost use Rattle.std.specs.Prelude.{◌≡◌, ◌↔◌, ℕ, [], ◌∷◌, ◌++◌, map, position, slice_set, count_by, Some, None, is_some, is_none, length, option_map, ◌<◌, IsSomeAnd, IsTrue, IfOk, IsOk, OnOk, OnErr, option_copied};
 ghost use Rattle.std.specs.Option.{ForSome};
-ghost use Rattle.work_dir.specs.OpenJobs.{job_at, temp_at, has_temp, is_of, of_client, unless_of, held, closed, closed_any, IsFree, IsFull, Same, Changes};
+ghost use Rattle.work_dir.specs.Beginnings.{longer_beginning, IsBeginning};
+ghost use Rattle.work_dir.specs.OpenJobs.{job_at, temp_at, has_temp, is_of, of_client, unless_of, held, closed, closed_any, with_chunk, IsFree, IsFull, LacksBytes, Same, Changes};
 
 use crate::temp::Temp;
 use std::alloc::{AllocError, Global};
@@ -156,6 +157,34 @@ impl WorkDir {
         }
     }
 
+    /// The temp that `close` would give, where it is kept.
+    pub fn held(&self, number: Option<usize>, client: u64, chunks: usize) -> Option<&Temp>
+        ensures { option_copied result ≡ held self.now number client chunks }
+    {
+        let number = number?;
+        if !self.is_own(number, client) {
+            return None;
+        }
+        let temp = self.temp_at(number)?;
+        if temp.chunks() != chunks {
+            return None;
+        }
+        Some(temp)
+    }
+
+    /// Copies the next chunk of a file's bytes, or what is left of them, into the temp under a
+    /// number, where it is kept. An allocation failure changes nothing.
+    pub fn copy_chunk(&mut self, number: usize, whole: &[u8]) -> Result<(), AllocError>
+        requires { LacksBytes whole.now (job_at self.old number) }
+        ensures ok { OnOk result (self.new ≡ slice_set self.old number
+            (with_chunk whole.now (job_at self.old number))) }
+        ensures numbers { OnOk result (Changes self.old self.new number
+            (with_chunk whole.now (job_at self.old number))) }
+        ensures err { OnErr result (self.new ≡ self.old) }
+    {
+        copy_into(&mut self.jobs[number], whole)
+    }
+
     /// Ends all that is kept of a client's jobs.
     pub fn forget(&mut self, client: u64)
         ensures table { self.new ≡ map (unless_of client) self.old }
@@ -194,5 +223,29 @@ fn forget(job: &mut Option<OpenJob>, client: u64)
 {
     if is_of(job, client) {
         *job = None;
+    }
+}
+
+// Copies the next chunk of a file's bytes into the temp of a job.
+fn copy_into(job: &mut Option<OpenJob>, whole: &[u8]) -> Result<(), AllocError>
+    requires { LacksBytes whole.now job.old }
+    ensures ok { OnOk result (job.new ≡ with_chunk whole.now job.old) }
+    ensures err { OnErr result (job.new ≡ job.old) }
+{
+    match job {
+        Some(open) => lengthen(&mut open.temp, whole),
+        None => unreachable!(),
+    }
+}
+
+// Copies the next chunk of a file's bytes into a temp.
+fn lengthen(temp: &mut Option<Temp>, whole: &[u8]) -> Result<(), AllocError>
+    requires { IsSomeAnd temp.old (λ t. IsBeginning whole.now t × (length t.bytes < length whole.now)) }
+    ensures ok { OnOk result (temp.new ≡ option_map (longer_beginning whole.now) temp.old) }
+    ensures err { OnErr result (temp.new ≡ temp.old) }
+{
+    match temp {
+        Some(temp) => temp.copy_chunk(whole),
+        None => unreachable!(),
     }
 }

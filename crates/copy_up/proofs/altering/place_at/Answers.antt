@@ -11,13 +11,13 @@ use Rattle.copy_up.proofs.altering.place_at.Goals as goal
 pub place_parent-requires-clause-shown : goal.place_parent-requires-clause-shown
 place_parent-requires-clause-shown c =
     let q = reverse c.in-Some.parents.now in
-    (q, c.in_ok-parent.ensures.stack, directory-same c.args.layers.now c.place_parents.new.layers (c.in-Some.name.now ∷ q) c.place_parents.ensures.same (subst (λ (x : Path). is_directory (shows 0 (layers_of c.args.layers.now) x) ≡ true) c.in-Some.ensures c.requires.shown))
+    (q, (subst (λ (s : Stack). IsStackOf c.place_parents.new.layers (reverse c.in-Some.parents.now) s) (sym c.placed_or.ensures) c.in_ok-placed.ensures.stack), directory-same c.args.layers.now c.place_parents.new.layers (c.in-Some.name.now ∷ q) c.place_parents.ensures.same (subst (λ (x : Path). is_directory (shows 0 (layers_of c.args.layers.now) x) ≡ true) c.in-Some.ensures c.requires.shown))
 
 pub returns-clause-same : goal.returns-clause-same
 returns-clause-same c = same-then c.args.layers.now c.place_parents.new.layers c.place_parent.new.layers c.place_parents.ensures.same c.place_parent.ensures.same
 
 pub returns-clause-stack : goal.returns-clause-stack
-returns-clause-stack c = IfOk-weaker c.place_parent.result _ _ (λ (s : Stack) h. subst (λ (x : Path). IsStackOf c.place_parent.new.layers x s) (sym c.in-Some.ensures) (h (reverse c.in-Some.parents.now) c.in_ok-parent.ensures.stack)) c.place_parent.ensures.stack
+returns-clause-stack c = IfOk-weaker c.place_parent.result _ _ (λ (s : Stack) h. subst (λ (x : Path). IsStackOf c.place_parent.new.layers x s) (sym c.in-Some.ensures) (h (reverse c.in-Some.parents.now) (subst (λ (s : Stack). IsStackOf c.place_parents.new.layers (reverse c.in-Some.parents.now) s) (sym c.placed_or.ensures) c.in_ok-placed.ensures.stack))) c.place_parent.ensures.stack
 
 pub returns-clause-gains : goal.returns-clause-gains
 returns-clause-gains c = λ n.
@@ -26,25 +26,25 @@ returns-clause-gains c = λ n.
     subst (λ (x : Path). GainsParents c.args.layers.now c.place_parent.new.layers (n ∷ x)) (sym c.in-Some.ensures)
     (gains-then c.args.layers.now c.place_parents.new.layers c.place_parent.new.layers (n ∷ p) c.place_parents.ensures.same
     (gains-further c.args.layers.now c.place_parents.new.layers n p (c.place_parents.ensures.gains c.in-Some.name.now))
-    (c.place_parent.ensures.gains q (n ∷ p) c.in_ok-parent.ensures.stack (n, [], refl)))
+    (c.place_parent.ensures.gains q (n ∷ p) (subst (λ (s : Stack). IsStackOf c.place_parents.new.layers (reverse c.in-Some.parents.now) s) (sym c.placed_or.ensures) c.in_ok-placed.ensures.stack) (n, [], refl)))
 
 pub returns-clause-proper : goal.returns-clause-proper
 returns-clause-proper c =
     let q = reverse c.in-Some.parents.now in
     let p = c.in-Some.name.now ∷ q in
-    let kept = (c.place_parent.ensures.gains q ([] ∷ p) c.in_ok-parent.ensures.stack ([], [], refl)).objects in
+    let kept = (c.place_parent.ensures.gains q ([] ∷ p) (subst (λ (s : Stack). IsStackOf c.place_parents.new.layers (reverse c.in-Some.parents.now) s) (sym c.placed_or.ensures) c.in_ok-placed.ensures.stack) ([], [], refl)).objects in
     on_err_weaker c.place_parent.result (λ same.
     subst (λ (x : Path). GainsParents c.args.layers.now c.place_parent.new.layers x) (sym c.in-Some.ensures)
     (gains-then c.args.layers.now c.place_parents.new.layers c.place_parent.new.layers p c.place_parents.ensures.same (c.place_parents.ensures.gains c.in-Some.name.now)
     (gains-unchanged c.place_parents.new.layers c.place_parent.new.layers p c.place_parent.ensures.same.lowers same kept))) c.place_parent.ensures.unchanged
 
-pub returns-in_err-parent-clause-gains : goal.returns-in_err-parent-clause-gains
-returns-in_err-parent-clause-gains c = λ n.
+pub returns-in_err-placed-clause-gains : goal.returns-in_err-placed-clause-gains
+returns-in_err-placed-clause-gains c = λ n.
     subst (λ (x : Path). GainsParents c.args.layers.now c.place_parents.new.layers (n ∷ x)) (sym c.in-Some.ensures)
     (gains-further c.args.layers.now c.place_parents.new.layers n (c.in-Some.name.now ∷ reverse c.in-Some.parents.now) (c.place_parents.ensures.gains c.in-Some.name.now))
 
-pub returns-in_err-parent-clause-proper : goal.returns-in_err-parent-clause-proper
-returns-in_err-parent-clause-proper c =
+pub returns-in_err-placed-clause-proper : goal.returns-in_err-placed-clause-proper
+returns-in_err-placed-clause-proper c =
     on-err _ c.from_residual.result
     (subst (λ (x : Path). GainsParents c.args.layers.now c.place_parents.new.layers x) (sym c.in-Some.ensures) (c.place_parents.ensures.gains c.in-Some.name.now))
 

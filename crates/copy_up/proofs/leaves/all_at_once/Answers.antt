@@ -1,8 +1,10 @@
-use Rattle.std.proofs.Common.{◌∷◌, Some, reverse, subst}
+use Rattle.std.proofs.Common.{◌≡◌, ◌∷◌, Some, reverse, subst, sym}
 use Rattle.ov_base.specs.declared.bytes.Content.{Content}
 use Rattle.mount_laws.specs.Leaves.{PlacesLeaf}
 use Rattle.layer_tree.specs.Tree.{layer_of}
 use Rattle.merged_lookup.specs.declared.layers.Layers.{Layers}
+use Rattle.merged_lookup.specs.declared.stack.Stack.{Stack}
+use Rattle.merged_lookup.specs.Merged.{top_of, IsStackOf}
 use Rattle.copy_up.specs.Showing.{ShowsSame, GainsParents, Stays}
 use Rattle.copy_up.proofs.Keeping.{failed-gains, failed-stays, then-layers, on-err}
 use Rattle.copy_up.proofs.Copying.{leaf_of, copy-place, leaf-copied, thin-copied}
@@ -15,14 +17,14 @@ pub insert_leaf-requires : goal.insert_leaf-requires
 insert_leaf-requires c =
     let same = subst (λ (z : Layers). ShowsSame z c.place_parents.new.layers) c.content_of.ensures.same c.place_parents.ensures.same in
     let gains = subst (λ (z : Layers). GainsParents z c.place_parents.new.layers (c.args.name.now ∷ reverse c.args.parents.now)) c.content_of.ensures.same (c.place_parents.ensures.gains c.args.name.now) in
-    (reverse c.args.parents.now, copy-place c.args.layers.now c.place_parents.new.layers same c.args.name.now (reverse c.args.parents.now) gains c.args.place.layer c.args.place.key (Some c.requires.shown.0) c.requires.shown.1 c.requires.lower c.in_ok-parent.parent c.top-dir.result c.in_ok-parent.ensures.stack c.in_ok-parent.ensures.upper c.top-dir.ensures)
+    (reverse c.args.parents.now, copy-place c.args.layers.now c.place_parents.new.layers same c.args.name.now (reverse c.args.parents.now) gains c.args.place.layer c.args.place.key (Some c.requires.shown.0) c.requires.shown.1 c.requires.lower c.placed_or.result.now c.top-dir.result (subst (λ (s : Stack). IsStackOf c.place_parents.new.layers (reverse c.args.parents.now) s) (sym c.placed_or.ensures) c.in_ok-placed.ensures.stack) (subst (λ (s : Stack). (top_of s.places.items).layer ≡ 0) (sym c.placed_or.ensures) c.in_ok-placed.ensures.upper) c.top-dir.ensures)
 
-pub returns-in_err-parent-clause-no_memory : goal.returns-in_err-parent-clause-no_memory
-returns-in_err-parent-clause-no_memory c =
+pub returns-in_err-placed-clause-no_memory : goal.returns-in_err-placed-clause-no_memory
+returns-in_err-placed-clause-no_memory c =
     let same = subst (λ (z : Layers). ShowsSame z c.place_parents.new.layers) c.content_of.ensures.same c.place_parents.ensures.same in
     let stays = subst (λ (z : Layers). Stays z c.place_parents.new.layers) c.content_of.ensures.same c.place_parents.ensures.stays in
     let gains = subst (λ (z : Layers). GainsParents z c.place_parents.new.layers (c.args.name.now ∷ reverse c.args.parents.now)) c.content_of.ensures.same (c.place_parents.ensures.gains c.args.name.now) in
-    on-err _ c.from_residual-in_err-parent.result (record { shown = same; mount = stays.mounts; beneath = gains })
+    on-err _ c.from_residual-in_err-placed.result (record { shown = same; mount = stays.mounts; beneath = gains })
 
 pub returns-in_err-key-clause-no_memory : goal.returns-in_err-key-clause-no_memory
 returns-in_err-key-clause-no_memory c =
@@ -45,7 +47,7 @@ returns-clause-copied c = λ i shown.
     let same = subst (λ (z : Layers). ShowsSame z c.place_parents.new.layers) c.content_of.ensures.same c.place_parents.ensures.same in
     let stays = subst (λ (z : Layers). Stays z c.place_parents.new.layers) c.content_of.ensures.same c.place_parents.ensures.stays in
     let gains = subst (λ (z : Layers). GainsParents z c.place_parents.new.layers (n ∷ q)) c.content_of.ensures.same (c.place_parents.ensures.gains c.args.name.now) in
-    let placed = c.in_ok-key.ensures.placed q (copy-place c.args.layers.now c.place_parents.new.layers same n q gains c.args.place.layer c.args.place.key (Some c.requires.shown.0) c.requires.shown.1 c.requires.lower c.in_ok-parent.parent c.top-dir.result c.in_ok-parent.ensures.stack c.in_ok-parent.ensures.upper c.top-dir.ensures) in
+    let placed = c.in_ok-key.ensures.placed q (copy-place c.args.layers.now c.place_parents.new.layers same n q gains c.args.place.layer c.args.place.key (Some c.requires.shown.0) c.requires.shown.1 c.requires.lower c.placed_or.result.now c.top-dir.result (subst (λ (s : Stack). IsStackOf c.place_parents.new.layers (reverse c.args.parents.now) s) (sym c.placed_or.ensures) c.in_ok-placed.ensures.stack) (subst (λ (s : Stack). (top_of s.places.items).layer ≡ 0) (sym c.placed_or.ensures) c.in_ok-placed.ensures.upper) c.top-dir.ensures) in
     leaf-copied c.args.layers.now c.place_parents.new.layers c.insert_leaf.new.layers same n q gains c.insert_leaf.ensures.lowers c.in_ok-key.key c.args.attributes stays.sound.layers stays.names c.insert_leaf.ensures.keeps c.args.place.layer c.args.place.key i shown c.requires.lower
     (subst (λ (z : Content). PlacesLeaf (layer_of c.place_parents.new.layers.upper) (layer_of c.insert_leaf.new.layers.upper) (n ∷ q) c.in_ok-key.key (leaf_of z c.args.attributes)) (c.in_ok-content.ensures.content (n ∷ q) i shown) placed)
     c.in_ok-key.ensures.vacant c.in_ok-key.ensures.objects
@@ -57,7 +59,7 @@ returns-clause-sound c =
     let same = subst (λ (z : Layers). ShowsSame z c.place_parents.new.layers) c.content_of.ensures.same c.place_parents.ensures.same in
     let stays = subst (λ (z : Layers). Stays z c.place_parents.new.layers) c.content_of.ensures.same c.place_parents.ensures.stays in
     let gains = subst (λ (z : Layers). GainsParents z c.place_parents.new.layers (n ∷ q)) c.content_of.ensures.same (c.place_parents.ensures.gains c.args.name.now) in
-    let placed = c.in_ok-key.ensures.placed q (copy-place c.args.layers.now c.place_parents.new.layers same n q gains c.args.place.layer c.args.place.key (Some c.requires.shown.0) c.requires.shown.1 c.requires.lower c.in_ok-parent.parent c.top-dir.result c.in_ok-parent.ensures.stack c.in_ok-parent.ensures.upper c.top-dir.ensures) in
+    let placed = c.in_ok-key.ensures.placed q (copy-place c.args.layers.now c.place_parents.new.layers same n q gains c.args.place.layer c.args.place.key (Some c.requires.shown.0) c.requires.shown.1 c.requires.lower c.placed_or.result.now c.top-dir.result (subst (λ (s : Stack). IsStackOf c.place_parents.new.layers (reverse c.args.parents.now) s) (sym c.placed_or.ensures) c.in_ok-placed.ensures.stack) (subst (λ (s : Stack). (top_of s.places.items).layer ≡ 0) (sym c.placed_or.ensures) c.in_ok-placed.ensures.upper) c.top-dir.ensures) in
     let sound = stays.sound in
     record {
       layers = then-layers c.args.layers.now c.place_parents.new.layers c.insert_leaf.new.layers sound.layers c.insert_leaf.ensures.lowers c.insert_leaf.ensures.keeps;

@@ -12,7 +12,7 @@ returns-in-Err c = alters-refused c.args.call.now c.args.layers.now c.args.path.
 
 pub change-requires : goal.change-requires
 change-requires c =
-    let target : IsTarget c.args.layers.now c.args.path.now c.args.call.now c.in-Ok.target = rw c.in-Ok.is at c.judged.ensures c.args.path.now c.requires in
+    let target : IsTarget c.args.layers.now c.args.path.now c.args.call.now (c.in-Ok.target.0.now, c.in-Ok.target.1) = rw c.in-Ok.is at c.judged.ensures c.args.path.now c.requires in
     or-first (asking_fault c.args.call.now) _ target.allowed
 
 pub returns-in_err-change : goal.returns-in_err-change
@@ -20,17 +20,17 @@ returns-in_err-change c = alters-unmade c.args.call.now c.args.layers.now c.args
 
 pub alter-requires-clause-way : goal.alter-requires-clause-way
 alter-requires-clause-way c =
-    let target : IsTarget c.args.layers.now c.args.path.now c.args.call.now c.in-Ok.target = rw c.in-Ok.is at c.judged.ensures c.args.path.now c.requires in
+    let target : IsTarget c.args.layers.now c.args.path.now c.args.call.now (c.in-Ok.target.0.now, c.in-Ok.target.1) = rw c.in-Ok.is at c.judged.ensures c.args.path.now c.requires in
     target.way
 
 pub alter-requires-clause-directory : goal.alter-requires-clause-directory
 alter-requires-clause-directory c =
-    let target : IsTarget c.args.layers.now c.args.path.now c.args.call.now c.in-Ok.target = rw c.in-Ok.is at c.judged.ensures c.args.path.now c.requires in
+    let target : IsTarget c.args.layers.now c.args.path.now c.args.call.now (c.in-Ok.target.0.now, c.in-Ok.target.1) = rw c.in-Ok.is at c.judged.ensures c.args.path.now c.requires in
     target.directory
 
 pub alter-requires-clause-shown : goal.alter-requires-clause-shown
 alter-requires-clause-shown c =
-    let target : IsTarget c.args.layers.now c.args.path.now c.args.call.now c.in-Ok.target = rw c.in-Ok.is at c.judged.ensures c.args.path.now c.requires in
+    let target : IsTarget c.args.layers.now c.args.path.now c.args.call.now (c.in-Ok.target.0.now, c.in-Ok.target.1) = rw c.in-Ok.is at c.judged.ensures c.args.path.now c.requires in
     target.top
 
 pub returns-in_err-key : goal.returns-in_err-key
@@ -41,7 +41,7 @@ returns-in_err-key c =
 
 pub returns : goal.returns
 returns c =
-    let target : IsTarget c.args.layers.now c.args.path.now c.args.call.now c.in-Ok.target = rw c.in-Ok.is at c.judged.ensures c.args.path.now c.requires in
+    let target : IsTarget c.args.layers.now c.args.path.now c.args.call.now (c.in-Ok.target.0.now, c.in-Ok.target.1) = rw c.in-Ok.is at c.judged.ensures c.args.path.now c.requires in
     let made = c.in_ok-key.ensures in
-    alters-done c.args.call.now c.args.layers.now c.alter.new.layers c.args.path.now c.in-Ok.target target made.lowers made.sound c.in_ok-change.change c.in_ok-change.ensures made.altered
+    alters-done c.args.call.now c.args.layers.now c.alter.new.layers c.args.path.now (c.in-Ok.target.0.now, c.in-Ok.target.1) target made.lowers made.sound c.in_ok-change.change c.in_ok-change.ensures made.altered
     c.lawful.ensures.tree made.object c.in_ok-key.key made.key

@@ -7,10 +7,10 @@ use Rattle.mount_calls.proofs.Lasting.{both-live}
 use Rattle.mount_calls.proofs.removals.rename_and_free.Goals as goal
 
 pub rename-requires-clause-from : goal.rename-requires-clause-from
-rename-requires-clause-from c = look-seen c.args.layers.now c.args.old.now c.args.from c.requires.from
+rename-requires-clause-from c = look-seen c.args.layers.now c.args.old.now c.args.from.now c.requires.from
 
 pub rename-requires-clause-onto : goal.rename-requires-clause-onto
-rename-requires-clause-onto c = look-seen c.args.layers.now c.args.new.now c.args.onto c.requires.onto
+rename-requires-clause-onto c = look-seen c.args.layers.now c.args.new.now c.args.onto.now c.requires.onto
 
 pub returns-in-Ok-Directory-clause-does : goal.returns-in-Ok-Directory-clause-does
 returns-in-Ok-Directory-clause-does c =

@@ -7,7 +7,7 @@ use Rattle.copy_up.proofs.Keeping.{on-err, sound-then}
 use Rattle.mount_calls.proofs.removals.rmdir_and_free.Goals as goal
 
 pub rmdir-requires : goal.rmdir-requires
-rmdir-requires c = look-seen c.args.layers.now c.args.path.now c.args.look c.requires
+rmdir-requires c = look-seen c.args.layers.now c.args.path.now c.args.look.now c.requires
 
 pub returns-in-Ok-clause-takes : goal.returns-in-Ok-clause-takes
 returns-in-Ok-clause-takes c = takes-then c.args.layers.now c.rmdir.new.layers c.free_released.new.layers c.args.path.now c.free_released.ensures.held c.free_released.ensures.same c.free_released.ensures.sound.layers (rw c.in-Ok.is at c.in_ok-key.ensures.takes)

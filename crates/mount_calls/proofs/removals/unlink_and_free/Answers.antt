@@ -8,24 +8,24 @@ use Rattle.copy_up.proofs.Keeping.{on-err, sound-then}
 use Rattle.mount_calls.proofs.removals.unlink_and_free.Goals as goal
 
 pub returns-in-Err-clause-refused : goal.returns-in-Err-clause-refused
-returns-in-Err-clause-refused c = c.in-Err.ensures.refused c.args.layers.now (look-seen c.args.layers.now c.args.path.now c.args.look c.requires)
+returns-in-Err-clause-refused c = c.in-Err.ensures.refused c.args.layers.now (look-seen c.args.layers.now c.args.path.now c.args.look.now c.requires)
 
 pub object_in-object-requires : goal.object_in-object-requires
-object_in-object-requires c = (c.args.path.now, c.in-Ok.ensures.shown c.args.layers.now (look-seen c.args.layers.now c.args.path.now c.args.look c.requires))
+object_in-object-requires c = (c.args.path.now, c.in-Ok.ensures.shown c.args.layers.now (look-seen c.args.layers.now c.args.path.now c.args.look.now c.requires))
 
 pub unlink-requires-clause-allowed : goal.unlink-requires-clause-allowed
-unlink-requires-clause-allowed c = c.in-Ok.ensures.allowed c.args.layers.now (look-seen c.args.layers.now c.args.path.now c.args.look c.requires)
+unlink-requires-clause-allowed c = c.in-Ok.ensures.allowed c.args.layers.now (look-seen c.args.layers.now c.args.path.now c.args.look.now c.requires)
 
 pub unlink-requires-clause-directory : goal.unlink-requires-clause-directory
-unlink-requires-clause-directory c = c.in-Ok.ensures.directory c.args.layers.now (look-seen c.args.layers.now c.args.path.now c.args.look c.requires)
+unlink-requires-clause-directory c = c.in-Ok.ensures.directory c.args.layers.now (look-seen c.args.layers.now c.args.path.now c.args.look.now c.requires)
 
 pub returns-clause-allowed : goal.returns-clause-allowed
-returns-clause-allowed c = c.in-Ok.ensures.allowed c.args.layers.now (look-seen c.args.layers.now c.args.path.now c.args.look c.requires)
+returns-clause-allowed c = c.in-Ok.ensures.allowed c.args.layers.now (look-seen c.args.layers.now c.args.path.now c.args.look.now c.requires)
 
 pub returns-clause-object : goal.returns-clause-object
 returns-clause-object c =
     c.object_in-object.ensures c.args.path.now
-    (c.in-Ok.ensures.shown c.args.layers.now (look-seen c.args.layers.now c.args.path.now c.args.look c.requires))
+    (c.in-Ok.ensures.shown c.args.layers.now (look-seen c.args.layers.now c.args.path.now c.args.look.now c.requires))
 
 pub returns-clause-takes : goal.returns-clause-takes
 returns-clause-takes c = takes-then c.args.layers.now c.unlink.new.layers c.free_released.new.layers c.args.path.now c.free_released.ensures.held c.free_released.ensures.same c.free_released.ensures.sound.layers c.in_ok-key.ensures.takes

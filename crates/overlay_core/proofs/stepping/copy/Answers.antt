@@ -1,21 +1,20 @@
-use Rattle.std.proofs.Common.{Some, refl}
-use Rattle.work_dir.specs.declared.next.Next.TheVariants.{Copy}
-use Rattle.overlay_core.specs.declared.turn.Turn.TheVariants.{More, NoMemory}
-use Rattle.overlay_core.proofs.StepsMade.{made-aside}
+use Rattle.std.proofs.Common.{◌<◌, ap, length, sym}
+use Rattle.merged_lookup.specs.Merged.{lowers_of}
+use Rattle.work_dir.specs.OpenJobs.{temp_of}
+use Rattle.work_dir.specs.declared.next.Lack.TheVariants.{File}
+use Rattle.mount_calls.specs.Lacks.{lack_size}
+use Rattle.overlay_core.specs.Steps.{held_by}
+use Rattle.overlay_core.proofs.KeptTemps.{copied-more, held-entry, some-and}
 use Rattle.overlay_core.proofs.stepping.copy.Goals as goal
 
 pub returns-in-Ok-clause-makes : goal.returns-in-Ok-clause-makes
 returns-in-Ok-clause-makes g c =
-    let kept = c.in-Ok.ensures.kept in
-    made-aside g.R.Rule.shows c.args.watched.now c.args.work.now c.keep_longer.new.work c.args.job.now
-    c.copy.new.self More Copy (Some c.args.temp) c.keep_longer.ensures.temps (λ s a. a, c.copy.ensures.standing) (
-      record { number = c.in-Ok.number; known = c.copy.ensures.number; free = kept.0; kept = kept.1 },
-      c.copy.ensures.counts,
-      refl,
-    )
-
-pub returns-in-Err-clause-makes : goal.returns-in-Err-clause-makes
-returns-in-Err-clause-makes g c =
-    made-aside g.R.Rule.shows c.args.watched.now c.args.work.now c.keep_longer.new.work c.args.job.now
-    c.end.new.self NoMemory Copy (Some c.args.temp) c.keep_longer.ensures.temps
-    (λ s a. a, c.end.ensures.standing) (c.in-Err.ensures.same, c.end.ensures.number)
+    let L = lowers_of c.args.watched.now.mount.layers in
+    let work = c.args.work.now in
+    let j = c.args.job.now in
+    let n = c.in-Some.number in
+    let number = sym c.in-Some.ensures in
+    let some = some-and (held_by work j) (λ t. length t.bytes < lack_size L (File t.source)) c.requires.due in
+    copied-more g.R.Rule.shows c.args.watched.now work c.lengthen.new.work j c.copy.new.self n number some.0 some.1
+    c.requires.temps (c.in-Ok.ensures.ok some.0 (ap temp_of (held-entry work j some.0 n number some.1)))
+    c.copy.ensures.standing c.copy.ensures.number c.copy.ensures.counts

@@ -9,7 +9,6 @@ use Rattle.mount_calls.specs.Lacks.{lack_size}
 use Rattle.overlay_core.specs.Steps.{held_by, lack_by, without, IsNext}
 use Rattle.overlay_core.specs.Waits.{WaitsFor}
 use Rattle.overlay_core.proofs.NextSteps.{next-ready, plain-lacks, plain-memory}
-use Rattle.overlay_core.proofs.Waited.{held-counts}
 use Rattle.overlay_core.proofs.StepsMade.{step-made}
 use Rattle.overlay_core.proofs.stepping.step.Goals as goal
 
@@ -20,40 +19,29 @@ pub step_seen-requires-clause-state : goal.step_seen-requires-clause-state
 step_seen-requires-clause-state g c = rw c.remember.ensures c.requires.state
 
 pub step_seen-requires-clause-temps : goal.step_seen-requires-clause-temps
-step_seen-requires-clause-temps g c =
-    rw c.remember.ensures (c.held-temp.ensures.temps (lowers_of c.args.watched.now.mount.layers) c.requires.temps).0
+step_seen-requires-clause-temps g c = rw c.remember.ensures c.requires.temps
 
 pub step_seen-requires-clause-limits : goal.step_seen-requires-clause-limits
 step_seen-requires-clause-limits g c = rw c.remember.ensures c.requires.limits
 
-pub step_seen-requires-clause-counts : goal.step_seen-requires-clause-counts
-step_seen-requires-clause-counts g c = λ t e.
-    held-counts c.args.work.now c.args.job.now t (sym c.held-temp.ensures.temp ∙ e)
-
-pub copy_on-requires-clause-counts : goal.copy_on-requires-clause-counts
-copy_on-requires-clause-counts g c = λ t e.
-    held-counts c.args.work.now c.args.job.now t (sym c.held-temp.ensures.temp ∙ e)
-
-pub copy_on-requires-clause-due : goal.copy_on-requires-clause-due
-copy_on-requires-clause-due g c =
+pub copy-requires-clause-due : goal.copy-requires-clause-due
+copy-requires-clause-due g c =
     let m = c.args.watched.now.mount in
-    subst (λ t. IsNext m c.args.job.now t Copy) c.as_ref.ensures.value
+    subst (λ t. IsNext m c.args.job.now t Copy) c.temp_of.ensures
     (c.if-copies_on.ensures.due refl m (subst (λ o. ForSome o (WaitsFor m)) (sym (c.first.ensures.value ∙ ap (λ xs. slice_get xs 0) c.deref.ensures.value)) c.requires.waits))
 
 pub returns-then-copies_on-clause-makes : goal.returns-then-copies_on-clause-makes
 returns-then-copies_on-clause-makes g c =
     let old = c.args.watched.now in
+    let work = c.args.work.now in
+    let j = c.args.job.now in
     let waits = subst (λ o. ForSome o (WaitsFor old.mount)) (sym (c.first.ensures.value ∙ ap (λ xs. slice_get xs 0) c.deref.ensures.value)) c.requires.waits in
     step-made g.R.Rule.shows old old
-    old.mount (without c.args.work.now c.args.job.now) c.held-temp.new.work c.copy_on.new.work
-    c.args.job.now c.copy_on.new.job c.copy_on.result Copy (held_by c.args.work.now c.args.job.now)
-    c.held-temp.result (option_copied c.as_ref.result) refl c.held-temp.ensures.table
-    c.held-temp.ensures.temp c.as_ref.ensures.value (c.if-copies_on.ensures.next refl old.mount waits)
-    c.copy_on.ensures.makes
-
-pub copy_on-requires-clause-temps : goal.copy_on-requires-clause-temps
-copy_on-requires-clause-temps g c =
-    (c.held-temp.ensures.temps (lowers_of c.args.watched.now.mount.layers) c.requires.temps).0
+    old.mount (without work j) (without work j) c.copy.new.work
+    j c.copy.new.job c.copy.result Copy (held_by work j)
+    (held_by work j) (option_copied c.temp_of.result) refl refl
+    refl c.temp_of.ensures (c.if-copies_on.ensures.next refl old.mount waits)
+    c.copy.ensures.makes
 
 pub returns-then-copies_on-clause-memory : goal.returns-then-copies_on-clause-memory
 returns-then-copies_on-clause-memory g c = λ none is.
@@ -67,23 +55,25 @@ pub returns-then-not-may_lack-clause-makes : goal.returns-then-not-may_lack-clau
 returns-then-not-may_lack-clause-makes g c =
     let m = c.remember.new.self in
     let j = c.args.job.now in
-    let t = c.held-temp.result in
+    let t = held_by c.args.work.now j in
     step-made g.R.Rule.shows c.args.watched.now c.plain.new.watched m (without c.args.work.now j)
-    c.held-temp.new.work c.held-temp.new.work j c.plain.new.job c.plain.result Finish (held_by c.args.work.now j) t t
-    c.remember.ensures c.held-temp.ensures.table c.held-temp.ensures.temp refl
+    c.held.new.work c.held.new.work j c.plain.new.job c.plain.result Finish t t t
+    c.remember.ensures c.held.ensures.table refl refl
     (λ s st.
     next-ready (refusal s j.client j.call) (lack_by m j) j.placings j.begins t (lack_size (lowers_of m.layers) (lack_by m j))
     (λ fine.
     plain-lacks (layer_of m.layers.upper) (lowers_of m.layers) j.call c.may_lack.result
     (rw c.call-2.ensures at c.may_lack.ensures) c.if-not-may_lack.true))
-    (c.plain.ensures.makes c.held-temp.new.work Finish t tt
-    (rw c.remember.ensures (c.held-temp.ensures.temps (lowers_of c.args.watched.now.mount.layers) c.requires.temps).0))
+    (c.plain.ensures.makes c.held.new.work Finish t tt
+    (rw c.remember.ensures (c.held.ensures.temps (lowers_of c.args.watched.now.mount.layers) c.requires.temps).0))
 
 pub returns-clause-makes : goal.returns-clause-makes
 returns-clause-makes g c =
     let made = c.step_seen.ensures.makes in
-    let t = c.held-temp.result in
+    let work = c.args.work.now in
+    let j = c.args.job.now in
+    let t = held_by work j in
     step-made g.R.Rule.shows c.args.watched.now c.step_seen.new.watched c.remember.new.self
-    (without c.args.work.now c.args.job.now) c.held-temp.new.work c.step_seen.new.work c.args.job.now c.step_seen.new.job
-    c.step_seen.result made.0 (held_by c.args.work.now c.args.job.now) t t
-    c.remember.ensures c.held-temp.ensures.table c.held-temp.ensures.temp refl made.1 made.2
+    (without work j) (without work j) c.step_seen.new.work j c.step_seen.new.job
+    c.step_seen.result made.0 t t t
+    c.remember.ensures refl refl refl made.1 made.2

@@ -21,6 +21,13 @@ returns-in_err-copy-clause-no_memory c =
     (subst (λ (z : Layers). ChangesNoSight l z (GainsBoth l z c.args.old.now c.args.new.now)) (sym c.copy_of.ensures.same)
     (record { shown = same-self l; mount = λ s h. h; beneath = gains-first l l c.args.old.now c.args.new.now (same-self l) (gains-self l c.args.old.now) }))
 
+pub returns-in_err-from-clause-no_memory : goal.returns-in_err-from-clause-no_memory
+returns-in_err-from-clause-no_memory c =
+    let same = subst (λ (z : Layers). ShowsSame z c.place_both.new.layers) c.copy_of.ensures.same c.place_both.ensures.same in
+    let stays = subst (λ (z : Layers). Stays z c.place_both.new.layers) c.copy_of.ensures.same c.place_both.ensures.stays in
+    let both = subst (λ (z : Layers). GainsBoth z c.place_both.new.layers c.args.old.now c.args.new.now) c.copy_of.ensures.same c.place_both.ensures.gains in
+    on-err _ c.from_residual-in_err-from.result (record { shown = same; mount = stays.mounts; beneath = both })
+
 pub insert_in_upper-requires : goal.insert_in_upper-requires
 insert_in_upper-requires c =
     let n = c.in-Some.name.now in

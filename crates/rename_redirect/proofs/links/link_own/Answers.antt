@@ -1,7 +1,8 @@
-use Rattle.std.proofs.Common.{◌∷◌, reverse, sym, ap, ◌∙◌, subst}
+use Rattle.std.proofs.Common.{◌≡◌, ◌∷◌, reverse, sym, ap, ◌∙◌, subst}
 use Rattle.plain_model.specs.Layers.{Path, shows}
 use Rattle.layer_tree.specs.Tree.{layer_of}
-use Rattle.merged_lookup.specs.Merged.{layers_of}
+use Rattle.merged_lookup.specs.declared.stack.Stack.{Stack}
+use Rattle.merged_lookup.specs.Merged.{layers_of, top_of, IsStackOf}
 use Rattle.copy_up.specs.Showing.{GainsParents}
 use Rattle.copy_up.proofs.Keeping.{on-err, failed-stays, then-layers}
 use Rattle.copy_up.proofs.OtherAttributes.{upper-named}
@@ -15,7 +16,7 @@ use Rattle.rename_redirect.proofs.links.link_own.Goals as goal
 pub link_in_upper-requires-clause-place : goal.link_in_upper-requires-clause-place
 link_in_upper-requires-clause-place c =
     let t = reverse c.in-Some.parents.now in
-    (t, absent-place c.args.layers.now c.place_parents.new.layers c.args.new.now t c.in-Some.name.now c.in_ok-parent.parent c.top-dir.result c.in-Some.ensures c.place_parents.ensures.same c.requires.absent c.in_ok-parent.ensures.stack c.in_ok-parent.ensures.upper c.top-dir.ensures)
+    (t, absent-place c.args.layers.now c.place_parents.new.layers c.args.new.now t c.in-Some.name.now c.placed_or.result.now c.top-dir.result c.in-Some.ensures c.place_parents.ensures.same c.requires.absent (subst (λ (s : Stack). IsStackOf c.place_parents.new.layers (reverse c.in-Some.parents.now) s) (sym c.placed_or.ensures) c.in_ok-placed.ensures.stack) (subst (λ (s : Stack). (top_of s.places.items).layer ≡ 0) (sym c.placed_or.ensures) c.in_ok-placed.ensures.upper) c.top-dir.ensures)
 
 pub link_in_upper-requires-clause-source : goal.link_in_upper-requires-clause-source
 link_in_upper-requires-clause-source c =
@@ -38,7 +39,7 @@ returns-clause-linked c =
     let l2 = c.link_in_upper.new.layers in
     let n = c.in-Some.name.now in
     let t = reverse c.in-Some.parents.now in
-    let place = absent-place l0 l1 c.args.new.now t n c.in_ok-parent.parent c.top-dir.result c.in-Some.ensures p.same c.requires.absent c.in_ok-parent.ensures.stack c.in_ok-parent.ensures.upper c.top-dir.ensures in
+    let place = absent-place l0 l1 c.args.new.now t n c.placed_or.result.now c.top-dir.result c.in-Some.ensures p.same c.requires.absent (subst (λ (s : Stack). IsStackOf c.place_parents.new.layers (reverse c.in-Some.parents.now) s) (sym c.placed_or.ensures) c.in_ok-placed.ensures.stack) (subst (λ (s : Stack). (top_of s.places.items).layer ≡ 0) (sym c.placed_or.ensures) c.in_ok-placed.ensures.upper) c.top-dir.ensures in
     let named = upper-named l0 c.args.old.now c.args.place c.requires.shown.inode c.requires.own c.requires.shown.shown in
     let absent = p.same.absent (n ∷ t) (sym (ap (shows 0 (layers_of l0)) c.in-Some.ensures) ∙ c.requires.absent) in
     let adds = c.in_ok-link_in_upper.ensures.added c.args.old.now t ((p.stays.names c.args.old.now c.args.place.key).1 named.named) place in
@@ -57,7 +58,7 @@ returns-clause-sound c =
     let l2 = c.link_in_upper.new.layers in
     let n = c.in-Some.name.now in
     let t = reverse c.in-Some.parents.now in
-    let place = absent-place l0 l1 c.args.new.now t n c.in_ok-parent.parent c.top-dir.result c.in-Some.ensures p.same c.requires.absent c.in_ok-parent.ensures.stack c.in_ok-parent.ensures.upper c.top-dir.ensures in
+    let place = absent-place l0 l1 c.args.new.now t n c.placed_or.result.now c.top-dir.result c.in-Some.ensures p.same c.requires.absent (subst (λ (s : Stack). IsStackOf c.place_parents.new.layers (reverse c.in-Some.parents.now) s) (sym c.placed_or.ensures) c.in_ok-placed.ensures.stack) (subst (λ (s : Stack). (top_of s.places.items).layer ≡ 0) (sym c.placed_or.ensures) c.in_ok-placed.ensures.upper) c.top-dir.ensures in
     let named = upper-named l0 c.args.old.now c.args.place c.requires.shown.inode c.requires.own c.requires.shown.shown in
     let absent = p.same.absent (n ∷ t) (sym (ap (shows 0 (layers_of l0)) c.in-Some.ensures) ∙ c.requires.absent) in
     let adds = c.in_ok-link_in_upper.ensures.added c.args.old.now t ((p.stays.names c.args.old.now c.args.place.key).1 named.named) place in
@@ -74,15 +75,15 @@ returns-clause-key c =
     let l2 = c.link_in_upper.new.layers in
     let n = c.in-Some.name.now in
     let t = reverse c.in-Some.parents.now in
-    let place = absent-place l0 l1 c.args.new.now t n c.in_ok-parent.parent c.top-dir.result c.in-Some.ensures p.same c.requires.absent c.in_ok-parent.ensures.stack c.in_ok-parent.ensures.upper c.top-dir.ensures in
+    let place = absent-place l0 l1 c.args.new.now t n c.placed_or.result.now c.top-dir.result c.in-Some.ensures p.same c.requires.absent (subst (λ (s : Stack). IsStackOf c.place_parents.new.layers (reverse c.in-Some.parents.now) s) (sym c.placed_or.ensures) c.in_ok-placed.ensures.stack) (subst (λ (s : Stack). (top_of s.places.items).layer ≡ 0) (sym c.placed_or.ensures) c.in_ok-placed.ensures.upper) c.top-dir.ensures in
     let named = upper-named l0 c.args.old.now c.args.place c.requires.shown.inode c.requires.own c.requires.shown.shown in
     let still = (p.stays.names c.args.old.now c.args.place.key).1 named.named in
     let adds = c.in_ok-link_in_upper.ensures.added c.args.old.now t still place in
     let off = shown-apart (layers_of l0) c.args.old.now c.args.new.now c.args.place.layer c.args.place.key c.requires.shown.inode c.requires.shown.shown c.requires.absent in
     beside-name l1.upper (layer_of l2.upper) c.args.old.now (n ∷ t) place.free adds c.args.old.now (λ e. off (e ∙ sym c.in-Some.ensures)) ∙ still
 
-pub returns-in_err-parent-clause-no_memory : goal.returns-in_err-parent-clause-no_memory
-returns-in_err-parent-clause-no_memory c =
+pub returns-in_err-placed-clause-no_memory : goal.returns-in_err-placed-clause-no_memory
+returns-in_err-placed-clause-no_memory c =
     let p = c.place_parents.ensures in
     let l0 = c.args.layers.now in
     let l1 = c.place_parents.new.layers in

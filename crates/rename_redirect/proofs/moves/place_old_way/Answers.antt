@@ -1,4 +1,4 @@
-use Rattle.std.proofs.Common.{sym, ◌∙◌, subst, arith}
+use Rattle.std.proofs.Common.{unwrap_or, sym, ◌∙◌, subst, arith}
 use Rattle.merged_lookup.specs.Merged.{parent, IsStackOf}
 use Rattle.copy_up.specs.Showing.{GainsParents}
 use Rattle.copy_up.proofs.Keeping.{stays-then}
@@ -11,8 +11,8 @@ use Rattle.rename_redirect.proofs.moves.place_old_way.Goals.{in_default-parent_o
 pub unreachable-requires : goal.unreachable-requires
 unreachable-requires c = not-root c.args.old.now c.args.new.now c.requires.out c.in_default.ensures
 
-pub returns-in_err-from-clause-gains : goal.returns-in_err-from-clause-gains
-returns-in_err-from-clause-gains c =
+pub returns-in_err-placed-clause-gains : goal.returns-in_err-placed-clause-gains
+returns-in_err-placed-clause-gains c =
     let p = c.place_parents.ensures in
     let l0 = c.args.layers.now in
     let l1 = c.place_parents.new.layers in
@@ -66,5 +66,5 @@ returns-clause-gains c =
 pub returns-clause-from : goal.returns-clause-from
 returns-clause-from c =
     let p2 = c.place_parents-2.ensures in
-    stack-kept c.place_parents.new.layers c.place_parents-2.new.layers p2.same p2.stays.holds (parent c.args.old.now) c.in_ok-from.from c.in_ok-from.ensures.upper
-    (subst (λ x. IsStackOf c.place_parents.new.layers (parent x) c.in_ok-from.from) (sym c.in-Some.ensures) c.in_ok-from.ensures.stack)
+    stack-kept c.place_parents.new.layers c.place_parents-2.new.layers p2.same p2.stays.holds (parent c.args.old.now) (unwrap_or c.in_ok-placed.placed c.args.directory.now) c.in_ok-placed.ensures.upper
+    (subst (λ x. IsStackOf c.place_parents.new.layers (parent x) (unwrap_or c.in_ok-placed.placed c.args.directory.now)) (sym c.in-Some.ensures) c.in_ok-placed.ensures.stack)

@@ -10,8 +10,8 @@ use Rattle.rename_redirect.proofs.moves.place_ways.Goals as goal
 pub unreachable-requires : goal.unreachable-requires
 unreachable-requires c = not-root c.args.new.now c.args.old.now c.requires.within c.in_default.ensures
 
-pub returns-in_err-onto-clause-gains : goal.returns-in_err-onto-clause-gains
-returns-in_err-onto-clause-gains c =
+pub returns-in_err-placed-clause-gains : goal.returns-in_err-placed-clause-gains
+returns-in_err-placed-clause-gains c =
     let p = c.place_parents.ensures in
     let l0 = c.args.layers.now in
     let l1 = c.place_parents.new.layers in
@@ -28,4 +28,4 @@ pub returns-then-top-eq0-clause-from : goal.returns-then-top-eq0-clause-from
 returns-then-top-eq0-clause-from c =
     let p = c.place_parents.ensures in
     let upper = ap (λ (d : Place). d.layer) (sym c.top-top.ensures) ∙ c.if-top-eq0.true in
-    stack-kept c.args.layers.now c.place_parents.new.layers p.same p.stays.holds (parent c.args.old.now) c.args.directory upper c.requires.directory
+    stack-kept c.args.layers.now c.place_parents.new.layers p.same p.stays.holds (parent c.args.old.now) c.args.directory.now upper c.requires.directory

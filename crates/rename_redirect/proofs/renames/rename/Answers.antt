@@ -10,6 +10,6 @@ returns-in-Err-clause-refuses c = rename-refused c.args.layers.now c.args.redire
 pub returns-clause-steps : goal.returns-clause-steps
 returns-clause-steps c = λ apart.
     let l = c.args.layers.now in
-    let may = subst (λ o. IfSome o (λ w. MayMove l c.args.redirects c.args.old.now c.args.new.now w.0 w.1 w.2)) c.in-Ok-Some.field-0-is c.in-Ok-Some.ensures.moves in
+    let may = subst (λ o. IfSome o (λ w. MayMove l c.args.redirects c.args.old.now c.args.new.now w.0.now w.1 w.2.now)) c.in-Ok-Some.field-0-is c.in-Ok-Some.ensures.moves in
     rename-steps l c.move_object.new.layers c.args.redirects c.args.old.now c.args.new.now may.fine may.empty apart
     (renamed-over l c.move_object.new.layers c.args.old.now c.args.new.now c.in_ok-renamed.renamed apart c.in_ok-renamed.ensures.does)

@@ -1,4 +1,4 @@
-use Rattle.std.proofs.Common.{◌∙◌, ap, reverse, sym}
+use Rattle.std.proofs.Common.{◌∙◌, ap, reverse}
 use Rattle.merged_lookup.specs.Descent.{without_upper}
 use Rattle.merged_lookup.proofs.Keeping.{handed-places, no-handed-places}
 use Rattle.merged_lookup.proofs.layers.Layers.handed_places.Goals as goal

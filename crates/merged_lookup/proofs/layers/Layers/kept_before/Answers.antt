@@ -1,4 +1,4 @@
-use Rattle.std.proofs.Common.{◌≡◌, ◌∙◌, ◌∷◌, ap, map, reverse, subst, sym}
+use Rattle.std.proofs.Common.{◌∙◌, ◌∷◌, ap, map, reverse, subst, sym}
 use Rattle.layer_tree.specs.Tree.{layer_of}
 use Rattle.merged_lookup.specs.declared.stacked.Stacked.{Stacked}
 use Rattle.merged_lookup.specs.Kept.{IsKept}

@@ -1,13 +1,13 @@
-use Rattle.std.proofs.Common.{◌≡◌, ℕ, ◌<◌, ◌∷◌, ◌++◌, List, Option, ap, sym, refl, ◌∙◌, subst, reverse, length, arith, is_some}
+use Rattle.std.proofs.Common.{◌≡◌, ℕ, ◌<◌, ◌∷◌, List, Option, ap, sym, ◌∙◌, subst, reverse, length, arith}
 use Rattle.std.proofs.lemmas.List.{reverse-reverse}
 use Rattle.plain_model.specs.Layers.{Name, Path}
 use Rattle.merged_lookup.specs.declared.kept.Kept.{Kept}
 use Rattle.merged_lookup.specs.declared.layers.Layers.{Layers}
 use Rattle.merged_lookup.specs.declared.stack.Place.{Place}
 use Rattle.merged_lookup.specs.Kept.{HandsDown, IsKept, topmost_over}
-use Rattle.merged_lookup.specs.Merged.{layers_of, lowers_of, place_in, parent, way_fault, IsTopmost}
+use Rattle.merged_lookup.specs.Merged.{layers_of, lowers_of, parent, way_fault, IsTopmost}
 use Rattle.merged_lookup.specs.Passing.{holds_under}
-use Rattle.merged_lookup.proofs.Keeping.{kept-few, kept-stack, kept-way, kept-shown, some-lower, some-upper}
+use Rattle.merged_lookup.proofs.Keeping.{kept-few, kept-stack, kept-way, kept-shown}
 use Rattle.merged_lookup.proofs.layers.Layers.kept_look.Goals as goal
 
 pub places_over-places-requires : goal.places_over-places-requires

@@ -7,7 +7,7 @@ use Rattle.merged_lookup.specs.declared.stack.Place.{Place}
 use Rattle.merged_lookup.specs.Kept.{HandsDown, IsKept, topmost_over}
 use Rattle.merged_lookup.specs.Merged.{layers_of, lowers_of, place_in, parent, way_fault, IsTopmost}
 use Rattle.merged_lookup.specs.Passing.{holds_under}
-use Rattle.merged_lookup.proofs.Keeping.{kept-few, kept-stack, kept-way, kept-shown, some-lower, some-upper}
+use Rattle.merged_lookup.proofs.Keeping.{kept-stack, kept-way, kept-shown, some-lower, some-upper}
 use Rattle.merged_lookup.proofs.layers.Layers.kept_topmost.Goals.{else-is_none-via-then-is_none+else-is_empty, else-is_none-via-else-is_none}
 use Rattle.merged_lookup.proofs.layers.Layers.kept_topmost.Goals as goal
 

@@ -14,7 +14,7 @@ judged-requires c = (c.args.path.now, (c.one-look.ensures c.args.self.now.layers
 
 pub low_file-file-requires : goal.low_file-file-requires
 low_file-file-requires c =
-    let target : IsTarget c.args.self.now.layers c.args.path.now c.args.ask c.in-Ok.target = rw c.in-Ok.is at c.judged.ensures c.args.path.now (c.one-look.ensures c.args.self.now.layers c.args.path.now c.requires) in
+    let target : IsTarget c.args.self.now.layers c.args.path.now c.args.ask (c.in-Ok.target.0.now, c.in-Ok.target.1) = rw c.in-Ok.is at c.judged.ensures c.args.path.now (c.one-look.ensures c.args.self.now.layers c.args.path.now c.requires) in
     (c.args.path.now, target.top)
 
 pub returns-in-Err : goal.returns-in-Err
@@ -27,7 +27,7 @@ pub returns : goal.returns
 returns c = λ client.
     let m = c.args.self.now in
     let p = c.args.path.now in
-    let target : IsTarget m.layers p c.args.ask c.in-Ok.target = rw c.in-Ok.is at c.judged.ensures p (c.one-look.ensures c.args.self.now.layers c.args.path.now c.requires) in
+    let target : IsTarget m.layers p c.args.ask (c.in-Ok.target.0.now, c.in-Ok.target.1) = rw c.in-Ok.is at c.judged.ensures p (c.one-look.ensures c.args.self.now.layers c.args.path.now c.requires) in
     tells-one m client (call_at p c.args.ask) p (low_file (shows 0 (the_layers m) p)) c.lack_on.result (refuses-asked m client p c.args.ask None target.allowed)
     (c.lack_on.ensures ∙ ap (λ d. lack_among (the_upper m) false (p ∷ []) d) (c.low_file-file.ensures p target.top))
     (attribute-lack (the_upper m) (the_lowers m) p c.args.ask) (attribute-way m p c.args.ask target.way) (shown-bytes m p)

@@ -14,10 +14,10 @@ use Rattle.mount_calls.proofs.Keys.{look-seen, named-key}
 use Rattle.mount_calls.proofs.mount.Mount.give_name.Goals as goal
 
 pub link-requires-clause-from : goal.link-requires-clause-from
-link-requires-clause-from c = look-seen c.args.self.now.layers c.args.old.now c.args.from c.requires.from
+link-requires-clause-from c = look-seen c.args.self.now.layers c.args.old.now c.args.from.now c.requires.from
 
 pub link-requires-clause-onto : goal.link-requires-clause-onto
-link-requires-clause-onto c = look-seen c.args.self.now.layers c.args.new.now c.args.onto c.requires.onto
+link-requires-clause-onto c = look-seen c.args.self.now.layers c.args.new.now c.args.onto.now c.requires.onto
 
 pub returns-in-Ok-clause-key : goal.returns-in-Ok-clause-key
 returns-in-Ok-clause-key c = named-key c.link.new.layers c.args.old.now c.in-Ok.key (rw c.in-Ok.is at c.in_ok-key.ensures.key)

@@ -30,4 +30,4 @@ returns-in-Chmod c = λ yes s st client fine.
 
 pub returns-in-Mkdir : goal.returns-in-Mkdir
 returns-in-Mkdir c = λ yes s st client fine.
-    nothing-of-name c.args.self.now.layers c.args.looks.now (c.saw_parents.ensures yes) c.args.call.now c.in-Mkdir.is c.requires.looks
+    nothing-of-name c.args.self.now.layers c.args.looks (c.saw_parents.ensures yes) c.args.call.now c.in-Mkdir.is c.requires.looks

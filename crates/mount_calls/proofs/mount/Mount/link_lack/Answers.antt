@@ -15,30 +15,30 @@ returns-in-Err c = λ client.
     let q = c.args.new.now in
     tells-refusal m client (call.Hardlink p q) c.in-Err.errno
     (refuses-link m client p q (Some c.in-Err.errno) (c.in-Err.ensures.refused m.layers p q
-    (look-seen m.layers p c.both-from.result.0 (c.both-from.ensures c.args.self.now.layers c.args.old.now c.args.new.now c.requires).0) (look-seen m.layers q c.both-from.result.1 (c.both-from.ensures c.args.self.now.layers c.args.old.now c.args.new.now c.requires).1)))
+    (look-seen m.layers p c.both.result.0.now (c.both.ensures c.args.self.now.layers c.args.old.now c.args.new.now c.requires).0) (look-seen m.layers q c.both.result.1.now (c.both.ensures c.args.self.now.layers c.args.old.now c.args.new.now c.requires).1)))
 
 pub low_inode-file-requires : goal.low_inode-file-requires
 low_inode-file-requires c =
     let m = c.args.self.now in
     let p = c.args.old.now in
     let q = c.args.new.now in
-    (p, (c.in-Ok.ensures.may m.layers p q (look-seen m.layers p c.both-from.result.0 (c.both-from.ensures c.args.self.now.layers c.args.old.now c.args.new.now c.requires).0) (look-seen m.layers q c.both-from.result.1 (c.both-from.ensures c.args.self.now.layers c.args.old.now c.args.new.now c.requires).1)).shown)
+    (p, (c.in-Ok.ensures.may m.layers p q (look-seen m.layers p c.both.result.0.now (c.both.ensures c.args.self.now.layers c.args.old.now c.args.new.now c.requires).0) (look-seen m.layers q c.both.result.1.now (c.both.ensures c.args.self.now.layers c.args.old.now c.args.new.now c.requires).1)).shown)
 
 pub returns : goal.returns
 returns c = λ client.
     let m = c.args.self.now in
     let p = c.args.old.now in
     let q = c.args.new.now in
-    let may = c.in-Ok.ensures.may m.layers p q (look-seen m.layers p c.both-from.result.0 (c.both-from.ensures c.args.self.now.layers c.args.old.now c.args.new.now c.requires).0) (look-seen m.layers q c.both-from.result.1 (c.both-from.ensures c.args.self.now.layers c.args.old.now c.args.new.now c.requires).1) in
+    let may = c.in-Ok.ensures.may m.layers p q (look-seen m.layers p c.both.result.0.now (c.both.ensures c.args.self.now.layers c.args.old.now c.args.new.now c.requires).0) (look-seen m.layers q c.both.result.1.now (c.both.ensures c.args.self.now.layers c.args.old.now c.args.new.now c.requires).1) in
     tells-both m client (call.Hardlink p q) p q (low_file (shows 0 (the_layers m) p)) c.lack_on_both.result (refuses-link m client p q None may.fine)
     (c.lack_on_both.ensures ∙ ap (λ d. lack_among (the_upper m) false (p ∷ (q ∷ [])) d) (c.low_inode-file.ensures p may.shown)) refl
     (record { path = refl; way = may.way; opens = tt }) (record { path = refl; way = may.parents; opens = tt }) (shown-bytes m p)
 
-pub both-from-requires : goal.both-from-requires
-both-from-requires c = (c.args.self.now.layers, c.args.old.now, c.args.new.now, c.requires)
+pub both-requires : goal.both-requires
+both-requires c = (c.args.self.now.layers, c.args.old.now, c.args.new.now, c.requires)
 
 pub lack_on_both-requires-clause-old : goal.lack_on_both-requires-clause-old
-lack_on_both-requires-clause-old c = λ yes. c.saw_parents-from_near.ensures yes c.args.old.now (c.both-from.ensures c.args.self.now.layers c.args.old.now c.args.new.now c.requires).0
+lack_on_both-requires-clause-old c = λ yes. c.saw_parents-from_near.ensures yes c.args.old.now (c.both.ensures c.args.self.now.layers c.args.old.now c.args.new.now c.requires).0
 
 pub lack_on_both-requires-clause-new : goal.lack_on_both-requires-clause-new
-lack_on_both-requires-clause-new c = λ yes. c.saw_parents-onto_near.ensures yes c.args.new.now (c.both-from.ensures c.args.self.now.layers c.args.old.now c.args.new.now c.requires).1
+lack_on_both-requires-clause-new c = λ yes. c.saw_parents-onto_near.ensures yes c.args.new.now (c.both.ensures c.args.self.now.layers c.args.old.now c.args.new.now c.requires).1

@@ -13,7 +13,7 @@ use Rattle.mount_calls.proofs.Parsed.{mode-fault}
 use Rattle.mount_calls.proofs.mount.Mount.mkdir.Goals as goal
 
 pub mkdir-requires : goal.mkdir-requires
-mkdir-requires c = look-seen c.args.self.now.layers c.args.path.now c.args.look c.requires
+mkdir-requires c = look-seen c.args.self.now.layers c.args.path.now c.args.look.now c.requires
 
 pub returns-in-Err-clause-makes : goal.returns-in-Err-clause-makes
 returns-in-Err-clause-makes c = λ client.

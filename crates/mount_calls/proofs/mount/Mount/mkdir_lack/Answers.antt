@@ -15,7 +15,7 @@ pub returns-in-Ok : goal.returns-in-Ok
 returns-in-Ok c = λ client.
     let m = c.args.self.now in
     let p = c.args.path.now in
-    let seen = look-seen m.layers p c.one-look.result (c.one-look.ensures c.args.self.now.layers c.args.path.now c.requires) in
+    let seen = look-seen m.layers p c.one-look.result.now (c.one-look.ensures c.args.self.now.layers c.args.path.now c.requires) in
     tells-one m client (call.Mkdir p c.args.mode) p None c.lack_on.result
     (refuses-mkdir m client p c.args.mode None (sym c.mode_fault.ensures ∙ c.in_default.is) (c.in-Ok.ensures.cases m.layers p seen)) c.lack_on.ensures refl
     (record { path = refl; way = c.in-Ok.ensures.parents m.layers p seen; opens = tt }) (none-bytes m)
@@ -24,7 +24,7 @@ pub returns-in-Err : goal.returns-in-Err
 returns-in-Err c = λ client.
     let m = c.args.self.now in
     let p = c.args.path.now in
-    let seen = look-seen m.layers p c.one-look.result (c.one-look.ensures c.args.self.now.layers c.args.path.now c.requires) in
+    let seen = look-seen m.layers p c.one-look.result.now (c.one-look.ensures c.args.self.now.layers c.args.path.now c.requires) in
     tells-refusal m client (call.Mkdir p c.args.mode) c.in-Err.errno
     (refuses-mkdir m client p c.args.mode (Some c.in-Err.errno) (sym c.mode_fault.ensures ∙ c.in_default.is) (c.in-Err.ensures.cases m.layers p seen))
 

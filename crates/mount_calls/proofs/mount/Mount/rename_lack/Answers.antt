@@ -14,10 +14,10 @@ use Rattle.mount_calls.proofs.Stating.{the_layers, the_upper}
 use Rattle.mount_calls.proofs.mount.Mount.rename_lack.Goals as goal
 
 pub movable-requires-clause-from : goal.movable-requires-clause-from
-movable-requires-clause-from c = look-seen c.args.self.now.layers c.args.old.now c.both-from.result.0 (c.both-from.ensures c.args.self.now.layers c.args.old.now c.args.new.now c.requires).0
+movable-requires-clause-from c = look-seen c.args.self.now.layers c.args.old.now c.both.result.0.now (c.both.ensures c.args.self.now.layers c.args.old.now c.args.new.now c.requires).0
 
 pub movable-requires-clause-onto : goal.movable-requires-clause-onto
-movable-requires-clause-onto c = look-seen c.args.self.now.layers c.args.new.now c.both-from.result.1 (c.both-from.ensures c.args.self.now.layers c.args.old.now c.args.new.now c.requires).1
+movable-requires-clause-onto c = look-seen c.args.self.now.layers c.args.new.now c.both.result.1.now (c.both.ensures c.args.self.now.layers c.args.old.now c.args.new.now c.requires).1
 
 pub returns-in-Err : goal.returns-in-Err
 returns-in-Err c = λ client.
@@ -40,7 +40,7 @@ found_file-file-requires c =
     let m = c.args.self.now in
     let p = c.args.old.now in
     let q = c.args.new.now in
-    let may = subst (λ o. IfSome o (λ w. MayMove m.layers m.redirects p q w.0 w.1 w.2)) c.in-Ok-Some.field-0-is c.in-Ok-Some.ensures.moves in
+    let may = subst (λ o. IfSome o (λ w. MayMove m.layers m.redirects p q w.0.now w.1 w.2.now)) c.in-Ok-Some.field-0-is c.in-Ok-Some.ensures.moves in
     (p, may.shown)
 
 pub returns : goal.returns
@@ -48,17 +48,17 @@ returns c = λ client.
     let m = c.args.self.now in
     let p = c.args.old.now in
     let q = c.args.new.now in
-    let may = subst (λ o. IfSome o (λ w. MayMove m.layers m.redirects p q w.0 w.1 w.2)) c.in-Ok-Some.field-0-is c.in-Ok-Some.ensures.moves in
+    let may = subst (λ o. IfSome o (λ w. MayMove m.layers m.redirects p q w.0.now w.1 w.2.now)) c.in-Ok-Some.field-0-is c.in-Ok-Some.ensures.moves in
     tells-both m client (call.Rename p q) p q (low_file (shows 0 (the_layers m) p)) c.lack_on_both.result (allows-rename m client p q may.fine may.empty)
     (c.lack_on_both.ensures ∙ ap (λ d. lack_among (the_upper m) false (p ∷ (q ∷ [])) d) (c.found_file-file.ensures p may.shown))
     (rename-apart (the_upper m) p q (is_one (the_upper m) p q) (low_file (shows 0 (the_layers m) p)) may.apart)
     (record { path = refl; way = may.way; opens = tt }) (record { path = refl; way = may.parents; opens = tt }) (shown-bytes m p)
 
-pub both-from-requires : goal.both-from-requires
-both-from-requires c = (c.args.self.now.layers, c.args.old.now, c.args.new.now, c.requires)
+pub both-requires : goal.both-requires
+both-requires c = (c.args.self.now.layers, c.args.old.now, c.args.new.now, c.requires)
 
 pub lack_on_both-requires-clause-old : goal.lack_on_both-requires-clause-old
-lack_on_both-requires-clause-old c = λ yes. c.saw_parents-from_near.ensures yes c.args.old.now (c.both-from.ensures c.args.self.now.layers c.args.old.now c.args.new.now c.requires).0
+lack_on_both-requires-clause-old c = λ yes. c.saw_parents-from_near.ensures yes c.args.old.now (c.both.ensures c.args.self.now.layers c.args.old.now c.args.new.now c.requires).0
 
 pub lack_on_both-requires-clause-new : goal.lack_on_both-requires-clause-new
-lack_on_both-requires-clause-new c = λ yes. c.saw_parents-onto_near.ensures yes c.args.new.now (c.both-from.ensures c.args.self.now.layers c.args.old.now c.args.new.now c.requires).1
+lack_on_both-requires-clause-new c = λ yes. c.saw_parents-onto_near.ensures yes c.args.new.now (c.both.ensures c.args.self.now.layers c.args.old.now c.args.new.now c.requires).1

@@ -7,7 +7,7 @@ use Rattle.mount_calls.proofs.Stating.{the_layers}
 use Rattle.mount_calls.proofs.mount.Mount.rmdir_lack.Goals as goal
 
 pub removable-requires : goal.removable-requires
-removable-requires c = look-seen c.args.self.now.layers c.args.path.now c.one-look.result (c.one-look.ensures c.args.self.now.layers c.args.path.now c.requires)
+removable-requires c = look-seen c.args.self.now.layers c.args.path.now c.one-look.result.now (c.one-look.ensures c.args.self.now.layers c.args.path.now c.requires)
 
 pub returns-in-Ok : goal.returns-in-Ok
 returns-in-Ok c = λ client.

@@ -13,7 +13,7 @@ use Rattle.mount_calls.proofs.Parsed.{target-fault}
 use Rattle.mount_calls.proofs.mount.Mount.symlink.Goals as goal
 
 pub symlink-requires : goal.symlink-requires
-symlink-requires c = look-seen c.args.self.now.layers c.args.path.now c.args.look c.requires
+symlink-requires c = look-seen c.args.self.now.layers c.args.path.now c.args.look.now c.requires
 
 pub returns-in_err-clone-clause-makes : goal.returns-in_err-clone-clause-makes
 returns-in_err-clone-clause-makes c = λ client.

@@ -20,7 +20,7 @@ returns-in-Ok c = λ client.
     let m = c.args.self.now in
     let t = c.args.target.now in
     let p = c.args.path.now in
-    let seen = look-seen m.layers p c.one-look.result (c.one-look.ensures c.args.self.now.layers c.args.path.now c.requires) in
+    let seen = look-seen m.layers p c.one-look.result.now (c.one-look.ensures c.args.self.now.layers c.args.path.now c.requires) in
     tells-one m client (call.Symlink t p) p None c.lack_on.result
     (refuses-symlink m client t p None (ap (λ z. result_err (target_of z)) (sym c.as_slice.ensures) ∙ sym c.fault.ensures ∙ c.in_default.is) (c.in-Ok.ensures.cases m.layers p seen)) c.lack_on.ensures refl
     (record { path = refl; way = c.in-Ok.ensures.parents m.layers p seen; opens = tt }) (none-bytes m)
@@ -30,7 +30,7 @@ returns-in-Err c = λ client.
     let m = c.args.self.now in
     let t = c.args.target.now in
     let p = c.args.path.now in
-    let seen = look-seen m.layers p c.one-look.result (c.one-look.ensures c.args.self.now.layers c.args.path.now c.requires) in
+    let seen = look-seen m.layers p c.one-look.result.now (c.one-look.ensures c.args.self.now.layers c.args.path.now c.requires) in
     tells-refusal m client (call.Symlink t p) c.in-Err.errno
     (refuses-symlink m client t p (Some c.in-Err.errno) (ap (λ z. result_err (target_of z)) (sym c.as_slice.ensures) ∙ sym c.fault.ensures ∙ c.in_default.is) (c.in-Err.ensures.cases m.layers p seen))
 

@@ -1,5 +1,6 @@
 use Rattle.merged_lookup.specs.Merged.{lowers_of}
 use Rattle.overlay_core.proofs.TempFits.{closed-fit}
+use Rattle.overlay_core.proofs.Waited.{none-waits}
 use Rattle.overlay_core.proofs.mounted.Core.drop_job.Goals as goal
 
 pub invariant_of-self : goal.invariant_of-self
@@ -10,7 +11,7 @@ invariant_of-self g c =
       begins = self.begins;
       given = self.given;
       short = self.short;
-      waits = self.waits;
+      waits = none-waits self.watched.mount c.clear.new.self.items c.clear.ensures.items;
       temps = closed-fit (lowers_of self.watched.mount.layers) self.work c.close.new.self c.number.result c.client.result
           c.close.ensures.table c.close.ensures.numbers self.temps;
       limits = self.limits;

@@ -89,29 +89,29 @@ pub open-requires-clause-look : goal.open-requires-clause-look
 open-requires-clause-look g c =
     c.one-look-in-Open.ensures c.args.self.now.mount.layers c.in-Open.path (looks-of _ _ _ _ c.in-Open.is c.requires.looks)
 
-pub both-from-requires : goal.both-from-requires
-both-from-requires g c =
+pub both-requires : goal.both-requires
+both-requires g c =
     (c.args.self.now.mount.layers, c.in-Hardlink.old, c.in-Hardlink.new, looks-of _ _ _ _ c.in-Hardlink.is c.requires.looks)
 
 pub link-requires-clause-from : goal.link-requires-clause-from
 link-requires-clause-from g c =
-    (c.both-from.ensures c.args.self.now.mount.layers c.in-Hardlink.old c.in-Hardlink.new (looks-of _ _ _ _ c.in-Hardlink.is c.requires.looks)).0
+    (c.both.ensures c.args.self.now.mount.layers c.in-Hardlink.old c.in-Hardlink.new (looks-of _ _ _ _ c.in-Hardlink.is c.requires.looks)).0
 
 pub link-requires-clause-onto : goal.link-requires-clause-onto
 link-requires-clause-onto g c =
-    (c.both-from.ensures c.args.self.now.mount.layers c.in-Hardlink.old c.in-Hardlink.new (looks-of _ _ _ _ c.in-Hardlink.is c.requires.looks)).1
+    (c.both.ensures c.args.self.now.mount.layers c.in-Hardlink.old c.in-Hardlink.new (looks-of _ _ _ _ c.in-Hardlink.is c.requires.looks)).1
 
-pub both-from-requires-in-Rename : goal.both-from-requires-in-Rename
-both-from-requires-in-Rename g c =
+pub both-requires-in-Rename : goal.both-requires-in-Rename
+both-requires-in-Rename g c =
     (c.args.self.now.mount.layers, c.in-Rename.old, c.in-Rename.new, looks-of _ _ _ _ c.in-Rename.is c.requires.looks)
 
 pub rename-requires-clause-from : goal.rename-requires-clause-from
 rename-requires-clause-from g c =
-    (c.both-from-in-Rename.ensures c.args.self.now.mount.layers c.in-Rename.old c.in-Rename.new (looks-of _ _ _ _ c.in-Rename.is c.requires.looks)).0
+    (c.both-in-Rename.ensures c.args.self.now.mount.layers c.in-Rename.old c.in-Rename.new (looks-of _ _ _ _ c.in-Rename.is c.requires.looks)).0
 
 pub rename-requires-clause-onto : goal.rename-requires-clause-onto
 rename-requires-clause-onto g c =
-    (c.both-from-in-Rename.ensures c.args.self.now.mount.layers c.in-Rename.old c.in-Rename.new (looks-of _ _ _ _ c.in-Rename.is c.requires.looks)).1
+    (c.both-in-Rename.ensures c.args.self.now.mount.layers c.in-Rename.old c.in-Rename.new (looks-of _ _ _ _ c.in-Rename.is c.requires.looks)).1
 
 pub one-look-requires-in-Mkdir : goal.one-look-requires-in-Mkdir
 one-look-requires-in-Mkdir g c =

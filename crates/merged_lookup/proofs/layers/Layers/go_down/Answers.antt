@@ -7,7 +7,7 @@ use Rattle.merged_lookup.specs.Trails.{IsUppers}
 use Rattle.merged_lookup.proofs.Descending.{reverse-more}
 use Rattle.merged_lookup.proofs.Looking.{step-directory, step-fault, fault-at, fault-next}
 use Rattle.merged_lookup.proofs.Trails.{trail-leads-on, first-of, first-uppers}
-use Rattle.merged_lookup.proofs.layers.Layers.directory.Goals as goal
+use Rattle.merged_lookup.proofs.layers.Layers.go_down.Goals as goal
 
 pub enter-inode-requires : goal.enter-inode-requires
 enter-inode-requires c =

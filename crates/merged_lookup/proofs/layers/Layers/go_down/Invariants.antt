@@ -1,7 +1,7 @@
 use Rattle.std.proofs.Common.{◌≡◌, ◌<◌, None, IfSome, length, reverse, take}
 use Rattle.merged_lookup.specs.Merged.{layers_of, places_at, way_fault}
 use Rattle.merged_lookup.specs.Trails.{IsTrail}
-use Rattle.merged_lookup.proofs.layers.Layers.directory.Given as goal
+use Rattle.merged_lookup.proofs.layers.Layers.go_down.Given as goal
 
 abbrev pub invariant-loop-index : goal.invariant-loop-index
 invariant-loop-index l =
