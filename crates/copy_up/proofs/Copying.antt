@@ -32,7 +32,7 @@ use Rattle.copy_up.proofs.Keeping.{lowers-same, linked-by, lift, place-of}
 
 -- a new inode of one name
 abbrev pub leaf_of : Content → Attributes → Inode
-leaf_of c a = record { content = c; attributes = a; links = 1 }
+leaf_of c a = record { content = c; attributes = a; links = 1; mark = None }
 
 -- a layer that gets a file or link, by its keys
 pub leaf-placed : (u v : Tree) (dir : ℕ) (n : Name) (p : Path) (key : ℕ) (c : Content) (a : Attributes) → HasPlace (layer_of u) dir n p → SetsPath (layer_of u) (layer_of v) (n ∷ p) (Named key) → Inserts u v dir n (object.Inode c a) key → PlacesLeaf (layer_of u) (layer_of v) (n ∷ p) key (leaf_of c a)
@@ -66,7 +66,7 @@ pub record IsStored (x : Option Node) (i : Inode) : Type 0 where
 pub is-stored : (x : Option Node) (i : Inode) → option_and_then inode_of x ≡ Some i → IsStored x i
 is-stored None i h = cc
 is-stored (Some (node.Directory d)) i h = cc
-is-stored (Some (node.Inode y)) i h = let e : ◌≡◌ {A = Inode} (record { content = y.content; attributes = y.attributes; links = y.links }) i = cc in record { inode = y; is = refl; content = ap (λ (z : Inode). z.content) e; attributes = ap (λ (z : Inode). z.attributes) e }
+is-stored (Some (node.Inode y)) i h = let e : ◌≡◌ {A = Inode} (record { content = y.content; attributes = y.attributes; links = y.links; mark = None }) i = cc in record { inode = y; is = refl; content = ap (λ (z : Inode). z.content) e; attributes = ap (λ (z : Inode). z.attributes) e }
 
 -- the upper holds nothing where a lower layer's file or link is shown
 pub free-inode : (inodes : ℕ → Option Inode) (o : Option Object) (s : Option Shown) (j k : ℕ) (x : Option Inode) → over 0 inodes o s ≡ Some (Contents j k x) → 0 < j → o ≡ None

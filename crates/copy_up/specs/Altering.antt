@@ -1,6 +1,6 @@
 -- What other attributes of what a path shows leave of the upper's objects (chmod(2), chown(2), setxattr(2), removexattr(2); overlayfs.rst,
 -- "Non-directories").
-use Rattle.std.specs.Prelude.{◌≡◌, ◌≢◌, ◌⊎◌, ℕ, Option, None, Some, IsSome, option_map}
+use Rattle.std.specs.Prelude.{◌≡◌, ◌≢◌, ◌⊎◌, ℕ, false, Option, None, Some, IsSome, option_map}
 use Rattle.slab.specs.Slab.{get}
 use Rattle.ov_base.specs.AttributeChanges.{changed}
 use Rattle.ov_base.specs.declared.attribute_change.AttributeChange.{AttributeChange}
@@ -11,7 +11,7 @@ use Rattle.mount_laws.specs.Attributes.{shown_attributes}
 use Rattle.layer_tree.specs.Tree.{layer_of, seen_at, inode_at}
 use Rattle.layer_tree.specs.Nameless.{IsNameless}
 use Rattle.merged_lookup.specs.declared.layers.Layers.{Layers}
-use Rattle.merged_lookup.specs.Merged.{layers_of, lowers_of}
+use Rattle.merged_lookup.specs.Merged.{upper_of, layers_of, lowers_of}
 use Rattle.copy_up.specs.Showing.{number_of, KeepsPath}
 
 -- a directory with other attributes; the name of an inode stays
@@ -50,7 +50,7 @@ ShowsAttributes l p a = shown_attributes (shows 0 (layers_of l) p) ≡ Some a
 -- the path shows the attributes that it showed after a change of them, and so do the other names of its inode; nothing else is shown
 -- otherwise
 abbrev pub AltersAs : Layers → Layers → Path → AttributeChange → Type 0
-AltersAs old new p x = (a : Attributes) → ShowsAttributes old p a → AreLayers (layers_of old) → Alters (layer_of old.upper) (layer_of new.upper) (lowers_of old) p (changed x a)
+AltersAs old new p x = (a : Attributes) → ShowsAttributes old p a → AreLayers (layers_of old) → Alters (upper_of old) (upper_of new) (lowers_of old) false p (changed x a)
 
 -- the object at the path has them, and every other object is as before
 abbrev pub AltersObjectAs : Layers → Layers → Path → AttributeChange → Type 0

@@ -1,5 +1,5 @@
 -- What the copying up of a file or a symbolic link leaves (overlayfs.rst, "Non-directories").
-use Rattle.std.specs.Prelude.{◌≡◌, ℕ, None, Some}
+use Rattle.std.specs.Prelude.{◌≡◌, ℕ, false, None, Some}
 use Rattle.slab.specs.Slab.{get}
 use Rattle.ov_base.specs.declared.attributes.Attributes.{Attributes}
 use Rattle.ov_base.specs.declared.bytes.Content.{Content}
@@ -8,7 +8,7 @@ use Rattle.mount_laws.specs.Altered.{Alters}
 use Rattle.layer_tree.specs.Tree.{layer_of}
 use Rattle.layer_tree.specs.Nameless.{KeepsObjects}
 use Rattle.merged_lookup.specs.declared.layers.Layers.{Layers}
-use Rattle.merged_lookup.specs.Merged.{layers_of, lowers_of}
+use Rattle.merged_lookup.specs.Merged.{upper_of, layers_of, lowers_of}
 use Rattle.copy_up.specs.Showing.{KeepsOthers}
 
 -- The upper holds the file or link at the path, an inode of its own with one name and these attributes, which are all that is shown anew.
@@ -18,8 +18,8 @@ pub record CopiesLeaf (old new : Layers) (p : Path) (content : Content) (a : Att
   pub lowers : new.lowers ≡ old.lowers
   pub number : ℕ
   pub held_there : held (layer_of new.upper) p ≡ Some (Named number)
-  pub inode : (layer_of new.upper).inodes number ≡ Some (record { content = content; attributes = a; links = 1 })
-  pub alters : AreLayers (layers_of old) → Alters (layer_of old.upper) (layer_of new.upper) (lowers_of old) p a
+  pub inode : (upper_of new).inodes number ≡ Some (record { content = content; attributes = a; links = 1; mark = None })
+  pub alters : AreLayers (layers_of old) → Alters (upper_of old) (upper_of new) (lowers_of old) false p a
   pub vacant : get old.upper number ≡ None
   pub others : KeepsOthers old new p
   pub objects : KeepsObjects old.upper new.upper (Some number)

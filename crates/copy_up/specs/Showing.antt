@@ -11,11 +11,11 @@ use Rattle.mount_laws.specs.Looks.{IsMountOf}
 use Rattle.layer_tree.specs.Tree.{layer_of, inode_at}
 use Rattle.layer_tree.specs.Nameless.{KeepsObjects}
 use Rattle.merged_lookup.specs.declared.layers.Layers.{Layers}
-use Rattle.merged_lookup.specs.Merged.{layers_of, lowers_of}
+use Rattle.merged_lookup.specs.Merged.{upper_of, layers_of, lowers_of}
 
 -- what is shown at a path: its kind, its attributes and what it holds, whatever layer has it
 abbrev pub sight : Layers → Path → Option Sight
-sight l p = merged (layer_of l.upper) (lowers_of l) p
+sight l p = merged (upper_of l) (lowers_of l) p
 
 -- two uppers pass on the same at every path: none of it where they cut, and else by the same spelling
 pub record PassesSame (U V : Layer) : Type 0 where
@@ -89,11 +89,11 @@ StaysLayers old new = AreLayers (layers_of old) → AreLayers (layers_of new)
 
 -- a state of the machine whose mount has the old layers has the new ones
 abbrev pub StaysMount : Layers → Layers → Type 0
-StaysMount old new = (s : State) → IsMountOf (layer_of old.upper) (lowers_of old) s → IsMountOf (layer_of new.upper) (lowers_of new) s
+StaysMount old new = (s : State) → IsMountOf (upper_of old) (lowers_of old) s → IsMountOf (upper_of new) (lowers_of new) s
 
 -- an upper without needless whiteouts stays so
 abbrev pub StaysThin : Layers → Layers → Type 0
-StaysThin old new = IsThin (layer_of old.upper) (lowers_of old) → IsThin (layer_of new.upper) (lowers_of new)
+StaysThin old new = IsThin (upper_of old) (lowers_of old) → IsThin (upper_of new) (lowers_of new)
 
 -- the layers stay sound
 pub record StaysSound (old new : Layers) : Type 0 where

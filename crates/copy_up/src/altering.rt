@@ -8,7 +8,7 @@ ghost use Rattle.mount_laws.specs.Altered.{Alters};
 ghost use Rattle.layer_tree.specs.AttributeChange.{attributes_at, SetsAttributes, SetsInode, SetsDirectory};
 ghost use Rattle.layer_tree.specs.Nameless.{IsNameless};
 ghost use Rattle.layer_tree.specs.Tree.{layer_of, key_at, inode_at, IsDirectory};
-ghost use Rattle.merged_lookup.specs.Merged.{layers_of, lowers_of, parent, parents_fault, top_of, IsStackOf, IsTopmost, ShowsInode};
+ghost use Rattle.merged_lookup.specs.Merged.{upper_of, layers_of, lowers_of, parent, parents_fault, top_of, IsStackOf, IsTopmost, ShowsInode};
 ghost use Rattle.copy_up.specs.Showing.{number_of, ShowsSame, ChangesNoSight, GainsParents, Stays, StaysSound};
 ghost use Rattle.copy_up.specs.Altering.{AltersObject, AltersAs, AltersObjectAs};
 
@@ -108,8 +108,8 @@ fn place_with(
     requires shown { is_directory (shows 0 (layers_of layers.old) path.now) ≡ true }
     requires below { path.now ≢ [] }
     ensures altered { OnOk result (AreLayers (layers_of layers.old) →
-        Alters (layer_of layers.old.upper) (layer_of layers.new.upper) (lowers_of layers.old)
-        path.now attributes) }
+        Alters (upper_of layers.old) (upper_of layers.new) (lowers_of layers.old)
+        false path.now attributes) }
     ensures object { OnOk result (AltersObject layers.old layers.new path.now attributes) }
     ensures key { IfOk result (λ key.
         number_of (held (layer_of layers.new.upper) path.now) ≡ Some key) }

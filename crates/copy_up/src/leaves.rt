@@ -60,7 +60,7 @@ pub fn insert_leaf(
 ) -> Result<usize, AllocError>
     requires { (p : Names) × HasPlace (layer_of layers.old.upper) dir name.now p }
     ensures lowers { layers.new.lowers ≡ layers.old.lowers }
-    ensures placed { IfOk result (λ key. (p : Names) → HasPlace (layer_of layers.old.upper) dir name.now p → PlacesLeaf (layer_of layers.old.upper) (layer_of layers.new.upper) (name.now ∷ p) key (record { content = content; attributes = attributes; links = 1 })) }
+    ensures placed { IfOk result (λ key. (p : Names) → HasPlace (layer_of layers.old.upper) dir name.now p → PlacesLeaf (layer_of layers.old.upper) (layer_of layers.new.upper) (name.now ∷ p) key (record { content = content; attributes = attributes; links = 1; mark = None })) }
     ensures unchanged { OnErr result (SameObjects (layer_of layers.old.upper) (layer_of layers.new.upper)) }
     ensures vacant { IfOk result (λ key. get layers.old.upper key ≡ None) }
     ensures objects { IfOk result (λ key. KeepsObjects layers.old.upper layers.new.upper (Some key)) }

@@ -1,15 +1,17 @@
 -- Whether one of the names that the layers of a directory have is shown.
-use Rattle.std.proofs.Common.{◌≡◌, ℕ, ◌+◌, ◌<◌, Bool, true, false, ◌||◌, List, [], ◌∷◌, Option, None, Some, refl, sym, ap, ◌∙◌, is_some, take, length, get_or, map}
+use Rattle.std.proofs.Common.{◌≡◌, ℕ, ◌+◌, ◌<◌, Bool, true, false, ◌||◌, List, [], ◌∷◌, Option, None, Some, refl, sym, ap, ◌∙◌, is_some, take, length, get_or}
 use Rattle.std.proofs.lemmas.Bool.{false≢true}
 use Rattle.std.proofs.lemmas.List.Folds.{list_any_more, Any-from_list_any}
 use Rattle.std.specs.List.{list_any}
 use Rattle.std.specs.Str.{bytes_eq}
 use Rattle.plain_model.specs.Layers.{Name, Path, shows}
 use Rattle.mount_laws.specs.Removals.{ShowsNoName}
-use Rattle.layer_tree.specs.Tree.{Tree, layer_of}
+use Rattle.layer_tree.specs.Tree.{Tree}
 use Rattle.merged_lookup.specs.declared.stack.Place.{Place}
-use Rattle.merged_lookup.specs.Merged.{places_at}
+use Rattle.merged_lookup.specs.declared.layers.Layers.{Layers}
+use Rattle.merged_lookup.specs.Merged.{trees, layers_of, places_at}
 use Rattle.merged_lookup.specs.Descent.{first}
+use Rattle.merged_lookup.proofs.Filled.{same-some}
 use Rattle.merged_lookup.proofs.Looking.{shows-some}
 use Rattle.dir_listing.specs.Bound.{is_bound}
 use Rattle.dir_listing.proofs.Listing.{shown-bound, same-name}
@@ -22,15 +24,19 @@ hidden : (a b : Bool) → (a ≡ true → b ≡ true) → (b ≡ true → a ≡ 
 hidden false b f g = refl
 hidden true b f g = g (f refl)
 
+-- whether a name is shown, from the places of its directory
+pub some-shown : (l : Layers) (ds : List Place) (p : Path) (n : Name) → ds ≡ places_at 0 (layers_of l) p → is_some (first (trees l) ds n) ≡ is_some (shows 0 (layers_of l) (n ∷ p))
+some-shown l ds p n is = shows-some (trees l) ds p n is ∙ sym (same-some l (n ∷ p))
+
 -- where none of the names that the layers have is shown, no name is
-pub no-name-shown : (ts : List Tree) (ds : List Place) (p : Path) → ds ≡ places_at 0 (map layer_of ts) p → ((n : Name) → list_any (is_bound ts n) ds ≡ true → is_some (first ts ds n) ≡ false) → ShowsNoName (map layer_of ts) p
-no-name-shown ts ds p is unshown n = none-of (shows 0 (map layer_of ts) (n ∷ p)) (sym (shows-some ts ds p n is) ∙ hidden (is_some (first ts ds n)) (list_any (is_bound ts n) ds) (shown-bound ts ds n) (unshown n))
+pub no-name-shown : (l : Layers) (ds : List Place) (p : Path) → ds ≡ places_at 0 (layers_of l) p → ((n : Name) → list_any (is_bound (trees l) n) ds ≡ true → is_some (first (trees l) ds n) ≡ false) → ShowsNoName (layers_of l) p
+no-name-shown l ds p is unshown n = none-of (shows 0 (layers_of l) (n ∷ p)) (sym (some-shown l ds p n is) ∙ hidden (is_some (first (trees l) ds n)) (list_any (is_bound (trees l) n) ds) (shown-bound (trees l) ds n) (unshown n))
 
 -- where one of some names is shown, there is a name shown
-pub some-name-shown : (ts : List Tree) (ds : List Place) (p : Path) → ds ≡ places_at 0 (map layer_of ts) p → (names : List Name) → list_any (λ n. is_some (first ts ds n)) names ≡ true → (n : Name) × (is_some (shows 0 (map layer_of ts) (n ∷ p)) ≡ true)
-some-name-shown ts ds p is names h =
-    let one = Any-from_list_any (λ n. is_some (first ts ds n)) names h in
-    (one.1, sym (shows-some ts ds p one.1 is) ∙ one.4)
+pub some-name-shown : (l : Layers) (ds : List Place) (p : Path) → ds ≡ places_at 0 (layers_of l) p → (names : List Name) → list_any (λ n. is_some (first (trees l) ds n)) names ≡ true → (n : Name) × (is_some (shows 0 (layers_of l) (n ∷ p)) ≡ true)
+some-name-shown l ds p is names h =
+    let one = Any-from_list_any (λ n. is_some (first (trees l) ds n)) names h in
+    (one.1, sym (some-shown l ds p one.1 is) ∙ one.4)
 
 either : (a b c : Bool) → (a ≡ true → c ≡ false) → (b ≡ true → c ≡ false) → (a || b) ≡ true → c ≡ false
 either true b c f g h = f refl

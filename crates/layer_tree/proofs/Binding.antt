@@ -253,7 +253,7 @@ links_inserts old new dir name o key tree ins no_object k i is = of (cases_eq k 
 
     one : (o : Object) → new_inode o ≡ Some i → 1 ≡ i.links
     one (object.Directory a m) f = absurd (cc)
-    one (object.Inode c a) f = ap (λ (x : layers.Inode). x.links) (unwrapped (record { content = c; attributes = a; links = 1 }) i f)
+    one (object.Inode c a) f = ap (λ (x : layers.Inode). x.links) (unwrapped (record { content = c; attributes = a; links = 1; mark = None }) i f)
 
     first : inode_at new key ≡ Some i → HasNames (child new) key i.links
     first at =

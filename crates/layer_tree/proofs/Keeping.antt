@@ -128,7 +128,7 @@ IsLayer-inserts old new dir name o key ins no_object path at sets tree =
 
     first : (o : Object) (i : layers.Inode) → new_inode o ≡ Some i → (seen_object key o ≡ Named key) × (i.links ≡ 1)
     first (object.Directory a m) i h = absurd (cc)
-    first (object.Inode c a) i h = (refl, sym (ap (λ (x : layers.Inode). x.links) (unwrapped (record { content = c; attributes = a; links = 1 }) i h)))
+    first (object.Inode c a) i h = (refl, sym (ap (λ (x : layers.Inode). x.links) (unwrapped (record { content = c; attributes = a; links = 1; mark = None }) i h)))
 
     differs : (o : Object) (k : ℕ) → k ≢ key → seen_object key o ≢ Named k
     differs (object.Directory a m) k off f = cc

@@ -39,7 +39,7 @@ marks_of (node.Inode i) = None
 -- the inode of a file or symbolic link
 abbrev pub inode_of : Node → Option layers.Inode
 inode_of (node.Directory d) = None
-inode_of (node.Inode i) = Some (record { content = i.content; attributes = i.attributes; links = i.links })
+inode_of (node.Inode i) = Some (record { content = i.content; attributes = i.attributes; links = i.links; mark = None })
 
 -- what a layer holds where this object stands under a key
 abbrev pub seen : ℕ → Node → layers.Object
@@ -163,7 +163,7 @@ seen_object key (object.Inode c a) = layers.Named key
 -- the inode of a new object, which has one name
 abbrev pub new_inode : Object → Option layers.Inode
 new_inode (object.Directory a m) = None
-new_inode (object.Inode c a) = Some (record { content = c; attributes = a; links = 1 })
+new_inode (object.Inode c a) = Some (record { content = c; attributes = a; links = 1; mark = None })
 
 -- the inode with one name less
 abbrev pub with_less : layers.Inode → layers.Inode

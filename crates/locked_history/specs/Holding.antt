@@ -5,8 +5,7 @@ use Rattle.plain_model.specs.Tree.{IsThin, Tree}
 use Rattle.plain_model.specs.Merging.{IsMerge}
 use Rattle.plain_model.specs.Machine.{MountOptions, State, opening}
 use Rattle.plain_model.specs.Runs.{Entry, IsLegal, is_of, is_detach}
-use Rattle.layer_tree.specs.Tree.{layer_of}
-use Rattle.merged_lookup.specs.Merged.{lowers_of}
+use Rattle.merged_lookup.specs.Merged.{upper_of, lowers_of}
 use Rattle.mount_calls.specs.declared.clients.Clients.{Clients}
 use Rattle.mount_calls.specs.Attaching.{is_attached}
 use Rattle.overlay_core.specs.Mounting.{machine_options}
@@ -24,7 +23,7 @@ pub record Opening : Type 0 where
 module _ {F G : Type 0} {asks : Callback F} {rule : Rule G} where
   -- what was mounted, of a core on which nothing was done yet
   abbrev pub opening_of : Core F G asks rule → Opening
-  opening_of core = record { upper = layer_of (core_layers core).upper; lowers = lowers_of (core_layers core); options = machine_options (core_options core) }
+  opening_of core = record { upper = upper_of (core_layers core); lowers = lowers_of (core_layers core); options = machine_options (core_options core) }
 
 -- THE HISTORY: these entries are a legal history of the plain machine, which begins with the merge of
 -- what was mounted and ends in a state that agrees with the core. Where the upper had no whiteout
@@ -35,7 +34,7 @@ pub record Legally {F G : Type 0} {asks : Callback F} {rule : Rule G} (o : Openi
   pub last : State
   pub legal : IsLegal rule.shows (opening tree o.options) es last
   pub agrees : CoreAgrees core last
-  pub thin : IsThin o.upper o.lowers → IsThin (layer_of (core_layers core).upper) (lowers_of (core_layers core))
+  pub thin : IsThin o.upper o.lowers → IsThin (upper_of (core_layers core)) (lowers_of (core_layers core))
 
 -- the number of a client's next entry: it attached, and didn't detach
 pub record IsNumber (es : List Entry) (c n : ℕ) : Type 0 where

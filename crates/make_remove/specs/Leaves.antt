@@ -11,7 +11,7 @@ use Rattle.mount_laws.specs.Leaves.{GainsLeaf, MakesLink, MakesFile}
 use Rattle.layer_tree.specs.Tree.{layer_of}
 use Rattle.layer_tree.specs.Nameless.{KeepsObjects}
 use Rattle.merged_lookup.specs.declared.layers.Layers.{Layers}
-use Rattle.merged_lookup.specs.Merged.{layers_of, lowers_of}
+use Rattle.merged_lookup.specs.Merged.{upper_of, layers_of, lowers_of}
 use Rattle.copy_up.specs.Showing.{KeepsOthers}
 
 -- The upper holds a new file or link at the path, in place of a whiteout where one stood there; it is all that is shown anew.
@@ -21,8 +21,8 @@ pub record MakesLeaf (old new : Layers) (p : Path) (content : Content) (a : Attr
   pub lowers : new.lowers ≡ old.lowers
   pub number : ℕ
   pub held_there : held (layer_of new.upper) p ≡ Some (Named number)
-  pub inode : (layer_of new.upper).inodes number ≡ Some (record { content = content; attributes = a; links = 1 })
-  pub gains : AreLayers (layers_of old) → GainsLeaf (layer_of old.upper) (layer_of new.upper) (lowers_of old) p content a
+  pub inode : (upper_of new).inodes number ≡ Some (record { content = content; attributes = a; links = 1; mark = None })
+  pub gains : AreLayers (layers_of old) → GainsLeaf (upper_of old) (upper_of new) (lowers_of old) p content a
   pub vacant : get old.upper number ≡ None
   pub others : KeepsOthers old new p
   pub objects : KeepsObjects old.upper new.upper (Some number)
@@ -30,10 +30,10 @@ pub record MakesLeaf (old new : Layers) (p : Path) (content : Content) (a : Attr
 -- every state of the machine whose mount has the old layers goes on to one with the new layers by symlink
 abbrev pub SymlinkSteps : Layers → Layers → List ℕ → Path → Type 0
 SymlinkSteps old new target p =
-    (s : State) → IsMountOf (layer_of old.upper) (lowers_of old) s → (c : ℕ) → MakesLink (layer_of new.upper) (lowers_of new) s c target p
+    (s : State) → IsMountOf (upper_of old) (lowers_of old) s → (c : ℕ) → MakesLink (upper_of new) (lowers_of new) s c target p
 
 -- every state of the machine whose mount has the old layers goes on to one with the new layers by an open that makes the file, whoever
 -- opens it and by whatever flags; the handle is the opener's
 abbrev pub CreateSteps : Layers → Layers → Path → ℕ → Type 0
 CreateSteps old new p mode =
-    (s : State) → IsMountOf (layer_of old.upper) (lowers_of old) s → (c : ℕ) (flags : OpenFlags) → MakesFile (layer_of new.upper) (lowers_of new) s c p flags mode
+    (s : State) → IsMountOf (upper_of old) (lowers_of old) s → (c : ℕ) (flags : OpenFlags) → MakesFile (upper_of new) (lowers_of new) s c p flags mode

@@ -14,7 +14,7 @@ use Rattle.mount_laws.specs.Looks.{or_else, parents_fault, IsMountOf, Makes}
 use Rattle.layer_tree.specs.Tree.{layer_of}
 use Rattle.layer_tree.specs.Nameless.{KeepsObjects}
 use Rattle.merged_lookup.specs.declared.layers.Layers.{Layers}
-use Rattle.merged_lookup.specs.Merged.{lowers_of}
+use Rattle.merged_lookup.specs.Merged.{upper_of, lowers_of}
 use Rattle.copy_up.specs.Showing.{KeepsOthers}
 pub use Rattle.copy_up.specs.Showing.{sight, ShowsSame}
 
@@ -47,4 +47,4 @@ pub record MakesDirectory (old new : Layers) (p : Path) (mode : ℕ) : Type 0 wh
 -- every state of the machine whose mount has the old layers goes on to one with the new layers by mkdir
 abbrev pub MkdirSteps : Layers → Layers → Path → ℕ → Type 0
 MkdirSteps old new p mode =
-    (s : State) → IsMountOf (layer_of old.upper) (lowers_of old) s → (c : ℕ) → Makes (layer_of new.upper) (lowers_of new) s c p mode
+    (s : State) → IsMountOf (upper_of old) (lowers_of old) s → (c : ℕ) → Makes (upper_of new) (lowers_of new) s c p mode

@@ -9,7 +9,7 @@ use Rattle.layer_tree.specs.Nameless.{IsNameless, KeepsObjects}
 use Rattle.copy_up.specs.Showing.{KeepsOthers}
 pub use Rattle.copy_up.specs.Showing.{number_of}
 use Rattle.merged_lookup.specs.declared.layers.Layers.{Layers}
-use Rattle.merged_lookup.specs.Merged.{layers_of, lowers_of}
+use Rattle.merged_lookup.specs.Merged.{upper_of, layers_of, lowers_of}
 
 -- what the upper holds at a path once its name is gone: a whiteout exactly where the lower layers show something
 abbrev pub left_at : Layers → Path → Option Object
@@ -26,7 +26,7 @@ has_more count (Some i) = nat_lt count i.links
 pub record TakesName (old new : Layers) (p : Path) : Type 0 where
   pub lowers : new.lowers ≡ old.lowers
   pub left : held (layer_of new.upper) p ≡ left_at old p
-  pub loses : AreLayers (layers_of old) → Loses (layer_of old.upper) (layer_of new.upper) (lowers_of old) p
+  pub loses : AreLayers (layers_of old) → Loses (upper_of old) (upper_of new) (lowers_of old) p
   pub others : KeepsOthers old new p
 
 -- what was left without a name under this key: a directory, or an inode without links

@@ -12,7 +12,7 @@ ghost use Rattle.layer_tree.specs.Table.{object_key};
 ghost use Rattle.layer_tree.specs.Tree.{layer_of, inode_at, with_less, entry, child, key_at, IsDirectory, HoldsNoObjects, ReplacesPath, Unbinds, SameTree, SameObjects};
 ghost use Rattle.layer_tree.specs.declared.name_table.Entry.TheVariants as bound;
 ghost use Rattle.merged_lookup.specs.declared.layers.Layers.{Layers as LayersOf};
-ghost use Rattle.merged_lookup.specs.Merged.{layers_of, lowers_of, parent, way_fault, IsStackOf, ShowsInode};
+ghost use Rattle.merged_lookup.specs.Merged.{upper_of, layers_of, lowers_of, parent, way_fault, IsStackOf, ShowsInode};
 ghost use Rattle.copy_up.specs.Showing.{ChangesNoSight, GainsParents, StaysSound};
 ghost use Rattle.make_remove.specs.Sights.{IsSeen};
 ghost use Rattle.make_remove.specs.Removing.{unlink_fault, rmdir_fault, ShowsNoName, TakesAway, Removes, TellsNames, TakesName, Unnames, released_by, has_more};
@@ -67,8 +67,8 @@ pub fn unlink(
     requires directory { IsStackOf layers.old (parent path.now) directory.now }
     ensures takes { OnOk result (TakesName layers.old layers.new path.now) }
     ensures steps { OnOk result ((s : State) →
-        IsMountOf (layer_of layers.old.upper) (lowers_of layers.old) s → (c : ℕ) →
-        Removes (layer_of layers.new.upper) (lowers_of layers.new) s c path.now
+        IsMountOf (upper_of layers.old) (lowers_of layers.old) s → (c : ℕ) →
+        Removes (upper_of layers.new) (lowers_of layers.new) s c path.now
         (call.Unlink path.now)) }
     ensures unnames { IfOk result (λ released. Unnames layers.old layers.new path.now released) }
     ensures no_memory { OnErr result
@@ -92,7 +92,7 @@ pub fn removable<'a>(layers: &Layers, path: &Path, seen: &'a Seen) -> Result<&'a
         TellsNames (layers_of layers.now) path.now full →
         rmdir_fault (layers_of layers.now) path.now full ≡ Some e) }
     ensures refuses { IfErr result (λ e.
-        (s : State) → IsMountOf (layer_of layers.now.upper) (lowers_of layers.now) s → (c : ℕ) →
+        (s : State) → IsMountOf (upper_of layers.now) (lowers_of layers.now) s → (c : ℕ) →
         refusal s c (call.Rmdir path.now) ≡ Some e) }
     ensures allowed { OnOk result (rmdir_fault (layers_of layers.now) path.now false ≡ None) }
     ensures bare { OnOk result (ShowsNoName (layers_of layers.now) path.now) }
@@ -128,7 +128,7 @@ pub fn rmdir(
         (full : Bool) → TellsNames (layers_of layers.old) path.now full →
         rmdir_fault (layers_of layers.old) path.now full ≡ Some e)) }
     ensures refuses { IfOk result (λ r. IfErr r (λ e.
-        (s : State) → IsMountOf (layer_of layers.old.upper) (lowers_of layers.old) s → (c : ℕ) →
+        (s : State) → IsMountOf (upper_of layers.old) (lowers_of layers.old) s → (c : ℕ) →
         refusal s c (call.Rmdir path.now) ≡ Some e)) }
     ensures unchanged { IfOk result (λ r. OnErr r (layers.new ≡ layers.old)) }
     ensures allowed { IfOk result (λ r.
@@ -136,8 +136,8 @@ pub fn rmdir(
     ensures bare { IfOk result (λ r. OnOk r (ShowsNoName (layers_of layers.old) path.now)) }
     ensures takes { IfOk result (λ r. OnOk r (TakesName layers.old layers.new path.now)) }
     ensures steps { IfOk result (λ r. OnOk r ((s : State) →
-        IsMountOf (layer_of layers.old.upper) (lowers_of layers.old) s → (c : ℕ) →
-        Removes (layer_of layers.new.upper) (lowers_of layers.new) s c path.now
+        IsMountOf (upper_of layers.old) (lowers_of layers.old) s → (c : ℕ) →
+        Removes (upper_of layers.new) (lowers_of layers.new) s c path.now
         (call.Rmdir path.now))) }
     ensures unnames { IfOk result (λ r.
         IfOk r (λ released. Unnames layers.old layers.new path.now released)) }

@@ -10,8 +10,9 @@ use Rattle.layer_tree.specs.declared.node.Node.{Node}
 use Rattle.layer_tree.specs.declared.node.Node.TheVariants as node
 use Rattle.merged_lookup.specs.declared.layers.Layers.{Layers}
 use Rattle.merged_lookup.specs.declared.stack.Place.{Place}
-use Rattle.merged_lookup.specs.Merged.{trees, node_in, layers_of, ShowsInode}
+use Rattle.merged_lookup.specs.Merged.{trees, node_in, lowers_of, ShowsInode}
 use Rattle.merged_lookup.proofs.Descending.{drop-get}
+use Rattle.merged_lookup.proofs.Filled.{raw_shown, IsInodeOf, raw-inode}
 use Rattle.merged_lookup.proofs.Looking.{inode-shown}
 
 -- the layer names this inode at the path
@@ -54,7 +55,10 @@ named-there L p k x together n = is-there x (subst (λ (o : Option Inode). is_so
 
 -- the layer of an inode that is shown is there
 pub layer-there : (l : Layers) (p : Path) (d : Place) → ShowsInode l p d → (t : Tree) × (slice_get (trees l) d.layer ≡ Some t)
-layer-there l p d s = let f : NamesInode (trees l) d.layer d.key s.inode = names-inode 0 (trees l) (trees l) refl p d.layer d.key s.inode s.shown in (f.tree, f.is)
+layer-there l p d s =
+    let r : IsInodeOf (lowers_of l) (raw_shown l p) d.layer d.key s.inode = raw-inode l p d.layer d.key s.inode s.shown in
+    let f : NamesInode (trees l) d.layer d.key r.raw = names-inode 0 (trees l) (trees l) refl p d.layer d.key r.raw r.is in
+    (f.tree, f.is)
 
 -- what it names there is an inode
 names-there : (ts : List Tree) (j k : ℕ) (x : Option Inode) (t : Tree) → NamesInode ts j k x → slice_get ts j ≡ Some t → IsHeldTogether (layer_of t) → (i : Inode) × (x ≡ Some i)
@@ -66,11 +70,12 @@ names-there ts j k x t f at together =
 shown-there : (y : Option Shown) (j k : ℕ) (x : Option Inode) → y ≡ Some (Contents j k x) → (i : Inode) × (x ≡ Some i) → (i : Inode) × (y ≡ Some (Contents j k (Some i)))
 shown-there y j k x h there = (there.0, h ∙ ap (λ z. Some (Contents j k z)) there.1)
 
--- and the inode stands in it
-pub inode-stands-in : (l : Layers) (p : Path) (d : Place) (t : Tree) → slice_get (trees l) d.layer ≡ Some t → IsHeldTogether (layer_of t) → ShowsInode l p d → (i : Inode) × (shows 0 (layers_of l) p ≡ Some (Contents d.layer d.key (Some i)))
+-- and the inode stands in it, as the trees show it
+pub inode-stands-in : (l : Layers) (p : Path) (d : Place) (t : Tree) → slice_get (trees l) d.layer ≡ Some t → IsHeldTogether (layer_of t) → ShowsInode l p d → (i : Inode) × (raw_shown l p ≡ Some (Contents d.layer d.key (Some i)))
 inode-stands-in l p d t at together s =
-    shown-there (shows 0 (layers_of l) p) d.layer d.key s.inode s.shown
-    (names-there (trees l) d.layer d.key s.inode t (names-inode 0 (trees l) (trees l) refl p d.layer d.key s.inode s.shown) at together)
+    let r : IsInodeOf (lowers_of l) (raw_shown l p) d.layer d.key s.inode = raw-inode l p d.layer d.key s.inode s.shown in
+    shown-there (raw_shown l p) d.layer d.key r.raw r.is
+    (names-there (trees l) d.layer d.key r.raw t (names-inode 0 (trees l) (trees l) refl p d.layer d.key r.raw r.is) at together)
 
 -- this node is an inode, and what is shown is that inode
 pub record IsShownInode (x : Option Node) (j k : ℕ) (y : Option Shown) : Type 0 where
@@ -84,9 +89,9 @@ seen-inode (Some (node.Directory d)) j k y i h s = cc
 seen-inode (Some (node.Inode z)) j k y i h s = record { inode = z; is = refl; shown = s ∙ ap (λ (o : Option Inode). Some (Contents j k o)) (sym h) }
 
 -- and is what stands under the key
-pub inode-node : (l : Layers) (p : Path) (d : Place) (t : Tree) → slice_get (trees l) d.layer ≡ Some t → IsHeldTogether (layer_of t) → ShowsInode l p d → IsShownInode (get t d.key) d.layer d.key (shows 0 (layers_of l) p)
+pub inode-node : (l : Layers) (p : Path) (d : Place) (t : Tree) → slice_get (trees l) d.layer ≡ Some t → IsHeldTogether (layer_of t) → ShowsInode l p d → IsShownInode (get t d.key) d.layer d.key (raw_shown l p)
 inode-node l p d t at together s =
     let i = inode-stands-in l p d t at together s in
     let seen : option_and_then inode_of (node_in (trees l) d) ≡ Some i.0 = inode-shown 0 (trees l) (trees l) refl p d.layer d.key (Some i.0) i.1 in
     let here : node_in (trees l) d ≡ get t d.key = ap (option_and_then (λ (z : Tree). get z d.key)) at in
-    seen-inode (get t d.key) d.layer d.key (shows 0 (layers_of l) p) i.0 (ap (option_and_then inode_of) (sym here) ∙ seen) i.1
+    seen-inode (get t d.key) d.layer d.key (raw_shown l p) i.0 (ap (option_and_then inode_of) (sym here) ∙ seen) i.1

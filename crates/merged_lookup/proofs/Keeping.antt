@@ -1,5 +1,5 @@
 -- What the upper hands down, and what is kept for it.
-use Rattle.std.proofs.Common.{◌≡◌, ℕ, ◌+◌, ◌<◌, ◌++◌, Bool, true, false, not, List, [], ◌∷◌, Option, None, Some, refl, sym, ap, ◌∙◌, subst, inl, inr, ◌⊎◌, ◌==◌, Contains, Result, Ok, Err, OnOk, OnErr, slice_get, is_some, length, drop, take, reverse, arith, nat_eq, get_or}
+use Rattle.std.proofs.Common.{IfSome, ◌≡◌, ℕ, ◌+◌, ◌<◌, ◌++◌, Bool, true, false, not, List, [], ◌∷◌, Option, None, Some, refl, sym, ap, ◌∙◌, subst, inl, inr, ◌⊎◌, ◌==◌, Contains, Result, Ok, Err, OnOk, OnErr, slice_get, is_some, length, drop, take, reverse, arith, nat_eq, get_or}
 use Rattle.std.proofs.lemmas.Bool.{false≢true}
 use Rattle.std.proofs.lemmas.List.{length-map}
 use Rattle.std.specs.Option.{option_map}
@@ -17,7 +17,7 @@ use Rattle.merged_lookup.specs.declared.found.Topmost.TheVariants as shown
 use Rattle.merged_lookup.specs.declared.kept.Kept.{Kept}
 use Rattle.merged_lookup.specs.declared.layers.Layers.{Layers}
 use Rattle.merged_lookup.specs.declared.stack.Place.{Place}
-use Rattle.merged_lookup.specs.Merged.{trees, layers_of, lowers_of, place_in, unless_cut, places_at, way_fault, IsTopmost}
+use Rattle.merged_lookup.specs.Merged.{trees, upper_of, layers_of, lowers_of, place_in, unless_cut, places_at, way_fault, IsTopmost}
 use Rattle.merged_lookup.specs.Descent.{holds_in, places_from, descend, first, place_shown, leads, without_upper}
 use Rattle.merged_lookup.specs.Locating.{place_of}
 use Rattle.merged_lookup.specs.Passing.{directory_key, holds_under}
@@ -95,27 +95,35 @@ missing-hands t names i n k within is at none =
     let m : IsMissing t (reverse names) = subst (IsMissing t) (sym whole) (missing-on t r p (missing-first t (reverse (take i names)) n k at none)) in
     record { dir = sym (ap directory_key m.held); uncut = m.uncut; spelling = m.spelling }
 
+-- where there is an answer, the upper hands the path down
+pub some-hands : (t : Tree) (p : Path) (o : Option (Option ℕ)) → is_some o ≡ true → IfSome o (HandsDown t p) → (dir : Option ℕ) × HandsDown t p dir
+some-hands t p None h e = absurd (false≢true h)
+some-hands t p (Some dir) h e = (dir, e)
+
 -- what stands at the topmost place is what is shown
 topmost-by : (Ls : List Layer) (q : Path) (o : Option Topmost) → leads o ≡ is_directory (shows 1 Ls q) → option_map place_shown o ≡ place_of (shows 1 Ls q) → ShowsTopmost Ls q o
 topmost-by Ls q None b e = shown-none (shows 1 Ls q) (sym e)
 topmost-by Ls q (Some (shown.Directory d)) b e = shown-folder (shows 1 Ls q) d (sym b) (sym e)
 topmost-by Ls q (Some (shown.Inode d)) b e = shown-inode (shows 1 Ls q) d (sym b) (sym e)
 
+-- the topmost object that the lower layers show at a name in these places
+pub lower-topmost : (l : Layers) (p : Path) (n : Name) (s : List Place) (o : Option Topmost) → s ≡ places_from 1 (trees l) p →
+    option_map place_shown o ≡ first (trees l) s n → leads o ≡ not (nat_eq (length (descend (trees l) s n)) 0) → ShowsTopmost (lowers_of l) (n ∷ p) o
+lower-topmost l p n s o is place directory =
+    let ts : List Tree = trees l in
+    let us : List Tree = l.lowers.items in
+    let q : Path = n ∷ p in
+    topmost-by (lowers_of l) q o
+    (directory ∙ ap (λ z. not (nat_eq (length (descend ts z n)) 0)) is ∙ ap (λ z. not (nat_eq (length z) 0)) (descend-places 1 ts us refl p n)
+    ∙ directory-top (places_at 1 (lowers_of l) q) (shows 1 (lowers_of l) q) (top-shown 1 (lowers_of l) q))
+    (place ∙ ap (λ z. first ts z n) is ∙ first-places 1 ts us refl p n)
+
 -- what was found in the lower layers may be kept
 pub kept-right : (l : Layers) (p : Path) (n : Name) (k : Kept) → k.directory.items ≡ places_from 1 (trees l) p →
     option_map place_shown k.shown ≡ first (trees l) k.directory.items n → leads k.shown ≡ not (nat_eq (length (descend (trees l) k.directory.items n)) 0) →
     IsKept (lowers_of l) (n ∷ p) k
 kept-right l p n k is place directory =
-    let ts : List Tree = trees l in
-    let us : List Tree = l.lowers.items in
-    let q : Path = n ∷ p in
-    record {
-      directory = is;
-      shown = topmost-by (lowers_of l) q k.shown
-          (directory ∙ ap (λ z. not (nat_eq (length (descend ts z n)) 0)) is ∙ ap (λ z. not (nat_eq (length z) 0)) (descend-places 1 ts us refl p n)
-          ∙ directory-top (places_at 1 (lowers_of l) q) (shows 1 (lowers_of l) q) (top-shown 1 (lowers_of l) q))
-          (place ∙ ap (λ z. first ts z n) is ∙ first-places 1 ts us refl p n);
-    }
+    record { directory = is; shown = lower-topmost l p n k.directory.items k.shown is place directory }
 
 -- the places of a directory that the upper hands down
 pub kept-places : (l : Layers) (p : Path) (dir : Option ℕ) → HandsDown l.upper p dir →
@@ -129,13 +137,13 @@ kept-places l p dir down =
 
 -- what a name shows, by what the upper has there and what is kept
 topmost-of : (l : Layers) (p : Path) (o : Option Object) (t : Option Topmost) → ShowsTopmost (lowers_of l) p t →
-    shows 0 (layers_of l) p ≡ over 0 (layer_of l.upper).inodes o (shows 1 (lowers_of l) p) → IsTopmost l p (topmost_over o t)
+    shows 0 (layers_of l) p ≡ over 0 (upper_of l).inodes o (shows 1 (lowers_of l) p) → IsTopmost l p (topmost_over o t)
 topmost-of l p None None h e = record { shown = e ∙ h }
 topmost-of l p None (Some (shown.Directory d)) h e = (h.0, e ∙ h.1)
 topmost-of l p None (Some (shown.Inode d)) h e = record { inode = h.0; shown = e ∙ h.1 }
 topmost-of l p (Some Whiteout) t h e = record { shown = e }
 topmost-of l p (Some (Directory k a b r)) t h e = (a, e)
-topmost-of l p (Some (Named k)) t h e = record { inode = (layer_of l.upper).inodes k; shown = e }
+topmost-of l p (Some (Named k)) t h e = record { inode = (upper_of l).inodes k; shown = e }
 
 -- where the upper has something, what the layers below show doesn't count
 over-some : (i : ℕ) (inodes : ℕ → Option Inode) (o : Option Object) (x y : Option Shown) → (o ≡ None → x ≡ y) → over i inodes o x ≡ over i inodes o y
@@ -151,8 +159,8 @@ kept-topmost l p n dir o k down here kept =
     let Ls : List Layer = lowers_of l in
     let lower : Option Object → Option Shown = λ x. unless (cut x (cuts U p)) (shows 1 Ls (spell x n (below U p))) in
     topmost-of l (n ∷ p) o k.shown kept.shown
-    (ap (λ x. over 0 U.inodes x (lower x)) here
-    ∙ over-some 0 U.inodes o (lower o) (shows 1 Ls (n ∷ p))
+    (ap (λ x. over 0 (upper_of l).inodes x (lower x)) here
+    ∙ over-some 0 (upper_of l).inodes o (lower o) (shows 1 Ls (n ∷ p))
     (λ none. ap lower none ∙ ap (λ c. unless c (shows 1 Ls (n ∷ below U p))) down.uncut ∙ ap (λ q. shows 1 Ls (n ∷ q)) down.spelling))
 
 -- what is kept stays right where another look-up is the most recently used

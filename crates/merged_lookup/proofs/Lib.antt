@@ -1,4 +1,5 @@
 pub mod Descending
+pub mod Filled
 pub mod Folders
 pub mod Inodes
 pub mod Looking

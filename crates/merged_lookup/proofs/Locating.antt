@@ -12,7 +12,7 @@ use Rattle.layer_tree.specs.declared.node.Node.{Node}
 use Rattle.layer_tree.specs.declared.node.Node.TheVariants as node
 use Rattle.layer_tree.proofs.Walks.{bound as some-before}
 use Rattle.merged_lookup.specs.declared.layers.Layers.{Layers}
-use Rattle.merged_lookup.specs.Merged.{lowers_of}
+use Rattle.merged_lookup.specs.Merged.{lowers_of, upper_of}
 use Rattle.merged_lookup.specs.Locating.{IsPlaceOf, ShowsUpper, place_of}
 use Rattle.merged_lookup.proofs.Descending.{held-in}
 
@@ -85,8 +85,8 @@ shown-at l is k [] h = let e : ROOT ≡ k = cc in ap (λ j. Some (record { layer
 shown-at l is k (n ∷ p) h =
     let w = some-before (λ d. child l.upper d n) (key_at l.upper p) k h in
     let s : Option Shown = unless (cuts (layer_of l.upper) (n ∷ p)) (shows 1 (lowers_of l) (below (layer_of l.upper) (n ∷ p))) in
-    ap (λ o. place_of (over 0 (layer_of l.upper).inodes o s)) (key-held l.upper p n k h)
-    ∙ seen-shown k (get l.upper k) (layer_of l.upper).inodes s (is.present w.0 n k w.2)
+    ap (λ o. place_of (over 0 (upper_of l).inodes o s)) (key-held l.upper p n k h)
+    ∙ seen-shown k (get l.upper k) (upper_of l).inodes s (is.present w.0 n k w.2)
 
 -- the mount shows an object of the upper at its place
 pub place-shown : (l : Layers) → IsTree l.upper → (k : ℕ) (o : Option Path) → IsPlaceOf l k o → ShowsUpper l k o

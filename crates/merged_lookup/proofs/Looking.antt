@@ -15,9 +15,10 @@ use Rattle.merged_lookup.specs.declared.stack.Stack.{Stack}
 use Rattle.merged_lookup.specs.declared.layers.Layers.{Layers}
 use Rattle.merged_lookup.specs.declared.found.Topmost.{Topmost}
 use Rattle.merged_lookup.specs.declared.found.Topmost.TheVariants as shown
-use Rattle.merged_lookup.specs.Merged.{trees, layers_of, IsStackOf, ShowsDirectory, ShowsInode, ShowsNothing, IsTopmost, level, unless_cut, places_at, top_of, fault, or_else, way_fault, inode_fault, node_in, place_fault}
+use Rattle.merged_lookup.specs.Merged.{trees, lowers_of, layers_of, fill_at, IsStackOf, ShowsDirectory, ShowsInode, ShowsNothing, IsTopmost, level, unless_cut, places_at, top_of, fault, or_else, way_fault, inode_fault, node_in, place_fault}
 use Rattle.merged_lookup.specs.Descent.{places_from, descend, first, place_shown, leads, without_upper}
 use Rattle.merged_lookup.specs.Locating.{place_of}
+use Rattle.merged_lookup.proofs.Filled.{same-place, folder-filled, nothing-filled, inode-filled, IsInodeOf, raw-inode, same-fault}
 use Rattle.merged_lookup.proofs.Descending.{IsTop, top-shown, first-places, first-unless, shown-inode, shown-none, walk-step, descend-places, descend-unless, drop-get, reverse-more}
 
 -- the first of some places is the directory shown
@@ -60,7 +61,7 @@ module _ (l : Layers) (s : List Place) (n : Name) (few : length (trees l) ≤ 17
   pub step-directory : 0 < length reached → ShowsDirectory l (n ∷ p) reached
   step-directory h =
       let t : (a : Attributes) × (shows 0 (map layer_of (trees l)) (n ∷ p) ≡ Some (Folder (top_of reached).layer (top_of reached).key a)) = step-top (trees l) s p n few is reached exact h in
-      record { attributes = t.0; shown = t.1; places = reached-is (trees l) s p n few is reached exact }
+      record { attributes = t.0; shown = folder-filled l (n ∷ p) (top_of reached).layer (top_of reached).key t.0 t.1; places = reached-is (trees l) s p n few is reached exact }
 
   -- an inode where no directory is reached
   reached-none : (o : Option Place) → length reached ≡ 0 → (length (descend (trees l) s n) ≤ 17 → reached ≡ [] → o ≡ first (trees l) s n) → o ≡ first (trees l) s n
@@ -69,10 +70,10 @@ module _ (l : Layers) (s : List Place) (n : Name) (few : length (trees l) ≤ 17
   pub step-inode : (d : Place) (o : Option Place) → o ≡ Some d → length reached ≡ 0 → (length (descend (trees l) s n) ≤ 17 → reached ≡ [] → o ≡ first (trees l) s n) → ShowsInode l (n ∷ p) d
   step-inode d o is_d h e =
       let t : (i : Option Inode) × (shows 0 (map layer_of (trees l)) (n ∷ p) ≡ Some (Contents d.layer d.key i)) = step-first (trees l) s p n few is reached exact d h (sym (reached-none o h e) ∙ is_d) in
-      record { inode = t.0; shown = t.1 }
+      record { inode = fill_at d.layer (lowers_of l) t.0; shown = inode-filled l (n ∷ p) d.layer d.key t.0 t.1 }
 
   pub step-none : (o : Option Place) → o ≡ None → length reached ≡ 0 → (length (descend (trees l) s n) ≤ 17 → reached ≡ [] → o ≡ first (trees l) s n) → ShowsNothing l (n ∷ p)
-  step-none o none h e = record { shown = step-nothing (trees l) s p n few is reached exact (sym (reached-none o h e) ∙ none) }
+  step-none o none h e = record { shown = nothing-filled l (n ∷ p) (step-nothing (trees l) s p n few is reached exact (sym (reached-none o h e) ∙ none)) }
 
 -- what is shown is the directory at its place
 pub shown-folder : (x : Option Shown) (d : Place) → is_directory x ≡ true → place_of x ≡ Some d → (a : Attributes) × (x ≡ Some (Folder d.layer d.key a))
@@ -190,7 +191,7 @@ topmost-shown l s n few p is o e b =
     let next : (length (descend (trees l) s n) ≤ 17) × (descend (trees l) s n ≡ places_from 0 (trees l) (n ∷ p)) = walk-step 0 (trees l) s p n few is in
     topmost-by l (n ∷ p) o
     (b ∙ ap (λ z. not (nat_eq (length z) 0)) next.1 ∙ directory-top (places_from 0 (trees l) (n ∷ p)) (shows 0 (layers_of l) (n ∷ p)) (top-shown 0 (layers_of l) (n ∷ p)))
-    (e ∙ ap (λ z. first (trees l) z n) is ∙ first-places 0 (trees l) (trees l) refl p n)
+    (e ∙ ap (λ z. first (trees l) z n) is ∙ first-places 0 (trees l) (trees l) refl p n ∙ sym (same-place l (n ∷ p)))
 
 -- the places below the upper are those that are reached in the lower layers
 pub without-is : (t : Tree) (us : List Tree) (s : List Place) (p : Path) → s ≡ places_at 0 (map layer_of (t ∷ us)) p → without_upper s ≡ unless_cut (cuts (layer_of t) p) (places_at 1 (map layer_of us) (below (layer_of t) p))
@@ -234,7 +235,9 @@ pub nothing-fault : (l : Layers) (p : Path) → ShowsNothing l p → fault (show
 nothing-fault l p h = ap fault h.shown
 
 pub inode-fault : (l : Layers) (p : Path) (d : Place) → ShowsInode l p d → fault (shows 0 (layers_of l) p) ≡ Some (inode_fault (option_and_then inode_of (node_in (trees l) d)))
-inode-fault l p d h = ap fault h.shown ∙ ap (λ i. Some (inode_fault i)) (sym (inode-shown 0 (trees l) (trees l) refl p d.layer d.key h.inode h.shown))
+inode-fault l p d h =
+    let r : IsInodeOf (lowers_of l) (shows 0 (map layer_of (trees l)) p) d.layer d.key h.inode = raw-inode l p d.layer d.key h.inode h.shown in
+    ap fault h.shown ∙ ap Some (same-fault (lowers_of l) d.layer r.raw h.inode r.same ∙ ap inode_fault (sym (inode-shown 0 (trees l) (trees l) refl p d.layer d.key r.raw r.is)))
 
 -- why a name leads to no directory
 pub step-fault : (l : Layers) (s : List Place) (n : Name) → length (trees l) ≤ 17 → (reached : List Place) → (length (descend (trees l) s n) ≤ 17 → reached ≡ descend (trees l) s n) → (p : Path) → s ≡ places_at 0 (layers_of l) p → (o : Option Place) → length reached ≡ 0 → (length (descend (trees l) s n) ≤ 17 → reached ≡ [] → o ≡ first (trees l) s n) → fault (shows 0 (layers_of l) (n ∷ p)) ≡ Some (place_fault (trees l) o)

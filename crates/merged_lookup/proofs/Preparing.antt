@@ -1,13 +1,16 @@
 -- What is shown at a place of a lower layer is what that layer has under its key.
-use Rattle.std.proofs.Common.{◌≡◌, ℕ, zero, suc, List, [], ◌∷◌, Option, Some, refl, sym, ap, ◌∙◌, map}
-use Rattle.std.specs.Option.{option_and_then}
+use Rattle.std.proofs.Common.{◌≡◌, ℕ, zero, suc, ◌<◌, arith, List, [], ◌∷◌, Option, Some, refl, sym, ap, ◌∙◌, map}
+use Rattle.std.specs.Option.{option_and_then, option_map}
 use Rattle.ov_base.specs.declared.bytes.Content.{Content}
 use Rattle.ov_base.specs.declared.bytes.Content.TheVariants as content
-use Rattle.plain_model.specs.Layers.{Path, Inode, Contents, shows}
-use Rattle.layer_tree.specs.Tree.{Tree, layer_of}
+use Rattle.plain_model.specs.Layers.{Path, Inode, Layer, Shown, Contents, shows}
+use Rattle.layer_tree.specs.Tree.{Tree, layer_of, inode_of}
+use Rattle.layer_tree.specs.declared.node.Inode as stored
+use Rattle.layer_tree.specs.declared.node.Node.TheVariants as node
 use Rattle.merged_lookup.specs.declared.layers.Layers.{Layers}
 use Rattle.merged_lookup.specs.Lower.{lower_inode, file_bytes, lower_bytes}
-use Rattle.merged_lookup.specs.Merged.{trees, layers_of, lowers_of}
+use Rattle.merged_lookup.specs.Merged.{trees, fill_at, layers_of, lowers_of}
+use Rattle.merged_lookup.proofs.Filled.{raw_shown, IsInodeOf, raw-inode}
 use Rattle.merged_lookup.proofs.Looking.{inode_in, inode-shown}
 
 -- the inode of a lower layer is the one at its place
@@ -18,12 +21,23 @@ lower-in u (t ∷ ts) (suc j) k = lower-in t ts j k
 
 -- and the one that is shown
 pub lower-shown : (l : Layers) (p : Path) (j k : ℕ) (x : Option Inode) → shows 0 (layers_of l) p ≡ Some (Contents (suc j) k x) → lower_inode (lowers_of l) (suc j) k ≡ x
-lower-shown l p j k x h = lower-in l.upper l.lowers.items j k ∙ inode-shown 0 (trees l) (trees l) refl p (suc j) k x h
+lower-shown l p j k x h =
+    let r : IsInodeOf (lowers_of l) (raw_shown l p) (suc j) k x = raw-inode l p (suc j) k x h in
+    lower-in l.upper l.lowers.items j k ∙ inode-shown 0 (trees l) (trees l) refl p (suc j) k r.raw r.is ∙ sym r.same
 
 -- a file with these bytes
 bytes-file : (c : Content) (bytes : List ℕ) → file_bytes c ≡ Some bytes → content.File bytes ≡ c
 bytes-file (content.File b) bytes h = cc
 bytes-file (content.SymbolicLink t) bytes h = cc
+
+-- what a lower inode holds that is shown
+pub content-shown : (Ls : List Layer) (j k : ℕ) (y : Option Shown) (z : stored.Inode) (i : Inode) → 0 < j → y ≡ Some (Contents j k (Some i)) → y ≡ Some (Contents j k (fill_at j Ls (inode_of (node.Inode z)))) → z.content ≡ i.content
+content-shown Ls zero k y z i lower h e = absurd (omega (arith, lower))
+content-shown Ls (suc j) k y z i lower h e =
+    let two : Some (Contents (suc j) k (inode_of (node.Inode z))) ≡ Some (Contents (suc j) k (Some i)) = sym e ∙ h in
+    let one : inode_of (node.Inode z) ≡ Some i = cc in
+    let both : Some z.content ≡ Some i.content = ap (option_map (λ (v : Inode). v.content)) one in
+    cc
 
 -- the bytes of a lower file are what is shown there
 pub bytes-shown : (l : Layers) (p : Path) (j k : ℕ) (bytes : List ℕ) (i : Inode) → lower_bytes (lowers_of l) (record { layer = j; key = k }) ≡ Some bytes →

@@ -12,6 +12,7 @@ use Rattle.merged_lookup.specs.Merged.{trees, layers_of, top_of, fault, way_faul
 use Rattle.merged_lookup.specs.Descent.{places_from, descend, first}
 use Rattle.merged_lookup.specs.Locating.{place_of}
 use Rattle.merged_lookup.proofs.Descending.{top-shown, first-places, shown-inode, shown-none, descend-places, reverse-more}
+use Rattle.merged_lookup.proofs.Filled.{same-place}
 use Rattle.merged_lookup.proofs.Looking.{top-of, no-top, way-next, fault-at, nothing-fault, inode-fault}
 
 some-length : (s : List Place) → s ≢ [] → 0 < length s
@@ -37,7 +38,7 @@ reached-way l (n ∷ p) h = way-next (layers_of l) p n None (reached-way l p (pa
 -- What stands after as many names as lead to directories: one name more leads to none, so the topmost object there is an inode.
 module _ (l : Layers) (names : List Name) (i : ℕ) (n : Name) (within : i < length names) (is : n ≡ get_or names i n) (reached : places_from 0 (trees l) (reverse (take i names)) ≢ []) (none : places_from 0 (trees l) (reverse (take (i + 1) names)) ≡ []) (s : List Place) (here : s ≡ places_from 0 (trees l) (reverse (take i names))) where
   first-is : first (trees l) s n ≡ place_of (shows 0 (layers_of l) (n ∷ reverse (take i names)))
-  first-is = ap (λ z. first (trees l) z n) here ∙ first-places 0 (trees l) (trees l) refl (reverse (take i names)) n
+  first-is = ap (λ z. first (trees l) z n) here ∙ first-places 0 (trees l) (trees l) refl (reverse (take i names)) n ∙ sym (same-place l (n ∷ reverse (take i names)))
 
   no-directory : is_directory (shows 0 (layers_of l) (n ∷ reverse (take i names))) ≡ false
   no-directory =

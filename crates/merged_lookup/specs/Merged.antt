@@ -1,10 +1,10 @@
 -- What look-up over the layers of a mount answers: the directories that a path reaches, what a path shows, and why a walk is refused
 -- (overlayfs.rst, "Directories" and "Multiple lower layers"; POSIX.1-2017, General Concepts, Pathname Resolution).
-use Rattle.std.specs.Prelude.{◌≡◌, ℕ, suc, Bool, true, false, List, [], ◌∷◌, Option, None, Some, map, slice_get}
+use Rattle.std.specs.Prelude.{◌≡◌, ℕ, zero, suc, Bool, true, false, List, [], ◌∷◌, Option, None, Some, map, option_map, slice_get}
 use Rattle.std.specs.Option.{option_and_then}
 use Rattle.slab.specs.Slab.{get}
 use Rattle.ov_base.specs.declared.attributes.Attributes.{Attributes}
-use Rattle.plain_model.specs.Layers.{Path, Object, Directory, Inode, Layer, held, below, cuts, Folder, Contents, shows}
+use Rattle.plain_model.specs.Layers.{Path, Object, Directory, Inode, Layer, fill, filled, held, below, cuts, Folder, Contents, shows}
 pub use Rattle.mount_laws.specs.Looks.{inode_fault, fault, or_else, way_fault, parents_fault, absent, walk_fault}
 use Rattle.ov_base.specs.declared.errno.Errno.{Errno}
 use Rattle.ov_base.specs.declared.errno.Errno.TheVariants.{ENOENT}
@@ -31,9 +31,18 @@ node_in ts d = option_and_then (λ t. get t d.key) (slice_get ts d.layer)
 abbrev pub lowers_of : Layers → List Layer
 lowers_of l = map layer_of l.lowers.items
 
+-- the upper with the bytes that its marked files show
+abbrev pub upper_of : Layers → Layer
+upper_of l = filled (layer_of l.upper) (lowers_of l)
+
 -- the layers of a mount by what they hold at each path, the upper first
 abbrev pub layers_of : Layers → List Layer
-layers_of l = layer_of l.upper ∷ lowers_of l
+layers_of l = upper_of l ∷ lowers_of l
+
+-- an inode of the layer of this number, as it shows
+abbrev pub fill_at : ℕ → List Layer → Option Inode → Option Inode
+fill_at zero lowers o = option_map (fill lowers) o
+fill_at (suc j) lowers o = o
 
 -- the places with that of layer i at their top, where the object held there is a directory
 abbrev pub level : ℕ → Option Object → List Place → List Place

@@ -73,7 +73,7 @@ impl Model for Layers {
 }
 
 impl Layers {
-    ghost use Rattle.merged_lookup.specs.Merged.{trees, node_in, layers_of, lowers_of, places_at, IsStackOf, IsAnswer, IsFound, IsTopmost, IsParentOf, parent, parents_fault, walk_fault, way_fault, inode_fault, place_fault, ShowsInode};
+    ghost use Rattle.merged_lookup.specs.Merged.{trees, node_in, fill_at, layers_of, lowers_of, places_at, IsStackOf, IsAnswer, IsFound, IsTopmost, IsParentOf, parent, parents_fault, walk_fault, way_fault, inode_fault, place_fault, ShowsInode};
     ghost use Rattle.merged_lookup.specs.Descent.{first, places_from};
     ghost use Rattle.merged_lookup.specs.Changing.{LendsUpper};
     ghost use Rattle.merged_lookup.specs.Trails.{IsTrail, IsUppers};
@@ -188,7 +188,7 @@ impl Layers {
     /// The file or symbolic link that is shown at a place.
     pub fn inode_at(&self, place: Place) -> &Inode
         requires { (p : Path) × ShowsInode self.now p place }
-        ensures { (p : Path) → ShowsInode self.now p place → shows 0 (layers_of self.now) p ≡ Some (held.Contents place.layer place.key (inode_of (Node.Inode result.now))) }
+        ensures { (p : Path) → ShowsInode self.now p place → shows 0 (layers_of self.now) p ≡ Some (held.Contents place.layer place.key (fill_at place.layer (lowers_of self.now) (inode_of (Node.Inode result.now)))) }
     {
         let Some(layer) = self.layer(place.layer) else {
             unreachable!()

@@ -1,5 +1,5 @@
 // Bytes that wait to be placed, and what a file or symbolic link holds.
-ghost use Rattle.std.specs.Prelude.{◌≡◌, Some, IfOk, IfSome};
+ghost use Rattle.std.specs.Prelude.{◌≡◌, ◌<◌, Some, IfOk, IfSome};
 ghost use Rattle.plain_model.specs.Layers.{Path, Inode, Contents, shows};
 ghost use Rattle.merged_lookup.specs.Merged.{layers_of, lowers_of, ShowsInode};
 ghost use Rattle.merged_lookup.specs.Lower.{lower_bytes};
@@ -36,7 +36,8 @@ impl Layers {
     /// What the file or symbolic link shown at a place holds: the bytes that were offered for this
     /// place, which are moved, or else a clone.
     pub fn content_of(&mut self, place: Place) -> Result<Content, AllocError>
-        requires { (p : Path) × ShowsInode self.old p place }
+        requires shown { (p : Path) × ShowsInode self.old p place }
+        requires lower { 0 < place.layer }
         ensures same { self.new ≡ self.old }
         ensures content { IfOk result (λ c. (p : Path) (i : Inode) →
             shows 0 (layers_of self.old) p ≡ Some (Contents place.layer place.key (Some i)) →

@@ -19,7 +19,7 @@ use Rattle.open_handles.specs.Listings.{Closes, file_in}
 use Rattle.mount_calls.specs.declared.clients.Clients.{Clients}
 use Rattle.mount_calls.specs.declared.mount.Mount.{Mount}
 use Rattle.mount_calls.specs.Attaching.{opened_by, file_by, ChangesClient}
-use Rattle.mount_calls.specs.Files.{is_leaf, AreOne, HasFile, upper_of}
+use Rattle.mount_calls.specs.Files.{is_leaf, AreOne, HasFile, key_in_upper}
 use Rattle.mount_calls.specs.Living.{StaysHeld, KeepsPaths, FreesClosed}
 use Rattle.mount_calls.specs.States.{IsOpenAs, AreTables, IsStateOf, Serves}
 use Rattle.mount_calls.proofs.Carrying.{tables-on}
@@ -120,19 +120,19 @@ module _ (m : Mount) (s : State) (st : IsStateOf m s) (c d : ℕ) where
       none = handle-none m s st c d shut
 
   -- a file of the upper that is open has an inode
-  inode-there : (k : ℕ) → upper_of (file_by m.clients c d) ≡ Some k → is_some ((the_upper m).inodes k) ≡ true
+  inode-there : (k : ℕ) → key_in_upper (file_by m.clients c d) ≡ Some k → is_some ((the_upper m).inodes k) ≡ true
   inode-there k e = grind arith
 
   -- an open one is closed
   module _ (new : Clients) (led : handles.Handle) (ch : ChangesClient m.clients new c (λ x y. Closes x y d (Ok led))) (files : (k : ℕ) → HasFile new k ↔ 0 < file_holders new.files k)
-      (l : Layers) (closed : Option ℕ) (is_closed : closed ≡ upper_of (file_in (Some led)))
+      (l : Layers) (closed : Option ℕ) (is_closed : closed ≡ key_in_upper (file_in (Some led)))
       (leaves : LeavesOpen new m.layers l closed) where
     -- what the descriptor led to
     opened : opened_by m.clients c d ≡ Some led
     opened = rw ch.was ch.changes.was_open
 
-    is : closed ≡ upper_of (file_by m.clients c d)
-    is = is_closed ∙ sym (ap (λ o. upper_of (file_in o)) opened)
+    is : closed ≡ key_in_upper (file_by m.clients c d)
+    is = is_closed ∙ sym (ap (λ o. key_in_upper (file_in o)) opened)
 
     abbrev step : State
     step = after s c (call.Close d)

@@ -83,7 +83,7 @@ module _ (U : Layer) (lowers : List Layer) (t : Tree) (clients : Clients) (ks : 
   come-fewer = fewer-but clients new ks (ks ++ free_table n ∷ []) n h.others (handles-last-other ks n) opens-none
 
 -- a mount without clients stands for the opening state of the merge
-pub begins : (m : Mount) → ((n : ℕ) → get nat_cmp m.clients.attached n ≡ None) → m.clients.next ≡ 0 → (t : Tree) → AreLayers (layers_of m.layers) → IsMerge (layer_of m.layers.upper) (lowers_of m.layers) t → IsStateOf m (opening t (record { redirects = m.redirects; read_only = false }))
+pub begins : (m : Mount) → ((n : ℕ) → get nat_cmp m.clients.attached n ≡ None) → m.clients.next ≡ 0 → (t : Tree) → AreLayers (layers_of m.layers) → IsMerge (layer_of m.layers.upper) (lowers_of m.layers) t → IsStateOf m (opening t (record { redirects = m.redirects; metacopy = false; read_only = false }))
 begins m none next t a merge = record {
   layers = law_of_beginning (layer_of m.layers.upper) (lowers_of m.layers) t m.redirects a merge;
   arrived = next;

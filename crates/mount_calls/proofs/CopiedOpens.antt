@@ -214,11 +214,11 @@ module _ (m : Mount) (s : State) (st : IsStateOf m s) (c : ℕ) (clients : Clien
           record { layers = x.layers; shows = x.shows; kept = x.kept; writable = x.writable }
 
   -- the upper shows it
-  shown-now : shows 0 (layers_of new) p ≡ Some (Contents 0 key (Some (record { content = there.inode.content; attributes = a; links = 1 })))
+  shown-now : shows 0 (layers_of new) p ≡ Some (Contents 0 key (Some (record { content = there.inode.content; attributes = a; links = 1; mark = None })))
   shown-now =
       ap (λ o. over 0 V.inodes o (unless (cuts V p) (shows 1 (lowers_of new) (below V p)))) leaf.held_there ∙
       ap (λ i. Some (Contents 0 leaf.number i)) leaf.inode ∙
-      ap (λ k. Some (Contents 0 k (Some (record { content = there.inode.content; attributes = a; links = 1 })))) copy.1
+      ap (λ k. Some (Contents 0 k (Some (record { content = there.inode.content; attributes = a; links = 1; mark = None })))) copy.1
 
   module _ (d : ℕ) (last : Clients) (ch : OpensFile clients last c d (file_at (record { layer = 0; key = key }) f) (Ok tt)) where
     abbrev asked : Call

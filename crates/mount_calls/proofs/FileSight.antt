@@ -16,7 +16,7 @@ pub record SeesOf (U : Layer) (lowers : List Layer) (t : Tree) (source : FileSou
   pub bytes : List ℕ
   pub attributes : Attributes
   pub links : ℕ
-  pub inode : source_inode U lowers source ≡ Some (record { content = content.File bytes; attributes = attributes; links = links })
+  pub inode : source_inode U lowers source ≡ Some (record { content = content.File bytes; attributes = attributes; links = links; mark = mark })
   pub seen : bytes_seen h.view (t h.node) ≡ bytes
   pub status : stat_seen h.view (t h.node) ≡ stat_by kind.File attributes (length bytes) (capped links)
   pub folder : is_folder (t h.node) ≡ false

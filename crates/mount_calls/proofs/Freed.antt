@@ -73,7 +73,7 @@ moves-then clients a b c redirects p q directory released moves bare steps mount
 
 -- an inode as a layer has it
 abbrev inode_as : StoredInode → Inode
-inode_as x = record { content = x.content; attributes = x.attributes; links = x.links }
+inode_as x = record { content = x.content; attributes = x.attributes; links = x.links; mark = None }
 
 -- an inode without links has no name, and nothing stands in it
 pub unlinked : (t : LayerTree) (k : ℕ) (x : StoredInode) → IsTree t → ((key : ℕ) (i : Inode) → inode_at t key ≡ Some i → i.links ≡ 0 → (dir : ℕ) (name : List ℕ) → child t dir name ≢ Some key) → get t k ≡ Some (node.Inode x) → x.links ≡ 0 → IsNameless t k × ((i : Inode) → inode_at t k ≡ Some i → i.links ≡ 0)

@@ -30,7 +30,7 @@ use Rattle.mount_calls.proofs.Closings.{closes-handle}
 -- a path that leads to a live file names it
 pub live-named : (U : Layer) (t : Tree) (d : NodeId) (k : ℕ) (q : Path) → IsLive U t d k → node_at t q ≡ Some d → NamesFile U q k
 live-named U t d k q live at = record {
-  inode = record { content = content.File live.bytes; attributes = live.attributes; links = live.links };
+  inode = record { content = content.File live.bytes; attributes = live.attributes; links = live.links; mark = live.mark };
   bytes = live.bytes;
   named = (live.paths q).0 at;
   stored = live.inode;

@@ -218,7 +218,7 @@ module _ (m : Mount) (s : State) (st : IsStateOf m s) (c d : ℕ) where
         -- the machine's begins there too
         begin : start ≡ write_start s h
         begin =
-            let inode : source_inode (the_upper m) (the_lowers m) f.source ≡ Some (record { content = content.File w.live.bytes; attributes = w.live.attributes; links = w.live.links }) = ap (source_inode (the_upper m) (the_lowers m)) w.source ∙ w.live.inode in
+            let inode : source_inode (the_upper m) (the_lowers m) f.source ≡ Some (record { content = content.File w.live.bytes; attributes = w.live.attributes; links = w.live.links; mark = w.live.mark }) = ap (source_inode (the_upper m) (the_lowers m)) w.source ∙ w.live.inode in
             begins s.tree h w.file.append w.file.place (ap (λ o. length (bytes_of_node o)) w.live.node ∙ sym (ap length (reads _ inode)))
 
         -- so the place is refused alike

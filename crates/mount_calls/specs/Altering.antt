@@ -12,7 +12,7 @@ use Rattle.layer_tree.specs.Tree.{layer_of}
 use Rattle.merged_lookup.specs.declared.found.Topmost.{Topmost}
 use Rattle.merged_lookup.specs.declared.layers.Layers.{Layers}
 use Rattle.merged_lookup.specs.declared.stack.Stack.{Stack}
-use Rattle.merged_lookup.specs.Merged.{layers_of, lowers_of, parent, parents_fault, IsStackOf, IsTopmost}
+use Rattle.merged_lookup.specs.Merged.{upper_of, layers_of, lowers_of, parent, parents_fault, IsStackOf, IsTopmost}
 use Rattle.mount_laws.specs.Looks.{shows_link, IsMountOf}
 use Rattle.mount_laws.specs.Attributes.{shown_attributes, chown_fault}
 use Rattle.mount_laws.specs.Altered.{AltersState}
@@ -34,7 +34,7 @@ pub record ShowsAttributes (Ls : List Layer) (p : Path) (a : Attributes) : Type 
 
 -- each state that the mount stood for is altered as the call alters it, and the mount stands for the altered one
 abbrev pub AltersStates : Layers → Layers → Path → Call → Type 0
-AltersStates old new p k = (s : State) → IsMountOf (layer_of old.upper) (lowers_of old) s → (c : ℕ) → AltersState (layer_of new.upper) (lowers_of new) s c p k
+AltersStates old new p k = (s : State) → IsMountOf (upper_of old) (lowers_of old) s → s.options.metacopy ≡ false → (c : ℕ) → AltersState (upper_of new) (lowers_of new) s c p k
 
 -- A call that changes attributes at a path is refused with its fault, where there is one, and
 -- changes nothing then; else each state is altered as the call alters it, and the key is that under

@@ -5,7 +5,7 @@ use Rattle.ov_base.specs.declared.attributes.Attributes.{Attributes}
 use Rattle.ov_base.specs.declared.bytes.Content.TheVariants as content
 use Rattle.ov_base.specs.declared.call.OpenFlags.{OpenFlags}
 use Rattle.ov_base.specs.declared.node_id.NodeId.{NodeId}
-use Rattle.plain_model.specs.Layers.{Inode, Layer}
+use Rattle.plain_model.specs.Layers.{Path, Inode, Layer}
 use Rattle.plain_model.specs.Tree.{Node, Leaf, Tree}
 use Rattle.plain_model.specs.Machine.{Live, Frozen, Handle, Table, handle_of}
 use Rattle.merged_lookup.specs.declared.stack.Place.{Place}
@@ -39,7 +39,8 @@ pub record IsFrozen (lowers : List Layer) (t : Tree) (layer k : ℕ) (h : Handle
   pub bytes : List ℕ
   pub attributes : Attributes
   pub links : ℕ
-  pub inode : lower_inode lowers layer k ≡ Some (record { content = content.File bytes; attributes = attributes; links = links })
+  pub mark : Option Path
+  pub inode : lower_inode lowers layer k ≡ Some (record { content = content.File bytes; attributes = attributes; links = links; mark = mark })
   pub view : h.view ≡ Frozen bytes attributes links
   pub file : is_leaf (t h.node) ≡ true
   pub reads_alone : h.writes ≡ false
@@ -98,9 +99,9 @@ pub record HasFile (clients : Clients) (k : ℕ) : Type 0 where
   pub key : file.source ≡ Upper k
 
 -- the key of an open file that is the upper's
-abbrev pub upper_of : Option OpenFile → Option ℕ
-upper_of None = None
-upper_of (Some f) = elim f.source [ Upper k ↦ Some k | Lower layer k ↦ None ]
+abbrev pub key_in_upper : Option OpenFile → Option ℕ
+key_in_upper None = None
+key_in_upper (Some f) = elim f.source [ Upper k ↦ Some k | Lower layer k ↦ None ]
 
 -- there is room for a file that a client opens under its lowest free descriptor
 pub record HasFileRoom (clients : Clients) (n d : ℕ) : Type 0 where

@@ -17,7 +17,7 @@ use Rattle.plain_model.specs.Refusals.{refusal}
 use Rattle.layer_tree.specs.Tree.{layer_of}
 use Rattle.merged_lookup.specs.declared.layers.Layers.{Layers}
 use Rattle.merged_lookup.specs.Lower.{lower_bytes}
-use Rattle.merged_lookup.specs.Merged.{layers_of, lowers_of, parent, parents_fault}
+use Rattle.merged_lookup.specs.Merged.{upper_of, layers_of, lowers_of, parent, parents_fault}
 use Rattle.mount_laws.specs.Renaming.{is_one}
 use Rattle.copy_up.specs.declared.needs.Need.{Need}
 use Rattle.copy_up.specs.declared.needs.Need.TheVariants as need
@@ -186,5 +186,5 @@ CanBeHad m k (lacks.File d) =
 pub record TellsLack (m : Mount) (c : ℕ) (k : Call) (r : Result Lack Errno) : Type 0 where
   pub refused : IfErr r (λ e. (s : State) → IsStateOf m s → refusal s c k ≡ Some e)
   pub allowed : OnOk r ((s : State) → IsStateOf m s → refusal s c k ≡ None)
-  pub lack : IfOk r (λ l. l ≡ lack_of (layer_of m.layers.upper) (lowers_of m.layers) k)
+  pub lack : IfOk r (λ l. l ≡ lack_of (upper_of m.layers) (lowers_of m.layers) k)
   pub can : IfOk r (CanBeHad m k)

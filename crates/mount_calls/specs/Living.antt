@@ -1,6 +1,6 @@
 -- What changes of the layers leave of open files: those of the upper stay live (POSIX.1-2017, unlink() and close(): a file without a name
 -- is there until its last descriptor is closed).
-use Rattle.std.specs.Prelude.{◌≡◌, ℕ, ◌<◌, true, Some, List}
+use Rattle.std.specs.Prelude.{◌≡◌, ℕ, ◌<◌, false, true, Some, List}
 use Rattle.ov_base.specs.declared.bytes.Content.TheVariants as content
 use Rattle.ov_base.specs.declared.call.Call.{Call}
 use Rattle.ov_base.specs.declared.node_id.NodeId.{NodeId}
@@ -10,7 +10,7 @@ use Rattle.plain_model.specs.Machine.{State}
 use Rattle.plain_model.specs.Changes.{is_held, after}
 use Rattle.layer_tree.specs.Tree.{layer_of, SameObjects}
 use Rattle.merged_lookup.specs.declared.layers.Layers.{Layers}
-use Rattle.merged_lookup.specs.Merged.{lowers_of}
+use Rattle.merged_lookup.specs.Merged.{upper_of, lowers_of}
 use Rattle.mount_laws.specs.Looks.{IsMountOf}
 use Rattle.mount_laws.specs.OpenFiles.{IsLive, DropsInode, WritesInode}
 use Rattle.copy_up.specs.Showing.{StaysMount, StaysSound}
@@ -19,36 +19,36 @@ use Rattle.mount_calls.specs.declared.clients.Clients.{Clients}
 
 -- a live file stays so in each tree
 abbrev pub StaysLive : Layers → Layers → Type 0
-StaysLive old new = (t : Tree) (d : NodeId) (k : ℕ) → IsLive (layer_of old.upper) t d k → IsLive (layer_of new.upper) t d k
+StaysLive old new = (t : Tree) (d : NodeId) (k : ℕ) → IsLive (upper_of old) t d k → IsLive (upper_of new) t d k
 
 -- and through a call of the machine
 abbrev pub KeepsLive : Layers → Layers → Call → Type 0
 KeepsLive old new call =
-    (s : State) → IsMountOf (layer_of old.upper) (lowers_of old) s → (c : ℕ) (d : NodeId) (k : ℕ) →
-    IsLive (layer_of old.upper) s.tree d k → IsLive (layer_of new.upper) (after s c call).tree d k
+    (s : State) → IsMountOf (upper_of old) (lowers_of old) s → s.options.metacopy ≡ false → (c : ℕ) (d : NodeId) (k : ℕ) →
+    IsLive (upper_of old) s.tree d k → IsLive (upper_of new) (after s c call).tree d k
 
 -- a live file that a handle holds stays so in each tree
 abbrev pub StaysHeld : Clients → Layers → Layers → Type 0
 StaysHeld clients old new =
     (t : Tree) (d : NodeId) (k : ℕ) → 0 < file_holders clients.files k →
-    IsLive (layer_of old.upper) t d k → IsLive (layer_of new.upper) t d k
+    IsLive (upper_of old) t d k → IsLive (upper_of new) t d k
 
 -- and through a call that a client makes in this state
 abbrev pub KeepsHeldFrom : State → ℕ → Clients → Layers → Layers → Call → Type 0
 KeepsHeldFrom s c clients old new call =
     (d : NodeId) (k : ℕ) → 0 < file_holders clients.files k → is_held s.tables d ≡ true →
-    IsLive (layer_of old.upper) s.tree d k → IsLive (layer_of new.upper) (after s c call).tree d k
+    IsLive (upper_of old) s.tree d k → IsLive (upper_of new) (after s c call).tree d k
 
 -- and through a call of the machine
 abbrev pub KeepsHeld : Clients → Layers → Layers → Call → Type 0
 KeepsHeld clients old new call =
-    (s : State) → IsMountOf (layer_of old.upper) (lowers_of old) s → (c : ℕ) → KeepsHeldFrom s c clients old new call
+    (s : State) → IsMountOf (upper_of old) (lowers_of old) s → (c : ℕ) → KeepsHeldFrom s c clients old new call
 
 -- each live file to which a path still leads after the call is live then, by the same key
 abbrev pub KeepsNamed : State → ℕ → Layers → Layers → Call → Type 0
 KeepsNamed s c old new call =
-    (d : NodeId) (k : ℕ) (q : Path) → IsLive (layer_of old.upper) s.tree d k → node_at (after s c call).tree q ≡ Some d →
-    IsLive (layer_of new.upper) (after s c call).tree d k
+    (d : NodeId) (k : ℕ) (q : Path) → IsLive (upper_of old) s.tree d k → node_at (after s c call).tree q ≡ Some d →
+    IsLive (upper_of new) (after s c call).tree d k
 
 -- a path names a file of the upper, the one of this key
 pub record NamesFile (U : Layer) (p : Path) (k : ℕ) : Type 0 where
@@ -60,27 +60,27 @@ pub record NamesFile (U : Layer) (p : Path) (k : ℕ) : Type 0 where
 
 -- each path that names a file of the upper names the same one still
 abbrev pub KeepsFiles : Layers → Layers → Type 0
-KeepsFiles old new = (p : Path) (k : ℕ) → NamesFile (layer_of old.upper) p k → NamesFile (layer_of new.upper) p k
+KeepsFiles old new = (p : Path) (k : ℕ) → NamesFile (upper_of old) p k → NamesFile (upper_of new) p k
 
 -- every path holds what it held, and each inode that a path names is as it was
 pub record KeepsPaths (old new : Layers) : Type 0 where
   pub lowers : new.lowers ≡ old.lowers
   pub objects : SameObjects (layer_of old.upper) (layer_of new.upper)
   pub inodes :
-      (x : Path) (k : ℕ) → held (layer_of old.upper) x ≡ Some (Named k) → (layer_of new.upper).inodes k ≡ (layer_of old.upper).inodes k
+      (x : Path) (k : ℕ) → held (upper_of old) x ≡ Some (Named k) → (upper_of new).inodes k ≡ (upper_of old).inodes k
 
 -- The file of this key was closed. Where it has no name and no handle holds it any more, it is gone; else nothing changes.
 pub record FreesClosed (clients : Clients) (old new : Layers) (k : ℕ) : Type 0 where
   pub keeps : KeepsPaths old new
   pub held : 0 < file_holders clients.files k → new ≡ old
-  pub named : (i : Inode) → (layer_of old.upper).inodes k ≡ Some i → 0 < i.links → new ≡ old
+  pub named : (i : Inode) → (upper_of old).inodes k ≡ Some i → 0 < i.links → new ≡ old
   pub freed :
-      file_holders clients.files k ≡ 0 → (i : Inode) → (layer_of old.upper).inodes k ≡ Some i → i.links ≡ 0 →
-      DropsInode (layer_of old.upper) (layer_of new.upper) k
+      file_holders clients.files k ≡ 0 → (i : Inode) → (upper_of old).inodes k ≡ Some i → i.links ≡ 0 →
+      DropsInode (upper_of old) (upper_of new) k
   pub mounts : StaysMount old new
   pub sound : StaysSound old new
 
 -- the upper has these bytes of the inode of this key, and nothing else changes
 pub record SetsFile (old new : Layers) (k : ℕ) (bytes : List ℕ) : Type 0 where
-  pub writes : WritesInode (layer_of old.upper) (layer_of new.upper) k bytes
+  pub writes : WritesInode (upper_of old) (upper_of new) k bytes
   pub lowers : new.lowers ≡ old.lowers

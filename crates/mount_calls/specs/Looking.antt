@@ -9,8 +9,7 @@ use Rattle.plain_model.specs.Layers.{Path}
 use Rattle.merged_lookup.specs.declared.layers.Layers.{Layers}
 use Rattle.merged_lookup.specs.declared.found.Topmost.{Topmost}
 use Rattle.merged_lookup.specs.declared.stack.Stack.{Stack}
-use Rattle.layer_tree.specs.Tree.{layer_of}
-use Rattle.merged_lookup.specs.Merged.{layers_of, lowers_of, parent, parents_fault, IsStackOf, IsTopmost}
+use Rattle.merged_lookup.specs.Merged.{upper_of, layers_of, lowers_of, parent, parents_fault, IsStackOf, IsTopmost}
 use Rattle.mount_laws.specs.Opening.{opening_fault}
 use Rattle.notice_laws.specs.Objects.{IsObject}
 use Rattle.notice_laws.specs.declared.object.Object.TheVariants as object
@@ -70,7 +69,7 @@ AreLooks l k saw = SawEach l (looked_paths k) saw
 
 -- the file of the upper that is shown at p, if one is, stands under this key
 abbrev pub IsKeyAt : Layers → Path → ℕ → Type 0
-IsKeyAt l p key = (k : ℕ) (last : Bool) → IsObject (layer_of l.upper) (lowers_of l) p (object.Upper k last) → key ≡ k
+IsKeyAt l p key = (k : ℕ) (last : Bool) → IsObject (upper_of l) (lowers_of l) p (object.Upper k last) → key ≡ k
 
 -- AN OPEN WAS JUDGED: nothing refuses it, its descriptor is the lowest free one, and this is what it
 -- opens

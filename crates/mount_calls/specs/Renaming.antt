@@ -8,7 +8,7 @@ use Rattle.plain_model.specs.Machine.{State}
 use Rattle.plain_model.specs.Refusals.{refusal}
 use Rattle.layer_tree.specs.Tree.{layer_of}
 use Rattle.merged_lookup.specs.declared.layers.Layers.{Layers}
-use Rattle.merged_lookup.specs.Merged.{layers_of, lowers_of}
+use Rattle.merged_lookup.specs.Merged.{upper_of, layers_of, lowers_of}
 use Rattle.mount_laws.specs.Looks.{IsMountOf}
 use Rattle.mount_laws.specs.Removals.{ShowsNoName}
 use Rattle.mount_laws.specs.Renaming.{is_one}
@@ -34,7 +34,7 @@ pub record RenamesOpen (old new : Clients) (p q : Path) (replaced : Option Attri
 -- rename is refused so in every state with this option whose mount has these layers
 abbrev pub RefusesRenames : Layers → Bool → Path → Path → Errno → Type 0
 RefusesRenames l redirects p q e =
-    (s : State) → IsMountOf (layer_of l.upper) (lowers_of l) s → s.options.redirects ≡ redirects →
+    (s : State) → IsMountOf (upper_of l) (lowers_of l) s → s.options.redirects ≡ redirects →
     (c : ℕ) → refusal s c (call.Rename p q) ≡ Some e
 
 -- What p shows moves to q, in which no name was shown: every state with this option goes on so by rename, and of the upper's files what
@@ -44,10 +44,12 @@ pub record RenamesHeld (clients : Clients) (old new : Layers) (redirects : Bool)
   pub bare : ShowsNoName (layers_of old) q
   pub steps : RenameSteps old new redirects p q
   pub live :
-      (s : State) → IsMountOf (layer_of old.upper) (lowers_of old) s → s.options.redirects ≡ redirects → (c : ℕ) →
+      (s : State) → IsMountOf (upper_of old) (lowers_of old) s → s.options.redirects ≡ redirects →
+      s.options.metacopy ≡ false → (c : ℕ) →
       KeepsHeldFrom s c clients old new (call.Rename p q)
   pub named :
-      (s : State) → IsMountOf (layer_of old.upper) (lowers_of old) s → s.options.redirects ≡ redirects → (c : ℕ) →
+      (s : State) → IsMountOf (upper_of old) (lowers_of old) s → s.options.redirects ≡ redirects →
+      s.options.metacopy ≡ false → (c : ℕ) →
       KeepsNamed s c old new (call.Rename p q)
 
 -- the object moved, or both paths were one object and nothing changed

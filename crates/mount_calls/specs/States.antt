@@ -1,5 +1,5 @@
 -- The state of the plain machine that a mount stands for: the tree that its layers show, and for each client its descriptors, some of them on files.
-use Rattle.std.specs.Prelude.{◌≡◌, ℕ, true, cond, List, [], Option, None, Some, is_some, length, take, drop, nat_eq}
+use Rattle.std.specs.Prelude.{◌≡◌, ℕ, true, false, cond, List, [], Option, None, Some, is_some, length, take, drop, nat_eq}
 use Rattle.std.specs.List.{list_any}
 use Rattle.std.specs.BTreeMap.{get}
 use Rattle.std.specs.Ordering.{nat_cmp}
@@ -14,8 +14,7 @@ use Rattle.plain_model.specs.Tree.{Tree, node_at, is_folder}
 use Rattle.plain_model.specs.Machine.{Handle, Table, State, DESCRIPTORS_MAX, handles_of, handle_of}
 use Rattle.plain_model.specs.Changes.{names_in, after}
 use Rattle.plain_model.specs.Replies.{reply_of}
-use Rattle.layer_tree.specs.Tree.{layer_of}
-use Rattle.merged_lookup.specs.Merged.{layers_of, lowers_of}
+use Rattle.merged_lookup.specs.Merged.{upper_of, layers_of, lowers_of}
 use Rattle.mount_laws.specs.Looks.{walk_fault, IsMountOf, IsHidden, listing_handle, AreShown}
 use Rattle.mount_laws.specs.Removals.{folder_attributes}
 use Rattle.open_handles.specs.declared.handle.Handle as handles
@@ -76,11 +75,12 @@ pub record AreTables (alike : handles.Handle → Handle → Type 0) (clients : C
 
 -- a state of the machine that the mount stands for
 pub record IsStateOf (m : Mount) (s : State) : Type 0 where
-  pub layers : IsMountOf (layer_of m.layers.upper) (lowers_of m.layers) s
-  pub tables : AreTables (IsOpenAs (layer_of m.layers.upper) (lowers_of m.layers) s.tree m.clients.directories) m.clients s.tables
+  pub layers : IsMountOf (upper_of m.layers) (lowers_of m.layers) s
+  pub tables : AreTables (IsOpenAs (upper_of m.layers) (lowers_of m.layers) s.tree m.clients.directories) m.clients s.tables
   pub one : AreOne m.clients s.tables
   pub arrived : m.clients.next ≡ s.arrived
   pub redirects : s.options.redirects ≡ m.redirects
+  pub metacopy : s.options.metacopy ≡ false
 
 -- some state is one that the mount stands for
 abbrev pub HasStateOf : Mount → Type 0

@@ -1,8 +1,7 @@
 // Open files: where the layers have them, and what they hold.
 ghost use Rattle.std.specs.Prelude.{◌≡◌, Some};
 ghost use Rattle.plain_model.specs.Layers.{Inode as HeldInode};
-ghost use Rattle.layer_tree.specs.Tree.{layer_of};
-ghost use Rattle.merged_lookup.specs.Merged.{lowers_of};
+ghost use Rattle.merged_lookup.specs.Merged.{upper_of, lowers_of};
 ghost use Rattle.mount_calls.specs.Files as files;
 ghost use Rattle.mount_calls.specs.Files.{source_inode, bytes_of_inode};
 ghost use Rattle.mount_calls.specs.Status.{stat_of_inode};
@@ -46,7 +45,7 @@ fn place_of(source: FileSource) -> Place
 
 /// The bytes of an open file.
 pub(crate) fn bytes_in(layers: &Layers, source: FileSource) -> &[u8]
-    ensures { (i : HeldInode) → source_inode (layer_of layers.now.upper) (lowers_of layers.now) source ≡ Some i → result.now ≡ bytes_of_inode i }
+    ensures { (i : HeldInode) → source_inode (upper_of layers.now) (lowers_of layers.now) source ≡ Some i → result.now ≡ bytes_of_inode i }
 {
     match layers.node(place_of(source)) {
         Some(
@@ -63,7 +62,7 @@ pub(crate) fn bytes_in(layers: &Layers, source: FileSource) -> &[u8]
 
 /// What fstat(2) shows of an open file.
 pub(crate) fn status_in(layers: &Layers, source: FileSource) -> Result<Stat, Errno>
-    ensures { (i : HeldInode) → source_inode (layer_of layers.now.upper) (lowers_of layers.now) source ≡ Some i → result ≡ stat_of_inode (Some i) }
+    ensures { (i : HeldInode) → source_inode (upper_of layers.now) (lowers_of layers.now) source ≡ Some i → result ≡ stat_of_inode (Some i) }
 {
     inode_status(layers.node(place_of(source)))
 }

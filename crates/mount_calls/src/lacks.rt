@@ -6,7 +6,7 @@ ghost use Rattle.plain_model.specs.Layers.{Path as Names, shows};
 ghost use Rattle.plain_model.specs.Machine.{State};
 ghost use Rattle.plain_model.specs.Refusals.{refusal};
 ghost use Rattle.layer_tree.specs.Tree.{layer_of};
-ghost use Rattle.merged_lookup.specs.Merged.{layers_of, lowers_of, IsFound, IsTopmost, ShowsInode};
+ghost use Rattle.merged_lookup.specs.Merged.{upper_of, layers_of, lowers_of, IsFound, IsTopmost, ShowsInode};
 ghost use Rattle.mount_calls.specs.AttributeCalls.{call_at};
 ghost use Rattle.mount_calls.specs.Lacks as lacks;
 ghost use Rattle.mount_calls.specs.Lacks.{lacking, parent_lack, lack_among, lack_of};
@@ -90,7 +90,7 @@ impl Mount {
         requires looks { AreLooks self.now.layers call.now looks }
         ensures { result ≡ true → (s : State) → IsStateOf self.now s → (c : ℕ) →
             refusal s c call.now ≡ None →
-            lack_of (layer_of self.now.layers.upper) (lowers_of self.now.layers) call.now
+            lack_of (upper_of self.now.layers) (lowers_of self.now.layers) call.now
             ≡ Lacking.Nothing }
     {
         match call {

@@ -1,8 +1,7 @@
 // What a path shows, looked at once for a call and for those who are told of it.
 ghost use Rattle.std.specs.Prelude.{◌≡◌};
 ghost use Rattle.plain_model.specs.Layers.{Path as Names};
-ghost use Rattle.layer_tree.specs.Tree.{layer_of};
-ghost use Rattle.merged_lookup.specs.Merged.{lowers_of};
+ghost use Rattle.merged_lookup.specs.Merged.{upper_of, lowers_of};
 ghost use Rattle.notice_laws.specs.Objects.{IsObject};
 ghost use Rattle.mount_calls.specs.Looking.{IsLook, topmost_of};
 
@@ -44,7 +43,7 @@ impl Mount {
     /// What stands at a path that was looked at, as `object_at` returns it.
     pub fn object_seen(&self, look: &Look) -> Object
         requires { (p : Names) × IsLook self.now.layers p look.now }
-        ensures { (p : Names) → IsLook self.now.layers p look.now → IsObject (layer_of self.now.layers.upper) (lowers_of self.now.layers) p result }
+        ensures { (p : Names) → IsLook self.now.layers p look.now → IsObject (upper_of self.now.layers) (lowers_of self.now.layers) p result }
     {
         match look.topmost() {
             Some(Topmost::Directory(_)) => Object::Directory,

@@ -1,11 +1,11 @@
 // A mount and the clients on it: what each call does, by the plain machine.
 ghost use Rattle.std.specs.Prelude.{◌≡◌, ◌<◌, ◌+◌, ◌^◌, ℕ, false, List, Some, None, Ok, IfOk, IfErr, OnOk, OnErr, IsSome, IsSomeAnd, is_some, MatchResult, option_copied, true};
 ghost use Rattle.plain_model.specs.Layers.{AreLayers};
-ghost use Rattle.layer_tree.specs.Tree.{layer_of, inode_of};
-ghost use Rattle.merged_lookup.specs.Merged.{layers_of, lowers_of};
+ghost use Rattle.layer_tree.specs.Tree.{inode_of};
+ghost use Rattle.merged_lookup.specs.Merged.{upper_of, layers_of, lowers_of};
 ghost use Rattle.notice_laws.specs.Objects.{IsObject};
 ghost use Rattle.mount_calls.specs.States.{AreNamesIn};
-ghost use Rattle.mount_calls.specs.Files.{upper_of};
+ghost use Rattle.mount_calls.specs.Files.{key_in_upper};
 ghost use Rattle.mount_calls.specs.Status.{outcome_result, target_reply};
 ghost use Rattle.std.specs.Option.{option_and_then};
 ghost use Rattle.mount_laws.specs.Leaves.{inode_target};
@@ -68,7 +68,7 @@ impl Mount {
         ensures redirects { IfOk result (λ mount. mount.redirects ≡ redirects) }
         ensures none { IfOk result (λ mount. (n : ℕ) → get nat_cmp mount.clients.attached n ≡ None) }
         ensures first { IfOk result (λ mount. mount.clients.next ≡ 0) }
-        ensures begins { IfOk result (λ mount. (t : Tree) → AreLayers (layers_of layers) → IsMerge (layer_of layers.upper) (lowers_of layers) t → IsStateOf mount (machine.opening t (record { redirects = redirects; read_only = false }))) }
+        ensures begins { IfOk result (λ mount. (t : Tree) → AreLayers (layers_of layers) → IsMerge (upper_of layers) (lowers_of layers) t → IsStateOf mount (machine.opening t (record { redirects = redirects; metacopy = false; read_only = false }))) }
     {
         Ok(Mount {
             layers,
@@ -212,7 +212,7 @@ impl Mount {
     ) -> Result<Result<Object, Errno>, AllocError>
         requires { IsLook self.old.layers path.now look.now }
         ensures makes { MakesEach (Call.Unlink path.now) self.old self.new (outcome_result result) }
-        ensures object { IfOk result (λ outcome. IfOk outcome (IsObject (layer_of self.old.layers.upper) (lowers_of self.old.layers) path.now)) }
+        ensures object { IfOk result (λ outcome. IfOk outcome (IsObject (upper_of self.old.layers) (lowers_of self.old.layers) path.now)) }
         ensures clients { self.new.clients ≡ self.old.clients }
     {
         self.clients.lawful();
@@ -308,7 +308,7 @@ impl Mount {
 
 // The key of an open file that is the upper's.
 pub(crate) fn upper_key(file: Option<OpenFile>) -> Option<usize>
-    ensures { result ≡ upper_of file }
+    ensures { result ≡ key_in_upper file }
 {
     match file?.source {
         FileSource::Upper(key) => Some(key),

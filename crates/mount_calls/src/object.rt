@@ -2,11 +2,11 @@
 ghost use Rattle.std.specs.Prelude.{◌≡◌, ℕ, Bool, List, ◌∷◌, Some, unwrap_or};
 ghost use Rattle.plain_model.specs.Layers as held;
 ghost use Rattle.plain_model.specs.Layers.{Layer, Path as Names, shows};
-ghost use Rattle.layer_tree.specs.Tree.{inode_of, layer_of};
-ghost use Rattle.merged_lookup.specs.Merged.{lowers_of, ShowsInode};
+ghost use Rattle.layer_tree.specs.Tree.{inode_of};
+ghost use Rattle.merged_lookup.specs.Merged.{upper_of, lowers_of, ShowsInode};
 ghost use Rattle.notice_laws.specs.Objects.{IsObject};
 ghost use Rattle.mount_calls.specs.Attaching.{file_by};
-ghost use Rattle.mount_calls.specs.Files.{upper_of};
+ghost use Rattle.mount_calls.specs.Files.{key_in_upper};
 
 use crate::mount::{Mount, upper_key};
 use layer_tree::{Inode, Node};
@@ -17,7 +17,7 @@ use ov_base::{Content, Path};
 impl Mount {
     /// What stands at a path; where a walk to it is refused, nothing that is tracked.
     pub fn object_at(&self, path: &Path) -> Object
-        ensures { IsObject (layer_of self.now.layers.upper) (lowers_of self.now.layers) path.now result }
+        ensures { IsObject (upper_of self.now.layers) (lowers_of self.now.layers) path.now result }
     {
         match self.layers.walk_topmost(path) {
             Ok(Topmost::Directory(_)) => Object::Directory,
@@ -28,7 +28,7 @@ impl Mount {
 
     /// The key of the file of the upper that a client has open under a descriptor, and 0 where it has none. No path is walked for it.
     pub fn key_opened(&self, client: u64, descriptor: u32) -> usize
-        ensures { result ≡ unwrap_or (upper_of (file_by self.now.clients client descriptor)) 0 }
+        ensures { result ≡ unwrap_or (key_in_upper (file_by self.now.clients client descriptor)) 0 }
     {
         upper_key(self.clients.file(client, descriptor)).unwrap_or(0)
     }
@@ -37,7 +37,7 @@ impl Mount {
 // The file or link that is shown at a place.
 pub(crate) fn object_in(layers: &Layers, place: Place) -> Object
     requires { (p : Names) × ShowsInode layers.now p place }
-    ensures { (p : Names) → ShowsInode layers.now p place → IsObject (layer_of layers.now.upper) (lowers_of layers.now) p result }
+    ensures { (p : Names) → ShowsInode layers.now p place → IsObject (upper_of layers.now) (lowers_of layers.now) p result }
 {
     let inode = layers.inode_at(place);
     if place.layer > 0 {

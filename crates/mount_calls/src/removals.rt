@@ -8,7 +8,7 @@ ghost use Rattle.mount_laws.specs.Removals.{unlink_fault, rmdir_fault, ShowsNoNa
 ghost use Rattle.dir_listing.specs.Shown.{TellsNames};
 ghost use Rattle.layer_tree.specs.Tree.{layer_of, SameObjects};
 ghost use Rattle.layer_tree.specs.Nameless.{IsNameless};
-ghost use Rattle.merged_lookup.specs.Merged.{layers_of, lowers_of};
+ghost use Rattle.merged_lookup.specs.Merged.{upper_of, layers_of, lowers_of};
 ghost use Rattle.copy_up.specs.Showing.{ShowsSame, ChangesNoSight, StaysLayers, StaysMount, StaysSound, StaysThin};
 ghost use Rattle.make_remove.specs.Removing.{TakesName};
 ghost use Rattle.plain_model.specs.Layers.{AreLayers, Inode as HeldInode};
@@ -45,11 +45,11 @@ pub(crate) fn unlink_and_free(
     ensures allowed { IfOk result (λ r.
         OnOk r (unlink_fault (layers_of layers.old) path.now ≡ None)) }
     ensures object { IfOk result (λ r.
-        IfOk r (IsObject (layer_of layers.old.upper) (lowers_of layers.old) path.now)) }
+        IfOk r (IsObject (upper_of layers.old) (lowers_of layers.old) path.now)) }
     ensures takes { IfOk result (λ r. OnOk r (TakesName layers.old layers.new path.now)) }
     ensures steps { IfOk result (λ r. OnOk r ((s : State) →
-        IsMountOf (layer_of layers.old.upper) (lowers_of layers.old) s → (c : ℕ) →
-        Removes (layer_of layers.new.upper) (lowers_of layers.new) s c path.now
+        IsMountOf (upper_of layers.old) (lowers_of layers.old) s → (c : ℕ) →
+        Removes (upper_of layers.new) (lowers_of layers.new) s c path.now
         (call.Unlink path.now))) }
     ensures around { BringsNone layers.old layers.new path.now }
     ensures live { IfOk result (λ r.
@@ -80,7 +80,7 @@ pub(crate) fn rmdir_and_free(
         (full : Bool) → TellsNames (layers_of layers.old) path.now full →
         rmdir_fault (layers_of layers.old) path.now full ≡ Some e)) }
     ensures refuses { IfOk result (λ r. IfErr r (λ e.
-        (s : State) → IsMountOf (layer_of layers.old.upper) (lowers_of layers.old) s → (c : ℕ) →
+        (s : State) → IsMountOf (upper_of layers.old) (lowers_of layers.old) s → (c : ℕ) →
         refusal s c (call.Rmdir path.now) ≡ Some e)) }
     ensures unchanged { IfOk result (λ r. OnErr r (layers.new ≡ layers.old)) }
     ensures allowed { IfOk result (λ r.
@@ -88,8 +88,8 @@ pub(crate) fn rmdir_and_free(
     ensures bare { IfOk result (λ r. OnOk r (ShowsNoName (layers_of layers.old) path.now)) }
     ensures takes { IfOk result (λ r. OnOk r (TakesName layers.old layers.new path.now)) }
     ensures steps { IfOk result (λ r. OnOk r ((s : State) →
-        IsMountOf (layer_of layers.old.upper) (lowers_of layers.old) s → (c : ℕ) →
-        Removes (layer_of layers.new.upper) (lowers_of layers.new) s c path.now
+        IsMountOf (upper_of layers.old) (lowers_of layers.old) s → (c : ℕ) →
+        Removes (upper_of layers.new) (lowers_of layers.new) s c path.now
         (call.Rmdir path.now))) }
     ensures around { BringsNone layers.old layers.new path.now }
     ensures live { IfOk result (λ r.
@@ -126,7 +126,7 @@ pub(crate) fn rename_and_free(
         IfErr r (RefusesRenames layers.old redirects old.now new.now)) }
     ensures unchanged { IfOk result (λ r. OnErr r (layers.new ≡ layers.old)) }
     ensures allowed { IfOk result (λ r.
-        OnOk r (rename_fault (layer_of layers.old.upper) (lowers_of layers.old) redirects
+        OnOk r (rename_fault (upper_of layers.old) (lowers_of layers.old) redirects
         old.now new.now false ≡ None)) }
     ensures does { IfOk result (λ r. IfOk r (λ moved.
         MovesOrStays (is_some moved) clients.now layers.old layers.new redirects old.now new.now)) }
@@ -182,8 +182,8 @@ pub(crate) fn free_closed(layers: &mut Layers, clients: &Clients, closed: Option
 
 // Whether an inode of the upper has no name.
 fn is_unlinked(layers: &Layers, key: usize) -> bool
-    ensures unlinked { result ≡ true → IsNameless layers.now.upper key × ((i : HeldInode) → (layer_of layers.now.upper).inodes key ≡ Some i → i.links ≡ 0) }
-    ensures linked { result ≡ false → (i : HeldInode) → (layer_of layers.now.upper).inodes key ≡ Some i → 0 < i.links }
+    ensures unlinked { result ≡ true → IsNameless layers.now.upper key × ((i : HeldInode) → (upper_of layers.now).inodes key ≡ Some i → i.links ≡ 0) }
+    ensures linked { result ≡ false → (i : HeldInode) → (upper_of layers.now).inodes key ≡ Some i → 0 < i.links }
 {
     layers.lawful();
     match layers.node(Place { layer: 0, key }) {

@@ -2,7 +2,7 @@
 // file's bytes.
 ghost use Rattle.std.specs.Prelude.{◌≡◌, Some, OnOk, OnErr, IfSome, option_copied, option_map};
 ghost use Rattle.layer_tree.specs.Tree.{layer_of, SameObjects};
-ghost use Rattle.merged_lookup.specs.Merged.{lowers_of};
+ghost use Rattle.merged_lookup.specs.Merged.{upper_of, lowers_of};
 ghost use Rattle.copy_up.specs.Needs.{first_names};
 ghost use Rattle.copy_up.specs.Showing.{GainsParent, StaysThin};
 ghost use Rattle.mount_calls.specs.Keeping.{KeepsLayers};
@@ -45,7 +45,7 @@ impl Mount {
     /// second one, as it is shown. An allocation failure changes nothing; what is shown stays in
     /// each case.
     pub fn place(&mut self, call: &Call, second: bool, count: usize) -> Result<(), AllocError>
-        requires lacks { lack_of (layer_of self.old.layers.upper) (lowers_of self.old.layers)
+        requires lacks { lack_of (upper_of self.old.layers) (lowers_of self.old.layers)
             call.now ≡ Lacking.Parent second count }
         requires can { CanBeHad self.old call.now (Lacking.Parent second count) }
         ensures stays { StaysState self.old self.new }

@@ -1,13 +1,13 @@
 -- What chmod, chown, and the setting and deleting of a user attribute make of the tree, and that the layers which show the other
 -- attributes show it.
-use Rattle.std.proofs.Common.{◌≡◌, ℕ, ◌≤◌, Bool, true, List, [], ◌∷◌, Option, None, Some, option_map, refl, sym, ap, subst, ◌∙◌, ◌⊎◌, inl, inr, is_some, arith}
+use Rattle.std.proofs.Common.{◌≡◌, ℕ, ◌≤◌, Bool, true, List, [], ◌∷◌, Option, None, Some, option_map, refl, sym, ap, subst, ◌∙◌, ◌⊎◌, inl, inr, is_some, arith, ◌&&◌}
 use Rattle.std.proofs.lemmas.Bool.{false≢true, cases_Bool, both_ways}
 use Rattle.ov_base.specs.declared.attributes.Attributes.{Attributes}
 use Rattle.ov_base.specs.declared.call.Call.{Call}
 use Rattle.ov_base.specs.declared.call.Call.TheVariants.{Chmod, Chown, SetAttribute, DeleteAttribute}
 use Rattle.ov_base.specs.declared.node_id.NodeId.{NodeId}
 use Rattle.ov_base.specs.declared.reply.Reply.TheVariants as reply
-use Rattle.plain_model.specs.Layers.{Name, Path, Layer, Shown, Folder, Contents, shows, same_path}
+use Rattle.plain_model.specs.Layers.{Name, Path, Layer, Shown, Folder, Contents, shows, same_path, is_file}
 use Rattle.plain_model.specs.Tree.{same_id, Node, Branch, Leaf, Own, Untouched, Tree, entry, node_at, node_of, face, sight_at, Sight, SeenBranch, SeenLeaf, see, merged, AreLinked, Remounts, is_folder, count_of, is_untouched}
 use Rattle.plain_model.specs.Machine.{MountOptions, State}
 use Rattle.plain_model.specs.Refusals.{refusal}
@@ -36,11 +36,11 @@ see-attributes b (Some (Contents i k None)) = refl
 see-attributes b (Some (Contents i k (Some inode))) = refl
 
 -- a node with other attributes is seen so; an untouched one has one name
-face-altered : (m : MountOptions) (f : Attributes → Attributes) (a : Attributes) (o : Option Node) → seen_attributes (face o) ≡ Some a → (is_untouched o ≡ true → count_of o ≡ 1) → face (over_node (with_attributes m f) o) ≡ option_map (altered (f a)) (face o)
+face-altered : (m : MountOptions) (f : Attributes → Attributes) (a : Attributes) (o : Option Node) → seen_attributes (face o) ≡ Some a → (is_untouched o ≡ true → count_of o ≡ 1) → face (over_node (with_attributes m f) o) ≡ option_map (altered m.metacopy (f a)) (face o)
 face-altered m f a None h one = refl
 face-altered m f a (Some (Branch x b names c)) h one = let e : x ≡ a = cc in ap (λ z. Some (SeenBranch (f z) b)) e
-face-altered m f a (Some (Leaf content x Own l)) h one = let e : x ≡ a = cc in ap (λ z. Some (SeenLeaf content (f z) Own l)) e
-face-altered m f a (Some (Leaf content x (Untouched k) l)) h one = let e : x ≡ a = cc in λ i. Some (SeenLeaf content (f (e i)) Own (one refl i))
+face-altered m f a (Some (Leaf content x (Own k) l)) h one = let e : x ≡ a = cc in ap (λ z. Some (SeenLeaf content (f z) (Own k) l)) e
+face-altered m f a (Some (Leaf content x (Untouched k) l)) h one = let e : x ≡ a = cc in λ i. Some (SeenLeaf content (f (e i)) (Own (m.metacopy && is_file content)) (one refl i))
 
 -- what is shown with attributes is there
 shown-some : (s : Option Shown) (a : Attributes) → shown_attributes s ≡ Some a → is_some s ≡ true
@@ -59,7 +59,7 @@ pub record Altered (V : Layer) (lowers : List Layer) (s : State) (p : Path) (u :
   pub others : (d : NodeId) → (node_at s.tree p ≡ Some d → ⊥) → u d ≡ s.tree d
   pub folders : (d : NodeId) → is_folder (u d) ≡ is_folder (s.tree d)
 
-module _ (U V : Layer) (lowers : List Layer) (s : State) (m : IsMountOf U lowers s) (p : Path) (f : Attributes → Attributes) (a : Attributes) (has : shown_attributes (shows 0 (U ∷ lowers) p) ≡ Some a) (g : Alters U V lowers p (f a)) where
+module _ (U V : Layer) (lowers : List Layer) (s : State) (m : IsMountOf U lowers s) (p : Path) (f : Attributes → Attributes) (a : Attributes) (has : shown_attributes (shows 0 (U ∷ lowers) p) ≡ Some a) (g : Alters U V lowers s.options.metacopy p (f a)) where
   abbrev pub u : Tree
   u = change (with_attributes s.options f) s.tree (node_at s.tree p)
 
@@ -91,11 +91,11 @@ module _ (U V : Layer) (lowers : List Layer) (s : State) (m : IsMountOf U lowers
     seen : (y : Path) → node_at s.tree y ≡ Some d → face (s.tree d) ≡ merged U lowers y
     seen y h = ap (λ o. face (node_of s.tree o)) (sym h) ∙ m.shows.sights y
 
-    own-sight : (y : Path) → node_at s.tree y ≡ Some d → face (u d) ≡ option_map (altered (f a)) (merged U lowers y)
+    own-sight : (y : Path) → node_at s.tree y ≡ Some d → face (u d) ≡ option_map (altered s.options.metacopy (f a)) (merged U lowers y)
     own-sight y h =
         ap face (own-node d at)
         ∙ face-altered s.options f a (s.tree d) (ap seen_attributes (seen p at) ∙ see-attributes _ (shows 0 (U ∷ lowers) p) ∙ has) (λ t. one-name (count_of (s.tree d)) (at-path s.tree s.serial m.kept p d at) (m.kept.single d t))
-        ∙ ap (option_map (altered (f a))) (seen y h)
+        ∙ ap (option_map (altered s.options.metacopy (f a))) (seen y h)
 
     own-here : (y : Path) → p ≡ y → face (u d) ≡ merged V lowers y
     own-here y e = own-sight p at ∙ sym g.here ∙ ap (merged V lowers) e

@@ -1,5 +1,5 @@
 -- Uppers that differ at one path: an object taken away, and a file or link placed; and that neither leaves a needless whiteout.
-use Rattle.std.proofs.Common.{◌≡◌, ◌≢◌, ◌↔◌, ℕ, ◌-◌, ◌<◌, Bool, true, false, cond, List, [], ◌∷◌, ◌++◌, Option, None, Some, refl, sym, ap, ap₂, ◌∙◌, inl, inr, is_some, arith}
+use Rattle.std.proofs.Common.{◌≡◌, ◌≢◌, ◌↔◌, ℕ, ◌-◌, ◌<◌, Bool, true, false, cond, List, [], ◌∷◌, ◌++◌, Option, None, Some, refl, sym, ap, ap₂, ◌∙◌, inl, inr, is_some, arith, subst}
 use Rattle.std.proofs.lemmas.Bool.{false≢true}
 use Rattle.plain_model.specs.Layers.{Name, Path, Object, Directory, Named, Whiteout, Inode, Layer, IsLayer, held, spell, below, cut, cuts, Shown, unless, shows, through, under, is_directory, same_path, AreLayers}
 use Rattle.plain_model.specs.Laws.{IsOutside}
@@ -8,7 +8,7 @@ use Rattle.plain_model.proofs.Counting.{Counted, count-less, count-some}
 use Rattle.plain_model.proofs.Merged.{named-seen}
 use Rattle.plain_model.proofs.Paths.{place, paths_tell, outside-parent, parent-outside}
 use Rattle.plain_model.proofs.Uppers.{meld, merged-meld, AgreeTo, agree-where, through-agree, under-agree, nothing-beneath}
-use Rattle.mount_laws.specs.Leaves.{PlacesLeaf, GainsLeaf, LawOfPlacedLeaf}
+use Rattle.mount_laws.specs.Leaves.{PlacesLeaf, GainsLeafAs, LawOfPlacedLeaf}
 use Rattle.mount_laws.specs.Removals.{ShowsNoName, TakesAway, fewer, left_behind, LawOfTakenAway}
 use Rattle.mount_laws.specs.Thin.{LawOfThin}
 use Rattle.mount_laws.proofs.Places.{bare-below, nothing-below, named-shown, other-path, longer}
@@ -167,7 +167,7 @@ module _ (U V : Layer) (lowers : List Layer) (a : AreLayers (U ∷ lowers)) (b :
   unnamed-under q x r j e h = named-shown U lowers (x ∷ r ++ leaf_path) j (ap (held U) (sym e) ∙ h) (nothing-below (U ∷ lowers) a leaf_path hides x r)
 
   abbrev sight : Option Sight
-  sight = Some (SeenLeaf i.content i.attributes Own 1)
+  sight = Some (SeenLeaf i.content i.attributes (Own (is_some i.mark)) 1)
 
   leaf-sights : (q : Path) → merged V lowers q ≡ cond (same_path leaf_path q) sight (merged U lowers q)
   leaf-sights q = elim (place leaf_path q) [
@@ -182,7 +182,7 @@ module _ (U V : Layer) (lowers : List Layer) (a : AreLayers (U ∷ lowers)) (b :
           ap (merged V lowers) e
           ∙ named-seen V lowers leaf_path k m.here
           ∙ ap (see_inode 0) m.inode
-          ∙ ap (λ l. Some (SeenLeaf i.content i.attributes Own l)) m.one
+          ∙ ap (λ l. Some (SeenLeaf i.content i.attributes (Own (is_some i.mark)) l)) m.one
           ∙ sym (ap (λ c. cond c sight (merged U lowers q)) ((paths_tell leaf_path q).1 (sym e)))
       below-it (x ∷ r) e =
           ap (merged V lowers) e
@@ -211,12 +211,13 @@ module _ (U V : Layer) (lowers : List Layer) (a : AreLayers (U ∷ lowers)) (b :
       below-it (x ∷ r) e = (λ h. (let z : None ≡ Some (Named j) = sym (m.beneath x r) ∙ ap (held V) (sym e) ∙ h in cc), λ h. absurd (unnamed-under q x r j e h))
 
   -- it is all that is gained
-  pub gains-leaf : GainsLeaf U V lowers leaf_path i.content i.attributes
+  pub gains-leaf : GainsLeafAs U V lowers (is_some i.mark) leaf_path i.content i.attributes
   gains-leaf = record { layers = b; number = k; here = m.here; alone = alone; sights = leaf-sights; names = leaf-names }
 
 -- a file or link that is placed where nothing was shown is all that is gained
 pub law_of_placed_leaf : LawOfPlacedLeaf
-law_of_placed_leaf U V lowers a b n p k i free m = gains-leaf U V lowers a b n p k i (ap is_directory free) m
+law_of_placed_leaf U V lowers a b n p k i free unmarked m =
+    subst (λ x. GainsLeafAs U V lowers (is_some x) (n ∷ p) i.content i.attributes) unmarked (gains-leaf U V lowers a b n p k i (ap is_directory free) m)
 
 -- V is U but at n in p, below which it holds nothing: it has no needless whiteout where U has none, and at n in p there is none
 module _ (U V : Layer) (lowers : List Layer) (thin : IsThin U lowers) (n : Name) (p : Path) (beneath : (k : Name) (r : Path) → held V (k ∷ r ++ (n ∷ p)) ≡ None) (elsewhere : (x : Path) → IsOutside (n ∷ p) x → held V x ≡ held U x) (needed : held V (n ∷ p) ≡ Some Whiteout → is_some (under U lowers n p) ≡ true) where

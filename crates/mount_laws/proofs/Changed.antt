@@ -1,64 +1,64 @@
 -- Uppers that show other attributes: one to which a file or link is copied up, and one in which an inode's or a directory's change.
-use Rattle.std.proofs.Common.{◌≡◌, ◌≢◌, ℕ, suc, Bool, cond, List, [], ◌∷◌, Option, None, Some, option_map, refl, sym, ap, ap₂, ◌∙◌, inl, inr}
+use Rattle.std.proofs.Common.{◌≡◌, ◌≢◌, ℕ, suc, Bool, ◌&&◌, cond, List, [], ◌∷◌, Option, None, Some, option_map, refl, sym, ap, ap₂, ◌∙◌, inl, inr, is_some}
 use Rattle.std.proofs.lemmas.Bool.{cases_Bool, both_ways}
 use Rattle.ov_base.specs.declared.attributes.Attributes.{Attributes}
 use Rattle.ov_base.specs.declared.redirect.Redirect.{Redirect}
 use Rattle.ov_base.specs.declared.redirect.Redirect.TheVariants.{Absolute, Single}
-use Rattle.plain_model.specs.Layers.{Name, Path, Directory, Named, Inode, Layer, held, spell, below, cut, cuts, Contents, over, shows, through, is_directory, base, same_path, AreLayers}
+use Rattle.plain_model.specs.Layers.{Name, Path, Directory, Named, Inode, Layer, held, is_file, spell, below, cut, cuts, Contents, over, shows, through, is_directory, base, same_path, AreLayers}
 use Rattle.plain_model.specs.Tree.{Own, Sight, SeenLeaf, see, see_inode, merged, AreLinked}
 use Rattle.plain_model.proofs.Merged.{named-seen}
 use Rattle.plain_model.proofs.Paths.{paths_tell}
 use Rattle.plain_model.proofs.Uppers.{meld, merged-meld, AgreeTo, agree-step, agree-where, through-agree}
-use Rattle.mount_laws.specs.Leaves.{PlacesLeaf, GainsLeaf}
+use Rattle.mount_laws.specs.Leaves.{PlacesLeaf, GainsLeafAs}
 use Rattle.mount_laws.specs.Altered.{altered, LawOfCopiedLeaf, AltersInode, LawOfAlteredInode, AltersDirectory, LawOfAlteredDirectory}
 use Rattle.mount_laws.proofs.Alters.{meld-alike, gains-leaf}
 use Rattle.mount_laws.proofs.Links.{before, later}
 use Rattle.mount_laws.proofs.Places.{other-path}
 
 -- a file or link of a lower layer that is copied up
-module _ (U V : Layer) (lowers : List Layer) (a : AreLayers (U ∷ lowers)) (b : AreLayers (V ∷ lowers)) (n : Name) (p : Path) (j l k : ℕ) (i : Inode) (x : Attributes) (lower : shows 0 (U ∷ lowers) (n ∷ p) ≡ Some (Contents (suc j) l (Some i))) (m : PlacesLeaf U V (n ∷ p) k (record { content = i.content; attributes = x; links = 1 })) where
-  gains : GainsLeaf U V lowers (n ∷ p) i.content x
-  gains = gains-leaf U V lowers a b n p k (record { content = i.content; attributes = x; links = 1 }) (ap is_directory lower) m
+module _ (U V : Layer) (lowers : List Layer) (a : AreLayers (U ∷ lowers)) (b : AreLayers (V ∷ lowers)) (n : Name) (p : Path) (j l k : ℕ) (i : Inode) (x : Attributes) (lower : shows 0 (U ∷ lowers) (n ∷ p) ≡ Some (Contents (suc j) l (Some i))) (low : Bool) (mark : Option Path) (marks : is_some mark ≡ (low && is_file i.content)) (m : PlacesLeaf U V (n ∷ p) k (record { content = i.content; attributes = x; links = 1; mark = mark })) where
+  gains : GainsLeafAs U V lowers (is_some mark) (n ∷ p) i.content x
+  gains = gains-leaf U V lowers a b n p k (record { content = i.content; attributes = x; links = 1; mark = mark }) (ap is_directory lower) m
 
   -- the upper named no inode there
   unnamed : (q : ℕ) → held U (n ∷ p) ≡ Some (Named q) → ⊥
   unnamed q h = let z : Some (Contents 0 q (U.inodes q)) ≡ Some (Contents (suc j) l (Some i)) = sym (ap (λ o. over 0 U.inodes o (through U lowers (n ∷ p))) h) ∙ lower in cc
 
   abbrev sight : Option Sight
-  sight = Some (SeenLeaf i.content x Own 1)
+  sight = Some (SeenLeaf i.content x (Own (is_some mark)) 1)
 
-  copied-here : merged V lowers (n ∷ p) ≡ option_map (altered x) (merged U lowers (n ∷ p))
-  copied-here = gains.sights (n ∷ p) ∙ ap (λ c. cond c sight (merged U lowers (n ∷ p))) ((paths_tell (n ∷ p) (n ∷ p)).1 refl) ∙ sym (ap (λ s. option_map (altered x) (see (base U lowers (n ∷ p)) s)) lower)
+  copied-here : merged V lowers (n ∷ p) ≡ option_map (altered low x) (merged U lowers (n ∷ p))
+  copied-here = gains.sights (n ∷ p) ∙ ap (λ c. cond c sight (merged U lowers (n ∷ p))) ((paths_tell (n ∷ p) (n ∷ p)).1 refl) ∙ ap (λ z. Some (SeenLeaf i.content x (Own z) 1)) marks ∙ sym (ap (λ s. option_map (altered low x) (see (base U lowers (n ∷ p)) s)) lower)
 
   copied-others : (q : Path) → q ≢ n ∷ p → merged V lowers q ≡ merged U lowers q
   copied-others q apart = gains.sights q ∙ ap (λ c. cond c sight (merged U lowers q)) (other-path (n ∷ p) q (λ e. apart (sym e)))
 
 -- a file or link that is copied up is altered and no more
 pub law_of_copied_leaf : LawOfCopiedLeaf
-law_of_copied_leaf U V lowers a b n p j l k i x lower m =
-    let g = gains U V lowers a b n p j l k i x lower m in
-    let new = unnamed U V lowers a b n p j l k i x lower m in
+law_of_copied_leaf U V lowers a b n p j l k i x lower low mark marks m =
+    let g = gains U V lowers a b n p j l k i x lower low mark marks m in
+    let new = unnamed U V lowers a b n p j l k i x lower low mark marks m in
     record {
       layers = b;
-      here = copied-here U V lowers a b n p j l k i x lower m;
+      here = copied-here U V lowers a b n p j l k i x lower low mark marks m;
       linked = λ q apart w. absurd (new w.number w.first);
-      others = λ q apart w. copied-others U V lowers a b n p j l k i x lower m q apart;
-      earlier = before U V lowers (n ∷ p) i.content x new g;
-      later = later U V lowers (n ∷ p) i.content x new g;
+      others = λ q apart w. copied-others U V lowers a b n p j l k i x lower low mark marks m q apart;
+      earlier = before U V lowers (is_some mark) (n ∷ p) i.content x new g;
+      later = later U V lowers (is_some mark) (n ∷ p) i.content x new g;
     }
 
 -- an inode of the upper
-module _ (U V : Layer) (lowers : List Layer) (p : Path) (a : Attributes) (c : AltersInode U V p a) where
+module _ (U V : Layer) (lowers : List Layer) (low : Bool) (p : Path) (a : Attributes) (c : AltersInode U V p a) where
   agree : (q : Path) → AgreeTo U V q
   agree q = agree-where U V (λ x. Unit {0}) (λ k x h. h) (λ x h. c.objects x) q tt
 
   -- each of its names shows the attributes
-  name-altered : (q : Path) → held U q ≡ Some (Named c.number) → merged V lowers q ≡ option_map (altered a) (merged U lowers q)
+  name-altered : (q : Path) → held U q ≡ Some (Named c.number) → merged V lowers q ≡ option_map (altered low a) (merged U lowers q)
   name-altered q h =
       named-seen V lowers q c.number (c.objects q ∙ h) ∙ ap (see_inode 0) c.now
-      ∙ sym (ap (option_map (altered a)) (named-seen U lowers q c.number h ∙ ap (see_inode 0) c.before))
+      ∙ sym (ap (option_map (altered low a)) (named-seen U lowers q c.number h ∙ ap (see_inode 0) c.before))
 
-  inode-linked : (q : Path) → AreLinked U p q → merged V lowers q ≡ option_map (altered a) (merged U lowers q)
+  inode-linked : (q : Path) → AreLinked U p q → merged V lowers q ≡ option_map (altered low a) (merged U lowers q)
   inode-linked q l =
       let number : l.number ≡ c.number = (let w : Some (Named l.number) ≡ Some (Named c.number) = sym l.first ∙ c.named in cc) in
       name-altered q (l.second ∙ ap (λ k. Some (Named k)) number)
@@ -72,11 +72,11 @@ module _ (U V : Layer) (lowers : List Layer) (p : Path) (a : Attributes) (c : Al
 
 -- an upper whose inode has other attributes shows them
 pub law_of_altered_inode : LawOfAlteredInode
-law_of_altered_inode U V lowers b p a c = record {
+law_of_altered_inode U V lowers b low p a c = record {
   layers = b;
-  here = name-altered U V lowers p a c p c.named;
-  linked = λ q apart l. inode-linked U V lowers p a c q l;
-  others = λ q apart unlinked. inode-others U V lowers p a c q unlinked;
+  here = name-altered U V lowers low p a c p c.named;
+  linked = λ q apart l. inode-linked U V lowers low p a c q l;
+  others = λ q apart unlinked. inode-others U V lowers low p a c q unlinked;
   earlier = λ q z l. inr (record { number = l.number; first = sym (c.objects q) ∙ l.first; second = sym (c.objects z) ∙ l.second });
   later = λ q z l. record { number = l.number; first = c.objects q ∙ l.first; second = c.objects z ∙ l.second };
 }
@@ -93,7 +93,7 @@ spell-marks k x y o (Some (Absolute q)) n s = refl
 spell-marks k x y o (Some (Single m)) n s = refl
 
 -- a directory of the upper
-module _ (U V : Layer) (lowers : List Layer) (p : Path) (a : Attributes) (c : AltersDirectory U V p a) where
+module _ (U V : Layer) (lowers : List Layer) (low : Bool) (p : Path) (a : Attributes) (c : AltersDirectory U V p a) where
   agree-all : (q : Path) → AgreeTo U V q
   agree-all [] = record { cut_alike = refl; spelled = refl }
   agree-all (n ∷ x) = by (agree-all x)
@@ -111,11 +111,11 @@ module _ (U V : Layer) (lowers : List Layer) (p : Path) (a : Attributes) (c : Al
         | inr f ↦ agree-step U V n x (c.elsewhere (n ∷ x) (λ s. both_ways (same_path p (n ∷ x)) f ((paths_tell p (n ∷ x)).1 (sym s)))) e
       ]
 
-  directory-here : merged V lowers p ≡ option_map (altered a) (merged U lowers p)
+  directory-here : merged V lowers p ≡ option_map (altered low a) (merged U lowers p)
   directory-here =
       merged-meld V lowers p
       ∙ ap₂ (meld V.inodes) c.now (through-agree U V lowers p (agree-all p))
-      ∙ sym (ap (option_map (altered a)) (merged-meld U lowers p ∙ ap (λ o. meld U.inodes o (through U lowers p)) c.before))
+      ∙ sym (ap (option_map (altered low a)) (merged-meld U lowers p ∙ ap (λ o. meld U.inodes o (through U lowers p)) c.before))
 
   directory-others : (q : Path) → q ≢ p → merged V lowers q ≡ merged U lowers q
   directory-others q apart =
@@ -139,11 +139,11 @@ module _ (U V : Layer) (lowers : List Layer) (p : Path) (a : Attributes) (c : Al
 
 -- an upper whose directory has other attributes shows them
 pub law_of_altered_directory : LawOfAlteredDirectory
-law_of_altered_directory U V lowers b p a c = record {
+law_of_altered_directory U V lowers b low p a c = record {
   layers = b;
-  here = directory-here U V lowers p a c;
-  linked = λ q apart l. absurd (not-named U V lowers p a c l.number l.first);
-  others = λ q apart unlinked. directory-others U V lowers p a c q apart;
-  earlier = λ q z l. inr (record { number = l.number; first = named-before U V lowers p a c q l.number l.first; second = named-before U V lowers p a c z l.number l.second });
-  later = λ q z l. record { number = l.number; first = named-now U V lowers p a c q l.number l.first; second = named-now U V lowers p a c z l.number l.second };
+  here = directory-here U V lowers low p a c;
+  linked = λ q apart l. absurd (not-named U V lowers low p a c l.number l.first);
+  others = λ q apart unlinked. directory-others U V lowers low p a c q apart;
+  earlier = λ q z l. inr (record { number = l.number; first = named-before U V lowers low p a c q l.number l.first; second = named-before U V lowers low p a c z l.number l.second });
+  later = λ q z l. record { number = l.number; first = named-now U V lowers low p a c q l.number l.first; second = named-now U V lowers low p a c z l.number l.second };
 }

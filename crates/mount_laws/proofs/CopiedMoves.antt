@@ -14,9 +14,9 @@ use Rattle.mount_laws.specs.Removals.{fewer}
 
 -- a file or link of a lower layer that was copied up to W, which then moves
 module _
-    (U W V : Layer) (lowers : List Layer) (old new : Path) (j l : ℕ) (i : Inode)
-    (lower : shows 0 (U ∷ lowers) old ≡ Some (Contents (suc j) l (Some i))) (c : Alters U W lowers old i.attributes)
-    (g : MovesTo W V lowers old new) where
+    (U W V : Layer) (lowers : List Layer) (low : Bool) (old new : Path) (j l : ℕ) (i : Inode)
+    (lower : shows 0 (U ∷ lowers) old ≡ Some (Contents (suc j) l (Some i))) (c : Alters U W lowers low old i.attributes)
+    (g : MovesTo W V lowers low old new) where
   -- the upper named no inode there
   unlinked : (x : Path) → AreLinked U old x → ⊥
   unlinked x w =
@@ -25,11 +25,11 @@ module _
       cc
 
   -- it is copied up with one name
-  copied-here : merged V lowers new ≡ option_map moved_sight (merged U lowers old)
+  copied-here : merged V lowers new ≡ option_map (moved_sight low) (merged U lowers old)
   copied-here =
       g.here
-      ∙ ap (option_map moved_sight) (c.here ∙ ap (λ s. option_map (altered i.attributes) (see (base U lowers old) s)) lower)
-      ∙ sym (ap (λ s. option_map moved_sight (see (base U lowers old) s)) lower)
+      ∙ ap (option_map (moved_sight low)) (c.here ∙ ap (λ s. option_map (altered low i.attributes) (see (base U lowers old) s)) lower)
+      ∙ sym (ap (λ s. option_map (moved_sight low) (see (base U lowers old) s)) lower)
 
   same-at : (x : Path) → x ≢ old → merged W lowers x ≡ merged U lowers x
   same-at x apart = c.others x apart (unlinked x)
@@ -41,7 +41,7 @@ module _
   not-linked : (x : Path) → IsOutside new x → (AreLinked U new x → ⊥) → AreLinked W new x → ⊥
   not-linked x p away w = elim (c.earlier new x w) [ inl e ↦ p [] (sym e) | inr u ↦ away u ]
 
-  copied-moves : MovesTo U V lowers old new
+  copied-moves : MovesTo U V lowers low old new
   copied-moves = record {
     layers = g.layers;
     gone = g.gone;
@@ -60,16 +60,16 @@ law_of_copied_move = copied-moves
 -- another upper moves it, which shows the same and names inodes by the same paths
 module _
     (U W V : Layer) (lowers : List Layer) (same : (x : Path) → merged W lowers x ≡ merged U lowers x)
-    (links : (x y : Path) → AreLinked W x y ↔ AreLinked U x y) (old new : Path) (g : MovesTo W V lowers old new) where
+    (links : (x y : Path) → AreLinked W x y ↔ AreLinked U x y) (low : Bool) (old new : Path) (g : MovesTo W V lowers low old new) where
   before : (x y : Path) → (x ≡ y) ⊎ AreLinked W x y → (x ≡ y) ⊎ AreLinked U x y
   before x y (inl e) = inl e
   before x y (inr l) = inr ((links x y).0 l)
 
-  same-moves : MovesTo U V lowers old new
+  same-moves : MovesTo U V lowers low old new
   same-moves = record {
     layers = g.layers;
     gone = g.gone;
-    here = g.here ∙ ap (option_map moved_sight) (same old);
+    here = g.here ∙ ap (option_map (moved_sight low)) (same old);
     beneath = λ k r. g.beneath k r ∙ same (k ∷ r ++ old);
     linked = λ x o p l. g.linked x o p ((links new x).1 l) ∙ ap fewer (same x);
     others = λ x o p away. g.others x o p (λ l. away ((links new x).0 l)) ∙ same x;

@@ -20,7 +20,7 @@ use Rattle.mount_laws.proofs.Places.{named-shown}
 
 module _ (U V : Layer) (lowers : List Layer) (s : State) (m : IsMountOf U lowers s) (c : ℕ) (p : Path) (flags : OpenFlags) (mode : ℕ) (fine : mkdir_fault (U ∷ lowers) p mode ≡ None) (g : GainsLeaf U V lowers p (File []) (fresh mode)) where
   abbrev x : Node
-  x = Leaf (File []) (fresh mode) Own 1
+  x = Leaf (File []) (fresh mode) (Own false) 1
 
   free : shows 0 (U ∷ lowers) p ≡ None
   free = none-of (shows 0 (U ∷ lowers) p) (when-not (is_some (shows 0 (U ∷ lowers) p)) EEXIST (second-none (parents_fault (U ∷ lowers) p) _ (second-none (bad_mode mode) _ fine)))
@@ -51,10 +51,10 @@ module _ (U V : Layer) (lowers : List Layer) (s : State) (m : IsMountOf U lowers
   unnamed k h = named-shown U lowers p k h free
 
   earlier : (y z : Path) → AreLinked V y z → (y ≡ z) ⊎ AreLinked U y z
-  earlier = before U V lowers p (File []) (fresh mode) unnamed g
+  earlier = before U V lowers false p (File []) (fresh mode) unnamed g
 
   afterwards : (y z : Path) → AreLinked U y z → AreLinked V y z
-  afterwards = later U V lowers p (File []) (fresh mode) unnamed g
+  afterwards = later U V lowers false p (File []) (fresh mode) unnamed g
 
   makes-file : MakesFile V lowers s c p flags mode
   makes-file = record {

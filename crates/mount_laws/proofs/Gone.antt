@@ -172,8 +172,8 @@ goes-changed f t o ks = goes-none t (change f t o) (change-stands f t o) 1 ks
 open-goes : (s : State) (c : ℕ) (p : Path) (f : OpenFlags) (mode : ℕ) (ks : List Table) → Goes s.tree (tree_after s c (Open p f mode)) None 1 ks
 open-goes s c p f mode ks = by (node_at s.tree p)
   where
-    by : (o : Option NodeId) → Goes s.tree (cond (is_none o) (made_way s.tree s.serial (way_of s.tree p) (Leaf (File []) (fresh mode) Own 1)) (change (opened f) s.tree o)) None 1 ks
-    by None = goes-made s.tree s.serial (way_of s.tree p) (Leaf (File []) (fresh mode) Own 1) ks
+    by : (o : Option NodeId) → Goes s.tree (cond (is_none o) (made_way s.tree s.serial (way_of s.tree p) (Leaf (File []) (fresh mode) (Own false) 1)) (change (opened f) s.tree o)) None 1 ks
+    by None = goes-made s.tree s.serial (way_of s.tree p) (Leaf (File []) (fresh mode) (Own false) 1) ks
     by (Some d) = goes-changed (opened f) s.tree (Some d) ks
 
 -- a write, also of no bytes
@@ -195,7 +195,7 @@ law_of_gone s c (GetAttribute p n) = goes-same s.tree 1 s.tables
 law_of_gone s c (DeleteAttribute p n) = goes-changed _ s.tree (node_at s.tree p) s.tables
 law_of_gone s c (ListAttributes p) = goes-same s.tree 1 s.tables
 law_of_gone s c (Mkdir p mode) = goes-made s.tree s.serial (way_of s.tree p) (Branch (fresh mode) false fin.empty 1) s.tables
-law_of_gone s c (Symlink target p) = goes-made s.tree s.serial (way_of s.tree p) (Leaf (SymbolicLink target) (fresh 0o777) Own 1) s.tables
+law_of_gone s c (Symlink target p) = goes-made s.tree s.serial (way_of s.tree p) (Leaf (SymbolicLink target) (fresh 0o777) (Own false) 1) s.tables
 law_of_gone s c (Open p f mode) = open-goes s c p f mode (tables_after s c (Open p f mode))
 law_of_gone s c (Unlink p) = drop-goes s.tables s.tree p
 law_of_gone s c (Rmdir p) = drop-goes s.tables s.tree p
@@ -240,13 +240,13 @@ law_of_made_node s c (Mkdir (n ∷ q) mode) r made =
     (free-reached s.tree n q (or-second (bad_mode mode) _ (by-path s c (Mkdir (n ∷ q) mode) r))) refl
 law_of_made_node s c (Symlink target p) r made = by p (symlink-walk s c target p r)
   where
-    by : (p : Path) → walked (look s.tree p) or_else when (is_found (look s.tree p)) EEXIST ≡ None → IsMade (made_way s.tree s.serial (way_of s.tree p) (Leaf (SymbolicLink target) (fresh 0o777) Own 1) (New s.serial)) false
+    by : (p : Path) → walked (look s.tree p) or_else when (is_found (look s.tree p)) EEXIST ≡ None → IsMade (made_way s.tree s.serial (way_of s.tree p) (Leaf (SymbolicLink target) (fresh 0o777) (Own false) 1) (New s.serial)) false
     by [] w = absurd (false≢true (sym (when-not true EEXIST w)))
-    by (n ∷ q) w = made-node s.tree s.serial n q (Leaf (SymbolicLink target) (fresh 0o777) Own 1) (free-reached s.tree n q w) refl
+    by (n ∷ q) w = made-node s.tree s.serial n q (Leaf (SymbolicLink target) (fresh 0o777) (Own false) 1) (free-reached s.tree n q w) refl
 law_of_made_node s c (Open [] f mode) r made = absurd (false≢true made)
 law_of_made_node s c (Open (n ∷ q) f mode) r made =
-    subst (λ b. IsMade (cond b (made_way s.tree s.serial (way_of s.tree (n ∷ q)) (Leaf (File []) (fresh mode) Own 1)) (change (opened f) s.tree (node_at s.tree (n ∷ q))) (New s.serial)) false) (sym made)
-    (made-node s.tree s.serial n q (Leaf (File []) (fresh mode) Own 1) (open-reached s c n q f mode r made) refl)
+    subst (λ b. IsMade (cond b (made_way s.tree s.serial (way_of s.tree (n ∷ q)) (Leaf (File []) (fresh mode) (Own false) 1)) (change (opened f) s.tree (node_at s.tree (n ∷ q))) (New s.serial)) false) (sym made)
+    (made-node s.tree s.serial n q (Leaf (File []) (fresh mode) (Own false) 1) (open-reached s c n q f mode r made) refl)
 law_of_made_node s c (Stat p) r made = absurd (false≢true made)
 law_of_made_node s c (Readlink p) r made = absurd (false≢true made)
 law_of_made_node s c (Chmod p mode) r made = absurd (false≢true made)

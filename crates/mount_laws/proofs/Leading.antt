@@ -136,19 +136,19 @@ symlink-leads s c target p k a r = by p (symlink-walk s c target p r)
   where
     by : (p : Path) → walked (look s.tree p) or_else when (is_found (look s.tree p)) EEXIST ≡ None → LeadsBy s (Symlink target p) (tree_after s c (Symlink target p))
     by [] w = absurd (false≢true (sym (when-not true EEXIST w)))
-    by (n ∷ q) w = made-leads s.tree s.serial k a n q (Leaf (SymbolicLink target) (fresh 0o777) Own 1) (λ m. refl) (free-reached s.tree n q w)
+    by (n ∷ q) w = made-leads s.tree s.serial k a n q (Leaf (SymbolicLink target) (fresh 0o777) (Own false) 1) (λ m. refl) (free-reached s.tree n q w)
 
 -- an open, which makes a file where its path leads nowhere
 open-leads : (s : State) (c : ℕ) (p : Path) (f : OpenFlags) (mode : ℕ) → IsKept s.tree s.serial → HaveOnePath s.tree → refusal s c (Open p f mode) ≡ None → LeadsBy s (Open p f mode) (tree_after s c (Open p f mode))
 open-leads s c p f mode k a r = by (node_at s.tree p) (λ h. made p r h)
   where
-    made : (p : Path) → refusal s c (Open p f mode) ≡ None → node_at s.tree p ≡ None → LeadsAlso s.tree (made_way s.tree s.serial (way_of s.tree p) (Leaf (File []) (fresh mode) Own 1)) p (New s.serial)
+    made : (p : Path) → refusal s c (Open p f mode) ≡ None → node_at s.tree p ≡ None → LeadsAlso s.tree (made_way s.tree s.serial (way_of s.tree p) (Leaf (File []) (fresh mode) (Own false) 1)) p (New s.serial)
     made [] r h = cc
-    made (n ∷ q) r h = made-leads s.tree s.serial k a n q (Leaf (File []) (fresh mode) Own 1) (λ m. refl) (open-reached s c n q f mode r (ap is_none h))
+    made (n ∷ q) r h = made-leads s.tree s.serial k a n q (Leaf (File []) (fresh mode) (Own false) 1) (λ m. refl) (open-reached s c n q f mode r (ap is_none h))
 
     by :
-        (o : Option NodeId) → (o ≡ None → LeadsAlso s.tree (made_way s.tree s.serial (way_of s.tree p) (Leaf (File []) (fresh mode) Own 1)) p (New s.serial)) →
-        LeadsIfMade o s.tree (cond (is_none o) (made_way s.tree s.serial (way_of s.tree p) (Leaf (File []) (fresh mode) Own 1)) (change (opened f) s.tree o)) p (New s.serial)
+        (o : Option NodeId) → (o ≡ None → LeadsAlso s.tree (made_way s.tree s.serial (way_of s.tree p) (Leaf (File []) (fresh mode) (Own false) 1)) p (New s.serial)) →
+        LeadsIfMade o s.tree (cond (is_none o) (made_way s.tree s.serial (way_of s.tree p) (Leaf (File []) (fresh mode) (Own false) 1)) (change (opened f) s.tree o)) p (New s.serial)
     by None made = made refl
     by (Some d) made = mild-same (opened f) (opened-mild f) s.tree (Some d)
 

@@ -18,6 +18,8 @@ pub mod Altered
 pub mod Changed
 pub mod OpenFiles
 pub mod Written
+pub mod Filling
+pub mod Raised
 pub mod StayOpen
 pub mod Outlive
 pub mod Naming

@@ -1,11 +1,11 @@
 -- The refusals of link are told by the layers, and the layers that gain the name show the tree that link makes.
-use Rattle.std.proofs.Common.{◌≡◌, ◌≢◌, ℕ, ◌+◌, true, false, List, [], ◌∷◌, ◌++◌, Option, None, Some, option_map, refl, sym, ap, ap₂, subst, ◌∙◌, ◌⊎◌, inl, inr, is_some}
+use Rattle.std.proofs.Common.{◌≡◌, ◌≢◌, ℕ, ◌+◌, true, false, List, [], ◌∷◌, ◌++◌, Option, None, Some, option_map, refl, sym, ap, ap₂, subst, ◌∙◌, ◌⊎◌, inl, inr, is_some, ◌&&◌}
 use Rattle.std.proofs.lemmas.Bool.{false≢true, cases_Bool, both_ways}
 use Rattle.ov_base.specs.declared.call.Call.TheVariants.{Hardlink}
 use Rattle.ov_base.specs.declared.errno.Errno.{Errno}
 use Rattle.ov_base.specs.declared.errno.Errno.TheVariants.{EPERM, EEXIST}
 use Rattle.ov_base.specs.declared.node_id.NodeId.{NodeId}
-use Rattle.plain_model.specs.Layers.{Name, Path, Named, Layer, shows, is_directory, same_path}
+use Rattle.plain_model.specs.Layers.{Name, Path, Named, Layer, shows, is_directory, same_path, is_file}
 use Rattle.plain_model.specs.Tree.{same_id, Node, Branch, Leaf, Own, Untouched, Tree, names_of, entry, node_at, node_of, with_name, lead, face, sight_at, SeenLeaf, merged, AreLinked, Remounts, is_folder, count_of, is_untouched}
 use Rattle.plain_model.specs.Machine.{MountOptions, State, look, is_found}
 use Rattle.plain_model.specs.Refusals.{when, walked, there}
@@ -39,11 +39,11 @@ no-folder (Some (Leaf content a u l)) k h = refl
 no-folder (Some (Branch a b names c)) k h = absurd (false≢true (sym h))
 
 -- a node with a name more is seen so; an untouched one had one name
-face-more : (m : MountOptions) (o : Option Node) → (is_untouched o ≡ true → count_of o ≡ 1) → face (over_node (one_more m) o) ≡ option_map linked_sight (face o)
+face-more : (m : MountOptions) (o : Option Node) → (is_untouched o ≡ true → count_of o ≡ 1) → face (over_node (one_more m) o) ≡ option_map (linked_sight m.metacopy) (face o)
 face-more m None one = refl
 face-more m (Some (Branch a b names c)) one = refl
-face-more m (Some (Leaf content a Own l)) one = refl
-face-more m (Some (Leaf content a (Untouched k) l)) one = ap (λ n. Some (SeenLeaf content a Own (n + 1))) (one refl)
+face-more m (Some (Leaf content a (Own z) l)) one = refl
+face-more m (Some (Leaf content a (Untouched k) l)) one = ap (λ n. Some (SeenLeaf content a (Own (m.metacopy && is_file content)) (n + 1))) (one refl)
 
 -- a name that leads elsewhere is not seen of its directory
 pub face-named : (n : Name) (e : Option NodeId) (o : Option Node) → face (with_name n e o) ≡ face o
@@ -141,7 +141,7 @@ joined-links V x y z k l =
     record { number = k.number; first = k.first; second = l.second ∙ ap (λ j. Some (Named j)) number }
 
 -- the path new leads to the node e of old
-module _ (U V : Layer) (lowers : List Layer) (s : State) (m : IsMountOf U lowers s) (old new : Path) (spot : Spot s.tree new) (e : NodeId) (leads : node_at s.tree old ≡ Some e) (file : is_folder (s.tree e) ≡ false) (g : GainsName U V lowers old new) where
+module _ (U V : Layer) (lowers : List Layer) (s : State) (m : IsMountOf U lowers s) (old new : Path) (spot : Spot s.tree new) (e : NodeId) (leads : node_at s.tree old ≡ Some e) (file : is_folder (s.tree e) ≡ false) (g : GainsName U V lowers s.options.metacopy old new) where
   only : (y : Path) → node_at s.tree y ≡ Some spot.dir → y ≡ spot.parent
   only y h = folder-alone U lowers s m spot.parent y spot.dir spot.folder spot.at h
 
@@ -163,11 +163,11 @@ module _ (U V : Layer) (lowers : List Layer) (s : State) (m : IsMountOf U lowers
   still y x h = at-others y (not-new y x h) ∙ h
 
   -- the node is seen with one name more
-  seen-more : (y : Path) → node_at s.tree y ≡ Some e → face (u e) ≡ option_map linked_sight (merged U lowers y)
+  seen-more : (y : Path) → node_at s.tree y ≡ Some e → face (u e) ≡ option_map (linked_sight s.options.metacopy) (merged U lowers y)
   seen-more y h =
       ap face (joined-node s.options s.tree spot.name spot.parent spot.dir e spot.at spot.folder spot.free only file)
       ∙ face-more s.options (s.tree e) (λ t. one-name (count_of (s.tree e)) (at-path s.tree s.serial m.kept old e leads) (m.kept.single e t))
-      ∙ ap (option_map linked_sight) (ap (λ o. face (node_of s.tree o)) (sym h) ∙ m.shows.sights y)
+      ∙ ap (option_map (linked_sight s.options.metacopy)) (ap (λ o. face (node_of s.tree o)) (sym h) ∙ m.shows.sights y)
 
   -- a path that led to the node is the old one, or another name of its inode
   old-sight : (y : Path) → old ≡ y → face (u e) ≡ merged V lowers y
@@ -282,7 +282,7 @@ module _ (U V : Layer) (lowers : List Layer) (s : State) (m : IsMountOf U lowers
       ap₂ (λ o w. lead_way (change (one_more s.options) s.tree o) w o) leads (ap (way_of s.tree) spot.is ∙ ap (λ o. on_way o spot.name) spot.at)
 
 -- a link that is not refused
-module _ (U V : Layer) (lowers : List Layer) (s : State) (m : IsMountOf U lowers s) (c : ℕ) (old new : Path) (fine : link_fault (U ∷ lowers) old new ≡ None) (g : GainsName U V lowers old new) where
+module _ (U V : Layer) (lowers : List Layer) (s : State) (m : IsMountOf U lowers s) (c : ℕ) (old new : Path) (fine : link_fault (U ∷ lowers) old new ≡ None) (g : GainsName U V lowers s.options.metacopy old new) where
   abbrev last : Option Errno
   last = first (when (is_some (shows 0 (U ∷ lowers) new)) EEXIST) (when (is_directory (shows 0 (U ∷ lowers) old)) EPERM)
 

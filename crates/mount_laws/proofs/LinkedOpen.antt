@@ -1,5 +1,5 @@
 -- Live files stay so where link makes a further name, also one of theirs.
-use Rattle.std.proofs.Common.{◌≡◌, ◌≢◌, ◌↔◌, ℕ, suc, ◌+◌, true, List, [], ◌∷◌, ◌++◌, Option, None, Some, option_map, refl, sym, ap, ◌∙◌, inl, inr, is_some}
+use Rattle.std.proofs.Common.{◌≡◌, ◌≢◌, ◌↔◌, ℕ, suc, ◌+◌, true, List, [], ◌∷◌, ◌++◌, Option, None, Some, option_map, refl, sym, ap, ◌∙◌, inl, inr, is_some, Bool}
 use Rattle.std.proofs.lemmas.Bool.{false≢true, cases_Bool}
 use Rattle.ov_base.specs.declared.attributes.Attributes.{Attributes}
 use Rattle.ov_base.specs.declared.bytes.Content.{Content}
@@ -24,30 +24,30 @@ use Rattle.mount_laws.proofs.Places.{nothing-below, named-shown}
 
 -- a file or link at e, in a tree where a name is made that leads to another node or to it
 module _
-    (m : MountOptions) (t : Tree) (w : Option (NodeId × Name)) (e : NodeId) (content : Content) (a : Attributes) (l : ℕ)
-    (is : t e ≡ Some (Leaf content a Own l)) where
+    (m : MountOptions) (t : Tree) (w : Option (NodeId × Name)) (e : NodeId) (content : Content) (a : Attributes) (b : Bool) (l : ℕ)
+    (is : t e ≡ Some (Leaf content a (Own b) l)) where
   -- another node's name leaves it as it was
   joined-other : (o : Option NodeId) → (o ≡ Some e → ⊥) → lead_way (change (one_more m) t o) w o e ≡ t e
-  joined-other None away = way-leaf t w None e content a Own l is
-  joined-other (Some d) away = way-leaf (change (one_more m) t (Some d)) w (Some d) e content a Own l (there ∙ is) ∙ there
+  joined-other None away = way-leaf t w None e content a (Own b) l is
+  joined-other (Some d) away = way-leaf (change (one_more m) t (Some d)) w (Some d) e content a (Own b) l (there ∙ is) ∙ there
     where
       there : change (one_more m) t (Some d) e ≡ t e
       there = put-there t d (over_node (one_more m) (t d)) e (not-same d e (λ h. away (ap Some h)))
 
   abbrev more_own : Option Node
-  more_own = Some (Leaf content a Own (l + 1))
+  more_own = Some (Leaf content a (Own b) (l + 1))
 
   counted-own : change (one_more m) t (Some e) e ≡ more_own
   counted-own = put-here t e (over_node (one_more m) (t e)) e ((ids_tell e e).1 refl) ∙ ap (over_node (one_more m)) is
 
   -- its own name is one more
   joined-own : lead_way (change (one_more m) t (Some e)) w (Some e) e ≡ more_own
-  joined-own = way-leaf (change (one_more m) t (Some e)) w (Some e) e content a Own (l + 1) counted-own ∙ counted-own
+  joined-own = way-leaf (change (one_more m) t (Some e)) w (Some e) e content a (Own b) (l + 1) counted-own ∙ counted-own
 
 -- the path new leads to what old leads to
 module _
     (U V : Layer) (lowers : List Layer) (s : State) (m : IsMountOf U lowers s) (c : ℕ) (old new : Path)
-    (g : GainsName U V lowers old new) (f : MakesName V lowers s c old new) (e : NodeId) (j : ℕ) (w : GainsLink U V old new j)
+    (g : GainsName U V lowers s.options.metacopy old new) (f : MakesName V lowers s c old new) (e : NodeId) (j : ℕ) (w : GainsLink U V old new j)
     (l : IsLive U s.tree e j) where
   abbrev u : Tree
   u = tree_after s c (Hardlink old new)
@@ -61,12 +61,12 @@ module _
   unseen-now q apart none y h = elim (cases_Bool (same_path q old)) [
     | inl z ↦
         let is : q ≡ old = (paths_tell q old).0 z in
-        more (ap (merged V lowers) is ∙ g.here ∙ ap (λ x. option_map linked_sight (merged U lowers x)) (sym is))
+        more (ap (merged V lowers) is ∙ g.here ∙ ap (λ x. option_map (linked_sight s.options.metacopy) (merged U lowers x)) (sym is))
     | inr z ↦ elsewhere (λ is. false≢true (sym z ∙ (paths_tell q old).1 is))
   ]
     where
-      more : merged V lowers q ≡ option_map linked_sight (merged U lowers q) → ⊥
-      more z = let k : None ≡ Some y = sym (z ∙ ap (option_map linked_sight) (unseen q none)) ∙ h in cc
+      more : merged V lowers q ≡ option_map (linked_sight s.options.metacopy) (merged U lowers q) → ⊥
+      more z = let k : None ≡ Some y = sym (z ∙ ap (option_map (linked_sight s.options.metacopy)) (unseen q none)) ∙ h in cc
 
       elsewhere : q ≢ old → ⊥
       elsewhere other =
@@ -75,8 +75,8 @@ module _
 
   -- the file has so many names now
   module _
-      (count : ℕ) (inode : V.inodes j ≡ Some (record { content = File l.bytes; attributes = l.attributes; links = count }))
-      (node : u e ≡ Some (Leaf (File l.bytes) l.attributes Own count)) where
+      (count : ℕ) (inode : V.inodes j ≡ Some (record { content = File l.bytes; attributes = l.attributes; links = count; mark = l.mark }))
+      (node : u e ≡ Some (Leaf (File l.bytes) l.attributes (Own (is_some l.mark)) count)) where
     -- another path to it led to it
     led : (q : Path) → q ≢ new → node_at u q ≡ Some e → node_at s.tree q ≡ Some e
     led q apart h = by (node_at s.tree q) refl
@@ -85,7 +85,7 @@ module _
         by (Some d) k = k ∙ sym (f.stays q d k) ∙ h
         by None k =
             absurd (
-            unseen-now q apart k (SeenLeaf (File l.bytes) l.attributes Own count)
+            unseen-now q apart k (SeenLeaf (File l.bytes) l.attributes (Own (is_some l.mark)) count)
             (sym (f.mounts.shows.sights q) ∙ ap (λ o. face (node_of u o)) h ∙ ap face node)
             )
 
@@ -112,6 +112,7 @@ module _
       bytes = l.bytes;
       attributes = l.attributes;
       links = count;
+      mark = l.mark;
       inode = inode;
       node = node;
       paths = now-names;
@@ -122,7 +123,7 @@ module _
   not-joined away =
       live-now l.links (w.same (λ h. away ((l.paths old).1 h)) ∙ l.inode)
       (
-      joined-other s.options s.tree (way_of s.tree new) e (File l.bytes) l.attributes l.links l.node (node_at s.tree old) away
+      joined-other s.options s.tree (way_of s.tree new) e (File l.bytes) l.attributes (is_some l.mark) l.links l.node (node_at s.tree old) away
       ∙ l.node
       )
 
@@ -131,11 +132,11 @@ module _
   was-joined at =
       live-now (l.links + 1)
       (
-      w.more (record { content = File l.bytes; attributes = l.attributes; links = l.links }) ((l.paths old).0 at) l.inode
+      w.more (record { content = File l.bytes; attributes = l.attributes; links = l.links; mark = l.mark }) ((l.paths old).0 at) l.inode
       )
       (
       ap (λ o. lead_way (change (one_more s.options) s.tree o) (way_of s.tree new) o e) at
-      ∙ joined-own s.options s.tree (way_of s.tree new) e (File l.bytes) l.attributes l.links l.node
+      ∙ joined-own s.options s.tree (way_of s.tree new) e (File l.bytes) l.attributes (is_some l.mark) l.links l.node
       )
 
   through-name : IsLive V u e j

@@ -1,5 +1,5 @@
 -- What symlink makes of the tree, and that the layers which gain the link show it.
-use Rattle.std.proofs.Common.{◌≡◌, ℕ, true, false, List, ◌∷◌, Option, None, Some, refl, sym, ap, ap₂, ◌∙◌, ◌⊎◌, inl, inr, is_some, length}
+use Rattle.std.proofs.Common.{◌≡◌, ℕ, true, false, List, ◌∷◌, Option, None, Some, refl, sym, ap, ap₂, ◌∙◌, ◌⊎◌, inl, inr, is_some, length, Bool}
 use Rattle.std.specs.Prelude.{nat_eq, nat_lt}
 use Rattle.std.proofs.lemmas.Bool.{cases_Bool, both_ways}
 use Rattle.ov_base.specs.declared.attributes.Attributes.{Attributes}
@@ -17,7 +17,7 @@ use Rattle.plain_model.proofs.Kept.{law_of_names}
 use Rattle.plain_model.proofs.Looking.{when-not}
 use Rattle.plain_model.proofs.Paths.{paths_tell}
 use Rattle.mount_laws.specs.Looks.{or_else as first, parents_fault, IsMountOf}
-use Rattle.mount_laws.specs.Leaves.{symlink_fault, GainsLeaf, MakesLink, LawOfLinkMade}
+use Rattle.mount_laws.specs.Leaves.{symlink_fault, GainsLeaf, MakesLink, LawOfLinkMade, GainsLeafAs}
 use Rattle.mount_laws.proofs.Looks.{none-of, to-parents, finds}
 use Rattle.mount_laws.proofs.Makes.{Spot, free-spot, way-shows, way-stays, way-hidden}
 use Rattle.mount_laws.proofs.Places.{named-shown}
@@ -33,7 +33,7 @@ second-none None b h = h
 second-none (Some e) b h = cc
 
 -- an upper that gains a file or link where none of its names was names as before
-module _ (U V : Layer) (lowers : List Layer) (p : Path) (content : Content) (a : Attributes) (new : (k : ℕ) → held U p ≡ Some (Named k) → ⊥) (g : GainsLeaf U V lowers p content a) where
+module _ (U V : Layer) (lowers : List Layer) (low : Bool) (p : Path) (content : Content) (a : Attributes) (new : (k : ℕ) → held U p ≡ Some (Named k) → ⊥) (g : GainsLeafAs U V lowers low p content a) where
   -- the number of the new inode has p as its only name
   only-name : (y z : Path) (k : ℕ) → p ≡ y → held V y ≡ Some (Named k) → held V z ≡ Some (Named k) → z ≡ p
   only-name y z k e a b =
@@ -64,7 +64,7 @@ module _ (U V : Layer) (lowers : List Layer) (p : Path) (content : Content) (a :
 
 module _ (U V : Layer) (lowers : List Layer) (s : State) (m : IsMountOf U lowers s) (c : ℕ) (target : List ℕ) (p : Path) (fine : symlink_fault (U ∷ lowers) target p ≡ None) (g : GainsLeaf U V lowers p (SymbolicLink target) (fresh 0o777)) where
   abbrev x : Node
-  x = Leaf (SymbolicLink target) (fresh 0o777) Own 1
+  x = Leaf (SymbolicLink target) (fresh 0o777) (Own false) 1
 
   abbrev last : Option Errno
   last = first (parents_fault (U ∷ lowers) p) (when (is_some (shows 0 (U ∷ lowers) p)) EEXIST)
@@ -93,13 +93,13 @@ module _ (U V : Layer) (lowers : List Layer) (s : State) (m : IsMountOf U lowers
     answer = refl;
     mounts = record {
       layers = g.layers;
-      shows = way-shows U V lowers s m p spot x bare g.sights (before U V lowers p (SymbolicLink target) (fresh 0o777) unnamed g) (later U V lowers p (SymbolicLink target) (fresh 0o777) unnamed g);
+      shows = way-shows U V lowers s m p spot x bare g.sights (before U V lowers false p (SymbolicLink target) (fresh 0o777) unnamed g) (later U V lowers false p (SymbolicLink target) (fresh 0o777) unnamed g);
       kept = law_of_names s c (Symlink target p) m.kept (law_of_symlink U lowers s m c target p ∙ fine);
       writable = m.writable;
     };
     tables = refl;
-    stays = way-stays U V lowers s m p spot x bare g.sights (before U V lowers p (SymbolicLink target) (fresh 0o777) unnamed g) (later U V lowers p (SymbolicLink target) (fresh 0o777) unnamed g);
-    hidden = way-hidden U V lowers s m p spot x bare g.sights (before U V lowers p (SymbolicLink target) (fresh 0o777) unnamed g) (later U V lowers p (SymbolicLink target) (fresh 0o777) unnamed g);
+    stays = way-stays U V lowers s m p spot x bare g.sights (before U V lowers false p (SymbolicLink target) (fresh 0o777) unnamed g) (later U V lowers false p (SymbolicLink target) (fresh 0o777) unnamed g);
+    hidden = way-hidden U V lowers s m p spot x bare g.sights (before U V lowers false p (SymbolicLink target) (fresh 0o777) unnamed g) (later U V lowers false p (SymbolicLink target) (fresh 0o777) unnamed g);
   }
 
 -- symlink makes the mount one of the upper that gains the link

@@ -34,9 +34,9 @@ follow-later U V old new names x y p q f g l =
     record { number = l.number; first = (names x p l.number f).1 l.first; second = (names y q l.number g).1 l.second }
 
 -- what is seen of an inode of the upper stays where a name of it moves
-pub own-moved : (o : Option Inode) → option_map moved_sight (see_inode 0 o) ≡ see_inode 0 o
-own-moved None = refl
-own-moved (Some i) = refl
+pub own-moved : (low : Bool) (o : Option Inode) → option_map (moved_sight low) (see_inode 0 o) ≡ see_inode 0 o
+own-moved low None = refl
+own-moved low (Some i) = refl
 
 -- where a name moved, both uppers agree outside the two places
 pub name-agree :
@@ -70,7 +70,7 @@ module _ (U V : Layer) (lowers : List Layer) (a : AreLayers (U ∷ lowers)) (old
     λ h. ap (held V) f ∙ m.elsewhere x o p ∙ h,
   )
 
-  module _ (b : AreLayers (V ∷ lowers)) (apart : IsOutside old new) (back : IsOutside new old) (unlinked : AreLinked U old new → ⊥) where
+  module _ (b : AreLayers (V ∷ lowers)) (low : Bool) (apart : IsOutside old new) (back : IsOutside new old) (unlinked : AreLinked U old new → ⊥) where
     gone-shown : (o : Path) → old ≡ o → (r : Path) → shows 0 (V ∷ lowers) (r ++ old) ≡ None
     gone-shown [] e r = let z : Some (Directory 0 U.root false None) ≡ Some (Named m.number) = ap (held U) (sym e) ∙ m.source in cc
     gone-shown (k ∷ p) e r =
@@ -81,11 +81,11 @@ module _ (U V : Layer) (lowers : List Layer) (a : AreLayers (U ∷ lowers)) (old
         (ap (held V) (sym e) ∙ m.left ∙ ap (left_at U lowers) e)
         (λ j s. ap (λ p. held V (j ∷ s ++ p)) (sym e) ∙ m.emptied j s) r
 
-    here : merged V lowers new ≡ option_map moved_sight (merged U lowers old)
+    here : merged V lowers new ≡ option_map (moved_sight low) (merged U lowers old)
     here =
         named-seen V lowers new m.number m.here
         ∙ ap (see_inode 0) (m.inodes m.number (λ h. unlinked (record { number = m.number; first = m.source; second = h })))
-        ∙ sym (ap (option_map moved_sight) (named-seen U lowers old m.number m.source) ∙ own-moved (U.inodes m.number))
+        ∙ sym (ap (option_map (moved_sight low)) (named-seen U lowers old m.number m.source) ∙ own-moved low (U.inodes m.number))
 
     dead : (p : Path) → held V p ≡ Some (Named m.number) → is_directory (through V lowers p) ≡ false
     dead [] h = let z : Some (Directory 0 V.root false None) ≡ Some (Named m.number) = h in cc
@@ -115,7 +115,7 @@ module _ (U V : Layer) (lowers : List Layer) (a : AreLayers (U ∷ lowers)) (old
             ∙ ap (see_inode 0) (m.fewer l.number i l.first is (two-names U a.0 l.number i is new x l.first l.second (p [])))
             ∙ sym (ap fewer (named-seen U lowers x l.number l.second ∙ ap (see_inode 0) is))
 
-    name-moves : MovesTo U V lowers old new
+    name-moves : MovesTo U V lowers low old new
     name-moves = record {
       layers = b;
       gone = λ r. ap (see _) (gone-shown old refl r);
@@ -129,7 +129,7 @@ module _ (U V : Layer) (lowers : List Layer) (a : AreLayers (U ∷ lowers)) (old
 
 -- a name of the upper's moves and no more
 pub law_of_moved_name : LawOfMovedName
-law_of_moved_name U V lowers a b old new apart back unlinked m = name-moves U V lowers a old new m b apart back unlinked
+law_of_moved_name U V lowers a b low old new apart back unlinked m = name-moves U V lowers a old new m b low apart back unlinked
 
 -- a directory is no name of an inode
 no-name : {X : Type 0} (k : ℕ) (a : Attributes) (o : Bool) (r : Option Redirect) (j : ℕ) → Some (Directory k a o r) ≡ Some (Named j) → X
@@ -155,7 +155,7 @@ module _ (U V : Layer) (lowers : List Layer) (old : Path) (n : Name) (q : Path) 
   )
 
   module _
-      (a : AreLayers (U ∷ lowers)) (b : AreLayers (V ∷ lowers)) (apart : IsOutside old path) (back : IsOutside path old)
+      (a : AreLayers (U ∷ lowers)) (b : AreLayers (V ∷ lowers)) (low : Bool) (apart : IsOutside old path) (back : IsOutside path old)
       (unnamed : NamesNoInode U path) where
     keeps : KeepsMoves U V lowers old n q
     keeps = law_of_moves U V lowers old n q a.1 apart back m.moved
@@ -163,14 +163,14 @@ module _ (U V : Layer) (lowers : List Layer) (old : Path) (n : Name) (q : Path) 
     based : is_directory (through V lowers path) ≡ is_directory (through U lowers old)
     based = sym (base-through V lowers path) ∙ keeps.base_new ∙ base-through U lowers old
 
-    directory-here : merged V lowers path ≡ option_map moved_sight (merged U lowers old)
+    directory-here : merged V lowers path ≡ option_map (moved_sight low) (merged U lowers old)
     directory-here =
         merged-meld V lowers path
         ∙ ap (λ o. meld V.inodes o (through V lowers path)) m.moved.placed
         ∙ ap (λ b. Some (SeenBranch m.moved.attributes b)) based
-        ∙ sym (ap (option_map moved_sight) (merged-meld U lowers old ∙ ap (λ o. meld U.inodes o (through U lowers old)) m.source))
+        ∙ sym (ap (option_map (moved_sight low)) (merged-meld U lowers old ∙ ap (λ o. meld U.inodes o (through U lowers old)) m.source))
 
-    directory-moves : MovesTo U V lowers old path
+    directory-moves : MovesTo U V lowers low old path
     directory-moves = record {
       layers = b;
       gone = λ r. ap (see _) (keeps.gone r);
@@ -190,4 +190,4 @@ module _ (U V : Layer) (lowers : List Layer) (old : Path) (n : Name) (q : Path) 
 
 -- a directory of the upper's moves and no more
 pub law_of_moved_directory : LawOfMovedDirectory
-law_of_moved_directory U V lowers a b old n q apart back unnamed m = directory-moves U V lowers old n q m a b apart back unnamed
+law_of_moved_directory U V lowers a b low old n q apart back unnamed m = directory-moves U V lowers old n q m a b low apart back unnamed

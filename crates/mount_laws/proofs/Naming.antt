@@ -1,5 +1,5 @@
 -- Uppers that gain a further name of an inode: of their own, and of one that was copied up first.
-use Rattle.std.proofs.Common.{◌≡◌, ◌≢◌, ℕ, suc, false, List, [], ◌∷◌, ◌++◌, None, Some, option_map, sym, ap, ◌∙◌, ◌⊎◌, inl, inr}
+use Rattle.std.proofs.Common.{◌≡◌, ◌≢◌, ℕ, suc, false, List, [], ◌∷◌, ◌++◌, None, Some, option_map, sym, ap, ◌∙◌, ◌⊎◌, inl, inr, Bool}
 use Rattle.plain_model.specs.Layers.{Name, Path, Named, Inode, Layer, held, spell, below, cut, cuts, Contents, unless, over, shows, through, is_directory, base, AreLayers}
 use Rattle.plain_model.specs.Tree.{see, see_inode, merged, AreLinked}
 use Rattle.plain_model.proofs.Merged.{named-seen}
@@ -10,7 +10,7 @@ use Rattle.mount_laws.proofs.Alters.{alike-outside, none-beneath}
 use Rattle.mount_laws.proofs.Places.{nothing-below, named-shown}
 
 -- a further name at n in q of the inode that p names
-module _ (U V : Layer) (lowers : List Layer) (a : AreLayers (U ∷ lowers)) (b : AreLayers (V ∷ lowers)) (p : Path) (n : Name) (q : Path) (free : shows 0 (U ∷ lowers) (n ∷ q) ≡ None) (m : AddsName U V p (n ∷ q)) where
+module _ (U V : Layer) (lowers : List Layer) (a : AreLayers (U ∷ lowers)) (b : AreLayers (V ∷ lowers)) (low : Bool) (p : Path) (n : Name) (q : Path) (free : shows 0 (U ∷ lowers) (n ∷ q) ≡ None) (m : AddsName U V p (n ∷ q)) where
   abbrev path : Path
   path = n ∷ q
 
@@ -37,10 +37,10 @@ module _ (U V : Layer) (lowers : List Layer) (a : AreLayers (U ∷ lowers)) (b :
       below-it (y ∷ r) e = let z : None ≡ Some (Named k) = sym (m.beneath y r) ∙ ap (held V) (sym e) ∙ h in cc
 
   -- a name of the inode shows one name more
-  shows-more : (x z : Path) → held V x ≡ Some (Named m.number) → held U z ≡ Some (Named m.number) → merged V lowers x ≡ option_map linked_sight (merged U lowers z)
+  shows-more : (x z : Path) → held V x ≡ Some (Named m.number) → held U z ≡ Some (Named m.number) → merged V lowers x ≡ option_map (linked_sight low) (merged U lowers z)
   shows-more x z h g =
       named-seen V lowers x m.number h ∙ ap (see_inode 0) m.now
-      ∙ sym (ap (option_map linked_sight) (named-seen U lowers z m.number g ∙ ap (see_inode 0) m.before))
+      ∙ sym (ap (option_map (linked_sight low)) (named-seen U lowers z m.number g ∙ ap (see_inode 0) m.before))
 
   -- a path that is linked with p names the inode
   same-number : (x : Path) → AreLinked U p x → held U x ≡ Some (Named m.number)
@@ -48,7 +48,7 @@ module _ (U V : Layer) (lowers : List Layer) (a : AreLayers (U ∷ lowers)) (b :
       let number : l.number ≡ m.number = (let w : Some (Named l.number) ≡ Some (Named m.number) = sym l.first ∙ m.source in cc) in
       l.second ∙ ap (λ k. Some (Named k)) number
 
-  linked-more : (x : Path) → AreLinked U p x → merged V lowers x ≡ option_map linked_sight (merged U lowers x)
+  linked-more : (x : Path) → AreLinked U p x → merged V lowers x ≡ option_map (linked_sight low) (merged U lowers x)
   linked-more x l = let h = same-number x l in shows-more x x (named-now x m.number h) h
 
   cut-through : is_directory (through V lowers path) ≡ false
@@ -74,7 +74,7 @@ module _ (U V : Layer) (lowers : List Layer) (a : AreLayers (U ∷ lowers)) (b :
       let number : l.number ≡ m.number = (let w : Some (Named l.number) ≡ Some (Named m.number) = sym l.second ∙ m.here in cc) in
       record { number = m.number; first = m.source; second = named-before x m.number apart (l.first ∙ ap (λ k. Some (Named k)) number) }
 
-  added : GainsName U V lowers p path
+  added : GainsName U V lowers low p path
   added = record {
     layers = b;
     here = shows-more p p (named-now p m.number m.source) m.source;
@@ -92,7 +92,7 @@ pub law_of_added_name : LawOfAddedName
 law_of_added_name = added
 
 -- a file or link of a lower layer that was copied up to W, which then gains the name
-module _ (U W V : Layer) (lowers : List Layer) (p q : Path) (j l : ℕ) (i : Inode) (lower : shows 0 (U ∷ lowers) p ≡ Some (Contents (suc j) l (Some i))) (c : Alters U W lowers p i.attributes) (g : GainsName W V lowers p q) where
+module _ (U W V : Layer) (lowers : List Layer) (low : Bool) (p q : Path) (j l : ℕ) (i : Inode) (lower : shows 0 (U ∷ lowers) p ≡ Some (Contents (suc j) l (Some i))) (c : Alters U W lowers low p i.attributes) (g : GainsName W V lowers low p q) where
   -- the upper named no inode there
   unnamed : (k : ℕ) → held U p ≡ Some (Named k) → ⊥
   unnamed k h = let z : Some (Contents 0 k (U.inodes k)) ≡ Some (Contents (suc j) l (Some i)) = sym (ap (λ o. over 0 U.inodes o (through U lowers p)) h) ∙ lower in cc
@@ -101,10 +101,10 @@ module _ (U W V : Layer) (lowers : List Layer) (p q : Path) (j l : ℕ) (i : Ino
   unlinked x w = unnamed w.number w.first
 
   -- it is copied up with one name, and has two then
-  two-shown : option_map linked_sight (merged W lowers p) ≡ option_map linked_sight (merged U lowers p)
+  two-shown : option_map (linked_sight low) (merged W lowers p) ≡ option_map (linked_sight low) (merged U lowers p)
   two-shown =
-      ap (option_map linked_sight) (c.here ∙ ap (λ s. option_map (altered i.attributes) (see (base U lowers p) s)) lower)
-      ∙ sym (ap (λ s. option_map linked_sight (see (base U lowers p) s)) lower)
+      ap (option_map (linked_sight low)) (c.here ∙ ap (λ s. option_map (altered low i.attributes) (see (base U lowers p) s)) lower)
+      ∙ sym (ap (λ s. option_map (linked_sight low) (see (base U lowers p) s)) lower)
 
   not-linked : (x : Path) → x ≢ p → AreLinked W p x → ⊥
   not-linked x apart w = elim (c.earlier p x w) [ inl e ↦ apart (sym e) | inr u ↦ unlinked x u ]
@@ -117,7 +117,7 @@ module _ (U W V : Layer) (lowers : List Layer) (p q : Path) (j l : ℕ) (i : Ino
   at-copy x (inl e) = inl e
   at-copy x (inr w) = elim (c.earlier p x w) [ inl e ↦ inl (sym e) | inr u ↦ inr u ]
 
-  copied : GainsName U V lowers p q
+  copied : GainsName U V lowers low p q
   copied = record {
     layers = g.layers;
     here = g.here ∙ two-shown;

@@ -103,8 +103,8 @@ drop-one ks t p one = one-settled ks (lead_way (change one_fewer t (node_at t p)
 open-one : (s : State) (c : ℕ) (p : Path) (f : OpenFlags) (mode : ℕ) → HaveOneName s.tree → HaveOneName (tree_after s c (Open p f mode))
 open-one s c p f mode one = by (node_at s.tree p)
   where
-    by : (o : Option NodeId) → HaveOneName (cond (is_none o) (made_way s.tree s.serial (way_of s.tree p) (Leaf (File []) (fresh mode) Own 1)) (change (opened f) s.tree o))
-    by None = one-made s.tree s.serial (way_of s.tree p) (Leaf (File []) (fresh mode) Own 1) refl one
+    by : (o : Option NodeId) → HaveOneName (cond (is_none o) (made_way s.tree s.serial (way_of s.tree p) (Leaf (File []) (fresh mode) (Own false) 1)) (change (opened f) s.tree o))
+    by None = one-made s.tree s.serial (way_of s.tree p) (Leaf (File []) (fresh mode) (Own false) 1) refl one
     by (Some d) = one-mild (opened f) (opened-mild f) s.tree (Some d) one
 
 -- a rename, also of an object onto itself
@@ -141,7 +141,7 @@ law_of_one_name_kept s c (GetAttribute p n) one = one
 law_of_one_name_kept s c (DeleteAttribute p n) one = one-mild _ (attributes-mild s.options (λ a. record a { user = drop_value a.user n })) s.tree (node_at s.tree p) one
 law_of_one_name_kept s c (ListAttributes p) one = one
 law_of_one_name_kept s c (Mkdir p mode) one = one-made s.tree s.serial (way_of s.tree p) (Branch (fresh mode) false fin.empty 1) refl one
-law_of_one_name_kept s c (Symlink target p) one = one-made s.tree s.serial (way_of s.tree p) (Leaf (SymbolicLink target) (fresh 0o777) Own 1) refl one
+law_of_one_name_kept s c (Symlink target p) one = one-made s.tree s.serial (way_of s.tree p) (Leaf (SymbolicLink target) (fresh 0o777) (Own false) 1) refl one
 law_of_one_name_kept s c (Open p f mode) one = open-one s c p f mode one
 law_of_one_name_kept s c (Unlink p) one = drop-one s.tables s.tree p one
 law_of_one_name_kept s c (Rmdir p) one = drop-one s.tables s.tree p one
@@ -187,7 +187,7 @@ at-most-one (v ∷ w ∷ es) once same = absurd (both_ways (same_entry v w) (IsD
 -- a directory of a merge
 module _ (U : Layer) (lowers : List Layer) (t : Tree) (layers : AreLayers (U ∷ lowers)) (m : IsMerge U lowers t) (d : NodeId) (folder : is_folder (t d) ≡ true) where
   alone : HaveOnePath t
-  alone = (law_of_one_path U lowers _ (law_of_beginning U lowers t false layers m)).directories
+  alone = (law_of_one_path U lowers _ (law_of_beginning U lowers t false false layers m)).directories
 
   names : AreNames t d (count_of (t d))
   names = m.kept.counted d

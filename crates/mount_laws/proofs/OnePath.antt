@@ -14,7 +14,7 @@ use Rattle.mount_laws.proofs.Makes.{folder-alone}
 own-seen : (o : Option Node) (i : Option Inode) → face o ≡ see_inode 0 i → is_untouched o ≡ false
 own-seen None i e = refl
 own-seen (Some (Branch a b names c)) i e = refl
-own-seen (Some (Leaf content a Own c)) i e = refl
+own-seen (Some (Leaf content a (Own z) c)) i e = refl
 own-seen (Some (Leaf content a (Untouched k) c)) None e = cc
 own-seen (Some (Leaf content a (Untouched k) c)) (Some i) e = cc
 

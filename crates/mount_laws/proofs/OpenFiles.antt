@@ -1,6 +1,6 @@
 -- Files of the upper that a path shows or an open makes are live.
-use Rattle.std.proofs.Common.{◌≡◌, ◌↔◌, ℕ, suc, Bool, true, false, cond, List, [], ◌∷◌, Option, None, Some, refl, sym, ap, ◌∙◌, ◌⊎◌, inl, inr, is_none}
-use Rattle.std.proofs.lemmas.Bool.{cases_Bool}
+use Rattle.std.proofs.Common.{◌≡◌, ◌↔◌, ℕ, suc, Bool, true, false, cond, List, [], ◌∷◌, Option, None, Some, refl, sym, ap, ◌∙◌, ◌⊎◌, inl, inr, is_none, is_some}
+use Rattle.std.proofs.lemmas.Bool.{cases_Bool, false≢true}
 use Rattle.ov_base.specs.declared.attributes.Attributes.{Attributes}
 use Rattle.ov_base.specs.declared.bytes.Content.{Content}
 use Rattle.ov_base.specs.declared.bytes.Content.TheVariants.{File}
@@ -50,12 +50,12 @@ shown-held U (Some (Named n)) c s k i not h =
 
 -- a node that is seen as a file of the upper is one
 own-leaf :
-    (o : Option Node) (content : Content) (a : Attributes) (l : ℕ) → face o ≡ Some (SeenLeaf content a Own l) →
-    o ≡ Some (Leaf content a Own l)
-own-leaf None content a l h = cc
-own-leaf (Some (Branch x b names c)) content a l h = cc
-own-leaf (Some (Leaf content x Own c)) y a l h = cc
-own-leaf (Some (Leaf content x (Untouched k) c)) y a l h = cc
+    (o : Option Node) (content : Content) (a : Attributes) (m : Bool) (l : ℕ) → face o ≡ Some (SeenLeaf content a (Own m) l) →
+    o ≡ Some (Leaf content a (Own m) l)
+own-leaf None content a m l h = cc
+own-leaf (Some (Branch x b names c)) content a m l h = cc
+own-leaf (Some (Leaf content x (Own z) c)) y a m l h = cc
+own-leaf (Some (Leaf content x (Untouched k) c)) y a m l h = cc
 
 -- the number that a name of the upper has is one
 pub one-number : (U : Layer) (p : Path) (j k : ℕ) → held U p ≡ Some (Named j) → held U p ≡ Some (Named k) → j ≡ k
@@ -91,16 +91,17 @@ law_of_live_shown U lowers s m p k i bytes d shown file at = record {
   bytes = bytes;
   attributes = i.attributes;
   links = i.links;
+  mark = i.mark;
   inode = is.1 ∙ ap (λ x. Some (record i { content = x })) file;
-  node = own-leaf (s.tree d) (File bytes) i.attributes i.links seen;
+  node = own-leaf (s.tree d) (File bytes) i.attributes (is_some i.mark) i.links seen;
   paths = paths-names U lowers s m p d k at is.0;
 }
   where
     is : (held U p ≡ Some (Named k)) × (U.inodes k ≡ Some i)
     is = shown-held U (held U p) (cuts U p) (shows 1 lowers (below U p)) k i (from-below 0 lowers (below U p) k) shown
 
-    seen : face (s.tree d) ≡ Some (SeenLeaf (File bytes) i.attributes Own i.links)
-    seen = seen-inode U lowers s m p d k at is.0 ∙ ap (see_inode 0) is.1 ∙ ap (λ x. Some (SeenLeaf x i.attributes Own i.links)) file
+    seen : face (s.tree d) ≡ Some (SeenLeaf (File bytes) i.attributes (Own (is_some i.mark)) i.links)
+    seen = seen-inode U lowers s m p d k at is.0 ∙ ap (see_inode 0) is.1 ∙ ap (λ x. Some (SeenLeaf x i.attributes (Own (is_some i.mark)) i.links)) file
 
 -- a name in a directory leaves files and links as they were
 pub lead-leaf :
@@ -125,23 +126,30 @@ made-node t i w content a u l =
     here : put t (New i) (Some (Leaf content a u l)) (New i) ≡ Some (Leaf content a u l)
     here = put-here t (New i) (Some (Leaf content a u l)) (New i) ((ids_tell (New i) (New i)).1 refl)
 
--- an inode that is seen as a file of the upper is one
+-- no mark is none
+no-mark : (q : Option Path) → is_some q ≡ false → q ≡ None
+no-mark None h = refl
+no-mark (Some q) h = absurd (false≢true (sym h))
+
+-- an inode that is seen as a file of the upper with bytes of its own is one
 own-inode :
-    (o : Option Inode) (content : Content) (a : Attributes) (l : ℕ) → see_inode 0 o ≡ Some (SeenLeaf content a Own l) →
-    o ≡ Some (record { content = content; attributes = a; links = l })
+    (o : Option Inode) (content : Content) (a : Attributes) (l : ℕ) → see_inode 0 o ≡ Some (SeenLeaf content a (Own false) l) →
+    o ≡ Some (record { content = content; attributes = a; links = l; mark = None })
 own-inode None content a l h = cc
 own-inode (Some i) content a l h =
     let c : i.content ≡ content = cc in
     let x : i.attributes ≡ a = cc in
     let n : i.links ≡ l = cc in
-    λ j. Some (record { content = c j; attributes = x j; links = n j })
+    let marked : is_some i.mark ≡ false = cc in
+    let k : i.mark ≡ None = no-mark i.mark marked in
+    λ j. Some (record { content = c j; attributes = x j; links = n j; mark = k j })
 
 -- a file that an open makes is live
 module _
     (U V : Layer) (lowers : List Layer) (s : State) (c : ℕ) (p : Path) (flags : OpenFlags) (mode : ℕ)
     (g : GainsLeaf U V lowers p (File []) (fresh mode)) (f : MakesFile V lowers s c p flags mode) where
   abbrev x : Node
-  x = Leaf (File []) (fresh mode) Own 1
+  x = Leaf (File []) (fresh mode) (Own false) 1
 
   abbrev u : Tree
   u = tree_after s c (Open p flags mode)
@@ -153,13 +161,13 @@ module _
   file-node = ap (λ t. t (New s.serial)) tree-is ∙ by (way_of s.tree p) refl
     where
       by : (w : Option (NodeId × Name)) → way_of s.tree p ≡ w → made_way s.tree s.serial w x (New s.serial) ≡ Some x
-      by (Some w) h = made-node s.tree s.serial w (File []) (fresh mode) Own 1
+      by (Some w) h = made-node s.tree s.serial w (File []) (fresh mode) (Own false) 1
       by None h =
           let same : u ≡ s.tree = tree-is ∙ ap (λ w. made_way s.tree s.serial w x) h in
           let z : None ≡ Some (New s.serial) = sym f.absent ∙ ap (λ t. node_at t p) (sym same) ∙ f.made in
           cc
 
-  file-inode : V.inodes g.number ≡ Some (record { content = File []; attributes = fresh mode; links = 1 })
+  file-inode : V.inodes g.number ≡ Some (record { content = File []; attributes = fresh mode; links = 1; mark = None })
   file-inode = own-inode (V.inodes g.number) (File []) (fresh mode) 1 seen
     where
       seen : see_inode 0 (V.inodes g.number) ≡ face (Some x)
@@ -174,6 +182,7 @@ law_of_live_made U V lowers s c p flags mode g f = record {
   bytes = [];
   attributes = fresh mode;
   links = 1;
+  mark = None;
   inode = file-inode U V lowers s c p flags mode g f;
   node = file-node U V lowers s c p flags mode g f;
   paths = paths-names V lowers (after s c (Open p flags mode)) f.mounts p (New s.serial) g.number f.made g.here;

@@ -15,7 +15,7 @@ use Rattle.plain_model.specs.Layers.{Path, Layer, Shown, Folder, Contents, shows
 use Rattle.plain_model.specs.Tree.{Node, Branch, Leaf, Origin, Own, Untouched, Tree, node_at, node_of, face, Sight, SeenLeaf, see, is_folder}
 use Rattle.plain_model.specs.Machine.{View, Live, Frozen, Handle, Table, State, Look, look, is_found, is_link, lowest_free, DESCRIPTORS_MAX}
 use Rattle.plain_model.specs.Refusals.{◌or_else◌, when, walked, bad_flags, bad_mode, refusal}
-use Rattle.plain_model.specs.Changes.{change, opened, over_node, fresh, made_way, opens, way_of, new_handle, view_of, frozen_by, frozen_links, with_bytes, touched, with_handle, next_if}
+use Rattle.plain_model.specs.Changes.{change, opened, over_node, fresh, made_way, opens, way_of, new_handle, view_of, view_by, with_bytes, touched, with_handle, next_if}
 use Rattle.plain_model.proofs.Looking.{when-not, refusal-writable}
 use Rattle.mount_laws.specs.Looks.{or_else as first, parents_fault, shows_link, IsMountOf}
 use Rattle.mount_laws.specs.Opening.{shown_fault, opening_fault, LawOfOpenRefusal, inode_view, shown_view, live_handle, OpensReading, LawOfOpenedForReading, OpensWriting, LawOfOpenedForWriting, OpensMaking, LawOfOpenedMaking}
@@ -100,24 +100,19 @@ unchanged f h (Some x) = ap (λ b. Some (cond b (cond f.truncate (with_bytes [] 
 live : (f : OpenFlags) → f.writes ≡ true → (o : Option Node) → view_of f o ≡ Live
 live f h None = refl
 live f h (Some (Branch a b names c)) = refl
-live f h (Some (Leaf (File bytes) a u l)) = ap (λ b. cond b Live (frozen_by (frozen_links u) bytes a)) h
+live f h (Some (Leaf (File bytes) a u l)) = ap (λ b. cond b Live (view_by u bytes a)) h
 live f h (Some (Leaf (SymbolicLink target) a u l)) = refl
 
 -- what a handle for reading sees, by what is seen of its node
-abbrev origin_view : Origin → List ℕ → Attributes → View
-origin_view Own bytes a = Live
-origin_view (Untouched links) bytes a = Frozen bytes a links
-
 abbrev seen_view : Option Sight → View
-seen_view (Some (SeenLeaf (File bytes) a u l)) = origin_view u bytes a
+seen_view (Some (SeenLeaf (File bytes) a u l)) = view_by u bytes a
 seen_view _ = Live
 
 -- a handle for reading sees what is seen of its node
 face-view : (f : OpenFlags) → f.writes ≡ false → (o : Option Node) → view_of f o ≡ seen_view (face o)
 face-view f h None = refl
 face-view f h (Some (Branch a b names c)) = refl
-face-view f h (Some (Leaf (File bytes) a Own l)) = ap (λ b. cond b Live Live) h
-face-view f h (Some (Leaf (File bytes) a (Untouched links) l)) = ap (λ b. cond b Live (Frozen bytes a links)) h
+face-view f h (Some (Leaf (File bytes) a u l)) = ap (λ b. cond b Live (view_by u bytes a)) h
 face-view f h (Some (Leaf (SymbolicLink target) a u l)) = refl
 
 -- what is seen of what is shown
@@ -126,11 +121,15 @@ see-view b None = refl
 see-view b (Some (Folder j k a)) = refl
 see-view b (Some (Contents zero k None)) = refl
 see-view b (Some (Contents (suc j) k None)) = refl
-see-view b (Some (Contents zero k (Some inode))) = by inode.content
+see-view b (Some (Contents zero k (Some inode))) = by inode.content inode.mark
   where
-    by : (x : Content) → seen_view (Some (SeenLeaf x inode.attributes Own inode.links)) ≡ Live
-    by (File bytes) = refl
-    by (SymbolicLink target) = refl
+    by :
+        (x : Content) (mark : Option Path) →
+        seen_view (Some (SeenLeaf x inode.attributes (Own (is_some mark)) inode.links)) ≡
+        inode_view zero (Some (record inode { content = x; mark = mark }))
+    by (File bytes) None = refl
+    by (File bytes) (Some q) = refl
+    by (SymbolicLink target) mark = refl
 see-view b (Some (Contents (suc j) k (Some inode))) = by inode.content
   where
     by :
@@ -184,7 +183,7 @@ module _
     (fine : opening_fault (U ∷ lowers) p f mode (lowest_free s.tables c) ≡ None)
   where
     abbrev new : Node
-    new = Leaf (File []) (fresh mode) Own 1
+    new = Leaf (File []) (fresh mode) (Own false) 1
 
     -- the tree after an open of what the path leads to
     abbrev tree_by : Option NodeId → Tree

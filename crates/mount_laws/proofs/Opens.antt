@@ -141,8 +141,8 @@ opens-as U lowers s m c p mode fd h free = by (node_at s.tree p) refl (folder-at
     by None at f = absurd (false≢true (sym (ap (λ o. is_folder (node_of s.tree o)) at) ∙ f))
     by (Some d) at f =
         let view : view_of FOR_LISTING (node_of s.tree (node_at s.tree p)) ≡ Live = live _ f in
-        let kept : cond (is_none (node_at s.tree p)) (made_way s.tree s.serial (way_of s.tree p) (Leaf (File []) (fresh mode) Own 1)) (change (opened FOR_LISTING) s.tree (node_at s.tree p)) ≡ s.tree =
-        ap (λ o. cond (is_none o) (made_way s.tree s.serial (way_of s.tree p) (Leaf (File []) (fresh mode) Own 1)) (change (opened FOR_LISTING) s.tree o)) at ∙ unmoved s.tree d in
+        let kept : cond (is_none (node_at s.tree p)) (made_way s.tree s.serial (way_of s.tree p) (Leaf (File []) (fresh mode) (Own false) 1)) (change (opened FOR_LISTING) s.tree (node_at s.tree p)) ≡ s.tree =
+        ap (λ o. cond (is_none o) (made_way s.tree s.serial (way_of s.tree p) (Leaf (File []) (fresh mode) (Own false) 1)) (change (opened FOR_LISTING) s.tree o)) at ∙ unmoved s.tree d in
         record {
           node = d;
           at = at;
@@ -171,7 +171,7 @@ law_of_open U lowers s m c p mode = record {
 
 -- a directory of a merge is named by its own path
 pub law_of_directories : LawOfDirectories
-law_of_directories U lowers t a m p h = by (node_at t p) refl (at-some U lowers (opening t (record { redirects = false; read_only = false })) (law_of_beginning U lowers t false a m) p ∙ is-shown (shows 0 (U ∷ lowers) p) h)
+law_of_directories U lowers t a m p h = by (node_at t p) refl (at-some U lowers (opening t (record { redirects = false; metacopy = false; read_only = false })) (law_of_beginning U lowers t false false a m) p ∙ is-shown (shows 0 (U ∷ lowers) p) h)
   where
     is-shown : (s : Option Shown) → is_directory s ≡ true → is_some s ≡ true
     is-shown None h = h

@@ -98,9 +98,10 @@ module _
     bytes = l.bytes;
     attributes = l.attributes;
     links = l.links;
+    mark = l.mark;
     inode = w.same (λ h. away ((l.paths p).1 h)) ∙ l.inode;
     node =
-        dropped-other s.tree s.tables (way_of s.tree p) e (File l.bytes) l.attributes Own l.links l.node (node_at s.tree p) away
+        dropped-other s.tree s.tables (way_of s.tree p) e (File l.bytes) l.attributes (Own (is_some l.mark)) l.links l.node (node_at s.tree p) away
         ∙ l.node;
     paths = names;
   }
@@ -111,10 +112,11 @@ module _
     bytes = l.bytes;
     attributes = l.attributes;
     links = l.links - 1;
-    inode = w.fewer (record { content = File l.bytes; attributes = l.attributes; links = l.links }) ((l.paths p).0 at) l.inode;
+    mark = l.mark;
+    inode = w.fewer (record { content = File l.bytes; attributes = l.attributes; links = l.links; mark = l.mark }) ((l.paths p).0 at) l.inode;
     node =
         ap (λ o. settled s.tables (lead_way (change one_fewer s.tree o) (way_of s.tree p) None) o e) at
-        ∙ dropped-own s.tree s.tables (way_of s.tree p) e (File l.bytes) l.attributes Own l.links l.node (open_there ((l.paths p).0 at));
+        ∙ dropped-own s.tree s.tables (way_of s.tree p) e (File l.bytes) l.attributes (Own (is_some l.mark)) l.links l.node (open_there ((l.paths p).0 at));
     paths = names;
   }
 
@@ -151,6 +153,7 @@ module _
     bytes = l.bytes;
     attributes = l.attributes;
     links = l.links;
+    mark = l.mark;
     inode = w.same (λ h. away ((l.paths p).1 h)) ∙ l.inode;
     node = others e away ∙ l.node;
     paths = still-names;
@@ -170,13 +173,14 @@ module _
     bytes = l.bytes;
     attributes = f a;
     links = l.links;
-    inode = w.altered (record { content = File l.bytes; attributes = l.attributes; links = l.links }) ((l.paths p).0 at) l.inode;
+    mark = l.mark;
+    inode = w.altered (record { content = File l.bytes; attributes = l.attributes; links = l.links; mark = l.mark }) ((l.paths p).0 at) l.inode;
     node =
         ap (λ t. t e) is
         ∙ ap (λ o. change (with_attributes s.options f) s.tree o e) at
         ∙ put-here s.tree e (over_node (with_attributes s.options f) (s.tree e)) e ((ids_tell e e).1 refl)
         ∙ ap (over_node (with_attributes s.options f)) l.node
-        ∙ ap (λ x. Some (Leaf (File l.bytes) (f x) Own l.links)) (own-attributes ((l.paths p).0 at));
+        ∙ ap (λ x. Some (Leaf (File l.bytes) (f x) (Own (is_some l.mark)) l.links)) (own-attributes ((l.paths p).0 at));
     paths = still-names;
   }
 

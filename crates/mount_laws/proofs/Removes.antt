@@ -162,7 +162,7 @@ attributes-fewer (Some (Leaf content a u l)) = refl
 pub face-fewer : (o : Option Node) (i : Option Inode) → face o ≡ see_inode 0 i → face (over_node one_fewer o) ≡ fewer (face o)
 face-fewer None i h = refl
 face-fewer (Some (Branch a b names c)) i h = refl
-face-fewer (Some (Leaf content a Own l)) i h = refl
+face-fewer (Some (Leaf content a (Own z) l)) i h = refl
 face-fewer (Some (Leaf content a (Untouched k) l)) None h = cc
 face-fewer (Some (Leaf content a (Untouched k) l)) (Some i) h = cc
 

@@ -1,11 +1,11 @@
 -- Rename makes the mount one of the upper to which the object moved.
-use Rattle.std.proofs.Common.{◌≡◌, ℕ, true, false, cond, List, [], ◌∷◌, ◌++◌, Option, None, Some, option_map, refl, sym, ap, subst, ◌∙◌, ◌⊎◌, inl, inr, is_some, ap₂}
+use Rattle.std.proofs.Common.{◌≡◌, ℕ, true, false, cond, List, [], ◌∷◌, ◌++◌, Option, None, Some, option_map, refl, sym, ap, subst, ◌∙◌, ◌⊎◌, inl, inr, is_some, ap₂, ◌&&◌}
 use Rattle.std.proofs.lemmas.Bool.{false≢true, cases_Bool}
 use Rattle.std.proofs.lemmas.List.{append_cancel_right}
 use Rattle.ov_base.specs.declared.call.Call.TheVariants.{Rename}
 use Rattle.ov_base.specs.declared.errno.Errno.TheVariants.{EBUSY}
 use Rattle.ov_base.specs.declared.node_id.NodeId.{NodeId}
-use Rattle.plain_model.specs.Layers.{Name, Path, Named, Inode, Layer, held, over, through, shows, is_directory}
+use Rattle.plain_model.specs.Layers.{Name, Path, Named, Inode, Layer, held, over, through, shows, is_directory, is_file}
 use Rattle.plain_model.specs.Laws.{IsOutside}
 use Rattle.plain_model.specs.Tree.{Node, Branch, Leaf, Own, Untouched, Tree, names_of, entry, node_at, node_of, face, sight_at, SeenLeaf, see_inode, merged, AreLinked, Remounts, IsKept, is_folder, count_of, is_untouched}
 use Rattle.plain_model.specs.Machine.{MountOptions, Handle, State, look, same_found, handle_of, lowest_free}
@@ -41,11 +41,11 @@ follow-alone old new x z p q e (Stays a b c) (Stays d f h) = c ∙ e ∙ sym h
 -- a node that moved is seen so; an untouched one had one name
 face-touched :
     (m : MountOptions) (o : Option Node) → (is_untouched o ≡ true → count_of o ≡ 1) →
-    face (over_node (meta_touched m) o) ≡ option_map moved_sight (face o)
+    face (over_node (meta_touched m) o) ≡ option_map (moved_sight m.metacopy) (face o)
 face-touched m None one = refl
 face-touched m (Some (Branch a b names c)) one = refl
-face-touched m (Some (Leaf content a Own l)) one = refl
-face-touched m (Some (Leaf content a (Untouched k) l)) one = ap (λ n. Some (SeenLeaf content a Own n)) (one refl)
+face-touched m (Some (Leaf content a (Own z) l)) one = refl
+face-touched m (Some (Leaf content a (Untouched k) l)) one = ap (λ n. Some (SeenLeaf content a (Own (m.metacopy && is_file content)) n)) (one refl)
 
 attributes-touched : (m : MountOptions) (o : Option Node) → folder_attributes (over_node (meta_touched m) o) ≡ folder_attributes o
 attributes-touched m None = refl
@@ -64,7 +64,7 @@ record MovedTree (V : Layer) (lowers : List Layer) (s : State) (old new : Path) 
 -- the object moves, which takes the place of no other name of its inode, and of a file or link only if it is none
 module _
     (U V : Layer) (lowers : List Layer) (s : State) (m : IsMountOf U lowers s) (w : Places s.tree)
-    (g : MovesTo U V lowers (old_place s.tree w) (new_place s.tree w)) (two : AreLinked U (old_place s.tree w) (new_place s.tree w) → ⊥)
+    (g : MovesTo U V lowers s.options.metacopy (old_place s.tree w) (new_place s.tree w)) (two : AreLinked U (old_place s.tree w) (new_place s.tree w) → ⊥)
     (unnamed : is_directory (shows 0 (U ∷ lowers) (old_place s.tree w)) ≡ true → NamesNoInode U (new_place s.tree w)) where
   abbrev old : Path
   old = old_place s.tree w
@@ -119,12 +119,12 @@ module _
   seen-at y x h = ap (λ o. face (node_of s.tree o)) (sym h) ∙ m.shows.sights y
 
   -- what is seen of the object
-  moved-sight : face (u w.node) ≡ option_map moved_sight (merged U lowers old)
+  moved-sight : face (u w.node) ≡ option_map (moved_sight s.options.metacopy) (merged U lowers old)
   moved-sight =
       face-moved s.options s.tree s.tables w
       ∙ face-touched s.options (s.tree w.node)
       (λ t. one-name (count_of (s.tree w.node)) (at-path s.tree s.serial m.kept old w.node leads) (m.kept.single w.node t))
-      ∙ ap (option_map moved_sight) (seen-at old w.node leads)
+      ∙ ap (option_map (moved_sight s.options.metacopy)) (seen-at old w.node leads)
 
   below-sight :
       (k : Name) (r : Path) (o : Option NodeId) → node_at s.tree (k ∷ r ++ old) ≡ o → face (node_of u o) ≡ merged U lowers (k ∷ r ++ old)
@@ -136,8 +136,8 @@ module _
     own-sight : (y : Path) → IsOutside old y → IsOutside new y → AreLinked U old y → face (u w.node) ≡ merged V lowers y
     own-sight y a b l =
         moved-sight
-        ∙ ap (option_map moved_sight) (named-seen U lowers old l.number l.first)
-        ∙ own-moved (U.inodes l.number)
+        ∙ ap (option_map (moved_sight s.options.metacopy)) (named-seen U lowers old l.number l.first)
+        ∙ own-moved s.options.metacopy (U.inodes l.number)
         ∙ sym (named-seen U lowers y l.number l.second)
         ∙ sym (g.others y a b (λ k. two (joined-links U old y new l (turned U new y k))))
 
@@ -274,7 +274,7 @@ module _
 module _
     (U V : Layer) (lowers : List Layer) (s : State) (m : IsMountOf U lowers s) (c : ℕ) (n1 : Name) (q1 : Path) (n2 : Name) (q2 : Path)
     (bare : ShowsNoName (U ∷ lowers) (n2 ∷ q2)) (fine : rename_fault U lowers s.options.redirects (n1 ∷ q1) (n2 ∷ q2) false ≡ None)
-    (two : is_one U (n1 ∷ q1) (n2 ∷ q2) ≡ false) (g : MovesTo U V lowers (n1 ∷ q1) (n2 ∷ q2)) where
+    (two : is_one U (n1 ∷ q1) (n2 ∷ q2) ≡ false) (g : MovesTo U V lowers s.options.metacopy (n1 ∷ q1) (n2 ∷ q2)) where
   abbrev from : Path
   from = n1 ∷ q1
 

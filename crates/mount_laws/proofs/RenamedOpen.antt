@@ -21,9 +21,9 @@ use Rattle.mount_laws.proofs.RenamedTree.{is-it, came-from, change-here, change-
 use Rattle.mount_laws.proofs.Renaming.{same-node}
 
 -- a file of the upper stays as it is where an object moves, but for the name that it loses
-module _ (m : MountOptions) (t : Tree) (old new : Path) (e : NodeId) (content : Content) (a : Attributes) (l : ℕ) where
+module _ (m : MountOptions) (t : Tree) (old new : Path) (e : NodeId) (content : Content) (a : Attributes) (b : Bool) (l : ℕ) where
   abbrev leaf : Option Node
-  leaf = Some (Leaf content a Own l)
+  leaf = Some (Leaf content a (Own b) l)
 
   abbrev counted : Tree
   counted = change one_fewer t (node_at t new)
@@ -35,14 +35,14 @@ module _ (m : MountOptions) (t : Tree) (old new : Path) (e : NodeId) (content : 
   ]
 
   renamed-leaf : counted e ≡ leaf → renamed m t old new e ≡ leaf
-  renamed-leaf is = way-leaf joined (way_of t old) None e content a Own l led ∙ led
+  renamed-leaf is = way-leaf joined (way_of t old) None e content a (Own b) l led ∙ led
     where
       joined : Tree
       joined = lead_way (change (meta_touched m) counted (node_at t old)) (way_of t new) (node_at t old)
 
       led : joined e ≡ leaf
       led =
-          way-leaf (change (meta_touched m) counted (node_at t old)) (way_of t new) (node_at t old) e content a Own l (touched-leaf is)
+          way-leaf (change (meta_touched m) counted (node_at t old)) (way_of t new) (node_at t old) e content a (Own b) l (touched-leaf is)
           ∙ touched-leaf is
 
 -- old moves to new
@@ -84,11 +84,12 @@ module _
     bytes = l.bytes;
     attributes = l.attributes;
     links = l.links;
+    mark = l.mark;
     inode = w.loses.same (λ h. away ((l.paths new).1 h)) ∙ l.inode;
     node =
         ap (λ t. t e) moves
         ∙ settled-there s.tables (renamed s.options s.tree old new) (node_at s.tree new) e away
-        ∙ renamed-leaf s.options s.tree old new e (File l.bytes) l.attributes l.links
+        ∙ renamed-leaf s.options s.tree old new e (File l.bytes) l.attributes (is_some l.mark) l.links
         (change-there one_fewer s.tree (node_at s.tree new) e away ∙ l.node);
     paths = names;
   }
@@ -99,14 +100,15 @@ module _
     bytes = l.bytes;
     attributes = l.attributes;
     links = l.links - 1;
-    inode = w.loses.fewer (record { content = File l.bytes; attributes = l.attributes; links = l.links }) ((l.paths new).0 at) l.inode;
+    mark = l.mark;
+    inode = w.loses.fewer (record { content = File l.bytes; attributes = l.attributes; links = l.links; mark = l.mark }) ((l.paths new).0 at) l.inode;
     node =
         ap (λ t. t e) moves
         ∙ settled-here s.tables (renamed s.options s.tree old new) (node_at s.tree new) e at
         ∙ ap (λ b. cond (is_named (renamed s.options s.tree old new e) || b) (renamed s.options s.tree old new e) None)
         (open_there ((l.paths new).0 at))
         ∙ ap (λ b. cond b (renamed s.options s.tree old new e) None) (or-true (is_named (renamed s.options s.tree old new e)))
-        ∙ renamed-leaf s.options s.tree old new e (File l.bytes) l.attributes (l.links - 1)
+        ∙ renamed-leaf s.options s.tree old new e (File l.bytes) l.attributes (is_some l.mark) (l.links - 1)
         (change-here one_fewer s.tree (node_at s.tree new) e at ∙ ap (over_node one_fewer) l.node);
     paths = names;
   }

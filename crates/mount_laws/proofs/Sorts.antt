@@ -120,7 +120,7 @@ sorts-fewer t u p o k = record {
 
     same : (y : Node) → is_untouched (Some (one_fewer y)) ≡ is_untouched (Some y)
     same (Branch a b names c) = refl
-    same (Leaf content a Own c) = refl
+    same (Leaf content a (Own z) c) = refl
     same (Leaf content a (Untouched k) c) = refl
 
 -- a node is made
@@ -155,7 +155,7 @@ bytes-fold bytes (Leaf (SymbolicLink target) a u c) = refl
 
 bytes-same : (bytes : List ℕ) (y : Node) → is_untouched (Some (with_bytes bytes y)) ≡ is_untouched (Some y)
 bytes-same bytes (Branch a b names c) = refl
-bytes-same bytes (Leaf (File old) a Own c) = refl
+bytes-same bytes (Leaf (File old) a (Own z) c) = refl
 bytes-same bytes (Leaf (File old) a (Untouched k) c) = refl
 bytes-same bytes (Leaf (SymbolicLink target) a u c) = refl
 
@@ -210,10 +210,10 @@ open-sorts s p f mode k c = subst (KeepsSorts s.tree (tree_after s c (Open p f m
     nowhere true o h = refl
     nowhere false o h = h
 
-    by : (o : Option NodeId) → KeepsSorts s.tree (cond (is_none o) (made_way s.tree s.serial (way_of s.tree p) (Leaf (File []) (fresh mode) Own 1)) (change (opened f) s.tree o)) (cond f.writes o None)
+    by : (o : Option NodeId) → KeepsSorts s.tree (cond (is_none o) (made_way s.tree s.serial (way_of s.tree p) (Leaf (File []) (fresh mode) (Own false) 1)) (change (opened f) s.tree o)) (cond f.writes o None)
     by None =
-        subst (KeepsSorts s.tree (made_way s.tree s.serial (way_of s.tree p) (Leaf (File []) (fresh mode) Own 1))) (nowhere f.writes None refl)
-        (sorts-made s.tree s.serial (unused s k) (way_of s.tree p) (Leaf (File []) (fresh mode) Own 1))
+        subst (KeepsSorts s.tree (made_way s.tree s.serial (way_of s.tree p) (Leaf (File []) (fresh mode) (Own false) 1))) (nowhere f.writes None refl)
+        (sorts-made s.tree s.serial (unused s k) (way_of s.tree p) (Leaf (File []) (fresh mode) (Own false) 1))
     by (Some d) = opened-sorts s p f (Some d)
 
 -- a rename
@@ -261,7 +261,7 @@ law_of_sorts s c (GetAttribute p n) k = sorts-same s.tree
 law_of_sorts s c (DeleteAttribute p n) k = attributes-sorts s (λ a. record a { user = drop_value a.user n }) p
 law_of_sorts s c (ListAttributes p) k = sorts-same s.tree
 law_of_sorts s c (Mkdir p mode) k = sorts-made s.tree s.serial (unused s k) (way_of s.tree p) (Branch (fresh mode) false fin.empty 1)
-law_of_sorts s c (Symlink target p) k = sorts-made s.tree s.serial (unused s k) (way_of s.tree p) (Leaf (SymbolicLink target) (fresh 0o777) Own 1)
+law_of_sorts s c (Symlink target p) k = sorts-made s.tree s.serial (unused s k) (way_of s.tree p) (Leaf (SymbolicLink target) (fresh 0o777) (Own false) 1)
 law_of_sorts s c (Open p f mode) k = open-sorts s p f mode k c
 law_of_sorts s c (Unlink p) k = drop-sorts s p
 law_of_sorts s c (Rmdir p) k = drop-sorts s p

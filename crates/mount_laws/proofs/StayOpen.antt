@@ -1,5 +1,5 @@
 -- Live files stay so where a directory, a link or a file is made, and where a parent is placed.
-use Rattle.std.proofs.Common.{◌≡◌, ◌≢◌, ◌↔◌, ℕ, false, cond, List, [], Option, None, Some, refl, sym, ap, ◌∙◌, inl, inr, is_none, arith}
+use Rattle.std.proofs.Common.{◌≡◌, ◌≢◌, ◌↔◌, ℕ, false, cond, List, [], Option, None, Some, refl, sym, ap, ◌∙◌, inl, inr, is_none, arith, is_some}
 use Rattle.std.specs.FinMap as fin
 use Rattle.std.proofs.lemmas.Bool.{cases_Bool}
 use Rattle.ov_base.specs.declared.attributes.Attributes.{Attributes}
@@ -28,6 +28,7 @@ law_of_live_kept U V t e j names inode l = record {
   bytes = l.bytes;
   attributes = l.attributes;
   links = l.links;
+  mark = l.mark;
   inode = inode ∙ l.inode;
   node = l.node;
   paths = λ q. (λ h. (names q).1 ((l.paths q).0 h), λ h. (l.paths q).1 ((names q).0 h));
@@ -46,14 +47,14 @@ made-leaf :
     made_way t i w x e ≡ t e
 made-leaf t i kept None x U e j l = refl
 made-leaf t i kept (Some w) x U e j l =
-    lead-leaf (put t (New i) (Some x)) w.0 w.1 (Some (New i)) e (File l.bytes) l.attributes Own l.links (there ∙ l.node)
+    lead-leaf (put t (New i) (Some x)) w.0 w.1 (Some (New i)) e (File l.bytes) l.attributes (Own (is_some l.mark)) l.links (there ∙ l.node)
     ∙ there
   where
     there : put t (New i) (Some x) e ≡ t e
     there = elim (cases_Bool (same_id (New i) e)) [
       | inl s ↦
           let none : t e ≡ None = ap t (sym ((ids_tell (New i) e).0 s)) ∙ kept.unused i (omega arith) in
-          let z : None ≡ Some (Leaf (File l.bytes) l.attributes Own l.links) = sym none ∙ l.node in
+          let z : None ≡ Some (Leaf (File l.bytes) l.attributes (Own (is_some l.mark)) l.links) = sym none ∙ l.node in
           cc
       | inr s ↦ put-there t (New i) (Some x) e s
     ]
@@ -68,7 +69,7 @@ module _
   -- what a path to the file sees
   seen :
       (q : Path) → node_at u q ≡ Some e →
-      Some (SeenLeaf (File l.bytes) l.attributes Own l.links) ≡ cond (same_path p q) new (merged U lowers q)
+      Some (SeenLeaf (File l.bytes) l.attributes (Own (is_some l.mark)) l.links) ≡ cond (same_path p q) new (merged U lowers q)
   seen q h = sym (ap (λ o. face (node_of u o)) h ∙ ap face (node ∙ l.node)) ∙ shows.sights q ∙ gained q
 
   -- a path that led nowhere doesn't lead to the file
@@ -76,7 +77,7 @@ module _
   free q none h = elim (cases_Bool (same_path p q)) [
     | inl y ↦ other (ap (node_at u) ((paths_tell p q).0 y) ∙ h)
     | inr y ↦
-        let z : Some (SeenLeaf (File l.bytes) l.attributes Own l.links) ≡ None =
+        let z : Some (SeenLeaf (File l.bytes) l.attributes (Own (is_some l.mark)) l.links) ≡ None =
         seen q h ∙ ap (λ b. cond b new (merged U lowers q)) y ∙ sym (m.shows.sights q) ∙ ap (λ o. face (node_of s.tree o)) none in
         cc
   ]
@@ -94,6 +95,7 @@ module _
     bytes = l.bytes;
     attributes = l.attributes;
     links = l.links;
+    mark = l.mark;
     inode = inode ∙ l.inode;
     node = node ∙ l.node;
     paths = λ q. (λ h. (names q).1 ((l.paths q).0 (led q h)), λ h. stays q e ((l.paths q).1 ((names q).0 h)));
@@ -119,7 +121,7 @@ module _
 
   no-branch : node_at made p ≡ Some e → ⊥
   no-branch h =
-      let z : Some (SeenLeaf (File l.bytes) l.attributes Own l.links) ≡ branch =
+      let z : Some (SeenLeaf (File l.bytes) l.attributes (Own (is_some l.mark)) l.links) ≡ branch =
       sym (ap (λ o. face (node_of made o)) h ∙ ap face (made-same ∙ l.node))
       ∙ f.mounts.shows.sights p
       ∙ at-new p (merged V lowers p) branch (merged U lowers p) (g.sights p) in
@@ -151,14 +153,14 @@ module _
   linked = tree_after s c (Symlink target p)
 
   abbrev link : Option Sight
-  link = Some (SeenLeaf (SymbolicLink target) (fresh 0o777) Own 1)
+  link = Some (SeenLeaf (SymbolicLink target) (fresh 0o777) (Own false) 1)
 
   linked-same : linked e ≡ s.tree e
-  linked-same = made-leaf s.tree s.serial m.kept (way_of s.tree p) (Leaf (SymbolicLink target) (fresh 0o777) Own 1) U e j l
+  linked-same = made-leaf s.tree s.serial m.kept (way_of s.tree p) (Leaf (SymbolicLink target) (fresh 0o777) (Own false) 1) U e j l
 
   no-link : node_at linked p ≡ Some e → ⊥
   no-link h =
-      let z : Some (SeenLeaf (File l.bytes) l.attributes Own l.links) ≡ link =
+      let z : Some (SeenLeaf (File l.bytes) l.attributes (Own (is_some l.mark)) l.links) ≡ link =
       sym (ap (λ o. face (node_of linked o)) h ∙ ap face (linked-same ∙ l.node))
       ∙ f.mounts.shows.sights p
       ∙ at-new p (merged V lowers p) link (merged U lowers p) (g.sights p) in
@@ -182,7 +184,7 @@ module _
   opened_on = tree_after s c (Open p flags mode)
 
   abbrev x : Node
-  x = Leaf (File []) (fresh mode) Own 1
+  x = Leaf (File []) (fresh mode) (Own false) 1
 
   tree-is : opened_on ≡ made_way s.tree s.serial (way_of s.tree p) x
   tree-is = ap (λ o. cond (is_none o) (made_way s.tree s.serial (way_of s.tree p) x) (change (opened flags) s.tree o)) f.absent
@@ -194,7 +196,7 @@ module _
   no-file : node_at opened_on p ≡ Some e → ⊥
   no-file h =
       let is : New s.serial ≡ e = (let z : Some (New s.serial) ≡ Some e = sym f.made ∙ h in cc) in
-      let z : None ≡ Some (Leaf (File l.bytes) l.attributes Own l.links) =
+      let z : None ≡ Some (Leaf (File l.bytes) l.attributes (Own (is_some l.mark)) l.links) =
       sym (m.kept.unused s.serial (omega arith))
       ∙ ap s.tree is
       ∙ l.node in

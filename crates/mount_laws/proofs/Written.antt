@@ -19,7 +19,7 @@ use Rattle.mount_laws.proofs.Handles.{not-same}
 use Rattle.mount_laws.proofs.Removed.{same-paths, same-mount}
 
 -- uppers that hold the same show the same where no name is of an inode that changed
-same-shown :
+pub same-shown :
     (U V : Layer) (lowers : List Layer) → ((x : Path) → held V x ≡ held U x) → (q : Path) →
     ((j : ℕ) → held U q ≡ Some (Named j) → V.inodes j ≡ U.inodes j) → merged V lowers q ≡ merged U lowers q
 same-shown U V lowers objects q same =
@@ -29,7 +29,7 @@ same-shown U V lowers objects q same =
     ∙ sym (merged-meld U lowers q)
 
 -- uppers that hold the same name the same inodes
-same-linked : (U V : Layer) → ((x : Path) → held V x ≡ held U x) → (y z : Path) → AreLinked V y z → AreLinked U y z
+pub same-linked : (U V : Layer) → ((x : Path) → held V x ≡ held U x) → (y z : Path) → AreLinked V y z → AreLinked U y z
 same-linked U V objects y z l = record { number = l.number; first = sym (objects y) ∙ l.first; second = sym (objects z) ∙ l.second }
 
 -- a live file stays so where its node, its inode and its names do
@@ -40,6 +40,7 @@ stays-live U V t u e j node inode paths objects l = record {
   bytes = l.bytes;
   attributes = l.attributes;
   links = l.links;
+  mark = l.mark;
   inode = inode ∙ l.inode;
   node = node ∙ l.node;
   paths = λ q. (λ h. objects q ∙ (l.paths q).0 (sym (paths q) ∙ h), λ h. paths q ∙ (l.paths q).1 (sym (objects q) ∙ h));
@@ -68,18 +69,18 @@ module _
   others e apart = put-there s.tree d (over_node (with_bytes bytes) (s.tree d)) e (not-same d e (λ h. apart (sym h)))
 
   -- the node has the bytes, and so has the inode
-  own-node : u d ≡ Some (Leaf (File bytes) l.attributes Own l.links)
+  own-node : u d ≡ Some (Leaf (File bytes) l.attributes (Own (is_some l.mark)) l.links)
   own-node =
       put-here s.tree d (over_node (with_bytes bytes) (s.tree d)) d ((ids_tell d d).1 refl)
       ∙ ap (over_node (with_bytes bytes)) l.node
 
-  was : w.inode ≡ record { content = File l.bytes; attributes = l.attributes; links = l.links }
+  was : w.inode ≡ record { content = File l.bytes; attributes = l.attributes; links = l.links; mark = l.mark }
   was =
-      let z : Some w.inode ≡ Some (record { content = File l.bytes; attributes = l.attributes; links = l.links }) =
+      let z : Some w.inode ≡ Some (record { content = File l.bytes; attributes = l.attributes; links = l.links; mark = l.mark }) =
       sym w.before ∙ l.inode in
       cc
 
-  own-inode : V.inodes k ≡ Some (record { content = File bytes; attributes = l.attributes; links = l.links })
+  own-inode : V.inodes k ≡ Some (record { content = File bytes; attributes = l.attributes; links = l.links; mark = l.mark })
   own-inode = w.now ∙ ap {A = Inode} (λ i. Some (record i { content = File bytes })) was
 
   -- a path that names the inode shows the bytes, and any other what it did
@@ -134,6 +135,7 @@ module _
       bytes = bytes;
       attributes = l.attributes;
       links = l.links;
+      mark = l.mark;
       inode = own-inode;
       node = own-node;
       paths = λ q. (λ h. w.objects q ∙ (l.paths q).0 (sym (paths q) ∙ h), λ h. paths q ∙ (l.paths q).1 (sym (w.objects q) ∙ h));

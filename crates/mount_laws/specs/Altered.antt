@@ -1,6 +1,6 @@
 -- What chmod, chown, and the setting and deleting of a user attribute make of the mount where they are not refused (chmod(2), chown(2),
 -- setxattr(2), removexattr(2); overlayfs.rst, "Non-directories": a file of a lower layer is copied up first).
-use Rattle.std.specs.Prelude.{◌≡◌, ◌≢◌, ℕ, suc, Bool, List, ◌∷◌, Option, None, Some, option_map, ◌⊎◌}
+use Rattle.std.specs.Prelude.{◌≡◌, ◌≢◌, ℕ, suc, Bool, ◌&&◌, List, ◌∷◌, Option, None, Some, option_map, is_some, ◌⊎◌}
 use Rattle.ov_base.specs.declared.attributes.Attributes.{Attributes}
 use Rattle.ov_base.specs.declared.call.Call.{Call}
 use Rattle.ov_base.specs.declared.call.Call.TheVariants as call
@@ -8,7 +8,7 @@ use Rattle.ov_base.specs.declared.errno.Errno.{Errno}
 use Rattle.ov_base.specs.declared.node_id.NodeId.{NodeId}
 use Rattle.ov_base.specs.declared.redirect.Redirect.{Redirect}
 use Rattle.ov_base.specs.declared.reply.Reply.TheVariants as reply
-use Rattle.plain_model.specs.Layers.{Name, Path, Directory, Named, Inode, Layer, held, Contents, shows, AreLayers}
+use Rattle.plain_model.specs.Layers.{Name, Path, Directory, Named, Inode, Layer, held, Contents, shows, is_file, AreLayers}
 use Rattle.plain_model.specs.Tree.{node_at, Own, Untouched, Sight, SeenBranch, SeenLeaf, merged, AreLinked, is_folder}
 use Rattle.plain_model.specs.Machine.{State}
 use Rattle.plain_model.specs.Changes.{with_mode, with_owner, set_value, drop_value, after}
@@ -18,17 +18,17 @@ use Rattle.mount_laws.specs.Leaves.{PlacesLeaf}
 use Rattle.mount_laws.specs.Attributes.{shown_attributes, chown_fault, chmod_fault, set_fault, get_fault}
 
 -- what is seen with other attributes: a file or link of a lower layer is the upper's own then, and has one name
-abbrev pub altered : Attributes → Sight → Sight
-altered a (SeenBranch old b) = SeenBranch a b
-altered a (SeenLeaf content old Own l) = SeenLeaf content a Own l
-altered a (SeenLeaf content old (Untouched k) l) = SeenLeaf content a Own 1
+abbrev pub altered : Bool → Attributes → Sight → Sight
+altered low a (SeenBranch old b) = SeenBranch a b
+altered low a (SeenLeaf content old (Own m) l) = SeenLeaf content a (Own m) l
+altered low a (SeenLeaf content old (Untouched k) l) = SeenLeaf content a (Own (low && is_file content)) 1
 
 -- The upper V shows all that U does over the lower layers, but with the attributes a at p and at the other names of its inode. Two paths
 -- name one inode of V where they do in U; one path may have an inode of its own there that it had not.
-pub record Alters (U V : Layer) (lowers : List Layer) (p : Path) (a : Attributes) : Type 0 where
+pub record Alters (U V : Layer) (lowers : List Layer) (low : Bool) (p : Path) (a : Attributes) : Type 0 where
   pub layers : AreLayers (V ∷ lowers)
-  pub here : merged V lowers p ≡ option_map (altered a) (merged U lowers p)
-  pub linked : (q : Path) → q ≢ p → AreLinked U p q → merged V lowers q ≡ option_map (altered a) (merged U lowers q)
+  pub here : merged V lowers p ≡ option_map (altered low a) (merged U lowers p)
+  pub linked : (q : Path) → q ≢ p → AreLinked U p q → merged V lowers q ≡ option_map (altered low a) (merged U lowers q)
   pub others : (q : Path) → q ≢ p → (AreLinked U p q → ⊥) → merged V lowers q ≡ merged U lowers q
   pub earlier : (q z : Path) → AreLinked V q z → (q ≡ z) ⊎ AreLinked U q z
   pub later : (q z : Path) → AreLinked U q z → AreLinked V q z
@@ -49,7 +49,7 @@ abbrev pub AltersBy : (Attributes → Attributes) → Path → (List Layer → O
 AltersBy f p fault change =
     (U V : Layer) (lowers : List Layer) (s : State) → IsMountOf U lowers s →
     (c : ℕ) → fault (U ∷ lowers) ≡ None →
-    (a : Attributes) → shown_attributes (shows 0 (U ∷ lowers) p) ≡ Some a → Alters U V lowers p (f a) → AltersState V lowers s c p change
+    (a : Attributes) → shown_attributes (shows 0 (U ∷ lowers) p) ≡ Some a → Alters U V lowers s.options.metacopy p (f a) → AltersState V lowers s c p change
 
 abbrev pub LawOfModeChanged : Type 0
 LawOfModeChanged = (p : Path) (mode : ℕ) → AltersBy (with_mode mode) p (λ Ls. chmod_fault Ls p mode) (call.Chmod p mode)
@@ -68,7 +68,8 @@ abbrev pub LawOfCopiedLeaf : Type 0
 LawOfCopiedLeaf =
     (U V : Layer) (lowers : List Layer) → AreLayers (U ∷ lowers) → AreLayers (V ∷ lowers) →
     (n : Name) (p : Path) (j l k : ℕ) (i : Inode) (a : Attributes) → shows 0 (U ∷ lowers) (n ∷ p) ≡ Some (Contents (suc j) l (Some i)) →
-    PlacesLeaf U V (n ∷ p) k (record { content = i.content; attributes = a; links = 1 }) → Alters U V lowers (n ∷ p) a
+    (low : Bool) (mark : Option Path) → is_some mark ≡ (low && is_file i.content) →
+    PlacesLeaf U V (n ∷ p) k (record { content = i.content; attributes = a; links = 1; mark = mark }) → Alters U V lowers low (n ∷ p) a
 
 -- The upper V is U with the attributes a of the inode that p names; what it holds at each path, and its other inodes, stay.
 pub record AltersInode (U V : Layer) (p : Path) (a : Attributes) : Type 0 where
@@ -81,7 +82,7 @@ pub record AltersInode (U V : Layer) (p : Path) (a : Attributes) : Type 0 where
   pub objects : (x : Path) → held V x ≡ held U x
 
 abbrev pub LawOfAlteredInode : Type 0
-LawOfAlteredInode = (U V : Layer) (lowers : List Layer) → AreLayers (V ∷ lowers) → (p : Path) (a : Attributes) → AltersInode U V p a → Alters U V lowers p a
+LawOfAlteredInode = (U V : Layer) (lowers : List Layer) → AreLayers (V ∷ lowers) → (low : Bool) (p : Path) (a : Attributes) → AltersInode U V p a → Alters U V lowers low p a
 
 -- The upper V is U with the attributes a of the directory at p, whose number and marks stay; what it holds at other paths, and its
 -- inodes, stay.
@@ -96,4 +97,4 @@ pub record AltersDirectory (U V : Layer) (p : Path) (a : Attributes) : Type 0 wh
   pub inodes : (k : ℕ) → V.inodes k ≡ U.inodes k
 
 abbrev pub LawOfAlteredDirectory : Type 0
-LawOfAlteredDirectory = (U V : Layer) (lowers : List Layer) → AreLayers (V ∷ lowers) → (p : Path) (a : Attributes) → AltersDirectory U V p a → Alters U V lowers p a
+LawOfAlteredDirectory = (U V : Layer) (lowers : List Layer) → AreLayers (V ∷ lowers) → (low : Bool) (p : Path) (a : Attributes) → AltersDirectory U V p a → Alters U V lowers low p a

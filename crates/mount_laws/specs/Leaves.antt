@@ -1,6 +1,6 @@
 -- What symlink, readlink and an open that makes a file do on the merge of layers, told by what the layers show (POSIX.1-2017, symlink(),
 -- readlink() and open(), as Linux's namei.c asks for their errors).
-use Rattle.std.specs.Prelude.{◌≡◌, ◌≢◌, ◌↔◌, ℕ, not, cond, List, [], ◌∷◌, ◌++◌, Option, None, Some, nat_eq, nat_lt, is_some, length}
+use Rattle.std.specs.Prelude.{◌≡◌, ◌≢◌, ◌↔◌, ℕ, Bool, false, not, cond, List, [], ◌∷◌, ◌++◌, Option, None, Some, nat_eq, nat_lt, is_some, length}
 use Rattle.ov_base.specs.declared.attributes.Attributes.{Attributes}
 use Rattle.ov_base.specs.declared.bytes.Content.{Content}
 use Rattle.ov_base.specs.declared.bytes.Content.TheVariants as content
@@ -65,21 +65,25 @@ pub record PlacesLeaf (U V : Layer) (p : Path) (k : ℕ) (i : Inode) : Type 0 wh
   pub one : i.links ≡ 1
   pub inodes : (j : ℕ) → j ≢ k → V.inodes j ≡ U.inodes j
 
--- The upper V shows all that U does over the lower layers, and a file or link at p, an inode of its own with no other name; it names
--- the same inodes elsewhere.
-pub record GainsLeaf (U V : Layer) (lowers : List Layer) (p : Path) (content : Content) (a : Attributes) : Type 0 where
+-- The upper V shows all that U does over the lower layers, and a file or link at p, an inode of its own with no other name, whose bytes
+-- are a lower file's where low says so; it names the same inodes elsewhere.
+pub record GainsLeafAs (U V : Layer) (lowers : List Layer) (low : Bool) (p : Path) (content : Content) (a : Attributes) : Type 0 where
   pub layers : AreLayers (V ∷ lowers)
   pub number : ℕ
   pub here : held V p ≡ Some (Named number)
   pub alone : (q : Path) → held V q ≡ Some (Named number) → q ≡ p
-  pub sights : (q : Path) → merged V lowers q ≡ cond (same_path p q) (Some (SeenLeaf content a Own 1)) (merged U lowers q)
+  pub sights : (q : Path) → merged V lowers q ≡ cond (same_path p q) (Some (SeenLeaf content a (Own low) 1)) (merged U lowers q)
   pub names : (q : Path) (k : ℕ) → q ≢ p → (held V q ≡ Some (Named k)) ↔ (held U q ≡ Some (Named k))
+
+-- and so a file or link with bytes of its own
+abbrev pub GainsLeaf : Layer → Layer → List Layer → Path → Content → Attributes → Type 0
+GainsLeaf U V lowers p content a = GainsLeafAs U V lowers false p content a
 
 -- a new inode that is placed in the upper where nothing was shown is all that is gained
 abbrev pub LawOfPlacedLeaf : Type 0
 LawOfPlacedLeaf =
     (U V : Layer) (lowers : List Layer) → AreLayers (U ∷ lowers) → AreLayers (V ∷ lowers) →
-    (n : Name) (p : Path) (k : ℕ) (i : Inode) → shows 0 (U ∷ lowers) (n ∷ p) ≡ None →
+    (n : Name) (p : Path) (k : ℕ) (i : Inode) → shows 0 (U ∷ lowers) (n ∷ p) ≡ None → i.mark ≡ None →
     PlacesLeaf U V (n ∷ p) k i → GainsLeaf U V lowers (n ∷ p) i.content i.attributes
 
 -- symlink makes the mount one of the upper that gains the link; what a path led to it leads to still, and no handle changes

@@ -1,6 +1,6 @@
 -- Open files that stand in the upper: what is live, and what a write and the last close make of the mount (POSIX.1-2017, open(), write()
 -- and close(): a file without a name is there until its last descriptor is closed).
-use Rattle.std.specs.Prelude.{◌≡◌, ◌≢◌, ◌↔◌, ℕ, List, [], ◌∷◌, None, Some}
+use Rattle.std.specs.Prelude.{◌≡◌, ◌≢◌, ◌↔◌, ℕ, List, [], ◌∷◌, Option, None, Some, is_some}
 use Rattle.ov_base.specs.declared.attributes.Attributes.{Attributes}
 use Rattle.ov_base.specs.declared.bytes.Content.TheVariants.{File}
 use Rattle.ov_base.specs.declared.call.Call.TheVariants as call
@@ -20,8 +20,9 @@ pub record IsLive (U : Layer) (t : Tree) (d : NodeId) (k : ℕ) : Type 0 where
   pub bytes : List ℕ
   pub attributes : Attributes
   pub links : ℕ
-  pub inode : U.inodes k ≡ Some (record { content = File bytes; attributes = attributes; links = links })
-  pub node : t d ≡ Some (Leaf (File bytes) attributes Own links)
+  pub mark : Option Path
+  pub inode : U.inodes k ≡ Some (record { content = File bytes; attributes = attributes; links = links; mark = mark })
+  pub node : t d ≡ Some (Leaf (File bytes) attributes (Own (is_some mark)) links)
   pub paths : (q : Path) → (node_at t q ≡ Some d) ↔ (held U q ≡ Some (Named k))
 
 -- two live files, one of which has a name, are one node exactly where they are one inode

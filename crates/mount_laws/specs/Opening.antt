@@ -10,10 +10,10 @@ use Rattle.ov_base.specs.declared.node_id.NodeId.{NodeId}
 use Rattle.ov_base.specs.declared.node_id.NodeId.TheVariants.{New}
 use Rattle.ov_base.specs.declared.reply.Reply.TheVariants as reply
 use Rattle.plain_model.specs.Layers.{Name, Path, Inode, Layer, Shown, Contents, shows, is_directory}
-use Rattle.plain_model.specs.Tree.{node_at, is_folder}
+use Rattle.plain_model.specs.Tree.{origin_in, node_at, is_folder}
 use Rattle.plain_model.specs.Machine.{View, Live, Frozen, Handle, State, lowest_free}
 use Rattle.plain_model.specs.Refusals.{when, bad_flags, bad_mode, refusal}
-use Rattle.plain_model.specs.Changes.{change, opened, way_of, new_handle, view_of, with_handle, after}
+use Rattle.plain_model.specs.Changes.{change, opened, way_of, new_handle, view_by, view_of, with_handle, after}
 use Rattle.plain_model.specs.Replies.{reply_of}
 use Rattle.mount_laws.specs.Looks.{or_else, parents_fault, shows_link, IsMountOf}
 
@@ -42,10 +42,11 @@ LawOfOpenRefusal =
     (U : Layer) (lowers : List Layer) (s : State) → IsMountOf U lowers s → (c : ℕ) (p : Path) (f : OpenFlags) (mode : ℕ) →
     refusal s c (call.Open p f mode) ≡ opening_fault (U ∷ lowers) p f mode (lowest_free s.tables c)
 
--- what a handle for reading alone sees of an inode of the layer j: a file of a lower layer as it is now, all else as it comes to be
+-- what a handle for reading alone sees of an inode of the layer j: a file of a lower layer as it is now, a marked one of the upper with the
+-- bytes that it has now, all else as it comes to be
 abbrev pub inode_view : ℕ → Option Inode → View
-inode_view (suc j) (Some i) = elim i.content [ content.File bytes ↦ Frozen bytes i.attributes i.links | content.SymbolicLink target ↦ Live ]
-inode_view _ _ = Live
+inode_view j (Some i) = elim i.content [ content.File bytes ↦ view_by (origin_in j i) bytes i.attributes | content.SymbolicLink target ↦ Live ]
+inode_view j None = Live
 
 abbrev pub shown_view : Option Shown → View
 shown_view (Some (Contents j k inode)) = inode_view j inode

@@ -114,7 +114,7 @@ abbrev pub LawOfRenamed : Type 0
 LawOfRenamed =
     (U V : Layer) (lowers : List Layer) (s : State) → IsMountOf U lowers s →
     (c : ℕ) (old new : Path) → ShowsNoName (U ∷ lowers) new → rename_fault U lowers s.options.redirects old new false ≡ None →
-    is_one U old new ≡ false → MovesTo U V lowers old new → Renames V lowers s c old new
+    is_one U old new ≡ false → MovesTo U V lowers s.options.metacopy old new → Renames V lowers s c old new
 
 -- the inode's names are those that follow its names, and it loses a link where new named it
 pub record MovesLink (U V : Layer) (old new : Path) (j : ℕ) : Type 0 where

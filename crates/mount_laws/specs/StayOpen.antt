@@ -72,7 +72,7 @@ pub record GainsLink (U V : Layer) (p q : Path) (j : ℕ) : Type 0 where
 abbrev pub LawOfLiveThroughName : Type 0
 LawOfLiveThroughName =
     (U V : Layer) (lowers : List Layer) (s : State) → IsMountOf U lowers s →
-    (c : ℕ) (old new : Path) → GainsName U V lowers old new → MakesName V lowers s c old new → (e : NodeId) (j : ℕ) →
+    (c : ℕ) (old new : Path) → GainsName U V lowers s.options.metacopy old new → MakesName V lowers s c old new → (e : NodeId) (j : ℕ) →
     GainsLink U V old new j → IsLive U s.tree e j → IsLive V (after s c (call.Hardlink old new)).tree e j
 
 -- each inode gains a link so where a name of the upper gets a further one

@@ -136,9 +136,9 @@ module _ (d : NodeId) where
       where
         by :
             (o : Option NodeId) →
-            SameLink s.tree (cond (is_none o) (made_way s.tree s.serial (way_of s.tree p) (Leaf (File []) (fresh mode) Own 1))
+            SameLink s.tree (cond (is_none o) (made_way s.tree s.serial (way_of s.tree p) (Leaf (File []) (fresh mode) (Own false) 1))
             (change (opened f) s.tree o))
-        by None = link-made s.tree s.serial (way_of s.tree p) (Leaf (File []) (fresh mode) Own 1) old_one
+        by None = link-made s.tree s.serial (way_of s.tree p) (Leaf (File []) (fresh mode) (Own false) 1) old_one
         by (Some e) = link-change (opened f) (opened-link f) s.tree (Some e)
 
     -- a write, also of no bytes
@@ -164,7 +164,7 @@ module _ (d : NodeId) where
     link-after (ListAttributes p) some = refl
     link-after (Mkdir p mode) some = link-made s.tree s.serial (way_of s.tree p) (Branch (fresh mode) false fin.empty 1) old_one
     link-after (Symlink target p) some =
-        link-made s.tree s.serial (way_of s.tree p) (Leaf (SymbolicLink target) (fresh 0o777) Own 1) old_one
+        link-made s.tree s.serial (way_of s.tree p) (Leaf (SymbolicLink target) (fresh 0o777) (Own false) 1) old_one
     link-after (Open p f mode) some = link-open p f mode
     link-after (Unlink p) some = link-dropped s.tables s.tree p some
     link-after (Rmdir p) some = link-dropped s.tables s.tree p some
@@ -189,7 +189,7 @@ module _ (d : NodeId) where
 alone-is : (o : Option Node) → stands_alone o ≡ true → (is_folder o ≡ true) ⊎ ((is_untouched o ≡ true) × (is_link o ≡ false))
 alone-is None h = absurd (false≢true h)
 alone-is (Some (Branch a b names c)) h = inl refl
-alone-is (Some (Leaf (File bytes) a Own c)) h = absurd (false≢true h)
+alone-is (Some (Leaf (File bytes) a (Own z) c)) h = absurd (false≢true h)
 alone-is (Some (Leaf (File bytes) a (Untouched links) c)) h = inr (refl, refl)
 alone-is (Some (Leaf (SymbolicLink target) a u c)) h = absurd (false≢true h)
 
@@ -208,7 +208,7 @@ folder-alone (Some (Leaf content a u c)) h = absurd (false≢true h)
 file-alone : (o : Option Node) → is_untouched o ≡ true → is_link o ≡ false → stands_alone o ≡ true
 file-alone None h n = h
 file-alone (Some (Branch a b names c)) h n = refl
-file-alone (Some (Leaf (File bytes) a Own c)) h n = h
+file-alone (Some (Leaf (File bytes) a (Own z) c)) h n = h
 file-alone (Some (Leaf (File bytes) a (Untouched links) c)) h n = refl
 file-alone (Some (Leaf (SymbolicLink target) a u c)) h n = absurd (false≢true (sym n))
 

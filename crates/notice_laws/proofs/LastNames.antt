@@ -69,7 +69,7 @@ another (x ∷ y ∷ ps) once p a many = elim (cases_Bool (same_path p x)) [
 seen-untouched : (o : Option Node) (j : ℕ) (i : Inode) → face o ≡ see_inode (suc j) (Some i) → is_untouched o ≡ true
 seen-untouched None j i h = cc
 seen-untouched (Some (Branch a b names c)) j i h = cc
-seen-untouched (Some (Leaf content a Own c)) j i h = cc
+seen-untouched (Some (Leaf content a (Own z) c)) j i h = cc
 seen-untouched (Some (Leaf content a (Untouched k) c)) j i h = refl
 
 -- a node at a path of the mount

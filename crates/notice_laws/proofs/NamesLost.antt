@@ -41,7 +41,7 @@ link-not-alone : (o : Option Node) → is_link o ≡ true → stands_alone o ≡
 link-not-alone None h = refl
 link-not-alone (Some (Branch a b names c)) h = absurd (false≢true h)
 link-not-alone (Some (Leaf (File bytes) a u c)) h = absurd (false≢true h)
-link-not-alone (Some (Leaf (SymbolicLink target) a Own c)) h = refl
+link-not-alone (Some (Leaf (SymbolicLink target) a (Own z) c)) h = refl
 link-not-alone (Some (Leaf (SymbolicLink target) a (Untouched k) c)) h = refl
 
 -- what stands at p, where the node d is

@@ -112,9 +112,9 @@ module _ (d : NodeId) where
       where
         by :
             (o : Option NodeId) →
-            IsBare (cond (is_none o) (made_way s.tree s.serial (way_of s.tree p) (Leaf (File []) (fresh mode) Own 1))
+            IsBare (cond (is_none o) (made_way s.tree s.serial (way_of s.tree p) (Leaf (File []) (fresh mode) (Own false) 1))
             (change (opened f) s.tree o))
-        by None = bare-made s.tree s.serial (way_of s.tree p) (Leaf (File []) (fresh mode) Own 1) old_one h
+        by None = bare-made s.tree s.serial (way_of s.tree p) (Leaf (File []) (fresh mode) (Own false) 1) old_one h
         by (Some e) = bare-mild (opened f) (opened-mild f) s.tree (Some e) h
 
     -- by a write, also of no bytes
@@ -140,7 +140,7 @@ module _ (d : NodeId) where
     bare-after hidden (ListAttributes p) = h
     bare-after hidden (Mkdir p mode) = bare-made s.tree s.serial (way_of s.tree p) (Branch (fresh mode) false fin.empty 1) old_one h
     bare-after hidden (Symlink target p) =
-        bare-made s.tree s.serial (way_of s.tree p) (Leaf (SymbolicLink target) (fresh 0o777) Own 1) old_one h
+        bare-made s.tree s.serial (way_of s.tree p) (Leaf (SymbolicLink target) (fresh 0o777) (Own false) 1) old_one h
     bare-after hidden (Open p f mode) = bare-open p f mode
     bare-after hidden (Unlink p) = bare-dropped s.tables s.tree p (bare-fewer s.tree (node_at s.tree p) h)
     bare-after hidden (Rmdir p) = bare-dropped s.tables s.tree p (bare-fewer s.tree (node_at s.tree p) h)

@@ -37,16 +37,16 @@ number-at objects p object.Other spot n is at = absurd is
 pub alone-sort : (o : Option Node) → stands_alone o ≡ true → (is_folder o ≡ true) ⊎ (is_untouched o ≡ true)
 alone-sort None h = absurd (false≢true h)
 alone-sort (Some (Branch a b names c)) h = inl refl
-alone-sort (Some (Leaf (File bytes) a Own c)) h = absurd (false≢true h)
+alone-sort (Some (Leaf (File bytes) a (Own z) c)) h = absurd (false≢true h)
 alone-sort (Some (Leaf (File bytes) a (Untouched links) c)) h = inr refl
-alone-sort (Some (Leaf (SymbolicLink target) a Own c)) h = absurd (false≢true h)
+alone-sort (Some (Leaf (SymbolicLink target) a (Own z) c)) h = absurd (false≢true h)
 alone-sort (Some (Leaf (SymbolicLink target) a (Untouched links) c)) h = absurd (false≢true h)
 
 -- no link stands alone
 pub link-apart : (o : Option Node) (b : Bool) (shown : Option Shown) → shows_link shown ≡ true → face o ≡ see b shown → stands_alone o ≡ true → ⊥
 link-apart None b (Some (Contents j k (Some i))) link seen h = absurd (false≢true h)
 link-apart (Some (Branch a c names l)) b (Some (Contents j k (Some i))) link seen h = cc
-link-apart (Some (Leaf (SymbolicLink target) a Own l)) b (Some (Contents j k (Some i))) link seen h = absurd (false≢true h)
+link-apart (Some (Leaf (SymbolicLink target) a (Own z) l)) b (Some (Contents j k (Some i))) link seen h = absurd (false≢true h)
 link-apart (Some (Leaf (SymbolicLink target) a (Untouched m) l)) b (Some (Contents j k (Some i))) link seen h = absurd (false≢true h)
 link-apart (Some (Leaf (File bytes) a u l)) b (Some (Contents j k (Some i))) link seen h =
     let content : File bytes ≡ i.content = cc in
@@ -84,7 +84,7 @@ module _ (U : Layer) (lowers : List Layer) (s : State) (m : IsMountOf U lowers s
   live-apart d k live alone = false≢true (sym (ap stands_alone live.node) ∙ alone)
 
   -- it looks like a file of the upper
-  pub live-face : (d : NodeId) (k : ℕ) → (live : IsLive U s.tree d k) → face (s.tree d) ≡ Some (SeenLeaf (File live.bytes) live.attributes Own live.links)
+  pub live-face : (d : NodeId) (k : ℕ) → (live : IsLive U s.tree d k) → face (s.tree d) ≡ Some (SeenLeaf (File live.bytes) live.attributes (Own (is_some live.mark)) live.links)
   live-face d k live = ap face live.node
 
   module _ (objects : Tracked) (bearers : Bearers) (borne : AreBorne U s.tree s.serial objects bearers) where
@@ -144,7 +144,7 @@ module _ (U : Layer) (lowers : List Layer) (s : State) (m : IsMountOf U lowers s
       where
         unlike : {d : NodeId} {k : ℕ} (live : IsLive U s.tree d k) →
             Some (SeenLeaf h.inode.content h.inode.attributes (Untouched h.inode.links) h.inode.links)
-            ≡ Some (SeenLeaf (File live.bytes) live.attributes Own live.links) → ⊥
+            ≡ Some (SeenLeaf (File live.bytes) live.attributes (Own (is_some live.mark)) live.links) → ⊥
         unlike live e = cc
 
     -- a directory
@@ -157,7 +157,7 @@ module _ (U : Layer) (lowers : List Layer) (s : State) (m : IsMountOf U lowers s
     ))
       where
         unlike : {d : NodeId} {k : ℕ} (shown : Option Shown) → is_directory shown ≡ true → (live : IsLive U s.tree d k) →
-            see (base U lowers p) shown ≡ Some (SeenLeaf (File live.bytes) live.attributes Own live.links) → ⊥
+            see (base U lowers p) shown ≡ Some (SeenLeaf (File live.bytes) live.attributes (Own (is_some live.mark)) live.links) → ⊥
         unlike None h live e = absurd (false≢true h)
         unlike (Some (Folder i j a)) h live e = cc
         unlike (Some (Contents i j inode)) h live e = absurd (false≢true h)
@@ -180,7 +180,7 @@ module _ (U : Layer) (lowers : List Layer) (s : State) (m : IsMountOf U lowers s
         unlike d at (inr link) alone = link-apart (s.tree d) (base U lowers p) (shows 0 (U ∷ lowers) p) link (looks-as p d at) alone
 
         file-seen : (b : Bool) (shown : Option Shown) (o : Option Node) → shows_link shown ≡ true → face o ≡ see b shown →
-            {d : NodeId} {k : ℕ} (live : IsLive U s.tree d k) → face o ≡ Some (SeenLeaf (File live.bytes) live.attributes Own live.links) → ⊥
+            {d : NodeId} {k : ℕ} (live : IsLive U s.tree d k) → face o ≡ Some (SeenLeaf (File live.bytes) live.attributes (Own (is_some live.mark)) live.links) → ⊥
         file-seen b None o link seen live e = absurd (false≢true link)
         file-seen b (Some (Folder i j a)) o link seen live e = absurd (false≢true link)
         file-seen b (Some (Contents i j None)) o link seen live e = absurd (false≢true link)

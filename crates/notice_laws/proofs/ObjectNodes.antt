@@ -40,7 +40,7 @@ folder-alone (Some (Leaf content a u c)) folder = absurd (false≢true folder)
 face-own : (o : Option Node) (b : Bool) (k : ℕ) (i : Inode) → face o ≡ see b (Some (Contents 0 k (Some i))) → is_untouched o ≡ false
 face-own None b k i is = refl
 face-own (Some (Branch a c names l)) b k i is = refl
-face-own (Some (Leaf content a Own l)) b k i is = refl
+face-own (Some (Leaf content a (Own z) l)) b k i is = refl
 face-own (Some (Leaf content a (Untouched n) l)) b k i is = cc
 
 -- a file of a lower layer stands alone
@@ -48,7 +48,7 @@ face-alone : (o : Option Node) (b : Bool) (j k : ℕ) (i : Inode) → face o ≡
     shows_link (Some (Contents (suc j) k (Some i))) ≡ false → stands_alone o ≡ true
 face-alone None b j k i is file = cc
 face-alone (Some (Branch a c names l)) b j k i is file = cc
-face-alone (Some (Leaf content a Own l)) b j k i is file = cc
+face-alone (Some (Leaf content a (Own z) l)) b j k i is file = cc
 face-alone (Some (Leaf (File bytes) a (Untouched n) l)) b j k i is file = refl
 face-alone (Some (Leaf (SymbolicLink target) a (Untouched n) l)) b j k i is file =
     let content : SymbolicLink target ≡ i.content = cc in

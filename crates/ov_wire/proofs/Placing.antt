@@ -249,7 +249,7 @@ module _ (old new : Layer) (a : Attributes) (set : Bool) (before : List Entry) (
   beside n q off (Some (put.Object (object.Inode c b))) is h = (h.0, p.elsewhere (n ∷ q) off ∙ h.1, counts (cases_Bool (same_path to (n ∷ q))))
     where
       with_names : ℕ → Inode
-      with_names k = record { content = c; attributes = b; links = k }
+      with_names k = record { content = c; attributes = b; links = k; mark = None }
 
       counts : (same_path to (n ∷ q) ≡ true) ⊎ (same_path to (n ∷ q) ≡ false) → new.inodes h.0 ≡ Some (with_names (suc (cond (same_path to (n ∷ q)) (suc (further_names before (n ∷ q))) (further_names before (n ∷ q)))))
       counts (inl same) =

@@ -294,7 +294,7 @@ inode-put L names k x (put.Link to) is h there w = absurd (true≢false (sym is)
 inode-put L names k x (put.Object (object.Directory b m)) is h there w = absurd (true≢false (sym is))
 inode-put L names k x (put.Object (object.Inode c a)) is h there w =
     let key : h.0 ≡ k = let same = h.1 in cc in
-    let made : Some (record { content = c; attributes = a; links = names }) ≡ L.inodes k = sym h.2 ∙ ap L.inodes key in
+    let made : Some (record { content = c; attributes = a; links = names; mark = None }) ≡ L.inodes k = sym h.2 ∙ ap L.inodes key in
     let attributes : a ≡ x.attributes = cc in
     let content : c ≡ x.content = cc in
     (subst AreAttributesWithin attributes w.0, subst IsContentWithin content w.1)

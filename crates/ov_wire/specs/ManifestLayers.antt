@@ -100,7 +100,7 @@ abbrev pub Stands : Layer → ℕ → Option Object → Option Item → Type 0
 Stands L names o None = o ≡ None
 Stands L names o (Some put.Whiteout) = o ≡ Some Whiteout
 Stands L names o (Some (put.Object (object.Directory a m))) = (key : ℕ) × (o ≡ Some (Directory key a m.opaque m.redirect))
-Stands L names o (Some (put.Object (object.Inode c a))) = (key : ℕ) × (o ≡ Some (Named key)) × (L.inodes key ≡ Some (record { content = c; attributes = a; links = names }))
+Stands L names o (Some (put.Object (object.Inode c a))) = (key : ℕ) × (o ≡ Some (Named key)) × (L.inodes key ≡ Some (record { content = c; attributes = a; links = names; mark = None }))
 Stands L names o (Some (put.Link None)) = ⊥
 Stands L names o (Some (put.Link (Some to))) = (key : ℕ) × (o ≡ Some (Named key)) × (held L to ≡ Some (Named key))
 

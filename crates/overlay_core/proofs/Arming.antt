@@ -41,7 +41,7 @@ use Rattle.overlay_core.specs.PathFaults.{arm_fault}
 use Rattle.overlay_core.specs.Watching.{Agrees, Goes, Stays}
 use Rattle.overlay_core.proofs.ArmCalls.{arm-refusal, node_refusal}
 use Rattle.overlay_core.proofs.WatchCalls.{goes-refused}
-use Rattle.overlay_core.proofs.Watching.{goes-agreed, passes, upper_of, with-instances}
+use Rattle.overlay_core.proofs.Watching.{goes-agreed, passes, mount_upper, with-instances}
 
 -- where the path refuses nothing it shows no link
 pub no-link : (Ls : List Layer) (p : Path) (mask : ℕ) → arm_fault Ls p mask ≡ None → shows_link (shows 0 Ls p) ≡ false
@@ -119,9 +119,9 @@ refusal-by : (m : Mount) (k : Notified) (s : State) → Agrees m k s → (c slot
     slot_refusal (hooks_of (instance_of k.instances c)) slot mask ≡ x → arm_fault (layers_of m.layers) p mask ≡ y → node_refusal s c slot p ≡ z →
     refusal s c (Arm slot p mask) ≡ first x (first y z)
 refusal-by m k s a c slot p mask x y z slots fault node =
-    arm-refusal (upper_of m) (lowers_of m.layers) s a.stands.layers c slot p mask
+    arm-refusal (mount_upper m) (lowers_of m.layers) s a.stands.layers c slot p mask
     ∙ ap (λ h. first (slot_refusal h slot mask) (first (arm_fault (layers_of m.layers) p mask) (node_refusal s c slot p)))
-    (sym (law_of_asked (upper_of m) s k a.tracks c).hooks)
+    (sym (law_of_asked (mount_upper m) s k a.tracks c).hooks)
     ∙ ap (λ b. first b (first (arm_fault (layers_of m.layers) p mask) (node_refusal s c slot p))) slots
     ∙ ap (λ b. first x (first b (node_refusal s c slot p))) fault
     ∙ ap (λ b. first x (first y b)) node
@@ -151,14 +151,14 @@ left-stays m old new left known s a = record {
   stands = a.stands;
   settled = a.settled;
   one = a.one;
-  tracks = left-tracks (upper_of m) s old new left known a.tracks;
+  tracks = left-tracks (mount_upper m) s old new left known a.tracks;
 }
 
 module _ (shows : Rule) (m : Mount) (old new : Notified) (c slot : ℕ) (p : Path) (mask : ℕ) (o : Object)
     (there : is_attached m.clients c ≡ true)
     (slots : slot_refusal (hooks_of (instance_of old.instances c)) slot mask ≡ None)
     (fault : arm_fault (layers_of m.layers) p mask ≡ None)
-    (is : IsObject (upper_of m) (lowers_of m.layers) p o)
+    (is : IsObject (mount_upper m) (lowers_of m.layers) p o)
     (below : (n : ℕ) → IsSome (spot_of old.objects n) → n < next_of old.objects)
     (known : AreKnown new) where
   -- an arm that passes its path is refused as the object of its number is
@@ -166,7 +166,7 @@ module _ (shows : Rule) (m : Mount) (old new : Notified) (c slot : ℕ) (p : Pat
       refusal s c (Arm slot p mask) ≡ refusal_of old c slot number
   refusal-held s a held number at =
       refusal-by m old s a c slot p mask None None (refusal_of old c slot number) slots fault
-      (held-refusal (upper_of m) (lowers_of m.layers) s a.stands.layers old a.tracks below p o is (no-link (layers_of m.layers) p mask fault) held
+      (held-refusal (mount_upper m) (lowers_of m.layers) s a.stands.layers old a.tracks below p o is (no-link (layers_of m.layers) p mask fault) held
       number at c slot)
 
   -- AN ARM IS REFUSED for what stands at its path
@@ -174,7 +174,7 @@ module _ (shows : Rule) (m : Mount) (old new : Notified) (c slot : ℕ) (p : Pat
   object-refused e not left =
       goes-agreed shows c (Arm slot p mask) (Refused e) m m old new there
       (λ s a. subst (λ x. Serves x s c (Arm slot p mask) (Refused e) m) (sym (refused s a)) (refl, a.stands))
-      (λ s a f same. left-tracks (upper_of m) s old new left known a.tracks)
+      (λ s a f same. left-tracks (mount_upper m) s old new left known a.tracks)
       (λ s a fine. absurd (let no : None ≡ Some e = sym fine ∙ refused s a in cc))
     where
       refused : (s : State) → Agrees m old s → refusal s c (Arm slot p mask) ≡ Some e
@@ -185,20 +185,20 @@ module _ (shows : Rule) (m : Mount) (old new : Notified) (c slot : ℕ) (p : Pat
   arm-goes n arms =
       goes-agreed shows c (Arm slot p mask) (Watch (pos n)) m m old new there serves
       (λ s a e same. absurd (let no : Watch (pos n) ≡ Refused e = same in cc))
-      (λ s a fine. law_of_armed shows (upper_of m) (upper_of m) (lowers_of m.layers) s c slot mask p
+      (λ s a fine. law_of_armed shows (mount_upper m) (mount_upper m) (lowers_of m.layers) s c slot mask p
       (passes s c (Arm slot p mask) (Watch (pos n)) m m old refl a fine (serves s a) (λ d key q live at. live)) o is (record old { objects = arms.held })
       new (tracks s a) known arms.arms)
     where
-      tracks : (s : State) → Agrees m old s → Tracks (upper_of m) s (record old { objects = arms.held })
+      tracks : (s : State) → Agrees m old s → Tracks (mount_upper m) s (record old { objects = arms.held })
       tracks s a =
-          tracks-held (upper_of m) (lowers_of m.layers) s a.stands.layers old a.tracks below p o is (no-link (layers_of m.layers) p mask fault)
+          tracks-held (mount_upper m) (lowers_of m.layers) s a.stands.layers old a.tracks below p o is (no-link (layers_of m.layers) p mask fault)
           arms.held arms.arms.number arms.holds
 
       answer : (s : State) → Agrees m old s →
           n ≡ number_of (watch_on (watches_of (instance_of s.instances c)) (node_at s.tree p)) (next_number (instance_of s.instances c))
       answer s a =
           arms.given
-          ∙ held-number (upper_of m) (lowers_of m.layers) s a.stands.layers old a.tracks below p o is (no-link (layers_of m.layers) p mask fault)
+          ∙ held-number (mount_upper m) (lowers_of m.layers) s a.stands.layers old a.tracks below p o is (no-link (layers_of m.layers) p mask fault)
           arms.held arms.arms.number arms.holds c
 
       serves : (s : State) → Agrees m old s → Serves (refusal s c (Arm slot p mask)) s c (Arm slot p mask) (Watch (pos n)) m

@@ -36,21 +36,21 @@ use Rattle.mount_calls.specs.Attaching.{Attaches, TakesBack}
 use Rattle.mount_calls.specs.States.{IsStateOf, StaysState}
 use Rattle.mount_calls.proofs.Coming.{back-same}
 use Rattle.overlay_core.specs.Watching.{Agrees, BeginsWith, Goes, HasState, Stays}
-use Rattle.overlay_core.proofs.Watching.{tracks-same, upper_of}
+use Rattle.overlay_core.proofs.Watching.{tracks-same, mount_upper}
 
 -- a mount of layers begins with each of their merges, where nothing is kept for watches
 pub begins-with : (m : Mount) (k : Notified) (layers : Layers) (redirects : Bool) → m.layers ≡ layers → AreLayers (layers_of layers) →
     ((t : Tree) → AreLayers (layers_of layers) → IsMerge (layer_of layers.upper) (lowers_of layers) t →
-    IsStateOf m (opening t (record { redirects = redirects; read_only = false }))) →
+    IsStateOf m (opening t (record { redirects = redirects; metacopy = false; read_only = false }))) →
     ((n : ℕ) → spot_of k.objects n ≡ None) → k.handles ≡ [] → k.instances ≡ [] → k.renames ≡ 0 →
-    BeginsWith layers (record { redirects = redirects; read_only = false }) m k
+    BeginsWith layers (record { redirects = redirects; metacopy = false; read_only = false }) m k
 begins-with m k layers redirects same are h none handles instances renames t merge =
-    let options : MountOptions = record { redirects = redirects; read_only = false } in
+    let options : MountOptions = record { redirects = redirects; metacopy = false; read_only = false } in
     record {
       stands = h t are merge;
       settled = law_of_settled_opening (layer_of layers.upper) (lowers_of layers) t options merge;
       one = law_of_one_name_begun (layer_of layers.upper) (lowers_of layers) t are merge;
-      tracks = law_of_begun (upper_of m) t options k none handles instances renames;
+      tracks = law_of_begun (mount_upper m) t options k none handles instances renames;
     }
 
 -- keys are told apart as numbers are
@@ -93,7 +93,7 @@ goes-attached shows old new from to c tags room short h same joins known s a =
         settled = does-settles shows s c (Attached tags) (joined s tags) does a.stands.layers.kept a.settled;
         one = a.one;
         tracks = tracks-same old new (joined s tags) to same
-            (law_of_joined (upper_of old) s tags from to a.tracks known (subst (λ n. Joins from to n tags) comes.0 joins));
+            (law_of_joined (mount_upper old) s tags from to a.tracks known (subst (λ n. Joins from to n tags) comes.0 joins));
       },
     )
 
@@ -122,7 +122,7 @@ taken-back old mid new k l c first second came back same s a = record {
   settled = a.settled;
   one = a.one;
   tracks = tracks-same old new s l (ap (λ (m : Mount). m.layers) second ∙ ap (λ (m : Mount). m.layers) first)
-      (as-before (upper_of old) s k l same a.tracks);
+      (as-before (mount_upper old) s k l same a.tracks);
 }
 
 -- each client for whose handles there are places was given its number

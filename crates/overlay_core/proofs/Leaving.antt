@@ -52,7 +52,7 @@ use Rattle.mount_calls.proofs.Serving.{get-others, slot-closed, slot-open}
 use Rattle.mount_calls.specs.States.{IsOpenAs, IsSlot, IsStateOf, Serves}
 use Rattle.overlay_core.specs.Leaving.{ClosesEach, Follows, IsFollowed, Shuts, closing}
 use Rattle.overlay_core.specs.Watching.{Agrees, Goes, HasState}
-use Rattle.overlay_core.proofs.Watching.{lowers-same, tracks-same, upper_of, with-instances}
+use Rattle.overlay_core.proofs.Watching.{lowers-same, tracks-same, mount_upper, with-instances}
 
 -- what agrees, agrees but for its instances
 pub follows : (m : Mount) (k : Notified) (s : State) → Agrees m k s → Follows m k s
@@ -150,9 +150,9 @@ module _ (shows : Rule) (old new : Mount) (from to : Notified) (c d : ℕ) (r : 
       let h = slot-open _ (opened_by old.clients c d) (handle_of s.tables c d) o (a.stands.tables.slots c d) is_open in
       let fine : refusal s c (Close d) ≡ None = refusal-reading s c (Close d) refl ∙ ap (λ (x : Option Handle). when (is_none x) EBADF) h.1 in
       let served : Serves None s c (Close d) r new = subst (λ x. Serves x s c (Close d) r new) fine (serves s a.stands) in
-      let pass : Passes (upper_of old) (upper_of new) (lowers_of old.layers) s c (Close d) = record {
+      let pass : Passes (mount_upper old) (mount_upper new) (lowers_of old.layers) s c (Close d) = record {
         before = a.stands.layers;
-        now = lowers-same (upper_of new) (after s c (Close d)) old.layers new.layers lowers served.1.layers;
+        now = lowers-same (mount_upper new) (after s c (Close d)) old.layers new.layers lowers served.1.layers;
         apart = a.settled.1.apart;
         there = a.settled.1.there;
         one = a.one;
@@ -160,9 +160,9 @@ module _ (shows : Rule) (old new : Mount) (from to : Notified) (c d : ℕ) (r : 
         named = named s a.stands fine;
       } in
       let bits : closing_bits s (handle_of s.tables c d) ≡ closing o =
-      ap (closing_bits s) h.1 ∙ closing-same (upper_of old) (lowers_of old.layers) s old.clients.directories o h.0 h.2 in
-      let on : Resumes shows (upper_of new) s c (Close d) to =
-      law_of_closed shows (upper_of old) (upper_of new) (lowers_of old.layers) s c d pass from to a.tracks known
+      ap (closing_bits s) h.1 ∙ closing-same (mount_upper old) (lowers_of old.layers) s old.clients.directories o h.0 h.2 in
+      let on : Resumes shows (mount_upper new) s c (Close d) to =
+      law_of_closed shows (mount_upper old) (mount_upper new) (lowers_of old.layers) s c d pass from to a.tracks known
       (subst (Closed shows from to c d) (sym bits) closed) in
       let t : State = record (after s c (Close d)) { instances = on.heard } in
       let taken : Answered None shows s c (Close d) r t = record { answer = served.0; state = refl; heard = on.hears } in
@@ -213,7 +213,7 @@ muted-follows m k l s c a mutes known = record {
   stands = with-instances m s (without_instance s c).instances a.stands;
   settled = (s.instances, a.settled);
   one = a.one;
-  tracks = law_of_muted (upper_of m) s c k l a.tracks known mutes;
+  tracks = law_of_muted (mount_upper m) s c k l a.tracks known mutes;
 }
 
 pub muted-followed : (m : Mount) (k l : Notified) (c : ℕ) → ∥ HasState m k ∥₁ → Mutes k l c → AreKnown l → ∥ IsFollowed m l ∥₁
@@ -388,7 +388,7 @@ goes-detached shows old mid new from muted shut to c there mutes known closes go
         stands = gone each.last each.follows.stands;
         settled = does-settles shows s c Detached t does a.stands.layers.kept a.settled;
         one = each.follows.one;
-        tracks = tracks-same mid new t to same (law_of_departed (upper_of mid) each.last c shut to each.follows.tracks known_to departs);
+        tracks = tracks-same mid new t to same (law_of_departed (mount_upper mid) each.last c shut to each.follows.tracks known_to departs);
       },
     )
 

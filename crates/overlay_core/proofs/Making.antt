@@ -22,7 +22,7 @@ use Rattle.overlay_core.specs.Performing.{Performs}
 use Rattle.overlay_core.specs.Watching.{Agrees, Goes, Keeps, Stays}
 use Rattle.overlay_core.proofs.Performing.{goes-done, goes-refused, keeps-same, kept-by, performed-by}
 use Rattle.overlay_core.proofs.Uses.{goes-silent}
-use Rattle.overlay_core.proofs.Watching.{stays, upper_of}
+use Rattle.overlay_core.proofs.Watching.{stays, mount_upper}
 
 module _ {F G : Type 0} {shows : Rule} where
   -- a call is made as what it is
@@ -50,7 +50,7 @@ module _ {F G : Type 0} {shows : Rule} where
   pub performs-done : {c : ℕ} {k : Call} {old new : Watched F G} (r : Reply) → is_attached old.mount.clients c ≡ true →
       MakesCall c k old.mount new.mount (Ok r) → r ≡ Done →
       ((s : State) → (a : Agrees old.mount old.notifier s) →
-      Passes (upper_of old.mount) (upper_of new.mount) (lowers_of old.mount.layers) s c k → Resumes shows (upper_of new.mount) s c k new.notifier) →
+      Passes (mount_upper old.mount) (mount_upper new.mount) (lowers_of old.mount.layers) s c k → Resumes shows (mount_upper new.mount) s c k new.notifier) →
       Performs shows c k old new (Ok Done)
   performs-done {c} {k} {old} {new} r there m is resumes =
       subst (λ x. Performs shows c k old new (Ok x)) is

@@ -52,7 +52,7 @@ use Rattle.overlay_core.proofs.Arriving.{any-forth}
 use Rattle.overlay_core.proofs.Leaving.{free-tracked}
 use Rattle.overlay_core.proofs.Performing.{goes-never, known-room}
 use Rattle.overlay_core.proofs.Shown.{directory-no-link, directory-some, none-some}
-use Rattle.overlay_core.proofs.Watching.{upper_of}
+use Rattle.overlay_core.proofs.Watching.{mount_upper}
 
 -- THE DESCRIPTOR: the lowest that is free for the mount is the lowest that is free for the machine
 pub lowest-given : (m : Mount) (s : State) (c d : ℕ) → IsStateOf m s → is_attached m.clients c ≡ true → IsLowestFree m.clients c d →
@@ -174,7 +174,7 @@ back-agrees m s from to known back a = record {
   stands = a.stands;
   settled = a.settled;
   one = a.one;
-  tracks = back-tracks (upper_of m) s from to known back a.tracks;
+  tracks = back-tracks (mount_upper m) s from to known back a.tracks;
 }
 
 -- an open that the machine refuses in each state, and the mount too, goes so

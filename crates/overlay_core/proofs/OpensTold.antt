@@ -32,13 +32,13 @@ use Rattle.notifier.specs.Notifying.{IsFree}
 use Rattle.notifier.specs.Opening.{AreGiven, IsReady, IsReadyNew}
 use Rattle.mount_calls.specs.declared.mount.Mount.{Mount}
 use Rattle.mount_calls.specs.Attaching.{file_by}
-use Rattle.mount_calls.specs.Files.{upper_of as key_of}
+use Rattle.mount_calls.specs.Files.{mount_upper as key_of}
 use Rattle.mount_calls.specs.States.{IsStateOf, Serves}
 use Rattle.mount_calls.specs.FreeDescriptors.{IsLowestFree}
 use Rattle.overlay_core.specs.Watching.{Agrees, Goes, HasState}
 use Rattle.overlay_core.proofs.Lifted.{free-key, free-squashed, lifted-key}
 use Rattle.overlay_core.proofs.Performing.{Performed, passing}
-use Rattle.overlay_core.proofs.Watching.{allowed-by, goes, upper_of}
+use Rattle.overlay_core.proofs.Watching.{allowed-by, goes, mount_upper}
 use Rattle.overlay_core.proofs.Opens.{lowest-given, object-some, open-absent, open-no-link, open-shown, ready-tracks, way-tracks}
 use Rattle.overlay_core.proofs.OpenedKeys.{opened-key, writes-live}
 use Rattle.overlay_core.proofs.OpenedNodes.{held-vacant, new-here, new-key, new-vacant, opened-file, opened-leads, opened-touches}
@@ -47,10 +47,10 @@ use Rattle.overlay_core.proofs.OpenedNodes.{held-vacant, new-here, new-key, new-
 module _ (rule : Rule) (c : ℕ) (p : Path) (f : OpenFlags) (mode : ℕ) (k : Call) (is : k ≡ Open p f mode) (r : Reply) (old new : Mount)
     (from : Notified) (done : Performed c k r old new) where
   abbrev U : Layer
-  U = upper_of old
+  U = mount_upper old
 
   abbrev V : Layer
-  V = upper_of new
+  V = mount_upper new
 
   abbrev L : List Layer
   L = lowers_of old.layers

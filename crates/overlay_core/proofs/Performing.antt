@@ -26,7 +26,7 @@ use Rattle.mount_calls.specs.States.{HasStateOf, IsStateOf, Serves}
 use Rattle.mount_calls.specs.Status.{outcome_reply}
 use Rattle.mount_calls.proofs.Frames.{same-layers}
 use Rattle.overlay_core.specs.Watching.{Agrees, Goes, HasState, Keeps}
-use Rattle.overlay_core.proofs.Watching.{goes, passes, tracks-same, upper_of}
+use Rattle.overlay_core.proofs.Watching.{goes, passes, tracks-same, mount_upper}
 
 -- what a call says that a mount made, and answered so
 pub record Performed (c : ℕ) (k : Call) (r : Reply) (old new : Mount) : Type 0 where
@@ -55,11 +55,11 @@ answered s c k r new fine served = (subst (λ o. Serves o s c k r new) fine serv
 
 module _ (shows : Rule) (c : ℕ) (k : Call) (r : Reply) (old new : Mount) (from : Notified) (done : Performed c k r old new) where
   -- what such a call passes
-  pub passing : (s : State) → Agrees old from s → refusal s c k ≡ None → Passes (upper_of old) (upper_of new) (lowers_of old.layers) s c k
+  pub passing : (s : State) → Agrees old from s → refusal s c k ≡ None → Passes (mount_upper old) (mount_upper new) (lowers_of old.layers) s c k
   passing s a fine = passes s c k r old new from done.lowers a fine (done.serves s a.stands) (done.named s a.stands fine)
 
   -- done, it goes by what is told
-  pub goes-done : (to : Notified) → r ≡ Done → ((s : State) → (a : Agrees old from s) → Passes (upper_of old) (upper_of new) (lowers_of old.layers) s c k → Resumes shows (upper_of new) s c k to) → Goes shows old from c (Called k r) new to
+  pub goes-done : (to : Notified) → r ≡ Done → ((s : State) → (a : Agrees old from s) → Passes (mount_upper old) (mount_upper new) (lowers_of old.layers) s c k → Resumes shows (mount_upper new) s c k to) → Goes shows old from c (Called k r) new to
   goes-done to is resumes = goes shows c k r old new from to done.there done.serves (λ s a e not. absurd (let no : Done ≡ Refused e = sym is ∙ not in cc)) (λ s a fine. resumes s a (passing s a fine))
 
   -- a call that the machine answers that it is done, and that isn't, is refused and leaves all
@@ -117,5 +117,5 @@ module _ (old : Notified) (objects : Tracked) (same : SameSpots old.objects obje
     stands = a.stands;
     settled = a.settled;
     one = a.one;
-    tracks = law_of_fewer_numbers (upper_of m) s old a.tracks objects (λ n spot is. sym (same.spots n) ∙ is) known-room;
+    tracks = law_of_fewer_numbers (mount_upper m) s old a.tracks objects (λ n spot is. sym (same.spots n) ∙ is) known-room;
   }

@@ -34,7 +34,7 @@ use Rattle.overlay_core.specs.Watching.{Agrees, Goes, HasState, Stays}
 use Rattle.overlay_core.proofs.MovesFree.{found-one, is-bare, key-free, key-squashed, lifted-found, place-squashed, root-refused}
 use Rattle.overlay_core.proofs.MovesHeld.{IsGivenUp, IsHeldFor, back-tracks, few-clients, ready-tracks}
 use Rattle.overlay_core.proofs.Performing.{Performed, goes-done, goes-refused, passing}
-use Rattle.overlay_core.proofs.Watching.{allowed-by, goes, stays, upper_of}
+use Rattle.overlay_core.proofs.Watching.{allowed-by, goes, stays, mount_upper}
 
 -- a call that is a rename goes as that
 pub as-called : (rule : Rule) (c : ℕ) (k : Call) (p q : Path) (r x : Reply) (old new : Mount) (from to : Notified) → k ≡ Rename p q → r ≡ x →
@@ -80,23 +80,23 @@ back-agrees m s from mid ready to q h g a = record {
   stands = a.stands;
   settled = a.settled;
   one = a.one;
-  tracks = back-tracks (upper_of m) s from mid ready q h a.tracks to g;
+  tracks = back-tracks (mount_upper m) s from mid ready q h a.tracks to g;
 }
 
 -- also where the mount wanted memory
 pub stays-given-up : (old new : Mount) (from mid ready to : Notified) (q : Path) → IsHeldFor from mid ready q → IsGivenUp ready to →
     StaysState old new → StaysLive old.layers new.layers → Stays old from new to
 stays-given-up old new from mid ready to q h g state live =
-    stays old new from to state live (λ s t. back-tracks (upper_of old) s from mid ready q h t to g)
+    stays old new from to state live (λ s t. back-tracks (mount_upper old) s from mid ready q h t to g)
 
 -- A RENAME, as a mount made it
 module _ (rule : Rule) (c : ℕ) (p q : Path) (r : Reply) (old new : Mount) (from mid ready : Notified) (h : IsHeldFor from mid ready q)
     (done : Performed c (Rename p q) r old new) where
   abbrev U : Layer
-  U = upper_of old
+  U = mount_upper old
 
   abbrev V : Layer
-  V = upper_of new
+  V = mount_upper new
 
   abbrev L : List Layer
   L = lowers_of old.layers

@@ -36,11 +36,11 @@ use Rattle.mount_calls.specs.States.{IsOpenAs, IsSlot, IsStateOf}
 use Rattle.mount_calls.proofs.FileSight.{file-not-folder}
 use Rattle.overlay_core.specs.Watching.{Agrees, Goes, HasState}
 use Rattle.overlay_core.proofs.Performing.{Performed, answered, passing}
-use Rattle.overlay_core.proofs.Watching.{allowed-by, goes, tracks-same, upper_of}
+use Rattle.overlay_core.proofs.Watching.{allowed-by, goes, tracks-same, mount_upper}
 
 module _ (shows : Rule) (c : ℕ) (k : Call) (r : Reply) (old new : Mount) (from : Notified) (done : Performed c k r old new) where
   -- refused it leaves what is tracked
-  left : (s : State) → Agrees old from s → (e : Errno) → r ≡ reply.Refused e → Tracks (upper_of new) s from
+  left : (s : State) → Agrees old from s → (e : Errno) → r ≡ reply.Refused e → Tracks (mount_upper new) s from
   left s a e is = tracks-same old new s from (done.refused e is) a.tracks
 
   -- where it tells nothing, it goes as the machine's
@@ -48,13 +48,13 @@ module _ (shows : Rule) (c : ℕ) (k : Call) (r : Reply) (old new : Mount) (from
       Goes shows old from c (Called k r) new from
   goes-silent keeps silent =
       goes shows c k r old new from from done.there done.serves left
-      (λ s a fine. law_of_silent shows (upper_of old) (upper_of new) (lowers_of old.layers) s c k keeps (silent s a.stands fine)
+      (λ s a fine. law_of_silent shows (mount_upper old) (mount_upper new) (lowers_of old.layers) s c k keeps (silent s a.stands fine)
       (passing shows c k r old new from done s a fine) from a.tracks)
 
   -- where it is not refused, it goes by what is told
   pub goes-told : (to : Notified) → ((e : Errno) → r ≢ reply.Refused e) →
       ((s : State) → (a : Agrees old from s) → refusal s c k ≡ None →
-      Passes (upper_of old) (upper_of new) (lowers_of old.layers) s c k → Resumes shows (upper_of new) s c k to) →
+      Passes (mount_upper old) (mount_upper new) (lowers_of old.layers) s c k → Resumes shows (mount_upper new) s c k to) →
       Goes shows old from c (Called k r) new to
   goes-told to isnt resumes =
       goes shows c k r old new from to done.there done.serves (λ s a e is. absurd (isnt e is)) (λ s a fine. resumes s a fine (passing shows c k r old new from done s a fine))
@@ -151,9 +151,9 @@ module _ (shows : Rule) (c : ℕ) (k : Call) (r : Reply) (old new : Mount) (from
   goes-read n is bytes answer some to known used =
       goes-told shows c k r old new from done to (λ e refused. let z : reply.Read bytes ≡ reply.Refused e = sym answer ∙ refused in absurd (cc))
       (λ s a fine passes.
-      subst (λ j. refusal s c j ≡ None → reply.Read bytes ≡ reply_of s c j → Passes (upper_of old) (upper_of new) (lowers_of old.layers) s c j →
-      Resumes shows (upper_of new) s c j to) (sym is)
-      (λ fine is passes. law_of_read shows (upper_of old) (upper_of new) (lowers_of old.layers) s c fd n passes
+      subst (λ j. refusal s c j ≡ None → reply.Read bytes ≡ reply_of s c j → Passes (mount_upper old) (mount_upper new) (lowers_of old.layers) s c j →
+      Resumes shows (mount_upper new) s c j to) (sym is)
+      (λ fine is passes. law_of_read shows (mount_upper old) (mount_upper new) (lowers_of old.layers) s c fd n passes
       (λ none. some (same-bytes bytes (read_bytes s.tree (handle_of s.tables c fd) n) is ∙ none)) from to a.tracks known used)
       fine (sym answer ∙ answered s c k r new fine (done.serves s a.stands)) passes)
 
@@ -176,9 +176,9 @@ module _ (shows : Rule) (c : ℕ) (k : Call) (r : Reply) (old new : Mount) (from
       goes-told shows c k r old new from done to
       (λ e refused. let z : reply.Written count ≡ reply.Refused e = sym answer ∙ refused in absurd (cc))
       (λ s a fine passes.
-      subst (λ j. refusal s c j ≡ None → Passes (upper_of old) (upper_of new) (lowers_of old.layers) s c j → Resumes shows (upper_of new) s c j to)
+      subst (λ j. refusal s c j ≡ None → Passes (mount_upper old) (mount_upper new) (lowers_of old.layers) s c j → Resumes shows (mount_upper new) s c j to)
       (sym is)
-      (λ fine passes. law_of_written shows (upper_of old) (upper_of new) (lowers_of old.layers) s c fd bytes passes some
+      (λ fine passes. law_of_written shows (mount_upper old) (mount_upper new) (lowers_of old.layers) s c fd bytes passes some
       (writer-file old s a.stands c fd (write-writes c fd bytes s fine)) from to a.tracks known used)
       fine passes)
 
@@ -194,9 +194,9 @@ module _ (shows : Rule) (c : ℕ) (k : Call) (r : Reply) (old new : Mount) (from
   goes-truncated n is answer to known used =
       goes-told shows c k r old new from done to (λ e refused. let z : reply.Done ≡ reply.Refused e = sym answer ∙ refused in absurd (cc))
       (λ s a fine passes.
-      subst (λ j. refusal s c j ≡ None → Passes (upper_of old) (upper_of new) (lowers_of old.layers) s c j → Resumes shows (upper_of new) s c j to)
+      subst (λ j. refusal s c j ≡ None → Passes (mount_upper old) (mount_upper new) (lowers_of old.layers) s c j → Resumes shows (mount_upper new) s c j to)
       (sym is)
-      (λ fine passes. law_of_truncated shows (upper_of old) (upper_of new) (lowers_of old.layers) s c fd n passes
+      (λ fine passes. law_of_truncated shows (mount_upper old) (mount_upper new) (lowers_of old.layers) s c fd n passes
       (writer-file old s a.stands c fd (truncate-writes c fd n s fine)) from to a.tracks known used)
       fine passes)
 

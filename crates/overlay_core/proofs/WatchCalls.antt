@@ -23,7 +23,7 @@ use Rattle.mount_calls.specs.declared.mount.Mount.{Mount}
 use Rattle.mount_calls.specs.Attaching.{is_attached}
 use Rattle.mount_calls.specs.States.{Serves}
 use Rattle.overlay_core.specs.Watching.{Agrees, Goes}
-use Rattle.overlay_core.proofs.Watching.{goes-agreed, passes, upper_of, with-instances}
+use Rattle.overlay_core.proofs.Watching.{goes-agreed, passes, mount_upper, with-instances}
 
 -- why a disarm is refused
 disarm-refusal : (s : State) (c : ℕ) (number : ℤ) (b : Bool) → list_any (is_numbered number) (watches_of (instance_of s.instances c)) ≡ b →
@@ -39,7 +39,7 @@ taking-refusal s c count false is = rw is refl
 -- the engine's instances have the watch of a number where the state's have it
 same-watch : (m : Mount) (k : Notified) (s : State) (c : ℕ) (number : ℤ) → Agrees m k s →
     list_any (is_numbered number) (watches_of (instance_of s.instances c)) ≡ list_any (is_numbered number) (watches_of (instance_of k.instances c))
-same-watch m k s c number a = sym ((law_of_asked (upper_of m) s k a.tracks c).numbered number)
+same-watch m k s c number a = sym ((law_of_asked (mount_upper m) s k a.tracks c).numbered number)
 
 -- a call that is refused leaves all as it is
 pub goes-refused : (shows : Rule) (m : Mount) (k : Notified) (c : ℕ) (call : Call) (e : Errno) → is_attached m.clients c ≡ true →
@@ -64,7 +64,7 @@ pub disarm-goes : (shows : Rule) (m : Mount) (old new : Notified) (c : ℕ) (num
 disarm-goes shows m old new c number there has known disarmed =
     goes-agreed shows c (Disarm number) Done m m old new there serves
     (λ s a e is. let no : Done ≡ Refused e = is in cc)
-    (λ s a fine. law_of_disarmed shows (upper_of m) (upper_of m) (lowers_of m.layers) s c number
+    (λ s a fine. law_of_disarmed shows (mount_upper m) (mount_upper m) (lowers_of m.layers) s c number
     (passes s c (Disarm number) Done m m old refl a fine (serves s a) (λ d key q is at. is)) old new a.tracks known disarmed)
   where
     serves : (s : State) → Agrees m old s → Serves (refusal s c (Disarm number)) s c (Disarm number) Done m
@@ -91,11 +91,11 @@ pub taking-goes : (shows : Rule) (m : Mount) (old new : Notified) (c count : ℕ
 taking-goes shows m old new c count given there few is takes =
     goes-agreed shows c (TakeNotices count) (Unread given) m m old new there serves
     (λ s a e at. let no : Unread given ≡ Refused e = at in cc)
-    (λ s a fine. law_of_taken shows (upper_of m) (upper_of m) (lowers_of m.layers) s c count
+    (λ s a fine. law_of_taken shows (mount_upper m) (mount_upper m) (lowers_of m.layers) s c count
     (passes s c (TakeNotices count) (Unread given) m m old refl a fine (serves s a) (λ d key q live at. live)) old new a.tracks takes)
   where
     serves : (s : State) → Agrees m old s → Serves (refusal s c (TakeNotices count)) s c (TakeNotices count) (Unread given) m
     serves s a = subst (λ o. Serves o s c (TakeNotices count) (Unread given) m) (sym (taking-refusal s c count false (not-above count few))) (
-      ap Unread (is ∙ ap (take count) (law_of_asked (upper_of m) s old a.tracks c).queue),
+      ap Unread (is ∙ ap (take count) (law_of_asked (mount_upper m) s old a.tracks c).queue),
       with-instances m s (after s c (TakeNotices count)).instances a.stands,
     )

@@ -17,7 +17,7 @@ use Rattle.plain_model.specs.Runs.{Called, Does}
 use Rattle.plain_model.proofs.Settled.{does-settles}
 use Rattle.layer_tree.specs.Tree.{layer_of}
 use Rattle.merged_lookup.specs.declared.layers.Layers.{Layers}
-use Rattle.merged_lookup.specs.Merged.{lowers_of}
+use Rattle.merged_lookup.specs.Merged.{upper_of, lowers_of}
 use Rattle.mount_laws.specs.Looks.{IsMountOf}
 use Rattle.mount_laws.proofs.OneName.{law_of_one_name_kept}
 use Rattle.notice_laws.specs.Notified.{Notified, Tracks, Passes, Resumes}
@@ -29,20 +29,20 @@ use Rattle.mount_calls.specs.States.{IsStateOf, Serves, StaysState}
 use Rattle.overlay_core.specs.Watching.{Agrees, Goes, Stays}
 
 -- the upper of a mount
-abbrev pub upper_of : Mount → Layer
-upper_of m = layer_of m.layers.upper
+abbrev pub mount_upper : Mount → Layer
+mount_upper m = upper_of m.layers
 
 -- a mount of the same lower layers is one of those of before
 pub lowers-same : (U : Layer) (s : State) (old new : Layers) → new.lowers ≡ old.lowers → IsMountOf U (lowers_of new) s → IsMountOf U (lowers_of old) s
 lowers-same U s old new same h = rw (sym same) h
 
 -- A CALL THAT IS NOT REFUSED PASSES, as the laws of watches ask
-pub passes : (s : State) (c : ℕ) (k : Call) (r : Reply) (old new : Mount) (from : Notified) → new.layers.lowers ≡ old.layers.lowers → Agrees old from s → refusal s c k ≡ None → Serves (refusal s c k) s c k r new → KeepsNamed s c old.layers new.layers k → Passes (upper_of old) (upper_of new) (lowers_of old.layers) s c k
+pub passes : (s : State) (c : ℕ) (k : Call) (r : Reply) (old new : Mount) (from : Notified) → new.layers.lowers ≡ old.layers.lowers → Agrees old from s → refusal s c k ≡ None → Serves (refusal s c k) s c k r new → KeepsNamed s c old.layers new.layers k → Passes (mount_upper old) (mount_upper new) (lowers_of old.layers) s c k
 passes s c k r old new from same a fine served named =
     let answer : Serves None s c k r new = subst (λ o. Serves o s c k r new) fine served in
     record {
       before = a.stands.layers;
-      now = lowers-same (upper_of new) (after s c k) old.layers new.layers same answer.1.layers;
+      now = lowers-same (mount_upper new) (after s c k) old.layers new.layers same answer.1.layers;
       apart = a.settled.apart;
       there = a.settled.there;
       one = a.one;
@@ -61,7 +61,7 @@ with-instances m s es st = record {
 }
 
 -- A CALL THAT IS SERVED GOES: refused it leaves what is tracked right, else what is told and tracked is as by the laws of watches
-pub goes-agreed : (shows : Rule) (c : ℕ) (k : Call) (r : Reply) (old new : Mount) (from to : Notified) → is_attached old.clients c ≡ true → ((s : State) → Agrees old from s → Serves (refusal s c k) s c k r new) → ((s : State) → Agrees old from s → (e : Errno) → r ≡ Refused e → Tracks (upper_of new) s to) → ((s : State) → Agrees old from s → refusal s c k ≡ None → Resumes shows (upper_of new) s c k to) → Goes shows old from c (Called k r) new to
+pub goes-agreed : (shows : Rule) (c : ℕ) (k : Call) (r : Reply) (old new : Mount) (from to : Notified) → is_attached old.clients c ≡ true → ((s : State) → Agrees old from s → Serves (refusal s c k) s c k r new) → ((s : State) → Agrees old from s → (e : Errno) → r ≡ Refused e → Tracks (mount_upper new) s to) → ((s : State) → Agrees old from s → refusal s c k ≡ None → Resumes shows (mount_upper new) s c k to) → Goes shows old from c (Called k r) new to
 goes-agreed shows c k r old new from to there serves stays resumes s a = by (refusal s c k) refl (serves s a)
   where
     by : (o : Option Errno) → refusal s c k ≡ o → Serves o s c k r new → (t : State) × Does shows s c (Called k r) t × Agrees new to t
@@ -83,20 +83,20 @@ goes-agreed shows c k r old new from to there serves stays resumes s a = by (ref
         )
 
 -- so it does where the mount alone serves it
-pub goes : (shows : Rule) (c : ℕ) (k : Call) (r : Reply) (old new : Mount) (from to : Notified) → is_attached old.clients c ≡ true → ((s : State) → IsStateOf old s → Serves (refusal s c k) s c k r new) → ((s : State) → Agrees old from s → (e : Errno) → r ≡ Refused e → Tracks (upper_of new) s to) → ((s : State) → Agrees old from s → refusal s c k ≡ None → Resumes shows (upper_of new) s c k to) → Goes shows old from c (Called k r) new to
+pub goes : (shows : Rule) (c : ℕ) (k : Call) (r : Reply) (old new : Mount) (from to : Notified) → is_attached old.clients c ≡ true → ((s : State) → IsStateOf old s → Serves (refusal s c k) s c k r new) → ((s : State) → Agrees old from s → (e : Errno) → r ≡ Refused e → Tracks (mount_upper new) s to) → ((s : State) → Agrees old from s → refusal s c k ≡ None → Resumes shows (mount_upper new) s c k to) → Goes shows old from c (Called k r) new to
 goes shows c k r old new from to there serves stays resumes = goes-agreed shows c k r old new from to there (λ s a. serves s a.stands) stays resumes
 
 -- what is tracked stays right where the layers are the same
-pub tracks-same : (old new : Mount) (s : State) (k : Notified) → new.layers ≡ old.layers → Tracks (upper_of old) s k → Tracks (upper_of new) s k
+pub tracks-same : (old new : Mount) (s : State) (k : Notified) → new.layers ≡ old.layers → Tracks (mount_upper old) s k → Tracks (mount_upper new) s k
 tracks-same old new s k same t = subst (λ (l : Layers). Tracks (layer_of l.upper) s k) (sym same) t
 
 -- WHERE MEMORY RAN OUT each state that agreed agrees still, if what is kept for watches is right still
-pub stays : (old new : Mount) (from to : Notified) → StaysState old new → StaysLive old.layers new.layers → ((s : State) → Tracks (upper_of old) s from → Tracks (upper_of old) s to) → Stays old from new to
+pub stays : (old new : Mount) (from to : Notified) → StaysState old new → StaysLive old.layers new.layers → ((s : State) → Tracks (mount_upper old) s from → Tracks (mount_upper old) s to) → Stays old from new to
 stays old new from to h live tracks s a = record {
   stands = h s a.stands;
   settled = a.settled;
   one = a.one;
-  tracks = law_of_staying (upper_of old) (upper_of new) s to (λ d key q is at. live s.tree d key is) (tracks s a.tracks);
+  tracks = law_of_staying (mount_upper old) (mount_upper new) s to (λ d key q is at. live s.tree d key is) (tracks s a.tracks);
 }
 
 -- whether a reply is a refusal

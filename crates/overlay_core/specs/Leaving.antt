@@ -6,10 +6,10 @@ use Rattle.plain_model.specs.Watching.{CLOSE_NOWRITE, CLOSE_WRITE, ISDIR, Instan
 use Rattle.plain_model.specs.Machine.{State, handles_of}
 use Rattle.plain_model.specs.Settling.{IsSettled}
 use Rattle.plain_model.specs.Runs.{Closes, Step}
-use Rattle.layer_tree.specs.Tree.{layer_of}
 use Rattle.mount_laws.specs.Nodes.{HaveOneName}
 use Rattle.open_handles.specs.declared.handle.Handle as handles
 use Rattle.open_handles.specs.declared.handle.Handle.TheVariants.{Directory, File}
+use Rattle.merged_lookup.specs.Merged.{upper_of}
 use Rattle.notice_laws.specs.Notified.{Notified, Tracks}
 use Rattle.mount_calls.specs.declared.mount.Mount.{Mount}
 use Rattle.mount_calls.specs.Attaching.{opened_by}
@@ -25,7 +25,7 @@ pub record Follows (m : Mount) (k : Notified) (s : State) : Type 0 where
   pub stands : IsStateOf m s
   pub settled : (es : List Instance) × IsSettled (record s { instances = es })
   pub one : HaveOneName s.tree
-  pub tracks : Tracks (layer_of m.layers.upper) s k
+  pub tracks : Tracks (upper_of m.layers) s k
 
 -- some state agrees so
 abbrev pub IsFollowed : Mount → Notified → Type 0

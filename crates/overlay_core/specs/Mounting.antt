@@ -15,7 +15,7 @@ mount_fault lowers options =
 
 -- the options of a mount, all of which may be written, as the plain machine has them
 abbrev pub machine_options : Options → MountOptions
-machine_options options = record { redirects = options.redirects; read_only = false }
+machine_options options = record { redirects = options.redirects; metacopy = false; read_only = false }
 
 -- the places of a history that are left where so much was finished, and each attached client keeps one
 abbrev pub places_left : Options → ℕ → ℕ → ℕ

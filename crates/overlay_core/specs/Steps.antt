@@ -7,8 +7,7 @@ use Rattle.ov_base.specs.declared.reply.Reply.TheVariants.{Refused}
 use Rattle.plain_model.specs.Layers.{Layer}
 use Rattle.plain_model.specs.Runs.{Called}
 use Rattle.plain_model.specs.Watching.{Rule}
-use Rattle.layer_tree.specs.Tree.{layer_of}
-use Rattle.merged_lookup.specs.Merged.{lowers_of}
+use Rattle.merged_lookup.specs.Merged.{upper_of, lowers_of}
 use Rattle.copy_up.specs.Needs.{first_names}
 use Rattle.copy_up.specs.Showing.{GainsParent, StaysThin}
 use Rattle.work_dir.specs.Beginnings.{Beginning, empty_beginning, longer_beginning}
@@ -43,7 +42,7 @@ without work j = closed_any work j.number j.client
 
 -- what a job's call lacks
 abbrev pub lack_by : Mount → Job → Lack
-lack_by m j = lack_of (layer_of m.layers.upper) (lowers_of m.layers) j.call
+lack_by m j = lack_of (upper_of m.layers) (lowers_of m.layers) j.call
 
 -- THE NEXT STEP OF A JOB that holds this temp: it is asked anew why the call is refused and what it
 -- lacks

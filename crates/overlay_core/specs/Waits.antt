@@ -5,8 +5,7 @@ use Rattle.ov_base.specs.declared.call.Call.{Call}
 use Rattle.ov_base.specs.declared.call.Call.TheVariants.{Open}
 use Rattle.plain_model.specs.Machine.{State}
 use Rattle.plain_model.specs.Refusals.{refusal}
-use Rattle.layer_tree.specs.Tree.{layer_of}
-use Rattle.merged_lookup.specs.Merged.{lowers_of}
+use Rattle.merged_lookup.specs.Merged.{upper_of, lowers_of}
 use Rattle.work_dir.specs.declared.next.Lack.TheVariants.{File}
 use Rattle.mount_calls.specs.Lacks.{lack_of, lack_size}
 use Rattle.mount_calls.specs.States.{IsStateOf}
@@ -26,7 +25,7 @@ IsFor j w = (j.client ≡ w.client) × (j.call ≡ waiting_call w)
 abbrev pub WaitsFor : Mount → Waiting → Type 0
 WaitsFor m w =
     ((s : State) → IsStateOf m s → refusal s w.client (waiting_call w) ≡ None)
-    × (lack_of (layer_of m.layers.upper) (lowers_of m.layers) (waiting_call w) ≡ File w.source)
+    × (lack_of (upper_of m.layers) (lowers_of m.layers) (waiting_call w) ≡ File w.source)
     × (lack_size (lowers_of m.layers) (File w.source) ≡ w.size)
 
 -- so does the first of those that are kept, if there is one

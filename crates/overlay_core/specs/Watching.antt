@@ -7,9 +7,8 @@ use Rattle.plain_model.specs.Watching.{Rule}
 use Rattle.plain_model.specs.Machine.{MountOptions, State, opening}
 use Rattle.plain_model.specs.Settling.{IsSettled}
 use Rattle.plain_model.specs.Runs.{Deed, Does}
-use Rattle.layer_tree.specs.Tree.{layer_of}
 use Rattle.merged_lookup.specs.declared.layers.Layers.{Layers}
-use Rattle.merged_lookup.specs.Merged.{lowers_of}
+use Rattle.merged_lookup.specs.Merged.{upper_of, lowers_of}
 use Rattle.mount_laws.specs.Nodes.{HaveOneName}
 use Rattle.notice_laws.specs.Notified.{Notified, Tracks}
 use Rattle.copy_up.specs.Showing.{StaysThin}
@@ -24,7 +23,7 @@ pub record Agrees (m : Mount) (k : Notified) (s : State) : Type 0 where
   pub stands : IsStateOf m s
   pub settled : IsSettled s
   pub one : HaveOneName s.tree
-  pub tracks : Tracks (layer_of m.layers.upper) s k
+  pub tracks : Tracks (upper_of m.layers) s k
 
 -- each state that agreed agrees still
 abbrev pub Stays : Mount → Notified → Mount → Notified → Type 0
@@ -37,7 +36,7 @@ Goes shows old k client deed new l = (s : State) → Agrees old k s → (t : Sta
 -- every merge of these layers is a tree with which the mount begins
 abbrev pub BeginsWith : Layers → MountOptions → Mount → Notified → Type 0
 BeginsWith layers options m k =
-    (t : Tree) → IsMerge (layer_of layers.upper) (lowers_of layers) t → Agrees m k (opening t options)
+    (t : Tree) → IsMerge (upper_of layers) (lowers_of layers) t → Agrees m k (opening t options)
 
 -- some state agrees
 abbrev pub HasState : Mount → Notified → Type 0

@@ -3,8 +3,7 @@ ghost use Rattle.std.specs.Prelude.{◌≡◌, ◌≢◌, true, IfOk, IsOk, IsSo
 ghost use Rattle.plain_model.specs.Machine.{State};
 ghost use Rattle.plain_model.specs.Refusals.{refusal};
 ghost use Rattle.plain_model.specs.Runs.{Called};
-ghost use Rattle.layer_tree.specs.Tree.{layer_of};
-ghost use Rattle.merged_lookup.specs.Merged.{lowers_of};
+ghost use Rattle.merged_lookup.specs.Merged.{upper_of, lowers_of};
 ghost use Rattle.notice_laws.specs.declared.object.Object.TheVariants as stands;
 ghost use Rattle.notice_laws.specs.Objects.{IsObject};
 ghost use Rattle.mount_calls.specs.Attaching.{is_attached};
@@ -33,7 +32,7 @@ impl<F: Callback, R: Rule> Watched<F, R> {
         requires state { ∥ HasState self.old.mount self.old.notifier ∥₁ }
         requires look { IsLook self.old.mount.layers path.now look.now }
         requires judged { IsJudged self.old.mount client path.now flags judged }
-        requires stands { IsObject (layer_of self.old.mount.layers.upper) (lowers_of self.old.mount.layers) path.now object }
+        requires stands { IsObject (upper_of self.old.mount.layers) (lowers_of self.old.mount.layers) path.now object }
         requires something { object ≢ stands.Other }
         ensures goes { OnOk result (Goes R.shows self.old.mount self.old.notifier client (Called (Call.Open path.now flags judged.mode) (Reply.Descriptor judged.descriptor)) self.new.mount self.new.notifier) }
         ensures err { OnErr result (Stays self.old.mount self.old.notifier self.new.mount self.new.notifier) }
@@ -73,7 +72,7 @@ impl<F: Callback, R: Rule> Watched<F, R> {
         requires state { ∥ HasState self.old.mount self.old.notifier ∥₁ }
         requires look { IsLook self.old.mount.layers path.now look.now }
         requires judged { IsJudged self.old.mount client path.now flags judged }
-        requires nothing { IsObject (layer_of self.old.mount.layers.upper) (lowers_of self.old.mount.layers) path.now stands.Other }
+        requires nothing { IsObject (upper_of self.old.mount.layers) (lowers_of self.old.mount.layers) path.now stands.Other }
         ensures goes { OnOk result (Goes R.shows self.old.mount self.old.notifier client (Called (Call.Open path.now flags judged.mode) (Reply.Descriptor judged.descriptor)) self.new.mount self.new.notifier) }
         ensures err { OnErr result (Stays self.old.mount self.old.notifier self.new.mount self.new.notifier) }
         ensures kept { Keeps (Call.Open path.now flags judged.mode) self.old.mount self.new.mount }

@@ -119,8 +119,8 @@ module _ (s : State) (c : ℕ) (k : IsKept s.tree s.serial) (apart : IsDistinct 
         like : Like (s.tree d) (change (opened f) s.tree (Some e) d)
         like = change-like (opened f) (opened-mild f) s.tree (Some e) d
 
-    new-lasts : (w : NodeId × Name) (h : Handle) → h.node ≡ New s.serial → AllLast (made_way s.tree s.serial (Some w) (Leaf (File []) (fresh mode) Own 1)) (with_handle s.tables c lowest (Some h))
-    new-lasts w h on = made-lasts s.tables (with_handle s.tables c lowest (Some h)) s.tree s.serial w (Leaf (File []) (fresh mode) Own 1) refl (λ d n. gets h d (ap (same_id d) on ∙ flip d n)) l
+    new-lasts : (w : NodeId × Name) (h : Handle) → h.node ≡ New s.serial → AllLast (made_way s.tree s.serial (Some w) (Leaf (File []) (fresh mode) (Own false) 1)) (with_handle s.tables c lowest (Some h))
+    new-lasts w h on = made-lasts s.tables (with_handle s.tables c lowest (Some h)) s.tree s.serial w (Leaf (File []) (fresh mode) (Own false) 1) refl (λ d n. gets h d (ap (same_id d) on ∙ flip d n)) l
       where
         flip : (d : NodeId) → same_id (New s.serial) d ≡ false → same_id d (New s.serial) ≡ false
         flip d n = elim (cases_Bool (same_id d (New s.serial))) [
@@ -131,11 +131,11 @@ module _ (s : State) (c : ℕ) (k : IsKept s.tree s.serial) (apart : IsDistinct 
     open-lasts : AllLast (tree_after s c (Open p f mode)) (tables_after s c (Open p f mode))
     open-lasts = by (node_at s.tree p) refl
       where
-        by : (o : Option NodeId) → node_at s.tree p ≡ o → AllLast (cond (is_none o) (made_way s.tree s.serial (way_of s.tree p) (Leaf (File []) (fresh mode) Own 1)) (change (opened f) s.tree o)) (with_handle s.tables c lowest (Some (new_handle f (opens o s.serial) (way_of s.tree p) (node_of s.tree o))))
+        by : (o : Option NodeId) → node_at s.tree p ≡ o → AllLast (cond (is_none o) (made_way s.tree s.serial (way_of s.tree p) (Leaf (File []) (fresh mode) (Own false) 1)) (change (opened f) s.tree o)) (with_handle s.tables c lowest (Some (new_handle f (opens o s.serial) (way_of s.tree p) (node_of s.tree o))))
         by (Some e) at = found-lasts e at (new_handle f e (way_of s.tree p) (s.tree e)) refl
         by None at =
             let w = open-way s c p f mode r at in
-            subst (λ z. AllLast (made_way s.tree s.serial z (Leaf (File []) (fresh mode) Own 1)) (with_handle s.tables c lowest (Some (new_handle f (New s.serial) z None)))) (sym w.1)
+            subst (λ z. AllLast (made_way s.tree s.serial z (Leaf (File []) (fresh mode) (Own false) 1)) (with_handle s.tables c lowest (Some (new_handle f (New s.serial) z None)))) (sym w.1)
             (new-lasts w.0 (new_handle f (New s.serial) (Some w.0) None) refl)
 
   -- a write of no bytes changes nothing; else the handle's place moves
@@ -190,7 +190,7 @@ module _ (s : State) (c : ℕ) (k : IsKept s.tree s.serial) (apart : IsDistinct 
   call-lasts (DeleteAttribute p n) r = tree-lasts _ (attributes-mild s.options (λ a. record a { user = drop_value a.user n })) (node_at s.tree p)
   call-lasts (ListAttributes p) r = l
   call-lasts (Mkdir p mode) r = make-lasts (way_of s.tree p) (Branch (fresh mode) false fin.empty 1) refl
-  call-lasts (Symlink target p) r = make-lasts (way_of s.tree p) (Leaf (SymbolicLink target) (fresh 0o777) Own 1) refl
+  call-lasts (Symlink target p) r = make-lasts (way_of s.tree p) (Leaf (SymbolicLink target) (fresh 0o777) (Own false) 1) refl
   call-lasts (Open p f mode) r = open-lasts p f mode r
   call-lasts (Unlink p) r = dropped-lasts s.tables s.tree (node_at s.tree p) (way_of s.tree p) l
   call-lasts (Rmdir p) r = dropped-lasts s.tables s.tree (node_at s.tree p) (way_of s.tree p) l

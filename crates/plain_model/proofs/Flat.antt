@@ -57,7 +57,7 @@ fewer-flat = record { names = alike; folders = folders; single = single }
 
     single : (x : Node) → is_untouched (Some (one_fewer x)) ≡ true → (is_untouched (Some x) ≡ true) × (count_of (Some (one_fewer x)) ≤ count_of (Some x))
     single (Branch a b names c) h = absurd (false≢true h)
-    single (Leaf content a Own c) h = absurd (false≢true h)
+    single (Leaf content a (Own z) c) h = absurd (false≢true h)
     single (Leaf content a (Untouched k) c) h = (refl, less c)
 
 pub more-flat : (m : MountOptions) → IsFlat (one_more m)

@@ -128,7 +128,7 @@ symlink-kept s c target p k r = by p (or-second (when (has_nul target) EINVAL) _
     by : (p : Path) → walked (look s.tree p) or_else when (is_found (look s.tree p)) EEXIST ≡ None → IsKept (tree_after s c (Symlink target p)) (suc s.serial)
     by [] w = absurd (false≢true (sym (when-not true EEXIST w)))
     by (n ∷ q) w =
-        make-kept s.tree s.serial n q (Leaf (SymbolicLink target) (fresh 0o777) Own 1) refl (λ m. refl) k
+        make-kept s.tree s.serial n q (Leaf (SymbolicLink target) (fresh 0o777) (Own false) 1) refl (λ m. refl) k
         (free-name s.tree n q (or-first (walked (look s.tree (n ∷ q))) _ w) (when-not (is_found (look s.tree (n ∷ q))) EEXIST (or-second (walked (look s.tree (n ∷ q))) _ w)))
 
 -- an open that makes its file has a directory to make it in
@@ -143,14 +143,14 @@ open-reached s c n q f mode r free = free-name s.tree n q w (not-found (look s.t
     not-found (Absent d) h = refl
     not-found (Fails x) h = refl
 
-open-made : (s : State) (c : ℕ) (p : Path) (f : OpenFlags) (mode : ℕ) → IsKept s.tree s.serial → refusal s c (Open p f mode) ≡ None → is_none (node_at s.tree p) ≡ true → IsKept (made_way s.tree s.serial (way_of s.tree p) (Leaf (File []) (fresh mode) Own 1)) (suc s.serial)
+open-made : (s : State) (c : ℕ) (p : Path) (f : OpenFlags) (mode : ℕ) → IsKept s.tree s.serial → refusal s c (Open p f mode) ≡ None → is_none (node_at s.tree p) ≡ true → IsKept (made_way s.tree s.serial (way_of s.tree p) (Leaf (File []) (fresh mode) (Own false) 1)) (suc s.serial)
 open-made s c [] f mode k r free = absurd (false≢true free)
-open-made s c (n ∷ q) f mode k r free = make-kept s.tree s.serial n q (Leaf (File []) (fresh mode) Own 1) refl (λ m. refl) k (open-reached s c n q f mode r free)
+open-made s c (n ∷ q) f mode k r free = make-kept s.tree s.serial n q (Leaf (File []) (fresh mode) (Own false) 1) refl (λ m. refl) k (open-reached s c n q f mode r free)
 
 open-kept : (s : State) (c : ℕ) (p : Path) (f : OpenFlags) (mode : ℕ) → IsKept s.tree s.serial → refusal s c (Open p f mode) ≡ None → IsKept (tree_after s c (Open p f mode)) (next_if (is_none (node_at s.tree p)) s.serial)
 open-kept s c p f mode k r = by (is_none (node_at s.tree p)) (λ h. open-made s c p f mode k r h)
   where
-    by : (b : Bool) → (b ≡ true → IsKept (made_way s.tree s.serial (way_of s.tree p) (Leaf (File []) (fresh mode) Own 1)) (suc s.serial)) → IsKept (cond b (made_way s.tree s.serial (way_of s.tree p) (Leaf (File []) (fresh mode) Own 1)) (change (opened f) s.tree (node_at s.tree p))) (next_if b s.serial)
+    by : (b : Bool) → (b ≡ true → IsKept (made_way s.tree s.serial (way_of s.tree p) (Leaf (File []) (fresh mode) (Own false) 1)) (suc s.serial)) → IsKept (cond b (made_way s.tree s.serial (way_of s.tree p) (Leaf (File []) (fresh mode) (Own false) 1)) (change (opened f) s.tree (node_at s.tree p))) (next_if b s.serial)
     by true made = made refl
     by false made = change-kept (opened f) (opened-mild f) s.tree s.serial (node_at s.tree p) k
 

@@ -16,6 +16,11 @@ pub mod Walks
 pub mod Names
 pub mod AttributeNames
 pub mod Keeping
+pub mod Blank
+pub mod Writable
+pub mod OwnBytes
+pub mod FilledSights
+pub mod Filled
 pub mod Flat
 pub mod Dropping
 pub mod Making

@@ -165,7 +165,7 @@ module _ (ps : List Path) (U : Layer) (lowers : List Layer) (trees : AreLayers (
 
       by : (s : Option Sight) → seen p ≡ s → entry t (cond (is_some s) (Some (At (leader ps U p))) None) n ≡ named (n ∷ p)
       by None e = away (ap seen_dir e)
-      by (Some (SeenLeaf k a Own l)) e = ap (λ o. names_of o n) (at-leader p ∙ ap (λ s. node_seen s (names_shown ps U lowers (leader ps U p))) e) ∙ away (ap seen_dir e)
+      by (Some (SeenLeaf k a (Own z) l)) e = ap (λ o. names_of o n) (at-leader p ∙ ap (λ s. node_seen s (names_shown ps U lowers (leader ps U p))) e) ∙ away (ap seen_dir e)
       by (Some (SeenLeaf k a (Untouched m) l)) e = ap (λ o. names_of o n) (at-leader p ∙ ap (λ s. node_seen s (names_shown ps U lowers (leader ps U p))) e) ∙ away (ap seen_dir e)
       by (Some (SeenBranch a b)) e =
           ap (λ o. names_of o n) (at-leader p ∙ ap (λ s. node_seen s (names_shown ps U lowers (leader ps U p))) e)

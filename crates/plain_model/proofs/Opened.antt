@@ -40,7 +40,7 @@ pub record IsUpper (U : Layer) (p : Path) (links : ℕ) : Type 0 where
   pub counted : links ≡ inode.links
 
 abbrev is_own : Option Sight → Bool
-is_own (Some (SeenLeaf content a Own l)) = true
+is_own (Some (SeenLeaf content a (Own m) l)) = true
 is_own _ = false
 
 -- what comes through is seen as untouched
@@ -51,21 +51,21 @@ through-own b (Some (Contents zero k i)) h = absurd (false≢true (sym h))
 through-own b (Some (Contents (suc j) k None)) h = refl
 through-own b (Some (Contents (suc j) k (Some i))) h = refl
 
-upper-leaf : (U : Layer) (lowers : List Layer) (p : Path) (content : Content) (a : Attributes) (l : ℕ) → merged U lowers p ≡ Some (SeenLeaf content a Own l) → IsUpper U p l
-upper-leaf U lowers p content a l h = by (held U p) refl (sym (merged-meld U lowers p) ∙ h)
+upper-leaf : (U : Layer) (lowers : List Layer) (p : Path) (content : Content) (a : Attributes) (m : Bool) (l : ℕ) → merged U lowers p ≡ Some (SeenLeaf content a (Own m) l) → IsUpper U p l
+upper-leaf U lowers p content a m l h = by (held U p) refl (sym (merged-meld U lowers p) ∙ h)
   where
     unless-upper : (c : Bool) → is_upper (unless c (shows 1 lowers (below U p))) ≡ false
     unless-upper true = refl
     unless-upper false = lower-shows 0 lowers (below U p)
 
-    inode : (k : ℕ) → held U p ≡ Some (Named k) → (i : Option Inode) → U.inodes k ≡ i → see_inode 0 i ≡ Some (SeenLeaf content a Own l) → IsUpper U p l
+    inode : (k : ℕ) → held U p ≡ Some (Named k) → (i : Option Inode) → U.inodes k ≡ i → see_inode 0 i ≡ Some (SeenLeaf content a (Own m) l) → IsUpper U p l
     inode k e None g h = cc
     inode k e (Some i) g h = record { number = k; named = e; inode = i; stands = g; counted = cc }
 
-    by : (o : Option Object) → held U p ≡ o → meld U.inodes o (through U lowers p) ≡ Some (SeenLeaf content a Own l) → IsUpper U p l
+    by : (o : Option Object) → held U p ≡ o → meld U.inodes o (through U lowers p) ≡ Some (SeenLeaf content a (Own m) l) → IsUpper U p l
     by None e h = absurd (false≢true (sym (through-own (is_directory (through U lowers p)) (through U lowers p) (unless-upper (cuts U p))) ∙ ap is_own h))
     by (Some Whiteout) e h = cc
-    by (Some (Directory k b o r)) e h = let z : Some (SeenBranch b (is_directory (through U lowers p))) ≡ Some (SeenLeaf content a Own l) = h in absurd (false≢true (ap is_own z))
+    by (Some (Directory k b o r)) e h = let z : Some (SeenBranch b (is_directory (through U lowers p))) ≡ Some (SeenLeaf content a (Own m) l) = h in absurd (false≢true (ap is_own z))
     by (Some (Named k)) e h = inode k e (U.inodes k) refl h
 
 -- the entry of a path
@@ -140,7 +140,7 @@ module _ (ps : List Path) (U : Layer) (lowers : List Layer) (trees : AreLayers (
       by : (b : Bool) (s : Option Sight) → names_of (cond b (node_seen s (names_shown ps U lowers p)) None) m ≡ Some x → Says (At p) m x
       by false s h = cc
       by true None h = cc
-      by true (Some (SeenLeaf content a Own l)) h = cc
+      by true (Some (SeenLeaf content a (Own m) l)) h = cc
       by true (Some (SeenLeaf content a (Untouched k) l)) h = cc
       by true (Some (SeenBranch a b)) h = split (is_some (seen (m ∷ p))) refl (sym (names-in ps U lowers trees have p m) ∙ h)
 
@@ -274,7 +274,7 @@ module _ (ps : List Path) (U : Layer) (lowers : List Layer) (trees : AreLayers (
       by true None e h = absent-names n q (λ p m shown l. false≢true (sym (ap is_some h) ∙ ap (λ x. is_some (seen x)) (sym l) ∙ ap is_some (merged-leader ps U lowers trees have (m ∷ p)) ∙ shown))
       by true (Some (SeenBranch a b)) e h = one-name n q (leads true e refl) (ap is_some h) (not-own (ap is_own h) (ap is_some h))
       by true (Some (SeenLeaf content a (Untouched k) l)) e h = one-name n q (leads true e refl) (ap is_some h) (not-own (ap is_own h) (ap is_some h))
-      by true (Some (SeenLeaf content a Own l)) e h = inode-names n q l (leads true e refl) (upper-leaf U lowers (n ∷ q) content a l h)
+      by true (Some (SeenLeaf content a (Own m) l)) e h = inode-names n q l (leads true e refl) (upper-leaf U lowers (n ∷ q) content a m l h)
 
   all-names : (d : NodeId) → AreNames t d (count_of (t d))
   all-names (New i) = made-names i
@@ -290,7 +290,7 @@ module _ (ps : List Path) (U : Layer) (lowers : List Layer) (trees : AreLayers (
       by false s h = refl
       by true None h = refl
       by true (Some (SeenBranch a b)) h = let z : 1 ≡ 0 = h in cc
-      by true (Some (SeenLeaf content a Own l)) h = refl
+      by true (Some (SeenLeaf content a (Own m) l)) h = refl
       by true (Some (SeenLeaf content a (Untouched k) l)) h = refl
 
   -- a file or link of a lower layer has one
@@ -302,7 +302,7 @@ module _ (ps : List Path) (U : Layer) (lowers : List Layer) (trees : AreLayers (
       by false s h = absurd (false≢true h)
       by true None h = absurd (false≢true h)
       by true (Some (SeenBranch a b)) h = absurd (false≢true h)
-      by true (Some (SeenLeaf content a Own l)) h = absurd (false≢true h)
+      by true (Some (SeenLeaf content a (Own m) l)) h = absurd (false≢true h)
       by true (Some (SeenLeaf content a (Untouched k) l)) h = omega arith
 
   pub merge-kept : IsKept t 0

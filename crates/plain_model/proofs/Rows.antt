@@ -11,7 +11,7 @@ plain = record { mode = 0o755; uid = 0; gid = 0; user = [] }
 
 -- layers in which each inode of a number is a file with this number as its only byte
 abbrev file : ℕ → Inode
-file k = record { content = File (k ∷ []); attributes = plain; links = 1 }
+file k = record { content = File (k ∷ []); attributes = plain; links = 1; mark = None }
 
 abbrev object_at : List (Path × Object) → Path → Option Object
 object_at [] p = None

@@ -5,6 +5,7 @@ use Rattle.std.specs.Int.Bits.{bit_or}
 use Rattle.std.specs.List.{list_any}
 use Rattle.std.specs.FinMap as fin
 use Rattle.ov_base.specs.declared.attributes.Attributes.{Attributes}
+use Rattle.ov_base.specs.declared.bytes.Content.{Content}
 use Rattle.ov_base.specs.declared.bytes.Content.TheVariants.{File, SymbolicLink}
 use Rattle.ov_base.specs.declared.call.Call.{Call}
 use Rattle.ov_base.specs.declared.call.Call.TheVariants.{Chmod, Chown, SetAttribute, DeleteAttribute, Mkdir, Symlink, Open, Unlink, Rmdir, Hardlink, Rename, Read, Write, Seek, Truncate, ListNames, Close, Arm, TakeNotices}
@@ -12,10 +13,10 @@ use Rattle.ov_base.specs.declared.call.OpenFlags.{OpenFlags}
 use Rattle.ov_base.specs.declared.node_id.NodeId.{NodeId}
 use Rattle.ov_base.specs.declared.node_id.NodeId.TheVariants.{New}
 pub use Rattle.ov_base.specs.UserValues.{set_value, drop_value}
-use Rattle.plain_model.specs.Layers.{Name, Path, same_name}
+use Rattle.plain_model.specs.Layers.{Name, Path, is_file, same_name}
 use Rattle.plain_model.specs.Tree.{same_id, Node, Branch, Leaf, Origin, Own, Untouched, Tree, node_at, node_of, put, lead, is_folder}
 use Rattle.plain_model.specs.Watching.{EVENTS, MASK_ADD, ONESHOT, has_bit, Watch, Instance}
-use Rattle.plain_model.specs.Machine.{View, Live, Frozen, Handle, DESCRIPTORS_MAX, Table, MountOptions, State, look, same_found, bytes_of_node, handle_of, handle_node, lowest_free, bytes_of, place_of, write_place, seek_base, watch_on}
+use Rattle.plain_model.specs.Machine.{View, Live, Kept, Frozen, Handle, DESCRIPTORS_MAX, Table, MountOptions, State, look, same_found, bytes_of_node, handle_of, handle_node, lowest_free, bytes_of, place_of, write_place, seek_base, watch_on}
 use Rattle.plain_model.specs.Refusals.{FILE_MAX}
 
 -- the name n in the directory d
@@ -42,26 +43,24 @@ abbrev pub change : (Node → Node) → Tree → Option NodeId → Tree
 change f t None = t
 change f t (Some d) = put t d (over_node f (t d))
 
--- the origin after a change of attributes or names, and after write access: these copy a lower file up
-abbrev pub after_meta : MountOptions → Origin → Origin
-after_meta m u = Own
+-- whether the bytes are a lower file's after a change of attributes or names: a file that was untouched is copied up without them where
+-- the mount was told so
+abbrev pub low_after : Bool → Content → Origin → Bool
+low_after metacopy content (Own low) = low
+low_after metacopy content (Untouched links) = metacopy && is_file content
 
-abbrev pub after_write : Origin → Origin
-after_write u = Own
+-- the origin after a change of attributes or names
+abbrev pub after_meta : MountOptions → Content → Origin → Origin
+after_meta m content u = Own (low_after m.metacopy content u)
 
--- the link count that a handle for reading alone keeps, where the file is untouched
-abbrev pub frozen_links : Origin → Option ℕ
-frozen_links Own = None
-frozen_links (Untouched links) = Some links
-
--- a node after write access to it
+-- a node after write access to it, which copies a lower file's bytes up
 abbrev pub touched : Node → Node
-touched (Leaf content a u l) = Leaf content a (after_write u) l
+touched (Leaf content a u l) = Leaf content a (Own false) l
 touched x = x
 
 -- a node after a rename of it
 abbrev pub meta_touched : MountOptions → Node → Node
-meta_touched m (Leaf content a u l) = Leaf content a (after_meta m u) l
+meta_touched m (Leaf content a u l) = Leaf content a (after_meta m content u) l
 meta_touched m x = x
 
 -- a node with a name less, and with a name more
@@ -70,7 +69,7 @@ one_fewer (Leaf content a u l) = Leaf content a u (l - 1)
 one_fewer (Branch a b names c) = Branch a b names (c - 1)
 
 abbrev pub one_more : MountOptions → Node → Node
-one_more m (Leaf content a u l) = Leaf content a (after_meta m u) (l + 1)
+one_more m (Leaf content a u l) = Leaf content a (after_meta m content u) (l + 1)
 one_more m x = x
 
 -- a file with other bytes
@@ -80,7 +79,7 @@ with_bytes bytes x = x
 
 -- a node with other attributes
 abbrev pub with_attributes : MountOptions → (Attributes → Attributes) → Node → Node
-with_attributes m f (Leaf content a u l) = Leaf content (f a) (after_meta m u) l
+with_attributes m f (Leaf content a u l) = Leaf content (f a) (after_meta m content u) l
 with_attributes m f (Branch a b names c) = Branch (f a) b names c
 
 abbrev pub with_mode : ℕ → Attributes → Attributes
@@ -161,10 +160,10 @@ tree_after s c (Chown p uid gid) = change (with_attributes s.options (with_owner
 tree_after s c (SetAttribute p n v) = change (with_attributes s.options (λ a. record a { user = set_value a.user n v })) s.tree (node_at s.tree p)
 tree_after s c (DeleteAttribute p n) = change (with_attributes s.options (λ a. record a { user = drop_value a.user n })) s.tree (node_at s.tree p)
 tree_after s c (Mkdir p mode) = made_way s.tree s.serial (way_of s.tree p) (Branch (fresh mode) false fin.empty 1)
-tree_after s c (Symlink target p) = made_way s.tree s.serial (way_of s.tree p) (Leaf (SymbolicLink target) (fresh 0o777) Own 1)
+tree_after s c (Symlink target p) = made_way s.tree s.serial (way_of s.tree p) (Leaf (SymbolicLink target) (fresh 0o777) (Own false) 1)
 tree_after s c (Open p f mode) =
     cond (is_none (node_at s.tree p))
-    (made_way s.tree s.serial (way_of s.tree p) (Leaf (File []) (fresh mode) Own 1))
+    (made_way s.tree s.serial (way_of s.tree p) (Leaf (File []) (fresh mode) (Own false) 1))
     (change (opened f) s.tree (node_at s.tree p))
 tree_after s c (Unlink p) = dropped s.tables s.tree p
 tree_after s c (Rmdir p) = dropped s.tables s.tree p
@@ -175,13 +174,14 @@ tree_after s c (Truncate fd size) = change (λ x. with_bytes (sized (bytes_of_no
 tree_after s c (Close fd) = settled (with_handle s.tables c fd None) s.tree (node_of_handle (handle_of s.tables c fd))
 tree_after s c _ = s.tree
 
--- what a new handle on a node sees
-abbrev pub frozen_by : Option ℕ → List ℕ → Attributes → View
-frozen_by None bytes a = Live
-frozen_by (Some links) bytes a = Frozen bytes a links
+-- what a new handle for reading alone sees of a file
+abbrev pub view_by : Origin → List ℕ → Attributes → View
+view_by (Own false) bytes a = Live
+view_by (Own true) bytes a = Kept bytes
+view_by (Untouched links) bytes a = Frozen bytes a links
 
 abbrev pub view_of : OpenFlags → Option Node → View
-view_of f (Some (Leaf (File bytes) a u l)) = cond f.writes Live (frozen_by (frozen_links u) bytes a)
+view_of f (Some (Leaf (File bytes) a u l)) = cond f.writes Live (view_by u bytes a)
 view_of f _ = Live
 
 abbrev pub new_handle : OpenFlags → NodeId → Option (NodeId × Name) → Option Node → Handle

@@ -1,10 +1,11 @@
 -- Layers, and what a list of them shows at a path (Linux's Documentation/filesystems/overlayfs.rst: "Upper and Lower", "Directories",
 -- "whiteouts and opaque directories", "Multiple lower layers", "redirect_dir").
-use Rattle.std.specs.Prelude.{◌≡◌, ◌≢◌, ◌↔◌, ℕ, suc, Bool, true, false, not, ◌&&◌, ◌||◌, List, [], ◌∷◌, Option, None, Some, is_some, length, bytes_eq}
+use Rattle.std.specs.Prelude.{◌≡◌, ◌≢◌, ◌↔◌, ℕ, suc, Bool, true, false, not, ◌&&◌, ◌||◌, List, [], ◌∷◌, Option, None, Some, is_some, length, bytes_eq, option_map}
 use Rattle.std.specs.List.{list_any, IsDistinct}
 use Rattle.std.specs.Cmp.Lexicographic.{pointwise}
 use Rattle.ov_base.specs.declared.attributes.Attributes.{Attributes}
 use Rattle.ov_base.specs.declared.bytes.Content.{Content}
+use Rattle.ov_base.specs.declared.bytes.Content.TheVariants.{File, SymbolicLink}
 use Rattle.ov_base.specs.declared.redirect.Redirect.{Redirect}
 use Rattle.ov_base.specs.declared.redirect.Redirect.TheVariants.{Absolute, Single}
 
@@ -22,11 +23,13 @@ pub data Object : Type 0 where
   Named : ℕ → Object
   Whiteout : Object
 
--- A file or symbolic link of a layer, and how many names it has there.
+-- A file or symbolic link of a layer, and how many names it has there. A file with a mark has no bytes of its own: they are those of the
+-- file that the layers below show at the mark's path (overlayfs.rst, "Metadata only copy up").
 pub record Inode : Type 0 where
   pub content : Content
   pub attributes : Attributes
   pub links : ℕ
+  pub mark : Option Path
 
 -- A layer is two look-ups: what it holds below the root at a path, and its inodes by their numbers. Beside them, the root's attributes.
 pub record Layer : Type 0 where
@@ -34,10 +37,14 @@ pub record Layer : Type 0 where
   pub objects : Path → Option Object
   pub inodes : ℕ → Option Inode
 
+-- what is held at a path, where the root has these attributes and these objects are below it
+abbrev pub held_by : Attributes → (Path → Option Object) → Path → Option Object
+held_by a objects [] = Some (Directory 0 a false None)
+held_by a objects (n ∷ p) = objects (n ∷ p)
+
 -- what the layer holds at a path; its root is a directory without marks, with the number 0
 abbrev pub held : Layer → Path → Option Object
-held L [] = Some (Directory 0 L.root false None)
-held L (n ∷ p) = L.objects (n ∷ p)
+held L = held_by L.root L.objects
 
 -- the spelling of n in p for the next layer, s being that of p
 abbrev pub spell : Option Object → Name → Path → Path
@@ -45,10 +52,14 @@ spell (Some (Directory k a o (Some (Absolute q)))) n s = q
 spell (Some (Directory k a o (Some (Single m)))) n s = m ∷ s
 spell _ n s = n ∷ s
 
+-- the spelling of a path for the next layer, where these objects are held
+abbrev pub below_by : (Path → Option Object) → Path → Path
+below_by holds [] = []
+below_by holds (n ∷ p) = spell (holds (n ∷ p)) n (below_by holds p)
+
 -- the spelling of a path for the next layer
 abbrev pub below : Layer → Path → Path
-below L [] = []
-below L (n ∷ p) = spell (held L (n ∷ p)) n (below L p)
+below L = below_by (held L)
 
 -- whether the layer cuts n in p, where c says whether it cuts p: an absolute redirect leads on unless its directory is opaque
 abbrev pub cut : Option Object → Bool → Bool
@@ -59,10 +70,14 @@ cut (Some (Directory k a o None)) c = o || c
 cut (Some (Named i)) c = true
 cut (Some Whiteout) c = true
 
+-- whether a path is cut, where these objects are held
+abbrev pub cuts_by : (Path → Option Object) → Path → Bool
+cuts_by holds [] = false
+cuts_by holds (n ∷ p) = cut (holds (n ∷ p)) (cuts_by holds p)
+
 -- whether nothing of the layers below comes through the layer at a path
 abbrev pub cuts : Layer → Path → Bool
-cuts L [] = false
-cuts L (n ∷ p) = cut (held L (n ∷ p)) (cuts L p)
+cuts L = cuts_by (held L)
 
 -- what a path shows: a directory, by its layer and number, or an inode, by its layer and number
 pub data Shown : Type 0 where
@@ -85,6 +100,29 @@ over i inodes (Some (Named k)) s = Some (Contents i k (inodes k))
 abbrev pub shows : ℕ → List Layer → Path → Option Shown
 shows i [] p = None
 shows i (L ∷ Ls) p = over i L.inodes (held L p) (unless (cuts L p) (shows (suc i) Ls (below L p)))
+
+-- whether this is a file, and no symbolic link
+abbrev pub is_file : Content → Bool
+is_file (File bytes) = true
+is_file (SymbolicLink target) = false
+
+-- what the file holds that is shown, and else this content
+abbrev pub file_or : Content → Option Shown → Content
+file_or c (Some (Contents j k (Some i))) = elim i.content [ File bytes ↦ File bytes | SymbolicLink target ↦ c ]
+file_or c _ = c
+
+-- what an inode with this mark holds over lower layers: a marked file what the file has that they show at the mark
+abbrev pub content_over : List Layer → Option Path → Content → Content
+content_over lowers None c = c
+content_over lowers (Some q) (File bytes) = file_or (File bytes) (shows 1 lowers q)
+content_over lowers (Some q) (SymbolicLink target) = SymbolicLink target
+
+abbrev pub fill : List Layer → Inode → Inode
+fill lowers i = record i { content = content_over lowers i.mark i.content }
+
+-- THE UPPER OVER LOWER LAYERS: its marked files have the bytes that those show at their marks, all else is as it has it
+abbrev pub filled : Layer → List Layer → Layer
+filled U lowers = record U { inodes = λ k. option_map (fill lowers) (U.inodes k) }
 
 -- what comes through the upper at a path from the layers below it
 abbrev pub through : Layer → List Layer → Path → Option Shown

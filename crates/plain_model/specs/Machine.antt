@@ -12,10 +12,11 @@ use Rattle.plain_model.specs.Layers.{Name, Path, same_path}
 use Rattle.plain_model.specs.Tree.{same_id, Node, Branch, Leaf, Tree, root, node_of}
 use Rattle.plain_model.specs.Watching.{Watch, Instance}
 
--- What a handle sees: its node as it is, or, where it was opened for reading alone on an untouched file, the file's bytes, attributes
--- and link count of that moment.
+-- What a handle sees: its node as it is; or, where it was opened for reading alone on a file whose bytes were a lower layer's, these
+-- bytes, and, where the file was untouched, its attributes and link count of that moment too.
 pub data View : Type 0 where
   Live : View
+  Kept : List ℕ → View
   Frozen : List ℕ → Attributes → ℕ → View
 
 -- An open handle: its node, access, whether writes go to the end, its place in bytes or names, the directory and name by which it was
@@ -43,10 +44,11 @@ pub record Table : Type 0 where
 abbrev pub free_table : ℕ → Table
 free_table c = record { client = c; handles = replicate DESCRIPTORS_MAX None }
 
--- What a mount was told as it began: whether renames of directories that lower layers have make redirects, and whether nothing may be
--- written.
+-- What a mount was told as it began: whether renames of directories that lower layers have make redirects, whether files are copied up
+-- without their bytes where these don't change, and whether nothing may be written.
 pub record MountOptions : Type 0 where
   pub redirects : Bool
+  pub metacopy : Bool
   pub read_only : Bool
 
 -- The state: the tree, the next new node's serial, how many renames moved something, the next client's number, the mount's options, and
@@ -170,6 +172,7 @@ handle_node t (Some h) = t h.node
 
 abbrev pub bytes_seen : View → Option Node → List ℕ
 bytes_seen Live o = bytes_of_node o
+bytes_seen (Kept bytes) o = bytes
 bytes_seen (Frozen bytes a l) o = bytes
 
 -- the bytes that a handle reads

@@ -74,7 +74,7 @@ names_shown ps U lowers p = fin.from_entries (entries_of (λ n. is_some (merged 
 abbrev pub node_seen : Option Sight → Names → Option Node
 node_seen None names = None
 node_seen (Some (SeenBranch a b)) names = Some (Branch a b names 1)
-node_seen (Some (SeenLeaf content a Own l)) names = Some (Leaf content a Own l)
+node_seen (Some (SeenLeaf content a (Own low) l)) names = Some (Leaf content a (Own low) l)
 node_seen (Some (SeenLeaf content a (Untouched k) l)) names = Some (Leaf content a (Untouched k) 1)
 
 -- the merge as a function, where ps are all paths that the layers hold

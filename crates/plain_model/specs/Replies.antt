@@ -12,7 +12,7 @@ use Rattle.ov_base.specs.declared.reply.Reply.TheVariants as reply
 use Rattle.plain_model.specs.Layers.{Name}
 use Rattle.plain_model.specs.Tree.{Node, Branch, Leaf, Tree, node_at, node_of, shown_links}
 use Rattle.plain_model.specs.Watching.{Watch, Instance}
-use Rattle.plain_model.specs.Machine.{View, Live, Frozen, Handle, DESCRIPTORS_MAX, State, user_of, value_of, bytes_of_node, handle_of, lowest_free, write_place, instance_of, watches_of, watch_on}
+use Rattle.plain_model.specs.Machine.{View, Live, Kept, Frozen, Handle, DESCRIPTORS_MAX, State, user_of, value_of, bytes_of_node, handle_of, lowest_free, write_place, instance_of, watches_of, watch_on}
 use Rattle.plain_model.specs.Changes.{fitting, listing, read_bytes, sought}
 
 -- the link count that stat(2) has room for
@@ -29,8 +29,14 @@ stat_of (Some (Branch a b names c)) = stat_by kind.Directory a 0 1
 stat_of (Some (Leaf (File bytes) a u l)) = stat_by kind.File a (length bytes) (capped (shown_links u l))
 stat_of (Some (Leaf (SymbolicLink target) a u l)) = stat_by kind.SymbolicLink a (length target) (capped (shown_links u l))
 
+-- the same of a handle that keeps a file's bytes: their number is the size, all else is the node's
+abbrev pub stat_kept : List ℕ → Option Node → Reply
+stat_kept bytes (Some (Leaf content a u l)) = stat_by kind.File a (length bytes) (capped (shown_links u l))
+stat_kept bytes o = stat_of o
+
 abbrev pub stat_seen : View → Option Node → Reply
 stat_seen Live o = stat_of o
+stat_seen (Kept bytes) o = stat_kept bytes o
 stat_seen (Frozen bytes a links) o = stat_by kind.File a (length bytes) (capped links)
 
 -- what fstat shows of a handle

@@ -22,9 +22,10 @@ same_id (New i) (At q) = false
 abbrev pub Names : Type 0
 Names = map.FinMap (slice_cmp nat_cmp) NodeId
 
--- where a file or link stands: in the upper layer, or untouched in a lower one, whose link count it shows
+-- where a file or link stands: in the upper layer, with bytes of its own or, where that is true, those of a file of the lower layers; or
+-- untouched in a lower layer, whose link count it shows
 pub data Origin : Type 0 where
-  Own : Origin
+  Own : Bool → Origin
   Untouched : ℕ → Origin
 
 -- A directory: attributes, whether it is base, names. A file or link: content, attributes, origin. Last, how many names lead to it.
@@ -80,7 +81,7 @@ lead t d n e = put t d (with_name n e (t d))
 
 -- the link count that a node shows: a lower layer's, or the number of its names
 abbrev pub shown_links : Origin → ℕ → ℕ
-shown_links Own names = names
+shown_links (Own low) names = names
 shown_links (Untouched links) names = links
 
 -- what a node shows of itself, but for its names; last, a file's or link's link count
@@ -99,7 +100,7 @@ sight_at t p = face (node_of t (node_at t p))
 
 -- the origin of an inode of a layer: the upper is layer 0, here and in what comes through it alone
 abbrev pub origin_in : ℕ → Inode → Origin
-origin_in zero i = Own
+origin_in zero i = Own (is_some i.mark)
 origin_in (suc j) i = Untouched i.links
 
 -- an inode of a layer, as a tree shows it
@@ -148,6 +149,12 @@ count_of (Some (Leaf content a u c)) = c
 abbrev pub is_untouched : Option Node → Bool
 is_untouched (Some (Leaf content a (Untouched links) c)) = true
 is_untouched _ = false
+
+-- whether the bytes of a node are those of a file of a lower layer
+abbrev pub is_data_low : Option Node → Bool
+is_data_low (Some (Leaf content a (Own low) c)) = low
+is_data_low (Some (Leaf content a (Untouched links) c)) = true
+is_data_low _ = false
 
 -- whether two entries of directories are the same
 abbrev pub same_entry : NodeId × Name → NodeId × Name → Bool

@@ -113,7 +113,7 @@ new-room t key i is one = of (get t key) is
     of None h = absurd (cc)
     of (Some (node.Directory d)) h = absurd (cc)
     of (Some (node.Inode x)) h =
-        let e : ◌≡◌ {A = Inode} (record { content = x.content; attributes = x.attributes; links = x.links }) i = cc in
+        let e : ◌≡◌ {A = Inode} (record { content = x.content; attributes = x.attributes; links = x.links; mark = None }) i = cc in
         few x.links (ap (λ (z : Inode). z.links) e ∙ one)
 
 -- where the same is held a place stays

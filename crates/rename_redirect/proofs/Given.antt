@@ -126,7 +126,7 @@ module _ (mid new : Layers) (low : new.lowers ≡ mid.lowers) (keep : IsLayer (l
 -- one of a lower layer is copied up and given a further name
 module _ (mid new : Layers) (low : new.lowers ≡ mid.lowers) (keep : IsLayer (layer_of mid.upper) → IsLayer (layer_of new.upper)) (n : Name) (p : Path) (m : Name) (q : Path) (l k : ℕ) (i : Inode) (shown : shows 0 (layers_of mid) (n ∷ p) ≡ Some (Contents (suc l) k (Some i))) (absent : shows 0 (layers_of mid) (m ∷ q) ≡ None) (out : IsOutside (n ∷ p) (m ∷ q)) (copy : CopiesName (layer_of mid.upper) (layer_of new.upper) (n ∷ p) (m ∷ q) i.content i.attributes) where
   copy-absent : shows 0 (copy.copied ∷ lowers_of mid) (m ∷ q) ≡ None
-  copy-absent = still-absent (layer_of mid.upper) copy.copied (lowers_of mid) (n ∷ p) copy.number (record { content = i.content; attributes = i.attributes; links = 1 }) copy.leaf (m ∷ q) out absent
+  copy-absent = still-absent (layer_of mid.upper) copy.copied (lowers_of mid) (n ∷ p) copy.number (record { content = i.content; attributes = i.attributes; links = 1; mark = None }) copy.leaf (m ∷ q) out absent
 
   pub copy-name : AreLayers (layers_of mid) → GainsName (layer_of mid.upper) (layer_of new.upper) (lowers_of mid) (n ∷ p) (m ∷ q)
   copy-name h =
@@ -135,13 +135,13 @@ module _ (mid new : Layers) (low : new.lowers ≡ mid.lowers) (keep : IsLayer (l
       (law_of_added_name copy.copied (layer_of new.upper) (lowers_of mid) (copy.lawful h.0, h.1) (keep h.0, h.1) (n ∷ p) m q copy-absent copy.further)
 
   pub copy-links : AreLayers (layers_of mid) → (j : ℕ) → is_some ((layer_of mid.upper).inodes j) ≡ true → GainsLink (layer_of mid.upper) (layer_of new.upper) (n ∷ p) (m ∷ q) j
-  copy-links h j is = law_of_copied_link (layer_of mid.upper) copy.copied (layer_of new.upper) (lowers_of mid) h (n ∷ p) (m ∷ q) l copy.number k i (record { content = i.content; attributes = i.attributes; links = 1 }) shown copy.leaf absent copy.further j is
+  copy-links h j is = law_of_copied_link (layer_of mid.upper) copy.copied (layer_of new.upper) (lowers_of mid) h (n ∷ p) (m ∷ q) l copy.number k i (record { content = i.content; attributes = i.attributes; links = 1; mark = None }) shown copy.leaf absent copy.further j is
 
   pub copy-thin : StaysThin mid new
   copy-thin h =
       subst (λ (Ls : List Layer). IsThin (layer_of new.upper) Ls) (sym (lowers-same mid new low))
       (thin-linked copy.copied (layer_of new.upper) (lowers_of mid) (n ∷ p) (m ∷ q) copy.further
-      ((law_of_thin (layer_of mid.upper) copy.copied (lowers_of mid) h n p).leaf copy.number (record { content = i.content; attributes = i.attributes; links = 1 }) copy.leaf))
+      ((law_of_thin (layer_of mid.upper) copy.copied (lowers_of mid) h n p).leaf copy.number (record { content = i.content; attributes = i.attributes; links = 1; mark = None }) copy.leaf))
 
 -- a number above 0 follows one
 pub follows : (j : ℕ) → 0 < j → (l : ℕ) × (j ≡ suc l)

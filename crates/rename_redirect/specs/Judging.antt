@@ -12,7 +12,7 @@ use Rattle.merged_lookup.specs.declared.layers.Layers.{Layers}
 use Rattle.merged_lookup.specs.declared.found.Found.{Found}
 use Rattle.merged_lookup.specs.declared.stack.Place.{Place}
 use Rattle.merged_lookup.specs.declared.stack.Stack.{Stack}
-use Rattle.merged_lookup.specs.Merged.{layers_of, lowers_of, parents_fault, parent, IsFound, IsStackOf, ShowsInode}
+use Rattle.merged_lookup.specs.Merged.{upper_of, layers_of, lowers_of, parents_fault, parent, IsFound, IsStackOf, ShowsInode}
 pub use Rattle.make_remove.specs.Sights.{IsSeen}
 
 -- what p shows, in this merged directory and at this place, may get the further name q, in the other directory
@@ -47,7 +47,7 @@ pub record Fits (l : Layers) (redirects : Bool) (p q : Path) : Type 0 where
 
 -- what was found at p, in this merged directory, may move to q, in the other one
 pub record MayMove (l : Layers) (redirects : Bool) (p q : Path) (s : Stack) (found : Found) (t : Stack) : Type 0 where
-  pub fine : rename_fault (layer_of l.upper) (lowers_of l) redirects p q false ≡ None
+  pub fine : rename_fault (upper_of l) (lowers_of l) redirects p q false ≡ None
   pub directory : IsStackOf l (parent p) s
   pub way : parents_fault (layers_of l) p ≡ None
   pub shown : IsFound l p found

@@ -1,5 +1,5 @@
 -- What link leaves of the upper (link(2); overlayfs.rst, "Non-directories": a file of a lower layer is copied up first).
-use Rattle.std.specs.Prelude.{◌≡◌, ◌≢◌, ◌⊎◌, ℕ, Bool, Option, Some, IsSome, is_some, true}
+use Rattle.std.specs.Prelude.{◌≡◌, ◌≢◌, ◌⊎◌, ℕ, Bool, Option, None, Some, IsSome, is_some, true, false}
 use Rattle.slab.specs.Slab.{get}
 use Rattle.ov_base.specs.declared.attributes.Attributes.{Attributes}
 use Rattle.ov_base.specs.declared.bytes.Content.{Content}
@@ -13,13 +13,13 @@ use Rattle.mount_laws.specs.StayOpen.{GainsLink}
 use Rattle.layer_tree.specs.Tree.{layer_of, seen_at}
 use Rattle.layer_tree.specs.Nameless.{IsNameless}
 use Rattle.merged_lookup.specs.declared.layers.Layers.{Layers}
-use Rattle.merged_lookup.specs.Merged.{layers_of, lowers_of}
+use Rattle.merged_lookup.specs.Merged.{upper_of, layers_of, lowers_of}
 use Rattle.copy_up.specs.Showing.{GainsParents, KeepsPath, ShowsSame}
 
 -- every state of the machine whose mount has the old layers goes on to one with the new layers by link
 abbrev pub LinkSteps : Layers → Layers → Path → Path → Type 0
 LinkSteps old new p q =
-    (s : State) → IsMountOf (layer_of old.upper) (lowers_of old) s → (c : ℕ) → MakesName (layer_of new.upper) (lowers_of new) s c p q
+    (s : State) → IsMountOf (upper_of old) (lowers_of old) s → s.options.metacopy ≡ false → (c : ℕ) → MakesName (upper_of new) (lowers_of new) s c p q
 
 -- the directories that a layer holds stay, with their numbers, attributes and marks
 abbrev pub KeepsDirectories : Layer → Layer → Type 0
@@ -31,8 +31,8 @@ KeepsDirectories U V =
 -- does what stood under its keys, also what has no name. Every path but these two holds what it held,
 -- unless it is a missing parent of one of them that the upper gained.
 pub record GivesName (old new : Layers) (p q : Path) : Type 0 where
-  pub gains : AreLayers (layers_of old) → GainsName (layer_of old.upper) (layer_of new.upper) (lowers_of old) p q
-  pub links : AreLayers (layers_of old) → (j : ℕ) → is_some ((layer_of old.upper).inodes j) ≡ true → GainsLink (layer_of old.upper) (layer_of new.upper) p q j
+  pub gains : AreLayers (layers_of old) → GainsName (upper_of old) (upper_of new) (lowers_of old) false p q
+  pub links : AreLayers (layers_of old) → (j : ℕ) → is_some ((upper_of old).inodes j) ≡ true → GainsLink (upper_of old) (upper_of new) p q j
   pub paths : (x : Path) → x ≢ p → x ≢ q → KeepsPath old new p x ⊎ KeepsPath old new q x
   pub directories : KeepsDirectories (layer_of old.upper) (layer_of new.upper)
   pub seen : (k : ℕ) → IsSome (get old.upper k) → seen_at new.upper k ≡ seen_at old.upper k
@@ -50,6 +50,6 @@ pub record GainsBoth (old new : Layers) (p q : Path) : Type 0 where
 pub record CopiesName (U V : Layer) (p q : Path) (content : Content) (a : Attributes) : Type 0 where
   pub copied : Layer
   pub number : ℕ
-  pub leaf : PlacesLeaf U copied p number (record { content = content; attributes = a; links = 1 })
+  pub leaf : PlacesLeaf U copied p number (record { content = content; attributes = a; links = 1; mark = None })
   pub lawful : IsLayer U → IsLayer copied
   pub further : AddsName copied V p q

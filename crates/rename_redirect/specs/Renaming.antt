@@ -14,7 +14,7 @@ use Rattle.mount_laws.specs.Renaming.{MovesLink}
 use Rattle.layer_tree.specs.Tree.{layer_of, seen_at, directory_number}
 use Rattle.layer_tree.specs.Nameless.{IsNameless}
 use Rattle.merged_lookup.specs.declared.layers.Layers.{Layers}
-use Rattle.merged_lookup.specs.Merged.{layers_of, lowers_of}
+use Rattle.merged_lookup.specs.Merged.{upper_of, layers_of, lowers_of}
 use Rattle.copy_up.specs.Showing.{PlacedParent}
 use Rattle.make_remove.specs.Making.{shown_under}
 use Rattle.make_remove.specs.Removing.{last_named}
@@ -48,7 +48,7 @@ KeepsMoved old new p q x y =
 -- its keys stays, also what has no name.
 pub record MovesOver (old new : Layers) (p q : Path) : Type 0 where
   pub lowers : new.lowers ≡ old.lowers
-  pub moves : AreLayers (layers_of old) → MovesTo (layer_of old.upper) (layer_of new.upper) (lowers_of old) p q
+  pub moves : AreLayers (layers_of old) → MovesTo (upper_of old) (upper_of new) (lowers_of old) false p q
   pub left : held (layer_of new.upper) p ≡ left_at (layer_of old.upper) (lowers_of old) p
   pub marks : is_directory (shows 0 (layers_of old) p) ≡ true → MovesMarks old new p q
   pub paths : (x y : Path) → Follows p q x y → x ≢ p → KeepsMoved old new p q x y
@@ -56,8 +56,8 @@ pub record MovesOver (old new : Layers) (p q : Path) : Type 0 where
       (x y : Path) → Follows p q x y → (k : ℕ) (a : Attributes) →
       HoldsDirectory (layer_of old.upper) x k a → HoldsDirectory (layer_of new.upper) y k a
   pub links :
-      AreLayers (layers_of old) → (j : ℕ) → is_some ((layer_of old.upper).inodes j) ≡ true →
-      MovesLink (layer_of old.upper) (layer_of new.upper) p q j
+      AreLayers (layers_of old) → (j : ℕ) → is_some ((upper_of old).inodes j) ≡ true →
+      MovesLink (upper_of old) (upper_of new) p q j
   pub seen :
       (k : ℕ) → IsSome (get old.upper k) → (directory_number (held (layer_of old.upper) p) ≡ Some k → ⊥) →
       seen_at new.upper k ≡ seen_at old.upper k
@@ -84,5 +84,5 @@ DoesRename old new p q (renamed.Inode key released) = Moves old new p q false re
 -- every state of the machine with this option whose mount has the old layers goes on to one with the new layers by rename
 abbrev pub RenameSteps : Layers → Layers → Bool → Path → Path → Type 0
 RenameSteps old new redirects p q =
-    (s : State) → IsMountOf (layer_of old.upper) (lowers_of old) s → s.options.redirects ≡ redirects → (c : ℕ) →
-    Renames (layer_of new.upper) (lowers_of new) s c p q
+    (s : State) → IsMountOf (upper_of old) (lowers_of old) s → s.options.redirects ≡ redirects →
+    s.options.metacopy ≡ false → (c : ℕ) → Renames (upper_of new) (lowers_of new) s c p q

@@ -10,7 +10,7 @@ ghost use Rattle.mount_laws.specs.Removals.{ShowsNoName};
 ghost use Rattle.mount_laws.specs.Renaming as one;
 ghost use Rattle.layer_tree.specs.Tree.{layer_of};
 ghost use Rattle.merged_lookup.specs.declared.layers.Layers.{Layers as LayersOf};
-ghost use Rattle.merged_lookup.specs.Merged.{layers_of, lowers_of, IsFound, IsAnswer, IsStackOf, ShowsDirectory};
+ghost use Rattle.merged_lookup.specs.Merged.{upper_of, layers_of, lowers_of, IsFound, IsAnswer, IsStackOf, ShowsDirectory};
 ghost use Rattle.copy_up.specs.Showing.{ChangesNoSight, StaysLayers, StaysThin};
 ghost use Rattle.make_remove.specs.Removing.{TellsNames};
 ghost use Rattle.rename_redirect.specs.Linking.{GainsBoth};
@@ -58,15 +58,15 @@ pub fn rename(
     requires onto { IsSeen layers.old new.now onto.now }
     ensures refused { IfOk result (λ r. IfErr r (λ e.
         (full : Bool) → TellsNames (layers_of layers.old) new.now full →
-        rename_fault (layer_of layers.old.upper) (lowers_of layers.old) redirects
+        rename_fault (upper_of layers.old) (lowers_of layers.old) redirects
         old.now new.now full ≡ Some e)) }
     ensures refuses { IfOk result (λ r. IfErr r (λ e.
-        (s : State) → IsMountOf (layer_of layers.old.upper) (lowers_of layers.old) s →
+        (s : State) → IsMountOf (upper_of layers.old) (lowers_of layers.old) s →
         s.options.redirects ≡ redirects → (c : ℕ) →
         refusal s c (call.Rename old.now new.now) ≡ Some e)) }
     ensures unchanged { IfOk result (λ r. OnErr r (layers.new ≡ layers.old)) }
     ensures allowed { IfOk result (λ r.
-        OnOk r (rename_fault (layer_of layers.old.upper) (lowers_of layers.old) redirects
+        OnOk r (rename_fault (upper_of layers.old) (lowers_of layers.old) redirects
         old.now new.now false ≡ None)) }
     ensures bare { IfOk result (λ r.
         OnOk r (is_one (layer_of layers.old.upper) old.now new.now ≡ false →
@@ -106,11 +106,11 @@ pub fn movable<'a>(
     requires from { IsSeen layers.now old.now from.now }
     requires onto { IsSeen layers.now new.now onto.now }
     ensures refused { IfErr result (λ e. IsFaultOf layers.now new.now
-        (rename_fault (layer_of layers.now.upper) (lowers_of layers.now) redirects
+        (rename_fault (upper_of layers.now) (lowers_of layers.now) redirects
         old.now new.now) e) }
     ensures one { IfOk result (λ o.
         o ≡ None → is_one (layer_of layers.now.upper) old.now new.now ≡ true) }
-    ensures fine { OnOk result (rename_fault (layer_of layers.now.upper) (lowers_of layers.now)
+    ensures fine { OnOk result (rename_fault (upper_of layers.now) (lowers_of layers.now)
         redirects old.now new.now false ≡ None) }
     ensures moves { IfOk result (λ o.
         IfSome o (λ w. MayMove layers.now redirects old.now new.now w.0.now w.1 w.2.now)) }

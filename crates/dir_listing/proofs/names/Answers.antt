@@ -8,11 +8,11 @@ use Rattle.std.proofs.lemmas.Fn.{filter_same}
 use Rattle.std.proofs.lemmas.List.Kept.{IsStrictlySortedBy-filter}
 use Rattle.std.proofs.lemmas.Result.{IfOk-weaker}
 use Rattle.merged_lookup.specs.Merged.{trees}
-use Rattle.merged_lookup.proofs.Looking.{shows-some}
 use Rattle.dir_listing.specs.declared.bound.Bound.{Bound}
 use Rattle.dir_listing.specs.Bound.{is_object}
 use Rattle.dir_listing.specs.Bound.{by_name}
 use Rattle.dir_listing.proofs.Merging.{names-rise, objects-listed}
+use Rattle.dir_listing.proofs.Showing.{some-shown}
 use Rattle.dir_listing.proofs.Runs.{first_over-first, stack-there}
 use Rattle.dir_listing.proofs.names.Goals as goal
 
@@ -32,4 +32,4 @@ returns-clause-names c =
     ∙ objects-listed n c.in_ok-bounds.bounds.items c.in_ok-bounds.ensures.sorted
     ∙ c.in_ok-bounds.ensures.found (stack-there (trees c.args.layers.now) c.places.result.now p (c.places.ensures ∙ at.places)) n None
     ∙ ap is_some (first_over-first (trees c.args.layers.now) c.places.result.now n)
-    ∙ shows-some (trees c.args.layers.now) c.places.result.now p n (c.places.ensures ∙ at.places)) c.copies.ensures
+    ∙ some-shown c.args.layers.now c.places.result.now p n (c.places.ensures ∙ at.places)) c.copies.ensures

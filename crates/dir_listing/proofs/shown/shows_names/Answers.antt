@@ -8,7 +8,7 @@ use Rattle.dir_listing.proofs.Showing.{no-name-shown, some-name-shown, unshown-m
 use Rattle.dir_listing.proofs.shown.shows_names.Goals as goal
 
 pub returns-then-shows_one_of : goal.returns-then-shows_one_of
-returns-then-shows_one_of c = λ p is. some-name-shown (trees c.args.layers.now) c.args.stack.now.places.items p is.places c.names_at.result.now (sym c.shows_one_of.ensures ∙ c.if-shows_one_of.true)
+returns-then-shows_one_of c = λ p is. some-name-shown c.args.layers.now c.args.stack.now.places.items p is.places c.names_at.result.now (sym c.shows_one_of.ensures ∙ c.if-shows_one_of.true)
 
 pub loop-place-preserved : goal.loop-place-preserved
 loop-place-preserved c =
@@ -18,4 +18,4 @@ loop-place-preserved c =
 pub returns : goal.returns
 returns c = λ p is.
     let whole = take_all c.loop-place.place-index c.places-place-items.result.now c.loop-place-test.false ∙ c.places-place-items.ensures in
-    no-name-shown (trees c.args.layers.now) c.args.stack.now.places.items p is.places (λ n h. c.loop-place.invariant n (ap (list_any (is_bound (trees c.args.layers.now) n)) whole ∙ h))
+    no-name-shown c.args.layers.now c.args.stack.now.places.items p is.places (λ n h. c.loop-place.invariant n (ap (list_any (is_bound (trees c.args.layers.now) n)) whole ∙ h))

@@ -9,7 +9,7 @@ use Rattle.mount_calls.proofs.open_calls.bring_up.Goals as goal
 pub all_at_once-requires-clause-shown : goal.all_at_once-requires-clause-shown
 all_at_once-requires-clause-shown c =
     let i = c.inode_at.result.now in
-    (record { content = i.content; attributes = i.attributes; links = i.links }, sym (ap (shows 0 (layers_of c.args.layers.now)) c.in-Some.ensures) ∙ c.inode_at.ensures c.args.path.now c.requires.shown)
+    (record { content = i.content; attributes = i.attributes; links = i.links; mark = None }, sym (ap (shows 0 (layers_of c.args.layers.now)) c.in-Some.ensures) ∙ c.inode_at.ensures c.args.path.now c.requires.shown)
 
 pub returns-clause-copied : goal.returns-clause-copied
 returns-clause-copied c = copied-as c.args.layers.now c.all_at_once.new.layers c.args.path.now (c.in-Some.name.now ∷ reverse c.in-Some.parents.now) c.args.place c.in_ok-attributes.attributes c.in-Some.ensures (λ p i shown. c.in_ok-attributes.ensures.cases ∙ attributes-stored c.args.layers.now c.args.place c.inode_at.result.now c.inode_at.ensures p i shown) c.all_at_once.result c.all_at_once.ensures.copied
@@ -17,7 +17,7 @@ returns-clause-copied c = copied-as c.args.layers.now c.all_at_once.new.layers c
 pub returns-clause-lowers : goal.returns-clause-lowers
 returns-clause-lowers c =
     let i = c.inode_at.result.now in
-    copied-lowers c.args.layers.now c.all_at_once.new.layers (c.in-Some.name.now ∷ reverse c.in-Some.parents.now) c.args.place c.in_ok-attributes.attributes (record { content = i.content; attributes = i.attributes; links = i.links }) (sym (ap (shows 0 (layers_of c.args.layers.now)) c.in-Some.ensures) ∙ c.inode_at.ensures c.args.path.now c.requires.shown) c.all_at_once.result c.all_at_once.ensures.copied c.all_at_once.ensures.no_memory
+    copied-lowers c.args.layers.now c.all_at_once.new.layers (c.in-Some.name.now ∷ reverse c.in-Some.parents.now) c.args.place c.in_ok-attributes.attributes (record { content = i.content; attributes = i.attributes; links = i.links; mark = None }) (sym (ap (shows 0 (layers_of c.args.layers.now)) c.in-Some.ensures) ∙ c.inode_at.ensures c.args.path.now c.requires.shown) c.all_at_once.result c.all_at_once.ensures.copied c.all_at_once.ensures.no_memory
 
 pub returns-in_err-attributes-clause-around : goal.returns-in_err-attributes-clause-around
 returns-in_err-attributes-clause-around c = none-same c.args.layers.now c.args.layers.now c.args.path.now refl
@@ -27,6 +27,6 @@ returns-clause-around c =
     let i = c.inode_at.result.now in
     subst (BringsNone c.args.layers.now c.all_at_once.new.layers) (sym c.in-Some.ensures)
     (copied-around c.args.layers.now c.all_at_once.new.layers (c.in-Some.name.now ∷ reverse c.in-Some.parents.now) c.args.place c.in_ok-attributes.attributes
-    (record { content = i.content; attributes = i.attributes; links = i.links })
+    (record { content = i.content; attributes = i.attributes; links = i.links; mark = None })
     (sym (ap (shows 0 (layers_of c.args.layers.now)) c.in-Some.ensures) ∙ c.inode_at.ensures c.args.path.now c.requires.shown)
     c.all_at_once.result c.all_at_once.ensures.copied c.all_at_once.ensures.no_memory)

@@ -79,7 +79,7 @@ returns-in_err-link-clause-same c =
     let e = rw c.upper_mut-3.ensures.value at c.in_err-link.ensures in
     let ok = e.succeeds
     (room-left c.room_for_both.new.upper c.insert_reserved-key.new.self c.args.from c.args.to c.in_ok-room_for_both.ensures.second w.names w.other_names)
-    (new-room c.insert_reserved-key.new.self c.insert_reserved-key.result (record { content = c.args.object.0; attributes = c.args.object.1; links = 1 }) w.inserts.inode refl) in
+    (new-room c.insert_reserved-key.new.self c.insert_reserved-key.result (record { content = c.args.object.0; attributes = c.args.object.1; links = 1; mark = None }) w.inserts.inode refl) in
     absurd (cc)
 
 pub returns-in_err-link-clause-unchanged : goal.returns-in_err-link-clause-unchanged
@@ -88,7 +88,7 @@ returns-in_err-link-clause-unchanged c =
     let e = rw c.upper_mut-3.ensures.value at c.in_err-link.ensures in
     let ok = e.succeeds
     (room-left c.room_for_both.new.upper c.insert_reserved-key.new.self c.args.from c.args.to c.in_ok-room_for_both.ensures.second w.names w.other_names)
-    (new-room c.insert_reserved-key.new.self c.insert_reserved-key.result (record { content = c.args.object.0; attributes = c.args.object.1; links = 1 }) w.inserts.inode refl) in
+    (new-room c.insert_reserved-key.new.self c.insert_reserved-key.result (record { content = c.args.object.0; attributes = c.args.object.1; links = 1; mark = None }) w.inserts.inode refl) in
     absurd (cc)
 
 pub returns-in_err-link-clause-keeps : goal.returns-in_err-link-clause-keeps
@@ -97,7 +97,7 @@ returns-in_err-link-clause-keeps c =
     let e = rw c.upper_mut-3.ensures.value at c.in_err-link.ensures in
     let ok = e.succeeds
     (room-left c.room_for_both.new.upper c.insert_reserved-key.new.self c.args.from c.args.to c.in_ok-room_for_both.ensures.second w.names w.other_names)
-    (new-room c.insert_reserved-key.new.self c.insert_reserved-key.result (record { content = c.args.object.0; attributes = c.args.object.1; links = 1 }) w.inserts.inode refl) in
+    (new-room c.insert_reserved-key.new.self c.insert_reserved-key.result (record { content = c.args.object.0; attributes = c.args.object.1; links = 1; mark = None }) w.inserts.inode refl) in
     absurd (cc)
 
 pub returns-clause-keeps : goal.returns-clause-keeps

@@ -1,13 +1,18 @@
-use Rattle.std.proofs.Common.{◌≡◌, ◌∷◌, ap, ◌∙◌, subst, sym, reverse, length, nat_eq, not}
+use Rattle.std.proofs.Common.{IfSome, ◌≡◌, ◌∷◌, ap, ◌∙◌, subst, sym, reverse, length, nat_eq, not}
 use Rattle.std.proofs.lemmas.List.{reverse-reverse}
 use Rattle.plain_model.specs.Layers.{Name, Path}
 use Rattle.merged_lookup.specs.declared.kept.Kept.{Kept}
 use Rattle.merged_lookup.specs.declared.layers.Layers.{Layers}
 use Rattle.merged_lookup.specs.Descent.{descend, first}
-use Rattle.merged_lookup.specs.Kept.{IsKept}
+use Rattle.merged_lookup.specs.Kept.{HandsDown, IsKept}
 use Rattle.merged_lookup.specs.Merged.{lowers_of, trees}
-use Rattle.merged_lookup.proofs.Keeping.{kept-right}
+use Rattle.merged_lookup.proofs.Keeping.{some-hands, kept-right}
 use Rattle.merged_lookup.proofs.layers.Layers.look_below.Goals as goal
+
+pub handed_places-directory-requires : goal.handed_places-directory-requires
+handed_places-directory-requires c =
+    some-hands c.args.self.now.upper (reverse c.in-Some.parents.now) c.handed_down.result c.if-is_none.ensures
+    (subst (λ t. IfSome c.handed_down.result (HandsDown t (reverse c.in-Some.parents.now))) c.upper.ensures c.handed_down.ensures)
 
 pub keep-requires : goal.keep-requires
 keep-requires c =

@@ -1,7 +1,7 @@
 use Rattle.std.proofs.Common.{refl, ap, ◌∙◌}
 use Rattle.ov_base.specs.declared.call.Call.TheVariants as call
 use Rattle.ov_base.specs.declared.reply.Reply.TheVariants as reply
-use Rattle.mount_calls.specs.Files.{upper_of}
+use Rattle.mount_calls.specs.Files.{key_in_upper}
 use Rattle.mount_calls.specs.Making.{ServesEach}
 use Rattle.mount_calls.proofs.Closings.{close-leaves, close-done, close-refused}
 use Rattle.mount_calls.proofs.MakingCalls.{makes-refused, marks-done}
@@ -20,7 +20,7 @@ returns-in-Ok-clause-makes c =
     let leaves = close-leaves closed m.layers new c.upper_key-closed.result c.free_closed.ensures.freed c.free_closed.ensures.none in
     let now = record m { layers = new; clients = closed } in
     let served : ServesEach client (call.Close fd) m now reply.Done = λ s st. close-done m s st client fd closed c.in-Ok.handle c.in-Ok.ensures c.lawful.ensures.files new c.upper_key-closed.result
-    (c.upper_key-closed.ensures ∙ ap upper_of c.file.ensures) leaves in
+    (c.upper_key-closed.ensures ∙ ap key_in_upper c.file.ensures) leaves in
     marks-done client (call.Close fd) m new closed (keeps-attached m.clients closed client _ c.close.ensures) served
     (λ s st fine. stays-named m.layers now s client (call.Close fd) reply.Done (served s st) fine
     (close-paths (the_upper m) (the_lowers m) s st.layers client fd) (paths-files m.layers new leaves.paths))

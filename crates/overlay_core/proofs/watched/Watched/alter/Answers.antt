@@ -10,7 +10,7 @@ use Rattle.mount_calls.specs.AttributeCalls.{call_at}
 use Rattle.overlay_core.specs.Watching.{Agrees, HasState, Stays}
 use Rattle.overlay_core.proofs.Altering.{asked-alters, held-key}
 use Rattle.overlay_core.proofs.Performing.{agrees-room, goes-done, goes-refused, on-err, outcome-so, passing, keeps-same, kept-by}
-use Rattle.overlay_core.proofs.Watching.{allowed-by, stays, upper_of}
+use Rattle.overlay_core.proofs.Watching.{allowed-by, stays, mount_upper}
 use Rattle.overlay_core.proofs.Lifted.{altered-file, altered-leads, altered-touches, free-key, free-squashed, lifted-key}
 use Rattle.overlay_core.proofs.Names.{altering-answers}
 use Rattle.mount_calls.specs.Status.{outcome_reply}
@@ -62,10 +62,10 @@ altered-requires-clause-free g c =
     let a : Agrees old mid s = subst (λ k. Agrees old k s) (sym c.prepare_lift.ensures.rest) (agrees-room c.args.self.now.notifier mid.objects c.prepare_lift.ensures.same c.lawful.ensures.known old s x.1) in
     let fine = allowed-by s c.args.client call Done new (done.serves s a.stands) (λ e refused. cc) in
     let passes = passing g.R.Rule.shows c.args.client call Done old new mid done s a fine in
-    free-key (upper_of old) (upper_of new) (lowers_of old.layers) s c.args.client call passes path (altered-touches s path call asks) (altered-file s c.args.client path call asks)
-    (altered-leads (upper_of old) (upper_of new) (lowers_of old.layers) s c.args.client path call asks passes) mid a.tracks c.in-Ok.key
+    free-key (mount_upper old) (mount_upper new) (lowers_of old.layers) s c.args.client call passes path (altered-touches s path call asks) (altered-file s c.args.client path call asks)
+    (altered-leads (mount_upper old) (mount_upper new) (lowers_of old.layers) s c.args.client path call asks passes) mid a.tracks c.in-Ok.key
     c.object_seen-object.result (c.object_seen-object.ensures path c.requires.look)
-    (λ lower j last is. held-key new.layers path c.in-Ok.key (rw c.in-Ok.is at said.key) j last (subst (λ (x : List Layer). IsObject (upper_of new) x path (object.Upper j last)) (sym (ap (λ x. map layer_of x.items) (said.makes c.args.client).lowers)) is)))
+    (λ lower j last is. held-key new.layers path c.in-Ok.key (rw c.in-Ok.is at said.key) j last (subst (λ (x : List Layer). IsObject (mount_upper new) x path (object.Upper j last)) (sym (ap (λ x. map layer_of x.items) (said.makes c.args.client).lowers)) is)))
 
 pub returns-in-Ok-clause-goes : goal.returns-in-Ok-clause-goes
 returns-in-Ok-clause-goes g c = λ s a.
@@ -78,11 +78,11 @@ returns-in-Ok-clause-goes g c = λ s a.
     let call = call_at path c.args.call in
     let asks = asked-alters path c.args.call in
     let done = outcome-so c.args.client call (Ok c.in-Ok.key) _ old new (sym c.in-Ok.is) c.requires.there (said.makes c.args.client) in
-    goes-done g.R.Rule.shows c.args.client call Done old new mid done to refl (λ s a passes. law_of_altered g.R.Rule.shows (upper_of old) (upper_of new) (lowers_of old.layers) s c.args.client path call asks passes
+    goes-done g.R.Rule.shows c.args.client call Done old new mid done to refl (λ s a passes. law_of_altered g.R.Rule.shows (mount_upper old) (mount_upper new) (lowers_of old.layers) s c.args.client path call asks passes
     c.object_seen-object.result c.in-Ok.key (c.object_seen-object.ensures path c.requires.look) mid to
-    (lifted-key (upper_of old) (upper_of new) (lowers_of old.layers) s c.args.client call passes path (altered-touches s path call asks) (altered-file s c.args.client path call asks)
-    (altered-leads (upper_of old) (upper_of new) (lowers_of old.layers) s c.args.client path call asks passes) mid a.tracks c.in-Ok.key c.object_seen-object.result (c.object_seen-object.ensures path c.requires.look)
-    (λ lower j last is. held-key new.layers path c.in-Ok.key (rw c.in-Ok.is at said.key) j last (subst (λ (x : List Layer). IsObject (upper_of new) x path (object.Upper j last)) (sym (ap (λ x. map layer_of x.items) (said.makes c.args.client).lowers)) is)))
+    (lifted-key (mount_upper old) (mount_upper new) (lowers_of old.layers) s c.args.client call passes path (altered-touches s path call asks) (altered-file s c.args.client path call asks)
+    (altered-leads (mount_upper old) (mount_upper new) (lowers_of old.layers) s c.args.client path call asks passes) mid a.tracks c.in-Ok.key c.object_seen-object.result (c.object_seen-object.ensures path c.requires.look)
+    (λ lower j last is. held-key new.layers path c.in-Ok.key (rw c.in-Ok.is at said.key) j last (subst (λ (x : List Layer). IsObject (mount_upper new) x path (object.Upper j last)) (sym (ap (λ x. map layer_of x.items) (said.makes c.args.client).lowers)) is)))
     a.tracks c.lawful-in-Ok.ensures.known c.altered.ensures) s
     (subst (λ k. Agrees old k s) (sym c.prepare_lift.ensures.rest) (agrees-room c.args.self.now.notifier mid.objects c.prepare_lift.ensures.same c.lawful.ensures.known old s a))
 

@@ -10,7 +10,7 @@ use Rattle.notice_laws.specs.declared.object.Object.TheVariants as object
 use Rattle.notice_laws.specs.Objects.{IsObject}
 use Rattle.overlay_core.specs.Watching.{Agrees, Goes, HasState, Keeps, Stays}
 use Rattle.overlay_core.proofs.Performing.{agrees-room, goes-done, goes-refused, on-err, outcome-so, passing, keeps-same, kept-by}
-use Rattle.overlay_core.proofs.Watching.{allowed-by, stays, upper_of}
+use Rattle.overlay_core.proofs.Watching.{allowed-by, stays, mount_upper}
 use Rattle.notice_laws.proofs.Lifting.{law_of_linked}
 use Rattle.overlay_core.proofs.Lifted.{free-key, free-squashed, lifted-key, linked-file, linked-leads}
 use Rattle.mount_calls.specs.Status.{outcome_reply}
@@ -63,8 +63,8 @@ linked-requires-clause-free g c =
     let a : Agrees old mid s = subst (λ k. Agrees old k s) (sym c.prepare_lift.ensures.rest) (agrees-room c.args.self.now.notifier mid.objects c.prepare_lift.ensures.same c.lawful.ensures.known old s x.1) in
     let fine = allowed-by s c.args.client call Done new (done.serves s a.stands) (λ e refused. cc) in
     let passes = passing g.R.Rule.shows c.args.client call Done old new mid done s a fine in
-    free-key (upper_of old) (upper_of new) (lowers_of old.layers) s c.args.client call passes c.args.old.now refl (linked-file s c.args.client c.args.old.now c.args.new.now) (linked-leads (upper_of old) (upper_of new) (lowers_of old.layers) s c.args.client c.args.old.now c.args.new.now passes) mid a.tracks c.in-Ok.key
-    c.object_seen-object.result (c.object_seen-object.ensures c.args.old.now c.requires.from) (λ lower j last is. under j last (subst (λ (x : List Layer). IsObject (upper_of new) x c.args.old.now (object.Upper j last)) (sym (ap (λ x. map layer_of x.items) (said.makes c.args.client).lowers)) is)))
+    free-key (mount_upper old) (mount_upper new) (lowers_of old.layers) s c.args.client call passes c.args.old.now refl (linked-file s c.args.client c.args.old.now c.args.new.now) (linked-leads (mount_upper old) (mount_upper new) (lowers_of old.layers) s c.args.client c.args.old.now c.args.new.now passes) mid a.tracks c.in-Ok.key
+    c.object_seen-object.result (c.object_seen-object.ensures c.args.old.now c.requires.from) (λ lower j last is. under j last (subst (λ (x : List Layer). IsObject (mount_upper new) x c.args.old.now (object.Upper j last)) (sym (ap (λ x. map layer_of x.items) (said.makes c.args.client).lowers)) is)))
 
 pub returns-in-Ok-clause-goes : goal.returns-in-Ok-clause-goes
 returns-in-Ok-clause-goes g c = λ s a.
@@ -77,9 +77,9 @@ returns-in-Ok-clause-goes g c = λ s a.
     let done = outcome-so c.args.client call (Ok c.in-Ok.key) _ old new (sym c.in-Ok.is) c.requires.there (said.makes c.args.client) in
     let under = rw c.in-Ok.is at said.key in
     let goes = goes-done g.R.Rule.shows c.args.client call Done old new mid done to refl (λ s a passes.
-    law_of_linked g.R.Rule.shows (upper_of old) (upper_of new) (lowers_of old.layers) s c.args.client c.args.old.now c.args.new.now passes
+    law_of_linked g.R.Rule.shows (mount_upper old) (mount_upper new) (lowers_of old.layers) s c.args.client c.args.old.now c.args.new.now passes
     c.object_seen-object.result c.in-Ok.key (c.object_seen-object.ensures c.args.old.now c.requires.from) mid to
-    (lifted-key (upper_of old) (upper_of new) (lowers_of old.layers) s c.args.client call passes c.args.old.now refl (linked-file s c.args.client c.args.old.now c.args.new.now) (linked-leads (upper_of old) (upper_of new) (lowers_of old.layers) s c.args.client c.args.old.now c.args.new.now passes) mid a.tracks c.in-Ok.key c.object_seen-object.result (c.object_seen-object.ensures c.args.old.now c.requires.from) (λ lower j last is. under j last (subst (λ (x : List Layer). IsObject (upper_of new) x c.args.old.now (object.Upper j last)) (sym (ap (λ x. map layer_of x.items) (said.makes c.args.client).lowers)) is)))
+    (lifted-key (mount_upper old) (mount_upper new) (lowers_of old.layers) s c.args.client call passes c.args.old.now refl (linked-file s c.args.client c.args.old.now c.args.new.now) (linked-leads (mount_upper old) (mount_upper new) (lowers_of old.layers) s c.args.client c.args.old.now c.args.new.now passes) mid a.tracks c.in-Ok.key c.object_seen-object.result (c.object_seen-object.ensures c.args.old.now c.requires.from) (λ lower j last is. under j last (subst (λ (x : List Layer). IsObject (mount_upper new) x c.args.old.now (object.Upper j last)) (sym (ap (λ x. map layer_of x.items) (said.makes c.args.client).lowers)) is)))
     a.tracks c.lawful-in-Ok.ensures.known c.linked.ensures) in
     subst (λ (k : Call). Goes g.R.Rule.shows old mid c.args.client (Called k Done) new to) (sym c.requires.call) goes s
     (subst (λ k. Agrees old k s) (sym c.prepare_lift.ensures.rest) (agrees-room c.args.self.now.notifier mid.objects c.prepare_lift.ensures.same c.lawful.ensures.known old s a))

@@ -3,7 +3,7 @@ use Rattle.merged_lookup.specs.Merged.{lowers_of}
 use Rattle.ov_base.specs.declared.call.Call.TheVariants.{Mkdir}
 use Rattle.notice_laws.proofs.Making.{law_of_made}
 use Rattle.overlay_core.proofs.Making.{performs-done, performs-out, performs-refused}
-use Rattle.overlay_core.proofs.Watching.{upper_of}
+use Rattle.overlay_core.proofs.Watching.{mount_upper}
 use Rattle.overlay_core.proofs.watched.Watched.mkdir.Goals as goal
 
 pub returns-in_err-reply : goal.returns-in_err-reply
@@ -20,5 +20,5 @@ returns g c =
     let p = c.args.path.now in
     let to = c.made.new.self in
     performs-done c.in_ok-reply.reply c.requires.there (c.in_ok-reply.ensures.makes c.args.client) c.in-Done.is
-    (λ s a passes. law_of_made g.R.Rule.shows (upper_of old) (upper_of c.mkdir.new.self) (lowers_of old.layers) s c.args.client p (Mkdir p c.args.mode) _ refl refl passes
+    (λ s a passes. law_of_made g.R.Rule.shows (mount_upper old) (mount_upper c.mkdir.new.self) (lowers_of old.layers) s c.args.client p (Mkdir p c.args.mode) _ refl refl passes
     c.args.self.now.notifier to a.tracks c.lawful.ensures.known c.made.ensures)

@@ -8,7 +8,7 @@ use Rattle.overlay_core.specs.Watching.{Stays}
 use Rattle.overlay_core.proofs.Opens.{attached-tracked, back-agrees, back-tracks, free-watched}
 use Rattle.overlay_core.proofs.OpensTold.{goes-opened, opened-free}
 use Rattle.overlay_core.proofs.Performing.{Performed, on-err, state-of, keeps-same}
-use Rattle.overlay_core.proofs.Watching.{stays, upper_of}
+use Rattle.overlay_core.proofs.Watching.{stays, mount_upper}
 use Rattle.overlay_core.proofs.watched.Watched.open_there.Goals as goal
 
 pub prepare_open-prepared-requires-clause-attached : goal.prepare_open-prepared-requires-clause-attached
@@ -41,7 +41,7 @@ returns-in-Err-clause-err g c =
     let back = c.cancel_open.new.self in
     let ready = c.in_ok-prepared.ensures.ready in
     stays old new from back c.in-Err.ensures.no_memory.states c.in-Err.ensures.no_memory.live
-    (λ s t. back-tracks (upper_of old) s from back c.lawful-in-Err.ensures.known (c.cancel_open.ensures from ready.handle ready.readies) t)
+    (λ s t. back-tracks (mount_upper old) s from back c.lawful-in-Err.ensures.known (c.cancel_open.ensures from ready.handle ready.readies) t)
 
 pub opened-requires : goal.opened-requires
 opened-requires g c =

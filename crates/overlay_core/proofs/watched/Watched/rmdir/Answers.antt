@@ -3,7 +3,7 @@ use Rattle.merged_lookup.specs.Merged.{lowers_of}
 use Rattle.notice_laws.proofs.Unlinked.{law_of_removed}
 use Rattle.overlay_core.proofs.Making.{performs-done, performs-out, performs-refused}
 use Rattle.overlay_core.proofs.Performing.{state-of}
-use Rattle.overlay_core.proofs.Watching.{upper_of}
+use Rattle.overlay_core.proofs.Watching.{mount_upper}
 use Rattle.overlay_core.proofs.watched.Watched.rmdir.Goals as goal
 
 pub rmdir-requires-clause-state : goal.rmdir-requires-clause-state
@@ -22,5 +22,5 @@ returns g c =
     let old = c.args.self.now.mount in
     let to = c.removed.new.self in
     performs-done c.in_ok-reply.reply c.requires.there (c.in_ok-reply.ensures c.args.client) c.in-Done.is
-    (λ s a passes. law_of_removed g.R.Rule.shows (upper_of old) (upper_of c.rmdir.new.self) (lowers_of old.layers) s c.args.client c.args.path.now passes
+    (λ s a passes. law_of_removed g.R.Rule.shows (mount_upper old) (mount_upper c.rmdir.new.self) (lowers_of old.layers) s c.args.client c.args.path.now passes
     c.args.self.now.notifier to a.tracks c.lawful.ensures.known c.removed.ensures)

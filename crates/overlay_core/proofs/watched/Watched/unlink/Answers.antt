@@ -6,7 +6,7 @@ use Rattle.mount_calls.specs.Making.{MakesCall}
 use Rattle.mount_calls.specs.Status.{outcome_reply}
 use Rattle.notice_laws.proofs.Unlinked.{law_of_unlinked}
 use Rattle.overlay_core.proofs.Making.{performs-done, performs-out, performs-refused}
-use Rattle.overlay_core.proofs.Watching.{upper_of}
+use Rattle.overlay_core.proofs.Watching.{mount_upper}
 use Rattle.overlay_core.proofs.watched.Watched.unlink.Goals as goal
 
 pub returns-in_err-object : goal.returns-in_err-object
@@ -22,7 +22,7 @@ returns-in-Ok g c =
     let new = c.unlink_telling.new.self in
     performs-done Done c.requires.there
     (subst (λ o. MakesCall client (Unlink path) old new (Ok (outcome_reply o))) c.in-Ok.is (said.makes client)) refl
-    (λ s a passes. law_of_unlinked g.R.Rule.shows (upper_of old) (upper_of new) (lowers_of old.layers) s client path passes
+    (λ s a passes. law_of_unlinked g.R.Rule.shows (mount_upper old) (mount_upper new) (lowers_of old.layers) s client path passes
     c.in-Ok.object (rw c.in-Ok.is at said.object) c.args.self.now.notifier c.unlinked.new.self a.tracks c.lawful.ensures.known c.unlinked.ensures)
 
 pub returns-in-Err : goal.returns-in-Err
