@@ -11,11 +11,11 @@ use Rattle.ov_base.specs.declared.errno.Errno.TheVariants.{ELOOP}
 use Rattle.plain_model.specs.Layers.{Path, Inode, Layer, Shown, Contents, held, shows}
 use Rattle.plain_model.specs.Machine.{State}
 use Rattle.plain_model.specs.Refusals.{when}
-use Rattle.layer_tree.specs.Tree.{IsTree, layer_of}
+use Rattle.layer_tree.specs.Tree.{IsTree}
 use Rattle.merged_lookup.specs.declared.found.Topmost.{Topmost}
 use Rattle.merged_lookup.specs.declared.layers.Layers.{Layers}
 use Rattle.merged_lookup.specs.declared.stack.Stack.{Stack}
-use Rattle.merged_lookup.specs.Merged.{layers_of, lowers_of}
+use Rattle.merged_lookup.specs.Merged.{upper_of, layers_of, lowers_of}
 use Rattle.mount_laws.specs.Looks.{or_else, walk_fault, is_link_inode, shows_link, IsMountOf}
 use Rattle.mount_laws.specs.Attributes.{chown_fault, user_in}
 use Rattle.mount_laws.specs.Altered.{Alters, AltersState}
@@ -39,25 +39,25 @@ module _
     (sound : StaysSound old new) (made : AttributeChange)
     (asks : (a : Attributes) → changed made a ≡ asked x a) (alters : AltersAs old new p made) where
   -- alters each state, over the lower layers that there were
-  state-altered : (s : State) → IsMountOf (layer_of old.upper) (lowers_of old) s → (c : ℕ) → AltersState (layer_of new.upper) (lowers_of old) s c p (call_at p x)
+  state-altered : (s : State) → IsMountOf (upper_of old) (lowers_of old) s → (c : ℕ) → AltersState (upper_of new) (lowers_of old) s c p (call_at p x)
   state-altered s m c =
-      altered-asked p x (layer_of old.upper) (layer_of new.upper) (lowers_of old) s m c h.allowed h.attributes h.shown
-      (subst (λ (a : Attributes). Alters (layer_of old.upper) (layer_of new.upper) (lowers_of old) p a) (asks h.attributes) (alters h.attributes h.shown m.layers))
+      altered-asked p x (upper_of old) (upper_of new) (lowers_of old) s m c h.allowed h.attributes h.shown
+      (subst (λ (a : Attributes). Alters (upper_of old) (upper_of new) (lowers_of old) p a) (asks h.attributes) (alters h.attributes h.shown m.layers))
 
   -- leaves live files live, also where it changes their attributes
   live-altered : IsTree old.upper → AltersObjectAs old new p made → KeepsLive old new (call_at p x)
   live-altered tree object s m c d j l =
-      live-asked p x (layer_of old.upper) (layer_of new.upper) (lowers_of old) s c h.attributes h.shown (state-altered s m c) d j
-      (subst (λ (a : Attributes). AltersNamed (layer_of old.upper) (layer_of new.upper) p a j) (asks h.attributes) (alters-named old new tree p (changed made h.attributes) (object h.attributes h.shown) j _ l.inode))
+      live-asked p x (upper_of old) (upper_of new) (lowers_of old) s c h.attributes h.shown (state-altered s m c) d j
+      (subst (λ (a : Attributes). AltersNamed (upper_of old) (upper_of new) p a j) (asks h.attributes) (alters-named old new tree p (changed made h.attributes) (object h.attributes h.shown) j _ l.inode))
       l
 
   -- ends so with the attributes that the call gives
-  pub alters-done : IsTree old.upper → AltersObjectAs old new p made → (key : ℕ) → number_of (held (layer_of new.upper) p) ≡ Some key → AltersUnless x old new p (Ok (Ok key))
+  pub alters-done : IsTree old.upper → AltersObjectAs old new p made → (key : ℕ) → number_of (held (upper_of new) p) ≡ Some key → AltersUnless x old new p (Ok (Ok key))
   alters-done tree object key there = record {
     refused = tt;
     unchanged = tt;
     allowed = h.allowed;
-    alters = λ s m c. subst (λ (ls : List Layer). AltersState (layer_of new.upper) ls s c p (call_at p x)) (sym (lowers-same old new low)) (state-altered s m c);
+    alters = λ s m c. subst (λ (ls : List Layer). AltersState (upper_of new) ls s c p (call_at p x)) (sym (lowers-same old new low)) (state-altered s m c);
     key = there;
     lowers = low;
     around = around-paths old new p (object h.attributes h.shown).paths;

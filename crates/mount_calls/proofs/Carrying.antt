@@ -1,5 +1,6 @@
 -- Open files through changes of the layers and of the tree.
 use Rattle.std.proofs.Common.{◌≡◌, ◌↔◌, ℕ, ◌<◌, true, List, Some, arith}
+use Rattle.merged_lookup.specs.Merged.{upper_of}
 use Rattle.mount_calls.proofs.Words.{after, Call, Dentries, Directory, File, file_holders, Handle, handle_of, IsLive, IsMountOf, Layer, layer_of, Layers, lowers_of, NodeId, OpenDirectory, OpenFile, State, Table, Tree, Upper}
 use Rattle.plain_model.specs.Tree.{IsKept}
 use Rattle.plain_model.specs.Changes.{is_held}
@@ -44,10 +45,10 @@ pub record CarriesFiles (U V : Layer) (t u : Tree) (clients : Clients) (ks : Lis
 
 module _ (old new : Layers) where
   abbrev U : Layer
-  U = layer_of old.upper
+  U = upper_of old
 
   abbrev V : Layer
-  V = layer_of new.upper
+  V = upper_of new
 
   -- tables over other layers and another tree, where the lower layers are the same
   pub tables-on : (t u : Tree) (clients : Clients) (ks : List Table) → new.lowers ≡ old.lowers → AreTables (IsOpenAs U (lowers_of old) t clients.directories) clients ks → (es : Dentries) → ((c fd : ℕ) (o : OpenDirectory) (h : Handle) → handle_of ks c fd ≡ Some h → IsHandle t clients.directories o h → IsHandle u es o h) → CarriesFiles U V t u clients ks → AreTables (IsOpenAs V (lowers_of new) u es) clients ks
@@ -68,9 +69,9 @@ module _ (old new : Layers) where
 
 module _ (m : Mount) (s : State) (st : IsStateOf m s) (new : Layers) (low : new.lowers ≡ m.layers.lowers) where
   -- other layers and another tree, in which what is open is what it was
-  pub state-on : (t : Tree) (serial : ℕ) → IsMountOf (layer_of new.upper) (lowers_of new) (record s { tree = t; serial = serial }) → ((o : OpenDirectory) (h : Handle) → IsHandle s.tree m.clients.directories o h → IsHandle t m.clients.directories o h) → CarriesFiles (layer_of m.layers.upper) (layer_of new.upper) s.tree t m.clients s.tables → IsStateOf (record m { layers = new }) (record s { tree = t; serial = serial })
+  pub state-on : (t : Tree) (serial : ℕ) → IsMountOf (upper_of new) (lowers_of new) (record s { tree = t; serial = serial }) → ((o : OpenDirectory) (h : Handle) → IsHandle s.tree m.clients.directories o h → IsHandle t m.clients.directories o h) → CarriesFiles (upper_of m.layers) (upper_of new) s.tree t m.clients s.tables → IsStateOf (record m { layers = new }) (record s { tree = t; serial = serial })
   state-on t serial mounts directories files = grind arith
 
   -- other layers of the same mount, in which live files stay live
-  pub state-stays : IsMountOf (layer_of new.upper) (lowers_of new) s → StaysLive m.layers new → IsStateOf (record m { layers = new }) s
+  pub state-stays : IsMountOf (upper_of new) (lowers_of new) s → StaysLive m.layers new → IsStateOf (record m { layers = new }) s
   state-stays mounts live = state-on s.tree s.serial mounts (λ o h is. is) (files-stay m.layers new s.tree m.clients s.tables live)

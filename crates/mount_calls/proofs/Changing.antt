@@ -1,5 +1,6 @@
 -- The calls that change the layers: what becomes of open directories, and the machine's steps.
 use Rattle.std.proofs.Common.{arith, ◌≡◌, ◌≢◌, ℕ, ◌<◌, Bool, true, false, cond, List, [], ◌∷◌, ◌++◌, Option, None, Some, Result, Ok, IsSome, refl, sym, ap, ◌∙◌, subst}
+use Rattle.merged_lookup.specs.Merged.{upper_of}
 use Rattle.mount_calls.proofs.Words.{after, AllocError, At, Attributes, base, Call, change, Dentries, Descriptors, Directory, Errno, false≢true, folder_attributes, Handle, handle_of, is_directory, is_folder, IsMountOf, Layer, layer_of, Layers, Location, lowers_of, made_way, MountOptions, Name, nat_cmp, New, Node, node_at, NodeId, OnErr, OpenDirectory, option_and_then, option_map, or_else, over_node, Path, put, refusal, Removed, Removes, reply_of, shows, State, StaysMount, Table, Tree, way_of, when}
 use Rattle.std.specs.BTreeMap.{get}
 use Rattle.ov_base.specs.declared.call.Call.TheVariants as call
@@ -152,7 +153,7 @@ open-there m s st counted k p is =
 
 module _ (m : Mount) (s : State) (st : IsStateOf m s) (new : Layers) where
   abbrev V : Layer
-  V = layer_of new.upper
+  V = upper_of new
 
   -- a refusal leaves the layers
   pub refused : (c : ℕ) (k : Call) (e : Errno) → refusal s c k ≡ Some e → new ≡ m.layers → Serves (refusal s c k) s c k (reply.Refused e) (record m { layers = new })

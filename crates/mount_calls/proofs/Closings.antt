@@ -1,5 +1,6 @@
 -- What closing a descriptor does to a mount, where a file that nothing names or holds any more is freed.
 use Rattle.std.proofs.Common.{arith, ◌≡◌, ◌↔◌, ℕ, ◌<◌, true, false, cond, ◌||◌, List, Option, None, Some, Ok, Err, refl, sym, ap, ◌∙◌, subst, ◌⊎◌, inl, inr, is_some}
+use Rattle.merged_lookup.specs.Merged.{upper_of}
 use Rattle.mount_calls.proofs.Words.{after, cases_Bool, Errno, false≢true, file_holders, Handle, handle_of, Inode, IsLive, IsMountOf, Layer, layer_of, Layers, lowers_of, node_at, NodeId, Path, refusal, SetsSlot, State, StaysMount, Table, Tree, with_handle}
 use Rattle.ov_base.specs.declared.call.Call.TheVariants as call
 use Rattle.ov_base.specs.declared.errno.Errno.TheVariants as errno
@@ -69,7 +70,7 @@ module _ (U : Layer) (lowers : List Layer) (s : State) (m : IsMountOf U lowers s
           (λ p at. false≢true (sym bare ∙ some-named (s.tree h.node) (at-path s.tree s.serial m.kept p h.node at)))
 
 -- what freeing a closed file leaves
-module _ (clients : Clients) (old new : Layers) (k : ℕ) (f : FreesClosed clients old new k) (i : Inode) (at : (layer_of old.upper).inodes k ≡ Some i) where
+module _ (clients : Clients) (old new : Layers) (k : ℕ) (f : FreesClosed clients old new k) (i : Inode) (at : (upper_of old).inodes k ≡ Some i) where
   -- the files that handles hold stay live
   freed-held : StaysHeld clients old new
   freed-held t d j holds l = grind arith
@@ -80,7 +81,7 @@ pub record LeavesOpen (clients : Clients) (old new : Layers) (closed : Option �
   pub paths : KeepsPaths old new
   pub thin : StaysThin old new
   pub mounts : StaysMount old new
-  pub live : ((k : ℕ) → closed ≡ Some k → is_some ((layer_of old.upper).inodes k) ≡ true) → StaysHeld clients old new
+  pub live : ((k : ℕ) → closed ≡ Some k → is_some ((upper_of old).inodes k) ≡ true) → StaysHeld clients old new
 
 -- layers that stay are left so
 same-leaves : (clients : Clients) (old : Layers) (closed : Option ℕ) → LeavesOpen clients old old closed
@@ -93,10 +94,10 @@ close-leaves clients old new (Some k) freed none = record {
   paths = (freed k refl).keeps;
   thin = (freed k refl).sound.thin;
   mounts = (freed k refl).mounts;
-  live = λ there. by ((layer_of old.upper).inodes k) refl (there k refl);
+  live = λ there. by ((upper_of old).inodes k) refl (there k refl);
 }
   where
-    by : (i : Option Inode) → (layer_of old.upper).inodes k ≡ i → is_some i ≡ true → StaysHeld clients old new
+    by : (i : Option Inode) → (upper_of old).inodes k ≡ i → is_some i ≡ true → StaysHeld clients old new
     by None at some = absurd (false≢true some)
     by (Some i) at some = freed-held clients old new k (freed k refl) i at
 
@@ -155,11 +156,11 @@ module _ (m : Mount) (s : State) (st : IsStateOf m s) (c d : ℕ) where
         serve-done _ s c _ _ (record m { layers = l; clients = new }) law.refused (sym law.answer)
         (record {
           layers = leaves.mounts step law.mounts;
-          tables = subst (AreTables (IsOpenAs (layer_of l.upper) (lowers_of l) step.tree new.directories) new) (sym law.tables)
+          tables = subst (AreTables (IsOpenAs (upper_of l) (lowers_of l) step.tree new.directories) new) (sym law.tables)
               (tables-on m.layers l s.tree step.tree new left leaves.paths.lowers state.tables new.directories
               (λ b i o g on is. handle-same s.tree step.tree new.directories law.paths o g (law.held b i g on) is)
               (record {
-                live = λ b i f g k opens on key is. live-still (layer_of l.upper) s.tree step.tree g.node k law.paths (law.held b i g on)
+                live = λ b i f g k opens on key is. live-still (upper_of l) s.tree step.tree g.node k law.paths (law.held b i g on)
                     (live s.tree g.node k ((files k).0 (record { client = b; descriptor = i; file = f; opened = opens; key = key })) is);
                 leaves = λ b i g on leaf. ap is_leaf (law.held b i g on) ∙ leaf;
               }));

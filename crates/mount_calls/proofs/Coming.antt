@@ -1,5 +1,6 @@
 -- Clients come on both sides.
 use Rattle.std.proofs.Common.{◌≡◌, ◌≢◌, ℕ, zero, suc, Bool, false, cond, ◌||◌, List, [], ◌∷◌, ◌++◌, Option, None, Some, Result, Ok, Err, refl, sym, ap, ◌∙◌, subst, is_some, length, replicate, slice_get, nat_eq, add-one, arith, ◌⊎◌, inl, inr}
+use Rattle.merged_lookup.specs.Merged.{upper_of}
 use Rattle.mount_calls.proofs.Words.{AllocError, AreLayers, cases_eq, Descriptors, DESCRIPTORS_MAX, eq-eqb, Errno, File, Handle, handle_of, handles_of, held_in, IfOk, Layer, layer_of, layers_of, list_any, lowers_of, nat_cmp, ne_eqb, OnErr, OpenFile, option_and_then, State, Table, Tree}
 use Rattle.std.proofs.Math.Bool.{or-false, or-true}
 use Rattle.std.proofs.lemmas.Bool.{or_parts}
@@ -83,9 +84,9 @@ module _ (U : Layer) (lowers : List Layer) (t : Tree) (clients : Clients) (ks : 
   come-fewer = fewer-but clients new ks (ks ++ free_table n ∷ []) n h.others (handles-last-other ks n) opens-none
 
 -- a mount without clients stands for the opening state of the merge
-pub begins : (m : Mount) → ((n : ℕ) → get nat_cmp m.clients.attached n ≡ None) → m.clients.next ≡ 0 → (t : Tree) → AreLayers (layers_of m.layers) → IsMerge (layer_of m.layers.upper) (lowers_of m.layers) t → IsStateOf m (opening t (record { redirects = m.redirects; metacopy = false; read_only = false }))
+pub begins : (m : Mount) → ((n : ℕ) → get nat_cmp m.clients.attached n ≡ None) → m.clients.next ≡ 0 → (t : Tree) → AreLayers (layers_of m.layers) → IsMerge (upper_of m.layers) (lowers_of m.layers) t → IsStateOf m (opening t (record { redirects = m.redirects; metacopy = false; read_only = false }))
 begins m none next t a merge = record {
-  layers = law_of_beginning (layer_of m.layers.upper) (lowers_of m.layers) t m.redirects a merge;
+  layers = law_of_beginning (upper_of m.layers) (lowers_of m.layers) t m.redirects a merge;
   arrived = next;
   redirects = refl;
   tables = record {

@@ -8,9 +8,9 @@ use Rattle.ov_base.specs.declared.call.Call.TheVariants as call
 use Rattle.plain_model.specs.Layers.{Name, Path, Object, Layer, held, holds_directory, shows, AreLayers, IsLayer}
 use Rattle.plain_model.proofs.Paths.{one_or_not, paths_tell, place}
 use Rattle.mount_laws.specs.Moving.{Goes, Stays}
-use Rattle.layer_tree.specs.Tree.{layer_of, SameObjects}
+use Rattle.layer_tree.specs.Tree.{SameObjects}
 use Rattle.merged_lookup.specs.declared.layers.Layers.{Layers}
-use Rattle.merged_lookup.specs.Merged.{layers_of}
+use Rattle.merged_lookup.specs.Merged.{upper_of, layers_of}
 use Rattle.copy_up.specs.Showing.{KeepsPath, PlacedParent}
 use Rattle.rename_redirect.specs.Renaming.{KeepsMoved}
 use Rattle.mount_calls.specs.ComingUp.{own_directory, BringsUp, ComesUp, IsParentOf}
@@ -36,7 +36,7 @@ longer n r p e =
 
 module _ (old new : Layers) (x : Path) (up : ComesUp old new x) where
   -- what was held somewhere doesn't come up
-  not-held : (y : Path) → held (layer_of new.upper) x ≡ held (layer_of old.upper) y → ⊥
+  not-held : (y : Path) → held (upper_of new) x ≡ held (upper_of old) y → ⊥
   not-held y e = up.before y e
 
   -- where no directory is, none comes up
@@ -63,8 +63,8 @@ module _ (old new : Layers) (x : Path) (up : ComesUp old new x) where
     ]
       where
         low : (y : Path) → x ≡ y → LosesNoObject old new y → ⊥
-        low y e (inl same) = not-held y (ap (held (layer_of new.upper)) e ∙ same)
-        low y e (inr gone) = not-bare (ap (λ z. holds_directory (held (layer_of new.upper) z)) e ∙ ap holds_directory gone.1)
+        low y e (inl same) = not-held y (ap (held (upper_of new)) e ∙ same)
+        low y e (inr gone) = not-bare (ap (λ z. holds_directory (held (upper_of new) z)) e ∙ ap holds_directory gone.1)
 
         at : (r : Path) → x ≡ r ++ p → Own ⊎ IsParentOf k old new x
         at [] e = here e
@@ -77,9 +77,9 @@ module _ (old new : Layers) (x : Path) (up : ComesUp old new x) where
     none-up : (p : Path) → path_of_call k false ≡ Some p → BringsNone old new p → Own ⊎ IsParentOf k old new x
     none-up p is kept = around-up p is kept.around (λ e. absurd (there e kept.here))
       where
-        there : x ≡ p → (held (layer_of new.upper) p ≡ held (layer_of old.upper) p) ⊎ HoldsNoDirectory new p → ⊥
-        there e (inl same) = not-held p (ap (held (layer_of new.upper)) e ∙ same)
-        there e (inr none) = not-bare (ap (λ z. holds_directory (held (layer_of new.upper) z)) e ∙ none)
+        there : x ≡ p → (held (upper_of new) p ≡ held (upper_of old) p) ⊎ HoldsNoDirectory new p → ⊥
+        there e (inl same) = not-held p (ap (held (upper_of new)) e ∙ same)
+        there e (inr none) = not-bare (ap (λ z. holds_directory (held (upper_of new) z)) e ∙ none)
 
     -- of two paths the parents of both
     either-up : (p q : Path) → path_of_call k false ≡ Some p → path_of_call k true ≡ Some q → KeepsEither old new p q x → IsParentOf k old new x
@@ -90,9 +90,9 @@ module _ (old new : Layers) (x : Path) (up : ComesUp old new x) where
     but-up p q first second are kept = elim kept.ends [
       | inl all ↦ inr (either-up p q first second (all x))
       | inr none ↦ elim (one_or_not paths_tell x p) [
-        | inl e ↦ absurd (∥∥₁_elim are ⊥_prop (λ a. not-bare (ap (λ z. holds_directory (held (layer_of new.upper) z)) e ∙ (none a).0)))
+        | inl e ↦ absurd (∥∥₁_elim are ⊥_prop (λ a. not-bare (ap (λ z. holds_directory (held (upper_of new) z)) e ∙ (none a).0)))
         | inr off ↦ elim (one_or_not paths_tell x q) [
-          | inl e ↦ absurd (∥∥₁_elim are ⊥_prop (λ a. not-bare (ap (λ z. holds_directory (held (layer_of new.upper) z)) e ∙ (none a).1)))
+          | inl e ↦ absurd (∥∥₁_elim are ⊥_prop (λ a. not-bare (ap (λ z. holds_directory (held (upper_of new) z)) e ∙ (none a).1)))
           | inr away ↦ inr (either-up p q first second (kept.others x off away))
         ]
       ]
@@ -106,8 +106,8 @@ module _ (old new : Layers) (x : Path) (up : ComesUp old new x) where
 
     module _ (are : ∥ AreLayers (layers_of new) ∥₁) (p q : Path) (moves : MovesAlong old new p q) where
       -- nothing of a directory is left at the old path or below it
-      none-below : (r : Path) → holds_directory (held (layer_of new.upper) (r ++ p)) ≡ true → ⊥
-      none-below r h = ∥∥₁_elim are ⊥_prop (λ a. false≢true (sym moves.left ∙ directory-up (layer_of new.upper) a.0 p r h))
+      none-below : (r : Path) → holds_directory (held (upper_of new) (r ++ p)) ≡ true → ⊥
+      none-below r h = ∥∥₁_elim are ⊥_prop (λ a. false≢true (sym moves.left ∙ directory-up (upper_of new) a.0 p r h))
 
       below-new : (n : Name) (r : Path) → x ≡ n ∷ r ++ q → KeepsMoved old new p q (n ∷ r ++ p) x → ⊥
       below-new n r e (inl same) = not-held (n ∷ r ++ p) same
@@ -116,7 +116,7 @@ module _ (old new : Layers) (x : Path) (up : ComesUp old new x) where
 
       along-up : path_of_call k false ≡ Some p → path_of_call k true ≡ Some q → own_directory k ≡ Some q → Own ⊎ IsParentOf k old new x
       along-up first second own = elim (place p x) [
-        | inl b ↦ absurd (none-below b.0 (ap (λ z. holds_directory (held (layer_of new.upper) z)) (sym b.1) ∙ up.now))
+        | inl b ↦ absurd (none-below b.0 (ap (λ z. holds_directory (held (upper_of new) z)) (sym b.1) ∙ up.now))
         | inr out ↦ elim (place q x) [
           | inl b ↦ at b.0 b.1
           | inr away ↦ inr (moved-up p q x first second refl (moves.along x x (Stays out away refl) (λ e. out [] e)))
@@ -135,9 +135,9 @@ module _ (old new : Layers) (x : Path) (up : ComesUp old new x) where
 
     -- where nothing changes none comes up
     same-up : new ≡ old → Own ⊎ IsParentOf k old new x
-    same-up e = absurd (not-held x (ap (λ (l : Layers). held (layer_of l.upper) x) e))
+    same-up e = absurd (not-held x (ap (λ (l : Layers). held (upper_of l) x) e))
 
-    objects-up : SameObjects (layer_of old.upper) (layer_of new.upper) → Own ⊎ IsParentOf k old new x
+    objects-up : SameObjects (upper_of old) (upper_of new) → Own ⊎ IsParentOf k old new x
     objects-up same = absurd (not-held x (same x))
 
     open-up : (b : Bool) (p : Path) → path_of_call k false ≡ Some p → cond b (BringsNone old new p) (new ≡ old) → Own ⊎ IsParentOf k old new x

@@ -1,5 +1,6 @@
 -- Opens that copy a file up: the states that the mount stands for on the way.
 use Rattle.std.proofs.Common.{◌≡◌, ◌≢◌, ◌↔◌, ℕ, ◌<◌, true, false, cond, List, [], Option, None, Some, Result, Ok, Err, IfOk, OnErr, refl, sym, ap, ◌∙◌, subst, inl, inr, is_some, arith}
+use Rattle.merged_lookup.specs.Merged.{upper_of}
 use Rattle.mount_calls.proofs.Words.{after, AllocError, Attributes, bad_flags, base, bytes_at, Call, change, Contents, EINVAL, false≢true, File, file_bytes, Handle, Inode, inode_of, IsLive, IsMountOf, Layer, layer_of, Layers, layers_of, Leaf, live_handle, lowers_of, lowest_free, MountOptions, Node, node_at, NodeId, OpenFile, OpenFlags, opening_fault, option_and_then, or_else, over_node, Own, parents_fault, Path, Place, put, refusal, rewritten, see, shows, shows_link, ShowsInode, sized, State, StaysLayers, Tree, Upper, way_of, when, with_bytes, with_handle}
 use Rattle.slab.specs.Slab.{get}
 use Rattle.ov_base.specs.declared.bytes.Content.TheVariants as content
@@ -115,7 +116,7 @@ module _ (m : Mount) (s : State) (st : IsStateOf m s) (c : ℕ) (clients : Clien
     (place : Place) (shown : ShowsInode m.layers p place) (lower : 0 < place.layer)
     (new : Layers) (key : ℕ) (copied : Copied m.layers new p place (λ i. i.attributes) key) where
   abbrev V : Layer
-  V = layer_of new.upper
+  V = upper_of new
 
   -- the file is shown
   there : IsShownFile (shows 0 (the_layers m) p) place.layer place.key

@@ -7,9 +7,9 @@ use Rattle.ov_base.specs.declared.call.OpenFlags.{OpenFlags}
 use Rattle.plain_model.specs.Layers.{Name, Path, Layer, Object, Named, Whiteout, held, holds_directory, shows, under}
 use Rattle.plain_model.specs.Laws.{left_at}
 use Rattle.plain_model.specs.Refusals.{bad_flags}
-use Rattle.layer_tree.specs.Tree.{layer_of, SameObjects}
+use Rattle.layer_tree.specs.Tree.{SameObjects}
 use Rattle.merged_lookup.specs.declared.layers.Layers.{Layers}
-use Rattle.merged_lookup.specs.Merged.{layers_of, lowers_of}
+use Rattle.merged_lookup.specs.Merged.{upper_of, layers_of, lowers_of}
 use Rattle.copy_up.specs.Showing.{GainsParents, IsParent, KeepsOthers, KeepsPath}
 use Rattle.copy_up.proofs.Frames.{parent-then, path-then}
 use Rattle.make_remove.specs.Removing as removing
@@ -28,11 +28,11 @@ no-parent p r g =
     absurd (omega (arith, a, b, c))
 
 -- so there what the upper holds is kept
-at-or-below : (old new : Layers) (p r : Path) → KeepsPath old new p (r ++ p) → held (layer_of new.upper) (r ++ p) ≡ held (layer_of old.upper) (r ++ p)
+at-or-below : (old new : Layers) (p r : Path) → KeepsPath old new p (r ++ p) → held (upper_of new) (r ++ p) ≡ held (upper_of old) (r ++ p)
 at-or-below old new p r (inl e) = e
 at-or-below old new p r (inr g) = absurd (no-parent p r g.parent)
 
-below-parent : (old new : Layers) (p : Path) (n : Name) (r : Path) → KeepsPath old new p (n ∷ r ++ p) → held (layer_of new.upper) (n ∷ r ++ p) ≡ held (layer_of old.upper) (n ∷ r ++ p)
+below-parent : (old new : Layers) (p : Path) (n : Name) (r : Path) → KeepsPath old new p (n ∷ r ++ p) → held (upper_of new) (n ∷ r ++ p) ≡ held (upper_of old) (n ∷ r ++ p)
 below-parent old new p n r = at-or-below old new p (n ∷ r)
 
 -- what only p changes is kept around it
@@ -54,14 +54,14 @@ around-parents old new p g = around-paths old new p (λ x off. g.paths x)
 
 -- and what does not change
 pub around-same : (old new : Layers) (p : Path) → new ≡ old → KeepsAround old new p
-around-same old new p e = around-paths old new p (λ x off. inl (ap (λ (l : Layers). held (layer_of l.upper) x) e))
+around-same old new p e = around-paths old new p (λ x off. inl (ap (λ (l : Layers). held (upper_of l) x) e))
 
 -- what is made or removed at p changes nothing around it
 pub around-others : (old new : Layers) (p : Path) → KeepsOthers old new p → KeepsAround old new p
 around-others old new p k = record { outside = k.paths; below = λ n r. inr (k.bare n r, k.below n r) }
 
 -- nor does what leaves every path as it is
-pub around-then : (a b c : Layers) (p : Path) → SameObjects (layer_of b.upper) (layer_of c.upper) → KeepsAround a b p → KeepsAround a c p
+pub around-then : (a b c : Layers) (p : Path) → SameObjects (upper_of b) (upper_of c) → KeepsAround a b p → KeepsAround a c p
 around-then a b c p same k = record {
   outside = λ x out. path-then a b c p x (same x) (k.outside x out);
   below = λ n r. elim (k.below n r) [ inl e ↦ inl (same (n ∷ r ++ p) ∙ e) | inr z ↦ inr (z.0, same (n ∷ r ++ p) ∙ z.1) ];
@@ -73,13 +73,13 @@ none-parents old new p g = record { around = around-parents old new p g; here = 
 
 -- nor where nothing changes
 pub none-same : (old new : Layers) (p : Path) → new ≡ old → BringsNone old new p
-none-same old new p e = record { around = around-same old new p e; here = inl (ap (λ (l : Layers). held (layer_of l.upper) p) e) }
+none-same old new p e = record { around = around-same old new p e; here = inl (ap (λ (l : Layers). held (upper_of l) p) e) }
 
 -- nor where a name of an inode stands then
-pub no-directory : (l : Layers) (p : Path) (o : Option Object) → held (layer_of l.upper) p ≡ o → holds_directory o ≡ false → HoldsNoDirectory l p
+pub no-directory : (l : Layers) (p : Path) (o : Option Object) → held (upper_of l) p ≡ o → holds_directory o ≡ false → HoldsNoDirectory l p
 no-directory l p o is off = ap holds_directory is ∙ off
 
-pub none-named : (old new : Layers) (p : Path) (k : ℕ) → held (layer_of new.upper) p ≡ Some (Named k) → KeepsOthers old new p → BringsNone old new p
+pub none-named : (old new : Layers) (p : Path) (k : ℕ) → held (upper_of new) p ≡ Some (Named k) → KeepsOthers old new p → BringsNone old new p
 none-named old new p k is others = record { around = around-others old new p others; here = inr (no-directory new p (Some (Named k)) is refl) }
 
 -- nor where a name went
@@ -93,7 +93,7 @@ none-left U lowers (n ∷ p) = whiteout-or-nothing (is_some (under U lowers n p)
 
 none-behind : (l : Layers) (p : Path) → holds_directory (removing.left_at l p) ≡ false
 none-behind l [] = refl
-none-behind l (n ∷ p) = whiteout-or-nothing (is_some (under (layer_of l.upper) (lowers_of l) n p))
+none-behind l (n ∷ p) = whiteout-or-nothing (is_some (under (upper_of l) (lowers_of l) n p))
 
 pub none-taken : (old new : Layers) (p : Path) → TakesName old new p → BringsNone old new p
 none-taken old new p takes = record {
@@ -102,7 +102,7 @@ none-taken old new p takes = record {
 }
 
 -- nor by what leaves every path as it is
-pub none-then : (a b c : Layers) (p : Path) → SameObjects (layer_of b.upper) (layer_of c.upper) → BringsNone a b p → BringsNone a c p
+pub none-then : (a b c : Layers) (p : Path) → SameObjects (upper_of b) (upper_of c) → BringsNone a b p → BringsNone a c p
 none-then a b c p same k = record {
   around = around-then a b c p same k.around;
   here = elim k.here [ inl e ↦ inl (same p ∙ e) | inr none ↦ inr (ap holds_directory (same p) ∙ none) ];
@@ -117,7 +117,7 @@ pub but-same : (old new : Layers) (p q : Path) → new ≡ old → KeepsBut old 
 but-same old new p q e = record { others = λ x a b. stays x; ends = inl stays }
   where
     stays : (x : Path) → KeepsPath old new p x ⊎ KeepsPath old new q x
-    stays x = inl (inl (ap (λ (l : Layers). held (layer_of l.upper) x) e))
+    stays x = inl (inl (ap (λ (l : Layers). held (upper_of l) x) e))
 
 -- one that is made names an inode at both
 pub but-given : (old new : Layers) (p q : Path) → GivesName old new p q → KeepsBut old new p q
@@ -144,10 +144,10 @@ reads-whole f good off = grind arith
 
 -- a rename of one object
 pub renames-same : (old new : Layers) (p q : Path) → new ≡ old → KeepsRenamed old new p q
-renames-same old new p q e = record { one = λ h. e; paths = inr (λ x. inl (ap (λ (l : Layers). held (layer_of l.upper) x) e)) }
+renames-same old new p q e = record { one = λ h. e; paths = inr (λ x. inl (ap (λ (l : Layers). held (upper_of l) x) e)) }
 
 -- a rename that wants memory gains parents at most
-pub renames-parents : (old new : Layers) (p q : Path) → is_one (layer_of old.upper) p q ≡ false → GainsBoth old new p q → KeepsRenamed old new p q
+pub renames-parents : (old new : Layers) (p q : Path) → is_one (upper_of old) p q ≡ false → GainsBoth old new p q → KeepsRenamed old new p q
 renames-parents old new p q apart g = record { one = λ h. absurd (false≢true (sym apart ∙ h)); paths = inr (λ x. by x (gains-paths old new p q g x)) }
   where
     by : (x : Path) → KeepsPath old new p x ⊎ KeepsPath old new q x → KeepsMoved old new p q x x
@@ -157,12 +157,12 @@ renames-parents old new p q apart g = record { one = λ h. absurd (false≢true 
     by x (inr (inr h)) = inr (inr h)
 
 -- what moved took what the upper held along, also once what lost its last name is freed
-pub renames-moved : (a b c : Layers) (p q : Path) (directory : Bool) (released : Option ℕ) → Moves a b p q directory released → SameObjects (layer_of b.upper) (layer_of c.upper) → KeepsRenamed a c p q
+pub renames-moved : (a b c : Layers) (p q : Path) (directory : Bool) (released : Option ℕ) → Moves a b p q directory released → SameObjects (upper_of b) (upper_of c) → KeepsRenamed a c p q
 renames-moved a b c p q directory released moves same = record {
   one = λ h. absurd (false≢true (sym moves.apart ∙ h));
   paths = inl (record {
     along = λ x y f off. by x y (moves.over.paths x y f off);
-    left = no-directory c p (left_at (layer_of a.upper) (lowers_of a) p) (same p ∙ moves.over.left) (none-left (layer_of a.upper) (lowers_of a) p);
+    left = no-directory c p (left_at (upper_of a) (lowers_of a) p) (same p ∙ moves.over.left) (none-left (upper_of a) (lowers_of a) p);
   });
 }
   where

@@ -1,5 +1,6 @@
 -- What a removal leaves once what lost its last name is freed.
 use Rattle.std.proofs.Common.{◌≡◌, ◌≢◌, ℕ, Bool, false, Option, List, ◌∷◌, ◌++◌, Some, sym, ap, ◌∙◌, subst, is_some, rules, arith}
+use Rattle.merged_lookup.specs.Merged.{upper_of}
 use Rattle.mount_calls.proofs.Words.{after, AreLayers, Call, Inode, inode_of, layer_of, Layers, layers_of, lowers_of, option_and_then, option_map, Path, Removes, State, StaysLayers, StaysMount}
 use Rattle.plain_model.specs.Tree.{merged}
 use Rattle.mount_laws.specs.Removals.{Loses, ShowsNoName}
@@ -22,7 +23,7 @@ use Rattle.mount_calls.specs.Renaming.{RenamesHeld}
 use Rattle.mount_calls.proofs.Lasting.{rename-held}
 use Rattle.mount_calls.proofs.Named.{moves-files, named-live, same-files}
 
-module _ (a b c : Layers) (p : Path) (held_same : SameObjects (layer_of b.upper) (layer_of c.upper)) (same : ShowsSame b c) where
+module _ (a b c : Layers) (p : Path) (held_same : SameObjects (upper_of b) (upper_of c)) (same : ShowsSame b c) where
   others : KeepsOthers a b p → KeepsOthers a c p
   others k = record { lowers = same.lowers ∙ k.lowers; paths = λ x out. by x (k.paths x out); bare = k.bare; below = λ n r. held_same (n ∷ r ++ p) ∙ k.below n r }
     where
@@ -33,12 +34,12 @@ module _ (a b c : Layers) (p : Path) (held_same : SameObjects (layer_of b.upper)
   pub takes-then : StaysLayers b c → TakesName a b p → TakesName a c p
   takes-then keeps t = record { lowers = same.lowers ∙ t.lowers; left = held_same p ∙ t.left; loses = loses; others = others t.others }
     where
-      sights : (x : Path) → merged (layer_of c.upper) (lowers_of a) x ≡ merged (layer_of b.upper) (lowers_of a) x
+      sights : (x : Path) → merged (upper_of c) (lowers_of a) x ≡ merged (upper_of b) (lowers_of a) x
       sights x = grind arith
 
-      loses : AreLayers (layers_of a) → Loses (layer_of a.upper) (layer_of c.upper) (lowers_of a) p
+      loses : AreLayers (layers_of a) → Loses (upper_of a) (upper_of c) (lowers_of a) p
       loses h =
-          let l : Loses (layer_of a.upper) (layer_of b.upper) (lowers_of a) p = t.loses h in
+          let l : Loses (upper_of a) (upper_of b) (lowers_of a) p = t.loses h in
           let kept : AreLayers (layers_of c) = keeps (l.layers.0, subst AreLayers (sym (lowers-same a b t.lowers)) l.layers.1) in
           record {
             layers = (kept.0, l.layers.1);
@@ -49,15 +50,15 @@ module _ (a b c : Layers) (p : Path) (held_same : SameObjects (layer_of b.upper)
           }
 
 -- the step is the machine's
-pub removes-then : (b c : Layers) → StaysMount b c → (s : State) (client : ℕ) (p : Path) (removal : Call) → Removes (layer_of b.upper) (lowers_of b) s client p removal → Removes (layer_of c.upper) (lowers_of c) s client p removal
+pub removes-then : (b c : Layers) → StaysMount b c → (s : State) (client : ℕ) (p : Path) (removal : Call) → Removes (upper_of b) (lowers_of b) s client p removal → Removes (upper_of c) (lowers_of c) s client p removal
 removes-then b c mounts s client p removal r = search rules
 
 -- so it is with rename
-renames-then : (b c : Layers) → StaysMount b c → (s : State) (client : ℕ) (p q : Path) → Renames (layer_of b.upper) (lowers_of b) s client p q → Renames (layer_of c.upper) (lowers_of c) s client p q
+renames-then : (b c : Layers) → StaysMount b c → (s : State) (client : ℕ) (p q : Path) → Renames (upper_of b) (lowers_of b) s client p q → Renames (upper_of c) (lowers_of c) s client p q
 renames-then b c mounts s client p q r = search rules
 
 -- what moved, moved
-pub moves-then : (clients : Clients) (a b c : Layers) (redirects : Bool) (p q : Path) (directory : Bool) (released : Option ℕ) → Moves a b p q directory released → (is_one (layer_of a.upper) p q ≡ false → ShowsNoName (layers_of a) q) → (is_one (layer_of a.upper) p q ≡ false → RenameSteps a b redirects p q) → StaysMount b c → StaysHeld clients b c → SameObjects (layer_of b.upper) (layer_of c.upper) → ShowsSame b c → RenamesHeld clients a c redirects p q
+pub moves-then : (clients : Clients) (a b c : Layers) (redirects : Bool) (p q : Path) (directory : Bool) (released : Option ℕ) → Moves a b p q directory released → (is_one (upper_of a) p q ≡ false → ShowsNoName (layers_of a) q) → (is_one (upper_of a) p q ≡ false → RenameSteps a b redirects p q) → StaysMount b c → StaysHeld clients b c → SameObjects (upper_of b) (upper_of c) → ShowsSame b c → RenamesHeld clients a c redirects p q
 moves-then clients a b c redirects p q directory released moves bare steps mounts held objects same = record {
   apart = moves.apart;
   bare = bare moves.apart;
@@ -65,10 +66,10 @@ moves-then clients a b c redirects p q directory released moves bare steps mount
   live = λ s is option client d k some on live.
       held (after s client (call.Rename p q)).tree d k some (rename-held clients a b redirects p q moves.over (steps moves.apart) s is option client d k some on live);
   named = λ s is option client d k y live at.
-      let step : Renames (layer_of b.upper) (lowers_of b) s client p q = steps moves.apart s is option client in
-      named-live (layer_of c.upper) (lowers_of c) (after s client (call.Rename p q)) (renames-then b c mounts s client p q step).mounts d k y at
+      let step : Renames (upper_of b) (lowers_of b) s client p q = steps moves.apart s is option client in
+      named-live (upper_of c) (lowers_of c) (after s client (call.Rename p q)) (renames-then b c mounts s client p q step).mounts d k y at
       (same-files b c objects same.sights y k
-      (moves-files (layer_of a.upper) (layer_of b.upper) (lowers_of b) s client p q step d k y (moves.over.links is.layers k (ap is_some live.inode)) live at));
+      (moves-files (upper_of a) (upper_of b) (lowers_of b) s client p q step d k y (moves.over.links is.layers k (ap is_some live.inode)) live at));
 }
 
 -- an inode as a layer has it

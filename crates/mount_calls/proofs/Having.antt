@@ -12,7 +12,7 @@ use Rattle.layer_tree.specs.Tree as tree
 use Rattle.layer_tree.specs.Tree.{Tree, inode_at, layer_of}
 use Rattle.merged_lookup.specs.declared.layers.Layers.{Layers}
 use Rattle.merged_lookup.specs.Lower.{file_bytes}
-use Rattle.merged_lookup.specs.Merged.{layers_of, lowers_of, parents_fault}
+use Rattle.merged_lookup.specs.Merged.{upper_of, layers_of, lowers_of, parents_fault}
 use Rattle.merged_lookup.proofs.Preparing.{lower-shown}
 use Rattle.copy_up.specs.Needs.{IsNeed}
 use Rattle.work_dir.specs.declared.limits.TheConstants.{FILE_MAX}
@@ -63,7 +63,7 @@ low-bytes : (l : Layers) (p : Path) (j k : ℕ) (i : Inode) (b : List ℕ) → i
     HasBytes (lowers_of l) (record { layer = j; key = k })
 low-bytes l p zero k i b is shown lower = absurd (omega (arith, lower))
 low-bytes l p (suc j) k i b is shown lower =
-    let U = layer_of l.upper in (
+    let U = upper_of l in (
       b,
       ap (option_and_then (λ (x : Inode). file_bytes x.content)) (lower-shown l p j k (Some i) shown) ∙ ap file_bytes is,
       λ a. bytes-within i.content b is

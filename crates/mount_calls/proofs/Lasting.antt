@@ -1,6 +1,7 @@
 -- Open files of the upper stay live, and files of the tree stay files, through what changes the layers.
 use Rattle.std.proofs.Common.{◌≡◌, ◌≢◌, ◌↔◌, ℕ, Bool, true, false, cond, List, [], ◌∷◌, ◌++◌, Option, None, Some, refl, sym, ap, ◌∙◌, subst, inl, inr, is_some}
 use Rattle.std.proofs.Common.{arith}
+use Rattle.merged_lookup.specs.Merged.{upper_of}
 use Rattle.mount_calls.proofs.Words.{after, Attributes, Call, cases_Bool, Content, face, false≢true, fresh, Inode, inode_of, IsLive, IsMountOf, Layer, layer_of, Layers, lowers_of, Node, node_at, node_of, NodeId, OpenFlags, option_and_then, Path, Removes, State, StaysLayers, Tree}
 use Rattle.slab.specs.Slab.{get}
 use Rattle.ov_base.specs.declared.bytes.Content.TheVariants as content
@@ -32,7 +33,7 @@ use Rattle.mount_calls.specs.Living.{StaysLive, KeepsLive, KeepsHeld, KeepsHeldF
 pub use Rattle.mount_calls.proofs.Leaves.{mkdir-leaves, symlink-leaves, link-leaves, chmod-leaves, chown-leaves, set-leaves, delete-leaves, open-leaves, unlink-leaves, rmdir-leaves, rename-leaves}
 
 -- a path of which no more changes than that it gains a directory as a parent names what it named
-kept-name : (old new : Layers) (p q : Path) → KeepsPath old new p q → (k : ℕ) → (held (layer_of new.upper) q ≡ Some (Named k)) ↔ (held (layer_of old.upper) q ≡ Some (Named k))
+kept-name : (old new : Layers) (p q : Path) → KeepsPath old new p q → (k : ℕ) → (held (upper_of new) q ≡ Some (Named k)) ↔ (held (upper_of old) q ≡ Some (Named k))
 kept-name old new p q is k = grind arith
 
 -- missing parents leave each live file live
@@ -46,19 +47,19 @@ both-live old new p q g t d k live = parents-live g.mid new q g.second t d k (pa
 -- an upper that makes an object keeps its names outside of it and below it
 module _ (old new : Layers) (p : Path) (others : KeepsOthers old new p) where
   -- a path below it names nothing
-  bare-name : (q : Path) (k : ℕ) → is_object (held (layer_of old.upper) q) ≡ false → held (layer_of new.upper) q ≡ None → (held (layer_of new.upper) q ≡ Some (Named k)) ↔ (held (layer_of old.upper) q ≡ Some (Named k))
+  bare-name : (q : Path) (k : ℕ) → is_object (held (upper_of old) q) ≡ false → held (upper_of new) q ≡ None → (held (upper_of new) q ≡ Some (Named k)) ↔ (held (upper_of old) q ≡ Some (Named k))
   bare-name q k bare none = grind arith
 
   -- each path but its own names what it named
-  pub other-names : (q : Path) → q ≢ p → (k : ℕ) → (held (layer_of new.upper) q ≡ Some (Named k)) ↔ (held (layer_of old.upper) q ≡ Some (Named k))
+  pub other-names : (q : Path) → q ≢ p → (k : ℕ) → (held (upper_of new) q ≡ Some (Named k)) ↔ (held (upper_of old) q ≡ Some (Named k))
   other-names q away k = elim (place p q) [
     | inl y ↦ by y.0 y.1
     | inr out ↦ kept-name old new p q (others.paths q out) k
   ]
     where
-      by : (r : Path) → q ≡ r ++ p → (held (layer_of new.upper) q ≡ Some (Named k)) ↔ (held (layer_of old.upper) q ≡ Some (Named k))
+      by : (r : Path) → q ≡ r ++ p → (held (upper_of new) q ≡ Some (Named k)) ↔ (held (upper_of old) q ≡ Some (Named k))
       by [] e = absurd (away e)
-      by (n ∷ r) e = bare-name q k (ap (λ z. is_object (held (layer_of old.upper) z)) e ∙ others.bare n r) (ap (held (layer_of new.upper)) e ∙ others.below n r)
+      by (n ∷ r) e = bare-name q k (ap (λ z. is_object (held (upper_of old) z)) e ∙ others.bare n r) (ap (held (upper_of new)) e ∙ others.below n r)
 
 -- a node that is seen as an inode is a file or link
 leaf-seen : (o : Option Node) (i : Option Inode) → is_some i ≡ true → face o ≡ see_inode 0 i → is_leaf o ≡ true
@@ -69,12 +70,12 @@ branch-seen : (o : Option Node) (a : Attributes) (b : Bool) → face o ≡ Some 
 branch-seen o a b e = grind arith
 
 -- a directory that mkdir makes
-module _ (old new : Layers) (p : Path) (mode : ℕ) (m : MakesDirectory old new p mode) (s : State) (is : IsMountOf (layer_of old.upper) (lowers_of old) s) (c : ℕ) (x : Makes (layer_of new.upper) (lowers_of old) s c p mode) where
+module _ (old new : Layers) (p : Path) (mode : ℕ) (m : MakesDirectory old new p mode) (s : State) (is : IsMountOf (upper_of old) (lowers_of old) s) (c : ℕ) (x : Makes (upper_of new) (lowers_of old) s c p mode) where
   abbrev U : Layer
-  U = layer_of old.upper
+  U = upper_of old
 
   abbrev V : Layer
-  V = layer_of new.upper
+  V = upper_of new
 
   abbrev lowers : List Layer
   lowers = lowers_of old
@@ -129,60 +130,60 @@ module _ (old new : Layers) (p : Path) (mode : ℕ) (m : MakesDirectory old new 
 -- mkdir leaves each live file live
 pub mkdir-live : (old new : Layers) (p : Path) (mode : ℕ) → StaysLayers old new → MakesDirectory old new p mode → MkdirSteps old new p mode → KeepsLive old new (call.Mkdir p mode)
 mkdir-live old new p mode keeps m steps s is c d k live =
-    let x : Makes (layer_of new.upper) (lowers_of old) s c p mode = subst (λ (Ls : List Layer). Makes (layer_of new.upper) Ls s c p mode) (lowers-same old new m.lowers) (steps s is c) in
-    law_of_live_through_made (layer_of old.upper) (layer_of new.upper) (lowers_of old) s is c p mode (gains old new p mode m s is c x) x d k (m.objects.inodes k (λ e. cc)) live
+    let x : Makes (upper_of new) (lowers_of old) s c p mode = subst (λ (Ls : List Layer). Makes (upper_of new) Ls s c p mode) (lowers-same old new m.lowers) (steps s is c) in
+    law_of_live_through_made (upper_of old) (upper_of new) (lowers_of old) s is c p mode (gains old new p mode m s is c x) x d k (m.objects.inodes k (λ e. cc)) live
 
 -- a live file where a file or link is made
-module _ (old new : Layers) (p : Path) (y : Content) (a : Attributes) (m : MakesLeaf old new p y a) (t : Tree) (d : NodeId) (k : ℕ) (live : IsLive (layer_of old.upper) t d k) where
+module _ (old new : Layers) (p : Path) (y : Content) (a : Attributes) (m : MakesLeaf old new p y a) (t : Tree) (d : NodeId) (k : ℕ) (live : IsLive (upper_of old) t d k) where
   -- it has another number
   differs : m.number ≢ k
   differs e = false≢true (sym (ap (λ o. is_some (option_and_then inode_of o)) (ap (get old.upper) (sym e) ∙ m.vacant)) ∙ ap is_some live.inode)
 
   -- also than the one that the upper gains
-  gained-differs : (g : GainsLeaf (layer_of old.upper) (layer_of new.upper) (lowers_of old) p y a) → g.number ≢ k
-  gained-differs g e = differs (one-number (layer_of new.upper) p m.number g.number m.held_there g.here ∙ e)
+  gained-differs : (g : GainsLeaf (upper_of old) (upper_of new) (lowers_of old) p y a) → g.number ≢ k
+  gained-differs g e = differs (one-number (upper_of new) p m.number g.number m.held_there g.here ∙ e)
 
   -- and its inode stays
-  same-inode : (layer_of new.upper).inodes k ≡ (layer_of old.upper).inodes k
+  same-inode : (upper_of new).inodes k ≡ (upper_of old).inodes k
   same-inode = m.objects.inodes k (λ e. differs (let z : Some m.number ≡ Some k = e in cc))
 
 -- symlink leaves each live file live
 pub symlink-live : (old new : Layers) (target : List ℕ) (p : Path) → MakesLeaf old new p (content.SymbolicLink target) (new_attributes 0o777) → SymlinkSteps old new target p → KeepsLive old new (call.Symlink target p)
 symlink-live old new target p m steps s is c d k live =
-    let g : GainsLeaf (layer_of old.upper) (layer_of new.upper) (lowers_of old) p (content.SymbolicLink target) (fresh 0o777) = m.gains is.layers in
-    law_of_live_through_link (layer_of old.upper) (layer_of new.upper) (lowers_of old) s is c target p g
-    (subst (λ (Ls : List Layer). MakesLink (layer_of new.upper) Ls s c target p) (lowers-same old new m.lowers) (steps s is c)) d k
+    let g : GainsLeaf (upper_of old) (upper_of new) (lowers_of old) p (content.SymbolicLink target) (fresh 0o777) = m.gains is.layers in
+    law_of_live_through_link (upper_of old) (upper_of new) (lowers_of old) s is c target p g
+    (subst (λ (Ls : List Layer). MakesLink (upper_of new) Ls s c target p) (lowers-same old new m.lowers) (steps s is c)) d k
     (gained-differs old new p _ _ m s.tree d k live g) (same-inode old new p _ _ m s.tree d k live) live
 
 -- an open that makes its file leaves each live file live
 pub create-live : (old new : Layers) (p : Path) (mode : ℕ) → MakesLeaf old new p (content.File []) (new_attributes mode) → CreateSteps old new p mode → (flags : OpenFlags) → KeepsLive old new (call.Open p flags mode)
 create-live old new p mode m steps flags s is c d k live =
-    let g : GainsLeaf (layer_of old.upper) (layer_of new.upper) (lowers_of old) p (content.File []) (fresh mode) = m.gains is.layers in
-    law_of_live_through_file (layer_of old.upper) (layer_of new.upper) (lowers_of old) s is c p flags mode g
-    (subst (λ (Ls : List Layer). MakesFile (layer_of new.upper) Ls s c p flags mode) (lowers-same old new m.lowers) (steps s is c flags)) d k
+    let g : GainsLeaf (upper_of old) (upper_of new) (lowers_of old) p (content.File []) (fresh mode) = m.gains is.layers in
+    law_of_live_through_file (upper_of old) (upper_of new) (lowers_of old) s is c p flags mode g
+    (subst (λ (Ls : List Layer). MakesFile (upper_of new) Ls s c p flags mode) (lowers-same old new m.lowers) (steps s is c flags)) d k
     (gained-differs old new p _ _ m s.tree d k live g) (same-inode old new p _ _ m s.tree d k live) live
 
 -- link leaves each live file live, also the one that it names
 pub link-live : (old new : Layers) (p q : Path) → new.lowers ≡ old.lowers → GivesName old new p q → LinkSteps old new p q → KeepsLive old new (call.Hardlink p q)
 link-live old new p q low gives steps s is c d k live =
-    law_of_live_through_name (layer_of old.upper) (layer_of new.upper) (lowers_of old) s is c p q (gives.gains is.layers)
-    (subst (λ (Ls : List Layer). MakesName (layer_of new.upper) Ls s c p q) (lowers-same old new low) (steps s is c)) d k
+    law_of_live_through_name (upper_of old) (upper_of new) (lowers_of old) s is c p q (gives.gains is.layers)
+    (subst (λ (Ls : List Layer). MakesName (upper_of new) Ls s c p q) (lowers-same old new low) (steps s is c)) d k
     (gives.links is.layers k (ap is_some live.inode)) live
 
 -- where the upper loses a name, an inode that it names loses a link
-loses-link : (old new : Layers) (p : Path) (released : Option ℕ) → TakesName old new p → Unnames old new p released → (j : ℕ) → is_some (inode_at old.upper j) ≡ true → LosesLink (layer_of old.upper) (layer_of new.upper) p j
+loses-link : (old new : Layers) (p : Path) (released : Option ℕ) → TakesName old new p → Unnames old new p released → (j : ℕ) → is_some (inode_at old.upper j) ≡ true → LosesLink (upper_of old) (upper_of new) p j
 loses-link old new p released takes y j there = grind arith
 
 -- every state of the machine whose mount has the old layers goes on to one with the new layers by the call that takes p away
 abbrev RemovalSteps : Layers → Layers → Path → Call → Type 0
 RemovalSteps old new p removal =
-    (s : State) → IsMountOf (layer_of old.upper) (lowers_of old) s → (c : ℕ) → Removes (layer_of new.upper) (lowers_of new) s c p removal
+    (s : State) → IsMountOf (upper_of old) (lowers_of old) s → (c : ℕ) → Removes (upper_of new) (lowers_of new) s c p removal
 
 -- a live file that a handle holds stays live where a name goes
 held-live : (p : Path) (removal : Call) → LivesThroughRemoval p removal → (clients : Clients) (old new : Layers) (released : Option ℕ) → TakesName old new p → Unnames old new p released → RemovalSteps old new p removal → KeepsHeld clients old new removal
 held-live p removal law clients old new released takes y steps s is c d k some on live =
-    law (layer_of old.upper) (layer_of new.upper) (lowers_of old) s c (takes.loses is.layers)
-    (subst (λ (Ls : List Layer). Removes (layer_of new.upper) Ls s c p removal) (lowers-same old new takes.lowers) (steps s is c)) d k
+    law (upper_of old) (upper_of new) (lowers_of old) s c (takes.loses is.layers)
+    (subst (λ (Ls : List Layer). Removes (upper_of new) Ls s c p removal) (lowers-same old new takes.lowers) (steps s is c)) d k
     (loses-link old new p released takes y k (ap is_some live.inode)) (λ named. on) live
 
 -- by unlink
@@ -194,7 +195,7 @@ pub rmdir-held : (p : Path) (clients : Clients) (old new : Layers) (released : O
 rmdir-held p = held-live p (call.Rmdir p) (law_of_live_through_rmdir p)
 
 -- and where rename moves an object
-pub rename-held : (clients : Clients) (old new : Layers) (redirects : Bool) (p q : Path) → MovesOver old new p q → RenameSteps old new redirects p q → (s : State) → IsMountOf (layer_of old.upper) (lowers_of old) s → s.options.redirects ≡ redirects → (c : ℕ) → KeepsHeldFrom s c clients old new (call.Rename p q)
+pub rename-held : (clients : Clients) (old new : Layers) (redirects : Bool) (p q : Path) → MovesOver old new p q → RenameSteps old new redirects p q → (s : State) → IsMountOf (upper_of old) (lowers_of old) s → s.options.redirects ≡ redirects → (c : ℕ) → KeepsHeldFrom s c clients old new (call.Rename p q)
 rename-held clients old new redirects p q over steps s is option c d k some on live =
-    law_of_live_through_rename (layer_of old.upper) (layer_of new.upper) (lowers_of new) s c p q (steps s is option c) d k
+    law_of_live_through_rename (upper_of old) (upper_of new) (lowers_of new) s c p q (steps s is option c) d k
     (over.links is.layers k (ap is_some live.inode)) (λ named. on) live

@@ -65,7 +65,7 @@ mkdir-leaves p mode s kept c d h = made-leaf s.tree s.serial kept (way_of s.tree
 
 -- symlink does
 pub symlink-leaves : (target : List ℕ) (p : Path) → KeepsLeaves (call.Symlink target p)
-symlink-leaves target p s kept c d h = made-leaf s.tree s.serial kept (way_of s.tree p) (Leaf (SymbolicLink target) (fresh 0o777) Own 1) d h
+symlink-leaves target p s kept c d h = made-leaf s.tree s.serial kept (way_of s.tree p) (Leaf (SymbolicLink target) (fresh 0o777) (Own false) 1) d h
 
 -- link does
 pub link-leaves : (p q : Path) → KeepsLeaves (call.Hardlink p q)

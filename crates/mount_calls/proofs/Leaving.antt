@@ -1,5 +1,6 @@
 -- A client that has nothing open goes on both sides: its table goes.
 use Rattle.std.proofs.Common.{arith, ◌≡◌, ◌≢◌, ℕ, Bool, false, not, List, [], ◌∷◌, refl, ap, filter, nat_eq}
+use Rattle.merged_lookup.specs.Merged.{upper_of}
 use Rattle.mount_calls.proofs.Words.{handles_of, Layer, layer_of, list_any, lowers_of, State, Table, Tree}
 use Rattle.plain_model.specs.Runs.{without_table}
 use Rattle.mount_calls.specs.declared.clients.Clients.{Clients}
@@ -42,5 +43,5 @@ go U lowers t clients new ks n a h places = grind (arith, tables-but, handles-ke
 pub gone : (m : Mount) (s : State) (new : Clients) (n : ℕ) → IsStateOf m s → Detaches m.clients new n → KeepsPlaces m.clients new → IsStateOf (record m { clients = new }) (without_table s n)
 gone m s new n st h places =
     with-tables m s st (record m { clients = new }) (without n s.tables) refl refl h.next
-    (go (layer_of m.layers.upper) (lowers_of m.layers) s.tree m.clients new s.tables n st.tables h places)
+    (go (upper_of m.layers) (lowers_of m.layers) s.tree m.clients new s.tables n st.tables h places)
     (one-fewer m.clients new s.tables (without n s.tables) (fewer-but m.clients new s.tables (without n s.tables) n h.others (handles-kept s.tables n) (λ d. ap (open_in d) h.gone)) st.one)

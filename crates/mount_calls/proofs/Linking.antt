@@ -3,7 +3,7 @@ use Rattle.std.proofs.Common.{◌≡◌, ℕ, Bool, true, false, not, List, Opti
 use Rattle.mount_calls.proofs.Words.{AllocError, EINVAL, Errno, IfOk, inode_of, Layer, layer_of, Layers, layers_of, lowers_of, node_in, option_and_then, or_else, Path, Place, refusal, Reply, Shown, shows, shows_link, ShowsInode, State, trees, when}
 use Rattle.ov_base.specs.declared.call.Call.TheVariants as call
 use Rattle.ov_base.specs.declared.reply.Reply.TheVariants as reply
-use Rattle.merged_lookup.specs.Merged.{walk_fault}
+use Rattle.merged_lookup.specs.Merged.{upper_of, walk_fault}
 use Rattle.merged_lookup.proofs.Looking.{inode-shown}
 use Rattle.mount_laws.specs.Leaves.{Reads, inode_target, shown_target}
 use Rattle.mount_laws.proofs.Refusing.{law_of_readlink}
@@ -47,7 +47,7 @@ tells o = grind arith
 
 module _ (m : Mount) (s : State) (st : IsStateOf m s) (c : ℕ) (p : Path) where
   law : Reads (the_layers m) s c p
-  law = law_of_readlink (layer_of m.layers.upper) (lowers_of m.layers) s st.layers c p
+  law = law_of_readlink (upper_of m.layers) (lowers_of m.layers) s st.layers c p
 
   -- readlink is refused where the walk is, or what is shown is no symbolic link
   is-refused : (w : Option Errno) (b : Bool) → walk_fault (the_layers m) p ≡ w → shows_link (shows 0 (the_layers m) p) ≡ b → refusal s c (call.Readlink p) ≡ or_else w (when (not b) EINVAL)

@@ -1,5 +1,6 @@
 -- Opens that make a file: the states that the mount stands for on the way.
 use Rattle.std.proofs.Common.{arith, ◌≡◌, ◌↔◌, ℕ, zero, suc, cond, List, [], None, Some, Ok, refl, sym, ap, ◌∙◌, subst, is_none}
+use Rattle.merged_lookup.specs.Merged.{upper_of}
 use Rattle.mount_calls.proofs.Words.{after, Call, change, File, file_holders, fresh, Handle, IsLive, IsMountOf, Layer, layer_of, Layers, layers_of, Leaf, live_handle, lowers_of, lowest_free, made_way, New, NodeId, OpenFile, OpenFlags, opening_fault, Own, Path, refusal, shows, State, StaysMount, Tree, Upper, way_of, with_handle}
 use mathlib.Core.Logic.{∥∥₁_elim}
 use mathlib.Core.HLevel.{⊥_prop}
@@ -64,7 +65,7 @@ module _ (m : Mount) (s : State) (st : IsStateOf m s) (c : ℕ) (clients : Clien
       (new : Layers) (key : ℕ) (leaf : MakesLeaf m.layers new p (content.File []) (new_attributes mode)) (number : leaf.number ≡ key) (steps : CreateSteps m.layers new p mode)
       (d : ℕ) (last : Clients) (ch : OpensFile clients last c d (file_at (record { layer = 0; key = key }) f) (Ok tt)) where
     abbrev V : Layer
-    V = layer_of new.upper
+    V = upper_of new
 
     abbrev asked : Call
     asked = call.Open p f mode
@@ -98,8 +99,8 @@ module _ (m : Mount) (s : State) (st : IsStateOf m s) (c : ℕ) (clients : Clien
         record { layers = x.layers; shows = x.shows; kept = x.kept; writable = x.writable }
 
     -- the machine's tree
-    tree-made : u ≡ made_way s.tree s.serial (way_of s.tree p) (Leaf (content.File []) (fresh mode) Own 1)
-    tree-made = ap (λ o. cond (is_none o) (made_way s.tree s.serial (way_of s.tree p) (Leaf (content.File []) (fresh mode) Own 1)) (change (opened f) s.tree o)) law.absent
+    tree-made : u ≡ made_way s.tree s.serial (way_of s.tree p) (Leaf (content.File []) (fresh mode) (Own false) 1)
+    tree-made = ap (λ o. cond (is_none o) (made_way s.tree s.serial (way_of s.tree p) (Leaf (content.File []) (fresh mode) (Own false) 1)) (change (opened f) s.tree o)) law.absent
 
     -- what was open is what it was
     made-state : IsStateOf (record m { layers = new; clients = clients }) (record s { tree = u; serial = suc s.serial })

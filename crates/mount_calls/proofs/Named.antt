@@ -1,5 +1,6 @@
 -- Files of the upper to which a path leads are live, and stay so through each call.
 use Rattle.std.proofs.Common.{◌≡◌, ◌≢◌, ℕ, ◌-◌, Bool, true, false, cond, List, [], ◌∷◌, Option, None, Some, Result, Ok, Err, IsSome, refl, sym, ap, ◌∙◌, subst, ◌⊎◌, inl, inr, is_none, is_some, length, nat_eq}
+use Rattle.merged_lookup.specs.Merged.{upper_of}
 use Rattle.mount_calls.proofs.Words.{after, AllocError, bytes_at, Call, cases_Bool, cases_eq, change, Content, Contents, false≢true, fresh, Handle, handle_of, Inode, IsLive, IsMountOf, Layer, layer_of, Layers, Leaf, lowers_of, lowest_free, made_way, Node, node_at, NodeId, OnErr, opening_fault, OpenFlags, Own, Path, refusal, Removes, Reply, reply_of, shows, sized, State, Tree, way_of, with_bytes, with_handle}
 use Rattle.std.specs.Result.{OnOk}
 use Rattle.ov_base.specs.declared.bytes.Content.TheVariants as content
@@ -109,10 +110,10 @@ moves-files U V lowers s c p q f d k y w live at = elim (came-from p q y) [
 ]
 
 -- what is seen as before, by the same names, is the same files
-pub same-files : (old new : Layers) → SameObjects (layer_of old.upper) (layer_of new.upper) → ((q : Path) → merged (layer_of new.upper) (lowers_of new) q ≡ merged (layer_of old.upper) (lowers_of old) q) → KeepsFiles old new
+pub same-files : (old new : Layers) → SameObjects (upper_of old) (upper_of new) → ((q : Path) → merged (upper_of new) (lowers_of new) q ≡ merged (upper_of old) (lowers_of old) q) → KeepsFiles old new
 same-files old new objects sights q k f =
-    seen-file (layer_of new.upper) (lowers_of new) q k f.bytes (objects q ∙ f.named)
-    (ap seen_content (sights q) ∙ file-seen (layer_of old.upper) (lowers_of old) q k f)
+    seen-file (upper_of new) (lowers_of new) q k f.bytes (objects q ∙ f.named)
+    (ap seen_content (sights q) ∙ file-seen (upper_of old) (lowers_of old) q k f)
 
 -- so are those of paths that stay
 pub paths-files : (old new : Layers) → KeepsPaths old new → KeepsFiles old new
@@ -126,7 +127,7 @@ paths-files old new keeps q k f = record {
 
 -- and of layers that stay
 pub stay-files : (old new : Layers) → new ≡ old → KeepsFiles old new
-stay-files old new same q k f = subst (λ (l : Layers). NamesFile (layer_of l.upper) q k) (sym same) f
+stay-files old new same q k f = subst (λ (l : Layers). NamesFile (upper_of l) q k) (sym same) f
 
 -- a file gets other bytes
 module _ (u new : LayerTree) (key : ℕ) (now : List ℕ → List ℕ) (there : IsSome (bytes_at u key)) (objects : SameObjects (layer_of u) (layer_of new)) where
@@ -190,7 +191,7 @@ close-paths U lowers s m c fd q = by (handle_of s.tables c fd) refl
 -- and after an open of what is shown
 pub open-paths : (U : Layer) (lowers : List Layer) (s : State) → IsMountOf U lowers s → (c : ℕ) (p : Path) (f : OpenFlags) (mode : ℕ) → refusal s c (call.Open p f mode) ≡ None → is_some (shows 0 (U ∷ lowers) p) ≡ true → (q : Path) → node_at (after s c (call.Open p f mode)).tree q ≡ node_at s.tree q
 open-paths U lowers s m c p f mode fine some q =
-    ap (λ o. node_at (cond (is_none o) (made_way s.tree s.serial (way_of s.tree p) (Leaf (content.File []) (fresh mode) Own 1)) (change (opened f) s.tree o)) q) there.1
+    ap (λ o. node_at (cond (is_none o) (made_way s.tree s.serial (way_of s.tree p) (Leaf (content.File []) (fresh mode) (Own false) 1)) (change (opened f) s.tree o)) q) there.1
     ∙ change-paths (opened f) (opened-mild f) s.tree (Some there.0) q
   where
     allowed : opening_fault (U ∷ lowers) p f mode (lowest_free s.tables c) ≡ None
@@ -205,17 +206,17 @@ open-paths U lowers s m c p f mode fine some q =
 -- a call that was served, and leaves paths and files
 pub stays-named : (old : Layers) (new : Mount) (s : State) (c : ℕ) (k : Call) (r : Reply) → Serves (refusal s c k) s c k r new → refusal s c k ≡ None → ((q : Path) → node_at (after s c k).tree q ≡ node_at s.tree q) → KeepsFiles old new.layers → KeepsNamed s c old new.layers k
 stays-named old new s c k r served fine paths files d j q live at =
-    named-live (layer_of new.layers.upper) (lowers_of new.layers) (after s c k) stands.layers d j q at
-    (files q j (live-named (layer_of old.upper) s.tree d j q live (sym (paths q) ∙ at)))
+    named-live (upper_of new.layers) (lowers_of new.layers) (after s c k) stands.layers d j q at
+    (files q j (live-named (upper_of old) s.tree d j q live (sym (paths q) ∙ at)))
   where
     stands : IsStateOf new (after s c k)
     stands = (subst (λ o. Serves o s c k r new) fine served).1
 
 -- a call that takes a name away
-pub removes-named : (old new : Layers) (s : State) (c : ℕ) (p : Path) (k : Call) (lowers : List Layer) → Loses (layer_of old.upper) (layer_of new.upper) lowers p → Removes (layer_of new.upper) (lowers_of new) s c p k → KeepsNamed s c old new k
+pub removes-named : (old new : Layers) (s : State) (c : ℕ) (p : Path) (k : Call) (lowers : List Layer) → Loses (upper_of old) (upper_of new) lowers p → Removes (upper_of new) (lowers_of new) s c p k → KeepsNamed s c old new k
 removes-named old new s c p k lowers loses x d j q live at =
-    named-live (layer_of new.upper) (lowers_of new) (after s c k) x.mounts d j q at
-    (loses-files (layer_of old.upper) (layer_of new.upper) lowers p loses q j away (live-named (layer_of old.upper) s.tree d j q live (sym (x.stays q away) ∙ at)))
+    named-live (upper_of new) (lowers_of new) (after s c k) x.mounts d j q at
+    (loses-files (upper_of old) (upper_of new) lowers p loses q j away (live-named (upper_of old) s.tree d j q live (sym (x.stays q away) ∙ at)))
   where
     away : q ≢ p
     away e = let z : None ≡ Some d = sym x.gone ∙ ap (node_at (after s c k).tree) (sym e) ∙ at in cc
@@ -231,10 +232,10 @@ refused-named old s c k e new answers served fine =
     absurd (false≢true (sym answers ∙ sym (ap is_refused (subst (λ o. Serves o s c k (reply.Refused e) new) fine served).0)))
 
 -- a call through which live files stay so
-pub keeps-named : (old new : Layers) (k : Call) → KeepsLive old new k → (s : State) → IsMountOf (layer_of old.upper) (lowers_of old) s → (c : ℕ) → KeepsNamed s c old new k
+pub keeps-named : (old new : Layers) (k : Call) → KeepsLive old new k → (s : State) → IsMountOf (upper_of old) (lowers_of old) s → (c : ℕ) → KeepsNamed s c old new k
 keeps-named old new k keeps s m c d j q live at = keeps s m c d j live
 
 -- a call that changes neither the layers nor the tree
 pub reads-named : (old new : Layers) (s : State) (c : ℕ) (k : Call) → new ≡ old → (after s c k).tree ≡ s.tree → KeepsNamed s c old new k
 reads-named old new s c k same tree d j q live at =
-    subst (λ (l : Layers). IsLive (layer_of l.upper) (after s c k).tree d j) (sym same) (subst (λ (t : Tree). IsLive (layer_of old.upper) t d j) (sym tree) live)
+    subst (λ (l : Layers). IsLive (upper_of l) (after s c k).tree d j) (sym same) (subst (λ (t : Tree). IsLive (upper_of old) t d j) (sym tree) live)

@@ -9,9 +9,9 @@ use Rattle.ov_base.specs.declared.errno.Errno.TheVariants.{EINVAL}
 use Rattle.plain_model.specs.Machine.{State, lowest_free}
 use Rattle.plain_model.specs.Refusals.{bad_flags, bad_mode, refusal, when}
 use Rattle.plain_model.specs.Layers.{Path, Object, Layer, held, holds_directory, Shown, shows}
-use Rattle.layer_tree.specs.Tree.{layer_of, IsHeldTogether}
+use Rattle.layer_tree.specs.Tree.{IsHeldTogether}
 use Rattle.merged_lookup.specs.declared.layers.Layers.{Layers}
-use Rattle.merged_lookup.specs.Merged.{layers_of, lowers_of}
+use Rattle.merged_lookup.specs.Merged.{upper_of, layers_of, lowers_of}
 use Rattle.mount_laws.specs.Looks.{parents_fault}
 use Rattle.mount_laws.specs.Opening.{opening_fault, shown_fault}
 use Rattle.mount_laws.specs.Renaming.{is_one}
@@ -52,14 +52,14 @@ module _ (old new : Layers) where
   moved-path a b x (inr (inl e)) = inl e
   moved-path a b x (inr (inr h)) = inr (inr h)
 
-  renames-path : (a b p : Path) (second : Bool) → is_one (layer_of old.upper) a b ≡ false → Some (cond second b a) ≡ Some p → GainsParents old new p → KeepsRenamed old new a b
+  renames-path : (a b p : Path) (second : Bool) → is_one (upper_of old) a b ≡ false → Some (cond second b a) ≡ Some p → GainsParents old new p → KeepsRenamed old new a b
   renames-path a b p second apart at g = record {
     one = λ h. absurd (false≢true (sym apart ∙ h));
     paths = inr (λ x. moved-path a b x (either-path a b p second at g x));
   }
 
   -- PLACING A LACKING PARENT OF A CALL KEEPS THE LAYERS AS THE CALL DOES
-  pub place-keeps : (k : Call) (second : Bool) (count : ℕ) (p : Path) → lack_of (layer_of old.upper) (lowers_of old) k ≡ lack.Parent second count →
+  pub place-keeps : (k : Call) (second : Bool) (count : ℕ) (p : Path) → lack_of (upper_of old) (lowers_of old) k ≡ lack.Parent second count →
       path_of_call k second ≡ Some p → OpensToChange (layers_of old) k → GainsParents old new p → KeepsLayers k old new
   place-keeps (call.Stat a) second count p is at opens g = cc
   place-keeps (call.Readlink a) second count p is at opens g = cc
@@ -85,7 +85,7 @@ module _ (old new : Layers) where
       record { others = λ x off away. either-path a b p second at g x; ends = inl (either-path a b p second at g) }
   place-keeps (call.Rename a b) second count p is at opens g =
       renames-path a b p second
-      (apart-lacking (layer_of old.upper) a b (is_one (layer_of old.upper) a b) (low_file (shows 0 (layers_of old) a)) second count is) at g
+      (apart-lacking (upper_of old) a b (is_one (upper_of old) a b) (low_file (shows 0 (layers_of old) a)) second count is) at g
   place-keeps (call.Open a f mode) true count p is at opens g = cc
   place-keeps (call.Open a f mode) false count p is at opens g =
       subst (λ b. cond b (BringsNone old new a) (new ≡ old)) (sym opens) (none-path a p at g)

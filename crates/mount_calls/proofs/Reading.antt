@@ -1,5 +1,6 @@
 -- What the calls that read user attributes answer.
 use Rattle.std.proofs.Common.{◌≡◌, ℕ, true, List, None, Some, Result, IfOk, sym, ap, ◌∙◌, map, arith}
+use Rattle.merged_lookup.specs.Merged.{upper_of}
 use Rattle.mount_calls.proofs.Words.{AllocError, Call, Errno, layer_of, lowers_of, Path, refusal, Reply, shows, State}
 use Rattle.ov_base.specs.declared.call.Call.TheVariants as call
 use Rattle.ov_base.specs.declared.reply.Reply.TheVariants as reply
@@ -13,10 +14,10 @@ use Rattle.mount_calls.proofs.Stating.{the_layers}
 
 module _ (m : Mount) (s : State) (st : IsStateOf m s) (c : ℕ) (p : Path) where
   gets : (n : List ℕ) → GetsAttribute (the_layers m) s c p n
-  gets = law_of_get_attribute (layer_of m.layers.upper) (lowers_of m.layers) s st.layers c p
+  gets = law_of_get_attribute (upper_of m.layers) (lowers_of m.layers) s st.layers c p
 
   lists : ListsAttributes (the_layers m) s c p
-  lists = law_of_list_attributes (layer_of m.layers.upper) (lowers_of m.layers) s st.layers c p
+  lists = law_of_list_attributes (upper_of m.layers) (lowers_of m.layers) s st.layers c p
 
   -- a get of a user attribute that is set
   pub get-done : (n value : List ℕ) → get_fault (the_layers m) p n ≡ None → value_of (shown_user (shows 0 (the_layers m) p)) n ≡ Some value → Serves (refusal s c (call.GetAttribute p n)) s c (call.GetAttribute p n) (reply.Value value) m

@@ -5,6 +5,7 @@ use mathlib.Core.Logic.{∥∥₁_elim, ∥∥₁_map}
 use mathlib.Core.Bool.{Bool-set}
 use mathlib.Core.HLevel.{⊥_prop}
 use Rattle.std.specs.BTreeMap.{get}
+use Rattle.merged_lookup.specs.Merged.{upper_of}
 use Rattle.mount_calls.proofs.Words.{after, AreLayers, At, Attributes, base, Errno, Handle, handle_of, is_directory, Layer, layer_of, Layers, lowers_of, nat_cmp, node_at, node_of, OpenDirectory, or_else, Path, refusal, shows, State, StaysMount, Table, Tree, when}
 use Rattle.ov_base.specs.declared.call.Call.TheVariants as call
 use Rattle.ov_base.specs.declared.errno.Errno.TheVariants.{EBUSY, ENOTDIR, ENOTEMPTY}
@@ -134,7 +135,7 @@ module _ (m : Mount) (s : State) (st : IsStateOf m s) where
         (has : (a : Attributes) → replaced ≡ Some a → HasAttributes (the_layers m) q a)
         (clients : Clients) (follows : RenamesOpen m.clients clients p q replaced) where
       abbrev V : Layer
-      V = layer_of new.upper
+      V = upper_of new
 
       abbrev u : Tree
       u = (after s c (call.Rename p q)).tree

@@ -1,5 +1,6 @@
 -- A mount stands for the state still where an open file gets other bytes.
 use Rattle.std.proofs.Common.{◌≡◌, ◌↔◌, ℕ, true, List, ◌∷◌, refl, sym, subst, ◌⊎◌, arith}
+use Rattle.merged_lookup.specs.Merged.{upper_of}
 use Rattle.mount_calls.proofs.Words.{AreLayers, cases_eq, Dentries, Handle, IsLive, IsMountOf, Layer, layer_of, Layers, lowers_of, NodeId, OpenDirectory, rewritten, State, StaysLayers, Tree}
 use Rattle.mount_laws.specs.OpenFiles.{Rewrites}
 use Rattle.mount_laws.proofs.Written.{law_of_written}
@@ -43,10 +44,10 @@ state-rewritten m s st new k d bytes on keeps sets =
     })
   where
     U : Layer
-    U = layer_of m.layers.upper
+    U = upper_of m.layers
 
     V : Layer
-    V = layer_of new.upper
+    V = upper_of new
 
     lowers : List Layer
     lowers = lowers_of m.layers

@@ -1,5 +1,6 @@
 -- Seeks: of an open file to a place, and of an open directory to its start.
 use Rattle.std.proofs.Common.{◌≡◌, ℕ, ℤ, pos, nat_abs, ◌+ℤ◌, int_lt, Bool, cond, List, Option, None, Some, Result, Ok, Err, refl, sym, ap, ◌∙◌, subst, length, nat_eq, nat_lt, arith}
+use Rattle.merged_lookup.specs.Merged.{upper_of}
 use Rattle.mount_calls.proofs.Words.{ChangesSlot, Directory, Errno, File, file_in, FileSource, Handle, handle_of, Inode, layer_of, Layers, lowers_of, OpenDirectory, OpenFile, or_else, refusal, Reply, State, when, with_handle, with_listing, with_place}
 use Rattle.ov_base.specs.declared.call.Call.TheVariants as call
 use Rattle.ov_base.specs.declared.errno.Errno.TheVariants as errno
@@ -26,12 +27,12 @@ use Rattle.mount_calls.proofs.Stating.{the_lowers, the_upper}
 
 -- these are the bytes of an open file
 abbrev pub AreBytes : Layers → FileSource → List ℕ → Type 0
-AreBytes l source bytes = (i : Inode) → source_inode (layer_of l.upper) (lowers_of l) source ≡ Some i → bytes ≡ bytes_of_inode i
+AreBytes l source bytes = (i : Inode) → source_inode (upper_of l) (lowers_of l) source ≡ Some i → bytes ≡ bytes_of_inode i
 
 -- they are what a handle on it reads
-pub bytes-read : (l : Layers) (s : State) (f : OpenFile) (h : Handle) (bytes : List ℕ) → IsFile (layer_of l.upper) (lowers_of l) s.tree f h → AreBytes l f.source bytes → laws.seen s h ≡ bytes
+pub bytes-read : (l : Layers) (s : State) (f : OpenFile) (h : Handle) (bytes : List ℕ) → IsFile (upper_of l) (lowers_of l) s.tree f h → AreBytes l f.source bytes → laws.seen s h ≡ bytes
 bytes-read l s f h bytes file are =
-    let sees : Sees (layer_of l.upper) (lowers_of l) s.tree f h = file-sees (layer_of l.upper) (lowers_of l) s.tree f h file in
+    let sees : Sees (upper_of l) (lowers_of l) s.tree f h = file-sees (upper_of l) (lowers_of l) s.tree f h file in
     sees.seen ∙ sym (are _ sees.inode)
 
 -- where a seek leads that counts from a base, or why it is refused

@@ -5,13 +5,13 @@ use Rattle.ov_base.specs.declared.call.Call.{Call}
 use Rattle.ov_base.specs.declared.call.Call.TheVariants as call
 use Rattle.ov_base.specs.declared.errno.Errno.{Errno}
 use Rattle.plain_model.specs.Layers.{Path, shows}
-use Rattle.layer_tree.specs.Tree.{layer_of, IsHeldTogether}
+use Rattle.layer_tree.specs.Tree.{IsHeldTogether}
 use Rattle.merged_lookup.specs.declared.layers.Layers.{Layers}
 use Rattle.merged_lookup.specs.declared.found.Topmost.{Topmost}
 use Rattle.merged_lookup.specs.declared.found.Topmost.TheVariants as topmost
 use Rattle.merged_lookup.specs.declared.stack.Place.{Place}
 use Rattle.merged_lookup.specs.declared.stack.Stack.{Stack}
-use Rattle.merged_lookup.specs.Merged.{layers_of, lowers_of, parent, top_of, IsStackOf, IsTopmost}
+use Rattle.merged_lookup.specs.Merged.{upper_of, layers_of, lowers_of, parent, top_of, IsStackOf, IsTopmost}
 use Rattle.mount_laws.specs.Renaming.{is_one}
 use Rattle.copy_up.proofs.Keeping.{held-on-top}
 use Rattle.work_dir.specs.declared.next.Lack.TheVariants as lack
@@ -26,12 +26,12 @@ pub looks-of : (l : Layers) (k j : Call) (saw : Looks) → k ≡ j → AreLooks 
 looks-of l k j saw e a = subst (λ z. AreLooks l z saw) e a
 
 -- a look that saw a directory of the upper on the way: the upper has each parent
-pub saw-parents : (l : Layers) (p : Path) (look : Look) (directory : Stack) (top : Option Topmost) → IsHeldTogether (layer_of l.upper) → IsLook l p look →
-    look.shown ≡ Ok (directory, top) → (top_of directory.places.items).layer ≡ 0 → lacking (layer_of l.upper) p ≡ None
+pub saw-parents : (l : Layers) (p : Path) (look : Look) (directory : Stack) (top : Option Topmost) → IsHeldTogether (upper_of l) → IsLook l p look →
+    look.shown ≡ Ok (directory, top) → (top_of directory.places.items).layer ≡ 0 → lacking (upper_of l) p ≡ None
 saw-parents l p look directory top together saw is upper =
     let at : IsStackOf l (parent p) directory =
     subst (λ (r : Result (Stack × Option Topmost) Errno). IfOk r (λ seen. IsStackOf l (parent p) seen.0)) is saw.directory in
-    held-to (layer_of l.upper) together (parent p) (held-on-top l (parent p) directory at.places upper)
+    held-to (upper_of l) together (parent p) (held-on-top l (parent p) directory at.places upper)
 
 -- and what it saw as the topmost object is shown
 pub saw-top : (l : Layers) (p : Path) (look : Look) (directory : Stack) (top : Option Topmost) → IsLook l p look → look.shown ≡ Ok (directory, top) → IsTopmost l p top
@@ -45,24 +45,24 @@ pub no-lower-directory : (l : Layers) (p : Path) (d : Place) → IsTopmost l p (
 no-lower-directory l p d at = ap low_file at.1
 
 -- A CALL LACKS NOTHING WHOSE LOOKS SAW THAT THE UPPER HAS ALL
-pub nothing-seen : (l : Layers) (k : Call) → HasAllOf l (looked_paths k) → looked_paths k ≢ [] → lack_of (layer_of l.upper) (lowers_of l) k ≡ lack.Nothing
-nothing-seen l (call.Chmod p mode) h some = nothing-one (layer_of l.upper) p (low_file (shows 0 (layers_of l) p)) h.parents h.own
-nothing-seen l (call.Chown p uid gid) h some = nothing-one (layer_of l.upper) p (low_file (shows 0 (layers_of l) p)) h.parents h.own
-nothing-seen l (call.SetAttribute p n v) h some = nothing-one (layer_of l.upper) p (low_file (shows 0 (layers_of l) p)) h.parents h.own
-nothing-seen l (call.DeleteAttribute p n) h some = nothing-one (layer_of l.upper) p (low_file (shows 0 (layers_of l) p)) h.parents h.own
+pub nothing-seen : (l : Layers) (k : Call) → HasAllOf l (looked_paths k) → looked_paths k ≢ [] → lack_of (upper_of l) (lowers_of l) k ≡ lack.Nothing
+nothing-seen l (call.Chmod p mode) h some = nothing-one (upper_of l) p (low_file (shows 0 (layers_of l) p)) h.parents h.own
+nothing-seen l (call.Chown p uid gid) h some = nothing-one (upper_of l) p (low_file (shows 0 (layers_of l) p)) h.parents h.own
+nothing-seen l (call.SetAttribute p n v) h some = nothing-one (upper_of l) p (low_file (shows 0 (layers_of l) p)) h.parents h.own
+nothing-seen l (call.DeleteAttribute p n) h some = nothing-one (upper_of l) p (low_file (shows 0 (layers_of l) p)) h.parents h.own
 nothing-seen l (call.Open p f mode) h some =
-    nothing-opened (layer_of l.upper) p f.writes (is_none (shows 0 (layers_of l) p)) (shows 0 (layers_of l) p) h.parents h.own
-nothing-seen l (call.Hardlink p q) h some = nothing-both (layer_of l.upper) p q (low_file (shows 0 (layers_of l) p)) h.0.parents h.1 h.0.own
+    nothing-opened (upper_of l) p f.writes (is_none (shows 0 (layers_of l) p)) (shows 0 (layers_of l) p) h.parents h.own
+nothing-seen l (call.Hardlink p q) h some = nothing-both (upper_of l) p q (low_file (shows 0 (layers_of l) p)) h.0.parents h.1 h.0.own
 nothing-seen l (call.Rename p q) h some =
-    nothing-moved (layer_of l.upper) p q (is_one (layer_of l.upper) p q) (low_file (shows 0 (layers_of l) p)) h.0.parents h.1 h.0.own
+    nothing-moved (upper_of l) p q (is_one (upper_of l) p q) (low_file (shows 0 (layers_of l) p)) h.0.parents h.1 h.0.own
 nothing-seen l (call.Stat p) h some = absurd (some refl)
 nothing-seen l (call.Readlink p) h some = absurd (some refl)
 nothing-seen l (call.GetAttribute p n) h some = absurd (some refl)
 nothing-seen l (call.ListAttributes p) h some = absurd (some refl)
-nothing-seen l (call.Mkdir p mode) h some = nothing-one (layer_of l.upper) p None h.parents refl
-nothing-seen l (call.Symlink target p) h some = nothing-one (layer_of l.upper) p None h.parents refl
-nothing-seen l (call.Unlink p) h some = nothing-one (layer_of l.upper) p None h.parents refl
-nothing-seen l (call.Rmdir p) h some = nothing-one (layer_of l.upper) p None h.parents refl
+nothing-seen l (call.Mkdir p mode) h some = nothing-one (upper_of l) p None h.parents refl
+nothing-seen l (call.Symlink target p) h some = nothing-one (upper_of l) p None h.parents refl
+nothing-seen l (call.Unlink p) h some = nothing-one (upper_of l) p None h.parents refl
+nothing-seen l (call.Rmdir p) h some = nothing-one (upper_of l) p None h.parents refl
 nothing-seen l (call.Read d n) h some = absurd (some refl)
 nothing-seen l (call.Write d bytes) h some = absurd (some refl)
 nothing-seen l (call.Seek d offset whence) h some = absurd (some refl)
@@ -105,14 +105,14 @@ IsOfName k =
     ⊎ ((p : Path) × (k ≡ call.Rmdir p))))
 
 -- IT LACKS NOTHING WHERE ITS LOOK SAW THAT THE UPPER HAS EACH PARENT
-module _ (l : Layers) (saw : Looks) (parents : (p : Path) → SawEach l (p ∷ []) saw → lacking (layer_of l.upper) p ≡ None) where
-  nothing-named : (k j : Call) (p : Path) → k ≡ j → looked_paths j ≡ p ∷ [] → lack_of (layer_of l.upper) (lowers_of l) j ≡ lack_among (layer_of l.upper) false (p ∷ []) None →
-      AreLooks l k saw → lack_of (layer_of l.upper) (lowers_of l) k ≡ lack.Nothing
+module _ (l : Layers) (saw : Looks) (parents : (p : Path) → SawEach l (p ∷ []) saw → lacking (upper_of l) p ≡ None) where
+  nothing-named : (k j : Call) (p : Path) → k ≡ j → looked_paths j ≡ p ∷ [] → lack_of (upper_of l) (lowers_of l) j ≡ lack_among (upper_of l) false (p ∷ []) None →
+      AreLooks l k saw → lack_of (upper_of l) (lowers_of l) k ≡ lack.Nothing
   nothing-named k j p is path same looked =
       let at : SawEach l (p ∷ []) saw = subst (λ ps. SawEach l ps saw) (ap looked_paths is ∙ path) looked in
-      ap (λ z. lack_of (layer_of l.upper) (lowers_of l) z) is ∙ same ∙ nothing-one (layer_of l.upper) p None (parents p at) refl
+      ap (λ z. lack_of (upper_of l) (lowers_of l) z) is ∙ same ∙ nothing-one (upper_of l) p None (parents p at) refl
 
-  pub nothing-of-name : (k : Call) → IsOfName k → AreLooks l k saw → lack_of (layer_of l.upper) (lowers_of l) k ≡ lack.Nothing
+  pub nothing-of-name : (k : Call) → IsOfName k → AreLooks l k saw → lack_of (upper_of l) (lowers_of l) k ≡ lack.Nothing
   nothing-of-name k (inl h) looked = nothing-named k (call.Mkdir h.0 h.1) h.0 h.2 refl refl looked
   nothing-of-name k (inr (inl h)) looked = nothing-named k (call.Symlink h.0 h.1) h.1 h.2 refl refl looked
   nothing-of-name k (inr (inr (inl h))) looked = nothing-named k (call.Unlink h.0) h.0 h.1 refl refl looked

@@ -1,5 +1,6 @@
 -- A mount stands for a state still when its clients, or its layers, change so.
 use Rattle.std.proofs.Common.{◌≡◌, ℕ, List, Some, refl, ap, ◌∙◌, arith}
+use Rattle.merged_lookup.specs.Merged.{upper_of}
 use Rattle.mount_calls.proofs.Words.{Handle, Layer, layer_of, Layers, layers_of, lowers_of, State, Table}
 use Rattle.open_handles.specs.declared.handle.Handle as handles
 use Rattle.mount_calls.specs.declared.clients.Clients.{Clients}
@@ -11,7 +12,7 @@ use Rattle.mount_calls.proofs.Serving.{SameClients, same-clients, tables-same, p
 
 -- the layers of a mount: the upper, the lower ones, and all of them
 abbrev pub the_upper : Mount → Layer
-the_upper m = layer_of m.layers.upper
+the_upper m = upper_of m.layers
 
 abbrev pub the_lowers : Mount → List Layer
 the_lowers m = lowers_of m.layers
@@ -21,7 +22,7 @@ the_layers m = layers_of m.layers
 
 -- what descriptors lead to in a mount
 abbrev pub Alike : Layers → State → Clients → handles.Handle → Handle → Type 0
-Alike l s clients = IsOpenAs (layer_of l.upper) (lowers_of l) s.tree clients.directories
+Alike l s clients = IsOpenAs (upper_of l) (lowers_of l) s.tree clients.directories
 
 module _ (m : Mount) (s : State) (st : IsStateOf m s) where
   -- the state with other tables, of a mount of the same layers
@@ -33,7 +34,7 @@ module _ (m : Mount) (s : State) (st : IsStateOf m s) where
   keep-same new same =
       with-tables (record m { clients = new }) s.tables refl refl same.next
       (tables-same (Alike m.layers s m.clients) m.clients s.tables st.tables new (Alike m.layers s new) same
-      (λ c d o h on at is. placed (layer_of m.layers.upper) (lowers_of m.layers) s.tree m.clients.directories new.directories o h (λ e l f. same.places c d e l (on ∙ ap Some f)) is))
+      (λ c d o h on at is. placed (upper_of m.layers) (lowers_of m.layers) s.tree m.clients.directories new.directories o h (λ e l f. same.places c d e l (on ∙ ap Some f)) is))
       (one-fewer m.clients new s.tables s.tables
       (λ k d x. open-before m.clients new s.tables s.tables k d x (same.opened x.client x.descriptor) refl)
       st.one)

@@ -6,9 +6,8 @@ use Rattle.ov_base.specs.declared.call.Call.TheVariants as call
 use Rattle.ov_base.specs.declared.errno.Errno.{Errno}
 use Rattle.plain_model.specs.Layers.{Path}
 use Rattle.plain_model.specs.Machine.{State}
-use Rattle.layer_tree.specs.Tree.{layer_of}
 use Rattle.merged_lookup.specs.declared.layers.Layers.{Layers}
-use Rattle.merged_lookup.specs.Merged.{layers_of, lowers_of}
+use Rattle.merged_lookup.specs.Merged.{upper_of, layers_of, lowers_of}
 use Rattle.mount_laws.specs.Looks.{IsMountOf}
 use Rattle.mount_laws.specs.Removals.{Removes, unlink_fault}
 use Rattle.mount_laws.proofs.Refusing.{law_of_unlink}
@@ -29,7 +28,7 @@ use Rattle.mount_calls.proofs.Named.{removes-named}
 module _ (m : Mount) (new : Layers) (p : Path) where
   -- the machine's step, where the name went
   abbrev RemovalSteps : Type 0
-  RemovalSteps = (s : State) → IsMountOf (layer_of m.layers.upper) (lowers_of m.layers) s → (c : ℕ) → Removes (layer_of new.upper) (lowers_of new) s c p (call.Unlink p)
+  RemovalSteps = (s : State) → IsMountOf (upper_of m.layers) (lowers_of m.layers) s → (c : ℕ) → Removes (upper_of new) (lowers_of new) s c p (call.Unlink p)
 
   -- it is made, whatever came of it
   pub unlink-made : (outcome : Result Object Errno) (c : ℕ) → AreCounted m.clients →
@@ -44,7 +43,7 @@ module _ (m : Mount) (new : Layers) (p : Path) where
       around takes.lowers thin
   unlink-made (Err e) c counted fault same allowed takes steps live around thin =
       makes-unmade c (call.Unlink p) m new e (λ s. refl)
-      (λ s st. law_of_unlink (layer_of m.layers.upper) (lowers_of m.layers) s st.layers c p ∙ fault) same
+      (λ s st. law_of_unlink (upper_of m.layers) (lowers_of m.layers) s st.layers c p ∙ fault) same
 
 -- where memory ran out for an outcome, it did for the reply
 pub outcome-err : {A : Type 0} (r : Result (Result A Errno) AllocError) → IsErr r → IsErr (outcome_result r)

@@ -1,5 +1,6 @@
 -- Writes and truncations of open files.
 use Rattle.std.proofs.Common.{arith, ◌≡◌, ◌≢◌, ℕ, ◌+◌, ◌-◌, true, false, min, not, ◌&&◌, List, [], ◌∷◌, Option, None, Some, Result, Ok, Err, refl, sym, ap, ◌∙◌, subst, is_none, is_some, length, nat_eq, nat_lt}
+use Rattle.merged_lookup.specs.Merged.{upper_of}
 use Rattle.mount_calls.proofs.Words.{AllocError, bytes_at, change, ChangesSlot, eqb-true, Errno, false≢true, File, file_bytes, Handle, handle_of, Inode, IsLive, Layer, layer_of, Layers, Leaf, lowers_of, Node, NodeId, OnErr, OpenFile, option_and_then, or_else, over_node, Own, put, refusal, Reply, rewritten, sized, State, StaysLayers, StaysMount, Tree, Upper, when, with_bytes, with_handle, with_place}
 use Rattle.std.proofs.lemmas.List.{length-take, nil_from_length}
 use Rattle.ov_base.specs.declared.bytes.Content.TheVariants as content
@@ -32,16 +33,16 @@ use Rattle.mount_calls.proofs.Slots.{file-open, by-opened, place-moved}
 use Rattle.mount_calls.proofs.Stating.{the_lowers, the_upper}
 
 -- where every path holds what it held, no whiteout is needless that was needed
-thin-held : (old new : Layers) → new.lowers ≡ old.lowers → SameObjects (layer_of old.upper) (layer_of new.upper) → StaysThin old new
+thin-held : (old new : Layers) → new.lowers ≡ old.lowers → SameObjects (upper_of old) (upper_of new) → StaysThin old new
 thin-held old new low same thin =
     subst (IsThin V) (sym (lowers-same old new low))
     (λ n p is. ap is_some (under-agree U V (lowers_of old) n p (agree-where U V (λ q. Unit {0}) (λ name q h. tt) (λ q h. same q) p tt)) ∙ thin n p (sym (same (n ∷ p)) ∙ is))
   where
     U : Layer
-    U = layer_of old.upper
+    U = upper_of old
 
     V : Layer
-    V = layer_of new.upper
+    V = upper_of new
 
 -- a write to the upper that leaves what each path holds leaves it sound, and where it runs out of
 -- memory, the mount of each state
@@ -49,10 +50,10 @@ pub upper-written : (l : Layers) (u new : LayerTree) (r : Result (Unit {0}) Allo
 upper-written l u new r is objects keeps same =
     (record { layers = then-layers l l (record l { upper = new }) (λ h. h) refl still; thin = thin-held l (record l { upper = new }) refl held }, by r same)
   where
-    held : SameObjects (layer_of l.upper) (layer_of new)
+    held : SameObjects (upper_of l) (layer_of new)
     held = subst (λ (z : LayerTree). SameObjects (layer_of z) (layer_of new)) (sym is) objects
 
-    still : IsLayer (layer_of l.upper) → IsLayer (layer_of new)
+    still : IsLayer (upper_of l) → IsLayer (layer_of new)
     still = subst (λ (z : LayerTree). IsLayer (layer_of z) → IsLayer (layer_of new)) (sym is) keeps
 
     by : (x : Result (Unit {0}) AllocError) → OnErr x (SameTree u new) → OnErr x (StaysMount l (record l { upper = new }))
@@ -104,10 +105,10 @@ change-bytes t d f x bytes is same = ap (put t d) (ap (over_node f) is ∙ ap So
 record IsWriting (m : Mount) (s : State) (c d : ℕ) (f : OpenFile) (h : Handle) : Type 0 where
   opened : opened_by m.clients c d ≡ Some (File f)
   on : handle_of s.tables c d ≡ Some h
-  file : IsFile (layer_of m.layers.upper) (lowers_of m.layers) s.tree f h
+  file : IsFile (upper_of m.layers) (lowers_of m.layers) s.tree f h
   key : ℕ
   source : f.source ≡ Upper key
-  live : IsLive (layer_of m.layers.upper) s.tree h.node key
+  live : IsLive (upper_of m.layers) s.tree h.node key
 
 module _ (m : Mount) (s : State) (st : IsStateOf m s) (c d : ℕ) where
   -- a file that has a key to write to is of the upper, and live

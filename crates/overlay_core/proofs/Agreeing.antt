@@ -19,7 +19,7 @@ use Rattle.plain_model.proofs.Merged.{law_of_paths}
 use Rattle.plain_model.proofs.Opened.{law_of_merge}
 use Rattle.layer_tree.specs.Tree.{layer_of}
 use Rattle.merged_lookup.specs.declared.layers.Layers.{Layers}
-use Rattle.merged_lookup.specs.Merged.{layers_of, lowers_of}
+use Rattle.merged_lookup.specs.Merged.{upper_of, layers_of, lowers_of}
 use Rattle.notice_laws.specs.Notified.{Notified}
 use Rattle.mount_calls.specs.declared.mount.Mount.{Mount}
 use Rattle.overlay_core.specs.Watching.{BeginsUntil, BeginsWith, Goes, HasState, Stays}
@@ -27,12 +27,12 @@ use Rattle.overlay_core.specs.Watching.{BeginsUntil, BeginsWith, Goes, HasState,
 -- layers have a merge, so some state agrees with their mount
 pub has-state : (m : Mount) (k : Notified) (layers : Layers) (options : MountOptions) → m.layers ≡ layers → AreLayers (layers_of layers) → BeginsWith m.layers options m k → HasState m k
 has-state m k layers options same are begins =
-    let U : Layer = layer_of layers.upper in
+    let U : Layer = upper_of layers in
     let lowers : List Layer = lowers_of layers in
     let paths = law_of_paths (layers_of layers) are in
     let t : Tree = merge_tree paths.0 U lowers in
     let merge : IsMerge U lowers t = law_of_merge U lowers are paths.0 paths.1 in
-    (opening t options, begins t (subst (λ (l : Layers). IsMerge (layer_of l.upper) (lowers_of l) t) (sym same) merge))
+    (opening t options, begins t (subst (λ (l : Layers). IsMerge (upper_of l) (lowers_of l) t) (sym same) merge))
 
 -- what a client does leaves some state
 pub goes-on : (shows : Rule) (old new : Mount) (k l : Notified) (c : ℕ) (deed : Deed) → ∥ HasState old k ∥₁ → Goes shows old k c deed new l → ∥ HasState new l ∥₁
@@ -49,7 +49,7 @@ are-layers m k has = ∥∥₁_map has (λ x. x.1.stands.layers.layers)
 -- as long as nothing is finished and the layers are the same, the mount begins as before
 pub begins-on : (finished : ℕ) (options : MountOptions) (old new : Mount) (k l : Notified) → ∥ BeginsUntil finished options old k ∥₁ → new.layers ≡ old.layers → Stays old k new l → ∥ BeginsUntil finished options new l ∥₁
 begins-on finished options old new k l has same stays =
-    ∥∥₁_map has (λ begins none t merge. stays (opening t options) (begins none t (subst (λ (z : Layers). IsMerge (layer_of z.upper) (lowers_of z) t) same merge)))
+    ∥∥₁_map has (λ begins none t merge. stays (opening t options) (begins none t (subst (λ (z : Layers). IsMerge (upper_of z) (lowers_of z) t) same merge)))
 
 -- where something was finished, nothing is told of the beginning
 pub has-begun : (finished : ℕ) (options : MountOptions) (m : Mount) (k : Notified) → 0 < finished → ∥ BeginsUntil finished options m k ∥₁

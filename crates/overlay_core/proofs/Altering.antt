@@ -1,10 +1,9 @@
 -- A call on attributes that a mount made of what it had seen at a path, and the key under which that is in the upper then.
 use Rattle.std.proofs.Common.{◌≡◌, ℕ, Bool, Some, refl, sym, ap, ◌∙◌}
 use Rattle.plain_model.specs.Layers.{Path, held}
-use Rattle.layer_tree.specs.Tree.{layer_of}
 use Rattle.merged_lookup.specs.declared.layers.Layers.{Layers}
 use Rattle.merged_lookup.specs.declared.stack.Place.{Place}
-use Rattle.merged_lookup.specs.Merged.{lowers_of}
+use Rattle.merged_lookup.specs.Merged.{upper_of, lowers_of}
 use Rattle.copy_up.specs.Showing.{number_of}
 use Rattle.copy_up.proofs.OtherAttributes.{upper-named}
 use Rattle.notice_laws.specs.declared.object.Object.TheVariants as object
@@ -22,7 +21,7 @@ asked-alters p (asks.Set name value) = refl
 asked-alters p (asks.Delete name) = refl
 
 -- a file of the upper that is shown at a path is under the key of what the upper holds there
-pub held-key : (l : Layers) (p : Path) (key : ℕ) → number_of (held (layer_of l.upper) p) ≡ Some key → (j : ℕ) (last : Bool) → IsObject (layer_of l.upper) (lowers_of l) p (object.Upper j last) → key ≡ j
+pub held-key : (l : Layers) (p : Path) (key : ℕ) → number_of (held (upper_of l) p) ≡ Some key → (j : ℕ) (last : Bool) → IsObject (upper_of l) (lowers_of l) p (object.Upper j last) → key ≡ j
 held-key l p key there j last is =
     let d : Place = record { layer = 0; key = j } in
     let named = upper-named l p d (Some is.inode) refl is.shown in

@@ -21,9 +21,8 @@ use Rattle.plain_model.specs.Settling as settling
 use Rattle.plain_model.specs.Runs.{Attached, Does, joined}
 use Rattle.plain_model.proofs.Clients.{attached-is, hearers_of}
 use Rattle.plain_model.proofs.Settled.{does-settles, law_of_settled_opening}
-use Rattle.layer_tree.specs.Tree.{layer_of}
 use Rattle.merged_lookup.specs.declared.layers.Layers.{Layers}
-use Rattle.merged_lookup.specs.Merged.{layers_of, lowers_of}
+use Rattle.merged_lookup.specs.Merged.{upper_of, layers_of, lowers_of}
 use Rattle.mount_laws.proofs.OneName.{law_of_one_name_begun}
 use Rattle.open_handles.specs.Tracked.{Tracked, spot_of}
 use Rattle.open_handles.specs.TrackedHandles.{is_tracked}
@@ -40,7 +39,7 @@ use Rattle.overlay_core.proofs.Watching.{tracks-same, mount_upper}
 
 -- a mount of layers begins with each of their merges, where nothing is kept for watches
 pub begins-with : (m : Mount) (k : Notified) (layers : Layers) (redirects : Bool) → m.layers ≡ layers → AreLayers (layers_of layers) →
-    ((t : Tree) → AreLayers (layers_of layers) → IsMerge (layer_of layers.upper) (lowers_of layers) t →
+    ((t : Tree) → AreLayers (layers_of layers) → IsMerge (upper_of layers) (lowers_of layers) t →
     IsStateOf m (opening t (record { redirects = redirects; metacopy = false; read_only = false }))) →
     ((n : ℕ) → spot_of k.objects n ≡ None) → k.handles ≡ [] → k.instances ≡ [] → k.renames ≡ 0 →
     BeginsWith layers (record { redirects = redirects; metacopy = false; read_only = false }) m k
@@ -48,8 +47,8 @@ begins-with m k layers redirects same are h none handles instances renames t mer
     let options : MountOptions = record { redirects = redirects; metacopy = false; read_only = false } in
     record {
       stands = h t are merge;
-      settled = law_of_settled_opening (layer_of layers.upper) (lowers_of layers) t options merge;
-      one = law_of_one_name_begun (layer_of layers.upper) (lowers_of layers) t are merge;
+      settled = law_of_settled_opening (upper_of layers) (lowers_of layers) t options merge;
+      one = law_of_one_name_begun (upper_of layers) (lowers_of layers) t are merge;
       tracks = law_of_begun (mount_upper m) t options k none handles instances renames;
     }
 

@@ -9,8 +9,7 @@ use Rattle.plain_model.specs.Layers.{Layer, Path}
 use Rattle.plain_model.specs.Tree.{Branch, Leaf, Node, is_folder, node_at, node_of}
 use Rattle.plain_model.specs.Machine.{Frozen, Handle, Live, State, lowest_free}
 use Rattle.plain_model.specs.Changes.{after, new_handle, opens, view_of, way_of}
-use Rattle.layer_tree.specs.Tree.{layer_of}
-use Rattle.merged_lookup.specs.Merged.{lowers_of}
+use Rattle.merged_lookup.specs.Merged.{upper_of, lowers_of}
 use Rattle.mount_laws.specs.OpenFiles.{IsLive}
 use Rattle.mount_laws.proofs.Handling.{law_of_new_handle}
 use Rattle.mount_laws.proofs.OpenFiles.{law_of_live_one, law_of_live_shown}
@@ -40,7 +39,7 @@ module _ (new : Mount) (s : State) (c : ℕ) (p : Path) (f : OpenFlags) (mode fd
     (here : node_at (after s c (Open p f mode)).tree p ≡ Some (opens (node_at s.tree p) s.serial))
     (sees : view_of f (node_of s.tree (node_at s.tree p)) ≡ Live) where
   abbrev V : Layer
-  V = layer_of new.layers.upper
+  V = upper_of new.layers
 
   abbrev L : List Layer
   L = lowers_of new.layers

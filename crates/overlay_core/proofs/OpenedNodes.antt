@@ -44,7 +44,7 @@ opened-node f y = by f.writes f.truncate y
 pub opened-file : (s : State) (c : ℕ) (p : Path) (f : OpenFlags) (mode : ℕ) → is_none (node_at s.tree p) ≡ false → (d : NodeId) →
     is_file (tree_after s c (Open p f mode) d) ≡ is_file (s.tree d)
 opened-file s c p f mode there d =
-    ap (λ b. is_file ((cond b (made_way s.tree s.serial (way_of s.tree p) (Leaf (File []) (fresh mode) Own 1)) (change (opened f) s.tree (node_at s.tree p))) d)) there
+    ap (λ b. is_file ((cond b (made_way s.tree s.serial (way_of s.tree p) (Leaf (File []) (fresh mode) (Own false) 1)) (change (opened f) s.tree (node_at s.tree p))) d)) there
     ∙ change-fact is_file (opened f) (opened-node f) s.tree (node_at s.tree p) d
 
 -- one for writing touches it
@@ -82,9 +82,9 @@ module _ (U V : Layer) (lowers : List Layer) (s : State) (c : ℕ) (p : Path) (f
   new-here = leads-made.here ∙ ap (λ x. Some (opens x s.serial)) (sym absent)
 
   -- the tree after it
-  tree-made : tree_after s c (Open p f mode) ≡ made_way s.tree s.serial (way_of s.tree p) (Leaf (File []) (fresh mode) Own 1)
+  tree-made : tree_after s c (Open p f mode) ≡ made_way s.tree s.serial (way_of s.tree p) (Leaf (File []) (fresh mode) (Own false) 1)
   tree-made =
-      ap (λ o. cond (is_none o) (made_way s.tree s.serial (way_of s.tree p) (Leaf (File []) (fresh mode) Own 1)) (change (opened f) s.tree o))
+      ap (λ o. cond (is_none o) (made_way s.tree s.serial (way_of s.tree p) (Leaf (File []) (fresh mode) (Own false) 1)) (change (opened f) s.tree o))
       absent
 
   -- the new node is there, and the upper's own
@@ -96,7 +96,7 @@ module _ (U V : Layer) (lowers : List Layer) (s : State) (c : ℕ) (p : Path) (f
   new-file =
       let here = ap (λ (t : Tree). t (New s.serial)) tree-made in
       ap is_file here
-      ∙ way-file s.tree s.serial (way_of s.tree p) (Leaf (File []) (fresh mode) Own 1) (passes.before.kept.unused s.serial (omega arith)) refl
+      ∙ way-file s.tree s.serial (way_of s.tree p) (Leaf (File []) (fresh mode) (Own false) 1) (passes.before.kept.unused s.serial (omega arith)) refl
       (ap is_some (sym here) ∙ new-node.there)
 
   -- so it is shown as a file of the upper

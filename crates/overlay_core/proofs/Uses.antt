@@ -18,8 +18,7 @@ use Rattle.plain_model.specs.Replies.{reply_of}
 use Rattle.plain_model.specs.Runs.{Called}
 use Rattle.plain_model.specs.Subjects.{by_handle}
 use Rattle.plain_model.proofs.Looking.{or-first, or-second, when-not}
-use Rattle.layer_tree.specs.Tree.{layer_of}
-use Rattle.merged_lookup.specs.Merged.{lowers_of}
+use Rattle.merged_lookup.specs.Merged.{upper_of, lowers_of}
 use Rattle.open_handles.specs.declared.handle.Handle as handles
 use Rattle.open_handles.specs.declared.handle.Handle.TheVariants.{Directory, File}
 use Rattle.open_handles.specs.declared.tracked_client.TrackedHandle.{TrackedHandle}
@@ -79,13 +78,13 @@ writer-file : (m : Mount) (s : State) → IsStateOf m s → (c fd : ℕ) → can
 writer-file m s st c fd = by (opened_by m.clients c fd) (handle_of s.tables c fd) (st.tables.slots c fd)
   where
     by : (o : Option handles.Handle) (h : Option Handle) →
-        IsSlot (IsOpenAs (layer_of m.layers.upper) (lowers_of m.layers) s.tree m.clients.directories) o h →
+        IsSlot (IsOpenAs (upper_of m.layers) (lowers_of m.layers) s.tree m.clients.directories) o h →
         can_write h ≡ true → is_folder (handle_node s.tree h) ≡ false
     by None None on writes = absurd (false≢true writes)
     by None (Some h) on writes = absurd on
     by (Some o) None on writes = absurd on
     by (Some (Directory o)) (Some h) on writes = absurd (false≢true (sym (ap (λ (g : Handle). g.writes) on.access) ∙ writes))
-    by (Some (File f)) (Some h) on writes = file-not-folder (layer_of m.layers.upper) (lowers_of m.layers) s.tree f h on
+    by (Some (File f)) (Some h) on writes = file-not-folder (upper_of m.layers) (lowers_of m.layers) s.tree f h on
 
 -- a bit that isn't off is on
 not-off : (b : Bool) → not b ≡ false → b ≡ true

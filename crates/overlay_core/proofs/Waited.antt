@@ -7,8 +7,7 @@ use Rattle.ov_base.specs.declared.call.OpenFlags.{OpenFlags}
 use Rattle.ov_base.specs.declared.errno.Errno.{Errno}
 use Rattle.plain_model.specs.Machine.{State}
 use Rattle.plain_model.specs.Refusals.{refusal}
-use Rattle.layer_tree.specs.Tree.{layer_of}
-use Rattle.merged_lookup.specs.Merged.{lowers_of}
+use Rattle.merged_lookup.specs.Merged.{upper_of, lowers_of}
 use Rattle.work_dir.specs.Beginnings.{Beginning}
 use Rattle.work_dir.specs.NextSteps.{next_of, IsDue, IsPartial}
 use Rattle.work_dir.specs.declared.next.Lack.{Lack}
@@ -39,7 +38,7 @@ module _ (m : Mount) (w : Waiting) (j : Job) (t : Option Beginning) (is : IsFor 
       next_by m j t (refusal s j.client j.call) ≡ Copy
   copies-next told s st =
       let L = lowers_of m.layers in
-      let lack : lack_by m j ≡ File w.source = ap (lack_of (layer_of m.layers.upper) L) is.1 ∙ waits.1 in
+      let lack : lack_by m j ≡ File w.source = ap (lack_of (upper_of m.layers) L) is.1 ∙ waits.1 in
       let none : refusal s j.client j.call ≡ None = ap₂ (refusal s) is.0 is.1 ∙ waits.0 s st in
       ap (λ r. next_of r (lack_by m j) j.placings j.begins t (lack_size L (lack_by m j))) none
       ∙ ap (λ (l : Lack). next_of None l j.placings j.begins t (lack_size L l)) lack

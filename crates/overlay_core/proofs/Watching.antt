@@ -15,7 +15,6 @@ use Rattle.plain_model.specs.Changes.{after}
 use Rattle.plain_model.specs.Replies.{reply_of, stat_of, stat_of_handle, stat_seen}
 use Rattle.plain_model.specs.Runs.{Called, Does}
 use Rattle.plain_model.proofs.Settled.{does-settles}
-use Rattle.layer_tree.specs.Tree.{layer_of}
 use Rattle.merged_lookup.specs.declared.layers.Layers.{Layers}
 use Rattle.merged_lookup.specs.Merged.{upper_of, lowers_of}
 use Rattle.mount_laws.specs.Looks.{IsMountOf}
@@ -88,7 +87,7 @@ goes shows c k r old new from to there serves stays resumes = goes-agreed shows 
 
 -- what is tracked stays right where the layers are the same
 pub tracks-same : (old new : Mount) (s : State) (k : Notified) → new.layers ≡ old.layers → Tracks (mount_upper old) s k → Tracks (mount_upper new) s k
-tracks-same old new s k same t = subst (λ (l : Layers). Tracks (layer_of l.upper) s k) (sym same) t
+tracks-same old new s k same t = subst (λ (l : Layers). Tracks (upper_of l) s k) (sym same) t
 
 -- WHERE MEMORY RAN OUT each state that agreed agrees still, if what is kept for watches is right still
 pub stays : (old new : Mount) (from to : Notified) → StaysState old new → StaysLive old.layers new.layers → ((s : State) → Tracks (mount_upper old) s from → Tracks (mount_upper old) s to) → Stays old from new to

@@ -5,7 +5,7 @@ use Rattle.slab.specs.Slab.{get}
 use Rattle.plain_model.specs.Layers.{Inode, Layer}
 use Rattle.layer_tree.specs.Tree.{Tree, layer_of, inode_of}
 use Rattle.merged_lookup.specs.declared.layers.Layers.{Layers}
-use Rattle.merged_lookup.specs.Merged.{trees, node_in, lowers_of}
+use Rattle.merged_lookup.specs.Merged.{upper_of, trees, node_in, lowers_of}
 use Rattle.open_handles.specs.declared.open_file.FileSource.{FileSource}
 use Rattle.open_handles.specs.declared.open_file.FileSource.TheVariants.{Upper, Lower}
 use Rattle.mount_calls.specs.Files.{source_inode, source_place}
@@ -18,7 +18,7 @@ inode-of None k = refl
 inode-of (Some t) k = refl
 
 -- so is that of an open file
-source-node : (l : Layers) (source : FileSource) (i : Inode) → source_inode (layer_of l.upper) (lowers_of l) source ≡ Some i → option_and_then inode_of (node_in (trees l) (source_place source)) ≡ Some i
+source-node : (l : Layers) (source : FileSource) (i : Inode) → source_inode (upper_of l) (lowers_of l) source ≡ Some i → option_and_then inode_of (node_in (trees l) (source_place source)) ≡ Some i
 source-node l (Upper k) i h = h
 source-node l (Lower zero k) i h = cc
 source-node l (Lower (suc j) k) i h =

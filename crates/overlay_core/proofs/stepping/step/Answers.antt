@@ -2,8 +2,7 @@ use Rattle.std.proofs.Common.{option_copied, slice_get, refl, sym, ap, ◌∙◌
 use Rattle.std.specs.Option.{ForSome}
 use Rattle.std.proofs.lemmas.Bool.{false≢true}
 use Rattle.plain_model.specs.Refusals.{refusal}
-use Rattle.layer_tree.specs.Tree.{layer_of}
-use Rattle.merged_lookup.specs.Merged.{lowers_of}
+use Rattle.merged_lookup.specs.Merged.{upper_of, lowers_of}
 use Rattle.work_dir.specs.declared.next.Next.TheVariants.{Finish, Copy}
 use Rattle.mount_calls.specs.Lacks.{lack_size}
 use Rattle.overlay_core.specs.Steps.{held_by, lack_by, without, IsNext}
@@ -62,7 +61,7 @@ returns-then-not-may_lack-clause-makes g c =
     (λ s st.
     next-ready (refusal s j.client j.call) (lack_by m j) j.placings j.begins t (lack_size (lowers_of m.layers) (lack_by m j))
     (λ fine.
-    plain-lacks (layer_of m.layers.upper) (lowers_of m.layers) j.call c.may_lack.result
+    plain-lacks (upper_of m.layers) (lowers_of m.layers) j.call c.may_lack.result
     (rw c.call-2.ensures at c.may_lack.ensures) c.if-not-may_lack.true))
     (c.plain.ensures.makes c.held.new.work Finish t tt
     (rw c.remember.ensures (c.held.ensures.temps (lowers_of c.args.watched.now.mount.layers) c.requires.temps).0))

@@ -1,8 +1,7 @@
 use Rattle.ov_base.specs.declared.call.Call.TheVariants as call
 use Rattle.mount_laws.proofs.Linked.{law_of_link}
 use Rattle.std.proofs.Common.{◌∙◌, refl}
-use Rattle.layer_tree.specs.Tree.{layer_of}
-use Rattle.merged_lookup.specs.Merged.{lowers_of}
+use Rattle.merged_lookup.specs.Merged.{upper_of, lowers_of}
 use Rattle.mount_calls.proofs.Changing.{link-done}
 use Rattle.mount_calls.proofs.MakingCalls.{makes-done, makes-unmade, makes-unshown}
 use Rattle.mount_calls.proofs.Lasting.{both-live, link-live, link-leaves}
@@ -44,7 +43,7 @@ returns-in-Err-clause-makes c = λ client.
     let q = c.args.new.now in
     let new = c.link.new.layers in
     makes-unmade client (call.Hardlink p q) m new c.in-Err.errno (λ s. refl)
-    (λ s st. law_of_link (layer_of m.layers.upper) (lowers_of m.layers) s st.layers client p q ∙ (rw c.in-Err.is at c.in_ok-key.ensures.refused))
+    (λ s st. law_of_link (upper_of m.layers) (lowers_of m.layers) s st.layers client p q ∙ (rw c.in-Err.is at c.in_ok-key.ensures.refused))
     (rw c.in-Err.is at c.in_ok-key.ensures.unchanged)
 
 pub returns-in_err-key-clause-makes : goal.returns-in_err-key-clause-makes

@@ -1,7 +1,6 @@
 use Rattle.std.proofs.Common.{◌∙◌, refl}
 use Rattle.ov_base.specs.declared.call.Call.TheVariants as call
-use Rattle.layer_tree.specs.Tree.{layer_of}
-use Rattle.merged_lookup.specs.Merged.{lowers_of}
+use Rattle.merged_lookup.specs.Merged.{upper_of, lowers_of}
 use Rattle.mount_laws.proofs.Looks.{law_of_mkdir}
 use Rattle.mount_calls.proofs.Changing.{mkdir-done}
 use Rattle.mount_calls.proofs.Frames.{around-others, around-parents}
@@ -20,7 +19,7 @@ returns-in-Err-clause-makes c = λ client.
     let m = c.args.self.now in
     let p = c.args.path.now in
     makes-unmade client (call.Mkdir p c.args.mode) m m.layers c.in-Err.errno (λ s. refl)
-    (λ s st. law_of_mkdir (layer_of m.layers.upper) (lowers_of m.layers) s st.layers client p c.args.mode
+    (λ s st. law_of_mkdir (upper_of m.layers) (lowers_of m.layers) s st.layers client p c.args.mode
     ∙ mode-fault c.args.mode c.in-Err.errno _ (rw c.in-Err.is at c.parse.ensures.told)) refl
 
 pub returns-in-Ok-2-clause-makes : goal.returns-in-Ok-2-clause-makes
@@ -44,7 +43,7 @@ returns-in-Err-2-clause-makes c = λ client.
     let p = c.args.path.now in
     let same = rw c.in-Ok.is at c.parse.ensures.same in
     makes-unmade client (call.Mkdir p c.args.mode) m c.mkdir.new.layers c.in-Err-2.errno (λ s. refl)
-    (λ s st. law_of_mkdir (layer_of m.layers.upper) (lowers_of m.layers) s st.layers client p c.args.mode
+    (λ s st. law_of_mkdir (upper_of m.layers) (lowers_of m.layers) s st.layers client p c.args.mode
     ∙ (rw (c.in-Err-2.is, same) at c.in_ok-mkdir.ensures.refused))
     (rw c.in-Err-2.is at c.in_ok-mkdir.ensures.unchanged)
 

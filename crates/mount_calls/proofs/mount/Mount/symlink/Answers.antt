@@ -1,7 +1,6 @@
 use Rattle.std.proofs.Common.{◌∙◌, refl}
 use Rattle.ov_base.specs.declared.call.Call.TheVariants as call
-use Rattle.layer_tree.specs.Tree.{layer_of}
-use Rattle.merged_lookup.specs.Merged.{lowers_of}
+use Rattle.merged_lookup.specs.Merged.{upper_of, lowers_of}
 use Rattle.mount_laws.proofs.Refusing.{law_of_symlink}
 use Rattle.mount_calls.proofs.Changing.{symlink-done}
 use Rattle.mount_calls.proofs.Frames.{none-named, none-parents}
@@ -25,7 +24,7 @@ returns-in-Err-clause-makes c = λ client.
     let target = c.args.target.now in
     let p = c.args.path.now in
     makes-unmade client (call.Symlink target p) m m.layers c.in-Err.errno (λ s. refl)
-    (λ s st. law_of_symlink (layer_of m.layers.upper) (lowers_of m.layers) s st.layers client target p
+    (λ s st. law_of_symlink (upper_of m.layers) (lowers_of m.layers) s st.layers client target p
     ∙ target-fault target c.in-Err.errno _ (rw (c.in-Err.is, c.in_ok-clone.ensures.cases) at c.parse.ensures.told)) refl
 
 pub returns-in-Ok-2-clause-makes : goal.returns-in-Ok-2-clause-makes
@@ -51,7 +50,7 @@ returns-in-Err-2-clause-makes c = λ client.
     let p = c.args.path.now in
     let same = (rw c.in-Ok.is at c.parse.ensures.same) ∙ c.in_ok-clone.ensures.cases in
     makes-unmade client (call.Symlink target p) m c.symlink.new.layers c.in-Err-2.errno (λ s. refl)
-    (λ s st. law_of_symlink (layer_of m.layers.upper) (lowers_of m.layers) s st.layers client target p
+    (λ s st. law_of_symlink (upper_of m.layers) (lowers_of m.layers) s st.layers client target p
     ∙ (rw (c.in-Err-2.is, same) at c.in_ok-symlink.ensures.refused))
     (rw c.in-Err-2.is at c.in_ok-symlink.ensures.unchanged)
 

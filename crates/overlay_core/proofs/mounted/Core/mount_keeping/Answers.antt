@@ -4,7 +4,7 @@ use Rattle.std.proofs.lemmas.Grind.{merely}
 use Rattle.plain_model.specs.Layers.{AreLayers}
 use Rattle.layer_tree.specs.Tree.{layer_of}
 use Rattle.merged_lookup.specs.declared.layers.Layers.{Layers}
-use Rattle.merged_lookup.specs.Merged.{layers_of, lowers_of}
+use Rattle.merged_lookup.specs.Merged.{upper_of, layers_of, lowers_of}
 use Rattle.overlay_core.specs.Mounting.{machine_options, mount_fault}
 use Rattle.overlay_core.specs.Watching.{BeginsWith}
 use Rattle.overlay_core.proofs.Agreeing.{all-below, bounded, has-state, no-temps}
@@ -26,7 +26,7 @@ invariant_of-result g c =
       waits = none-waits w.mount c.new-3.result.items c.new-3.ensures.items;
       temps = no-temps (lowers_of w.mount.layers) c.new-work.result c.new-work.ensures;
       limits = merely (rw (c.in_ok-watched.ensures.layers, same, c.in_ok-layers.ensures.lowers)
-          (all-below (layer_of c.args.upper) (map layer_of c.args.lowers.items) c.requires.limits));
+          (all-below (upper_of c.args) (map layer_of c.args.lowers.items) c.requires.limits));
     }
 
 pub returns-clause-nobody : goal.returns-clause-nobody
