@@ -12,9 +12,11 @@ use Rattle.layer_tree.specs.Tree.{layer_of, inode_at, SetsPath}
 use Rattle.merged_lookup.specs.declared.layers.Layers.{Layers}
 use Rattle.merged_lookup.specs.Merged.{upper_of, lowers_of, fill_at}
 
+-- lower layers that stay hold the same
 pub lowers-same : (old new : Layers) → new.lowers ≡ old.lowers → lowers_of new ≡ lowers_of old
 lowers-same old new low = ap (λ v. map layer_of v.items) low
 
+-- what is there filled is there
 some-raw : (lowers : List Layer) (o : Option Inode) → is_some (option_map (fill lowers) o) ≡ true → is_some o ≡ true
 some-raw lowers None h = h
 some-raw lowers (Some i) h = refl
@@ -37,12 +39,13 @@ pub raw-attributes : (lowers : List Layer) (o : Option Inode) → option_map (λ
 raw-attributes lowers None = refl
 raw-attributes lowers (Some i) = refl
 
--- so has one that a layer of this number shows
+-- this is shown of an inode of the layer of this number, with its attributes
 pub record IsFilled (j : ℕ) (lowers : List Layer) (i : Inode) : Type 0 where
   pub inode : Inode
   pub is : fill_at j lowers (Some i) ≡ Some inode
   pub attributes : i.attributes ≡ inode.attributes
 
+-- what is shown of an inode of any layer
 pub filled-at : (j : ℕ) (lowers : List Layer) (i : Inode) → IsFilled j lowers i
 filled-at zero lowers i = record { inode = fill lowers i; is = refl; attributes = refl }
 filled-at (suc j) lowers i = record { inode = i; is = refl; attributes = refl }
@@ -52,26 +55,34 @@ module _ (old new : Layers) (low : new.lowers ≡ old.lowers) where
   pub raise : (R : Layer → Type 0) → R (filled (layer_of new.upper) (lowers_of old)) → R (upper_of new)
   raise R h = subst (λ (Ls : List Layer). R (filled (layer_of new.upper) Ls)) (sym (lowers-same old new low)) h
 
+  -- it stays a layer
   pub layer-raised : (IsLayer (layer_of old.upper) → IsLayer (layer_of new.upper)) → IsLayer (upper_of old) → IsLayer (upper_of new)
   layer-raised keep h = filled-layer (layer_of new.upper) (lowers_of new) (keep (raw-layer (layer_of old.upper) (lowers_of old) h))
 
+  -- an inode that stays is shown so
   pub inode-raised : (k : ℕ) → inode_at new.upper k ≡ inode_at old.upper k → (upper_of new).inodes k ≡ (upper_of old).inodes k
   inode-raised k h = raise (λ V. V.inodes k ≡ (upper_of old).inodes k) (ap (option_map (fill (lowers_of old))) h)
 
+  -- and so are all
   pub inodes-raised : ((k : ℕ) → inode_at new.upper k ≡ inode_at old.upper k) → (upper_of new).inodes ≡ (upper_of old).inodes
   inodes-raised h = λ j k. inode-raised k (h k) j
 
+  -- an object is set at one path
   pub path-raised : (p : Path) (o : Object) → SetsPath (layer_of old.upper) (layer_of new.upper) p o → SetsPath (upper_of old) (upper_of new) p o
   path-raised p o s = record { there = s.there; elsewhere = s.elsewhere }
 
+  -- or placed there, with nothing below
   pub placed-raised : (p : Path) (o : Option Object) → Placed (layer_of old.upper) (layer_of new.upper) p o → Placed (upper_of old) (upper_of new) p o
   placed-raised p o m = record { here = m.here; beneath = m.beneath; elsewhere = m.elsewhere; inodes = inodes-raised (λ k. ap (λ (f : ℕ → Option Inode). f k) m.inodes) }
 
+  -- a file or link is placed
   pub leaf-raised : (p : Path) (k : ℕ) (i : Inode) → PlacesLeaf (layer_of old.upper) (layer_of new.upper) p k i → PlacesLeaf (upper_of old) (upper_of new) p k (fill (lowers_of old) i)
   leaf-raised p k i m = raise (λ V. PlacesLeaf (upper_of old) V p k (fill (lowers_of old) i)) (raised-leaf (lowers_of old) (layer_of old.upper) (layer_of new.upper) p k i m)
 
+  -- an inode gets other attributes
   pub altered-inode-raised : (p : Path) (a : Attributes) → AltersInode (layer_of old.upper) (layer_of new.upper) p a → AltersInode (upper_of old) (upper_of new) p a
   altered-inode-raised p a m = raise (λ V. AltersInode (upper_of old) V p a) (raised-inode (lowers_of old) (layer_of old.upper) (layer_of new.upper) p a m)
 
+  -- and so does a directory
   pub altered-directory-raised : (p : Path) (a : Attributes) → AltersDirectory (layer_of old.upper) (layer_of new.upper) p a → AltersDirectory (upper_of old) (upper_of new) p a
   altered-directory-raised p a m = raise (λ V. AltersDirectory (upper_of old) V p a) (raised-directory (lowers_of old) (layer_of old.upper) (layer_of new.upper) p a m)
