@@ -10,10 +10,10 @@ use Rattle.ov_base.specs.declared.reply.Reply.{Reply}
 use Rattle.ov_base.specs.declared.reply.Reply.TheVariants.{Refused}
 use Rattle.plain_model.specs.Tree.{Node, Branch, Leaf, Tree}
 use Rattle.plain_model.specs.Watching.{Instance, Subject, AllHear, Rule}
-use Rattle.plain_model.specs.Machine.{State, Handle, View, Live, Frozen}
+use Rattle.plain_model.specs.Machine.{State, Handle, View, Live, Kept, Frozen}
 use Rattle.plain_model.specs.Refusals.{refusal}
 use Rattle.plain_model.specs.Changes.{after, tree_after}
-use Rattle.plain_model.specs.Replies.{reply_of, stat_of, stat_seen, stat_of_handle}
+use Rattle.plain_model.specs.Replies.{reply_of, stat_kept, stat_of, stat_seen, stat_of_handle}
 use Rattle.plain_model.specs.Subjects.{subjects}
 use Rattle.plain_model.specs.Runs.{Taken, Answered, Step}
 use Rattle.plain_reference.specs.Answering.{ByTag}
@@ -73,8 +73,14 @@ stat-taken (Some (Branch a b names c)) = refl
 stat-taken (Some (Leaf (File bytes) a u l)) = refl
 stat-taken (Some (Leaf (SymbolicLink target) a u l)) = refl
 
+kept-taken : (bytes : List ℕ) (o : Option Node) → is_taken (Some (stat_kept bytes o)) ≡ true
+kept-taken bytes None = refl
+kept-taken bytes (Some (Branch a b names c)) = refl
+kept-taken bytes (Some (Leaf content a u l)) = refl
+
 seen-taken : (v : View) (o : Option Node) → is_taken (Some (stat_seen v o)) ≡ true
 seen-taken Live o = stat-taken o
+seen-taken (Kept bytes) o = kept-taken bytes o
 seen-taken (Frozen bytes a links) o = refl
 
 handle-taken : (t : Tree) (h : Option Handle) → is_taken (Some (stat_of_handle t h)) ≡ true

@@ -64,7 +64,7 @@ free_of s c = unwrap_or (lowest_free s.tables c) DESCRIPTORS_MAX
 -- the state after an open that leads to an identity, or to none
 abbrev pub open_at : State → ℕ → Path → OpenFlags → ℕ → Option NodeId → State
 open_at s c p f mode o = record s {
-  tree = cond (is_none o) (made_way s.tree s.serial (way_of s.tree p) (Leaf (File []) (fresh_attributes mode) Own 1)) (change (opened f) s.tree o);
+  tree = cond (is_none o) (made_way s.tree s.serial (way_of s.tree p) (Leaf (File []) (fresh_attributes mode) (Own false) 1)) (change (opened f) s.tree o);
   serial = next_if (is_none o) s.serial;
   tables = with_handle s.tables c (free_of s c) (Some (new_handle f (opens o s.serial) (way_of s.tree p) (node_of s.tree o)));
 }

@@ -3,7 +3,8 @@ use Rattle.std.proofs.Common.{◌≡◌, Bool, true, false, cond, Option, None, 
 use Rattle.ov_base.specs.declared.node_id.NodeId.{NodeId}
 use Rattle.plain_model.specs.Layers.{Name}
 use Rattle.plain_model.specs.Tree.{Node, Branch, Leaf, Tree, same_id, with_name, put, lead}
-use Rattle.plain_model.specs.Changes.{change, lead_way, one_fewer, over_node, touched}
+use Rattle.plain_model.specs.Changes.{change, lead_way, one_fewer, over_node}
+use Rattle.plain_reference.specs.Nodes.{copied_up}
 use Rattle.plain_reference.proofs.SlotLemmas.{same_id-true, same_id-refl, put_put, put_apart}
 
 -- that a change of a node and a name in it may come in either order
@@ -17,10 +18,10 @@ fewer-named n e (Some (Branch a b names c)) = refl
 fewer-named n e (Some (Leaf content a u l)) = refl
 
 -- a node that is copied up
-pub touched-named : KeepsNames touched
-touched-named n e None = refl
-touched-named n e (Some (Branch a b names c)) = refl
-touched-named n e (Some (Leaf content a u l)) = refl
+pub copied-named : (metacopy : Bool) → KeepsNames (copied_up metacopy)
+copied-named metacopy n e None = refl
+copied-named metacopy n e (Some (Branch a b names c)) = refl
+copied-named metacopy n e (Some (Leaf content a u l)) = refl
 
 -- the name leads from the node that changes
 same-last : (f : Node → Node) → KeepsNames f → (t : Tree) (d : NodeId) (n : Name) (e : Option NodeId) → change f (lead t d n e) (Some d) ≡ lead (change f t (Some d)) d n e

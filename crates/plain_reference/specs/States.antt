@@ -16,7 +16,7 @@ unwatched_of r = record {
   serial = r.serial;
   renames = r.renames;
   arrived = r.clients.arrived;
-  options = record { redirects = r.redirects; read_only = false };
+  options = record { redirects = r.redirects; metacopy = r.metacopy; read_only = false };
   tables = r.clients.list.items;
   instances = silent_all r.clients.list.items;
 }

@@ -24,14 +24,21 @@ use std::alloc::{AllocError, Global};
 pub struct Builder {
     tree: Tree,
     redirects: bool,
+    metacopy: bool,
     alloc: Global,
 }
 
 impl Builder {
     /// A tree of the root alone.
-    pub fn new(alloc: Global, root: Attributes, redirects: bool) -> Result<Builder, AllocError>
+    pub fn new(
+        alloc: Global,
+        root: Attributes,
+        redirects: bool,
+        metacopy: bool,
+    ) -> Result<Builder, AllocError>
         ensures tree { IfOk result (λ builder. tree_of builder.tree.slots.items ≡ root_alone root) }
         ensures redirects { IfOk result (λ builder. builder.redirects ≡ redirects) }
+        ensures metacopy { IfOk result (λ builder. builder.metacopy ≡ metacopy) }
     {
         let mut tree = Tree::new(alloc);
         tree.put(
@@ -46,6 +53,7 @@ impl Builder {
         Ok(Builder {
             tree,
             redirects,
+            metacopy,
             alloc,
         })
     }
@@ -55,6 +63,7 @@ impl Builder {
         ensures ok { OnOk result (tree_of self.new.tree.slots.items ≡ planted (tree_of self.old.tree.slots.items) path.now (node_of node)) }
         ensures err { OnErr result (tree_of self.new.tree.slots.items ≡ tree_of self.old.tree.slots.items) }
         ensures redirects { self.new.redirects ≡ self.old.redirects }
+        ensures metacopy { self.new.metacopy ≡ self.old.metacopy }
     {
         if let Some((directory, name)) = self.tree.way_of(self.alloc, path.names())? {
             let id = Id::at(self.alloc, path)?;
@@ -74,6 +83,7 @@ impl Builder {
         ensures ok { OnOk result (tree_of self.new.tree.slots.items ≡ planted (tree_of self.old.tree.slots.items) path.now (plain.Branch attributes is_base map.empty 1)) }
         ensures err { OnErr result (tree_of self.new.tree.slots.items ≡ tree_of self.old.tree.slots.items) }
         ensures redirects { self.new.redirects ≡ self.old.redirects }
+        ensures metacopy { self.new.metacopy ≡ self.old.metacopy }
     {
         let names = Names::new(self.alloc);
         self.put(
@@ -100,6 +110,7 @@ impl Builder {
         ensures ok { OnOk result (tree_of self.new.tree.slots.items ≡ planted (tree_of self.old.tree.slots.items) path.now (plain.Leaf content attributes (origin_of origin) count)) }
         ensures err { OnErr result (tree_of self.new.tree.slots.items ≡ tree_of self.old.tree.slots.items) }
         ensures redirects { self.new.redirects ≡ self.old.redirects }
+        ensures metacopy { self.new.metacopy ≡ self.old.metacopy }
     {
         self.put(
             path,
@@ -118,6 +129,7 @@ impl Builder {
         ensures ok { OnOk result (tree_of self.new.tree.slots.items ≡ named (tree_of self.old.tree.slots.items) path.now of.now) }
         ensures err { OnErr result (tree_of self.new.tree.slots.items ≡ tree_of self.old.tree.slots.items) }
         ensures redirects { self.new.redirects ≡ self.old.redirects }
+        ensures metacopy { self.new.metacopy ≡ self.old.metacopy }
     {
         let way = self.tree.way_of(self.alloc, path.names())?;
         let node = self.tree.node_at(self.alloc, of.names())?;
@@ -129,11 +141,12 @@ impl Builder {
 
     /// The plain machine at the tree, with no client.
     pub fn finish(self) -> Reference
-        ensures { state_of result ≡ opening (tree_of self.tree.slots.items) (record { redirects = self.redirects; read_only = false }) }
+        ensures { state_of result ≡ opening (tree_of self.tree.slots.items) (record { redirects = self.redirects; metacopy = self.metacopy; read_only = false }) }
     {
         let Builder {
             tree,
             redirects,
+            metacopy,
             alloc,
         } = self;
         let unwatched = Unwatched {
@@ -142,6 +155,7 @@ impl Builder {
             serial: 0,
             renames: 0,
             redirects,
+            metacopy,
             alloc,
         };
         Reference {

@@ -42,24 +42,24 @@ fn new_directory(alloc: Global, mode: Mode) -> Node
 }
 
 fn new_link(alloc: Global, target: LinkTarget) -> Node
-    ensures { node_of result ≡ plain.Leaf (content.SymbolicLink target) (fresh 0o777) plain.Own 1 }
+    ensures { node_of result ≡ plain.Leaf (content.SymbolicLink target) (fresh 0o777) (plain.Own false) 1 }
 {
     Node::Leaf {
         content: Content::SymbolicLink(target),
         attributes: fresh(alloc, Mode::of_links()),
-        origin: Origin::Own,
+        origin: Origin::Own(false),
         count: 1,
     }
 }
 
 /// A new file, without bytes.
 pub fn new_file(alloc: Global, mode: Mode) -> Node
-    ensures { node_of result ≡ plain.Leaf (content.File []) (fresh mode) plain.Own 1 }
+    ensures { node_of result ≡ plain.Leaf (content.File []) (fresh mode) (plain.Own false) 1 }
 {
     Node::Leaf {
         content: Content::File(Bytes::new(alloc)),
         attributes: fresh(alloc, mode),
-        origin: Origin::Own,
+        origin: Origin::Own(false),
         count: 1,
     }
 }
@@ -118,13 +118,13 @@ impl Unwatched {
 
     // Gives a node a further name, the last one of a path. The name is there before it is counted.
     fn add_name(&mut self, path: &Path, id: &Id) -> Result<(), AllocError>
-        ensures ok { OnOk result (tree_of self.new.tree.slots.items ≡ lead_way (change gained (tree_of self.old.tree.slots.items) (Some id.now)) (way_of (tree_of self.old.tree.slots.items) path.now) (Some id.now)) }
+        ensures ok { OnOk result (tree_of self.new.tree.slots.items ≡ lead_way (change (gained self.old.metacopy) (tree_of self.old.tree.slots.items) (Some id.now)) (way_of (tree_of self.old.tree.slots.items) path.now) (Some id.now)) }
         ensures err { OnErr result (tree_of self.new.tree.slots.items ≡ tree_of self.old.tree.slots.items) }
         ensures rest { self.new ≡ record self.old { tree = self.new.tree } }
     {
         let way = self.tree.way_of(self.alloc, path.names())?;
         self.tree.lead_way(&way, id)?;
-        self.tree.gain_name(id);
+        self.tree.gain_name(self.metacopy, id);
         Ok(())
     }
 

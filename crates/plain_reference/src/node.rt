@@ -4,9 +4,9 @@ ghost use Rattle.std.specs.Option.{option_copied};
 ghost use Rattle.plain_model.specs.Tree.{with_name, shown_links, count_of};
 ghost use Rattle.plain_model.specs.Machine.{is_base, is_link, has_names, bytes_of_node, user_of, value_of};
 ghost use Rattle.plain_model.specs.Tree.{is_folder};
-ghost use Rattle.plain_model.specs.Changes.{one_fewer, is_named, names_in, opened, touched, with_bytes};
-ghost use Rattle.plain_model.specs.Replies.{stat_of, stat_by, capped};
-ghost use Rattle.plain_reference.specs.Nodes.{shown, plain, origin_of, attributes_at, given, gained};
+ghost use Rattle.plain_model.specs.Changes.{low_after, one_fewer, is_named, names_in, opened, touched, with_bytes};
+ghost use Rattle.plain_model.specs.Replies.{stat_of, stat_by, stat_kept, capped};
+ghost use Rattle.plain_reference.specs.Nodes.{shown, plain, origin_of, attributes_at, copied_up, given, gained};
 
 use crate::id::Id;
 use crate::names::Names;
@@ -15,10 +15,11 @@ use ov_base::{
 };
 use std::alloc::{AllocError, Global};
 
-/// Where a file or symbolic link stands: in the upper layer, or untouched in a lower one, whose link count it shows.
+/// Where a file or symbolic link stands: in the upper layer, with bytes of its own or, where that is true, those of a file of the lower
+/// layers; or untouched in a lower layer, whose link count it shows.
 #[derive(Clone, Copy)]
 pub enum Origin {
-    Own,
+    Own(bool),
     Untouched(u64),
 }
 
@@ -157,6 +158,16 @@ pub fn user_names(alloc: Global, node: Option<&Node>) -> Result<Texts, AllocErro
     }
 }
 
+// Whether the bytes are a lower file's after a change of attributes or names, which copies up.
+fn low_after(metacopy: bool, content: &Content, origin: Origin) -> bool
+    ensures { result ≡ low_after metacopy content.now (origin_of origin) }
+{
+    match origin {
+        Origin::Own(low) => low,
+        Origin::Untouched(_) => metacopy && matches!(content, Content::File(_)),
+    }
+}
+
 impl Node {
     /// Leads a name of the directory to a node; another node stays as it is.
     pub fn lead(&mut self, name: &Name, to: Id) -> Result<(), AllocError>
@@ -189,38 +200,47 @@ impl Node {
     }
 
     /// Lets a file or symbolic link have a name more, as far as numbers go; it then stands in the upper layer.
-    pub fn gain_name(&mut self)
-        ensures { plain self.new ≡ gained (plain self.old) }
+    pub fn gain_name(&mut self, metacopy: bool)
+        ensures { plain self.new ≡ gained metacopy (plain self.old) }
     {
-        if let Node::Leaf { origin, count, .. } = self {
-            *origin = Origin::Own;
+        self.copy_up(metacopy);
+        if let Node::Leaf { count, .. } = self {
             *count = count.saturating_add(1);
         }
     }
 
     /// Gives the node other attributes; a file or symbolic link then stands in the upper layer.
-    pub fn give(&mut self, other: Attributes)
-        ensures { plain self.new ≡ given other (plain self.old) }
+    pub fn give(&mut self, metacopy: bool, other: Attributes)
+        ensures { plain self.new ≡ given metacopy other (plain self.old) }
     {
+        self.copy_up(metacopy);
         match self {
             Node::Directory { attributes, .. } => *attributes = other,
-            Node::Leaf {
-                attributes,
-                origin,
-                ..
-            } => {
-                *attributes = other;
-                *origin = Origin::Own;
-            }
+            Node::Leaf { attributes, .. } => *attributes = other,
         }
     }
 
-    /// Copies a file or symbolic link of a lower layer up.
+    /// Copies a file or symbolic link of a lower layer up where its attributes or names change, a file without its bytes where the mount
+    /// was told so.
+    pub fn copy_up(&mut self, metacopy: bool)
+        ensures { plain self.new ≡ copied_up metacopy (plain self.old) }
+    {
+        if let Node::Leaf {
+            content,
+            origin,
+            ..
+        } = self
+        {
+            *origin = Origin::Own(low_after(metacopy, content, *origin));
+        }
+    }
+
+    /// Copies a file or symbolic link of a lower layer up, and the bytes of a file that was copied up without them.
     pub fn touch(&mut self)
         ensures { plain self.new ≡ touched (plain self.old) }
     {
         if let Node::Leaf { origin, .. } = self {
-            *origin = Origin::Own;
+            *origin = Origin::Own(false);
         }
     }
 
@@ -285,7 +305,7 @@ fn shown_links(origin: Origin, count: u64) -> u64
     ensures { result ≡ shown_links (origin_of origin) count }
 {
     match origin {
-        Origin::Own => count,
+        Origin::Own(_) => count,
         Origin::Untouched(links) => links,
     }
 }
@@ -325,6 +345,27 @@ pub fn stat_of(node: Option<&Node>) -> Reply
                 ),
             }
         }
+    }
+}
+
+/// The same of a file through a handle that keeps these bytes: their number is the size, all else is the node's.
+pub fn stat_kept(bytes: &Bytes, node: Option<&Node>) -> Reply
+    ensures { result ≡ stat_kept bytes.now (shown (option_copied node.entry)) }
+{
+    match node {
+        Some(
+            Node::Leaf {
+                attributes,
+                origin,
+                count,
+                ..
+            },
+        ) => {
+            let size = bytes.as_slice().len() as u64;
+            let names = shown_links(*origin, *count);
+            stat_by(ObjectKind::File, attributes, size, capped(names))
+        }
+        _ => stat_of(node),
     }
 }
 

@@ -1,5 +1,5 @@
 // The call `open`.
-ghost use Rattle.std.specs.Prelude.{◌≡◌, ◌+◌, ◌<◌, ◌^◌, [], Some, None, IfOk, OnOk, OnErr, unwrap_or};
+ghost use Rattle.std.specs.Prelude.{◌≡◌, ◌+◌, ◌<◌, ◌^◌, [], Some, None, IfOk, OnOk, OnErr, unwrap_or, false};
 ghost use Rattle.ov_base.specs.declared.bytes.Content.TheVariants as content;
 ghost use Rattle.ov_base.specs.declared.call.Call.TheVariants as call;
 ghost use Rattle.ov_base.specs.declared.node_id.NodeId.TheVariants as node;
@@ -62,7 +62,7 @@ impl Unwatched {
         way: Option<(Id, Name)>,
     ) -> Result<u32, AllocError>
         requires { self.old.serial + 1 < 2 ^ 64 }
-        ensures tree { OnOk result (tree_of self.new.tree.slots.items ≡ made_way (tree_of self.old.tree.slots.items) self.old.serial (way_of (tree_of self.old.tree.slots.items) path.now) (plain.Leaf (content.File []) (fresh mode) plain.Own 1)) }
+        ensures tree { OnOk result (tree_of self.new.tree.slots.items ≡ made_way (tree_of self.old.tree.slots.items) self.old.serial (way_of (tree_of self.old.tree.slots.items) path.now) (plain.Leaf (content.File []) (fresh mode) (plain.Own false) 1)) }
         ensures serial { OnOk result (self.new.serial ≡ self.old.serial + 1) }
         ensures descriptor { IfOk result (λ descriptor. descriptor ≡ unwrap_or (lowest_free self.old.clients.list.items client) DESCRIPTORS_MAX) }
         ensures list { IfOk result (λ descriptor. self.new.clients.list.items ≡ with_handle self.old.clients.list.items client descriptor (Some (new_handle flags (node.New self.old.serial) way None))) }

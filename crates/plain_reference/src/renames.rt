@@ -2,7 +2,8 @@
 ghost use Rattle.std.specs.Prelude.{◌≡◌, None, Some, IfOk, OnOk, OnErr};
 ghost use Rattle.ov_base.specs.declared.call.Call.TheVariants as call;
 ghost use Rattle.plain_model.specs.Tree.{node_at};
-ghost use Rattle.plain_model.specs.Changes.{change, lead_way, one_fewer, re_ways, settled, touched, way_of};
+ghost use Rattle.plain_model.specs.Changes.{change, lead_way, one_fewer, re_ways, settled, way_of};
+ghost use Rattle.plain_reference.specs.Nodes.{copied_up};
 ghost use Rattle.plain_reference.specs.Slots.{tree_of};
 ghost use Rattle.plain_reference.specs.States.{unwatched_of, Mute};
 ghost use Rattle.plain_reference.specs.Offers.{AnswersBy};
@@ -18,19 +19,20 @@ impl Tree {
     // Lets a node have a new name for an old one. What the new name led to, if anything, loses it.
     fn rename(
         &mut self,
+        metacopy: bool,
         node: &Id,
         old: &Option<(Id, Name)>,
         new: &Option<(Id, Name)>,
         replaced: &Option<Id>,
     ) -> Result<(), AllocError>
-        ensures ok { OnOk result (tree_of self.new.slots.items ≡ lead_way (lead_way (change touched (change one_fewer (tree_of self.old.slots.items) replaced.now) (Some node.now)) new.now (Some node.now)) old.now None) }
+        ensures ok { OnOk result (tree_of self.new.slots.items ≡ lead_way (lead_way (change (copied_up metacopy) (change one_fewer (tree_of self.old.slots.items) replaced.now) (Some node.now)) new.now (Some node.now)) old.now None) }
         ensures err { OnErr result (tree_of self.new.slots.items ≡ tree_of self.old.slots.items) }
     {
         self.lead_way(new, node)?;
         if let Some(replaced) = replaced {
             self.lose_name(replaced);
         }
-        self.touch(node);
+        self.copy_up(metacopy, node);
         self.unlead_way(old);
         Ok(())
     }
@@ -39,7 +41,7 @@ impl Tree {
 impl Unwatched {
     // Moves a node from one path to another. What is there loses the name, and the handles that were opened by the old way in follow.
     fn move_node(&mut self, node: &Id, old: &Path, new: &Path) -> Result<(), AllocError>
-        ensures tree { OnOk result (tree_of self.new.tree.slots.items ≡ (let t = tree_of self.old.tree.slots.items in settled self.old.clients.list.items (lead_way (lead_way (change touched (change one_fewer t (node_at t new.now)) (Some node.now)) (way_of t new.now) (Some node.now)) (way_of t old.now) None) (node_at t new.now))) }
+        ensures tree { OnOk result (tree_of self.new.tree.slots.items ≡ (let t = tree_of self.old.tree.slots.items in settled self.old.clients.list.items (lead_way (lead_way (change (copied_up self.old.metacopy) (change one_fewer t (node_at t new.now)) (Some node.now)) (way_of t new.now) (Some node.now)) (way_of t old.now) None) (node_at t new.now))) }
         ensures list { OnOk result (self.new.clients.list.items ≡ (let t = tree_of self.old.tree.slots.items in re_ways self.old.clients.list.items (Some node.now) (way_of t old.now) (way_of t new.now))) }
         ensures arrived { self.new.clients.arrived ≡ self.old.clients.arrived }
         ensures rest { self.new ≡ record self.old { tree = self.new.tree; clients = self.new.clients } }
@@ -49,7 +51,8 @@ impl Unwatched {
         let from = self.tree.way_of(self.alloc, old.names())?;
         let to = self.tree.way_of(self.alloc, new.names())?;
         let copies = self.clients.copies(self.alloc, node, &from, &to)?;
-        self.tree.rename(node, &from, &to, &replaced)?;
+        self.tree
+            .rename(self.metacopy, node, &from, &to, &replaced)?;
         self.settle_any(&replaced);
         self.clients.re_way(node, &from, copies);
         Ok(())

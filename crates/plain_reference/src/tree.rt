@@ -2,8 +2,8 @@
 ghost use Rattle.std.specs.Prelude.{◌≡◌, ◌<◌, [], Some, None, OnOk, OnErr, IfSome, length, drop, position, vec_len};
 ghost use Rattle.std.specs.Option.{option_copied};
 ghost use Rattle.plain_model.specs.Tree.{same_id, put, lead};
-ghost use Rattle.plain_model.specs.Changes.{change, lead_way, one_fewer, opened, touched, with_bytes};
-ghost use Rattle.plain_reference.specs.Nodes.{shown, plain, given, gained};
+ghost use Rattle.plain_model.specs.Changes.{change, lead_way, one_fewer, opened, with_bytes};
+ghost use Rattle.plain_reference.specs.Nodes.{shown, plain, copied_up, given, gained};
 ghost use Rattle.plain_reference.specs.Slots.{tree_of};
 
 use crate::id::Id;
@@ -126,37 +126,37 @@ impl Tree {
     }
 
     /// Lets a file or symbolic link have a name more, as far as numbers go.
-    pub fn gain_name(&mut self, id: &Id)
-        ensures { tree_of self.new.slots.items ≡ change gained (tree_of self.old.slots.items) (Some id.now) }
+    pub fn gain_name(&mut self, metacopy: bool, id: &Id)
+        ensures { tree_of self.new.slots.items ≡ change (gained metacopy) (tree_of self.old.slots.items) (Some id.now) }
     {
         if let Some(index) = self.index(id) {
             let slot = &mut self.slots[index];
             if let Some(node) = &mut slot.node {
-                node.gain_name();
+                node.gain_name(metacopy);
             }
         }
     }
 
-    /// Lets a file or symbolic link of a lower layer be copied up.
-    pub fn touch(&mut self, id: &Id)
-        ensures { tree_of self.new.slots.items ≡ change touched (tree_of self.old.slots.items) (Some id.now) }
+    /// Lets a file or symbolic link of a lower layer be copied up where its attributes or names change.
+    pub fn copy_up(&mut self, metacopy: bool, id: &Id)
+        ensures { tree_of self.new.slots.items ≡ change (copied_up metacopy) (tree_of self.old.slots.items) (Some id.now) }
     {
         if let Some(index) = self.index(id) {
             let slot = &mut self.slots[index];
             if let Some(node) = &mut slot.node {
-                node.touch();
+                node.copy_up(metacopy);
             }
         }
     }
 
     /// Gives a node other attributes.
-    pub fn give(&mut self, id: &Id, attributes: Attributes)
-        ensures { tree_of self.new.slots.items ≡ change (given attributes) (tree_of self.old.slots.items) (Some id.now) }
+    pub fn give(&mut self, metacopy: bool, id: &Id, attributes: Attributes)
+        ensures { tree_of self.new.slots.items ≡ change (given metacopy attributes) (tree_of self.old.slots.items) (Some id.now) }
     {
         if let Some(index) = self.index(id) {
             let slot = &mut self.slots[index];
             if let Some(node) = &mut slot.node {
-                node.give(attributes);
+                node.give(metacopy, attributes);
             }
         }
     }

@@ -9,7 +9,8 @@ use ov_base::{Call, Reply};
 use std::alloc::{AllocError, Global};
 
 /// The plain machine without its watches: the tree, the attached clients' descriptors, the next serial, how many renames moved
-/// something, and whether renames of base directories make redirects.
+/// something, whether renames of base directories make redirects, and whether files are copied up without their bytes where these
+/// don't change.
 #[derive(Drop)]
 pub struct Unwatched {
     pub(crate) tree: Tree,
@@ -17,6 +18,7 @@ pub struct Unwatched {
     pub(crate) serial: u64,
     pub(crate) renames: u64,
     pub(crate) redirects: bool,
+    pub(crate) metacopy: bool,
     pub(crate) alloc: Global,
 }
 

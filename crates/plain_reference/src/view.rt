@@ -2,29 +2,31 @@
 ghost use Rattle.std.specs.Prelude.{◌≡◌, IfOk};
 ghost use Rattle.std.specs.Option.{option_copied};
 ghost use Rattle.plain_model.specs.Machine.{bytes_seen};
-ghost use Rattle.plain_model.specs.Changes.{frozen_by, frozen_links, view_of};
+ghost use Rattle.plain_model.specs.Changes.{view_by, view_of};
 ghost use Rattle.plain_model.specs.Replies.{stat_seen};
 ghost use Rattle.plain_reference.specs.Nodes.{shown, origin_of};
 ghost use Rattle.plain_reference.specs.Views.{seen};
 
-use crate::node::{Node, Origin, bytes_in, capped, stat_by, stat_of};
+use crate::node::{Node, Origin, bytes_in, capped, stat_by, stat_kept, stat_of};
 use ov_base::{Attributes, Bytes, Content, ObjectKind, OpenFlags, Reply};
 use std::alloc::AllocError;
 
-/// What a handle sees: its node as it is, or the bytes, attributes and link count that an untouched file had when it was opened for
-/// reading alone (overlayfs.rst, "Non-standard behavior").
+/// What a handle sees: its node as it is, or, where it was opened for reading alone on a file whose bytes were a lower layer's, these
+/// bytes, and of an untouched file its attributes and link count too (overlayfs.rst, "Non-standard behavior").
 #[derive(Drop)]
 pub enum View {
     Live,
+    Kept(Bytes),
     Frozen(Bytes, Attributes, u64),
 }
 
 // What a handle for reading alone sees of a file.
-fn frozen_by(origin: Origin, bytes: &Bytes, attributes: &Attributes) -> Result<View, AllocError>
-    ensures { IfOk result (λ view. seen view ≡ frozen_by (frozen_links (origin_of origin)) bytes.now attributes.now) }
+fn view_by(origin: Origin, bytes: &Bytes, attributes: &Attributes) -> Result<View, AllocError>
+    ensures { IfOk result (λ view. seen view ≡ view_by (origin_of origin) bytes.now attributes.now) }
 {
     match origin {
-        Origin::Own => Ok(View::Live),
+        Origin::Own(false) => Ok(View::Live),
+        Origin::Own(true) => Ok(View::Kept(bytes.clone()?)),
         Origin::Untouched(links) => Ok(View::Frozen(bytes.clone()?, attributes.clone()?, links)),
     }
 }
@@ -46,7 +48,7 @@ impl View {
                 if flags.writes {
                     Ok(View::Live)
                 } else {
-                    frozen_by(*origin, bytes, attributes)
+                    view_by(*origin, bytes, attributes)
                 }
             }
             _ => Ok(View::Live),
@@ -59,6 +61,7 @@ impl View {
     {
         match self {
             View::Live => bytes_in(node),
+            View::Kept(bytes) => bytes.as_slice(),
             View::Frozen(bytes, _, _) => bytes.as_slice(),
         }
     }
@@ -69,6 +72,7 @@ impl View {
     {
         match self {
             View::Live => stat_of(node),
+            View::Kept(bytes) => stat_kept(bytes, node),
             View::Frozen(bytes, attributes, links) => {
                 let size = bytes.as_slice().len() as u64;
                 stat_by(ObjectKind::File, attributes, size, capped(*links))

@@ -20,7 +20,7 @@ pub fn reference_of(
     let Some(root) = attributes_of(alloc, &upper.root())? else {
         return Ok(None);
     };
-    let mut builder = Builder::new(alloc, root, redirects)?;
+    let mut builder = Builder::new(alloc, root, redirects, false)?;
     let objects = shown_below(alloc, layers)?;
     for shown in objects.as_slice() {
         put(alloc, &mut builder, objects.as_slice(), shown)?;
@@ -87,7 +87,7 @@ fn put_object(
     };
     let links = u64::from(shown.entry.links);
     if shown.is_upper {
-        builder.leaf(path, content, attributes, Origin::Own, links)
+        builder.leaf(path, content, attributes, Origin::Own(false), links)
     } else {
         builder.leaf(path, content, attributes, Origin::Untouched(links), 1)
     }

@@ -5,10 +5,10 @@ use Rattle.plain_reference.proofs.SlotLemmas.{placed, changed_in, changed_nowher
 use Rattle.plain_reference.proofs.tree.Tree.gain_name.Goals as goal
 
 pub returns-in-Some-node : goal.returns-in-Some-node
-returns-in-Some-node c = changed_in gained c.args.self.now.slots.items c.args.id.now _ _ _ (placed c.args.self.now.slots.items c.args.id.now _ c.in-Some.ensures.place) c.index_mut-slot.ensures.value refl (ap Some c.gain_name.ensures ∙ ap (over_node gained) (ap shown (sym c.in-Some-node.is)))
+returns-in-Some-node c = changed_in (gained c.args.metacopy) c.args.self.now.slots.items c.args.id.now _ _ _ (placed c.args.self.now.slots.items c.args.id.now _ c.in-Some.ensures.place) c.index_mut-slot.ensures.value refl (ap Some c.gain_name.ensures ∙ ap (over_node (gained c.args.metacopy)) (ap shown (sym c.in-Some-node.is)))
 
 pub returns-in_default-node : goal.returns-in_default-node
-returns-in_default-node c = changed_in gained c.args.self.now.slots.items c.args.id.now _ _ _ (placed c.args.self.now.slots.items c.args.id.now _ c.in-Some.ensures.place) c.index_mut-slot.ensures.value refl (ap shown c.in_default-node.is ∙ ap (over_node gained) (ap shown (sym c.in_default-node.is)))
+returns-in_default-node c = changed_in (gained c.args.metacopy) c.args.self.now.slots.items c.args.id.now _ _ _ (placed c.args.self.now.slots.items c.args.id.now _ c.in-Some.ensures.place) c.index_mut-slot.ensures.value refl (ap shown c.in_default-node.is ∙ ap (over_node (gained c.args.metacopy)) (ap shown (sym c.in_default-node.is)))
 
 pub returns-in_default : goal.returns-in_default
-returns-in_default c = changed_nowhere gained c.args.self.now.slots.items c.args.id.now (placed c.args.self.now.slots.items c.args.id.now _ c.in_default.ensures.place)
+returns-in_default c = changed_nowhere (gained c.args.metacopy) c.args.self.now.slots.items c.args.id.now (placed c.args.self.now.slots.items c.args.id.now _ c.in_default.ensures.place)

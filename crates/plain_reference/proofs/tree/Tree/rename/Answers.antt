@@ -1,10 +1,11 @@
 use Rattle.std.proofs.Common.{◌≡◌, ◌∙◌, Option, Some, None, sym, ap}
 use Rattle.ov_base.specs.declared.node_id.NodeId.{NodeId}
 use Rattle.plain_model.specs.Tree.{Tree}
-use Rattle.plain_model.specs.Changes.{change, lead_way, one_fewer, touched}
+use Rattle.plain_model.specs.Changes.{change, lead_way, one_fewer}
+use Rattle.plain_reference.specs.Nodes.{copied_up}
 use Rattle.plain_reference.specs.Slots.{tree_of}
 use Rattle.plain_reference.specs.declared.tree.Tree as slots
-use Rattle.plain_reference.proofs.LeadLemmas.{changed_last, fewer-named, touched-named}
+use Rattle.plain_reference.proofs.LeadLemmas.{changed_last, copied-named, fewer-named}
 use Rattle.plain_reference.proofs.tree.Tree.rename.Goals as goal
 use Rattle.plain_reference.proofs.tree.Tree.rename.Goals.{in-Some, in_default}
 
@@ -28,6 +29,6 @@ returns-clause-ok c =
     ] in
     c.unlead_way.ensures
     ∙ ap (λ (u : Tree). lead_way u c.args.old.now None)
-    (c.touch.ensures
-    ∙ ap (λ (u : Tree). change touched u node) (lost ∙ changed_last one_fewer fewer-named t new node replaced)
-    ∙ changed_last touched touched-named (change one_fewer t replaced) new node node)
+    (c.copy_up.ensures
+    ∙ ap (λ (u : Tree). change (copied_up c.args.metacopy) u node) (lost ∙ changed_last one_fewer fewer-named t new node replaced)
+    ∙ changed_last (copied_up c.args.metacopy) (copied-named c.args.metacopy) (change one_fewer t replaced) new node node)

@@ -1,4 +1,4 @@
-use Rattle.std.proofs.Common.{◌≡◌, ◌∙◌, ◌+◌, ◌||◌, ℕ, suc, true, [], Option, None, Some, sym, ap, is_some, reverse, arith, rules, tests}
+use Rattle.std.proofs.Common.{◌≡◌, ◌∙◌, ◌+◌, ◌||◌, ℕ, suc, true, false, [], Option, None, Some, sym, ap, is_some, reverse, arith, rules, tests}
 use Rattle.std.proofs.lemmas.List.{reverse-reverse}
 use Rattle.ov_base.specs.declared.bytes.Content.TheVariants.{File}
 use Rattle.ov_base.specs.declared.call.Call.TheVariants.{Open}
@@ -55,7 +55,7 @@ returns-clause-answer c =
     let h : Option Handle = Some (new_handle c.args.flags (New old.serial) (way_of t p) None) in
     let list : new.clients.list.items ≡ with_handle ks c.args.client free h = c.in_ok-descriptor-2.ensures.list ∙ (λ i. with_handle ks c.args.client (c.in_ok-descriptor-2.ensures.descriptor i) (Some (new_handle c.args.flags (New old.serial) (way i) None))) in
     let serial : suc old.serial ≡ new.serial = (let next : suc old.serial ≡ old.serial + 1 = omega arith in next) ∙ sym c.in_ok-descriptor-2.ensures.serial in
-    let tree : made_way t old.serial (way_of t p) (Leaf (File []) (fresh c.args.mode) Own 1) ≡ tree_of new.tree.slots.items = ap (λ (m : ℕ). made_way t old.serial (way_of t p) (Leaf (File []) (fresh m) Own 1)) (sym mode) ∙ sym c.in_ok-descriptor-2.ensures.tree in
+    let tree : made_way t old.serial (way_of t p) (Leaf (File []) (fresh c.args.mode) (Own false) 1) ≡ tree_of new.tree.slots.items = ap (λ (m : ℕ). made_way t old.serial (way_of t p) (Leaf (File []) (fresh m) (Own false) 1)) (sym mode) ∙ sym c.in_ok-descriptor-2.ensures.tree in
     let shape = opened_after s c.args.client p c.args.flags c.args.mode None at ∙ (λ i. record s { tree = tree i; serial = serial i; tables = with_handle ks c.args.client free h }) in (
       (λ i. is_some (sym none i) || is_some (at i) || left i),
       held_step old new c.args.client free h k (Descriptor c.in_ok-descriptor-2.descriptor) none (ap Descriptor c.in_ok-descriptor-2.ensures.descriptor) list c.in_ok-descriptor-2.ensures.arrived c.in_ok-descriptor-2.ensures.rest shape,
