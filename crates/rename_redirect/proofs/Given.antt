@@ -55,6 +55,7 @@ module _ (start mid : Layers) (V : Layer) (same : ShowsSame start mid) (stays : 
   down : (x : Path) (k : ℕ) → held B x ≡ Some (Named k) → held A x ≡ Some (Named k)
   down x k = (stays.names x k).0
 
+  -- an inode shows what it showed
   inodes : (j : ℕ) → B.inodes j ≡ A.inodes j
   inodes j = inode-raised start mid same.lowers j (stays.inodes j)
 
@@ -122,6 +123,7 @@ fails-both start mid new same stays low unchanged kept keep p q g =
 
 -- an inode of the upper is given a further name
 module _ (mid new : Layers) (low : new.lowers ≡ mid.lowers) (keep : IsLayer (layer_of mid.upper) → IsLayer (layer_of new.upper)) (p : Path) (n : Name) (q : Path) (absent : shows 0 (layers_of mid) (n ∷ q) ≡ None) (adds : AddsName (layer_of mid.upper) (layer_of new.upper) p (n ∷ q)) where
+  -- so it is in the upper as it shows
   name : AddsName (upper_of mid) (upper_of new) p (n ∷ q)
   name = name-raised mid new low p (n ∷ q) adds
 
@@ -140,6 +142,7 @@ module _ (mid new : Layers) (low : new.lowers ≡ mid.lowers) (keep : IsLayer (l
   abbrev C : Layer
   C = filled copy.copied (lowers_of mid)
 
+  -- gets the copy, and then its further name
   leaf : PlacesLeaf (upper_of mid) C (n ∷ p) copy.number (leaf_of i.content i.attributes)
   leaf = raised-leaf (lowers_of mid) (layer_of mid.upper) copy.copied (n ∷ p) copy.number (leaf_of i.content i.attributes) copy.leaf
 

@@ -106,6 +106,7 @@ module _ (u w v : Tree) (lowers : List Layer) (n : Name) (p : Path) (m : Name) (
       let raw : is_some (inode_at u j) ≡ true = sym (some-filled lowers (inode_at u j)) ∙ is in
       law_of_kept_move_link (full u lowers) (full w lowers) V (n ∷ p) (m ∷ q) j (same-named j raw) (ap (option_map (fill lowers)) (ready.inodes j raw))
 
+  -- what stood ready is a layer as it shows
   ready-layer : IsLayer (full u lowers) → IsLayer (full w lowers)
   ready-layer = filled-stays (layer_of u) (layer_of w) lowers ready.layer
 

@@ -79,6 +79,7 @@ module _ (a b : Layers) (p q : Path) (same : ShowsSame a b) (stays : Stays a b) 
   low : lowers_of b ≡ lowers_of a
   low = lowers-same a b same.lowers
 
+  -- an inode shows what it showed
   inodes : (k : ℕ) → B.inodes k ≡ A.inodes k
   inodes k = inode-raised a b same.lowers k (stays.inodes k)
 
