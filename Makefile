@@ -1,23 +1,29 @@
 # What can be made; `make` alone lists it.
-.PHONY: help show play build serve test test-serve test-clients
+.PHONY: help show play try-serve build serve test test-serve test-clients
 
 EXAMPLE := examples/change-layer
 SOCKET := out/overlay.socket
 
 help:
-	@echo "make show    print the merged tree of $(EXAMPLE).toml: an unproved build, within 2 minutes"
-	@echo "make play    play $(EXAMPLE).script on it, likewise"
-	@echo "make build   prove the program and leave it at out/overlayd: about an hour, interruptible"
-	@echo "make serve   build, then serve $(EXAMPLE).toml on the socket $(SOCKET) until interrupted"
-	@echo "make test    the gate: every proof, test, refused edit and program run"
-	@echo "make test-serve    tests the server that the gate built, over sockets of its own"
+	@echo "make show        print the merged tree of $(EXAMPLE).toml, by an unproved build that is"
+	@echo "                 made in 2 minutes and kept at out/overlayd-unproved"
+	@echo "make play        play $(EXAMPLE).script on it, by the same build"
+	@echo "make try-serve   serve it on the socket $(SOCKET) until interrupted, by the same build"
+	@echo "make build       prove the program and leave it at out/overlayd: an hour, interruptible"
+	@echo "make serve       build, then serve on that socket as try-serve does"
+	@echo "make test        the gate: every proof, test, refused edit and program run"
+	@echo "make test-serve    tests the server that was built, over sockets of its own"
 	@echo "make test-clients  tests the Python tools, with the program where it is built"
 
 show:
-	@tools/need-kit && tools/try show $(EXAMPLE).toml
+	@tools/try show $(EXAMPLE).toml
 
 play:
-	@tools/need-kit && tools/try play $(EXAMPLE).toml < $(EXAMPLE).script
+	@tools/try play $(EXAMPLE).toml < $(EXAMPLE).script
+
+try-serve:
+	@rm -f $(SOCKET)
+	@tools/try serve $(EXAMPLE).toml $(SOCKET) --verbose
 
 build:
 	@tools/need-kit && tools/build
