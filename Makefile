@@ -1,8 +1,10 @@
 # What can be made; `make` alone lists it.
-.PHONY: help show play try-serve build serve test test-serve test-clients
+.PHONY: help show play try-serve build serve test test-serve test-clients install clean
 
 EXAMPLE := examples/change-layer
 SOCKET := out/overlay.socket
+PREFIX := /usr/local
+PROGRAM := $(or $(OVERLAYD),out/overlayd)
 
 help:
 	@echo "make show          print the merged tree of $(EXAMPLE).toml, by an unproved build that is"
@@ -14,6 +16,9 @@ help:
 	@echo "make test          the gate: every proof, test, refused edit and program run"
 	@echo "make test-serve    tests the server of out/overlayd, or of \$$OVERLAYD, over its own sockets"
 	@echo "make test-clients  tests the Python tools, with that program where it is built"
+	@echo "make install       copy that program, the Python tools and the manual to $(PREFIX),"
+	@echo "                   or to where PREFIX and DESTDIR say"
+	@echo "make clean         remove all that was built and proved"
 
 show:
 	@tools/try show $(EXAMPLE).toml
@@ -45,3 +50,24 @@ test-serve:
 
 test-clients:
 	python3 -m unittest discover -s clients/python/tests -t clients/python
+
+# What was built is copied, not built: a proof takes an hour. The Python tools are found by a path
+# of their own, so that they need no other installation.
+install:
+	@test -x "$(PROGRAM)" || { echo "no program at $(PROGRAM); make build makes it" >&2; exit 1; }
+	install -D -m 755 "$(PROGRAM)" "$(DESTDIR)$(PREFIX)/bin/overlayd"
+	for page in man/*.1; do \
+	  install -D -m 644 $$page "$(DESTDIR)$(PREFIX)/share/man/man1/$${page#man/}" || exit 1; \
+	done
+	for file in $$(cd clients/python && find overlayd -name '*.py' -o -name py.typed); do \
+	  install -D -m 644 clients/python/$$file "$(DESTDIR)$(PREFIX)/lib/overlayd/$$file" || exit 1; \
+	done
+	for tool in import export; do \
+	  to="$(DESTDIR)$(PREFIX)/bin/overlayd-$$tool"; \
+	  printf '#!/bin/sh\nPYTHONPATH="%s$${PYTHONPATH:+:$$PYTHONPATH}" exec python3 -m %s "$$@"\n' \
+	    "$(PREFIX)/lib/overlayd" "overlayd.$${tool}er" > "$$to" && chmod 755 "$$to" || exit 1; \
+	done
+
+clean:
+	rm -rf out crates/*/out clients/python/build clients/python/*.egg-info
+	find clients/python tools bench -name __pycache__ -prune -exec rm -rf {} +

@@ -10,6 +10,7 @@ import tempfile
 import threading
 from typing import BinaryIO, Iterator, List, Optional, Set, cast
 
+from .. import __version__
 from . import limits
 from .checking import check
 from .directories import Identity
@@ -62,6 +63,7 @@ def parser() -> argparse.ArgumentParser:
     words = argparse.ArgumentParser(
         prog=PROGRAM, description=_ABOUT, epilog=_MORE,
         formatter_class=argparse.RawDescriptionHelpFormatter)
+    words.add_argument("--version", action="version", version=f"{PROGRAM} {__version__}")
     words.add_argument("sources", nargs="*", metavar="SOURCE", help="a layer or an image")
     words.add_argument("--check", metavar="FILE",
                        help="tell the faults of a manifest; - is standard input")
