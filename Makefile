@@ -1,23 +1,34 @@
 # What can be made; `make` alone lists it.
-.PHONY: help show play build serve test test-serve test-clients
+.PHONY: help show play try-serve build serve test test-serve test-clients install clean
 
 EXAMPLE := examples/change-layer
 SOCKET := out/overlay.socket
+PREFIX := /usr/local
+PROGRAM := $(or $(OVERLAYD),out/overlayd)
 
 help:
-	@echo "make show    print the merged tree of $(EXAMPLE).toml: an unproved build, within 2 minutes"
-	@echo "make play    play $(EXAMPLE).script on it, likewise"
-	@echo "make build   prove the program and leave it at out/overlayd: about an hour, interruptible"
-	@echo "make serve   build, then serve $(EXAMPLE).toml on the socket $(SOCKET) until interrupted"
-	@echo "make test    the gate: every proof, test, refused edit and program run"
-	@echo "make test-serve    tests the server that the gate built, over sockets of its own"
-	@echo "make test-clients  tests the Python tools, with the program where it is built"
+	@echo "make show          print the merged tree of $(EXAMPLE).toml, by an unproved build that is"
+	@echo "                   made in 2 minutes and kept at out/overlayd-unproved"
+	@echo "make play          play $(EXAMPLE).script on it, by the same build"
+	@echo "make try-serve     serve it on the socket $(SOCKET) until interrupted, by the same build"
+	@echo "make build         prove the program and leave it at out/overlayd: an hour, interruptible"
+	@echo "make serve         build, then serve on that socket as try-serve does"
+	@echo "make test          the gate: every proof, test, refused edit and program run"
+	@echo "make test-serve    tests the server of out/overlayd, or of \$$OVERLAYD, over its own sockets"
+	@echo "make test-clients  tests the Python tools, with that program where it is built"
+	@echo "make install       copy that program, the Python tools and the manual to $(PREFIX),"
+	@echo "                   or to where PREFIX and DESTDIR say"
+	@echo "make clean         remove all that was built and proved"
 
 show:
-	@tools/need-kit && tools/try show $(EXAMPLE).toml
+	@tools/try show $(EXAMPLE).toml
 
 play:
-	@tools/need-kit && tools/try play $(EXAMPLE).toml < $(EXAMPLE).script
+	@tools/try play $(EXAMPLE).toml < $(EXAMPLE).script
+
+try-serve:
+	@rm -f $(SOCKET)
+	@tools/try serve $(EXAMPLE).toml $(SOCKET) --verbose
 
 build:
 	@tools/need-kit && tools/build
@@ -28,13 +39,35 @@ serve: build
 	out/overlayd serve $(EXAMPLE).toml $(SOCKET) --verbose
 
 # The gate has at most four proofs side by side, with one job each: several jobs on one proof take
-# up to half as much processor time again.
+# up to half as much processor time again. What it leaves of the program goes where build puts it.
 test:
 	@tools/need-kit
 	RT_JOBS=$$(($$(nproc) < 4 ? $$(nproc) : 4)) rt ci
+	@install -D -m 755 crates/overlayd/out/overlayd out/overlayd
 
 test-serve:
 	tools/test-serve
 
 test-clients:
 	python3 -m unittest discover -s clients/python/tests -t clients/python
+
+# What was built is copied, not built: a proof takes an hour. The Python tools are found by a path
+# of their own, so that they need no other installation.
+install:
+	@test -x "$(PROGRAM)" || { echo "no program at $(PROGRAM); make build makes it" >&2; exit 1; }
+	install -D -m 755 "$(PROGRAM)" "$(DESTDIR)$(PREFIX)/bin/overlayd"
+	for page in man/*.1; do \
+	  install -D -m 644 $$page "$(DESTDIR)$(PREFIX)/share/man/man1/$${page#man/}" || exit 1; \
+	done
+	for file in $$(cd clients/python && find overlayd -name '*.py' -o -name py.typed); do \
+	  install -D -m 644 clients/python/$$file "$(DESTDIR)$(PREFIX)/lib/overlayd/$$file" || exit 1; \
+	done
+	for tool in import export; do \
+	  to="$(DESTDIR)$(PREFIX)/bin/overlayd-$$tool"; \
+	  printf '#!/bin/sh\nPYTHONPATH="%s$${PYTHONPATH:+:$$PYTHONPATH}" exec python3 -m %s "$$@"\n' \
+	    "$(PREFIX)/lib/overlayd" "overlayd.$${tool}er" > "$$to" && chmod 755 "$$to" || exit 1; \
+	done
+
+clean:
+	rm -rf out crates/*/out clients/python/build clients/python/*.egg-info
+	find clients/python tools bench -name __pycache__ -prune -exec rm -rf {} +

@@ -15,5 +15,6 @@ from .frames import Stat
 from .pipeline import Pending, Pipeline
 from .watches import Mask, Notice
 
+__version__ = "0.4.0"
 __all__ = ["BadReply", "Client", "Disconnected", "File", "Mask", "NoReply", "Notice", "Pending",
            "Pipeline", "Stat", "UnknownRefusal", "place_of"]

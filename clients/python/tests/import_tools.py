@@ -128,7 +128,7 @@ def skip(test: str, reason: str) -> NoReturn:
 def overlayd() -> Optional[str]:
     """The program, where it was built."""
     named = os.environ.get("OVERLAYD")
-    path = Path(named) if named else REPOSITORY / "crates" / "overlayd" / "out" / "overlayd"
+    path = Path(named) if named else REPOSITORY / "out" / "overlayd"
     return str(path) if path.is_file() else None
 
 

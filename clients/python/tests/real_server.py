@@ -19,7 +19,7 @@ def program():
     named = os.environ.get("OVERLAYD")
     if named:
         return os.path.abspath(named)
-    built = ROOT / "crates" / "overlayd" / "out" / "overlayd"
+    built = ROOT / "out" / "overlayd"
     return str(built) if built.is_file() else None
 
 

@@ -1,5 +1,6 @@
 """The difference of two trees, as a layer says it, and as tars and upper directories."""
 
+import contextlib
 import io
 import os
 import stat
@@ -7,10 +8,12 @@ import tarfile
 import tempfile
 import unittest
 from pathlib import Path
-from typing import List
+from typing import List, Tuple
 
 from overlayd.exporter import (Change, Entry, MemoryTree, Unsayable, changes, write_layer,
                                write_upper)
+
+from overlayd.exporter.command import main
 
 from . import import_tools as tools
 from . import test_import_kernel as kernel
@@ -196,6 +199,27 @@ class UpperTest(unittest.TestCase):
     def fail_to_read(entry: Entry) -> bytes:
         """A tree whose bytes can't be had."""
         raise OSError(5, entry.path)
+
+
+class CommandTest(unittest.TestCase):
+    """The command, where no server is."""
+
+    def ended(self, *words: str) -> Tuple[int, str]:
+        """Its status, and what it says."""
+        errors = io.StringIO()
+        with contextlib.redirect_stderr(errors):
+            return main(["/nonexistent/m.toml", "/nonexistent/socket", *words]), errors.getvalue()
+
+    def test_the_target_is_asked_for_first(self) -> None:
+        """Before the manifest is read, and the mount, which would make its history longer."""
+        with tempfile.TemporaryDirectory() as folder:
+            self.assertEqual(self.ended("--upper", folder),
+                             (1, f"overlayd-export: {folder}: File exists\n"))
+        for form in ("--upper", "--layer"):
+            self.assertEqual(self.ended(form, "/nonexistent/out"),
+                             (1, "overlayd-export: /nonexistent: No such file or directory\n"))
+        status, told = self.ended("--layer", "-")
+        self.assertEqual((status, "m.toml" in told), (1, True))
 
 
 class KernelTest(ExportCase):

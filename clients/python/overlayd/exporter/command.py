@@ -1,9 +1,12 @@
 """The command `overlayd-export`."""
 
 import argparse
+import errno
+import os
 import sys
 from typing import List, Optional
 
+from .. import __version__
 from ..client import Client
 from ..importer.command import Output
 from ..importer.telling import shown
@@ -46,6 +49,7 @@ def parser() -> argparse.ArgumentParser:
     words = argparse.ArgumentParser(
         prog=PROGRAM, description=_ABOUT, epilog=_MORE,
         formatter_class=argparse.RawDescriptionHelpFormatter)
+    words.add_argument("--version", action="version", version=f"{PROGRAM} {__version__}")
     words.add_argument("manifest", metavar="MANIFEST", help="the manifest that is served")
     words.add_argument("socket", metavar="SOCKET", help="the socket of the server")
     form = words.add_mutually_exclusive_group(required=True)
@@ -60,6 +64,7 @@ def main(arguments: Optional[List[str]] = None) -> int:
     """Runs the command; the exit status."""
     words = parser().parse_args(arguments)
     try:
+        _ask_target(words)
         lower = LowerTree(words.manifest)
         with Client(words.socket) as client:
             mounted = MountTree(client)
@@ -74,6 +79,17 @@ def main(arguments: Optional[List[str]] = None) -> int:
         return _end(f"{name}{error.strerror or error}")
     except MemoryError:
         return _end("out of memory")
+
+
+def _ask_target(words: argparse.Namespace) -> None:
+    """Whether the export can appear where it is asked for: before the mount is read, whose history
+    each call makes longer."""
+    path = words.upper if words.upper is not None else words.layer
+    if words.upper is not None and os.path.lexists(path):
+        raise FileExistsError(errno.EEXIST, os.strerror(errno.EEXIST), path)
+    folder = os.path.dirname(os.path.abspath(path))
+    if path != "-" and not os.path.isdir(folder):
+        raise FileNotFoundError(errno.ENOENT, os.strerror(errno.ENOENT), folder)
 
 
 def _write(words: argparse.Namespace, found: List[Change], mounted: Tree) -> None:

@@ -10,7 +10,9 @@ import tempfile
 import threading
 from typing import BinaryIO, Iterator, List, Optional, Set, cast
 
+from .. import __version__
 from . import limits
+from .checking import check
 from .directories import Identity
 from .images import Choice
 from .plan import Wish, plan, write
@@ -44,6 +46,11 @@ In the place of what is left out stands a whiteout where there are layers below,
 older shows there. With --strict the first such thing ends the import, and nothing is written.
 Refused in any case: files whose bytes are in a lower layer (metacopy); tars that aren't whole.
 
+checking a manifest: --check FILE reads one that is there, whole, and prints a line for each of its
+faults: file, line, layer and entry, path, key, and what is allowed. What overlayd says of it, which
+is the first fault alone and in one word, stands in the last line, on standard error. The status is
+1 where there is a fault.
+
 memory: one file at a time; besides, for tars and for directories that are made one, some 500
 bytes for each object. A tar is read twice, in its order.
 
@@ -56,7 +63,10 @@ def parser() -> argparse.ArgumentParser:
     words = argparse.ArgumentParser(
         prog=PROGRAM, description=_ABOUT, epilog=_MORE,
         formatter_class=argparse.RawDescriptionHelpFormatter)
-    words.add_argument("sources", nargs="+", metavar="SOURCE", help="a layer or an image")
+    words.add_argument("--version", action="version", version=f"{PROGRAM} {__version__}")
+    words.add_argument("sources", nargs="*", metavar="SOURCE", help="a layer or an image")
+    words.add_argument("--check", metavar="FILE",
+                       help="tell the faults of a manifest; - is standard input")
     words.add_argument("-o", "--output", metavar="FILE", default="-",
                        help="the manifest, which appears when it is whole; - is standard output "
                             "(the default)")
@@ -81,6 +91,27 @@ def _history(text: str) -> int:
     if not limits.HISTORY_LEAST <= count <= limits.HISTORY_MOST:
         raise argparse.ArgumentTypeError("not from 2 to 1000000")
     return count
+
+
+def check_manifest(path: str) -> int:
+    """Tells each fault of a manifest in a line of its own; the exit status."""
+    if path == "-":
+        data = sys.stdin.buffer.read()
+    else:
+        with open(path, "rb") as stream:
+            data = stream.read()
+    found = check(data)
+    name = "standard input" if path == "-" else shown(path)
+    for fault in found.faults:
+        print(": ".join(part for part in (f"{name}:{fault.line}", fault.place, fault.what) if part))
+    sys.stdout.flush()
+    count = len(found.faults)
+    if found.first is None:
+        told = f"no fault; layers: {found.layers}, entries: {found.entries}"
+    else:
+        told = f"{count} fault{'s' * (count > 1)}; overlayd says `{found.first}`"
+    print(f"{PROGRAM}: {name}: {told}", file=sys.stderr)
+    return 0 if found.first is None else 1
 
 
 class Output:
@@ -171,9 +202,14 @@ def _unwound_by_sigterm() -> Iterator[None]:
 
 def main(arguments: Optional[List[str]] = None) -> int:
     """Runs the command; the exit status."""
-    words = parser().parse_args(arguments)
+    command = parser()
+    words = command.parse_args(arguments)
+    if bool(words.sources) == (words.check is not None):
+        command.error("either SOURCE, one or more, or --check FILE")
     report = Report(sys.stderr, words.strict, words.quiet)
     try:
+        if words.check is not None:
+            return check_manifest(words.check)
         with _unwound_by_sigterm():
             run(words, report)
         return 0

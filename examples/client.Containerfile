@@ -1,0 +1,13 @@
+# A client in a container; the server runs outside, as overlayd.service does, and the container gets
+# its socket alone. At the top of the repository:
+#
+#     docker build -f examples/client.Containerfile -t overlayd-client .
+#     docker run --rm --group-add "$(getent group overlayd | cut -d: -f3)" \
+#         -v /run/overlayd:/run/overlayd overlayd-client
+FROM python:3.9-slim
+COPY clients/python/overlayd /usr/local/lib/overlayd/overlayd
+COPY clients/python/examples/watch_and_change.py /usr/local/lib/overlayd/
+ENV PYTHONPATH=/usr/local/lib/overlayd
+USER nobody
+ENTRYPOINT ["python3", "/usr/local/lib/overlayd/watch_and_change.py"]
+CMD ["/run/overlayd/overlay.socket"]
