@@ -17,7 +17,7 @@ use std::alloc::{AllocError, Global};
 use std::convert::AsStr;
 
 /// The version of the program, which `overlayd --version` prints.
-pub const VERSION: &str = "0.3.0";
+pub const VERSION: &str = "0.4.0";
 
 // What `play` does, with the commands of a script.
 const PLAYED: &str =

@@ -83,7 +83,7 @@ fn prints_the_version(rt: HostRuntime) -> Result<(), Fail> {
         Ok(_) => Err(Fail::from("no version")),
         Err(error) => {
             let text = error.to_string(alloc)?;
-            assert_eq!(rt; text.as_str(), "overlayd 0.3.0\n");
+            assert_eq!(rt; text.as_str(), "overlayd 0.4.0\n");
             Ok(())
         }
     }
