@@ -1,4 +1,5 @@
 pub mod Words
+pub mod Stored
 pub mod Shown
 pub mod Objects
 pub mod Counting
@@ -13,6 +14,7 @@ pub mod Rewritten
 pub mod Writings
 pub mod FileSight
 pub mod Leaves
+pub mod Raising
 pub mod Altered
 pub mod Lasting
 pub mod Directories
