@@ -13,13 +13,14 @@ use Rattle.layer_tree.specs.Tree.{Tree, layer_of, inode_of, seen, seen_at, inode
 use Rattle.layer_tree.specs.declared.node.Node.{Node}
 use Rattle.layer_tree.specs.declared.node.Node.TheVariants as node
 use Rattle.merged_lookup.specs.declared.layers.Layers.{Layers}
-use Rattle.merged_lookup.specs.Merged.{layers_of, lowers_of}
+use Rattle.merged_lookup.specs.Merged.{upper_of, layers_of, lowers_of}
 use Rattle.copy_up.specs.Showing.{number_of, IsParent, KeepsPath, GainsParents}
 use Rattle.copy_up.specs.Altering.{object_with, inode_with, object_attributes, AltersObject}
 use Rattle.copy_up.specs.Leaves.{CopiesLeaf}
 use Rattle.copy_up.proofs.Frames.{gains-self}
 use Rattle.copy_up.proofs.Placing.{nothing-held}
 use Rattle.copy_up.proofs.Copying.{free-inode}
+use Rattle.copy_up.proofs.Raising.{raw-attributes}
 
 -- what is seen under the key has the attributes
 seen-with : (old new : Tree) (key : ℕ) (a : Attributes) → SetsAttributes old new key a → seen_at new key ≡ option_map (object_with a) (seen_at old key)
@@ -104,7 +105,7 @@ object-directory start old new n p key a gains s d nameless =
 -- a file or link of a lower layer that is copied up is the one object that is new
 module _ (old new : Layers) (p : Path) (c : Content) (a : Attributes) (leaf : CopiesLeaf old new p c a) (j k : ℕ) (x : Option Inode) (shown : shows 0 (layers_of old) p ≡ Some (Contents j k x)) (lower : 0 < j) where
   lacked-there : held (layer_of old.upper) p ≡ None
-  lacked-there = free-inode (layer_of old.upper).inodes (held (layer_of old.upper) p) (through (layer_of old.upper) (lowers_of old) p) j k x shown lower
+  lacked-there = free-inode (upper_of old).inodes (held (layer_of old.upper) p) (through (layer_of old.upper) (lowers_of old) p) j k x shown lower
 
   beside-copy : (q r : Path) → q ≡ r ++ p → q ≢ p → KeepsPath old new p q
   beside-copy q [] e off = absurd (off e)
@@ -115,7 +116,9 @@ module _ (old new : Layers) (p : Path) (c : Content) (a : Attributes) (leaf : Co
       record {
         key = leaf.number;
         number = ap number_of leaf.held_there;
-        attributes = ap (object_attributes (layer_of new.upper)) leaf.held_there ∙ ap (option_map (λ (i : Inode). i.attributes)) leaf.inode;
+        attributes =
+            ap (object_attributes (layer_of new.upper)) leaf.held_there ∙ raw-attributes (lowers_of new) ((layer_of new.upper).inodes leaf.number)
+            ∙ ap (option_map (λ (i : Inode). i.attributes)) leaf.inode;
         was = inr (lacked-there, leaf.vacant);
         stood = λ there. absurd (true≢false (sym there ∙ ap is_some leaf.vacant));
         seen = λ m off there. leaf.objects.seen m there;

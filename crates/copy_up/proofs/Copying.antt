@@ -1,5 +1,5 @@
 -- A file or link that the upper gets in a directory whose missing parents were placed: a new one, or one of a lower layer copied up.
-use Rattle.std.proofs.Common.{◌≡◌, ◌↔◌, ◌<◌, ℕ, zero, suc, List, [], ◌∷◌, ◌++◌, Option, None, Some, option_map, refl, sym, ap, ◌∙◌, subst, inl, inr, arith, Result, Ok, Err, IfOk}
+use Rattle.std.proofs.Common.{◌≡◌, ◌↔◌, ◌<◌, ℕ, zero, suc, Bool, false, List, [], ◌∷◌, ◌++◌, Option, None, Some, option_map, refl, sym, ap, ◌∙◌, subst, inl, inr, arith, Result, Ok, Err, IfOk}
 use Rattle.std.specs.Option.{option_and_then}
 use Rattle.std.specs.Result.{MatchResult}
 use Rattle.slab.specs.Slab.{get}
@@ -13,21 +13,18 @@ use Rattle.mount_laws.proofs.Places.{longer}
 use Rattle.mount_laws.proofs.Alters.{law_of_thin}
 use Rattle.mount_laws.proofs.Changed.{law_of_copied_leaf}
 use Rattle.layer_tree.specs.Tree.{Tree, layer_of, inode_of, Inserts, SetsPath}
-use Rattle.layer_tree.specs.declared.node.Inode as stored
-use Rattle.layer_tree.specs.declared.node.Node.{Node}
-use Rattle.layer_tree.specs.declared.node.Node.TheVariants as node
 use Rattle.layer_tree.specs.declared.node.Object.TheVariants as object
 use Rattle.layer_tree.specs.Nameless.{KeepsObjects}
 use Rattle.layer_tree.proofs.Nameless.{keeps_then, vacant_before}
 use Rattle.merged_lookup.specs.declared.layers.Layers.{Layers}
 use Rattle.merged_lookup.specs.declared.stack.Place.{Place}
 use Rattle.merged_lookup.specs.declared.stack.Stack.{Stack}
-use Rattle.merged_lookup.specs.Merged.{top_of, trees, node_in, layers_of, lowers_of, IsStackOf}
-use Rattle.merged_lookup.proofs.Looking.{inode-shown}
+use Rattle.merged_lookup.specs.Merged.{top_of, upper_of, layers_of, lowers_of, IsStackOf}
 use Rattle.copy_up.specs.Showing.{is_object, ShowsSame, StaysLayers, StaysThin, HasPlace, KeepsPath, GainsParents}
 use Rattle.copy_up.specs.Leaves.{CopiesLeaf}
 use Rattle.copy_up.proofs.Frames.{lacking, through-same, others-then}
 use Rattle.copy_up.proofs.Placing.{nothing-held, free-directory}
+use Rattle.copy_up.proofs.Raising.{layer-raised, leaf-raised}
 use Rattle.copy_up.proofs.Keeping.{lowers-same, linked-by, lift, place-of}
 
 -- a new inode of one name
@@ -51,23 +48,6 @@ pub answer-more : {A E : Type 0} (P Q : A → Type 0) (F : E → Type 0) (r : Re
 answer-more P Q F (Ok x) h more = more x h
 answer-more P Q F (Err e) h more = tt
 
--- an inode that is shown stands at its place
-pub inode-stands : (l : Layers) (p : Path) (d : Place) (i : Inode) → shows 0 (layers_of l) p ≡ Some (Contents d.layer d.key (Some i)) → option_and_then inode_of (node_in (trees l) d) ≡ Some i
-inode-stands l p d i h = inode-shown 0 (trees l) (trees l) refl p d.layer d.key (Some i) h
-
--- what stands where an inode is shown is an inode, with its content and attributes
-pub record IsStored (x : Option Node) (i : Inode) : Type 0 where
-  pub inode : stored.Inode
-  pub is : x ≡ Some (node.Inode inode)
-  pub content : inode.content ≡ i.content
-  pub attributes : inode.attributes ≡ i.attributes
-
--- where an inode is seen, it stands
-pub is-stored : (x : Option Node) (i : Inode) → option_and_then inode_of x ≡ Some i → IsStored x i
-is-stored None i h = cc
-is-stored (Some (node.Directory d)) i h = cc
-is-stored (Some (node.Inode y)) i h = let e : ◌≡◌ {A = Inode} (record { content = y.content; attributes = y.attributes; links = y.links; mark = None }) i = cc in record { inode = y; is = refl; content = ap (λ (z : Inode). z.content) e; attributes = ap (λ (z : Inode). z.attributes) e }
-
 -- the upper holds nothing where a lower layer's file or link is shown
 pub free-inode : (inodes : ℕ → Option Inode) (o : Option Object) (s : Option Shown) (j k : ℕ) (x : Option Inode) → over 0 inodes o s ≡ Some (Contents j k x) → 0 < j → o ≡ None
 free-inode inodes None s j k x h low = refl
@@ -80,15 +60,15 @@ abbrev pub NamesSame : Layers → Layers → Type 0
 NamesSame start old = (x : Path) (k : ℕ) → (held (layer_of old.upper) x ≡ Some (Named k)) ↔ (held (layer_of start.upper) x ≡ Some (Named k))
 
 -- what is altered over an upper whose missing parents were placed is altered over the upper before that
-pub alters-since : (start old : Layers) (V : Layer) (p : Path) (a : Attributes) → ShowsSame start old → NamesSame start old → Alters (layer_of old.upper) V (lowers_of old) p a → Alters (layer_of start.upper) V (lowers_of start) p a
-alters-since start old V p a same names g =
+pub alters-since : (start old : Layers) (V : Layer) (marked : Bool) (p : Path) (a : Attributes) → ShowsSame start old → NamesSame start old → Alters (upper_of old) V (lowers_of old) marked p a → Alters (upper_of start) V (lowers_of start) marked p a
+alters-since start old V marked p a same names g =
     let low : lowers_of old ≡ lowers_of start = lowers-same start old same.lowers in
-    let U : Layer = layer_of start.upper in
-    let W : Layer = layer_of old.upper in
+    let U : Layer = upper_of start in
+    let W : Layer = upper_of old in
     record {
       layers = subst (λ (Ls : List Layer). AreLayers (V ∷ Ls)) low g.layers;
-      here = sym (ap (λ Ls. merged V Ls p) low) ∙ g.here ∙ ap (option_map (altered a)) (same.sights p);
-      linked = λ q apart l. sym (ap (λ Ls. merged V Ls q) low) ∙ g.linked q apart (linked-by U W (λ x k. (names x k).1) p q l) ∙ ap (option_map (altered a)) (same.sights q);
+      here = sym (ap (λ Ls. merged V Ls p) low) ∙ g.here ∙ ap (option_map (altered marked a)) (same.sights p);
+      linked = λ q apart l. sym (ap (λ Ls. merged V Ls q) low) ∙ g.linked q apart (linked-by U W (λ x k. (names x k).1) p q l) ∙ ap (option_map (altered marked a)) (same.sights q);
       others = λ q apart off. sym (ap (λ Ls. merged V Ls q) low) ∙ g.others q apart (λ l. off (linked-by W U (λ x k. (names x k).0) p q l)) ∙ same.sights q;
       earlier = λ q z l. lift (linked-by W U (λ x k. (names x k).0) q z) (g.earlier q z l);
       later = λ q z l. g.later q z (linked-by U W (λ x k. (names x k).1) q z l);
@@ -98,7 +78,7 @@ alters-since start old V p a same names g =
 module _ (start old : Layers) (same : ShowsSame start old) (n : Name) (q : Path) (gains : GainsParents start old (n ∷ q)) (j k : ℕ) (x : Option Inode) (shown : shows 0 (layers_of start) (n ∷ q) ≡ Some (Contents j k x)) (lower : 0 < j) where
   -- is nothing that the upper held at first, nor holds after them
   lacked-first : held (layer_of start.upper) (n ∷ q) ≡ None
-  lacked-first = free-inode (layer_of start.upper).inodes (held (layer_of start.upper) (n ∷ q)) _ j k x shown lower
+  lacked-first = free-inode (upper_of start).inodes (held (layer_of start.upper) (n ∷ q)) _ j k x shown lower
 
   lacked : held (layer_of old.upper) (n ∷ q) ≡ None
   lacked = by (gains.paths (n ∷ q))
@@ -116,9 +96,9 @@ module _ (start old : Layers) (same : ShowsSame start old) (n : Name) (q : Path)
   copy-place parent dir is top is_dir = subst (λ (d : Place). HasPlace (layer_of old.upper) d.key n q) (sym is_dir) (place-of old q parent n is top (ap is_object lacked))
 
 -- one that is copied is altered and no more
-alters-at : (U V : Layer) (lowers : List Layer) → AreLayers (U ∷ lowers) → AreLayers (V ∷ lowers) → (n : Name) (q : Path) (j l key : ℕ) (i : Inode) (a : Attributes) → shows 0 (U ∷ lowers) (n ∷ q) ≡ Some (Contents j l (Some i)) → 0 < j → PlacesLeaf U V (n ∷ q) key (leaf_of i.content a) → Alters U V lowers (n ∷ q) a
+alters-at : (U V : Layer) (lowers : List Layer) → AreLayers (U ∷ lowers) → AreLayers (V ∷ lowers) → (n : Name) (q : Path) (j l key : ℕ) (i : Inode) (a : Attributes) → shows 0 (U ∷ lowers) (n ∷ q) ≡ Some (Contents j l (Some i)) → 0 < j → PlacesLeaf U V (n ∷ q) key (leaf_of i.content a) → Alters U V lowers false (n ∷ q) a
 alters-at U V lowers b c n q zero l key i a shown lower placed = absurd (omega (arith, lower))
-alters-at U V lowers b c n q (suc j) l key i a shown lower placed = law_of_copied_leaf U V lowers b c n q j l key i a shown placed
+alters-at U V lowers b c n q (suc j) l key i a shown lower placed = law_of_copied_leaf U V lowers b c n q j l key i a shown false None refl placed
 
 -- a copy of a lower layer's file or link in the upper, under its key
 module _ (start old new : Layers) (same : ShowsSame start old) (n : Name) (q : Path) (gains : GainsParents start old (n ∷ q)) (low : new.lowers ≡ old.lowers) (key : ℕ) (a : Attributes) where
@@ -128,8 +108,8 @@ module _ (start old new : Layers) (same : ShowsSame start old) (n : Name) (q : P
       lowers = low ∙ same.lowers;
       number = key;
       held_there = placed.here;
-      inode = placed.inode;
-      alters = λ h. alters-since start old (layer_of new.upper) (n ∷ q) a same names (alters-at (layer_of old.upper) (layer_of new.upper) (lowers_of old) (stays h) (keep (stays h).0, (stays h).1) n q j l key i a (shown-still start old same n q gains j l (Some i) shown lower) lower placed);
+      inode = (leaf-raised old new low (n ∷ q) key (leaf_of i.content a) placed).inode;
+      alters = λ h. alters-since start old (upper_of new) false (n ∷ q) a same names (alters-at (upper_of old) (upper_of new) (lowers_of old) (stays h) (layer-raised old new low keep (stays h).0, (stays h).1) n q j l key i a (shown-still start old same n q gains j l (Some i) shown lower) lower (leaf-raised old new low (n ∷ q) key (leaf_of i.content a) placed));
       vacant = vacant_before start.upper old.upper None gains.objects key vacant;
       others = others-then start old new (n ∷ q) gains low placed.elsewhere
           (λ m r. ap is_object (nothing-held old.upper (n ∷ q) (ap holds_directory (lacked start old same n q gains j l (Some i) shown lower)) m r))

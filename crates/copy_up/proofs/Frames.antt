@@ -10,7 +10,7 @@ use Rattle.layer_tree.specs.Tree.{layer_of, SetsPath, SameObjects}
 use Rattle.layer_tree.specs.Nameless.{KeepsObjects}
 use Rattle.layer_tree.proofs.Nameless.{keeps_then, vacant_before}
 use Rattle.merged_lookup.specs.declared.layers.Layers.{Layers}
-use Rattle.merged_lookup.specs.Merged.{layers_of, lowers_of}
+use Rattle.merged_lookup.specs.Merged.{upper_of, layers_of, lowers_of}
 use Rattle.copy_up.specs.Showing.{ShowsSame, is_object, IsParent, PlacedParent, KeepsPath, GainsParents, KeepsOthers}
 
 pub gains-self : (l : Layers) (p : Path) → GainsParents l l p
@@ -52,7 +52,7 @@ gains-one old new p x layer key number a parent low shown lacked sets vacant kep
 
 -- what is shown where the upper holds nothing is what comes through it
 pub lacking : (l : Layers) (x : Path) → held (layer_of l.upper) x ≡ None → shows 0 (layers_of l) x ≡ through (layer_of l.upper) (lowers_of l) x
-lacking l x none = ap (λ o. over 0 (layer_of l.upper).inodes o (through (layer_of l.upper) (lowers_of l) x)) none
+lacking l x none = ap (λ o. over 0 (upper_of l).inodes o (through (layer_of l.upper) (lowers_of l) x)) none
 
 -- what comes through an upper that shows the same is the same
 pub through-same : (a b : Layers) (x : Path) → ShowsSame a b → through (layer_of b.upper) (lowers_of b) x ≡ through (layer_of a.upper) (lowers_of a) x

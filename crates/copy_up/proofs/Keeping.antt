@@ -1,5 +1,5 @@
 -- What a mount shows before and after its upper gains a directory.
-use Rattle.std.proofs.Common.{is_some, ◌≡◌, ◌≢◌, ℕ, suc, ◌+◌, ◌<◌, ◌≤◌, Bool, true, false, List, [], ◌∷◌, ◌++◌, Option, None, Some, refl, sym, ap, ap₂, ◌∙◌, subst, length, map, drop, take, reverse, get_or, arith, Result, Ok, Err, OnErr, ◌⊎◌, inl, inr}
+use Rattle.std.proofs.Common.{is_some, ◌≡◌, ◌≢◌, ℕ, suc, ◌+◌, ◌<◌, ◌≤◌, Bool, true, false, List, [], ◌∷◌, ◌++◌, Option, None, Some, refl, sym, ap, ap₂, ◌∙◌, subst, length, drop, take, reverse, get_or, arith, Result, Ok, Err, OnErr, ◌⊎◌, inl, inr}
 use Rattle.std.proofs.lemmas.Bool.{false≢true}
 use Rattle.std.proofs.lemmas.List.{length-map}
 use Rattle.ov_base.specs.declared.attributes.Attributes.{Attributes}
@@ -18,11 +18,13 @@ use Rattle.layer_tree.specs.Tree.{Tree, layer_of, inode_at, SetsPath, SameObject
 use Rattle.merged_lookup.specs.declared.stack.Place.{Place}
 use Rattle.merged_lookup.specs.declared.stack.Stack.{Stack}
 use Rattle.merged_lookup.specs.declared.layers.Layers.{Layers}
-use Rattle.merged_lookup.specs.Merged.{level, unless_cut, places_at, top_of, lowers_of, layers_of, or_else, fault, way_fault, IsStackOf, ShowsDirectory}
+use Rattle.merged_lookup.specs.Merged.{level, unless_cut, places_at, top_of, upper_of, lowers_of, layers_of, or_else, fault, way_fault, IsStackOf, ShowsDirectory}
 use Rattle.merged_lookup.proofs.Descending.{length-places, reverse-more}
 use Rattle.merged_lookup.proofs.Looking.{head-places, head-unless, reverse-parts}
 use Rattle.copy_up.specs.Showing.{PassesSame, ShowsSame, HasPlace, is_object, ChangesNoSight, Stays, StaysLayers, StaysMount, StaysSound, StaysThin, GainsParent, IsParent, GainsParents}
-use Rattle.copy_up.proofs.Frames.{gains-one, gains-then, gains-unchanged}
+pub use Rattle.copy_up.proofs.Raising.{lowers-same}
+use Rattle.copy_up.proofs.Raising.{layer-raised, inode-raised, inodes-raised, path-raised, placed-raised}
+use Rattle.copy_up.proofs.Frames.{gains-self, gains-one, gains-then, gains-unchanged}
 use Rattle.copy_up.proofs.Placing.{nothing-held, agree-placed, placed-same, placed-absent, IsHeldDirectory, top-held, free-folder}
 
 pub same-self : (l : Layers) → ShowsSame l l
@@ -69,12 +71,9 @@ place-of l p s n is top free =
     let d : IsHeldDirectory (held U p) (top_of s.places.items).key = top-held (held U p) rest s.places.items is.places (head-unless (cuts U p) (places_at 1 (lowers_of l) (below U p)) (head-places 1 (lowers_of l) (below U p))) some top in
     record { attributes = d.attributes; opaque = d.opaque; redirect = d.redirect; directory = d.is; free = free }
 
-pub lowers-same : (old new : Layers) → new.lowers ≡ old.lowers → lowers_of new ≡ lowers_of old
-lowers-same old new low = ap (λ v. map layer_of v.items) low
-
 -- an upper that stays a layer over lower ones that stay
 stays-layers : (old new : Layers) → new.lowers ≡ old.lowers → (IsLayer (layer_of old.upper) → IsLayer (layer_of new.upper)) → StaysLayers old new
-stays-layers old new low keep h = (keep h.0, subst AreLayers (sym (lowers-same old new low)) h.1)
+stays-layers old new low keep h = (layer-raised old new low keep h.0, subst AreLayers (sym (lowers-same old new low)) h.1)
 
 -- a change of the upper at a path, after missing parents were placed
 pub then-layers : (start old new : Layers) → StaysLayers start old → new.lowers ≡ old.lowers → (IsLayer (layer_of old.upper) → IsLayer (layer_of new.upper)) → StaysLayers start new
@@ -97,59 +96,59 @@ over-alike old new (Some (Named k)) s same = ap (λ i. Some (Contents 0 k i)) (s
 
 -- an upper that holds the same everywhere, and under each number that it names the same inode
 module _ (old new : Layers) (low : new.lowers ≡ old.lowers) (same : SameObjects (layer_of old.upper) (layer_of new.upper)) (named : (p : Path) (k : ℕ) → held (layer_of old.upper) p ≡ Some (Named k) → inode_at new.upper k ≡ inode_at old.upper k) where
-  agree : (x : Path) → AgreeTo (layer_of old.upper) (layer_of new.upper) x
-  agree x = agree-where (layer_of old.upper) (layer_of new.upper) (λ _. Unit {0}) (λ k y u. tt) (λ y u. same y) x tt
+  agree : (x : Path) → AgreeTo (upper_of old) (upper_of new) x
+  agree x = agree-where (upper_of old) (upper_of new) (λ _. Unit {0}) (λ k y u. tt) (λ y u. same y) x tt
 
-  shown-alike : (p : Path) → shows 0 (layer_of new.upper ∷ lowers_of old) p ≡ shows 0 (layer_of old.upper ∷ lowers_of old) p
+  shown-alike : (p : Path) → shows 0 (upper_of new ∷ lowers_of old) p ≡ shows 0 (upper_of old ∷ lowers_of old) p
   shown-alike p =
-      ap₂ (λ o s. over 0 (layer_of new.upper).inodes o s) (same p) (through-agree (layer_of old.upper) (layer_of new.upper) (lowers_of old) p (agree p))
-      ∙ over-alike (layer_of old.upper).inodes (layer_of new.upper).inodes (held (layer_of old.upper) p) (through (layer_of old.upper) (lowers_of old) p) (named p)
+      ap₂ (λ o s. over 0 (upper_of new).inodes o s) (same p) (through-agree (upper_of old) (upper_of new) (lowers_of old) p (agree p))
+      ∙ over-alike (upper_of old).inodes (upper_of new).inodes (held (upper_of old) p) (through (upper_of old) (lowers_of old) p) (λ k h. inode-raised old new low k (named p k h))
 
-  sights-alike : (p : Path) → merged (layer_of new.upper) (lowers_of old) p ≡ merged (layer_of old.upper) (lowers_of old) p
+  sights-alike : (p : Path) → merged (upper_of new) (lowers_of old) p ≡ merged (upper_of old) (lowers_of old) p
   sights-alike p =
-      merged-meld (layer_of new.upper) (lowers_of old) p
-      ∙ ap₂ (λ s x. see (is_directory s) x) (through-agree (layer_of old.upper) (layer_of new.upper) (lowers_of old) p (agree p)) (shown-alike p)
-      ∙ sym (merged-meld (layer_of old.upper) (lowers_of old) p)
+      merged-meld (upper_of new) (lowers_of old) p
+      ∙ ap₂ (λ s x. see (is_directory s) x) (through-agree (upper_of old) (upper_of new) (lowers_of old) p (agree p)) (shown-alike p)
+      ∙ sym (merged-meld (upper_of old) (lowers_of old) p)
 
   -- shows the same
   pub same-alike : ShowsSame old new
   same-alike = record {
     lowers = low;
-    sights = λ p. ap (λ Ls. merged (layer_of new.upper) Ls p) (lowers-same old new low) ∙ sights-alike p;
-    absent = λ p h. ap (λ Ls. shows 0 (layer_of new.upper ∷ Ls) p) (lowers-same old new low) ∙ shown-alike p ∙ h;
+    sights = λ p. ap (λ Ls. merged (upper_of new) Ls p) (lowers-same old new low) ∙ sights-alike p;
+    absent = λ p h. ap (λ Ls. shows 0 (upper_of new ∷ Ls) p) (lowers-same old new low) ∙ shown-alike p ∙ h;
     passes = record { cuts = λ p. (agree p).cut_alike; spelling = λ p. (agree p).spelled };
   }
 
-  more : (p : Path) (k : ℕ) → held (layer_of old.upper) p ≡ Some (Named k) → held (layer_of new.upper) p ≡ Some (Named k)
+  more : (p : Path) (k : ℕ) → held (upper_of old) p ≡ Some (Named k) → held (upper_of new) p ≡ Some (Named k)
   more p k h = same p ∙ h
 
-  less : (p : Path) (k : ℕ) → held (layer_of new.upper) p ≡ Some (Named k) → held (layer_of old.upper) p ≡ Some (Named k)
+  less : (p : Path) (k : ℕ) → held (upper_of new) p ≡ Some (Named k) → held (upper_of old) p ≡ Some (Named k)
   less p k h = sym (same p) ∙ h
 
-  mount-alike : (IsLayer (layer_of old.upper) → IsLayer (layer_of new.upper)) → (s : State) → IsMountOf (layer_of old.upper) (lowers_of old) s → IsMountOf (layer_of new.upper) (lowers_of old) s
+  mount-alike : (IsLayer (layer_of old.upper) → IsLayer (layer_of new.upper)) → (s : State) → IsMountOf (upper_of old) (lowers_of old) s → IsMountOf (upper_of new) (lowers_of old) s
   mount-alike keep s h = record {
-    layers = (keep h.layers.0, h.layers.1);
+    layers = (layer-raised old new low keep h.layers.0, h.layers.1);
     shows = record {
       sights = λ p. h.shows.sights p ∙ sym (sights-alike p);
-      linked = λ p q l. h.shows.linked p q (linked-by (layer_of new.upper) (layer_of old.upper) less p q l);
-      apart = λ p q d e g. lift (linked-by (layer_of old.upper) (layer_of new.upper) more p q) (h.shows.apart p q d e g);
+      linked = λ p q l. h.shows.linked p q (linked-by (upper_of new) (upper_of old) less p q l);
+      apart = λ p q d e g. lift (linked-by (upper_of old) (upper_of new) more p q) (h.shows.apart p q d e g);
     };
     kept = h.kept;
     writable = h.writable;
   }
 
-  thin-upper : IsThin (layer_of old.upper) (lowers_of old) → IsThin (layer_of new.upper) (lowers_of old)
-  thin-upper h n p is = ap is_some (under-agree (layer_of old.upper) (layer_of new.upper) (lowers_of old) n p (agree p)) ∙ h n p (sym (same (n ∷ p)) ∙ is)
+  thin-upper : IsThin (upper_of old) (lowers_of old) → IsThin (upper_of new) (lowers_of old)
+  thin-upper h n p is = ap is_some (under-agree (upper_of old) (upper_of new) (lowers_of old) n p (agree p)) ∙ h n p (sym (same (n ∷ p)) ∙ is)
 
   -- stays sound, and the mount of the same states
   layers-alike : (IsLayer (layer_of old.upper) → IsLayer (layer_of new.upper)) → StaysLayers old new
-  layers-alike keep a = (keep a.0, subst AreLayers (sym (lowers-same old new low)) a.1)
+  layers-alike keep a = (layer-raised old new low keep a.0, subst AreLayers (sym (lowers-same old new low)) a.1)
 
   pub mounts-alike : (IsLayer (layer_of old.upper) → IsLayer (layer_of new.upper)) → StaysMount old new
-  mounts-alike keep s h = subst (λ (Ls : List Layer). IsMountOf (layer_of new.upper) Ls s) (sym (lowers-same old new low)) (mount-alike keep s h)
+  mounts-alike keep s h = subst (λ (Ls : List Layer). IsMountOf (upper_of new) Ls s) (sym (lowers-same old new low)) (mount-alike keep s h)
 
   thin-alike : StaysThin old new
-  thin-alike h = subst (λ (Ls : List Layer). IsThin (layer_of new.upper) Ls) (sym (lowers-same old new low)) (thin-upper h)
+  thin-alike h = subst (λ (Ls : List Layer). IsThin (upper_of new) Ls) (sym (lowers-same old new low)) (thin-upper h)
 
   pub sound-alike : (IsLayer (layer_of old.upper) → IsLayer (layer_of new.upper)) → StaysSound old new
   sound-alike keep = record { layers = layers-alike keep; thin = thin-alike }
@@ -167,6 +166,17 @@ stays-unchanged old new low same inodes keep = record {
   inodes = inodes;
   holds = λ p o h. same p ∙ h;
 }
+
+-- an upper that is the very same changes no sight
+pub no-sight : (old new : Layers) (p : Path) → new.lowers ≡ old.lowers → new.upper ≡ old.upper → ChangesNoSight old new (GainsParents old new p)
+no-sight old new p low e =
+    let held_same : SameObjects (layer_of old.upper) (layer_of new.upper) = λ x. ap (λ (t : Tree). held (layer_of t) x) e in
+    let inodes_same : (k : ℕ) → inode_at new.upper k ≡ inode_at old.upper k = λ k. ap (λ (t : Tree). inode_at t k) e in
+    record {
+      shown = same-unchanged old new low held_same inodes_same;
+      mount = (stays-unchanged old new low held_same inodes_same (subst (λ (t : Tree). IsLayer (layer_of t)) (sym e))).mounts;
+      beneath = gains-unchanged old new p low held_same (subst (λ (t : Tree). KeepsObjects old.upper t None) (sym e) (gains-self old p).objects);
+    }
 
 -- a change that fails after missing parents were placed, and leaves what the upper holds then
 module _ (start mid new : Layers) (same : ShowsSame start mid) (stays : Stays start mid) (low : new.lowers ≡ mid.lowers) (objects : SameObjects (layer_of mid.upper) (layer_of new.upper)) (kept : KeepsObjects mid.upper new.upper None) where
@@ -193,18 +203,19 @@ places-agree i U V Ls p h c b j = level i (h j) (unless_cut (c j) (places_at (su
 -- a directory that is shown at n in p, and that the upper lacks, is placed
 module _ (old new : Layers) (low : new.lowers ≡ old.lowers) (inodes : (k : ℕ) → inode_at new.upper k ≡ inode_at old.upper k) (p : Path) (n : Name) (i m : ℕ) (a : Attributes) (shown : shows 0 (layers_of old) (n ∷ p) ≡ Some (Folder i m a)) (lacks : i ≢ 0) (key : ℕ) (sets : SetsPath (layer_of old.upper) (layer_of new.upper) (n ∷ p) (Directory key a false None)) where
   pub lacked : held (layer_of old.upper) (n ∷ p) ≡ None
-  lacked = free-folder (layer_of old.upper).inodes (held (layer_of old.upper) (n ∷ p)) (through (layer_of old.upper) (lowers_of old) (n ∷ p)) i m a shown lacks
+  lacked = free-folder (upper_of old).inodes (held (layer_of old.upper) (n ∷ p)) (through (layer_of old.upper) (lowers_of old) (n ∷ p)) i m a shown lacks
 
   pub same-placed : ShowsSame old new
   same-placed =
-      let I : (layer_of new.upper).inodes ≡ (layer_of old.upper).inodes = inodes-same old.upper new.upper inodes in
+      let I : (upper_of new).inodes ≡ (upper_of old).inodes = inodes-raised old new low inodes in
+      let S : SetsPath (upper_of old) (upper_of new) (n ∷ p) (Directory key a false None) = path-raised old new low (n ∷ p) (Directory key a false None) sets in
       record {
         lowers = low;
-        sights = λ x. ap (λ Ls. merged (layer_of new.upper) Ls x) (lowers-same old new low) ∙ placed-same (layer_of old.upper) (layer_of new.upper) (lowers_of old) (n ∷ p) key a lacked sets I i m shown x;
-        absent = λ x h. ap (λ Ls. shows 0 (layer_of new.upper ∷ Ls) x) (lowers-same old new low) ∙ placed-absent (layer_of old.upper) (layer_of new.upper) (lowers_of old) (n ∷ p) key a lacked sets I i m shown x h;
+        sights = λ x. ap (λ Ls. merged (upper_of new) Ls x) (lowers-same old new low) ∙ placed-same (upper_of old) (upper_of new) (lowers_of old) (n ∷ p) key a lacked S I i m shown x;
+        absent = λ x h. ap (λ Ls. shows 0 (upper_of new ∷ Ls) x) (lowers-same old new low) ∙ placed-absent (upper_of old) (upper_of new) (lowers_of old) (n ∷ p) key a lacked S I i m shown x h;
         passes = record {
-          cuts = λ x. (agree-placed (layer_of old.upper) (layer_of new.upper) (lowers_of old) (n ∷ p) key a lacked sets I x).cut_alike;
-          spelling = λ x. (agree-placed (layer_of old.upper) (layer_of new.upper) (lowers_of old) (n ∷ p) key a lacked sets I x).spelled;
+          cuts = λ x. (agree-placed (upper_of old) (upper_of new) (lowers_of old) (n ∷ p) key a lacked S I x).cut_alike;
+          spelling = λ x. (agree-placed (upper_of old) (upper_of new) (lowers_of old) (n ∷ p) key a lacked S I x).spelled;
         };
       }
 
@@ -224,14 +235,15 @@ module _ (old new : Layers) (low : new.lowers ≡ old.lowers) (inodes : (k : ℕ
 
   pub stays-placed : (IsLayer (layer_of old.upper) → IsLayer (layer_of new.upper)) → Stays old new
   stays-placed keep =
-      let U : Layer = layer_of old.upper in
-      let V : Layer = layer_of new.upper in
+      let U : Layer = upper_of old in
+      let V : Layer = upper_of new in
+      let P : Placed U V (n ∷ p) (Some (Directory key a false None)) = placed-raised old new low (n ∷ p) (Some (Directory key a false None)) placed in
       record {
         sound = record {
-          layers = λ h. (keep h.0, subst AreLayers (sym (lowers-same old new low)) h.1);
-          thin = λ h. subst (λ (Ls : List Layer). IsThin V Ls) (sym (lowers-same old new low)) ((law_of_thin U V (lowers_of old) h n p).directory key a false None placed);
+          layers = λ h. (layer-raised old new low keep h.0, subst AreLayers (sym (lowers-same old new low)) h.1);
+          thin = λ h. subst (λ (Ls : List Layer). IsThin V Ls) (sym (lowers-same old new low)) ((law_of_thin U V (lowers_of old) h n p).directory key a false None P);
         };
-        mounts = λ s h. subst (λ (Ls : List Layer). IsMountOf V Ls s) (sym (lowers-same old new low)) (law_of_placed_parent U V (lowers_of old) s h (keep h.layers.0, h.layers.1) n p i m key a lacked shown placed);
+        mounts = λ s h. subst (λ (Ls : List Layer). IsMountOf V Ls s) (sym (lowers-same old new low)) (law_of_placed_parent U V (lowers_of old) s h (layer-raised old new low keep h.layers.0, h.layers.1) n p i m key a lacked shown P);
         names = λ x k. (λ h. sym (sets.elsewhere x (not-named x k h)) ∙ h, λ h. sets.elsewhere x (was-held x (Named k) h) ∙ h);
         inodes = inodes;
         holds = λ x o h. sets.elsewhere x (was-held x o h) ∙ h;
@@ -330,7 +342,7 @@ module _ (old : Layers) (p : Path) (n : Name) (parent : Stack) (is : IsStackOf o
 
   -- the upper holds nothing there
   found-lacked : held (layer_of old.upper) (n ∷ p) ≡ None
-  found-lacked = free-folder (layer_of old.upper).inodes (held (layer_of old.upper) (n ∷ p)) (through (layer_of old.upper) (lowers_of old) (n ∷ p)) spot.layer spot.key f.attributes found-shown lower
+  found-lacked = free-folder (upper_of old).inodes (held (layer_of old.upper) (n ∷ p)) (through (layer_of old.upper) (lowers_of old) (n ∷ p)) spot.layer spot.key f.attributes found-shown lower
 
   -- so there is room for its place on top
   pub found-few : length found < 17

@@ -1,6 +1,7 @@
 pub mod Nodes
 pub mod Placing
 pub mod Frames
+pub mod Raising
 pub mod Keeping
 pub mod Needing
 pub mod Copying

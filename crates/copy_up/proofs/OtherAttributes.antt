@@ -22,8 +22,9 @@ use Rattle.merged_lookup.specs.declared.layers.Layers.{Layers}
 use Rattle.merged_lookup.specs.declared.stack.Place.{Place}
 use Rattle.merged_lookup.specs.declared.stack.Stack.{Stack}
 use Rattle.merged_lookup.specs.Locating.{place_of}
-use Rattle.merged_lookup.specs.Merged.{layers_of, lowers_of, places_at, unless_cut, top_of, IsFound, IsStackOf, ShowsInode}
+use Rattle.merged_lookup.specs.Merged.{upper_of, layers_of, lowers_of, places_at, unless_cut, top_of, IsFound, IsStackOf, ShowsInode}
 use Rattle.merged_lookup.proofs.Descending.{key-of}
+use Rattle.merged_lookup.proofs.Filled.{raw_shown}
 use Rattle.merged_lookup.proofs.Folders.{IsDirectoryWith, held-node}
 use Rattle.merged_lookup.proofs.Inodes.{IsNamed}
 use Rattle.merged_lookup.proofs.Looking.{head-places, head-unless}
@@ -31,7 +32,7 @@ use Rattle.copy_up.specs.Showing.{ShowsSame, StaysLayers, StaysThin}
 use Rattle.copy_up.specs.Altering.{ShowsAttributes}
 use Rattle.copy_up.proofs.Nodes.{table-some}
 use Rattle.copy_up.proofs.Placing.{Alike, agree-all, IsHeldDirectory, top-held}
-use Rattle.copy_up.proofs.Keeping.{lowers-same}
+use Rattle.copy_up.proofs.Raising.{lowers-same, layer-raised, altered-inode-raised, altered-directory-raised}
 use Rattle.copy_up.proofs.Copying.{NamesSame, alters-since}
 
 -- directories of the same marks pass on alike
@@ -59,8 +60,8 @@ module _ (old new : Layers) (low : new.lowers ≡ old.lowers) (p : Path) (key : 
   thin-directory = thin-agree old new low (agree-all (layer_of old.upper) (layer_of new.upper) p directory-alike s.elsewhere) no-whiteout
 
   -- shows them and changes no more
-  pub alters-directory : (IsLayer (layer_of old.upper) → IsLayer (layer_of new.upper)) → AreLayers (layers_of old) → Alters (layer_of old.upper) (layer_of new.upper) (lowers_of old) p a
-  alters-directory keep h = law_of_altered_directory (layer_of old.upper) (layer_of new.upper) (lowers_of old) (keep h.0, h.1) p a (record {
+  pub alters-directory : (IsLayer (layer_of old.upper) → IsLayer (layer_of new.upper)) → AreLayers (layers_of old) → Alters (upper_of old) (upper_of new) (lowers_of old) false p a
+  alters-directory keep h = law_of_altered_directory (upper_of old) (upper_of new) (lowers_of old) (layer-raised old new low keep h.0, h.1) false p a (altered-directory-raised old new low p a (record {
     number = key;
     old = s.was;
     opaque = s.opaque;
@@ -69,11 +70,11 @@ module _ (old new : Layers) (low : new.lowers ≡ old.lowers) (p : Path) (key : 
     now = s.now;
     elsewhere = s.elsewhere;
     inodes = s.inodes;
-  })
+  }))
 
   -- also where it was placed just before
-  pub alters-placed : (start : Layers) → ShowsSame start old → NamesSame start old → StaysLayers start old → (IsLayer (layer_of old.upper) → IsLayer (layer_of new.upper)) → AreLayers (layers_of start) → Alters (layer_of start.upper) (layer_of new.upper) (lowers_of start) p a
-  alters-placed start same names stays keep h = alters-since start old (layer_of new.upper) p a same names (alters-directory keep (stays h))
+  pub alters-placed : (start : Layers) → ShowsSame start old → NamesSame start old → StaysLayers start old → (IsLayer (layer_of old.upper) → IsLayer (layer_of new.upper)) → AreLayers (layers_of start) → Alters (upper_of start) (upper_of new) (lowers_of start) false p a
+  alters-placed start same names stays keep h = alters-since start old (upper_of new) false p a same names (alters-directory keep (stays h))
 
 -- an inode of the upper that gets other attributes
 module _ (old new : Layers) (low : new.lowers ≡ old.lowers) (key : ℕ) (a : Attributes) (s : SetsInode (layer_of old.upper) (layer_of new.upper) key a) where
@@ -82,8 +83,8 @@ module _ (old new : Layers) (low : new.lowers ≡ old.lowers) (key : ℕ) (a : A
   thin-inode = thin-agree old new low (λ x. agree-where (layer_of old.upper) (layer_of new.upper) (λ _. Unit {0}) (λ k y u. tt) (λ y u. s.objects y) x tt) (λ x h. sym (s.objects x) ∙ h)
 
   -- shows them at each of its names and changes no more
-  pub alters-inode : (p : Path) → held (layer_of old.upper) p ≡ Some (Named key) → (IsLayer (layer_of old.upper) → IsLayer (layer_of new.upper)) → AreLayers (layers_of old) → Alters (layer_of old.upper) (layer_of new.upper) (lowers_of old) p a
-  alters-inode p named keep h = law_of_altered_inode (layer_of old.upper) (layer_of new.upper) (lowers_of old) (keep h.0, h.1) p a (record {
+  pub alters-inode : (p : Path) → held (layer_of old.upper) p ≡ Some (Named key) → (IsLayer (layer_of old.upper) → IsLayer (layer_of new.upper)) → AreLayers (layers_of old) → Alters (upper_of old) (upper_of new) (lowers_of old) false p a
+  alters-inode p named keep h = law_of_altered_inode (upper_of old) (upper_of new) (lowers_of old) (layer-raised old new low keep h.0, h.1) false p a (altered-inode-raised old new low p a (record {
     number = key;
     inode = s.inode;
     named = named;
@@ -91,7 +92,7 @@ module _ (old new : Layers) (low : new.lowers ≡ old.lowers) (key : ℕ) (a : A
     now = s.now;
     inodes = s.inodes;
     objects = s.objects;
-  })
+  }))
 
 -- a directory is under this key, at the path
 pub record StandsAt (t : Tree) (p : Path) (dir : ℕ) : Type 0 where
@@ -172,10 +173,15 @@ over-named U lowers p q (Some (Named m)) c k x e h =
     let ix : U.inodes m ≡ x = cc in
     record { named = e ∙ ap (λ z. Some (Named z)) mk; inode = sym (ap U.inodes mk) ∙ ix }
 
--- an inode that is shown as the upper's is named by it
-pub upper-named : (l : Layers) (p : Path) (d : Place) (x : Option Inode) → d.layer ≡ 0 → shows 0 (layers_of l) p ≡ Some (Contents d.layer d.key x) → IsNamed (layer_of l.upper) p d.key x
-upper-named l p d x first h =
+-- an inode that the trees show as the upper's is named by it
+pub raw-named : (l : Layers) (p : Path) (d : Place) (x : Option Inode) → d.layer ≡ 0 → raw_shown l p ≡ Some (Contents d.layer d.key x) → IsNamed (layer_of l.upper) p d.key x
+raw-named l p d x first h =
     over-named (layer_of l.upper) (lowers_of l) p (below (layer_of l.upper) p) (held (layer_of l.upper) p) (cuts (layer_of l.upper) p) d.key x refl (h ∙ ap (λ j. Some (Contents j d.key x)) first)
+
+-- and so is one that is shown as the upper's
+pub upper-named : (l : Layers) (p : Path) (d : Place) (x : Option Inode) → d.layer ≡ 0 → shows 0 (layers_of l) p ≡ Some (Contents d.layer d.key x) → IsNamed (upper_of l) p d.key x
+upper-named l p d x first h =
+    over-named (upper_of l) (lowers_of l) p (below (layer_of l.upper) p) (held (layer_of l.upper) p) (cuts (layer_of l.upper) p) d.key x refl (h ∙ ap (λ j. Some (Contents j d.key x)) first)
 
 -- where an inode is seen, something stands
 pub inode-there : (x : Option Node) (i : Inode) → option_and_then inode_of x ≡ Some i → IsSome x

@@ -6,7 +6,7 @@ use Rattle.ov_base.specs.AttributeChanges.{changed}
 use Rattle.ov_base.specs.declared.attribute_change.AttributeChange.{AttributeChange}
 use Rattle.ov_base.specs.declared.attributes.Attributes.{Attributes}
 use Rattle.ov_base.specs.declared.redirect.Redirect.{Redirect}
-use Rattle.plain_model.specs.Layers.{Path, Object, Directory, Named, Whiteout, Inode, Layer, held, below, cuts, Folder, Contents, over, unless, shows, IsLayer}
+use Rattle.plain_model.specs.Layers.{Path, Object, Directory, Named, Whiteout, Inode, Layer, fill, held, below, cuts, Folder, Contents, over, unless, shows, IsLayer}
 use Rattle.mount_laws.specs.Altered.{Alters}
 use Rattle.layer_tree.specs.AttributeChange.{attributes_at, SetsAttributes, SetsInode, SetsDirectory}
 use Rattle.layer_tree.specs.Nameless.{IsNameless}
@@ -19,8 +19,9 @@ use Rattle.merged_lookup.specs.declared.layers.Layers.{Layers}
 use Rattle.merged_lookup.specs.declared.stack.Place.{Place}
 use Rattle.merged_lookup.specs.Descent.{place_shown}
 use Rattle.merged_lookup.specs.Locating.{place_of}
-use Rattle.merged_lookup.specs.Merged.{layers_of, lowers_of, trees, IsTopmost, ShowsInode}
+use Rattle.merged_lookup.specs.Merged.{upper_of, layers_of, lowers_of, fill_at, trees, IsTopmost, ShowsInode}
 use Rattle.merged_lookup.proofs.Descending.{key-of}
+use Rattle.merged_lookup.proofs.Filled.{inode-filled}
 use Rattle.merged_lookup.proofs.Folders.{held-node}
 use Rattle.copy_up.specs.Altering.{AltersObject, AltersAs, AltersObjectAs}
 use Rattle.copy_up.specs.Showing.{number_of, StaysThin}
@@ -28,7 +29,7 @@ use Rattle.copy_up.proofs.AlteredObjects.{object-inode, object-directory}
 use Rattle.copy_up.proofs.Frames.{gains-self}
 use Rattle.copy_up.proofs.Nodes.{table-some}
 use Rattle.merged_lookup.proofs.Inodes.{IsNamed, inode-stands-in}
-use Rattle.copy_up.proofs.OtherAttributes.{StandsAt, under-key, shown-from, upper-named, inode-there, shown-folder, shown-inode, thin-directory, thin-inode, alters-directory, alters-inode}
+use Rattle.copy_up.proofs.OtherAttributes.{StandsAt, under-key, shown-from, raw-named, inode-there, shown-folder, shown-inode, thin-directory, thin-inode, alters-directory, alters-inode}
 
 -- the upper's directory at this place is shown at the path, and stands there
 pub record IsOwnDirectory (l : Layers) (p : Path) (d : Place) : Type 0 where
@@ -40,7 +41,7 @@ pub record IsOwnDirectory (l : Layers) (p : Path) (d : Place) : Type 0 where
 -- or its file or symbolic link
 pub record IsOwnInode (l : Layers) (p : Path) (d : Place) : Type 0 where
   pub inode : Inode
-  pub shown : shows 0 (layers_of l) p ≡ Some (Contents d.layer d.key (Some inode))
+  pub shown : shows 0 (layers_of l) p ≡ Some (Contents d.layer d.key (Some (fill (lowers_of l) inode)))
   pub is : IsNamed (layer_of l.upper) p d.key (Some inode)
 
 abbrev pub IsOwn : Layers → Path → Place → Type 0
@@ -64,7 +65,7 @@ over-directory U lowers p q (Some (Directory m b u r)) c k a e h =
 
 own-directory : (l : Layers) → IsTree l.upper → (p : Path) (d : Place) (a : Attributes) → d.layer ≡ 0 → shows 0 (layers_of l) p ≡ Some (Folder d.layer d.key a) → IsOwnDirectory l p d
 own-directory l tree p d a own shown =
-    let U : Layer = layer_of l.upper in
+    let U : Layer = upper_of l in
     let is : HoldsDirectory U p d.key a = over-directory U (lowers_of l) p (below U p) (held U p) (cuts U p) d.key a refl (shown ∙ ap (λ j. Some (Folder j d.key a)) own) in
     let node = held-node l.upper tree p d.key a is.opaque is.redirect is.is in
     record {
@@ -77,7 +78,11 @@ own-directory l tree p d a own shown =
 own-inode : (l : Layers) → IsHeldTogether (layer_of l.upper) → (p : Path) (d : Place) → d.layer ≡ 0 → ShowsInode l p d → IsOwnInode l p d
 own-inode l together p d own shown =
     let i = inode-stands-in l p d l.upper (ap (slice_get (trees l)) own) together shown in
-    record { inode = i.0; shown = i.1; is = upper-named l p d (Some i.0) own i.1 }
+    record {
+      inode = i.0;
+      shown = inode-filled l p d.layer d.key (Some i.0) i.1 ∙ ap (λ j. Some (Contents d.layer d.key (fill_at j (lowers_of l) (Some i.0)))) own;
+      is = raw-named l p d (Some i.0) own i.1;
+    }
 
 -- what is shown and has its place in the upper is the upper's own
 pub is-own : (l : Layers) → IsTree l.upper → IsHeldTogether (layer_of l.upper) → (p : Path) (top : Topmost) (d : Place) → d ≡ place_shown top → d.layer ≡ 0 → IsTopmost l p (Some top) → IsOwn l p d
@@ -111,12 +116,12 @@ module _ (old new : Layers) (p : Path) (d : Place) (low : new.lowers ≡ old.low
   -- shows the changed attributes
   pub own-alters : (IsLayer (layer_of old.upper) → IsLayer (layer_of new.upper)) → IsOwn old p d → AltersAs old new p x
   own-alters keeps (inl o) a shows h =
-      subst (λ (b : Attributes). Alters (layer_of old.upper) (layer_of new.upper) (lowers_of old) p (changed x b))
+      subst (λ (b : Attributes). Alters (upper_of old) (upper_of new) (lowers_of old) false p (changed x b))
       (shown-folder old p d.layer d.key o.attributes a o.shown shows)
       (alters-directory old new low p d.key (changed x o.attributes) (sets-directory o) keeps h)
   own-alters keeps (inr o) a shows h =
-      subst (λ (b : Attributes). Alters (layer_of old.upper) (layer_of new.upper) (lowers_of old) p (changed x b))
-      (shown-inode old p d.layer d.key o.inode a o.shown shows)
+      subst (λ (b : Attributes). Alters (upper_of old) (upper_of new) (lowers_of old) false p (changed x b))
+      (shown-inode old p d.layer d.key (fill (lowers_of old) o.inode) a o.shown shows)
       (alters-inode old new low d.key (changed x o.inode.attributes) (sets-inode o) p o.is.named keeps h)
 
   -- stands under its key still
@@ -130,7 +135,7 @@ module _ (old new : Layers) (p : Path) (d : Place) (low : new.lowers ≡ old.low
       subst (λ (b : Attributes). AltersObject old new p (changed x b)) (shown-folder old p d.layer d.key o.attributes a o.shown shows)
       (object-directory old old new [] p d.key (changed x o.attributes) (gains-self old ([] ∷ p)) (made.sets o.attributes o.under) (sets-directory o) nameless)
   own-object nameless (inr o) a shows =
-      subst (λ (b : Attributes). AltersObject old new p (changed x b)) (shown-inode old p d.layer d.key o.inode a o.shown shows)
+      subst (λ (b : Attributes). AltersObject old new p (changed x b)) (shown-inode old p d.layer d.key (fill (lowers_of old) o.inode) a o.shown shows)
       (object-inode old new p d.key (changed x o.inode.attributes)
       (made.sets o.inode.attributes (inode_attributes old.upper d.key o.inode o.is.inode)) (sets-inode o) o.is.named nameless)
 

@@ -10,7 +10,8 @@ use Rattle.plain_model.proofs.Paths.{paths_tell}
 use Rattle.plain_model.proofs.Uppers.{meld, merged-meld, AgreeTo, agree-step, through-agree, merged-agree, dead-step}
 use Rattle.layer_tree.specs.Tree.{Tree, layer_of, SetsPath}
 use Rattle.merged_lookup.specs.declared.stack.Place.{Place}
-use Rattle.merged_lookup.specs.Merged.{level, top_of}
+use Rattle.merged_lookup.specs.declared.layers.Layers.{Layers}
+use Rattle.merged_lookup.specs.Merged.{upper_of, lowers_of, layers_of, level, top_of}
 use Rattle.merged_lookup.proofs.Descending.{parent-held}
 use Rattle.merged_lookup.proofs.Looking.{HeadFrom}
 use Rattle.copy_up.specs.Showing.{is_object}
@@ -88,6 +89,12 @@ parent-step i inodes o u n c q s held_up reached rest e = grind arith
 pub parents-shown : (i : ℕ) (ts : List Tree) (n : Name) (p : Path) → is_some (shows i (map layer_of ts) (n ∷ p)) ≡ true → is_directory (shows i (map layer_of ts) p) ≡ true
 parents-shown i [] n p h = absurd (false≢true h)
 parents-shown i (t ∷ ts) n p h = parent-step i (layer_of t).inodes (held (layer_of t) (n ∷ p)) (held (layer_of t) p) n (cuts (layer_of t) p) (below (layer_of t) p) (shows (suc i) (map layer_of ts)) (parent-held t p n) (hides-cuts (layer_of t) p) (parents-shown (suc i) ts n (below (layer_of t) p)) h
+
+-- and so it is where the layers of a mount show it
+pub mount-parents : (l : Layers) (n : Name) (p : Path) → is_some (shows 0 (layers_of l) (n ∷ p)) ≡ true → is_directory (shows 0 (layers_of l) p) ≡ true
+mount-parents l n p h =
+    let U : Layer = upper_of l in
+    parent-step 0 U.inodes (held U (n ∷ p)) (held U p) n (cuts U p) (below U p) (shows 1 (lowers_of l)) (parent-held l.upper p n) (hides-cuts U p) (parents-shown 1 l.lowers.items n (below U p)) h
 
 not-some : (o : Option Object) (u : Option Object) → (is_some o ≡ true → holds_directory u ≡ true) → holds_directory u ≡ false → o ≡ None
 not-some None u up h = refl

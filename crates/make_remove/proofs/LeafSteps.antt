@@ -16,20 +16,20 @@ use Rattle.mount_laws.proofs.Links.{law_of_link_made}
 use Rattle.mount_laws.proofs.Files.{law_of_file_made}
 use Rattle.layer_tree.specs.Tree.{layer_of}
 use Rattle.merged_lookup.specs.declared.layers.Layers.{Layers}
-use Rattle.merged_lookup.specs.Merged.{layers_of, lowers_of, parents_fault}
+use Rattle.merged_lookup.specs.Merged.{upper_of, layers_of, lowers_of, parents_fault}
 use Rattle.slab.specs.Slab.{get}
 use Rattle.layer_tree.specs.Nameless.{KeepsObjects}
 use Rattle.layer_tree.proofs.Nameless.{keeps_then, vacant_before}
 use Rattle.copy_up.specs.Showing.{is_object, ShowsSame, StaysLayers, StaysThin, GainsParents}
 use Rattle.copy_up.proofs.Frames.{others-then}
 use Rattle.copy_up.proofs.Placing.{free-directory, nothing-held, free-absent}
-use Rattle.copy_up.proofs.Keeping.{lowers-same}
+use Rattle.copy_up.proofs.Raising.{lowers-same, layer-raised, leaf-raised}
 use Rattle.make_remove.specs.Making.{mkdir_fault, new_attributes, vacancy_fault}
 use Rattle.make_remove.specs.Leaves.{MakesLeaf, SymlinkSteps, CreateSteps}
 use Rattle.copy_up.proofs.Copying.{leaf_of}
 
 -- what is gained over an upper whose missing parents were placed is gained over the upper before that
-gains-since : (start old : Layers) (V : Layer) (p : Path) (c : Content) (a : Attributes) → ShowsSame start old → ((x : Path) (k : ℕ) → (held (layer_of old.upper) x ≡ Some (Named k)) ↔ (held (layer_of start.upper) x ≡ Some (Named k))) → GainsLeaf (layer_of old.upper) V (lowers_of old) p c a → GainsLeaf (layer_of start.upper) V (lowers_of start) p c a
+gains-since : (start old : Layers) (V : Layer) (p : Path) (c : Content) (a : Attributes) → ShowsSame start old → ((x : Path) (k : ℕ) → (held (layer_of old.upper) x ≡ Some (Named k)) ↔ (held (layer_of start.upper) x ≡ Some (Named k))) → GainsLeaf (upper_of old) V (lowers_of old) p c a → GainsLeaf (upper_of start) V (lowers_of start) p c a
 gains-since start old V p c a same names g =
     let low : lowers_of old ≡ lowers_of start = lowers-same start old same.lowers in
     record {
@@ -37,11 +37,14 @@ gains-since start old V p c a same names g =
       number = g.number;
       here = g.here;
       alone = g.alone;
-      sights = λ q. sym (ap (λ Ls. merged V Ls q) low) ∙ g.sights q ∙ ap (cond (same_path p q) (Some (SeenLeaf c a Own 1))) (same.sights q);
+      sights = λ q. sym (ap (λ Ls. merged V Ls q) low) ∙ g.sights q ∙ ap (cond (same_path p q) (Some (SeenLeaf c a (Own false) 1))) (same.sights q);
       names = λ q k ne. (λ h. (names q k).0 ((g.names q k ne).0 h), λ h. (g.names q k ne).1 ((names q k).1 h));
     }
 
 module _ (start old new : Layers) (same : ShowsSame start old) (stays : StaysLayers start old) (names : (x : Path) (k : ℕ) → (held (layer_of old.upper) x ≡ Some (Named k)) ↔ (held (layer_of start.upper) x ≡ Some (Named k))) (low : new.lowers ≡ old.lowers) (keep : IsLayer (layer_of old.upper) → IsLayer (layer_of new.upper)) (n : Name) (q : Path) (key : ℕ) (c : Content) (a : Attributes) (absent : shows 0 (layers_of start) (n ∷ q) ≡ None) (placed : PlacesLeaf (layer_of old.upper) (layer_of new.upper) (n ∷ q) key (leaf_of c a)) where
+  raised : PlacesLeaf (upper_of old) (upper_of new) (n ∷ q) key (leaf_of c a)
+  raised = leaf-raised old new low (n ∷ q) key (leaf_of c a) placed
+
   -- is made under its key
   makes-at : GainsParents start old (n ∷ q) → get old.upper key ≡ None → KeepsObjects old.upper new.upper (Some key) → (leaf : MakesLeaf start new (n ∷ q) c a) × (leaf.number ≡ key)
   makes-at gains vacant kept = (
@@ -49,11 +52,11 @@ module _ (start old new : Layers) (same : ShowsSame start old) (stays : StaysLay
       lowers = low ∙ same.lowers;
       number = key;
       held_there = placed.here;
-      inode = placed.inode;
-      gains = λ h. gains-since start old (layer_of new.upper) (n ∷ q) c a same names (law_of_placed_leaf (layer_of old.upper) (layer_of new.upper) (lowers_of old) (stays h) (keep (stays h).0, (stays h).1) n q key (leaf_of c a) (same.absent (n ∷ q) absent) placed);
+      inode = raised.inode;
+      gains = λ h. gains-since start old (upper_of new) (n ∷ q) c a same names (law_of_placed_leaf (upper_of old) (upper_of new) (lowers_of old) (stays h) (layer-raised old new low keep (stays h).0, (stays h).1) n q key (leaf_of c a) (same.absent (n ∷ q) absent) refl raised);
       vacant = vacant_before start.upper old.upper None gains.objects key vacant;
       others = others-then start old new (n ∷ q) gains low placed.elsewhere
-          (λ m r. ap is_object (nothing-held old.upper (n ∷ q) (free-directory (held (layer_of old.upper) (n ∷ q)) (free-absent (layer_of old.upper).inodes (held (layer_of old.upper) (n ∷ q)) (through (layer_of old.upper) (lowers_of old) (n ∷ q)) (same.absent (n ∷ q) absent))) m r))
+          (λ m r. ap is_object (nothing-held old.upper (n ∷ q) (free-directory (held (layer_of old.upper) (n ∷ q)) (free-absent (upper_of old).inodes (held (layer_of old.upper) (n ∷ q)) (through (layer_of old.upper) (lowers_of old) (n ∷ q)) (same.absent (n ∷ q) absent))) m r))
           placed.beneath;
       objects = keeps_then start.upper old.upper new.upper (Some key) gains.objects kept;
     },
@@ -90,7 +93,7 @@ symlink-vacancy Ls target p h = of (nat_lt 0 (length target)) (nat_le (length ta
 -- symlink is the machine's step where the link is made
 pub symlink-steps : (old new : Layers) (target : List ℕ) (p : Path) → symlink_fault (layers_of old) target p ≡ None → MakesLeaf old new p (content.SymbolicLink target) (new_attributes 0o777) → SymlinkSteps old new target p
 symlink-steps old new target p fine made s h c =
-    subst (λ (Ls : List Layer). MakesLink (layer_of new.upper) Ls s c target p) (sym (lowers-same old new made.lowers)) (law_of_link_made (layer_of old.upper) (layer_of new.upper) (lowers_of old) s h c target p fine (made.gains h.layers))
+    subst (λ (Ls : List Layer). MakesLink (upper_of new) Ls s c target p) (sym (lowers-same old new made.lowers)) (law_of_link_made (upper_of old) (upper_of new) (lowers_of old) s h c target p fine (made.gains h.layers))
 
 -- of a mode that may be given a directory is refused as anything is that is made
 pub mkdir-vacancy : (Ls : List Layer) (p : Path) (mode : ℕ) → mode ≤ 0o7777 → mkdir_fault Ls p mode ≡ vacancy_fault Ls p
@@ -106,4 +109,4 @@ vacancy-fine Ls p parents absent = ap (λ w. or_else w (when (is_some (shows 0 L
 -- an open is the machine's step, as far as the layers, where it makes its file
 pub create-steps : (old new : Layers) (p : Path) (mode : ℕ) → mkdir_fault (layers_of old) p mode ≡ None → MakesLeaf old new p (content.File []) (new_attributes mode) → CreateSteps old new p mode
 create-steps old new p mode fine made s h c flags =
-    subst (λ (Ls : List Layer). MakesFile (layer_of new.upper) Ls s c p flags mode) (sym (lowers-same old new made.lowers)) (law_of_file_made (layer_of old.upper) (layer_of new.upper) (lowers_of old) s h c p flags mode fine (made.gains h.layers))
+    subst (λ (Ls : List Layer). MakesFile (upper_of new) Ls s c p flags mode) (sym (lowers-same old new made.lowers)) (law_of_file_made (upper_of old) (upper_of new) (lowers_of old) s h c p flags mode fine (made.gains h.layers))

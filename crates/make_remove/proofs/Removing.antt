@@ -1,11 +1,12 @@
 -- What layers show once a name is removed, from what the upper held before missing parents were placed.
-use Rattle.std.proofs.Common.{◌≡◌, ◌↔◌, ℕ, ◌<◌, Bool, true, false, not, cond, List, [], ◌∷◌, ◌++◌, Option, None, Some, is_some, length, refl, sym, ap, ap₂, ◌∙◌, subst, map, arith}
+use Rattle.std.proofs.Common.{◌≡◌, ◌↔◌, ℕ, ◌-◌, ◌<◌, Bool, true, false, not, cond, List, [], ◌∷◌, ◌++◌, Option, None, Some, is_some, length, refl, sym, ap, ap₂, ◌∙◌, subst, arith}
 use Rattle.std.proofs.lemmas.Bool.{false≢true}
+use Rattle.std.specs.Prelude.{option_map}
 use Rattle.slab.specs.Slab.{get}
 use Rattle.ov_base.specs.declared.call.Call.TheVariants as call
 use Rattle.ov_base.specs.declared.errno.Errno.{Errno}
 use Rattle.ov_base.specs.declared.errno.Errno.TheVariants as errno
-use Rattle.plain_model.specs.Layers.{Name, Path, Named, Whiteout, Layer, IsLayer, AreLayers, held, below, cuts, Shown, Folder, Contents, shows, through, under, is_directory}
+use Rattle.plain_model.specs.Layers.{Name, Path, Object, Named, Whiteout, Inode, Layer, IsLayer, AreLayers, fill, held, below, cuts, Shown, Folder, Contents, shows, through, under, is_directory}
 use Rattle.plain_model.specs.Machine.{State, is_root}
 use Rattle.plain_model.specs.Refusals.{refusal, when}
 use Rattle.plain_model.specs.Tree.{merged, IsThin}
@@ -14,21 +15,22 @@ use Rattle.mount_laws.specs.Removals.{fewer}
 use Rattle.mount_laws.proofs.Alters.{law_of_taken_away, law_of_thin}
 use Rattle.mount_laws.proofs.Refusing.{law_of_rmdir}
 use Rattle.mount_laws.proofs.Removes.{law_of_unlinked, law_of_removed_directory}
-use Rattle.layer_tree.specs.Tree.{Tree, IsTree, IsDirectory, layer_of, key_at}
+use Rattle.layer_tree.specs.Tree.{Tree, IsTree, IsDirectory, layer_of, inode_at, key_at}
 use Rattle.merged_lookup.specs.declared.stack.Place.{Place}
 use Rattle.merged_lookup.specs.declared.stack.Stack.{Stack}
 use Rattle.merged_lookup.specs.declared.layers.Layers.{Layers}
 use Rattle.merged_lookup.specs.declared.found.Found.{Found}
 use Rattle.merged_lookup.specs.declared.found.Found.TheVariants as found
-use Rattle.merged_lookup.specs.Merged.{trees, layers_of, lowers_of, top_of, unless_cut, places_at, IsStackOf, IsFound, ShowsDirectory, ShowsInode}
+use Rattle.merged_lookup.specs.Merged.{upper_of, layers_of, lowers_of, top_of, unless_cut, places_at, IsStackOf, IsFound, ShowsDirectory, ShowsInode}
 use Rattle.merged_lookup.proofs.Descending.{key-of}
 use Rattle.merged_lookup.proofs.Looking.{head-places, head-unless}
 use Rattle.copy_up.specs.Showing.{is_object, ShowsSame, StaysLayers, GainsParents}
 use Rattle.copy_up.proofs.Frames.{others-then}
-use Rattle.copy_up.proofs.Keeping.{lowers-same, linked-by}
+use Rattle.copy_up.proofs.Raising.{lowers-same, raise, layer-raised}
+use Rattle.copy_up.proofs.Keeping.{linked-by}
 use Rattle.merged_lookup.proofs.Folders.{IsDirectoryWith, held-node}
 use Rattle.copy_up.proofs.Nodes.{table-some}
-use Rattle.copy_up.proofs.Placing.{free-directory, IsHeldDirectory, top-held, parents-shown, nothing-held, free-absent}
+use Rattle.copy_up.proofs.Placing.{free-directory, IsHeldDirectory, top-held, mount-parents, nothing-held, free-absent}
 use Rattle.make_remove.specs.Removing.{unlink_fault, rmdir_fault, ShowsNoName, TakesAway, Loses, Removes, TellsNames, TakesName, left_behind}
 use Rattle.make_remove.proofs.Making.{under-same}
 
@@ -60,6 +62,24 @@ loses-from W U V lowers p sights names l = record {
   names = λ q k. (λ h. (let z = (l.names q k).0 h in (z.0, (names q k).0 z.1)), λ h. (l.names q k).1 (h.0, (names q k).1 h.1));
 }
 
+-- an object that is taken away from the raw upper is taken away from it as it shows
+taken-raised : (old new : Layers) → new.lowers ≡ old.lowers → (p : Path) (o : Option Object) → TakesAway (layer_of old.upper) (layer_of new.upper) p o → TakesAway (upper_of old) (upper_of new) p o
+taken-raised old new low p o t = raise old new low (λ V. TakesAway (upper_of old) V p o) (record {
+  here = t.here;
+  beneath = t.beneath;
+  elsewhere = t.elsewhere;
+  fewer = λ k i here is more. by k (inode_at old.upper k) refl i here is more;
+  inodes = λ k off. ap (option_map (fill (lowers_of old))) (t.inodes k off);
+})
+  where
+    by : (k : ℕ) (x : Option Inode) → inode_at old.upper k ≡ x → (i : Inode) → held (layer_of old.upper) p ≡ Some (Named k) → option_map (fill (lowers_of old)) (inode_at old.upper k) ≡ Some i → 1 < i.links → option_map (fill (lowers_of old)) (inode_at new.upper k) ≡ Some (record i { links = i.links - 1 })
+    by k None e i here is more = let z : None ≡ Some i = sym (ap (option_map (fill (lowers_of old))) e) ∙ is in cc
+    by k (Some x) e i here is more =
+        let two : Some (fill (lowers_of old) x) ≡ Some i = sym (ap (option_map (fill (lowers_of old))) e) ∙ is in
+        let same : fill (lowers_of old) x ≡ i = cc in
+        ap (option_map (fill (lowers_of old))) (t.fewer k x here e (subst (λ (z : Inode). 1 < z.links) (sym same) more))
+        ∙ ap (λ (z : Inode). Some (record z { links = z.links - 1 })) same
+
 -- what is left is a whiteout exactly where the lower layers show something, and the upper stays without needless ones
 taken-left : (old : Layers) (V : Layer) (q : Path) (n : Name) (covered : Bool) → covered ≡ is_some (under (layer_of old.upper) (lowers_of old) n q) → TakesAway (layer_of old.upper) V (n ∷ q) (cond covered (Some Whiteout) None) → TakesAway (layer_of old.upper) V (n ∷ q) (left_behind (layer_of old.upper) (lowers_of old) n q)
 taken-left old V q n covered e taken = subst (λ c. TakesAway (layer_of old.upper) V (n ∷ q) (cond c (Some Whiteout) None)) e taken
@@ -69,19 +89,21 @@ taken-thin old V q n covered e taken thin = (law_of_thin (layer_of old.upper) V 
 
 -- where no name is shown in a path, the upper holds no object below it
 unshown-bare : (l : Layers) (p : Path) → ShowsNoName (layers_of l) p → (m : Name) (r : Path) → is_object (held (layer_of l.upper) (m ∷ r ++ p)) ≡ false
-unshown-bare l p unshown m [] = free-absent (layer_of l.upper).inodes (held (layer_of l.upper) (m ∷ p)) (through (layer_of l.upper) (lowers_of l) (m ∷ p)) (unshown m)
+unshown-bare l p unshown m [] = free-absent (upper_of l).inodes (held (layer_of l.upper) (m ∷ p)) (through (layer_of l.upper) (lowers_of l) (m ∷ p)) (unshown m)
 unshown-bare l p unshown m (k ∷ r) = ap is_object (nothing-held l.upper (k ∷ r ++ p) (free-directory (held (layer_of l.upper) (k ∷ r ++ p)) (unshown-bare l p unshown k r)) m [])
 
 -- the name goes from an upper that shows what the first did
 module _ (start old new : Layers) (q : Path) (n : Name) (covered : Bool) (same : ShowsSame start old) (keeps : StaysLayers start old) (names : (p : Path) (k : ℕ) → (held (layer_of old.upper) p ≡ Some (Named k)) ↔ (held (layer_of start.upper) p ≡ Some (Named k))) (gains : GainsParents start old (n ∷ q)) (low : new.lowers ≡ old.lowers) (unshown : ShowsNoName (layers_of start) (n ∷ q)) (is_covered : covered ≡ is_some (under (layer_of old.upper) (lowers_of old) n q)) (taken : TakesAway (layer_of old.upper) (layer_of new.upper) (n ∷ q) (cond covered (Some Whiteout) None)) (keep : IsLayer (layer_of old.upper) → IsLayer (layer_of new.upper)) where
-  loses : AreLayers (layers_of start) → Loses (layer_of start.upper) (layer_of new.upper) (lowers_of start) (n ∷ q)
+  loses : AreLayers (layers_of start) → Loses (upper_of start) (upper_of new) (lowers_of start) (n ∷ q)
   loses a =
       let b : AreLayers (layers_of old) = keeps a in
       let e : lowers_of old ≡ lowers_of start = lowers-same start old same.lowers in
-      let l : Loses (layer_of old.upper) (layer_of new.upper) (lowers_of old) (n ∷ q) = law_of_taken_away (layer_of old.upper) (layer_of new.upper) (lowers_of old) b (keep b.0, b.1) n q (λ m. same.absent (m ∷ n ∷ q) (unshown m)) (taken-left old (layer_of new.upper) q n covered is_covered taken) in
-      loses-from (layer_of start.upper) (layer_of old.upper) (layer_of new.upper) (lowers_of start) (n ∷ q)
-      (λ x. sym (ap (λ Ls. merged (layer_of old.upper) Ls x) e) ∙ same.sights x) names
-      (subst (λ (Ls : List Layer). Loses (layer_of old.upper) (layer_of new.upper) Ls (n ∷ q)) e l)
+      let left : TakesAway (upper_of old) (upper_of new) (n ∷ q) (left_behind (upper_of old) (lowers_of old) n q) =
+      taken-raised old new low (n ∷ q) _ (taken-left old (layer_of new.upper) q n covered is_covered taken) in
+      let l : Loses (upper_of old) (upper_of new) (lowers_of old) (n ∷ q) = law_of_taken_away (upper_of old) (upper_of new) (lowers_of old) b (layer-raised old new low keep b.0, b.1) n q (λ m. same.absent (m ∷ n ∷ q) (unshown m)) left in
+      loses-from (upper_of start) (upper_of old) (upper_of new) (lowers_of start) (n ∷ q)
+      (λ x. sym (ap (λ Ls. merged (upper_of old) Ls x) e) ∙ same.sights x) names
+      (subst (λ (Ls : List Layer). Loses (upper_of old) (upper_of new) Ls (n ∷ q)) e l)
 
   pub takes-name : TakesName start new (n ∷ q)
   takes-name = record {
@@ -92,12 +114,12 @@ module _ (start old new : Layers) (q : Path) (n : Name) (covered : Bool) (same :
   }
 
 -- what shows no directory shows nothing in it
-pub unshown-in : (ts : List Tree) (p : Path) → is_directory (shows 0 (map layer_of ts) p) ≡ false → ShowsNoName (map layer_of ts) p
-unshown-in ts p h m = by (shows 0 (map layer_of ts) (m ∷ p)) refl
+pub unshown-in : (l : Layers) (p : Path) → is_directory (shows 0 (layers_of l) p) ≡ false → ShowsNoName (layers_of l) p
+unshown-in l p h m = by (shows 0 (layers_of l) (m ∷ p)) refl
   where
-    by : (s : Option Shown) → shows 0 (map layer_of ts) (m ∷ p) ≡ s → shows 0 (map layer_of ts) (m ∷ p) ≡ None
+    by : (s : Option Shown) → shows 0 (layers_of l) (m ∷ p) ≡ s → shows 0 (layers_of l) (m ∷ p) ≡ None
     by None e = e
-    by (Some s) e = absurd (false≢true (sym h ∙ parents-shown 0 ts m p (ap is_some e)))
+    by (Some s) e = absurd (false≢true (sym h ∙ mount-parents l m p (ap is_some e)))
 
 directory-some : (s : Option Shown) → is_directory s ≡ true → is_some s ≡ true
 directory-some s h = grind arith
@@ -108,20 +130,20 @@ directory-fault (Some (Folder i k a)) h = (refl, refl)
 directory-fault (Some (Contents i k x)) h = absurd (false≢true h)
 
 -- a directory that is shown is walked to
-way-none : (ts : List Tree) (p : Path) → is_directory (shows 0 (map layer_of ts) p) ≡ true → way_fault (map layer_of ts) p ≡ None
-way-none ts [] h = refl
-way-none ts (n ∷ p) h = ap₂ or_else (way-none ts p (parents-shown 0 ts n p (directory-some (shows 0 (map layer_of ts) (n ∷ p)) h))) (directory-fault (shows 0 (map layer_of ts) (n ∷ p)) h).0
+way-none : (l : Layers) (p : Path) → is_directory (shows 0 (layers_of l) p) ≡ true → way_fault (layers_of l) p ≡ None
+way-none l [] h = refl
+way-none l (n ∷ p) h = ap₂ or_else (way-none l p (mount-parents l n p (directory-some (shows 0 (layers_of l) (n ∷ p)) h))) (directory-fault (shows 0 (layers_of l) (n ∷ p)) h).0
 
-walk-none : (ts : List Tree) (p : Path) → is_directory (shows 0 (map layer_of ts) p) ≡ true → walk_fault (map layer_of ts) p ≡ None
-walk-none ts [] h = (directory-fault (shows 0 (map layer_of ts) []) h).1
-walk-none ts (n ∷ p) h = ap₂ or_else (way-none ts p (parents-shown 0 ts n p (directory-some (shows 0 (map layer_of ts) (n ∷ p)) h))) (directory-fault (shows 0 (map layer_of ts) (n ∷ p)) h).1
+walk-none : (l : Layers) (p : Path) → is_directory (shows 0 (layers_of l) p) ≡ true → walk_fault (layers_of l) p ≡ None
+walk-none l [] h = (directory-fault (shows 0 (layers_of l) []) h).1
+walk-none l (n ∷ p) h = ap₂ or_else (way-none l p (mount-parents l n p (directory-some (shows 0 (layers_of l) (n ∷ p)) h))) (directory-fault (shows 0 (layers_of l) (n ∷ p)) h).1
 
-fault-no-directory : (ts : List Tree) (p : Path) (e : Errno) → walk_fault (map layer_of ts) p ≡ Some e → is_directory (shows 0 (map layer_of ts) p) ≡ false
-fault-no-directory ts p e h = by (is_directory (shows 0 (map layer_of ts) p)) refl
+fault-no-directory : (l : Layers) (p : Path) (e : Errno) → walk_fault (layers_of l) p ≡ Some e → is_directory (shows 0 (layers_of l) p) ≡ false
+fault-no-directory l p e h = by (is_directory (shows 0 (layers_of l) p)) refl
   where
-    by : (b : Bool) → is_directory (shows 0 (map layer_of ts) p) ≡ b → b ≡ false
+    by : (b : Bool) → is_directory (shows 0 (layers_of l) p) ≡ b → b ≡ false
     by false is = refl
-    by true is = let z : Some e ≡ None = sym h ∙ walk-none ts p is in cc
+    by true is = let z : Some e ≡ None = sym h ∙ walk-none l p is in cc
 
 below-root : (p q : Path) (n : Name) → p ≡ n ∷ q → is_root p ≡ false
 below-root p q n e = ap is_root e
@@ -144,10 +166,10 @@ pub unlink-found : (Ls : List Layer) (p q : Path) (n : Name) (d : Bool) → p �
 unlink-found Ls p q n d is walk dir = unlink-below Ls p q n is ∙ ap₂ (λ w d. or_else w (when d errno.EISDIR)) walk dir
 
 -- an unlink that takes the name away is the machine's step
-pub unlink-step : (old new : Layers) (p q : Path) (n : Name) → p ≡ n ∷ q → unlink_fault (layers_of old) p ≡ None → TakesName old new (n ∷ q) → (s : State) → IsMountOf (layer_of old.upper) (lowers_of old) s → (c : ℕ) → Removes (layer_of new.upper) (lowers_of new) s c p (call.Unlink p)
+pub unlink-step : (old new : Layers) (p q : Path) (n : Name) → p ≡ n ∷ q → unlink_fault (layers_of old) p ≡ None → TakesName old new (n ∷ q) → (s : State) → IsMountOf (upper_of old) (lowers_of old) s → (c : ℕ) → Removes (upper_of new) (lowers_of new) s c p (call.Unlink p)
 unlink-step old new p q n e fine t s m c =
-    let U : Layer = layer_of old.upper in
-    let V : Layer = layer_of new.upper in
+    let U : Layer = upper_of old in
+    let V : Layer = upper_of new in
     let lost : Loses U V (lowers_of old) p = subst (λ (x : Path). Loses U V (lowers_of old) x) (sym e) (t.loses m.layers) in
     subst (λ (Ls : List Layer). Removes V Ls s c p (call.Unlink p)) (sym (lowers-same old new t.lowers)) (law_of_unlinked U V (lowers_of old) s m c p fine lost)
 
@@ -159,11 +181,11 @@ rmdir-below : (Ls : List Layer) (p q : Path) (n : Name) (b : Bool) → p ≡ n �
 rmdir-below Ls p q n b e = rmdir-chain (is_root p) (is_directory (shows 0 Ls p)) b (walk_fault Ls p) (below-root p q n e)
 
 -- an rmdir that takes the name away is the machine's step
-pub rmdir-step : (old new : Layers) (p q : Path) (n : Name) → p ≡ n ∷ q → is_directory (shows 0 (layers_of old) p) ≡ true → ShowsNoName (layers_of old) p → TakesName old new (n ∷ q) → (s : State) → IsMountOf (layer_of old.upper) (lowers_of old) s → (c : ℕ) → Removes (layer_of new.upper) (lowers_of new) s c p (call.Rmdir p)
+pub rmdir-step : (old new : Layers) (p q : Path) (n : Name) → p ≡ n ∷ q → is_directory (shows 0 (layers_of old) p) ≡ true → ShowsNoName (layers_of old) p → TakesName old new (n ∷ q) → (s : State) → IsMountOf (upper_of old) (lowers_of old) s → (c : ℕ) → Removes (upper_of new) (lowers_of new) s c p (call.Rmdir p)
 rmdir-step old new p q n e dir unshown t s m c =
-    let U : Layer = layer_of old.upper in
-    let V : Layer = layer_of new.upper in
-    let fine : rmdir_fault (layers_of old) p false ≡ None = rmdir-below (layers_of old) p q n false e ∙ ap₂ (λ w d. or_else w (or_else (when (not d) errno.ENOTDIR) None)) (walk-none (trees old) p dir) dir in
+    let U : Layer = upper_of old in
+    let V : Layer = upper_of new in
+    let fine : rmdir_fault (layers_of old) p false ≡ None = rmdir-below (layers_of old) p q n false e ∙ ap₂ (λ w d. or_else w (or_else (when (not d) errno.ENOTDIR) None)) (walk-none old p dir) dir in
     let lost : Loses U V (lowers_of old) p = subst (λ (x : Path). Loses U V (lowers_of old) x) (sym e) (t.loses m.layers) in
     subst (λ (Ls : List Layer). Removes V Ls s c p (call.Rmdir p)) (sym (lowers-same old new t.lowers)) (law_of_removed_directory U V (lowers_of old) s m c p fine unshown lost)
 
@@ -185,23 +207,23 @@ rmdir-fine Ls p q n is walk dir =
     ∙ ap₂ (λ w d. or_else w (or_else (when (not d) errno.ENOTDIR) None)) walk dir
 
 -- rmdir's refusals are the machine's: on the way, of what is no directory, and of a directory that shows a name
-pub rmdir-walk : (l : Layers) (p q : Path) (n : Name) (e : Errno) → p ≡ n ∷ q → walk_fault (layers_of l) p ≡ Some e → (s : State) → IsMountOf (layer_of l.upper) (lowers_of l) s → (c : ℕ) → refusal s c (call.Rmdir p) ≡ Some e
+pub rmdir-walk : (l : Layers) (p q : Path) (n : Name) (e : Errno) → p ≡ n ∷ q → walk_fault (layers_of l) p ≡ Some e → (s : State) → IsMountOf (upper_of l) (lowers_of l) s → (c : ℕ) → refusal s c (call.Rmdir p) ≡ Some e
 rmdir-walk l p q n e is walk s m c =
-    (law_of_rmdir (layer_of l.upper) (lowers_of l) s m c p).empty (unshown-in (trees l) p (fault-no-directory (trees l) p e walk))
+    (law_of_rmdir (upper_of l) (lowers_of l) s m c p).empty (unshown-in l p (fault-no-directory l p e walk))
     ∙ rmdir-below (layers_of l) p q n false is
     ∙ ap (λ w. or_else w (or_else (when (not (is_directory (shows 0 (layers_of l) p))) errno.ENOTDIR) None)) walk
 
-pub rmdir-file : (l : Layers) (p q : Path) (n : Name) → p ≡ n ∷ q → walk_fault (layers_of l) p ≡ None → is_directory (shows 0 (layers_of l) p) ≡ false → (s : State) → IsMountOf (layer_of l.upper) (lowers_of l) s → (c : ℕ) → refusal s c (call.Rmdir p) ≡ Some errno.ENOTDIR
+pub rmdir-file : (l : Layers) (p q : Path) (n : Name) → p ≡ n ∷ q → walk_fault (layers_of l) p ≡ None → is_directory (shows 0 (layers_of l) p) ≡ false → (s : State) → IsMountOf (upper_of l) (lowers_of l) s → (c : ℕ) → refusal s c (call.Rmdir p) ≡ Some errno.ENOTDIR
 rmdir-file l p q n is walk file s m c =
-    (law_of_rmdir (layer_of l.upper) (lowers_of l) s m c p).empty (unshown-in (trees l) p file)
+    (law_of_rmdir (upper_of l) (lowers_of l) s m c p).empty (unshown-in l p file)
     ∙ rmdir-below (layers_of l) p q n false is
     ∙ ap₂ (λ w d. or_else w (or_else (when (not d) errno.ENOTDIR) None)) walk file
 
-pub rmdir-full : (l : Layers) (p q : Path) (n m : Name) → p ≡ n ∷ q → is_directory (shows 0 (layers_of l) p) ≡ true → is_some (shows 0 (layers_of l) (m ∷ p)) ≡ true → (s : State) → IsMountOf (layer_of l.upper) (lowers_of l) s → (c : ℕ) → refusal s c (call.Rmdir p) ≡ Some errno.ENOTEMPTY
+pub rmdir-full : (l : Layers) (p q : Path) (n m : Name) → p ≡ n ∷ q → is_directory (shows 0 (layers_of l) p) ≡ true → is_some (shows 0 (layers_of l) (m ∷ p)) ≡ true → (s : State) → IsMountOf (upper_of l) (lowers_of l) s → (c : ℕ) → refusal s c (call.Rmdir p) ≡ Some errno.ENOTEMPTY
 rmdir-full l p q n m is dir some s mount c =
-    (law_of_rmdir (layer_of l.upper) (lowers_of l) s mount c p).full m some
+    (law_of_rmdir (upper_of l) (lowers_of l) s mount c p).full m some
     ∙ rmdir-below (layers_of l) p q n true is
-    ∙ ap₂ (λ w d. or_else w (or_else (when (not d) errno.ENOTDIR) (Some errno.ENOTEMPTY))) (walk-none (trees l) p dir) dir
+    ∙ ap₂ (λ w d. or_else w (or_else (when (not d) errno.ENOTDIR) (Some errno.ENOTEMPTY))) (walk-none l p dir) dir
 
 -- what a walk finds, by its kind
 pub found-inode : (l : Layers) (p : Path) (f : Found) (d : Place) → f ≡ found.Inode d → IsFound l p f → is_directory (shows 0 (layers_of l) p) ≡ false
@@ -223,7 +245,7 @@ found-folder l p f s e h = ap is_directory (found-directory l p f s e h).shown
 pub rmdir-names : (l : Layers) (p q : Path) (n : Name) → p ≡ n ∷ q → is_directory (shows 0 (layers_of l) p) ≡ true → (m : Name) × (is_some (shows 0 (layers_of l) (m ∷ p)) ≡ true) → (full : Bool) → TellsNames (layers_of l) p full → rmdir_fault (layers_of l) p full ≡ Some errno.ENOTEMPTY
 rmdir-names l p q n is dir some true tells =
     rmdir-below (layers_of l) p q n true is
-    ∙ ap₂ (λ w d. or_else w (or_else (when (not d) errno.ENOTDIR) (Some errno.ENOTEMPTY))) (walk-none (trees l) p dir) dir
+    ∙ ap₂ (λ w d. or_else w (or_else (when (not d) errno.ENOTDIR) (Some errno.ENOTEMPTY))) (walk-none l p dir) dir
 rmdir-names l p q n is dir some false tells = absurd (false≢true (sym (ap is_some (tells some.0)) ∙ some.1))
 
 rmdir-chain-allowed : (r d : Bool) (w : Option Errno) → or_else (when r errno.EBUSY) (or_else w (or_else (when (not d) errno.ENOTDIR) None)) ≡ None → d ≡ true

@@ -10,10 +10,11 @@ use Rattle.mount_laws.proofs.Alters.{law_of_thin}
 use Rattle.mount_laws.proofs.Makes.{law_of_made}
 use Rattle.layer_tree.specs.Tree.{layer_of, inode_at, SetsPath}
 use Rattle.merged_lookup.specs.declared.layers.Layers.{Layers}
-use Rattle.merged_lookup.specs.Merged.{layers_of, lowers_of}
+use Rattle.merged_lookup.specs.Merged.{upper_of, layers_of, lowers_of}
 use Rattle.copy_up.specs.Showing.{ShowsSame, StaysMount, StaysThin}
 use Rattle.copy_up.proofs.Placing.{free-directory, nothing-held, free-absent}
-use Rattle.copy_up.proofs.Keeping.{inodes-same, lowers-same}
+use Rattle.copy_up.proofs.Raising.{lowers-same, layer-raised, placed-raised}
+use Rattle.copy_up.proofs.Keeping.{inodes-same}
 use Rattle.make_remove.specs.Making.{MkdirSteps, mkdir_fault, new_attributes}
 
 -- a directory in an upper that has its parent
@@ -24,7 +25,7 @@ module _ (start old new : Layers) (same : ShowsSame start old) (mounts : StaysMo
   placed : Placed (layer_of old.upper) (layer_of new.upper) (n ∷ q) (Some (Directory key (new_attributes mode) o None))
   placed = record {
     here = sets.there;
-    beneath = λ k r. sets.elsewhere (k ∷ r ++ (n ∷ q)) (λ e. longer (n ∷ q) k r (sym e)) ∙ nothing-held old.upper (n ∷ q) (free-directory (held (layer_of old.upper) (n ∷ q)) (free-absent (layer_of old.upper).inodes (held (layer_of old.upper) (n ∷ q)) (through (layer_of old.upper) (lowers_of old) (n ∷ q)) none)) k r;
+    beneath = λ k r. sets.elsewhere (k ∷ r ++ (n ∷ q)) (λ e. longer (n ∷ q) k r (sym e)) ∙ nothing-held old.upper (n ∷ q) (free-directory (held (layer_of old.upper) (n ∷ q)) (free-absent (upper_of old).inodes (held (layer_of old.upper) (n ∷ q)) (through (layer_of old.upper) (lowers_of old) (n ∷ q)) none)) k r;
     elsewhere = λ x out. sets.elsewhere x (λ e. out [] e);
     inodes = inodes-same old.upper new.upper inodes;
   }
@@ -34,11 +35,11 @@ module _ (start old new : Layers) (same : ShowsSame start old) (mounts : StaysMo
 
   steps-at : mkdir_fault (layers_of start) (n ∷ q) mode ≡ None → MkdirSteps start new (n ∷ q) mode
   steps-at allowed s h c =
-      let U : Layer = layer_of old.upper in
-      let V : Layer = layer_of new.upper in
+      let U : Layer = upper_of old in
+      let V : Layer = upper_of new in
       let now : IsMountOf U (lowers_of old) s = mounts s h in
-      let fault : mkdir_fault (layers_of old) (n ∷ q) mode ≡ None = sym (law_of_mkdir U (lowers_of old) s now c (n ∷ q) mode) ∙ law_of_mkdir (layer_of start.upper) (lowers_of start) s h c (n ∷ q) mode ∙ allowed in
-      let gains : Gains U V (lowers_of old) (n ∷ q) (new_attributes mode) = law_of_placed_directory U V (lowers_of old) now.layers (keep now.layers.0, now.layers.1) n q key (new_attributes mode) none (subst (λ (b : Bool). Placed U V (n ∷ q) (Some (Directory key (new_attributes mode) b None))) opaque placed) in
+      let fault : mkdir_fault (layers_of old) (n ∷ q) mode ≡ None = sym (law_of_mkdir U (lowers_of old) s now c (n ∷ q) mode) ∙ law_of_mkdir (upper_of start) (lowers_of start) s h c (n ∷ q) mode ∙ allowed in
+      let gains : Gains U V (lowers_of old) (n ∷ q) (new_attributes mode) = law_of_placed_directory U V (lowers_of old) now.layers (layer-raised old new low keep now.layers.0, now.layers.1) n q key (new_attributes mode) none (subst (λ (b : Bool). Placed U V (n ∷ q) (Some (Directory key (new_attributes mode) b None))) opaque (placed-raised old new low (n ∷ q) (Some (Directory key (new_attributes mode) o None)) placed)) in
       subst (λ (Ls : List Layer). Makes V Ls s c (n ∷ q) mode) (sym (lowers-same old new low)) (law_of_made U V (lowers_of old) s now c (n ∷ q) mode fault gains)
 
 -- the same of a path that ends in the name

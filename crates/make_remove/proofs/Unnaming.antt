@@ -1,9 +1,9 @@
 -- A name that goes from a directory of the upper, and the object that it led to.
-use Rattle.std.proofs.Common.{◌≡◌, ◌≢◌, ℕ, ◌-◌, Bool, true, false, cond, List, ◌∷◌, Option, None, Some, is_some, IsSome, refl, sym, ap, ◌∙◌, subst, nat_lt, length, length-append, inl, inr, arith}
+use Rattle.std.proofs.Common.{◌≡◌, ◌≢◌, ℕ, ◌-◌, Bool, true, false, cond, ◌∷◌, Option, None, Some, is_some, IsSome, refl, sym, ap, ◌∙◌, subst, nat_lt, length, length-append, inl, inr, arith}
 use Rattle.std.proofs.lemmas.Bool.{false≢true, cases_eq}
 use Rattle.std.specs.Option.{option_and_then, option_map}
 use Rattle.slab.specs.Slab.{get}
-use Rattle.plain_model.specs.Layers.{Name, Path, Object, Named, Inode, Layer, held, holds_directory, through}
+use Rattle.plain_model.specs.Layers.{Name, Path, Object, Named, Inode, held, holds_directory, through}
 use Rattle.layer_tree.specs.Table.{object_key}
 use Rattle.layer_tree.specs.Tree.{Tree, IsTree, IsDirectory, HoldsNoObjects, Unbinds, ReplacesPath, layer_of, table_of, inode_of, inode_at, seen, seen_at, seen_entry, entry, child, key_at, with_less}
 use Rattle.layer_tree.specs.Nameless.{IsNameless, KeepsObjects}
@@ -14,6 +14,7 @@ use Rattle.layer_tree.specs.declared.node.Node.TheVariants as node
 use Rattle.layer_tree.proofs.Changing.{same_presence}
 use Rattle.layer_tree.proofs.Nameless.{keeps_then}
 use Rattle.merged_lookup.specs.declared.layers.Layers.{Layers}
+use Rattle.merged_lookup.specs.Merged.{upper_of, lowers_of, layers_of}
 use Rattle.merged_lookup.proofs.Descending.{held-in}
 use Rattle.copy_up.specs.Showing.{is_object, IsParent, GainsParents, KeepsPath}
 use Rattle.copy_up.proofs.Nodes.{free-entry}
@@ -154,8 +155,8 @@ bare-below t p dir n tree at free key led m =
     (sym (ap is_object (held-in t (n ∷ p) key m there)) ∙ free m)
 
 -- and so where no name is shown in it
-pub bare-held : (t : Tree) (lowers : List Layer) (p : Path) (dir : ℕ) (n : Name) → IsTree t → key_at t p ≡ Some dir → ShowsNoName (layer_of t ∷ lowers) (n ∷ p) → HoldsNoObjects t dir n
-bare-held t lowers p dir n tree at unshown = bare-below t p dir n tree at (λ m. free-absent (layer_of t).inodes (held (layer_of t) (m ∷ n ∷ p)) (through (layer_of t) lowers (m ∷ n ∷ p)) (unshown m))
+pub bare-held : (l : Layers) (p : Path) (dir : ℕ) (n : Name) → IsTree l.upper → key_at l.upper p ≡ Some dir → ShowsNoName (layers_of l) (n ∷ p) → HoldsNoObjects l.upper dir n
+bare-held l p dir n tree at unshown = bare-below l.upper p dir n tree at (λ m. free-absent (upper_of l).inodes (held (layer_of l.upper) (m ∷ n ∷ p)) (through (layer_of l.upper) (lowers_of l) (m ∷ n ∷ p)) (unshown m))
 
 -- no path is its own parent
 pub own-parent : (p : Path) → IsParent p p → ⊥

@@ -14,7 +14,7 @@ use Rattle.layer_tree.specs.declared.node.Marks.{Marks}
 use Rattle.merged_lookup.specs.declared.layers.Layers.{Layers}
 use Rattle.merged_lookup.specs.declared.stack.Place.{Place}
 use Rattle.merged_lookup.specs.declared.stack.Stack.{Stack}
-use Rattle.merged_lookup.specs.Merged.{layers_of, lowers_of, parent, top_of, IsStackOf, ShowsDirectory}
+use Rattle.merged_lookup.specs.Merged.{upper_of, layers_of, lowers_of, parent, top_of, IsStackOf, ShowsDirectory}
 use Rattle.copy_up.proofs.OtherAttributes.{upper-directory}
 use Rattle.copy_up.proofs.Placing.{free-absent}
 use Rattle.rename_redirect.specs.declared.entries.Route.{Route}
@@ -44,7 +44,7 @@ module _ (l : Layers) (old new t u : Path) (r : Route) (is_old : old ≡ r.name.
         route = record {
           from = top-under l t from r.from (subst (λ x. IsStackOf l (parent x) from) is_old at) top key;
           to = top-under l u onto r.to (subst (λ x. IsStackOf l (parent x) onto) is_new to) top2 key2;
-          bare = λ n. free-absent (layer_of l.upper).inodes (held (layer_of l.upper) (n ∷ r.further.now ∷ u)) (through (layer_of l.upper) (lowers_of l) (n ∷ r.further.now ∷ u)) (bare n);
+          bare = λ n. free-absent (upper_of l).inodes (held (layer_of l.upper) (n ∷ r.further.now ∷ u)) (through (layer_of l.upper) (lowers_of l) (n ∷ r.further.now ∷ u)) (bare n);
           out = subst (λ x. IsOutside x (r.further.now ∷ u)) is_old (subst (IsOutside old) is_new out);
           within = subst (λ x. IsOutside x (r.name.now ∷ t)) is_new (subst (IsOutside new) is_old within);
         };

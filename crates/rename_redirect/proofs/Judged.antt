@@ -16,10 +16,10 @@ use Rattle.mount_laws.proofs.Looks.{shown-there}
 use Rattle.layer_tree.specs.Tree.{layer_of}
 use Rattle.merged_lookup.specs.declared.layers.Layers.{Layers}
 use Rattle.merged_lookup.specs.declared.found.Found.{Found}
-use Rattle.merged_lookup.specs.Merged.{trees, layers_of, lowers_of, parents_fault, walk_fault, parent, IsStackOf, IsFound, IsAnswer, ShowsNothing}
+use Rattle.merged_lookup.specs.Merged.{upper_of, layers_of, lowers_of, parents_fault, walk_fault, parent, IsStackOf, IsFound, IsAnswer, ShowsNothing}
 use Rattle.merged_lookup.specs.declared.stack.Stack.{Stack}
 use Rattle.copy_up.proofs.Keeping.{or-first}
-use Rattle.copy_up.proofs.Placing.{parents-shown}
+use Rattle.copy_up.proofs.Placing.{mount-parents}
 use Rattle.make_remove.proofs.Removing.{unshown-in}
 use Rattle.rename_redirect.specs.Judging.{fit_fault, Fits, MayMove}
 
@@ -33,7 +33,7 @@ inode-chain d s e r dir fits fine = grind arith
 -- where a directory is shown, or nothing, the upper names no inode
 unnamed-of : (l : Layers) (q : Path) → (is_some (shows 0 (layers_of l) q) && not (is_directory (shows 0 (layers_of l) q))) ≡ false → NamesNoInode (layer_of l.upper) q
 unnamed-of l q h k e =
-    false≢true (sym h ∙ ap (λ o. is_some (over 0 (layer_of l.upper).inodes o (through (layer_of l.upper) (lowers_of l) q)) && not (is_directory (over 0 (layer_of l.upper).inodes o (through (layer_of l.upper) (lowers_of l) q)))) e)
+    false≢true (sym h ∙ ap (λ o. is_some (over 0 (upper_of l).inodes o (through (layer_of l.upper) (lowers_of l) q)) && not (is_directory (over 0 (upper_of l).inodes o (through (layer_of l.upper) (lowers_of l) q)))) e)
 
 -- a directory over one that shows no name, or over nothing
 pub fits-folder : (l : Layers) (redirects : Bool) (p q : Path) → is_directory (shows 0 (layers_of l) p) ≡ true → (is_some (shows 0 (layers_of l) q) && not (is_directory (shows 0 (layers_of l) q))) ≡ false → (base (layer_of l.upper) (lowers_of l) p && not redirects) ≡ false → ShowsNoName (layers_of l) q → Fits l redirects p q
@@ -45,13 +45,13 @@ fits-folder l redirects p q dir kind fine empty = record {
 
 -- what is no directory is not base
 not-base : (l : Layers) (p : Path) → is_directory (shows 0 (layers_of l) p) ≡ false → base (layer_of l.upper) (lowers_of l) p ≡ false
-not-base l p h = sym (base-shown (layer_of l.upper) (lowers_of l) p) ∙ ap (λ b. b && base (layer_of l.upper) (lowers_of l) p) h
+not-base l p h = sym (base-shown (upper_of l) (lowers_of l) p) ∙ ap (λ b. b && base (layer_of l.upper) (lowers_of l) p) h
 
 -- anything else over what is no directory
 pub fits-inode : (l : Layers) (redirects : Bool) (p q : Path) → is_directory (shows 0 (layers_of l) p) ≡ false → is_directory (shows 0 (layers_of l) q) ≡ false → Fits l redirects p q
 fits-inode l redirects p q file other = record {
   fine = inode-chain (is_directory (shows 0 (layers_of l) p)) (is_some (shows 0 (layers_of l) q)) (is_directory (shows 0 (layers_of l) q)) (base (layer_of l.upper) (lowers_of l) p && not redirects) file other (ap (λ b. b && not redirects) (not-base l p file));
-  empty = unshown-in (trees l) q other;
+  empty = unshown-in l q other;
   kind = λ h. absurd (false≢true (sym file ∙ h));
 }
 
@@ -62,14 +62,14 @@ nothing-shown l q t e h = let P : Option Found → Type 0 = λ t. IsAnswer l q t
 -- nothing is shown below a path in which no name is shown
 nothing-beneath : (l : Layers) (q : Path) → ShowsNoName (layers_of l) q → (k : Name) (r : Path) → is_some (shows 0 (layers_of l) (k ∷ r ++ q)) ≡ true → ⊥
 nothing-beneath l q empty k [] some = false≢true (sym (ap is_some (empty k)) ∙ some)
-nothing-beneath l q empty k (m ∷ r) some = nothing-beneath l q empty m r (folder-some (shows 0 (layers_of l) (m ∷ r ++ q)) (parents-shown 0 (trees l) k (m ∷ r ++ q) some))
+nothing-beneath l q empty k (m ∷ r) some = nothing-beneath l q empty m r (folder-some (shows 0 (layers_of l) (m ∷ r ++ q)) (mount-parents l k (m ∷ r ++ q) some))
   where
     folder-some : (s : Option Shown) → is_directory s ≡ true → is_some s ≡ true
     folder-some s h = grind arith
 
 -- the walk of the first path is refused, and then the way to the second
 module _ (l : Layers) (redirects : Bool) (p q : Path) (first : is_root p ≡ false) (second : is_root q ≡ false) (full : Bool) (e : Errno) where
-  pub fault-walk : walk_fault (layers_of l) p ≡ Some e → rename_fault (layer_of l.upper) (lowers_of l) redirects p q full ≡ Some e
+  pub fault-walk : walk_fault (layers_of l) p ≡ Some e → rename_fault (upper_of l) (lowers_of l) redirects p q full ≡ Some e
   fault-walk walk = λ i.
       or_else (when (first i || second i) errno.EBUSY)
       (or_else (walk i)
@@ -77,7 +77,7 @@ module _ (l : Layers) (redirects : Bool) (p q : Path) (first : is_root p ≡ fal
       (unless_same (is_one (layer_of l.upper) p q)
       (move_fault (is_below p q) (shows 0 (layers_of l) p) (shows 0 (layers_of l) q) (base (layer_of l.upper) (lowers_of l) p && not redirects) full))))
 
-  pub fault-way : walk_fault (layers_of l) p ≡ None → parents_fault (layers_of l) q ≡ Some e → rename_fault (layer_of l.upper) (lowers_of l) redirects p q full ≡ Some e
+  pub fault-way : walk_fault (layers_of l) p ≡ None → parents_fault (layers_of l) q ≡ Some e → rename_fault (upper_of l) (lowers_of l) redirects p q full ≡ Some e
   fault-way walk way = λ i.
       or_else (when (first i || second i) errno.EBUSY)
       (or_else (walk i)
@@ -87,7 +87,7 @@ module _ (l : Layers) (redirects : Bool) (p q : Path) (first : is_root p ≡ fal
 
 -- what isn't refused on the way, of two objects, is refused as what is found there
 module _ (l : Layers) (redirects : Bool) (p q : Path) (first : is_root p ≡ false) (second : is_root q ≡ false) (walk : walk_fault (layers_of l) p ≡ None) (way : parents_fault (layers_of l) q ≡ None) (two : is_one (layer_of l.upper) p q ≡ false) (beside : is_below p q ≡ false) where
-  pub fault-fit : (full : Bool) → rename_fault (layer_of l.upper) (lowers_of l) redirects p q full ≡ fit_fault l redirects p q full
+  pub fault-fit : (full : Bool) → rename_fault (upper_of l) (lowers_of l) redirects p q full ≡ fit_fault l redirects p q full
   fault-fit full = λ i.
       or_else (when (first i || second i) errno.EBUSY)
       (or_else (walk i)

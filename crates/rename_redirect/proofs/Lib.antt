@@ -1,4 +1,5 @@
 pub mod Rooms
+pub mod Filling
 pub mod Moving
 pub mod Preparing
 pub mod Overs

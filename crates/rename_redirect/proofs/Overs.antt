@@ -5,7 +5,7 @@ use Rattle.slab.specs.Slab.{get}
 use Rattle.ov_base.specs.declared.attributes.Attributes.{Attributes}
 use Rattle.ov_base.specs.declared.redirect.Redirect.{Redirect}
 use Rattle.ov_base.specs.declared.redirect.Redirect.TheVariants.{Absolute}
-use Rattle.plain_model.specs.Layers.{Name, Path, Object, Directory, Named, Whiteout, Layer, held, holds_directory, below, shows, under, base, reaches_directory, is_directory, IsLayer, AreLayers}
+use Rattle.plain_model.specs.Layers.{Name, Path, Object, Directory, Named, Whiteout, Layer, held, holds_directory, below, shows, under, base, reaches_directory, is_directory, fill, IsLayer, AreLayers}
 use Rattle.plain_model.specs.Laws.{IsOutside, left_at}
 use Rattle.plain_model.specs.Tree.{AreLinked, IsThin}
 use Rattle.plain_model.proofs.Paths.{outside-parent, parent-outside, one_or_not, paths_tell}
@@ -24,14 +24,15 @@ use Rattle.layer_tree.specs.MarkChange.{MarksDirectory, SetsMarks}
 use Rattle.layer_tree.specs.declared.node.Marks.{Marks}
 use Rattle.merged_lookup.specs.declared.layers.Layers.{Layers}
 use Rattle.merged_lookup.specs.declared.stack.Place.{Place}
-use Rattle.merged_lookup.specs.Merged.{layers_of, lowers_of}
+use Rattle.merged_lookup.specs.Merged.{upper_of, layers_of, lowers_of}
 use Rattle.copy_up.specs.Showing.{StaysThin}
-use Rattle.copy_up.proofs.Keeping.{inodes-same, lowers-same}
+use Rattle.copy_up.proofs.Raising.{lowers-same, raise}
 use Rattle.copy_up.proofs.Placing.{nothing-held}
 use Rattle.make_remove.specs.Removing.{last_named, has_more}
 use Rattle.rename_redirect.specs.declared.entries.Route.{Route}
 use Rattle.rename_redirect.specs.Renaming.{HoldsDirectory, HasMarks, MovesOver, Replaces}
 use Rattle.rename_redirect.specs.Routes.{MovesEntry, IsMove, IsFolderMove}
+use Rattle.rename_redirect.proofs.Filling.{full, filled-stays, some-filled, less-filled}
 use Rattle.rename_redirect.proofs.Preparing.{Prepared}
 
 -- what a name that is covered, or isn't, leaves
@@ -83,8 +84,12 @@ module _ (u w v : Tree) (lowers : List Layer) (n : Name) (p : Path) (m : Name) (
   pub handed : released ≡ last_named u (held (layer_of u) (m ∷ q))
   handed = e.handed_back ∙ ap (last_named w) new-held ∙ last-alike u w (held (layer_of u) (m ∷ q)) (λ k h. ready.inodes k (named-inode k h))
 
-  loses : (j : ℕ) → LosesLink (layer_of w) (layer_of v) (m ∷ q) j
-  loses j = record { fewer = λ i here is. e.fewer j here ∙ ap (option_map with_less) is; same = λ off. e.inodes j off }
+  -- the inode that loses its name has a link fewer as it shows
+  fewer : (k : ℕ) → held (layer_of w) (m ∷ q) ≡ Some (Named k) → (full v lowers).inodes k ≡ option_map with_less ((full w lowers).inodes k)
+  fewer k here = ap (option_map (fill lowers)) (e.fewer k here) ∙ less-filled lowers (inode_at w k)
+
+  loses : (j : ℕ) → LosesLink (full w lowers) (full v lowers) (m ∷ q) j
+  loses j = record { fewer = λ i here is. fewer j here ∙ ap (option_map with_less) is; same = λ off. ap (option_map (fill lowers)) (e.inodes j off) }
 
   -- an inode that the upper had has the same names
   same-named : (j : ℕ) → is_some (inode_at u j) ≡ true → (x : Path) → (held (layer_of w) x ≡ Some (Named j)) ↔ (held (layer_of u) x ≡ Some (Named j))
@@ -96,8 +101,13 @@ module _ (u w v : Tree) (lowers : List Layer) (n : Name) (p : Path) (m : Name) (
     | inr ne ↦ (λ h. sym (ready.elsewhere x ne) ∙ h, λ h. ready.elsewhere x ne ∙ h)
   ]
 
-  kept-link : (V : Layer) (j : ℕ) → is_some (inode_at u j) ≡ true → MovesLink (layer_of w) V (n ∷ p) (m ∷ q) j → MovesLink (layer_of u) V (n ∷ p) (m ∷ q) j
-  kept-link V j is = law_of_kept_move_link (layer_of u) (layer_of w) V (n ∷ p) (m ∷ q) j (same-named j is) (ready.inodes j is)
+  kept-link : (V : Layer) (j : ℕ) → is_some ((full u lowers).inodes j) ≡ true → MovesLink (full w lowers) V (n ∷ p) (m ∷ q) j → MovesLink (full u lowers) V (n ∷ p) (m ∷ q) j
+  kept-link V j is =
+      let raw : is_some (inode_at u j) ≡ true = sym (some-filled lowers (inode_at u j)) ∙ is in
+      law_of_kept_move_link (full u lowers) (full w lowers) V (n ∷ p) (m ∷ q) j (same-named j raw) (ap (option_map (fill lowers)) (ready.inodes j raw))
+
+  ready-layer : IsLayer (full u lowers) → IsLayer (full w lowers)
+  ready-layer = filled-stays (layer_of u) (layer_of w) lowers ready.layer
 
   pub seen-kept : (k : ℕ) → IsSome (get u k) → seen_at v k ≡ seen_at u k
   seen-kept k is = e.seen k ∙ ready.seen k is
@@ -117,7 +127,7 @@ module _ (u w v : Tree) (lowers : List Layer) (n : Name) (p : Path) (m : Name) (
 
   -- the name of an inode
   module _ (key : ℕ) (source : held (layer_of w) (n ∷ p) ≡ Some (Named key)) where
-    name : MovesName (layer_of w) (layer_of v) lowers (n ∷ p) (m ∷ q)
+    name : MovesName (full w lowers) (full v lowers) lowers (n ∷ p) (m ∷ q)
     name = record {
       number = key;
       source = source;
@@ -126,26 +136,26 @@ module _ (u w v : Tree) (lowers : List Layer) (n : Name) (p : Path) (m : Name) (
       emptied = e.path.emptied;
       beneath = λ k r. e.path.inside (k ∷ r) ∙ nothing-held w (n ∷ p) (ap holds_directory source) k r;
       elsewhere = e.path.elsewhere;
-      fewer = λ k i here is more. e.fewer k here ∙ ap (option_map with_less) is;
-      inodes = e.inodes;
+      fewer = λ k i here is more. fewer k here ∙ ap (option_map with_less) is;
+      inodes = λ k off. ap (option_map (fill lowers)) (e.inodes k off);
     }
 
     pub name-thin : AreLayers lowers → IsThin (layer_of u) lowers → IsThin (layer_of v) lowers
-    name-thin h t = (law_of_thin_moves (layer_of w) (layer_of v) lowers h (ready.thin t) (n ∷ p) m q out within).name name
+    name-thin h t = (law_of_thin_moves (full w lowers) (full v lowers) lowers h (ready.thin t) (n ∷ p) m q out within).name name
 
-    pub name-links : AreLayers (layer_of u ∷ lowers) → (j : ℕ) → is_some (inode_at u j) ≡ true → MovesLink (layer_of u) (layer_of v) (n ∷ p) (m ∷ q) j
-    name-links h j is = kept-link (layer_of v) j is ((law_of_moved_link (layer_of w) (layer_of v) lowers (ready.layer h.0, h.1) (n ∷ p) m q j).name name (loses j))
+    pub name-links : AreLayers (full u lowers ∷ lowers) → (j : ℕ) → is_some ((full u lowers).inodes j) ≡ true → MovesLink (full u lowers) (full v lowers) (n ∷ p) (m ∷ q) j
+    name-links h j is = kept-link (full v lowers) j is ((law_of_moved_link (full w lowers) (full v lowers) lowers (ready-layer h.0, h.1) (n ∷ p) m q j).name name (loses j))
 
     module _ (apart : AreLinked (layer_of u) (n ∷ p) (m ∷ q) → ⊥) where
-      still-apart : AreLinked (layer_of w) (n ∷ p) (m ∷ q) → ⊥
+      still-apart : AreLinked (full w lowers) (n ∷ p) (m ∷ q) → ⊥
       still-apart l =
           let second = sym new-held ∙ l.second in
           apart (record { number = l.number; first = ready.named l.number (named-inode l.number second) l.first; second = second })
 
-      pub name-moves : (IsLayer (layer_of u) → IsLayer (layer_of v)) → AreLayers (layer_of u ∷ lowers) → MovesTo (layer_of u) (layer_of v) lowers (n ∷ p) (m ∷ q)
+      pub name-moves : (IsLayer (layer_of u) → IsLayer (layer_of v)) → AreLayers (full u lowers ∷ lowers) → MovesTo (full u lowers) (full v lowers) lowers false (n ∷ p) (m ∷ q)
       name-moves keep h =
-          ready.moves h (layer_of v) (m ∷ q)
-          (law_of_moved_name (layer_of w) (layer_of v) lowers (ready.layer h.0, h.1) (keep h.0, h.1) (n ∷ p) (m ∷ q) out within still-apart name)
+          ready.moves h (full v lowers) (m ∷ q)
+          (law_of_moved_name (full w lowers) (full v lowers) lowers (ready-layer h.0, h.1) (filled-stays (layer_of u) (layer_of v) lowers keep h.0, h.1) false (n ∷ p) (m ∷ q) out within still-apart name)
 
   -- the directory that moved gets other marks
   module _ (key : ℕ) (a : Attributes) (was : Bool) (had : Option Redirect) (source : held (layer_of w) (n ∷ p) ≡ Some (Directory key a was had)) (t : Tree) (opaque : Bool) (redirect : Option Redirect) (marks : MarksDirectory (layer_of v) (layer_of t) (m ∷ q) key opaque redirect) (unnamed : NamesNoInode (layer_of u) (m ∷ q)) (when_base : base (layer_of u) lowers (n ∷ p) ≡ true → (opaque ≡ false) × (redirect ≡ Some (Absolute (below (layer_of u) (n ∷ p))))) (when_not : base (layer_of u) lowers (n ∷ p) ≡ false → (redirect ≡ None) × (opaque ≡ is_directory (under (layer_of u) lowers m q))) where
@@ -166,7 +176,7 @@ module _ (u w v : Tree) (lowers : List Layer) (n : Name) (p : Path) (m : Name) (
     still-unnamed : NamesNoInode (layer_of w) (m ∷ q)
     still-unnamed k h = unnamed k (sym new-held ∙ h)
 
-    directory : MovesDirectory (layer_of w) (layer_of t) lowers (n ∷ p) m q
+    directory : MovesDirectory (full w lowers) (full t lowers) lowers (n ∷ p) m q
     directory = record {
       moved = record {
         number = key;
@@ -184,19 +194,19 @@ module _ (u w v : Tree) (lowers : List Layer) (n : Name) (p : Path) (m : Name) (
       opaque = was;
       redirect = had;
       source = source;
-      inodes = inodes-same w t (λ k. marks.inodes k ∙ e.inodes k (still-unnamed k));
+      inodes = λ i k. option_map (fill lowers) ((marks.inodes k ∙ e.inodes k (still-unnamed k)) i);
     }
 
     pub directory-thin : AreLayers lowers → IsThin (layer_of u) lowers → IsThin (layer_of t) lowers
-    directory-thin h thin = (law_of_thin_moves (layer_of w) (layer_of t) lowers h (ready.thin thin) (n ∷ p) m q out within).directory directory
+    directory-thin h thin = (law_of_thin_moves (full w lowers) (full t lowers) lowers h (ready.thin thin) (n ∷ p) m q out within).directory directory
 
-    pub directory-links : AreLayers (layer_of u ∷ lowers) → (j : ℕ) → is_some (inode_at u j) ≡ true → MovesLink (layer_of u) (layer_of t) (n ∷ p) (m ∷ q) j
-    directory-links h j is = kept-link (layer_of t) j is ((law_of_moved_link (layer_of w) (layer_of t) lowers (ready.layer h.0, h.1) (n ∷ p) m q j).directory still-unnamed directory)
+    pub directory-links : AreLayers (full u lowers ∷ lowers) → (j : ℕ) → is_some ((full u lowers).inodes j) ≡ true → MovesLink (full u lowers) (full t lowers) (n ∷ p) (m ∷ q) j
+    directory-links h j is = kept-link (full t lowers) j is ((law_of_moved_link (full w lowers) (full t lowers) lowers (ready-layer h.0, h.1) (n ∷ p) m q j).directory still-unnamed directory)
 
-    pub directory-moves : (IsLayer (layer_of u) → IsLayer (layer_of t)) → AreLayers (layer_of u ∷ lowers) → MovesTo (layer_of u) (layer_of t) lowers (n ∷ p) (m ∷ q)
+    pub directory-moves : (IsLayer (layer_of u) → IsLayer (layer_of t)) → AreLayers (full u lowers ∷ lowers) → MovesTo (full u lowers) (full t lowers) lowers false (n ∷ p) (m ∷ q)
     directory-moves keep h =
-        ready.moves h (layer_of t) (m ∷ q)
-        (law_of_moved_directory (layer_of w) (layer_of t) lowers (ready.layer h.0, h.1) (keep h.0, h.1) (n ∷ p) m q out within still-unnamed directory)
+        ready.moves h (full t lowers) (m ∷ q)
+        (law_of_moved_directory (full w lowers) (full t lowers) lowers (ready-layer h.0, h.1) (filled-stays (layer_of u) (layer_of t) lowers keep h.0, h.1) false (n ∷ p) m q out within still-unnamed directory)
 
     -- a directory has the number and attributes that it had
     pub marked-follows : (x y : Path) → Follows (n ∷ p) (m ∷ q) x y → (k : ℕ) (b : Attributes) → HoldsDirectory (layer_of u) x k b → HoldsDirectory (layer_of t) y k b
@@ -224,12 +234,12 @@ module _ (old new : Layers) (w : Tree) (p q : Path) (r : Route) (released : Opti
   pub over-inode : is_directory (shows 0 (layers_of old) (r.name.now ∷ p)) ≡ false → MovesOver old new (r.name.now ∷ p) (r.further.now ∷ q)
   over-inode file = record {
     lowers = low;
-    moves = name-moves old.upper w new.upper (lowers_of old) r.name.now p r.further.now q r.covered released ready together move.route.out move.route.within move.covered e key source move.apart keep;
+    moves = λ h. raise old new low (λ V. MovesTo (upper_of old) V (lowers_of old) false (r.name.now ∷ p) (r.further.now ∷ q)) (name-moves old.upper w new.upper (lowers_of old) r.name.now p r.further.now q r.covered released ready together move.route.out move.route.within move.covered e key source move.apart keep h);
     left = left-there old.upper w new.upper (lowers_of old) r.name.now p r.further.now q r.covered released ready together move.route.out move.route.within move.covered e;
     marks = λ h. absurd (false≢true (sym file ∙ h));
     paths = λ x y f off. inl (follows-held (layer_of w) (layer_of new.upper) (r.name.now ∷ p) (r.further.now ∷ q) (left_object r.covered) e.path x y f ∙ ready.elsewhere x off);
     directories = directory-follows old.upper w new.upper (lowers_of old) r.name.now p r.further.now q r.covered released ready together move.route.out move.route.within move.covered e;
-    links = name-links old.upper w new.upper (lowers_of old) r.name.now p r.further.now q r.covered released ready together move.route.out move.route.within move.covered e key source;
+    links = λ h j is. raise old new low (λ V. MovesLink (upper_of old) V (r.name.now ∷ p) (r.further.now ∷ q) j) (name-links old.upper w new.upper (lowers_of old) r.name.now p r.further.now q r.covered released ready together move.route.out move.route.within move.covered e key source h j is);
     seen = λ k is off. seen-kept old.upper w new.upper (lowers_of old) r.name.now p r.further.now q r.covered released ready together move.route.out move.route.within move.covered e k is;
     nameless = nameless-kept old.upper w new.upper (lowers_of old) r.name.now p r.further.now q r.covered released ready together move.route.out move.route.within move.covered e;
   }
@@ -250,7 +260,7 @@ module _ (old mid new : Layers) (w : Tree) (p q : Path) (r : Route) (released : 
   pub over-directory : ((k : ℕ) → IsSome (get old.upper k) → (directory_number (held (layer_of old.upper) (r.name.now ∷ p)) ≡ Some k → ⊥) → k ≢ key) → MovesOver old new (r.name.now ∷ p) (r.further.now ∷ q)
   over-directory other = record {
     lowers = low;
-    moves = directory-moves old.upper w mid.upper (lowers_of old) r.name.now p r.further.now q r.covered released ready together move.route.out move.route.within move.covered e key a was had source new.upper marks.opaque marks.redirect m folder.unnamed folder.when_base folder.when_not keep;
+    moves = λ h. raise old new low (λ V. MovesTo (upper_of old) V (lowers_of old) false (r.name.now ∷ p) (r.further.now ∷ q)) (directory-moves old.upper w mid.upper (lowers_of old) r.name.now p r.further.now q r.covered released ready together move.route.out move.route.within move.covered e key a was had source new.upper marks.opaque marks.redirect m folder.unnamed folder.when_base folder.when_not keep h);
     left = m.elsewhere (r.name.now ∷ p) (λ z. move.route.within [] z) ∙ left-there old.upper w mid.upper (lowers_of old) r.name.now p r.further.now q r.covered released ready together move.route.out move.route.within move.covered e;
     marks = λ h.
         let b = marks-moved old.upper w mid.upper (lowers_of old) r.name.now p r.further.now q r.covered released ready together move.route.out move.route.within move.covered e key a was had source new.upper marks.opaque marks.redirect m folder.unnamed folder.when_base folder.when_not in
@@ -261,7 +271,7 @@ module _ (old mid new : Layers) (w : Tree) (p q : Path) (r : Route) (released : 
         ∙ follows-held (layer_of w) (layer_of mid.upper) (r.name.now ∷ p) (r.further.now ∷ q) (left_object r.covered) e.path x y f
         ∙ ready.elsewhere x off);
     directories = marked-follows old.upper w mid.upper (lowers_of old) r.name.now p r.further.now q r.covered released ready together move.route.out move.route.within move.covered e key a was had source new.upper marks.opaque marks.redirect m folder.unnamed folder.when_base folder.when_not;
-    links = directory-links old.upper w mid.upper (lowers_of old) r.name.now p r.further.now q r.covered released ready together move.route.out move.route.within move.covered e key a was had source new.upper marks.opaque marks.redirect m folder.unnamed folder.when_base folder.when_not;
+    links = λ h j is. raise old new low (λ V. MovesLink (upper_of old) V (r.name.now ∷ p) (r.further.now ∷ q) j) (directory-links old.upper w mid.upper (lowers_of old) r.name.now p r.further.now q r.covered released ready together move.route.out move.route.within move.covered e key a was had source new.upper marks.opaque marks.redirect m folder.unnamed folder.when_base folder.when_not h j is);
     seen = λ k is off. ap (option_map (seen k)) (sets.others k (other k is off)) ∙ seen-kept old.upper w mid.upper (lowers_of old) r.name.now p r.further.now q r.covered released ready together move.route.out move.route.within move.covered e k is;
     nameless = λ k h. nameless k (nameless-kept old.upper w mid.upper (lowers_of old) r.name.now p r.further.now q r.covered released ready together move.route.out move.route.within move.covered e k h);
   }

@@ -14,6 +14,7 @@ use Rattle.mount_laws.proofs.Alters.{law_of_thin}
 use Rattle.mount_laws.proofs.Changed.{law_of_copied_leaf}
 use Rattle.mount_laws.proofs.CopiedMoves.{law_of_copied_move, law_of_placed_move}
 use Rattle.mount_laws.proofs.Places.{longer}
+use Rattle.mount_laws.proofs.Raised.{raised-leaf}
 use Rattle.layer_tree.specs.Tree.{Tree, layer_of, seen_at, inode_at, inode_of, seen_object, new_inode, SetsPath}
 use Rattle.layer_tree.specs.Nameless.{IsNameless}
 use Rattle.layer_tree.specs.declared.node.Object.{Object as NewObject}
@@ -22,10 +23,11 @@ use Rattle.copy_up.proofs.Copying.{leaf_of}
 use Rattle.copy_up.proofs.Keeping.{inodes-same}
 use Rattle.copy_up.proofs.Placing.{agree-placed, nothing-held}
 use Rattle.rename_redirect.specs.Routes.{MovesNew}
+use Rattle.rename_redirect.proofs.Filling.{full, filled-stays, placed-filled}
 
 -- The tree w has an object at p that moves from there as what u shows there would, and else is u.
 pub record Prepared (u w : Tree) (lowers : List Layer) (p : Path) : Type 0 where
-  pub moves : AreLayers (layer_of u ∷ lowers) → (V : Layer) (q : Path) → MovesTo (layer_of w) V lowers p q → MovesTo (layer_of u) V lowers p q
+  pub moves : AreLayers (full u lowers ∷ lowers) → (V : Layer) (q : Path) → MovesTo (full w lowers) V lowers false p q → MovesTo (full u lowers) V lowers false p q
   pub layer : IsLayer (layer_of u) → IsLayer (layer_of w)
   pub thin : IsThin (layer_of u) lowers → IsThin (layer_of w) lowers
   pub elsewhere : (x : Path) → x ≢ p → held (layer_of w) x ≡ held (layer_of u) x
@@ -70,7 +72,7 @@ module _ (u v : Tree) (lowers : List Layer) (n : Name) (p q : Path) (o : NewObje
   was-none x e = let z : Some x ≡ None = sym e ∙ none in absurd (cc)
 
   -- a file or link of a lower layer
-  module _ (i : Inode) (is_leaf : o ≡ object.Inode i.content i.attributes) (j l : ℕ) (shown : shows 0 (layer_of u ∷ lowers) (n ∷ p) ≡ Some (Contents (suc j) l (Some i))) where
+  module _ (i : Inode) (is_leaf : o ≡ object.Inode i.content i.attributes) (j l : ℕ) (shown : shows 0 (full u lowers ∷ lowers) (n ∷ p) ≡ Some (Contents (suc j) l (Some i))) where
     pub leaf-there : held (layer_of m.mid) (n ∷ p) ≡ Some (Named key)
     leaf-there = m.sets.there ∙ ap (λ x. Some (seen_object key x)) is_leaf
 
@@ -91,8 +93,9 @@ module _ (u v : Tree) (lowers : List Layer) (n : Name) (p q : Path) (o : NewObje
     pub prepared-leaf : Prepared u m.mid lowers (n ∷ p)
     prepared-leaf = record {
       moves = λ h V x t.
-          law_of_copied_move (layer_of u) (layer_of m.mid) V lowers (n ∷ p) x j l i shown
-          (law_of_copied_leaf (layer_of u) (layer_of m.mid) lowers h (m.layer h.0, h.1) n p j l key i i.attributes shown placed) t;
+          law_of_copied_move (full u lowers) (full m.mid lowers) V lowers false (n ∷ p) x j l i shown
+          (law_of_copied_leaf (full u lowers) (full m.mid lowers) lowers h (filled-stays (layer_of u) (layer_of m.mid) lowers m.layer h.0, h.1) n p j l key i i.attributes shown false None refl
+          (raised-leaf lowers (layer_of u) (layer_of m.mid) (n ∷ p) key (leaf_of i.content i.attributes) placed)) t;
       layer = m.layer;
       thin = λ t. (law_of_thin (layer_of u) (layer_of m.mid) lowers t n p).leaf key (leaf_of i.content i.attributes) placed;
       elsewhere = m.sets.elsewhere;
@@ -105,7 +108,7 @@ module _ (u v : Tree) (lowers : List Layer) (n : Name) (p q : Path) (o : NewObje
     }
 
   -- a directory of a lower layer
-  module _ (a : Attributes) (is_folder : o ≡ object.Directory a (record { opaque = false; redirect = None })) (j l : ℕ) (shown : shows 0 (layer_of u ∷ lowers) (n ∷ p) ≡ Some (Folder j l a)) where
+  module _ (a : Attributes) (is_folder : o ≡ object.Directory a (record { opaque = false; redirect = None })) (j l : ℕ) (shown : shows 0 (full u lowers ∷ lowers) (n ∷ p) ≡ Some (Folder j l a)) where
     pub folder-there : held (layer_of m.mid) (n ∷ p) ≡ Some (Directory key a false None)
     folder-there = m.sets.there ∙ ap (λ x. Some (seen_object key x)) is_folder
 
@@ -123,7 +126,7 @@ module _ (u v : Tree) (lowers : List Layer) (n : Name) (p q : Path) (o : NewObje
 
     pub prepared-directory : Prepared u m.mid lowers (n ∷ p)
     prepared-directory = record {
-      moves = λ h V x t. law_of_placed_move (layer_of u) (layer_of m.mid) V lowers h n p j l key a none shown folder (n ∷ p) x t;
+      moves = λ h V x t. law_of_placed_move (full u lowers) (full m.mid lowers) V lowers h n p j l key a none shown (placed-filled (layer_of u) (layer_of m.mid) lowers (n ∷ p) (Some (Directory key a false None)) folder) false (n ∷ p) x t;
       layer = m.layer;
       thin = λ t. (law_of_thin (layer_of u) (layer_of m.mid) lowers t n p).directory key a false None folder;
       elsewhere = m.sets.elsewhere;

@@ -15,7 +15,7 @@ use Rattle.merged_lookup.specs.declared.layers.Layers.{Layers}
 use Rattle.rename_redirect.specs.Linking.{GainsBoth}
 use Rattle.merged_lookup.specs.declared.found.Parent.{Parent}
 use Rattle.merged_lookup.specs.declared.stack.Stack.{Stack}
-use Rattle.merged_lookup.specs.Merged.{layers_of, lowers_of, top_of, places_at, IsStackOf, or_else, fault, way_fault, parents_fault, IsParentOf}
+use Rattle.merged_lookup.specs.Merged.{upper_of, layers_of, lowers_of, top_of, places_at, IsStackOf, or_else, fault, way_fault, parents_fault, IsParentOf}
 use Rattle.copy_up.specs.Showing.{ShowsSame, KeepsPath, GainsParents}
 use Rattle.copy_up.proofs.Copying.{free-inode}
 use Rattle.copy_up.proofs.Frames.{lacking, through-same}
@@ -24,7 +24,7 @@ use Rattle.copy_up.proofs.Keeping.{lowers-same, places-agree, directory-same, or
 
 -- what a lower layer has and a path shows is nothing that the upper holds
 pub lacked : (l : Layers) (p : Path) (j k : ℕ) (x : Option Inode) → shows 0 (layers_of l) p ≡ Some (Contents j k x) → 0 < j → held (layer_of l.upper) p ≡ None
-lacked l p j k x shown lower = free-inode (layer_of l.upper).inodes (held (layer_of l.upper) p) (through (layer_of l.upper) (lowers_of l) p) j k x shown lower
+lacked l p j k x shown lower = free-inode (upper_of l).inodes (held (layer_of l.upper) p) (through (layer_of l.upper) (lowers_of l) p) j k x shown lower
 
 -- and it is shown still where parents are gained
 pub still-shown : (a b : Layers) (t p : Path) → ShowsSame a b → GainsParents a b t → (j k : ℕ) (x : Option Inode) → shows 0 (layers_of a) p ≡ Some (Contents j k x) → 0 < j → shows 0 (layers_of b) p ≡ Some (Contents j k x)

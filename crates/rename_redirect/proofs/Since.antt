@@ -16,10 +16,11 @@ use Rattle.layer_tree.proofs.Nameless.{keeps_then}
 use Rattle.merged_lookup.specs.declared.layers.Layers.{Layers}
 use Rattle.merged_lookup.specs.declared.found.Found.{Found}
 use Rattle.merged_lookup.specs.declared.found.Found.TheVariants as found
-use Rattle.merged_lookup.specs.Merged.{layers_of, lowers_of, places_at, IsFound}
+use Rattle.merged_lookup.specs.Merged.{upper_of, layers_of, lowers_of, places_at, IsFound}
 use Rattle.copy_up.specs.Showing.{ShowsSame, Stays, GainsParents, KeepsPath, IsParent}
 use Rattle.copy_up.proofs.Frames.{through-same, parent-since, parent-then}
 use Rattle.copy_up.proofs.Keeping.{lowers-same, linked-by, places-agree}
+use Rattle.copy_up.proofs.Raising.{inode-raised}
 use Rattle.make_remove.specs.Making.{shown_under}
 use Rattle.make_remove.specs.Removing.{last_named}
 use Rattle.make_remove.proofs.Making.{under-same}
@@ -70,13 +71,16 @@ folder-over f g (Some (Named k)) s = refl
 
 module _ (a b : Layers) (p q : Path) (same : ShowsSame a b) (stays : Stays a b) (gains : GainsBoth a b p q) (out : IsOutside p q) (within : IsOutside q p) where
   abbrev A : Layer
-  A = layer_of a.upper
+  A = upper_of a
 
   abbrev B : Layer
-  B = layer_of b.upper
+  B = upper_of b
 
   low : lowers_of b ≡ lowers_of a
   low = lowers-same a b same.lowers
+
+  inodes : (k : ℕ) → B.inodes k ≡ A.inodes k
+  inodes k = inode-raised a b same.lowers k (stays.inodes k)
 
   -- both paths hold what they held
   pub old-held : held B p ≡ held A p
@@ -93,7 +97,7 @@ module _ (a b : Layers) (p q : Path) (same : ShowsSame a b) (stays : Stays a b) 
 
   -- what the first path shows stays
   still-shows : shows 0 (layers_of b) p ≡ shows 0 (layers_of a) p
-  still-shows = shown-over ∙ over-alike B.inodes A.inodes stays.inodes (held A p) (through A (lowers_of a) p)
+  still-shows = shown-over ∙ over-alike B.inodes A.inodes inodes (held A p) (through A (lowers_of a) p)
 
   still-places : places_at 0 (layers_of b) p ≡ places_at 0 (layers_of a) p
   still-places = ap (λ Ls. places_at 0 (B ∷ Ls) p) low ∙ places-agree 0 A B (lowers_of a) p old-held (same.passes.cuts p) (same.passes.spelling p)
@@ -115,9 +119,9 @@ module _ (a b : Layers) (p q : Path) (same : ShowsSame a b) (stays : Stays a b) 
   linked : (x y : Path) → AreLinked B x y ↔ AreLinked A x y
   linked x y = (linked-by B A (λ z k. (stays.names z k).0) x y, linked-by A B (λ z k. (stays.names z k).1) x y)
 
-  moves-since : (V : Layer) → MovesTo B V (lowers_of b) p q → MovesTo A V (lowers_of a) p q
+  moves-since : (V : Layer) → MovesTo B V (lowers_of b) false p q → MovesTo A V (lowers_of a) false p q
   moves-since V m =
-      law_of_same_move A B V (lowers_of a) (λ x. sym (ap (λ Ls. merged B Ls x) low) ∙ same.sights x) linked p q (subst (λ Ls. MovesTo B V Ls p q) low m)
+      law_of_same_move A B V (lowers_of a) (λ x. sym (ap (λ Ls. merged B Ls x) low) ∙ same.sights x) linked false p q (subst (λ Ls. MovesTo B V Ls false p q) low m)
 
   left-since : (t : Path) → left_at B (lowers_of b) t ≡ left_at A (lowers_of a) t
   left-since [] = refl
@@ -154,12 +158,12 @@ module _ (a b : Layers) (p q : Path) (same : ShowsSame a b) (stays : Stays a b) 
     over-since : MovesOver b c p q → MovesOver a c p q
     over-since o = record {
       lowers = o.lowers ∙ same.lowers;
-      moves = λ h. moves-since (layer_of c.upper) (o.moves (stays.sound.layers h));
+      moves = λ h. moves-since (upper_of c) (o.moves (stays.sound.layers h));
       left = o.left ∙ left-since p;
       marks = λ h. marks-since (o.marks (still-folder ∙ h));
       paths = λ x y f off. paths-since x y f (o.paths x y f off);
       directories = λ x y f k i h. o.directories x y f k i (h.0, h.1, stays.holds x (Directory k i h.0 h.1) h.2);
-      links = λ h j is. law_of_kept_move_link A B (layer_of c.upper) p q j (λ x. stays.names x j) (stays.inodes j) (o.links (stays.sound.layers h) j (ap is_some (stays.inodes j) ∙ is));
+      links = λ h j is. law_of_kept_move_link A B (upper_of c) p q j (λ x. stays.names x j) (inodes j) (o.links (stays.sound.layers h) j (ap is_some (inodes j) ∙ is));
       seen = λ k is off. o.seen k (same_presence a.upper b.upper k (objects.seen k is) ∙ is) (λ h. off (sym (ap directory_number old-held) ∙ h)) ∙ objects.seen k is;
       nameless = λ k h. o.nameless k (objects.nameless k h);
     }

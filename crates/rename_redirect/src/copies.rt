@@ -48,12 +48,13 @@ pub(crate) fn link_copy(
     Ok(key)
 }
 
-// A copy of the file or symbolic link that is shown at a place: what it holds, and its attributes.
+// A copy of a lower layer's file or symbolic link, which is shown at a place: what it holds, and its attributes.
 pub(crate) fn copy_of(
     layers: &mut Layers,
     place: Place,
 ) -> Result<(Content, Attributes), AllocError>
-    requires { (p : Names) × ShowsInode layers.old p place }
+    requires shown { (p : Names) × ShowsInode layers.old p place }
+    requires lower { 0 < place.layer }
     ensures same { layers.new ≡ layers.old }
     ensures copy { IfOk result (λ copy. (p : Names) → ShowsInode layers.old p place → (i : Inode) × (shows 0 (layers_of layers.old) p ≡ Some (Contents place.layer place.key (Some i))) × (copy.0 ≡ i.content) × (copy.1 ≡ i.attributes)) }
 {

@@ -1,5 +1,5 @@
-use Rattle.std.proofs.lemmas.Result.{on_ok_weaker}
-use Rattle.copy_up.proofs.Keeping.{then-layers}
+use Rattle.std.proofs.lemmas.Result.{on_ok_weaker, on_err_weaker}
+use Rattle.copy_up.proofs.Keeping.{no-sight, then-layers}
 use Rattle.copy_up.proofs.OtherAttributes.{thin-either}
 use Rattle.copy_up.proofs.OwnAttributes.{is-own, own-there, own-alters, own-key, own-object, own-thin, changes-key, key-given}
 use Rattle.copy_up.proofs.altering.alter.Goals as goal
@@ -47,3 +47,7 @@ returns-then-place-eq0-clause-key c =
     (changes-key old c.alter_upper.new.layers c.place-place.result.key c.args.change c.alter_upper.result c.alter_upper.ensures.sets c.alter_upper.ensures.inode c.alter_upper.ensures.directory)
     (λ made. own-key old c.alter_upper.new.layers c.args.path.now c.place-place.result c.alter_upper.ensures.lowers c.args.change made own)
     c.alter_upper.ensures.same
+
+pub returns-then-place-eq0-clause-no_memory : goal.returns-then-place-eq0-clause-no_memory
+returns-then-place-eq0-clause-no_memory c =
+    on_err_weaker c.alter_upper.result (no-sight c.args.layers.now c.alter_upper.new.layers c.args.path.now c.alter_upper.ensures.lowers) c.alter_upper.ensures.unchanged

@@ -1,10 +1,10 @@
-use Rattle.std.proofs.Common.{Some, sym, ap, ◌∙◌, subst}
+use Rattle.std.proofs.Common.{false, Some, sym, ap, ◌∙◌, subst}
 use Rattle.plain_model.specs.Layers.{Path, held, shows}
 use Rattle.ov_base.specs.AttributeChanges.{changed}
 use Rattle.ov_base.specs.declared.attributes.Attributes.{Attributes}
 use Rattle.mount_laws.specs.Altered.{Alters}
 use Rattle.layer_tree.specs.Tree.{layer_of}
-use Rattle.merged_lookup.specs.Merged.{layers_of, lowers_of}
+use Rattle.merged_lookup.specs.Merged.{upper_of, layers_of, lowers_of}
 use Rattle.copy_up.proofs.OtherAttributes.{shown-inode}
 use Rattle.copy_up.specs.Altering.{AltersObject}
 use Rattle.copy_up.specs.Showing.{number_of}
@@ -22,8 +22,8 @@ returns-clause-altered c = λ a seen h.
     let shown = sym (ap (shows 0 (layers_of c.args.layers.now)) c.in-Some.ensures) ∙ found.1 in
     let leaf = (c.in_ok-key.ensures.copied found.0 shown).0 in
     let same = found.2 ∙ ap (changed c.args.change) (shown-inode c.args.layers.now c.args.path.now _ _ found.0 a found.1 seen) in
-    subst (λ (b : Attributes). Alters (layer_of c.args.layers.now.upper) (layer_of c.all_at_once.new.layers.upper) (lowers_of c.args.layers.now) c.args.path.now b) same
-    (subst (λ (q : Path). Alters (layer_of c.args.layers.now.upper) (layer_of c.all_at_once.new.layers.upper) (lowers_of c.args.layers.now) q c.in_ok-attributes.attributes) (sym c.in-Some.ensures) (leaf.alters h))
+    subst (λ (b : Attributes). Alters (upper_of c.args.layers.now) (upper_of c.all_at_once.new.layers) (lowers_of c.args.layers.now) false c.args.path.now b) same
+    (subst (λ (q : Path). Alters (upper_of c.args.layers.now) (upper_of c.all_at_once.new.layers) (lowers_of c.args.layers.now) false q c.in_ok-attributes.attributes) (sym c.in-Some.ensures) (leaf.alters h))
 
 pub returns-clause-object : goal.returns-clause-object
 returns-clause-object c = λ a seen.

@@ -1,11 +1,10 @@
-use Rattle.std.proofs.Common.{ap, ◌∙◌, subst}
+use Rattle.std.proofs.Common.{false, ap, ◌∙◌, subst}
 use Rattle.std.proofs.lemmas.Result.{on_ok_weaker}
 use Rattle.ov_base.specs.AttributeChanges.{changed}
 use Rattle.ov_base.specs.declared.attributes.Attributes.{Attributes}
 use Rattle.plain_model.specs.Layers.{is_directory}
 use Rattle.mount_laws.specs.Altered.{Alters}
-use Rattle.layer_tree.specs.Tree.{layer_of}
-use Rattle.merged_lookup.specs.Merged.{lowers_of}
+use Rattle.merged_lookup.specs.Merged.{upper_of, lowers_of}
 use Rattle.copy_up.specs.Altering.{AltersObject}
 use Rattle.copy_up.proofs.OtherAttributes.{lower-below, shown-folder}
 use Rattle.copy_up.proofs.altering.place_changed.Goals as goal
@@ -22,7 +21,7 @@ place_with-requires-clause-below c = lower-below c.args.layers.now c.args.path.n
 pub returns-clause-altered : goal.returns-clause-altered
 returns-clause-altered c = on_ok_weaker c.place_with.result (λ alters a shows h.
     let same = shown-folder c.args.layers.now c.args.path.now _ _ c.requires.shown.0 a c.requires.shown.1 shows in
-    subst (λ (b : Attributes). Alters (layer_of c.args.layers.now.upper) (layer_of c.place_with.new.layers.upper) (lowers_of c.args.layers.now) c.args.path.now b)
+    subst (λ (b : Attributes). Alters (upper_of c.args.layers.now) (upper_of c.place_with.new.layers) (lowers_of c.args.layers.now) false c.args.path.now b)
     (c.in_ok-attributes.ensures c.args.path.now c.requires.shown.0 c.requires.shown.1 ∙ ap (changed c.args.change) same) (alters h)) c.place_with.ensures.altered
 
 pub returns-clause-object : goal.returns-clause-object

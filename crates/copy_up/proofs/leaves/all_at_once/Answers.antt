@@ -1,4 +1,4 @@
-use Rattle.std.proofs.Common.{◌≡◌, ◌∷◌, Some, reverse, subst, sym}
+use Rattle.std.proofs.Common.{◌≡◌, ◌∷◌, Some, reverse, subst, sym, ap}
 use Rattle.ov_base.specs.declared.bytes.Content.{Content}
 use Rattle.mount_laws.specs.Leaves.{PlacesLeaf}
 use Rattle.layer_tree.specs.Tree.{layer_of}
@@ -6,12 +6,12 @@ use Rattle.merged_lookup.specs.declared.layers.Layers.{Layers}
 use Rattle.merged_lookup.specs.declared.stack.Stack.{Stack}
 use Rattle.merged_lookup.specs.Merged.{top_of, IsStackOf}
 use Rattle.copy_up.specs.Showing.{ShowsSame, GainsParents, Stays}
-use Rattle.copy_up.proofs.Keeping.{failed-gains, failed-stays, then-layers, on-err}
+use Rattle.copy_up.proofs.Keeping.{no-sight, failed-gains, failed-stays, then-layers, on-err}
 use Rattle.copy_up.proofs.Copying.{leaf_of, copy-place, leaf-copied, thin-copied}
 use Rattle.copy_up.proofs.leaves.all_at_once.Goals as goal
 
-pub content_of-requires : goal.content_of-requires
-content_of-requires c = (c.args.name.now ∷ reverse c.args.parents.now, record { inode = Some c.requires.shown.0; shown = c.requires.shown.1 })
+pub content_of-requires-clause-shown : goal.content_of-requires-clause-shown
+content_of-requires-clause-shown c = (c.args.name.now ∷ reverse c.args.parents.now, record { inode = Some c.requires.shown.0; shown = c.requires.shown.1 })
 
 pub insert_leaf-requires : goal.insert_leaf-requires
 insert_leaf-requires c =
@@ -65,3 +65,8 @@ returns-clause-sound c =
       layers = then-layers c.args.layers.now c.place_parents.new.layers c.insert_leaf.new.layers sound.layers c.insert_leaf.ensures.lowers c.insert_leaf.ensures.keeps;
       thin = thin-copied c.args.layers.now c.place_parents.new.layers c.insert_leaf.new.layers same n q gains c.insert_leaf.ensures.lowers c.in_ok-key.key c.args.attributes c.in_ok-content.content placed sound.thin;
     }
+
+pub returns-in_err-content-clause-no_memory : goal.returns-in_err-content-clause-no_memory
+returns-in_err-content-clause-no_memory c =
+    on-err _ c.from_residual.result
+    (no-sight c.args.layers.now c.content_of.new.self (c.args.name.now ∷ reverse c.args.parents.now) (ap (λ (l : Layers). l.lowers) c.content_of.ensures.same) (ap (λ (l : Layers). l.upper) c.content_of.ensures.same))

@@ -37,3 +37,6 @@ returns-in_err-stack-clause-proper c =
     on-err _ c.from_residual.result
     (gains-then c.args.layers.now c.loop-name.layers c.place_parent.new.layers (reverse c.args.names.now) c.loop-name.invariant.0 (c.loop-name.invariant.5 c.loop-name-test.true)
     (gains-unchanged c.loop-name.layers c.place_parent.new.layers _ c.place_parent.ensures.same.lowers c.in_err-stack.ensures.unchanged kept))
+
+pub returns-in_err-stack-clause-same : goal.returns-in_err-stack-clause-same
+returns-in_err-stack-clause-same c = same-then c.args.layers.now c.loop-name.layers c.place_parent.new.layers c.loop-name.invariant.0 c.place_parent.ensures.same

@@ -2,7 +2,7 @@ use Rattle.std.proofs.Common.{◌≡◌, ◌∷◌, List, reverse, sym, subst}
 use Rattle.plain_model.specs.Layers.{Layer}
 use Rattle.plain_model.specs.Tree.{IsThin}
 use Rattle.layer_tree.specs.Tree.{layer_of}
-use Rattle.merged_lookup.specs.Merged.{lowers_of, top_of, IsStackOf}
+use Rattle.merged_lookup.specs.Merged.{top_of, IsStackOf}
 use Rattle.merged_lookup.specs.declared.stack.Stack.{Stack}
 use Rattle.copy_up.proofs.Keeping.{then-layers, lowers-same, failed-gains, failed-stays, on-err}
 use Rattle.make_remove.proofs.Unnaming.{bare-held, unnames}
@@ -15,7 +15,7 @@ remove_name-requires-clause-dir c = (top-at c.place_parents.new.layers (reverse 
 pub remove_name-requires-clause-bare : goal.remove_name-requires-clause-bare
 remove_name-requires-clause-bare c =
     let q = reverse c.args.parents.now in
-    bare-held c.place_parents.new.layers.upper (lowers_of c.place_parents.new.layers) q c.top-dir.result.key c.args.name.now c.lawful.ensures.tree
+    bare-held c.place_parents.new.layers q c.top-dir.result.key c.args.name.now c.lawful.ensures.tree
     (top-at c.place_parents.new.layers (reverse c.args.parents.now) c.placed_or-parent.result.now c.top-dir.result c.lawful.ensures.tree (subst (IsStackOf c.place_parents.new.layers (reverse c.args.parents.now)) (sym c.placed_or-parent.ensures) c.in_ok-placed.ensures.stack) (subst (λ (s : Stack). (top_of s.places.items).layer ≡ 0) (sym c.placed_or-parent.ensures) c.in_ok-placed.ensures.upper) c.top-dir.ensures).key
     (λ m. c.place_parents.ensures.same.absent (m ∷ c.args.name.now ∷ q) (c.requires.bare m))
 

@@ -1,6 +1,6 @@
 use Rattle.std.proofs.Common.{reverse, sym, subst}
 use Rattle.plain_model.specs.Layers.{Path}
-use Rattle.merged_lookup.specs.Merged.{trees, layers_of}
+use Rattle.merged_lookup.specs.Merged.{layers_of}
 use Rattle.make_remove.specs.Removing.{ShowsNoName, Unnames}
 use Rattle.copy_up.specs.Showing.{ChangesNoSight, GainsParents}
 use Rattle.copy_up.proofs.Keeping.{on-err}
@@ -11,7 +11,7 @@ pub take_away-requires-clause-bare : goal.take_away-requires-clause-bare
 take_away-requires-clause-bare c =
     let fine = unlink-allowed (layers_of c.args.layers.now) c.args.path.now c.requires.allowed in
     let P : Path → Type 0 = λ p. ShowsNoName (layers_of c.args.layers.now) p in
-    subst P c.in-Some.ensures (unshown-in (trees c.args.layers.now) c.args.path.now fine.2)
+    subst P c.in-Some.ensures (unshown-in c.args.layers.now c.args.path.now fine.2)
 
 pub returns-clause-steps : goal.returns-clause-steps
 returns-clause-steps c =

@@ -4,7 +4,7 @@ use Rattle.ov_base.specs.declared.bytes.Content.{Content}
 use Rattle.plain_model.specs.Layers.{Path, Contents, held, shows}
 use Rattle.layer_tree.specs.Tree.{layer_of}
 use Rattle.merged_lookup.specs.declared.layers.Layers.{Layers}
-use Rattle.merged_lookup.specs.Merged.{layers_of}
+use Rattle.merged_lookup.specs.Merged.{layers_of, parent, IsStackOf}
 use Rattle.copy_up.specs.Showing.{ShowsSame, ChangesNoSight, Stays}
 use Rattle.copy_up.proofs.Frames.{gains-self}
 use Rattle.copy_up.proofs.Keeping.{on-err, same-self, failed-stays, then-layers}
@@ -20,6 +20,9 @@ returns-in_err-copy-clause-no_memory c =
     on-err _ c.from_residual.result
     (subst (λ (z : Layers). ChangesNoSight l z (GainsBoth l z c.args.old.now c.args.new.now)) (sym c.copy_of.ensures.same)
     (record { shown = same-self l; mount = λ s h. h; beneath = gains-first l l c.args.old.now c.args.new.now (same-self l) (gains-self l c.args.old.now) }))
+
+pub place_both-requires-clause-onto : goal.place_both-requires-clause-onto
+place_both-requires-clause-onto c = subst (λ (z : Layers). IsStackOf z (parent c.args.new.now) c.args.onto.now) (sym c.copy_of.ensures.same) c.requires.onto
 
 pub returns-in_err-from-clause-no_memory : goal.returns-in_err-from-clause-no_memory
 returns-in_err-from-clause-no_memory c =

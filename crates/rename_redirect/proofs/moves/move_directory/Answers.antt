@@ -10,7 +10,7 @@ use Rattle.layer_tree.specs.declared.node.Object.{Object}
 use Rattle.layer_tree.specs.declared.node.Object.TheVariants as object
 use Rattle.merged_lookup.specs.declared.layers.Layers.{Layers}
 use Rattle.merged_lookup.specs.declared.stack.Place.{Place}
-use Rattle.merged_lookup.specs.Merged.{lowers_of}
+use Rattle.merged_lookup.specs.Merged.{upper_of, lowers_of}
 use Rattle.merged_lookup.proofs.Descending.{key-of}
 use Rattle.copy_up.specs.Showing.{number_of}
 use Rattle.copy_up.proofs.Placing.{free-folder}
@@ -85,7 +85,7 @@ returns-then-top-eq0-clause-thin c =
 
 -- nothing is held where a lower layer's directory is shown
 lacks : (l : Layers) (p q : Path) (r : Route) (top : Place) (marks : Marks) → top.layer ≢ 0 → IsFolderMove l p q r top marks → held (layer_of l.upper) (r.name.now ∷ p) ≡ None
-lacks l p q r top marks lower f = free-folder (layer_of l.upper).inodes (held (layer_of l.upper) (r.name.now ∷ p)) (through (layer_of l.upper) (lowers_of l) (r.name.now ∷ p)) top.layer top.key f.attributes f.shown lower
+lacks l p q r top marks lower f = free-folder (upper_of l).inodes (held (layer_of l.upper) (r.name.now ∷ p)) (through (layer_of l.upper) (lowers_of l) (r.name.now ∷ p)) top.layer top.key f.attributes f.shown lower
 
 pub insert_and_move-requires-clause-free : goal.insert_and_move-requires-clause-free
 insert_and_move-requires-clause-free c =

@@ -1,7 +1,7 @@
 use Rattle.std.proofs.Common.{unwrap_or, sym, ◌∙◌, subst, arith}
 use Rattle.merged_lookup.specs.Merged.{parent, IsStackOf}
 use Rattle.copy_up.specs.Showing.{GainsParents}
-use Rattle.copy_up.proofs.Keeping.{stays-then}
+use Rattle.copy_up.proofs.Keeping.{same-then, stays-then}
 use Rattle.rename_redirect.proofs.Given.{gains-first}
 use Rattle.rename_redirect.proofs.Going.{not-root}
 use Rattle.rename_redirect.proofs.Shown.{parents-same, parent-there, stack-kept}
@@ -33,6 +33,10 @@ pub returns-in_err-onto-clause-stays : goal.returns-in_err-onto-clause-stays
 returns-in_err-onto-clause-stays c =
     stays-then c.args.layers.now c.place_parents.new.layers c.place_parents-2.new.layers c.place_parents.ensures.stays c.place_parents-2.ensures.stays
 
+pub returns-in_err-onto-clause-same : goal.returns-in_err-onto-clause-same
+returns-in_err-onto-clause-same c =
+    same-then c.args.layers.now c.place_parents.new.layers c.place_parents-2.new.layers c.place_parents.ensures.same c.place_parents-2.ensures.same
+
 pub returns-in_err-onto-clause-gains : goal.returns-in_err-onto-clause-gains
 returns-in_err-onto-clause-gains c =
     let p = c.place_parents.ensures in
@@ -49,6 +53,10 @@ returns-in_err-onto-clause-gains c =
 pub returns-clause-stays : goal.returns-clause-stays
 returns-clause-stays c =
     stays-then c.args.layers.now c.place_parents.new.layers c.place_parents-2.new.layers c.place_parents.ensures.stays c.place_parents-2.ensures.stays
+
+pub returns-clause-same : goal.returns-clause-same
+returns-clause-same c =
+    same-then c.args.layers.now c.place_parents.new.layers c.place_parents-2.new.layers c.place_parents.ensures.same c.place_parents-2.ensures.same
 
 pub returns-clause-gains : goal.returns-clause-gains
 returns-clause-gains c =

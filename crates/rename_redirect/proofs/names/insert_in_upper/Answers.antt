@@ -1,4 +1,4 @@
-use Rattle.std.proofs.Common.{◌∙◌, ap, refl}
+use Rattle.std.proofs.Common.{◌∙◌, None, ap, refl}
 use Rattle.std.specs.Option.{option_and_then}
 use Rattle.layer_tree.specs.Table.{object_key}
 use Rattle.layer_tree.proofs.Roots.{key_at-bound}

@@ -1,8 +1,13 @@
 use Rattle.std.proofs.Common.{subst}
 use Rattle.std.specs.Option.{IfSome}
+use Rattle.merged_lookup.specs.Merged.{layers_of}
+use Rattle.make_remove.specs.Removing.{TellsNames}
 use Rattle.rename_redirect.specs.Judging.{MayMove}
 use Rattle.rename_redirect.proofs.Steps.{renamed-over, rename-steps, rename-refused}
 use Rattle.rename_redirect.proofs.renames.rename.Goals as goal
+
+pub returns-in-Err-clause-refused : goal.returns-in-Err-clause-refused
+returns-in-Err-clause-refused c = λ full tells. c.in-Err.ensures.refused full (λ e. subst (TellsNames (layers_of c.args.layers.now) c.args.new.now) e tells)
 
 pub returns-in-Err-clause-refuses : goal.returns-in-Err-clause-refuses
 returns-in-Err-clause-refuses c = rename-refused c.args.layers.now c.args.redirects c.args.old.now c.args.new.now c.in-Err.errno c.in-Err.ensures.refused
