@@ -1,5 +1,5 @@
 -- The calls that change attributes, by how they end.
-use Rattle.std.proofs.Common.{◌≡◌, ℕ, true, false, List, Option, None, Some, Result, Ok, Err, MatchResult, refl, sym, ap, ◌∙◌, subst}
+use Rattle.std.proofs.Common.{◌≡◌, ℕ, Bool, true, false, List, Option, None, Some, Result, Ok, Err, MatchResult, refl, sym, ap, ◌∙◌, subst}
 use Rattle.std.proofs.Common.{arith}
 use Rattle.std.specs.Result.{IsErr}
 use Rattle.std.specs.declared.alloc.AllocError.{AllocError}
@@ -15,9 +15,9 @@ use Rattle.layer_tree.specs.Tree.{IsTree}
 use Rattle.merged_lookup.specs.declared.found.Topmost.{Topmost}
 use Rattle.merged_lookup.specs.declared.layers.Layers.{Layers}
 use Rattle.merged_lookup.specs.declared.stack.Stack.{Stack}
-use Rattle.merged_lookup.specs.Merged.{upper_of, layers_of, lowers_of}
+use Rattle.merged_lookup.specs.Merged.{upper_of, layers_of, lowers_of, fill_at}
 use Rattle.mount_laws.specs.Looks.{or_else, walk_fault, is_link_inode, shows_link, IsMountOf}
-use Rattle.mount_laws.specs.Attributes.{chown_fault, user_in}
+use Rattle.mount_laws.specs.Attributes.{chown_fault, inode_attributes, user_in}
 use Rattle.mount_laws.specs.Altered.{Alters, AltersState}
 use Rattle.mount_laws.specs.StayOpen.{AltersNamed}
 use Rattle.copy_up.specs.Altering.{AltersAs, AltersObjectAs}
@@ -32,6 +32,7 @@ use Rattle.mount_calls.proofs.Altered.{alters-named}
 use Rattle.mount_calls.proofs.AttributeCalls.{IsSeen, altered-asked, live-asked, user-last, walk-seen}
 use Rattle.mount_calls.proofs.Frames.{around-parents, around-paths}
 use Rattle.mount_calls.proofs.Lasting.{parents-live}
+use Rattle.mount_calls.proofs.Raising.{attributes-filled, link-filled}
 
 -- a call that was judged, and the change that it asks for made
 module _
@@ -39,16 +40,17 @@ module _
     (sound : StaysSound old new) (made : AttributeChange)
     (asks : (a : Attributes) → changed made a ≡ asked x a) (alters : AltersAs old new p made) where
   -- alters each state, over the lower layers that there were
-  state-altered : (s : State) → IsMountOf (upper_of old) (lowers_of old) s → (c : ℕ) → AltersState (upper_of new) (lowers_of old) s c p (call_at p x)
-  state-altered s m c =
+  state-altered : (s : State) → IsMountOf (upper_of old) (lowers_of old) s → s.options.metacopy ≡ false → (c : ℕ) → AltersState (upper_of new) (lowers_of old) s c p (call_at p x)
+  state-altered s m option c =
       altered-asked p x (upper_of old) (upper_of new) (lowers_of old) s m c h.allowed h.attributes h.shown
-      (subst (λ (a : Attributes). Alters (upper_of old) (upper_of new) (lowers_of old) p a) (asks h.attributes) (alters h.attributes h.shown m.layers))
+      (subst (λ (b : Bool). Alters (upper_of old) (upper_of new) (lowers_of old) b p (asked x h.attributes)) (sym option)
+      (subst (λ (a : Attributes). Alters (upper_of old) (upper_of new) (lowers_of old) false p a) (asks h.attributes) (alters h.attributes h.shown m.layers)))
 
   -- leaves live files live, also where it changes their attributes
   live-altered : IsTree old.upper → AltersObjectAs old new p made → KeepsLive old new (call_at p x)
-  live-altered tree object s m c d j l =
-      live-asked p x (upper_of old) (upper_of new) (lowers_of old) s c h.attributes h.shown (state-altered s m c) d j
-      (subst (λ (a : Attributes). AltersNamed (upper_of old) (upper_of new) p a j) (asks h.attributes) (alters-named old new tree p (changed made h.attributes) (object h.attributes h.shown) j _ l.inode))
+  live-altered tree object s m option c d j l =
+      live-asked p x (upper_of old) (upper_of new) (lowers_of old) s c h.attributes h.shown (state-altered s m option c) d j
+      (subst (λ (a : Attributes). AltersNamed (upper_of old) (upper_of new) p a j) (asks h.attributes) (alters-named old new low tree p (changed made h.attributes) (object h.attributes h.shown) j _ l.inode))
       l
 
   -- ends so with the attributes that the call gives
@@ -57,7 +59,7 @@ module _
     refused = tt;
     unchanged = tt;
     allowed = h.allowed;
-    alters = λ s m c. subst (λ (ls : List Layer). AltersState (upper_of new) ls s c p (call_at p x)) (sym (lowers-same old new low)) (state-altered s m c);
+    alters = λ s m option c. subst (λ (ls : List Layer). AltersState (upper_of new) ls s c p (call_at p x)) (sym (lowers-same old new low)) (state-altered s m option c);
     key = there;
     lowers = low;
     around = around-paths old new p (object h.attributes h.shown).paths;
@@ -104,8 +106,16 @@ alters-refused x l p e fault = record {
 }
 
 -- what is told of an inode is told where it is shown
-pub open-as : {A : Type 0} (now : A → Attributes) (r : Result A Errno) (s : Option Shown) (j k : ℕ) (i : Option Inode) → s ≡ Some (Contents j k i) → MatchResult r (λ a. IsOpenTo (Some (Contents 0 0 i)) (now a)) (λ e. (e ≡ ELOOP) × (is_link_inode i ≡ true)) → MatchResult r (λ a. IsOpenTo s (now a)) (λ e. (e ≡ ELOOP) × (shows_link s ≡ true))
+open-as : {A : Type 0} (now : A → Attributes) (r : Result A Errno) (s : Option Shown) (j k : ℕ) (i : Option Inode) → s ≡ Some (Contents j k i) → MatchResult r (λ a. IsOpenTo (Some (Contents 0 0 i)) (now a)) (λ e. (e ≡ ELOOP) × (is_link_inode i ≡ true)) → MatchResult r (λ a. IsOpenTo s (now a)) (λ e. (e ≡ ELOOP) × (shows_link s ≡ true))
 open-as now r s j k i is h = grind arith
+
+-- so it is of an inode that is alike, and of a filled one
+open-alike : {A : Type 0} (now : A → Attributes) (r : Result A Errno) (i x : Option Inode) → is_link_inode x ≡ is_link_inode i → inode_attributes x ≡ inode_attributes i → MatchResult r (λ a. IsOpenTo (Some (Contents 0 0 i)) (now a)) (λ e. (e ≡ ELOOP) × (is_link_inode i ≡ true)) → MatchResult r (λ a. IsOpenTo (Some (Contents 0 0 x)) (now a)) (λ e. (e ≡ ELOOP) × (is_link_inode x ≡ true))
+open-alike now (Ok a) i x link same h = record { no_link = link ∙ h.no_link; attributes = same ∙ h.attributes }
+open-alike now (Err e) i x link same h = (h.0, link ∙ h.1)
+
+pub open-filled : {A : Type 0} (now : A → Attributes) (r : Result A Errno) (s : Option Shown) (j k : ℕ) (lowers : List Layer) (i : Option Inode) → s ≡ Some (Contents j k (fill_at j lowers i)) → MatchResult r (λ a. IsOpenTo (Some (Contents 0 0 i)) (now a)) (λ e. (e ≡ ELOOP) × (is_link_inode i ≡ true)) → MatchResult r (λ a. IsOpenTo s (now a)) (λ e. (e ≡ ELOOP) × (shows_link s ≡ true))
+open-filled now r s j k lowers i is h = open-as now r s j k (fill_at j lowers i) is (open-alike now r i (fill_at j lowers i) (link-filled j lowers i) (attributes-filled j lowers i) h)
 
 -- a symbolic link is the refusal of chown where the walk isn't refused
 pub chown-link : (Ls : List Layer) (p : Path) → walk_fault Ls p ≡ None → shows_link (shows 0 Ls p) ≡ true → chown_fault Ls p ≡ Some ELOOP

@@ -1,5 +1,5 @@
 -- Open files through changes of the layers and of the tree.
-use Rattle.std.proofs.Common.{◌≡◌, ◌↔◌, ℕ, ◌<◌, true, List, Some, arith}
+use Rattle.std.proofs.Common.{◌≡◌, ◌↔◌, ℕ, ◌<◌, true, false, List, Some, arith}
 use Rattle.merged_lookup.specs.Merged.{upper_of}
 use Rattle.mount_calls.proofs.Words.{after, Call, Dentries, Directory, File, file_holders, Handle, handle_of, IsLive, IsMountOf, Layer, layer_of, Layers, lowers_of, NodeId, OpenDirectory, OpenFile, State, Table, Tree, Upper}
 use Rattle.plain_model.specs.Tree.{IsKept}
@@ -60,8 +60,11 @@ module _ (old new : Layers) where
 
   module _ (s : State) (mounts : IsMountOf U (lowers_of old) s) (c : ℕ) (k : Call) (clients : Clients) where
     -- a call through which live files stay live, and files files
-    pub files-kept : KeepsLive old new k → KeepsLeaves k → CarriesFiles U V s.tree (after s c k).tree clients s.tables
-    files-kept live leaves = grind arith
+    pub files-kept : s.options.metacopy ≡ false → KeepsLive old new k → KeepsLeaves k → CarriesFiles U V s.tree (after s c k).tree clients s.tables
+    files-kept option live leaves = record {
+      live = λ b fd f h j at on key. live s mounts option c h.node j;
+      leaves = λ b fd h on. leaves s mounts.kept c h.node;
+    }
 
     -- a call through which those stay so that a handle holds
     pub files-held : KeepsHeldFrom s c clients old new k → KeepsHeldLeaves k → AreCounted clients → CarriesFiles U V s.tree (after s c k).tree clients s.tables

@@ -86,9 +86,10 @@ module _ (U : Layer) (lowers : List Layer) (t : Tree) (clients : Clients) (ks : 
 -- a mount without clients stands for the opening state of the merge
 pub begins : (m : Mount) → ((n : ℕ) → get nat_cmp m.clients.attached n ≡ None) → m.clients.next ≡ 0 → (t : Tree) → AreLayers (layers_of m.layers) → IsMerge (upper_of m.layers) (lowers_of m.layers) t → IsStateOf m (opening t (record { redirects = m.redirects; metacopy = false; read_only = false }))
 begins m none next t a merge = record {
-  layers = law_of_beginning (upper_of m.layers) (lowers_of m.layers) t m.redirects a merge;
+  layers = law_of_beginning (upper_of m.layers) (lowers_of m.layers) t m.redirects false a merge;
   arrived = next;
   redirects = refl;
+  metacopy = refl;
   tables = record {
     attached = λ b. sym (ap (λ (o : Option Descriptors). is_some o) (none b));
     room = λ b. sym (ap (λ (o : Option Descriptors). cond (is_some o) DESCRIPTORS_MAX 0) (none b));
@@ -157,6 +158,7 @@ module _ (m : Mount) (s : State) (st : IsStateOf m s) (new : Clients) where
         record {
           layers = record { layers = st.layers.layers; shows = st.layers.shows; kept = st.layers.kept; writable = st.layers.writable };
           redirects = st.redirects;
+          metacopy = st.metacopy;
           arrived = h.rises ∙ add-one n ∙ ap suc same;
           tables = subst (λ z. AreTables (Alike m.layers s new) new (s.tables ++ free_table z ∷ [])) same (come (the_upper m) (the_lowers m) s.tree m.clients s.tables st.tables new n h);
           one = subst (λ z. AreOne new (s.tables ++ free_table z ∷ [])) same (one-fewer m.clients new s.tables _ (come-fewer (the_upper m) (the_lowers m) s.tree m.clients s.tables st.tables new n h) st.one);

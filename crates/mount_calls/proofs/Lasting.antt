@@ -2,26 +2,27 @@
 use Rattle.std.proofs.Common.{◌≡◌, ◌≢◌, ◌↔◌, ℕ, Bool, true, false, cond, List, [], ◌∷◌, ◌++◌, Option, None, Some, refl, sym, ap, ◌∙◌, subst, inl, inr, is_some}
 use Rattle.std.proofs.Common.{arith}
 use Rattle.merged_lookup.specs.Merged.{upper_of}
-use Rattle.mount_calls.proofs.Words.{after, Attributes, Call, cases_Bool, Content, face, false≢true, fresh, Inode, inode_of, IsLive, IsMountOf, Layer, layer_of, Layers, lowers_of, Node, node_at, node_of, NodeId, OpenFlags, option_and_then, Path, Removes, State, StaysLayers, Tree}
+use Rattle.mount_calls.proofs.Words.{after, Attributes, Call, cases_Bool, Content, face, false≢true, fresh, Inode, inode_of, IsLive, IsMountOf, Layer, layer_of, Layers, lowers_of, Node, node_at, node_of, NodeId, OpenFlags, option_and_then, option_map, Path, Removes, State, StaysLayers, Tree}
 use Rattle.slab.specs.Slab.{get}
 use Rattle.ov_base.specs.declared.bytes.Content.TheVariants as content
 use Rattle.ov_base.specs.declared.call.Call.TheVariants as call
-use Rattle.plain_model.specs.Layers.{Named, held, same_path}
+use Rattle.plain_model.specs.Layers.{Named, held, fill, same_path}
 use Rattle.plain_model.specs.Tree.{Sight, SeenBranch, see_inode, merged}
 use Rattle.plain_model.proofs.Merged.{named-seen}
 use Rattle.plain_model.proofs.Paths.{paths_tell, place}
 use Rattle.layer_tree.specs.Tree.{inode_at}
 use Rattle.mount_laws.specs.Looks.{Gains, Makes}
 use Rattle.mount_laws.specs.Leaves.{GainsLeaf, MakesLink, MakesFile}
-use Rattle.mount_laws.specs.Linking.{MakesName}
+use Rattle.mount_laws.specs.Linking.{GainsName, MakesName}
 use Rattle.mount_laws.specs.StayOpen.{LosesLink, LivesThroughRemoval}
 use Rattle.mount_laws.proofs.OpenFiles.{one-number}
-use Rattle.mount_laws.proofs.StayOpen.{law_of_live_through_made, law_of_live_through_link, law_of_live_through_file}
+use Rattle.mount_laws.proofs.StayOpen.{law_of_live_kept, law_of_live_through_made, law_of_live_through_link, law_of_live_through_file}
 use Rattle.mount_laws.proofs.LinkedOpen.{law_of_live_through_name}
 use Rattle.mount_laws.proofs.RenamedOpen.{law_of_live_through_rename}
 use Rattle.mount_laws.proofs.Outlive.{law_of_live_through_unlink, law_of_live_through_rmdir}
 use Rattle.copy_up.specs.Showing.{is_object, sight, KeepsPath, KeepsOthers, GainsParents}
 use Rattle.copy_up.proofs.Keeping.{lowers-same}
+use Rattle.copy_up.proofs.Raising.{inode-raised}
 use Rattle.make_remove.specs.Making.{MakesDirectory, MkdirSteps, new_attributes}
 use Rattle.make_remove.specs.Leaves.{MakesLeaf, SymlinkSteps, CreateSteps}
 use Rattle.make_remove.specs.Removing.{TakesName, Unnames}
@@ -30,6 +31,7 @@ use Rattle.rename_redirect.specs.Renaming.{MovesOver, RenameSteps}
 use Rattle.mount_calls.specs.Files.{is_leaf}
 use Rattle.mount_calls.specs.declared.clients.Clients.{Clients}
 use Rattle.mount_calls.specs.Living.{StaysLive, KeepsLive, KeepsHeld, KeepsHeldFrom}
+use Rattle.mount_calls.proofs.Raising.{link-lost}
 pub use Rattle.mount_calls.proofs.Leaves.{mkdir-leaves, symlink-leaves, link-leaves, chmod-leaves, chown-leaves, set-leaves, delete-leaves, open-leaves, unlink-leaves, rmdir-leaves, rename-leaves}
 
 -- a path of which no more changes than that it gains a directory as a parent names what it named
@@ -38,7 +40,8 @@ kept-name old new p q is k = grind arith
 
 -- missing parents leave each live file live
 pub parents-live : (old new : Layers) (p : Path) → GainsParents old new p → StaysLive old new
-parents-live old new p g t d k = grind arith
+parents-live old new p g t d k =
+    law_of_live_kept (upper_of old) (upper_of new) t d k (λ q. kept-name old new p q (g.paths q) k) (inode-raised old new g.lowers k (g.objects.inodes k (λ e. cc)))
 
 -- and so do those of two paths, gained one after the other
 pub both-live : (old new : Layers) (p q : Path) → GainsBoth old new p q → StaysLive old new
@@ -129,15 +132,17 @@ module _ (old new : Layers) (p : Path) (mode : ℕ) (m : MakesDirectory old new 
 
 -- mkdir leaves each live file live
 pub mkdir-live : (old new : Layers) (p : Path) (mode : ℕ) → StaysLayers old new → MakesDirectory old new p mode → MkdirSteps old new p mode → KeepsLive old new (call.Mkdir p mode)
-mkdir-live old new p mode keeps m steps s is c d k live =
+mkdir-live old new p mode keeps m steps s is option c d k live =
     let x : Makes (upper_of new) (lowers_of old) s c p mode = subst (λ (Ls : List Layer). Makes (upper_of new) Ls s c p mode) (lowers-same old new m.lowers) (steps s is c) in
-    law_of_live_through_made (upper_of old) (upper_of new) (lowers_of old) s is c p mode (gains old new p mode m s is c x) x d k (m.objects.inodes k (λ e. cc)) live
+    law_of_live_through_made (upper_of old) (upper_of new) (lowers_of old) s is c p mode (gains old new p mode m s is c x) x d k (inode-raised old new m.lowers k (m.objects.inodes k (λ e. cc))) live
 
 -- a live file where a file or link is made
 module _ (old new : Layers) (p : Path) (y : Content) (a : Attributes) (m : MakesLeaf old new p y a) (t : Tree) (d : NodeId) (k : ℕ) (live : IsLive (upper_of old) t d k) where
   -- it has another number
   differs : m.number ≢ k
-  differs e = false≢true (sym (ap (λ o. is_some (option_and_then inode_of o)) (ap (get old.upper) (sym e) ∙ m.vacant)) ∙ ap is_some live.inode)
+  differs e =
+      let none : inode_at old.upper k ≡ None = ap (option_and_then inode_of) (ap (get old.upper) (sym e) ∙ m.vacant) in
+      false≢true (sym (ap (λ o. is_some (option_map (fill (lowers_of old)) o)) none) ∙ ap is_some live.inode)
 
   -- also than the one that the upper gains
   gained-differs : (g : GainsLeaf (upper_of old) (upper_of new) (lowers_of old) p y a) → g.number ≢ k
@@ -145,11 +150,11 @@ module _ (old new : Layers) (p : Path) (y : Content) (a : Attributes) (m : Makes
 
   -- and its inode stays
   same-inode : (upper_of new).inodes k ≡ (upper_of old).inodes k
-  same-inode = m.objects.inodes k (λ e. differs (let z : Some m.number ≡ Some k = e in cc))
+  same-inode = inode-raised old new m.lowers k (m.objects.inodes k (λ e. differs (let z : Some m.number ≡ Some k = e in cc)))
 
 -- symlink leaves each live file live
 pub symlink-live : (old new : Layers) (target : List ℕ) (p : Path) → MakesLeaf old new p (content.SymbolicLink target) (new_attributes 0o777) → SymlinkSteps old new target p → KeepsLive old new (call.Symlink target p)
-symlink-live old new target p m steps s is c d k live =
+symlink-live old new target p m steps s is option c d k live =
     let g : GainsLeaf (upper_of old) (upper_of new) (lowers_of old) p (content.SymbolicLink target) (fresh 0o777) = m.gains is.layers in
     law_of_live_through_link (upper_of old) (upper_of new) (lowers_of old) s is c target p g
     (subst (λ (Ls : List Layer). MakesLink (upper_of new) Ls s c target p) (lowers-same old new m.lowers) (steps s is c)) d k
@@ -157,7 +162,7 @@ symlink-live old new target p m steps s is c d k live =
 
 -- an open that makes its file leaves each live file live
 pub create-live : (old new : Layers) (p : Path) (mode : ℕ) → MakesLeaf old new p (content.File []) (new_attributes mode) → CreateSteps old new p mode → (flags : OpenFlags) → KeepsLive old new (call.Open p flags mode)
-create-live old new p mode m steps flags s is c d k live =
+create-live old new p mode m steps flags s is option c d k live =
     let g : GainsLeaf (upper_of old) (upper_of new) (lowers_of old) p (content.File []) (fresh mode) = m.gains is.layers in
     law_of_live_through_file (upper_of old) (upper_of new) (lowers_of old) s is c p flags mode g
     (subst (λ (Ls : List Layer). MakesFile (upper_of new) Ls s c p flags mode) (lowers-same old new m.lowers) (steps s is c flags)) d k
@@ -165,14 +170,24 @@ create-live old new p mode m steps flags s is c d k live =
 
 -- link leaves each live file live, also the one that it names
 pub link-live : (old new : Layers) (p q : Path) → new.lowers ≡ old.lowers → GivesName old new p q → LinkSteps old new p q → KeepsLive old new (call.Hardlink p q)
-link-live old new p q low gives steps s is c d k live =
-    law_of_live_through_name (upper_of old) (upper_of new) (lowers_of old) s is c p q (gives.gains is.layers)
-    (subst (λ (Ls : List Layer). MakesName (upper_of new) Ls s c p q) (lowers-same old new low) (steps s is c)) d k
+link-live old new p q low gives steps s is option c d k live =
+    law_of_live_through_name (upper_of old) (upper_of new) (lowers_of old) s is c p q
+    (subst (λ (b : Bool). GainsName (upper_of old) (upper_of new) (lowers_of old) b p q) (sym option) (gives.gains is.layers))
+    (subst (λ (Ls : List Layer). MakesName (upper_of new) Ls s c p q) (lowers-same old new low) (steps s is option c)) d k
     (gives.links is.layers k (ap is_some live.inode)) live
 
 -- where the upper loses a name, an inode that it names loses a link
-loses-link : (old new : Layers) (p : Path) (released : Option ℕ) → TakesName old new p → Unnames old new p released → (j : ℕ) → is_some (inode_at old.upper j) ≡ true → LosesLink (upper_of old) (upper_of new) p j
-loses-link old new p released takes y j there = grind arith
+lost-link : (old new : Layers) (p : Path) (released : Option ℕ) → TakesName old new p → Unnames old new p released → (j : ℕ) → is_some (inode_at old.upper j) ≡ true → LosesLink (layer_of old.upper) (layer_of new.upper) p j
+lost-link old new p released takes y j there = grind arith
+
+-- an inode that shows is there
+some-raw : (Ls : List Layer) (o : Option Inode) → is_some (option_map (fill Ls) o) ≡ true → is_some o ≡ true
+some-raw Ls None h = h
+some-raw Ls (Some i) h = refl
+
+-- and so it shows
+loses-link : (old new : Layers) (p : Path) (released : Option ℕ) → TakesName old new p → Unnames old new p released → (j : ℕ) → is_some ((upper_of old).inodes j) ≡ true → LosesLink (upper_of old) (upper_of new) p j
+loses-link old new p released takes y j there = link-lost old new takes.lowers p j (lost-link old new p released takes y j (some-raw (lowers_of old) (inode_at old.upper j) there))
 
 -- every state of the machine whose mount has the old layers goes on to one with the new layers by the call that takes p away
 abbrev RemovalSteps : Layers → Layers → Path → Call → Type 0
@@ -195,7 +210,7 @@ pub rmdir-held : (p : Path) (clients : Clients) (old new : Layers) (released : O
 rmdir-held p = held-live p (call.Rmdir p) (law_of_live_through_rmdir p)
 
 -- and where rename moves an object
-pub rename-held : (clients : Clients) (old new : Layers) (redirects : Bool) (p q : Path) → MovesOver old new p q → RenameSteps old new redirects p q → (s : State) → IsMountOf (upper_of old) (lowers_of old) s → s.options.redirects ≡ redirects → (c : ℕ) → KeepsHeldFrom s c clients old new (call.Rename p q)
-rename-held clients old new redirects p q over steps s is option c d k some on live =
-    law_of_live_through_rename (upper_of old) (upper_of new) (lowers_of new) s c p q (steps s is option c) d k
+pub rename-held : (clients : Clients) (old new : Layers) (redirects : Bool) (p q : Path) → MovesOver old new p q → RenameSteps old new redirects p q → (s : State) → IsMountOf (upper_of old) (lowers_of old) s → s.options.redirects ≡ redirects → s.options.metacopy ≡ false → (c : ℕ) → KeepsHeldFrom s c clients old new (call.Rename p q)
+rename-held clients old new redirects p q over steps s is option off c d k some on live =
+    law_of_live_through_rename (upper_of old) (upper_of new) (lowers_of new) s c p q (steps s is option off c) d k
     (over.links is.layers k (ap is_some live.inode)) (λ named. on) live

@@ -4,6 +4,7 @@ use Rattle.mount_calls.proofs.Words.{AllocError, EINVAL, Errno, IfOk, inode_of, 
 use Rattle.ov_base.specs.declared.call.Call.TheVariants as call
 use Rattle.ov_base.specs.declared.reply.Reply.TheVariants as reply
 use Rattle.merged_lookup.specs.Merged.{upper_of, walk_fault}
+use Rattle.merged_lookup.proofs.Filled.{raw-inode}
 use Rattle.merged_lookup.proofs.Looking.{inode-shown}
 use Rattle.mount_laws.specs.Leaves.{Reads, inode_target, shown_target}
 use Rattle.mount_laws.proofs.Refusing.{law_of_readlink}
@@ -11,6 +12,7 @@ use Rattle.mount_calls.specs.declared.mount.Mount.{Mount}
 use Rattle.mount_calls.specs.Status.{target_reply}
 use Rattle.mount_calls.specs.States.{IsStateOf, Serves}
 use Rattle.mount_calls.proofs.Answering.{serve-refused, serve-done}
+use Rattle.mount_calls.proofs.Raising.{target-filled}
 use Rattle.mount_calls.proofs.Stating.{the_layers}
 
 -- the reply to readlink of what has this target, or none, where the walk is refused or not
@@ -25,8 +27,10 @@ readlink_reply Ls p = link_reply (walk_fault Ls p) (shown_target (shows 0 Ls p))
 -- the reply to readlink of a file or symbolic link that is shown
 pub link-inode : (l : Layers) (p : Path) (d : Place) → walk_fault (layers_of l) p ≡ None → ShowsInode l p d → target_reply (inode_target (option_and_then inode_of (node_in (trees l) d))) ≡ readlink_reply (layers_of l) p
 link-inode l p d none i =
-    let same : option_and_then inode_of (node_in (trees l) d) ≡ i.inode = inode-shown 0 (trees l) (trees l) refl p d.layer d.key i.inode i.shown in
+    let raw = raw-inode l p d.layer d.key i.inode i.shown in
+    let same : option_and_then inode_of (node_in (trees l) d) ≡ raw.raw = inode-shown 0 (trees l) (trees l) refl p d.layer d.key raw.raw raw.is in
     ap (λ z. target_reply (inode_target z)) same
+    ∙ ap target_reply (sym (target-filled d.layer (lowers_of l) raw.raw) ∙ ap inode_target (sym raw.same))
     ∙ sym (ap (λ w. link_reply w (shown_target (shows 0 (layers_of l) p))) none ∙ ap (λ o. target_reply (shown_target o)) i.shown)
 
 -- a call that may run out of memory answers the same reply told otherwise

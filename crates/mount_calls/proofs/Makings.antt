@@ -1,5 +1,5 @@
 -- Opens that make a file: the states that the mount stands for on the way.
-use Rattle.std.proofs.Common.{arith, ◌≡◌, ◌↔◌, ℕ, zero, suc, cond, List, [], None, Some, Ok, refl, sym, ap, ◌∙◌, subst, is_none}
+use Rattle.std.proofs.Common.{arith, ◌≡◌, ◌↔◌, ℕ, zero, suc, false, cond, List, [], None, Some, Ok, refl, sym, ap, ◌∙◌, subst, is_none}
 use Rattle.merged_lookup.specs.Merged.{upper_of}
 use Rattle.mount_calls.proofs.Words.{after, Call, change, File, file_holders, fresh, Handle, IsLive, IsMountOf, Layer, layer_of, Layers, layers_of, Leaf, live_handle, lowers_of, lowest_free, made_way, New, NodeId, OpenFile, OpenFlags, opening_fault, Own, Path, refusal, shows, State, StaysMount, Tree, Upper, way_of, with_handle}
 use mathlib.Core.Logic.{∥∥₁_elim}
@@ -107,7 +107,7 @@ module _ (m : Mount) (s : State) (st : IsStateOf m s) (c : ℕ) (clients : Clien
     made-state =
         state-on reserved s reserved-state new leaf.lowers u (suc s.serial) made-mounts
         (handle-beside reserved s reserved-state new c asked p _ tree-made steps-there.stays steps-there.hidden)
-        (files-kept m.layers new s st.layers c asked clients (create-live m.layers new p mode leaf steps f) (open-leaves p f mode))
+        (files-kept m.layers new s st.layers c asked clients st.metacopy (create-live m.layers new p mode leaf steps f) (open-leaves p f mode))
 
     -- the new file is live
     made-live : IsLive V u (New s.serial) key

@@ -27,6 +27,7 @@ use Rattle.mount_calls.specs.declared.mount.Mount.{Mount}
 use Rattle.mount_calls.specs.Living.{KeepsFiles, KeepsLive, KeepsNamed, KeepsPaths, NamesFile}
 use Rattle.mount_calls.specs.States.{IsStateOf, Serves}
 use Rattle.mount_calls.proofs.Closings.{closes-handle}
+use Rattle.mount_calls.proofs.Raising.{filled-names, raw-names}
 
 -- a path that leads to a live file names it
 pub live-named : (U : Layer) (t : Tree) (d : NodeId) (k : ℕ) (q : Path) → IsLive U t d k → node_at t q ≡ Some d → NamesFile U q k
@@ -145,10 +146,10 @@ module _ (u new : LayerTree) (key : ℕ) (now : List ℕ → List ℕ) (there : 
 
   -- and so where memory runs out for them
   pub written-files : (l : Layers) → l.upper ≡ u → (r : Result (Unit {0}) AllocError) → OnOk r ((old : List ℕ) → bytes_at u key ≡ Some old → SetsBytes (layer_of u) (layer_of new) key (now old)) → OnErr r (SameTree u new) → KeepsFiles l (record l { upper = new })
-  written-files l is r sets same q k f = by r sets same
+  written-files l is r sets same q k f = filled-names (lowers_of l) (layer_of new) q k (by r sets same)
     where
       was : NamesFile (layer_of u) q k
-      was = subst (λ (z : LayerTree). NamesFile (layer_of z) q k) is f
+      was = subst (λ (z : LayerTree). NamesFile (layer_of z) q k) is (raw-names (lowers_of l) (layer_of l.upper) q k f)
 
       by : (x : Result (Unit {0}) AllocError) → OnOk x ((old : List ℕ) → bytes_at u key ≡ Some old → SetsBytes (layer_of u) (layer_of new) key (now old)) → OnErr x (SameTree u new) → NamesFile (layer_of new) q k
       by (Ok x) w tree = sets-files w q k was
@@ -232,8 +233,8 @@ refused-named old s c k e new answers served fine =
     absurd (false≢true (sym answers ∙ sym (ap is_refused (subst (λ o. Serves o s c k (reply.Refused e) new) fine served).0)))
 
 -- a call through which live files stay so
-pub keeps-named : (old new : Layers) (k : Call) → KeepsLive old new k → (s : State) → IsMountOf (upper_of old) (lowers_of old) s → (c : ℕ) → KeepsNamed s c old new k
-keeps-named old new k keeps s m c d j q live at = keeps s m c d j live
+pub keeps-named : (old new : Layers) (k : Call) → KeepsLive old new k → (s : State) → IsMountOf (upper_of old) (lowers_of old) s → s.options.metacopy ≡ false → (c : ℕ) → KeepsNamed s c old new k
+keeps-named old new k keeps s m option c d j q live at = keeps s m option c d j live
 
 -- a call that changes neither the layers nor the tree
 pub reads-named : (old new : Layers) (s : State) (c : ℕ) (k : Call) → new ≡ old → (after s c k).tree ≡ s.tree → KeepsNamed s c old new k

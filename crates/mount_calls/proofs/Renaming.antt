@@ -141,14 +141,14 @@ module _ (m : Mount) (s : State) (st : IsStateOf m s) where
       u = (after s c (call.Rename p q)).tree
 
       step : Renames V (lowers_of new) s c p q
-      step = held.steps s st.layers st.redirects c
+      step = held.steps s st.layers st.redirects st.metacopy c
 
       law : Renames V (the_lowers m) s c p q
       law = subst (λ (Ls : List Layer). Renames V Ls s c p q) (lowers-same m.layers new low) step
 
       files : CarriesFiles (the_upper m) V s.tree u m.clients s.tables
       files =
-          files-held m.layers new s st.layers c (call.Rename p q) m.clients (held.live s st.layers st.redirects c)
+          files-held m.layers new s st.layers c (call.Rename p q) m.clients (held.live s st.layers st.redirects st.metacopy c)
           (rename-leaves p q) counted
 
       directories :
@@ -184,6 +184,7 @@ module _ (m : Mount) (s : State) (st : IsStateOf m s) where
             one = one-renamed V (the_lowers m) s c p q law m.clients clients follows.attached st.one;
             arrived = follows.next ∙ st.arrived;
             redirects = st.redirects;
+            metacopy = st.metacopy;
           })
 
 -- a rename is prepared, and each open directory stands where it stood

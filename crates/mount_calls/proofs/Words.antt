@@ -6,7 +6,7 @@ pub use Rattle.std.specs.Ordering.{nat_cmp}
 pub use Rattle.std.specs.Result.{IfOk, OnErr}
 pub use Rattle.std.specs.declared.alloc.AllocError.{AllocError}
 pub use Rattle.copy_up.specs.Showing.{StaysLayers, StaysMount}
-pub use Rattle.layer_tree.specs.Tree.{bytes_at, file_bytes, inode_of}
+pub use Rattle.layer_tree.specs.Tree.{bytes_at, file_bytes, inode_of, layer_of}
 pub use Rattle.merged_lookup.specs.Merged.{layers_of, lowers_of, node_in, ShowsInode, trees}
 pub use Rattle.merged_lookup.specs.declared.layers.Layers.{Layers}
 pub use Rattle.merged_lookup.specs.declared.stack.Place.{Place}

@@ -32,8 +32,8 @@ returns-in-Ok-clause-makes c = λ client.
     let steps = rw c.in-Ok.is at c.in_ok-key.ensures.steps in
     let live = link-live m.layers new p q c.link.ensures.lowers linked steps in
     makes-done client (call.Hardlink p q) m new
-    (λ s st. link-done m s st new client p q allowed c.link.ensures.lowers (steps s st.layers client) live (link-leaves p q))
-    (λ s st fine. keeps-named m.layers new (call.Hardlink p q) live s st.layers client)
+    (λ s st. link-done m s st new client p q allowed c.link.ensures.lowers (steps s st.layers st.metacopy client) live (link-leaves p q))
+    (λ s st fine. keeps-named m.layers new (call.Hardlink p q) live s st.layers st.metacopy client)
     (but-given m.layers new p q linked) c.link.ensures.lowers c.link.ensures.sound.thin
 
 pub returns-in-Err-clause-makes : goal.returns-in-Err-clause-makes

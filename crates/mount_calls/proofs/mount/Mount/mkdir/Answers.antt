@@ -34,7 +34,7 @@ returns-in-Ok-2-clause-makes c = λ client.
     let live = mkdir-live m.layers new p c.args.mode c.mkdir.ensures.sound.layers made steps in
     makes-done client (call.Mkdir p c.args.mode) m new
     (λ s st. mkdir-done m s st new client p c.args.mode allowed made.lowers (steps s st.layers client) live (mkdir-leaves p c.args.mode))
-    (λ s st fine. keeps-named m.layers new (call.Mkdir p c.args.mode) live s st.layers client)
+    (λ s st fine. keeps-named m.layers new (call.Mkdir p c.args.mode) live s st.layers st.metacopy client)
     (around-others m.layers new p made.others) made.lowers c.mkdir.ensures.sound.thin
 
 pub returns-in-Err-2-clause-makes : goal.returns-in-Err-2-clause-makes

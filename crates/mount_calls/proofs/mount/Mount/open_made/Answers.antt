@@ -53,4 +53,4 @@ returns-clause-answers c =
     answers-open client asked m (record m { layers = new; clients = c.open_reserved.new.self }) c.args.descriptor
     (λ s st. open-made m s st client c.reserve_file.new.self c.reserve_file.ensures.same c.args.path.now c.args.flags c.args.mode c.requires.allowed c.requires.absent new c.in_ok-key.key made.0 made.1 c.in_ok-key.ensures.steps c.args.descriptor c.open_reserved.new.self opens)
     (λ s st fine. keeps-named m.layers new asked
-    (create-live m.layers new c.args.path.now c.args.mode made.0 c.in_ok-key.ensures.steps c.args.flags) s st.layers client)
+    (create-live m.layers new c.args.path.now c.args.mode made.0 c.in_ok-key.ensures.steps c.args.flags) s st.layers st.metacopy client)

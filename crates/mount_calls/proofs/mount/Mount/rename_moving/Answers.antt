@@ -68,7 +68,7 @@ returns-in-Ok-Ok-Some-clause-makes c = λ client.
     c.in_ok-replaced.replaced c.in_ok-replaced.ensures.none)
     (λ a e. subst (λ z. IfSome z (HasAttributes (layers_of m.layers) q)) e c.in_ok-replaced.ensures.left)
     c.rename.new.self c.rename.ensures.renames)
-    (λ s st fine. moved.named s st.layers st.redirects client)
+    (λ s st fine. moved.named s st.layers st.redirects st.metacopy client)
     c.rename_and_free.ensures.paths c.rename_and_free.ensures.lowers thin
 
 pub returns-in-Ok-Ok-None-clause-makes : goal.returns-in-Ok-Ok-None-clause-makes

@@ -40,7 +40,7 @@ returns-in-Ok-2-clause-makes c = λ client.
     let live = symlink-live m.layers new target p made steps in
     makes-done client (call.Symlink target p) m new
     (λ s st. symlink-done m s st new client target p allowed made.lowers (steps s st.layers client) live (symlink-leaves target p))
-    (λ s st fine. keeps-named m.layers new (call.Symlink target p) live s st.layers client)
+    (λ s st fine. keeps-named m.layers new (call.Symlink target p) live s st.layers st.metacopy client)
     (none-named m.layers new p made.number made.held_there made.others) made.lowers c.symlink.ensures.sound.thin
 
 pub returns-in-Err-2-clause-makes : goal.returns-in-Err-2-clause-makes
