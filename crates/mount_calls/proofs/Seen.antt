@@ -5,7 +5,7 @@ use Rattle.ov_base.specs.declared.call.Call.{Call}
 use Rattle.ov_base.specs.declared.call.Call.TheVariants as call
 use Rattle.ov_base.specs.declared.errno.Errno.{Errno}
 use Rattle.plain_model.specs.Layers.{Path, shows}
-use Rattle.layer_tree.specs.Tree.{IsHeldTogether}
+use Rattle.layer_tree.specs.Tree.{layer_of, IsHeldTogether}
 use Rattle.merged_lookup.specs.declared.layers.Layers.{Layers}
 use Rattle.merged_lookup.specs.declared.found.Topmost.{Topmost}
 use Rattle.merged_lookup.specs.declared.found.Topmost.TheVariants as topmost
@@ -26,12 +26,12 @@ pub looks-of : (l : Layers) (k j : Call) (saw : Looks) → k ≡ j → AreLooks 
 looks-of l k j saw e a = subst (λ z. AreLooks l z saw) e a
 
 -- a look that saw a directory of the upper on the way: the upper has each parent
-pub saw-parents : (l : Layers) (p : Path) (look : Look) (directory : Stack) (top : Option Topmost) → IsHeldTogether (upper_of l) → IsLook l p look →
+pub saw-parents : (l : Layers) (p : Path) (look : Look) (directory : Stack) (top : Option Topmost) → IsHeldTogether (layer_of l.upper) → IsLook l p look →
     look.shown ≡ Ok (directory, top) → (top_of directory.places.items).layer ≡ 0 → lacking (upper_of l) p ≡ None
 saw-parents l p look directory top together saw is upper =
     let at : IsStackOf l (parent p) directory =
     subst (λ (r : Result (Stack × Option Topmost) Errno). IfOk r (λ seen. IsStackOf l (parent p) seen.0)) is saw.directory in
-    held-to (upper_of l) together (parent p) (held-on-top l (parent p) directory at.places upper)
+    held-to (layer_of l.upper) together (parent p) (held-on-top l (parent p) directory at.places upper)
 
 -- and what it saw as the topmost object is shown
 pub saw-top : (l : Layers) (p : Path) (look : Look) (directory : Stack) (top : Option Topmost) → IsLook l p look → look.shown ≡ Ok (directory, top) → IsTopmost l p top
