@@ -167,6 +167,7 @@ module _ (m : Mount) (s : State) (st : IsStateOf m s) (c d : ℕ) where
           one = subst (AreOne new) (sym law.tables) state.one;
           arrived = ch.next ∙ st.arrived;
           redirects = st.redirects;
+          metacopy = st.metacopy;
         })
       where
         there : is_some (opened_by m.clients c d) ≡ true

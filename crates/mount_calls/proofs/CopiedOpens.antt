@@ -1,23 +1,22 @@
 -- Opens that copy a file up: the states that the mount stands for on the way.
-use Rattle.std.proofs.Common.{◌≡◌, ◌≢◌, ◌↔◌, ℕ, ◌<◌, true, false, cond, List, [], Option, None, Some, Result, Ok, Err, IfOk, OnErr, refl, sym, ap, ◌∙◌, subst, inl, inr, is_some, arith}
+use Rattle.std.proofs.Common.{◌≡◌, ◌≢◌, ◌↔◌, ℕ, zero, suc, ◌<◌, ◌&&◌, true, false, cond, List, [], Option, None, Some, Result, Ok, Err, IfOk, OnErr, refl, sym, ap, ◌∙◌, subst, inl, inr, is_some, arith}
 use Rattle.merged_lookup.specs.Merged.{upper_of}
-use Rattle.mount_calls.proofs.Words.{after, AllocError, Attributes, bad_flags, base, bytes_at, Call, change, Contents, EINVAL, false≢true, File, file_bytes, Handle, Inode, inode_of, IsLive, IsMountOf, Layer, layer_of, Layers, layers_of, Leaf, live_handle, lowers_of, lowest_free, MountOptions, Node, node_at, NodeId, OpenFile, OpenFlags, opening_fault, option_and_then, or_else, over_node, Own, parents_fault, Path, Place, put, refusal, rewritten, see, shows, shows_link, ShowsInode, sized, State, StaysLayers, Tree, Upper, way_of, when, with_bytes, with_handle}
+use Rattle.mount_calls.proofs.Words.{after, AllocError, Attributes, bad_flags, base, bytes_at, Call, change, Contents, EINVAL, false≢true, File, file_bytes, Handle, Inode, inode_of, IsLive, IsMountOf, Layer, layer_of, Layers, layers_of, Leaf, live_handle, lowers_of, lowest_free, MountOptions, Node, node_at, NodeId, OpenFile, OpenFlags, opening_fault, option_and_then, option_map, or_else, over_node, Own, parents_fault, Path, Place, put, refusal, rewritten, see, shows, shows_link, ShowsInode, sized, State, StaysLayers, Tree, Upper, way_of, when, with_bytes, with_handle}
 use Rattle.slab.specs.Slab.{get}
 use Rattle.ov_base.specs.declared.bytes.Content.TheVariants as content
 use Rattle.ov_base.specs.declared.call.Call.TheVariants as call
 use Rattle.ov_base.specs.declared.errno.Errno.TheVariants.{ELOOP}
 use Rattle.ov_base.specs.declared.reply.Reply.TheVariants as reply
-use Rattle.plain_model.specs.Layers.{Named, held, below, cuts, over, unless}
+use Rattle.plain_model.specs.Layers.{Named, fill, held, below, cuts, over, unless}
 use Rattle.plain_model.specs.Tree.{Origin, origin_in, SeenLeaf}
 use Rattle.plain_model.specs.Refusals.{bad_mode}
-use Rattle.plain_model.specs.Changes.{opened, touched, with_attributes, with_owner}
+use Rattle.plain_model.specs.Changes.{low_after, opened, touched, with_attributes, with_owner}
 use Rattle.plain_model.proofs.Keeping.{put-here}
 use Rattle.plain_model.proofs.Paths.{ids_tell, one_or_not, paths_tell}
 use Rattle.layer_tree.specs.declared.node.Inode.{Inode as StoredInode}
-use Rattle.layer_tree.specs.declared.node.Node.TheVariants as node
 use Rattle.mount_laws.specs.Looks.{absent, is_link_inode}
 use Rattle.mount_laws.specs.Attributes.{shown_attributes, chown_fault}
-use Rattle.mount_laws.specs.Altered.{AltersState}
+use Rattle.mount_laws.specs.Altered.{Alters, AltersState}
 use Rattle.mount_laws.specs.StayOpen.{AltersNamed}
 use Rattle.mount_laws.specs.Opening.{OpensWriting}
 use Rattle.mount_laws.proofs.Altered.{law_of_owner_changed}
@@ -29,6 +28,7 @@ use Rattle.copy_up.specs.Leaves.{CopiesLeaf}
 use Rattle.copy_up.specs.Showing.{ChangesNoSight, GainsParents}
 use Rattle.copy_up.proofs.Copying.{free-inode}
 use Rattle.copy_up.proofs.Keeping.{lowers-same}
+use Rattle.copy_up.proofs.Raising.{inode-raised}
 use Rattle.mount_calls.specs.declared.clients.Clients.{Clients}
 use Rattle.mount_calls.specs.declared.mount.Mount.{Mount}
 use Rattle.mount_calls.specs.Attaching.{ChangesClient}
@@ -47,13 +47,15 @@ use Rattle.mount_calls.proofs.Openings.{IsShownFile, leaf-seen, file-there, free
 use Rattle.mount_calls.proofs.OpeningWrites.{sized-none, writing-served}
 use Rattle.mount_calls.proofs.Rewritten.{state-rewritten}
 use Rattle.mount_calls.proofs.Stating.{the_layers, the_lowers, the_upper}
+use Rattle.mount_calls.proofs.Stored.{StandsAt, bytes-stored, stands-filled}
 
--- the inode that is shown at a place has the attributes that are shown
-pub attributes-stored : (l : Layers) (d : Place) (x : StoredInode) → ((p : Path) → ShowsInode l p d → shows 0 (layers_of l) p ≡ Some (Contents d.layer d.key (inode_of (node.Inode x)))) → (p : Path) (i : Inode) → shows 0 (layers_of l) p ≡ Some (Contents d.layer d.key (Some i)) → x.attributes ≡ i.attributes
+-- the inode that stands at a place has the attributes that are shown
+pub attributes-stored : (l : Layers) (d : Place) (x : StoredInode) → ((p : Path) → ShowsInode l p d → StandsAt l d x p) → (p : Path) (i : Inode) → shows 0 (layers_of l) p ≡ Some (Contents d.layer d.key (Some i)) → x.attributes ≡ i.attributes
 attributes-stored l d x is p i shown =
-    let both = sym (is p (record { inode = Some i; shown = shown })) ∙ shown in
-    let same : x.attributes ≡ i.attributes = cc in
-    same
+    let f = stands-filled l d x in
+    let both : Some (Contents d.layer d.key (Some f.inode)) ≡ Some (Contents d.layer d.key (Some i)) = sym (is p (record { inode = Some i; shown = shown }) ∙ ap (λ z. Some (Contents d.layer d.key z)) f.is) ∙ shown in
+    let same : f.inode ≡ i = cc in
+    f.attributes ∙ ap (λ (z : Inode). z.attributes) same
 
 -- a file of a lower layer is copied, with its own attributes
 abbrev pub Copied : Layers → Layers → Path → Place → (Inode → Attributes) → ℕ → Type 0
@@ -90,11 +92,13 @@ module _ (f : OpenFlags) (w : f.writes ≡ true) (options : MountOptions) (t : T
   x = Leaf (content.File bytes) a u n
 
   abbrev own : List ℕ → Tree
-  own now = put t d (Some (Leaf (content.File now) a Own n))
+  own now = put t d (Some (Leaf (content.File now) a (Own false) n))
 
   -- as it does by a change of its owner to the same
-  own-owned : change (with_attributes options (with_owner a.uid a.gid)) t (Some d) ≡ own bytes
-  own-owned = ap (λ o. put t d (over_node (with_attributes options (with_owner a.uid a.gid)) o)) is
+  own-owned : low_after options.metacopy (content.File bytes) u ≡ false → change (with_attributes options (with_owner a.uid a.gid)) t (Some d) ≡ own bytes
+  own-owned low =
+      ap (λ o. put t d (over_node (with_attributes options (with_owner a.uid a.gid)) o)) is
+      ∙ ap (λ z. put t d (Some (Leaf (content.File bytes) a (Own z) n))) low
 
   -- with its bytes
   own-kept : f.truncate ≡ false → change (opened f) t (Some d) ≡ own bytes
@@ -107,8 +111,8 @@ module _ (f : OpenFlags) (w : f.writes ≡ true) (options : MountOptions) (t : T
   -- which a rewriting does then
   own-rewritten : rewritten (own bytes) d [] ≡ own []
   own-rewritten =
-      ap (λ o. put (own bytes) d (over_node (with_bytes []) o)) (put-here t d (Some (Leaf (content.File bytes) a Own n)) d ((ids_tell d d).1 refl)) ∙
-      put-again t d (Some (Leaf (content.File bytes) a Own n)) (Some (Leaf (content.File []) a Own n))
+      ap (λ o. put (own bytes) d (over_node (with_bytes []) o)) (put-here t d (Some (Leaf (content.File bytes) a (Own false) n)) d ((ids_tell d d).1 refl)) ∙
+      put-again t d (Some (Leaf (content.File bytes) a (Own false) n)) (Some (Leaf (content.File []) a (Own false) n))
 
 -- an open that copies its file up
 module _ (m : Mount) (s : State) (st : IsStateOf m s) (c : ℕ) (clients : Clients) (same : ChangesClient m.clients clients c (λ x y. y ≡ x))
@@ -156,7 +160,7 @@ module _ (m : Mount) (s : State) (st : IsStateOf m s) (c : ℕ) (clients : Clien
 
   -- it copies the file up too
   owns : AltersState V (the_lowers m) s c p owned
-  owns = law_of_owner_changed p a.uid a.gid (the_upper m) V (the_lowers m) s st.layers c unrefused-owner a attributes-shown (leaf.alters st.layers.layers)
+  owns = law_of_owner_changed p a.uid a.gid (the_upper m) V (the_lowers m) s st.layers c unrefused-owner a attributes-shown (subst (λ z. Alters (the_upper m) V (the_lowers m) z p a) (sym st.metacopy) (leaf.alters st.layers.layers))
 
   -- the upper held nothing at the path
   unheld : held (the_upper m) p ≡ None
@@ -164,7 +168,7 @@ module _ (m : Mount) (s : State) (st : IsStateOf m s) (c : ℕ) (clients : Clien
 
   -- an inode that was there has another number
   other-number : (j : ℕ) → is_some ((the_upper m).inodes j) ≡ true → leaf.number ≢ j
-  other-number j some is = false≢true (sym (ap (λ o. is_some (option_and_then inode_of o)) (ap (get m.layers.upper) (sym is) ∙ leaf.vacant)) ∙ some)
+  other-number j some is = false≢true (sym (ap (λ o. is_some (option_map (fill (the_lowers m)) (option_and_then inode_of o))) (ap (get m.layers.upper) (sym is) ∙ leaf.vacant)) ∙ some)
 
   -- a live file is another inode, which keeps its names and its attributes
   other-file : (e : NodeId) (j : ℕ) → IsLive (the_upper m) s.tree e j → AltersNamed (the_upper m) V p a j
@@ -174,7 +178,7 @@ module _ (m : Mount) (s : State) (st : IsStateOf m s) (c : ℕ) (clients : Clien
       | inr away ↦ other-names m.layers new p leaf.others q away j
     ];
     altered = λ i h is. absurd (not-before h);
-    same = λ not. leaf.objects.inodes j (λ is. apart (let z : Some leaf.number ≡ Some j = is in cc));
+    same = λ not. inode-raised m.layers new leaf.lowers j (leaf.objects.inodes j (λ is. apart (let z : Some leaf.number ≡ Some j = is in cc)));
   }
     where
       apart : leaf.number ≢ j
@@ -192,7 +196,7 @@ module _ (m : Mount) (s : State) (st : IsStateOf m s) (c : ℕ) (clients : Clien
     inode = f.inode;
     bytes = f.bytes;
     named = (other-names m.layers new p leaf.others q away j).1 f.named;
-    stored = leaf.objects.inodes j (λ is. other-number j (ap is_some f.stored) (let z : Some leaf.number ≡ Some j = is in cc)) ∙ f.stored;
+    stored = inode-raised m.layers new leaf.lowers j (leaf.objects.inodes j (λ is. other-number j (ap is_some f.stored) (let z : Some leaf.number ≡ Some j = is in cc))) ∙ f.stored;
     file = f.file;
   }
     where
@@ -268,9 +272,17 @@ module _ (m : Mount) (s : State) (st : IsStateOf m s) (c : ℕ) (clients : Clien
         leaf-seen (s.tree law.node) (content.File there.bytes) a origin there.inode.links
         (seen (the_upper m) (the_lowers m) s st.layers p law.node law.at ∙ ap (see (base (the_upper m) (the_lowers m) p)) there.shown ∙ ap (λ z. Some (SeenLeaf z a origin there.inode.links)) there.content)
 
+    -- whose bytes are copied too
+    own-bytes : low_after s.options.metacopy (content.File there.bytes) origin ≡ false
+    own-bytes = by place.layer lower
+      where
+        by : (j : ℕ) → 0 < j → low_after s.options.metacopy (content.File there.bytes) (origin_in j there.inode) ≡ false
+        by zero low = absurd (omega (arith, low))
+        by (suc j) low = ap (λ z. z && true) st.metacopy
+
     -- it is the upper's own now
     tree-owned : t ≡ own f w s.options s.tree law.node there.bytes a origin was.0 was.1 there.bytes
-    tree-owned = ap (change (with_attributes s.options (with_owner a.uid a.gid)) s.tree) law.at ∙ own-owned f w s.options s.tree law.node there.bytes a origin was.0 was.1
+    tree-owned = ap (change (with_attributes s.options (with_owner a.uid a.gid)) s.tree) law.at ∙ own-owned f w s.options s.tree law.node there.bytes a origin was.0 was.1 own-bytes
 
     -- the machine's answer and its state, where this becomes of the tree
     done : (layers : Layers) (u : Tree) → change (opened f) s.tree (Some law.node) ≡ u → IsStateOf (record m { layers = layers; clients = last }) (record held-open { tree = u }) → Serves (refusal s c asked) s c asked (reply.Descriptor d) (record m { layers = layers; clients = last })
@@ -283,7 +295,7 @@ module _ (m : Mount) (s : State) (st : IsStateOf m s) (c : ℕ) (clients : Clien
     -- an open that empties the file
     pub copied-emptied : f.truncate ≡ true → (layers : Layers) → StaysLayers new layers → ((k : ℕ) (old : List ℕ) → file.source ≡ Upper k → bytes_at new.upper k ≡ Some old → SetsFile new layers k (sized old 0)) → Serves (refusal s c asked) s c asked (reply.Descriptor d) (record m { layers = layers; clients = last })
     copied-emptied e layers keeps sets =
-        let bytes : bytes_at new.upper key ≡ Some live.bytes = ap (option_and_then (λ (i : Inode). file_bytes i.content)) live.inode in
+        let bytes : bytes_at new.upper key ≡ Some live.bytes = bytes-stored new key _ live.inode in
         let empties : SetsFile new layers key [] = subst (SetsFile new layers key) (sized-none live.bytes) (sets key live.bytes refl bytes) in
         done layers (rewritten t law.node [])
         (own-emptied f w s.options s.tree law.node there.bytes a origin was.0 was.1 e ∙ sym (own-rewritten f w s.options s.tree law.node there.bytes a origin was.0 was.1) ∙ ap (λ z. rewritten z law.node []) (sym tree-owned))

@@ -1,6 +1,6 @@
 -- What the machine's handle on an open file sees: the bytes, the attributes and the links of the inode that the file is.
 use Rattle.std.proofs.Common.{◌≡◌, ℕ, true, false, List, length, Option, Some, arith}
-use Rattle.mount_calls.proofs.Words.{Attributes, FileSource, Handle, is_folder, Layer, Node, OpenFile, Tree}
+use Rattle.mount_calls.proofs.Words.{Attributes, FileSource, Handle, is_folder, Layer, Node, OpenFile, Path, Tree}
 use Rattle.ov_base.specs.declared.bytes.Content.TheVariants as content
 use Rattle.ov_base.specs.declared.reply.ObjectKind.TheVariants as kind
 use Rattle.plain_model.specs.Machine.{bytes_seen}
@@ -16,6 +16,7 @@ pub record SeesOf (U : Layer) (lowers : List Layer) (t : Tree) (source : FileSou
   pub bytes : List ℕ
   pub attributes : Attributes
   pub links : ℕ
+  pub mark : Option Path
   pub inode : source_inode U lowers source ≡ Some (record { content = content.File bytes; attributes = attributes; links = links; mark = mark })
   pub seen : bytes_seen h.view (t h.node) ≡ bytes
   pub status : stat_seen h.view (t h.node) ≡ stat_by kind.File attributes (length bytes) (capped links)

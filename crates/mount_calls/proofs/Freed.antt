@@ -1,5 +1,5 @@
 -- What a removal leaves once what lost its last name is freed.
-use Rattle.std.proofs.Common.{◌≡◌, ◌≢◌, ℕ, Bool, false, Option, List, ◌∷◌, ◌++◌, Some, sym, ap, ◌∙◌, subst, is_some, rules, arith}
+use Rattle.std.proofs.Common.{◌≡◌, ◌≢◌, ℕ, Bool, false, Option, List, ◌∷◌, ◌++◌, None, Some, sym, ap, ◌∙◌, subst, is_some, rules, arith}
 use Rattle.merged_lookup.specs.Merged.{upper_of}
 use Rattle.mount_calls.proofs.Words.{after, AreLayers, Call, Inode, inode_of, layer_of, Layers, layers_of, lowers_of, option_and_then, option_map, Path, Removes, State, StaysLayers, StaysMount}
 use Rattle.plain_model.specs.Tree.{merged}
@@ -35,7 +35,10 @@ module _ (a b c : Layers) (p : Path) (held_same : SameObjects (upper_of b) (uppe
   takes-then keeps t = record { lowers = same.lowers ∙ t.lowers; left = held_same p ∙ t.left; loses = loses; others = others t.others }
     where
       sights : (x : Path) → merged (upper_of c) (lowers_of a) x ≡ merged (upper_of b) (lowers_of a) x
-      sights x = grind arith
+      sights x =
+          ap (λ Ls. merged (upper_of c) Ls x) (sym (lowers-same a c (same.lowers ∙ t.lowers)))
+          ∙ same.sights x
+          ∙ ap (λ Ls. merged (upper_of b) Ls x) (lowers-same a b t.lowers)
 
       loses : AreLayers (layers_of a) → Loses (upper_of a) (upper_of c) (lowers_of a) p
       loses h =
@@ -62,11 +65,11 @@ pub moves-then : (clients : Clients) (a b c : Layers) (redirects : Bool) (p q : 
 moves-then clients a b c redirects p q directory released moves bare steps mounts held objects same = record {
   apart = moves.apart;
   bare = bare moves.apart;
-  steps = λ s is option client. renames-then b c mounts s client p q (steps moves.apart s is option client);
-  live = λ s is option client d k some on live.
-      held (after s client (call.Rename p q)).tree d k some (rename-held clients a b redirects p q moves.over (steps moves.apart) s is option client d k some on live);
-  named = λ s is option client d k y live at.
-      let step : Renames (upper_of b) (lowers_of b) s client p q = steps moves.apart s is option client in
+  steps = λ s is option bytes client. renames-then b c mounts s client p q (steps moves.apart s is option bytes client);
+  live = λ s is option bytes client d k some on live.
+      held (after s client (call.Rename p q)).tree d k some (rename-held clients a b redirects p q moves.over (steps moves.apart) s is option bytes client d k some on live);
+  named = λ s is option bytes client d k y live at.
+      let step : Renames (upper_of b) (lowers_of b) s client p q = steps moves.apart s is option bytes client in
       named-live (upper_of c) (lowers_of c) (after s client (call.Rename p q)) (renames-then b c mounts s client p q step).mounts d k y at
       (same-files b c objects same.sights y k
       (moves-files (upper_of a) (upper_of b) (lowers_of b) s client p q step d k y (moves.over.links is.layers k (ap is_some live.inode)) live at));

@@ -20,6 +20,7 @@ use Rattle.mount_calls.specs.States.{IsStateOf, Serves}
 use Rattle.mount_calls.proofs.Openings.{IsShownFile, fresh-one, free-there, state-open, unfaulted, file-there, open-file, open-leads, open-served}
 use Rattle.mount_calls.proofs.Rewritten.{state-rewritten}
 use Rattle.mount_calls.proofs.Stating.{the_layers, the_lowers, the_upper}
+use Rattle.mount_calls.proofs.Stored.{bytes-stored, live-unmarked}
 
 -- flags that go together and ask to empty a file ask to write it
 writes-flag : (f : OpenFlags) → bad_flags f ≡ false → f.truncate ≡ true → f.writes ≡ true
@@ -33,9 +34,9 @@ truncate-writes Ls p f mode fine t = writes-flag f (when-not (bad_flags f) EINVA
 pub sized-none : (bytes : List ℕ) → sized bytes 0 ≡ []
 sized-none bytes = grind arith
 
-module _ (f : OpenFlags) (w : f.writes ≡ true) (t : Tree) (d : NodeId) (bytes : List ℕ) (a : Attributes) (l : ℕ) (is : t d ≡ Some (Leaf (content.File bytes) a Own l)) where
+module _ (f : OpenFlags) (w : f.writes ≡ true) (t : Tree) (d : NodeId) (bytes : List ℕ) (a : Attributes) (l : ℕ) (is : t d ≡ Some (Leaf (content.File bytes) a (Own false) l)) where
   abbrev x : Node
-  x = Leaf (content.File bytes) a Own l
+  x = Leaf (content.File bytes) a (Own false) l
 
   -- an open of a file of the upper leaves the tree as it is
   tree-kept : f.truncate ≡ false → change (opened f) t (Some d) ≡ t
@@ -80,6 +81,10 @@ module _ (m : Mount) (s : State) (st : IsStateOf m s) (c : ℕ) (p : Path) (f : 
   live : IsLive (the_upper m) s.tree law.node place.key
   live = law_of_live_shown (the_upper m) (the_lowers m) s st.layers p place.key there.inode there.bytes law.node (there.shown ∙ ap (λ j. Some (Contents j place.key (Some there.inode))) own) there.content law.at
 
+  -- its node has bytes of its own
+  own-node : s.tree law.node ≡ Some (Leaf (content.File live.bytes) live.attributes (Own false) live.links)
+  own-node = live.node ∙ ap (λ z. Some (Leaf (content.File live.bytes) live.attributes (Own (is_some z)) live.links)) (live-unmarked m.layers s.tree law.node place.key live)
+
   -- the new handle
   abbrev made : Handle
   made = live_handle f law.node (way_of s.tree p)
@@ -105,15 +110,15 @@ module _ (m : Mount) (s : State) (st : IsStateOf m s) (c : ℕ) (p : Path) (f : 
 
   -- an open that keeps the bytes
   pub open-kept : f.truncate ≡ false → Serves (refusal s c asked) s c asked (reply.Descriptor d) (record m { clients = new })
-  open-kept e = done m.layers s.tree (tree-kept f w s.tree law.node live.bytes live.attributes live.links live.node e) held-state
+  open-kept e = done m.layers s.tree (tree-kept f w s.tree law.node live.bytes live.attributes live.links own-node e) held-state
 
   -- an open that empties the file
   pub open-emptied : f.truncate ≡ true → (layers : Layers) → StaysLayers m.layers layers → ((k : ℕ) (old : List ℕ) → file.source ≡ Upper k → bytes_at m.layers.upper k ≡ Some old → SetsFile m.layers layers k (sized old 0)) → Serves (refusal s c asked) s c asked (reply.Descriptor d) (record m { layers = layers; clients = new })
   open-emptied e layers keeps sets =
-      let bytes : bytes_at m.layers.upper place.key ≡ Some live.bytes = ap (option_and_then (λ (i : Inode). file_bytes i.content)) live.inode in
+      let bytes : bytes_at m.layers.upper place.key ≡ Some live.bytes = bytes-stored m.layers place.key _ live.inode in
       let empties : SetsFile m.layers layers place.key [] = subst (SetsFile m.layers layers place.key) (sized-none live.bytes) (sets place.key live.bytes key bytes) in
       done layers (rewritten s.tree law.node [])
-      (tree-emptied f w s.tree law.node live.bytes live.attributes live.links live.node e)
+      (tree-emptied f w s.tree law.node live.bytes live.attributes live.links own-node e)
       (state-rewritten (record m { clients = new }) held held-state layers place.key law.node [] (open-leads m s st c (File file) d new ch file made place.key refl key) keeps empties)
 
 -- an open of a file that isn't emptied, for writing where it is the upper's

@@ -1,7 +1,7 @@
 -- Opens: what they are refused for, and that what is opened for reading is as the machine opens it.
 use Rattle.std.proofs.Common.{arith, ◌≡◌, ◌↔◌, ℕ, zero, suc, ◌<◌, Bool, true, false, not, cond, ◌&&◌, ◌||◌, List, [], ◌∷◌, Option, None, Some, Ok, Err, map, refl, sym, ap, ◌∙◌, subst, ◌⊎◌, inl, inr, is_none, is_some}
 use Rattle.std.proofs.Common.{rules}
-use Rattle.mount_calls.proofs.Words.{after, AllocError, At, Attributes, bad_flags, base, Call, Content, Contents, DESCRIPTORS_MAX, Directory, EINVAL, Errno, face, File, Folder, Handle, Inode, inode_of, is_directory, Layer, layer_of, Layers, layers_of, Leaf, Lower, lowest_free, ne_eqb, Node, node_at, node_in, node_of, NodeId, OpenFile, OpenFlags, opening_fault, option_and_then, or_else, parents_fault, Path, Place, refusal, reply_of, see, SetsSlot, Shown, shows, shows_link, ShowsInode, State, Table, trees, Upper, way_of, when, with_handle}
+use Rattle.mount_calls.proofs.Words.{after, AllocError, At, Attributes, bad_flags, base, Call, Content, Contents, DESCRIPTORS_MAX, Directory, EINVAL, Errno, face, File, Folder, Handle, Inode, inode_of, is_directory, Layer, layer_of, Layers, layers_of, Leaf, Lower, lowers_of, lowest_free, ne_eqb, Node, node_at, node_in, node_of, NodeId, OpenFile, OpenFlags, opening_fault, option_and_then, or_else, Own, parents_fault, Path, Place, refusal, reply_of, see, SetsSlot, Shown, shows, shows_link, ShowsInode, State, Table, trees, Upper, way_of, when, with_handle}
 use Rattle.ov_base.specs.declared.bytes.Content.TheVariants as content
 use Rattle.ov_base.specs.declared.call.Call.TheVariants as call
 use Rattle.ov_base.specs.declared.errno.Errno.TheVariants.{ELOOP, ENOTDIR, EMFILE}
@@ -9,9 +9,10 @@ use Rattle.ov_base.specs.declared.reply.Reply.TheVariants as reply
 use Rattle.plain_model.specs.Tree.{Origin, SeenLeaf}
 use Rattle.plain_model.specs.Machine.{Live}
 use Rattle.plain_model.specs.Refusals.{bad_mode}
-use Rattle.plain_model.specs.Changes.{new_handle, view_of}
+use Rattle.plain_model.specs.Changes.{new_handle, view_by, view_of}
 use Rattle.plain_model.proofs.Looking.{when-not}
 use Rattle.layer_tree.specs.Tree.{Tree}
+use Rattle.merged_lookup.proofs.Filled.{IsInodeOf, raw-inode}
 use Rattle.merged_lookup.proofs.Looking.{inode_in, inode-shown}
 use Rattle.mount_laws.specs.Looks.{is_link_inode}
 use Rattle.mount_laws.specs.Opening.{shown_fault, inode_view, shown_view, OpensReading}
@@ -32,15 +33,18 @@ use Rattle.mount_calls.specs.Files.{lower_inode, is_leaf, IsFrozen, IsOf, IsOpen
 use Rattle.mount_calls.specs.Opening.{inode_refusal, OpensAt, OpensFile}
 use Rattle.mount_calls.specs.States.{IsLeft, AreTables, IsStateOf, Serves}
 use Rattle.mount_calls.proofs.Answering.{serve-done}
+use Rattle.mount_calls.proofs.Raising.{link-filled}
 use Rattle.mount_calls.proofs.Slots.{changes-as, opened-after}
 use Rattle.mount_calls.proofs.Serving.{handle-set, lowest-slot, opened-is, room-of, placed, open-at, free-lowest, free-none, tables-set}
 use Rattle.mount_calls.proofs.Stating.{the_layers, the_lowers, the_upper, Alike, with-tables, keep-state}
+use Rattle.mount_calls.proofs.Stored.{shown-unmarked, stored-shown}
 
 -- why a file or symbolic link isn't opened for reading is told by the node at its place
 pub inode-refused : (l : Layers) (p : Path) (d : Place) (f : OpenFlags) (b : Bool) → ShowsInode l p d → is_link_inode (option_and_then inode_of (node_in (trees l) d)) ≡ b → inode_refusal f (shows 0 (layers_of l) p) ≡ or_else (when b ELOOP) (when f.directory ENOTDIR)
 inode-refused l p d f b i link =
-    let same : option_and_then inode_of (node_in (trees l) d) ≡ i.inode = inode-shown 0 (trees l) (trees l) refl p d.layer d.key i.inode i.shown in
-    ap (inode_refusal f) i.shown ∙ ap (λ z. or_else (when z ELOOP) (when f.directory ENOTDIR)) (ap is_link_inode (sym same) ∙ link)
+    let r : IsInodeOf (lowers_of l) (shows 0 (map layer_of (trees l)) p) d.layer d.key i.inode = raw-inode l p d.layer d.key i.inode i.shown in
+    let same : is_link_inode i.inode ≡ b = ap is_link_inode r.same ∙ link-filled d.layer (lowers_of l) r.raw ∙ sym (ap is_link_inode (inode-shown 0 (trees l) (trees l) refl p d.layer d.key r.raw r.is)) ∙ link in
+    ap (inode_refusal f) i.shown ∙ ap (λ z. or_else (when z ELOOP) (when f.directory ENOTDIR)) same
 
 -- the last of the refusals, told apart from the others
 faults-last : (a b w d r : Option Errno) → or_else a (or_else b (or_else w (or_else d r))) ≡ or_else (or_else a (or_else b (or_else w (or_else d None)))) r
@@ -98,6 +102,10 @@ lower-in u (t ∷ ts) (suc j) k = lower-in t ts j k
 -- what stands in a lower layer is told apart from what stands in the upper
 source-below : (j k : ℕ) → source_at (record { layer = suc j; key = k }) ≡ Lower (suc j) k
 source-below j k = ap (λ b. cond b (Upper k) (Lower (suc j) k)) (ne_eqb (suc j) 0 (λ e. absurd (omega arith)))
+
+-- a file of the upper that has no mark is seen as it comes to be
+upper-view : (i : Inode) (bytes : List ℕ) → i.content ≡ content.File bytes → i.mark ≡ None → inode_view 0 (Some i) ≡ Live
+upper-view i bytes file bare = ap (λ z. inode_view 0 (Some (record i { content = z }))) file ∙ ap (λ z. view_by (Own (is_some z)) bytes i.attributes) bare
 
 -- a node that is seen as a file or link is one
 pub leaf-seen : (o : Option Node) (content : Content) (a : Attributes) (u : Origin) (l : ℕ) → face o ≡ Some (SeenLeaf content a u l) → (n : ℕ) × (o ≡ Some (Leaf content a u n))
@@ -280,12 +288,13 @@ module _ (m : Mount) (s : State) (st : IsStateOf m s) (c : ℕ) where
       frozen : (j k : ℕ) → IsShownFile (shows 0 (the_layers m) p) (suc j) k → f.writes ≡ false → (o : OpensReading (the_layers m) s c p f mode) → IsFrozen (the_lowers m) s.tree (suc j) k (new_handle f o.node (way_of s.tree p) (s.tree o.node))
       frozen j k file w o =
           let i : Inode = file.inode in
-          let below : inode_in (trees m.layers) (suc j) k ≡ Some i = inode-shown 0 (trees m.layers) (trees m.layers) refl p (suc j) k (Some i) file.shown in
+          let below : inode_in (trees m.layers) (suc j) k ≡ Some i = stored-shown m.layers p (suc j) k (Some i) file.shown in
           let seen : face (s.tree o.node) ≡ see (base (the_upper m) (the_lowers m) p) (shows 0 (the_layers m) p) = sym (ap (λ z. face (node_of s.tree z)) o.at) ∙ st.layers.shows.sights p in
           record {
             bytes = file.bytes;
             attributes = i.attributes;
             links = i.links;
+            mark = i.mark;
             inode = lower-in m.layers.upper m.layers.lowers.items j k ∙ below ∙ ap (λ z. Some (record i { content = z })) file.content;
             view = o.view ∙ ap shown_view file.shown ∙ ap (λ z. inode_view (suc j) (Some (record i { content = z }))) file.content;
             file = ap is_leaf (leaf-seen (s.tree o.node) i.content i.attributes _ i.links (seen ∙ ap (see (base (the_upper m) (the_lowers m) p)) file.shown)).1;
@@ -294,7 +303,7 @@ module _ (m : Mount) (s : State) (st : IsStateOf m s) (c : ℕ) where
 
       -- the handle that the machine makes for a file is of its inode
       of-shown : (j k : ℕ) → IsShownFile (shows 0 (the_layers m) p) j k → f.writes ≡ false → (o : OpensReading (the_layers m) s c p f mode) → IsOf (the_upper m) (the_lowers m) s.tree (source_at (record { layer = j; key = k })) (new_handle f o.node (way_of s.tree p) (s.tree o.node))
-      of-shown zero k file w o = (law_of_live_shown (the_upper m) (the_lowers m) s st.layers p k file.inode file.bytes o.node file.shown file.content o.at, o.view ∙ ap shown_view file.shown)
+      of-shown zero k file w o = (law_of_live_shown (the_upper m) (the_lowers m) s st.layers p k file.inode file.bytes o.node file.shown file.content o.at, o.view ∙ ap shown_view file.shown ∙ upper-view file.inode file.bytes file.content (shown-unmarked m.layers p zero k file.inode file.shown))
       of-shown (suc j) k file w o = subst (λ z. IsOf (the_upper m) (the_lowers m) s.tree z (new_handle f o.node (way_of s.tree p) (s.tree o.node))) (sym (source-below j k)) (frozen j k file w o)
 
       -- an open of a file

@@ -31,6 +31,7 @@ use Rattle.mount_calls.proofs.Answering.{serve-done, serve-refused}
 use Rattle.mount_calls.proofs.Rewritten.{state-rewritten}
 use Rattle.mount_calls.proofs.Slots.{file-open, by-opened, place-moved}
 use Rattle.mount_calls.proofs.Stating.{the_lowers, the_upper}
+use Rattle.mount_calls.proofs.Stored.{bytes-stored}
 
 -- where every path holds what it held, no whiteout is needless that was needed
 thin-held : (old new : Layers) → new.lowers ≡ old.lowers → SameObjects (upper_of old) (upper_of new) → StaysThin old new
@@ -50,10 +51,10 @@ pub upper-written : (l : Layers) (u new : LayerTree) (r : Result (Unit {0}) Allo
 upper-written l u new r is objects keeps same =
     (record { layers = then-layers l l (record l { upper = new }) (λ h. h) refl still; thin = thin-held l (record l { upper = new }) refl held }, by r same)
   where
-    held : SameObjects (upper_of l) (layer_of new)
+    held : SameObjects (layer_of l.upper) (layer_of new)
     held = subst (λ (z : LayerTree). SameObjects (layer_of z) (layer_of new)) (sym is) objects
 
-    still : IsLayer (upper_of l) → IsLayer (layer_of new)
+    still : IsLayer (layer_of l.upper) → IsLayer (layer_of new)
     still = subst (λ (z : LayerTree). IsLayer (layer_of z) → IsLayer (layer_of new)) (sym is) keeps
 
     by : (x : Result (Unit {0}) AllocError) → OnErr x (SameTree u new) → OnErr x (StaysMount l (record l { upper = new }))
@@ -121,7 +122,7 @@ module _ (m : Mount) (s : State) (st : IsStateOf m s) (c d : ℕ) where
 
   -- the upper has these bytes of it
   bytes-there : (f : OpenFile) (h : Handle) (w : IsWriting m s c d f h) → bytes_at m.layers.upper w.key ≡ Some w.live.bytes
-  bytes-there f h w = ap (option_and_then (λ (i : Inode). file_bytes i.content)) w.live.inode
+  bytes-there f h w = bytes-stored m.layers w.key _ w.live.inode
 
   module _ (size : ℕ) where
     -- the truncation is answered so, by a mount that becomes this
@@ -167,7 +168,7 @@ module _ (m : Mount) (s : State) (st : IsStateOf m s) (c d : ℕ) where
 
         -- the machine makes the same tree
         same : change (resized size) s.tree (Some h.node) ≡ rewritten s.tree h.node bytes
-        same = change-bytes s.tree h.node (resized size) (Leaf (content.File w.live.bytes) w.live.attributes Own w.live.links) bytes w.live.node refl
+        same = change-bytes s.tree h.node (resized size) (Leaf (content.File w.live.bytes) w.live.attributes (Own (is_some w.live.mark)) w.live.links) bytes w.live.node refl
 
   module _ (bytes : List ℕ) where
     -- the write is answered so, by a mount that becomes this
@@ -257,7 +258,7 @@ module _ (m : Mount) (s : State) (st : IsStateOf m s) (c d : ℕ) where
             -- and makes the same tree
             tree : rewritten s.tree h.node now ≡ change (wrote (write_start s h) bytes) s.tree (Some h.node)
             tree =
-                let leaf : Node = Leaf (content.File w.live.bytes) w.live.attributes Own w.live.links in
+                let leaf : Node = Leaf (content.File w.live.bytes) w.live.attributes (Own (is_some w.live.mark)) w.live.links in
                 sym (change-bytes s.tree h.node (wrote start bytes) leaf now w.live.node refl) ∙ ap (λ z. change (wrote z bytes) s.tree (Some h.node)) begin
 
             -- so its state is the same

@@ -2,6 +2,7 @@ use Rattle.std.proofs.Common.{IsSome, rules, sym, subst}
 use Rattle.layer_tree.specs.Tree.{bytes_at, layer_of, SameObjects, Tree}
 use Rattle.plain_model.specs.Changes.{sized}
 use Rattle.mount_calls.proofs.Named.{written-files}
+use Rattle.mount_calls.proofs.Stored.{sets-written}
 use Rattle.mount_calls.proofs.Writings.{upper-written}
 use Rattle.mount_calls.proofs.file_bytes.resize_file.Goals as goal
 
@@ -18,3 +19,6 @@ returns-clause-files c =
 
 pub returns-clause-objects : goal.returns-clause-objects
 returns-clause-objects c = subst (λ (z : Tree). SameObjects (layer_of z) (layer_of c.resize.new.self)) c.upper_mut.ensures.value c.resize.ensures.objects_held
+
+pub returns-clause-sets : goal.returns-clause-sets
+returns-clause-sets c = sets-written c.args.layers.now c.upper_mut.result.now c.resize.new.self (sym c.upper_mut.ensures.value) c.args.source c.in-Upper.key c.in-Upper.is (λ old. sized old c.args.size) c.resize.result c.resize.ensures.sets

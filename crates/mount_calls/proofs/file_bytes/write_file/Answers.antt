@@ -1,6 +1,7 @@
 use Rattle.std.proofs.Common.{IsSome, rules, sym, subst}
 use Rattle.layer_tree.specs.Tree.{bytes_at, written, layer_of, SameObjects, Tree}
 use Rattle.mount_calls.proofs.Named.{written-files}
+use Rattle.mount_calls.proofs.Stored.{sets-written}
 use Rattle.mount_calls.proofs.Writings.{upper-written}
 use Rattle.mount_calls.proofs.file_bytes.write_file.Goals as goal
 
@@ -17,3 +18,6 @@ returns-clause-files c =
 
 pub returns-clause-objects : goal.returns-clause-objects
 returns-clause-objects c = subst (λ (z : Tree). SameObjects (layer_of z) (layer_of c.write.new.self)) c.upper_mut.ensures.value c.write.ensures.objects_held
+
+pub returns-clause-sets : goal.returns-clause-sets
+returns-clause-sets c = sets-written c.args.layers.now c.upper_mut.result.now c.write.new.self (sym c.upper_mut.ensures.value) c.args.source c.in-Upper.key c.in-Upper.is (λ old. written old c.args.start c.args.bytes.now) c.write.result c.write.ensures.sets

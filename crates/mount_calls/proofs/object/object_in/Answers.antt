@@ -1,6 +1,7 @@
 use Rattle.std.proofs.Common.{◌≡◌, ℕ, ◌<◌, suc, zero, List, ◌∷◌, Some, arith}
 use Rattle.plain_model.specs.Layers.{Contents, Inode, Layer, Path, shows}
 use Rattle.notice_laws.specs.Objects.{IsLower}
+use Rattle.mount_calls.proofs.Stored.{shown-inode}
 use Rattle.mount_calls.proofs.object.object_in.Goals as goal
 
 -- what stands under the upper is a lower layer's
@@ -9,4 +10,6 @@ is-lower U lowers p zero key i h shown = absurd (omega arith)
 is-lower U lowers p (suc j) key i h shown = record { layer = j; key = key; inode = i; shown = shown }
 
 pub returns-then-place-gt0 : goal.returns-then-place-gt0
-returns-then-place-gt0 c = λ p at. is-lower _ _ p _ _ _ c.if-place-gt0.true (c.inode_at-inode.ensures p at)
+returns-then-place-gt0 c = λ p at.
+    let is = shown-inode c.args.layers.now p c.args.place c.inode_at-inode.result.now (c.inode_at-inode.ensures p at) in
+    is-lower _ _ p _ _ _ c.if-place-gt0.true is.1
