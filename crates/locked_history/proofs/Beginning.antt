@@ -8,8 +8,7 @@ use Rattle.plain_model.specs.Merging.{IsMerge, merge_tree}
 use Rattle.plain_model.specs.Machine.{opening}
 use Rattle.plain_model.proofs.Merged.{law_of_paths}
 use Rattle.plain_model.proofs.Opened.{law_of_merge}
-use Rattle.layer_tree.specs.Tree.{layer_of}
-use Rattle.merged_lookup.specs.Merged.{lowers_of}
+use Rattle.merged_lookup.specs.Merged.{upper_of, lowers_of}
 use Rattle.mount_calls.specs.declared.clients.Clients.{Clients}
 use Rattle.mount_calls.specs.Attaching.{is_attached}
 use Rattle.overlay_core.specs.Mounting.{machine_options}
@@ -23,7 +22,7 @@ use Rattle.locked_history.specs.Holding.{HasBoxes, Legally, Numbers, Opening, op
 -- it is legal, and ends where it begins
 pub legal_begins : {F G : Type 0} {asks : Callback F} {rule : Rule G} (o : Opening) (core : Core F G asks rule) → ∥ HasState (core_mount core) (core_watches core) ∥₁ → ∥ BeginsUntil (core_finished core) (machine_options (core_options core)) (core_mount core) (core_watches core) ∥₁ → core_finished core ≡ 0 → opening_of core ≡ o → ∥ Legally o [] core ∥₁
 legal_begins o core has until none is = ∥∥₁_elim has ∥∥₁_prop (λ x. ∥∥₁_map until (λ begins.
-    let U : Layer = layer_of (core_layers core).upper in
+    let U : Layer = upper_of (core_layers core) in
     let lowers : List Layer = lowers_of (core_layers core) in
     let are = x.1.stands.layers.layers in
     let paths = law_of_paths (U ∷ lowers) are in

@@ -6,7 +6,7 @@ use Rattle.overlay_core.specs.Mounting.{mount_fault}
 use Rattle.overlay_core.specs.declared.mounted.MountFault.TheVariants.{NoLower, TooManyLowers, BadHistory}
 use Rattle.std.proofs.lemmas.Grind.{merely}
 use mathlib.Core.Logic.{∥∥₁_map}
-use Rattle.plain_model.specs.Layers.{AreLayers, Layer}
+use Rattle.plain_model.specs.Layers.{AreLayers, Layer, filled}
 use Rattle.plain_model.specs.Limits.{IsWithinLimits}
 use Rattle.work_dir.specs.declared.table.OpenJob.{OpenJob}
 use Rattle.overlay_core.specs.Temps.{AreTemps}
@@ -15,6 +15,7 @@ use Rattle.plain_model.specs.Watching.{Rule}
 use Rattle.plain_model.specs.Machine.{MountOptions, opening}
 use Rattle.plain_model.specs.Merging.{IsMerge, merge_tree}
 use Rattle.plain_model.specs.Runs.{Deed}
+use Rattle.plain_model.proofs.Filled.{filled-layer}
 use Rattle.plain_model.proofs.Merged.{law_of_paths}
 use Rattle.plain_model.proofs.Opened.{law_of_merge}
 use Rattle.layer_tree.specs.Tree.{layer_of}
@@ -23,6 +24,10 @@ use Rattle.merged_lookup.specs.Merged.{upper_of, layers_of, lowers_of}
 use Rattle.notice_laws.specs.Notified.{Notified}
 use Rattle.mount_calls.specs.declared.mount.Mount.{Mount}
 use Rattle.overlay_core.specs.Watching.{BeginsUntil, BeginsWith, Goes, HasState, Stays}
+
+-- layers are layers with the upper filled
+pub filled-layers : (U : Layer) (lowers : List Layer) → AreLayers (U ∷ lowers) → AreLayers (filled U lowers ∷ lowers)
+filled-layers U lowers are = (filled-layer U lowers are.0, are.1)
 
 -- layers have a merge, so some state agrees with their mount
 pub has-state : (m : Mount) (k : Notified) (layers : Layers) (options : MountOptions) → m.layers ≡ layers → AreLayers (layers_of layers) → BeginsWith m.layers options m k → HasState m k

@@ -84,12 +84,12 @@ linked-leads U V lowers s c p q passes =
 
 -- what is a file that is touched is shown as one of the upper
 pub own-shown : (V : Layer) (lowers : List Layer) (p : Path) (b : Bool) (o : Option Node) (x : Option Shown) → shows 0 (V ∷ lowers) p ≡ x → is_file o ≡ true → is_untouched o ≡ false → face o ≡ see b x → (key : ℕ) × (last : Bool) × IsObject V lowers p (object.Upper key last)
-own-shown V lowers p b (Some (Leaf (File bytes) a Own l)) (Some (Contents zero k (Some i))) is file own seen =
+own-shown V lowers p b (Some (Leaf (File bytes) a (Own z) l)) (Some (Contents zero k (Some i))) is file own seen =
     (k, nat_eq i.links 1, record { inode = i; bytes = bytes; shown = is; file = cc; names = refl })
-own-shown V lowers p b (Some (Leaf (File bytes) a Own l)) (Some (Contents (suc j) k (Some i))) is file own seen = cc
-own-shown V lowers p b (Some (Leaf (File bytes) a Own l)) (Some (Contents j k None)) is file own seen = cc
-own-shown V lowers p b (Some (Leaf (File bytes) a Own l)) (Some (Folder j k e)) is file own seen = cc
-own-shown V lowers p b (Some (Leaf (File bytes) a Own l)) None is file own seen = cc
+own-shown V lowers p b (Some (Leaf (File bytes) a (Own z) l)) (Some (Contents (suc j) k (Some i))) is file own seen = cc
+own-shown V lowers p b (Some (Leaf (File bytes) a (Own z) l)) (Some (Contents j k None)) is file own seen = cc
+own-shown V lowers p b (Some (Leaf (File bytes) a (Own z) l)) (Some (Folder j k e)) is file own seen = cc
+own-shown V lowers p b (Some (Leaf (File bytes) a (Own z) l)) None is file own seen = cc
 own-shown V lowers p b (Some (Leaf (File bytes) a (Untouched n) l)) x is file own seen = absurd (false≢true (sym own))
 own-shown V lowers p b (Some (Leaf (SymbolicLink target) a u l)) x is file own seen = absurd (false≢true file)
 own-shown V lowers p b (Some (Branch a r names l)) x is file own seen = absurd (false≢true file)

@@ -23,7 +23,7 @@ use Rattle.notice_laws.specs.declared.object.Object.TheVariants as object
 use Rattle.notice_laws.specs.Objects.{IsObject}
 use Rattle.mount_calls.specs.declared.mount.Mount.{Mount}
 use Rattle.mount_calls.specs.Attaching.{file_by, opened_by}
-use Rattle.mount_calls.specs.Files.{IsOf, mount_upper}
+use Rattle.mount_calls.specs.Files.{IsOf, key_in_upper}
 use Rattle.mount_calls.specs.States.{IsOpenAs, IsSlot, IsStateOf}
 
 -- a handle that writes sees its file as it comes to be
@@ -57,17 +57,17 @@ module _ (new : Mount) (s : State) (c : ℕ) (p : Path) (f : OpenFlags) (mode fd
       (stands.tables.slots c fd)
 
   -- whose key is that of the file of the upper that stands at the path
-  pub opened-key : (j : ℕ) (last : Bool) → IsObject V L p (object.Upper j last) → unwrap_or (mount_upper (file_by new.clients c fd)) 0 ≡ j
+  pub opened-key : (j : ℕ) (last : Bool) → IsObject V L p (object.Upper j last) → unwrap_or (key_in_upper (file_by new.clients c fd)) 0 ≡ j
   opened-key j last at = by (opened_by new.clients c fd) slot
     where
       mine : IsLive V t.tree h.node j
       mine = law_of_live_shown V L t stands.layers p j at.inode at.bytes h.node at.shown at.file here
 
-      source : (x : FileSource) (g : OpenFile) → g.source ≡ x → IsOf V L t.tree x h → unwrap_or (mount_upper (Some g)) 0 ≡ j
+      source : (x : FileSource) (g : OpenFile) → g.source ≡ x → IsOf V L t.tree x h → unwrap_or (key_in_upper (Some g)) 0 ≡ j
       source (Upper k) g is on = rw is (sym ((law_of_live_one V t.tree p h.node h.node j k here mine on.0).0 refl))
       source (Lower layer k) g is on = let no : Live ≡ Frozen on.bytes on.attributes on.links = sym sees ∙ on.view in cc
 
-      by : (o : Option handles.Handle) → IsSlot (IsOpenAs V L t.tree new.clients.directories) o (Some h) → unwrap_or (mount_upper (file_in o)) 0 ≡ j
+      by : (o : Option handles.Handle) → IsSlot (IsOpenAs V L t.tree new.clients.directories) o (Some h) → unwrap_or (key_in_upper (file_in o)) 0 ≡ j
       by None on = absurd on
       by (Some (Directory o)) on = absurd (false≢true (sym (ap is_folder mine.node) ∙ on.directory))
       by (Some (File g)) on = source g.source g refl on.source

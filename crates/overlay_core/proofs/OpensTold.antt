@@ -32,7 +32,7 @@ use Rattle.notifier.specs.Notifying.{IsFree}
 use Rattle.notifier.specs.Opening.{AreGiven, IsReady, IsReadyNew}
 use Rattle.mount_calls.specs.declared.mount.Mount.{Mount}
 use Rattle.mount_calls.specs.Attaching.{file_by}
-use Rattle.mount_calls.specs.Files.{mount_upper as key_of}
+use Rattle.mount_calls.specs.Files.{key_in_upper as key_of}
 use Rattle.mount_calls.specs.States.{IsStateOf, Serves}
 use Rattle.mount_calls.specs.FreeDescriptors.{IsLowestFree}
 use Rattle.overlay_core.specs.Watching.{Agrees, Goes, HasState}

@@ -9,10 +9,10 @@ use Rattle.ov_base.specs.declared.reply.Reply.TheVariants.{Refused}
 use Rattle.plain_model.specs.Layers.{Layer}
 use Rattle.plain_model.specs.Watching.{Rule, Instance}
 use Rattle.plain_model.specs.Tree.{Branch, Leaf, Node, Tree, node_at, node_of}
-use Rattle.plain_model.specs.Machine.{Frozen, Handle, Live, State, View, handle_of}
+use Rattle.plain_model.specs.Machine.{Frozen, Handle, Kept, Live, State, View, handle_of}
 use Rattle.plain_model.specs.Refusals.{refusal}
 use Rattle.plain_model.specs.Changes.{after}
-use Rattle.plain_model.specs.Replies.{reply_of, stat_of, stat_of_handle, stat_seen}
+use Rattle.plain_model.specs.Replies.{reply_of, stat_kept, stat_of, stat_of_handle, stat_seen}
 use Rattle.plain_model.specs.Runs.{Called, Does}
 use Rattle.plain_model.proofs.Settled.{does-settles}
 use Rattle.merged_lookup.specs.declared.layers.Layers.{Layers}
@@ -57,6 +57,7 @@ with-instances m s es st = record {
   one = st.one;
   arrived = st.arrived;
   redirects = st.redirects;
+  metacopy = st.metacopy;
 }
 
 -- A CALL THAT IS SERVED GOES: refused it leaves what is tracked right, else what is told and tracked is as by the laws of watches
@@ -110,6 +111,11 @@ stat-answers (Some (Branch a b names c)) = refl
 stat-answers (Some (Leaf (File bytes) a u l)) = refl
 stat-answers (Some (Leaf (SymbolicLink target) a u l)) = refl
 
+kept-answers : (bytes : List ℕ) (o : Option Node) → refuses (stat_kept bytes o) ≡ false
+kept-answers bytes None = refl
+kept-answers bytes (Some (Branch a b names c)) = refl
+kept-answers bytes (Some (Leaf content a u l)) = refl
+
 -- nor that of a handle
 fstat-answers : (t : Tree) (h : Option Handle) → refuses (stat_of_handle t h) ≡ false
 fstat-answers t None = refl
@@ -117,6 +123,7 @@ fstat-answers t (Some h) = by h.view
   where
     by : (v : View) → refuses (stat_seen v (t h.node)) ≡ false
     by Live = stat-answers (t h.node)
+    by (Kept bytes) = kept-answers bytes (t h.node)
     by (Frozen bytes a links) = refl
 
 -- no answer of a call is one

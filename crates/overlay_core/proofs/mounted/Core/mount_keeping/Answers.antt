@@ -4,10 +4,10 @@ use Rattle.std.proofs.lemmas.Grind.{merely}
 use Rattle.plain_model.specs.Layers.{AreLayers}
 use Rattle.layer_tree.specs.Tree.{layer_of}
 use Rattle.merged_lookup.specs.declared.layers.Layers.{Layers}
-use Rattle.merged_lookup.specs.Merged.{upper_of, layers_of, lowers_of}
+use Rattle.merged_lookup.specs.Merged.{layers_of, lowers_of}
 use Rattle.overlay_core.specs.Mounting.{machine_options, mount_fault}
 use Rattle.overlay_core.specs.Watching.{BeginsWith}
-use Rattle.overlay_core.proofs.Agreeing.{all-below, bounded, has-state, no-temps}
+use Rattle.overlay_core.proofs.Agreeing.{all-below, bounded, filled-layers, has-state, no-temps}
 use Rattle.overlay_core.proofs.Waited.{none-waits}
 use Rattle.overlay_core.proofs.mounted.Core.mount_keeping.Goals as goal
 
@@ -15,7 +15,8 @@ pub invariant_of-result : goal.invariant_of-result
 invariant_of-result g c =
     let w = c.in_ok-watched.watched in
     let same : c.keep_look_ups.new.self ≡ c.in_ok-layers.layers = c.keep_look_ups.ensures in
-    let are : AreLayers (layers_of c.keep_look_ups.new.self) = rw (same, c.in_ok-layers.ensures.upper, c.in_ok-layers.ensures.lowers) c.requires.layers in
+    let are : AreLayers (layers_of c.keep_look_ups.new.self) = rw (same, c.in_ok-layers.ensures.upper, c.in_ok-layers.ensures.lowers)
+    (filled-layers (layer_of c.args.upper) (map layer_of c.args.lowers.items) c.requires.layers) in
     let none : mount_fault (vec_len c.args.lowers) c.args.options ≡ None = search rules in
     let begins : BeginsWith w.mount.layers (machine_options c.args.options) w.mount w.notifier = subst (λ (l : Layers). BeginsWith l (machine_options c.args.options) w.mount w.notifier) (sym c.in_ok-watched.ensures.layers) c.in_ok-watched.ensures.begins in
     record {
@@ -26,7 +27,7 @@ invariant_of-result g c =
       waits = none-waits w.mount c.new-3.result.items c.new-3.ensures.items;
       temps = no-temps (lowers_of w.mount.layers) c.new-work.result c.new-work.ensures;
       limits = merely (rw (c.in_ok-watched.ensures.layers, same, c.in_ok-layers.ensures.lowers)
-          (all-below (upper_of c.args) (map layer_of c.args.lowers.items) c.requires.limits));
+          (all-below (layer_of c.args.upper) (map layer_of c.args.lowers.items) c.requires.limits));
     }
 
 pub returns-clause-nobody : goal.returns-clause-nobody
