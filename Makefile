@@ -1,5 +1,5 @@
 # What can be made; `make` alone lists it.
-.PHONY: help show play build serve test test-serve test-clients
+.PHONY: help show play build serve test test-serve test-clients build-fuse test-fuse
 
 EXAMPLE := examples/change-layer
 SOCKET := out/overlay.socket
@@ -12,6 +12,8 @@ help:
 	@echo "make test    the gate: every proof, test, refused edit and program run"
 	@echo "make test-serve    tests the server that the gate built, over sockets of its own"
 	@echo "make test-clients  tests the Python tools, with the program where it is built"
+	@echo "make build-fuse    builds the bridge to FUSE and leaves it at out/overlayd-fuse"
+	@echo "make test-fuse     tests it, without FUSE or root; on the program where it is built"
 
 show:
 	@tools/need-kit && tools/try show $(EXAMPLE).toml
@@ -38,3 +40,14 @@ test-serve:
 
 test-clients:
 	python3 -m unittest discover -s clients/python/tests -t clients/python
+
+build-fuse:
+	@tools/need-fuse
+	@$(MAKE) --no-print-directory -C clients/fuse bridge
+
+# What the bridge needs may be missing where the engine is proved: that is told, and no fault.
+test-fuse:
+	@if tools/need-fuse; then \
+	    $(MAKE) --no-print-directory -C clients/fuse checked && \
+	    python3 -m unittest discover -s clients/fuse/tests -t clients/fuse; \
+	else echo "make test-fuse: skipped"; fi
