@@ -1,5 +1,6 @@
 # What can be made; `make` alone lists it.
-.PHONY: help show play build serve test test-serve test-clients build-fuse test-fuse
+.PHONY: help show play build serve test test-serve test-clients build-fuse test-fuse \
+    test-fuse-mounted
 
 EXAMPLE := examples/change-layer
 SOCKET := out/overlay.socket
@@ -14,6 +15,7 @@ help:
 	@echo "make test-clients  tests the Python tools, with the program where it is built"
 	@echo "make build-fuse    builds the bridge to FUSE and leaves it at out/overlayd-fuse"
 	@echo "make test-fuse     tests it, without FUSE or root; on the program where it is built"
+	@echo "make test-fuse-mounted  tests it as root, with real programs beside the kernel's overlayfs"
 
 show:
 	@tools/need-kit && tools/try show $(EXAMPLE).toml
@@ -51,3 +53,10 @@ test-fuse:
 	    $(MAKE) --no-print-directory -C clients/fuse checked && \
 	    python3 -m unittest discover -s clients/fuse/tests -t clients/fuse; \
 	else echo "make test-fuse: skipped"; fi
+
+# Needs root, /dev/fuse, the kernel's overlayfs and the program; what is missing is told.
+test-fuse-mounted:
+	@if tools/need-fuse; then \
+	    $(MAKE) --no-print-directory -C clients/fuse checked && \
+	    python3 -m unittest discover -v -s clients/fuse/tests -t clients/fuse -p 'mounted_*.py'; \
+	else echo "make test-fuse-mounted: skipped"; fi

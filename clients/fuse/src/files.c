@@ -144,6 +144,7 @@ static size_t written(struct bridge *bridge, struct handle *handle, size_t first
     return total;
 }
 
+/* Of what the kernel writes from its cache nobody sees how much was written, so all has to be. */
 static void do_write(fuse_req_t request, fuse_ino_t number, const char *bytes, size_t size,
                      off_t offset, struct fuse_file_info *info)
 {
@@ -175,8 +176,9 @@ static void do_write(fuse_req_t request, fuse_ino_t number, const char *bytes, s
         node->attr.size = place + total;
     if (total > 0 && (!info->writepage || bridge->options.shared))
         times_changed(bridge, node);
-    if (total == 0 && fault)
-        fuse_reply_err(request, fault);
+    bool is_lost = total < size && (total == 0 || info->writepage);
+    if (is_lost)
+        fuse_reply_err(request, fault ? fault : EFBIG);
     else
         fuse_reply_write(request, total);
 }

@@ -29,7 +29,8 @@ class Makes(ServerCase):
         kernel = self.bridge(server)
         kernel.uid, kernel.gid = 1000, 100
         made = [kernel.mkdir(ROOT, "dir", 0o1750), kernel.create(ROOT, "file", mode=0o4711)[0],
-                kernel.symlink(ROOT, "link", "to"), kernel.mknod(ROOT, "node", stat.S_IFREG | 0o600)]
+                kernel.symlink(ROOT, "link", "to"),
+                kernel.mknod(ROOT, "node", stat.S_IFREG | 0o600)]
         modes = [stat.S_IFDIR | 0o1750, stat.S_IFREG | 0o4711, stat.S_IFLNK | 0o777,
                  stat.S_IFREG | 0o600]
         self.assertEqual([one.attr.mode for one in made], modes)

@@ -68,8 +68,10 @@ class Files(ServerCase):
         fh = kernel.open(z, os.O_RDWR).fh
         self.refused(errno.EFBIG, kernel.write, z, fh, LIMIT, b"x")
         self.assertEqual(kernel.write(z, fh, LIMIT - 3, b"abcdef"), 3)
+        self.refused(errno.EFBIG, kernel.write, z, fh, LIMIT - 3, b"abcdef", WRITE_CACHE)
         self.assertEqual(kernel.write(z, fh, LIMIT - 70000, bytes(131072)), 70000)
         self.assertEqual(kernel.read(z, fh, LIMIT - 3, 9), bytes(3))
+        self.assertEqual(kernel.write(z, fh, 0, b""), 0)
         self.assertEqual(kernel.getattr(z).size, LIMIT)
 
     def test_a_file_that_is_emptied_as_it_is_opened(self):
