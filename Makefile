@@ -1,6 +1,6 @@
 # What can be made; `make` alone lists it.
 .PHONY: help show play build serve test test-serve test-clients build-fuse test-fuse \
-    test-fuse-mounted
+    test-fuse-mounted try-fuse
 
 EXAMPLE := examples/change-layer
 SOCKET := out/overlay.socket
@@ -13,6 +13,7 @@ help:
 	@echo "make test    the gate: every proof, test, refused edit and program run"
 	@echo "make test-serve    tests the server that the gate built, over sockets of its own"
 	@echo "make test-clients  tests the Python tools, with the program where it is built"
+	@echo "make try-fuse DIR=DIRECTORY  mounts a copy of a directory, until it is unmounted"
 	@echo "make build-fuse    builds the bridge to FUSE and leaves it at out/overlayd-fuse"
 	@echo "make test-fuse     tests it, without FUSE or root; on the program where it is built"
 	@echo "make test-fuse-mounted  tests it as root, with real programs beside the kernel's overlayfs"
@@ -42,6 +43,9 @@ test-serve:
 
 test-clients:
 	python3 -m unittest discover -s clients/python/tests -t clients/python
+
+try-fuse:
+	@tools/try-fuse $(DIR)
 
 build-fuse:
 	@tools/need-fuse

@@ -22,7 +22,7 @@ static const char USAGE[] =
     "  --times         keep times in the attribute " META "\n"
     "  --wait SECONDS  how long the server may take for an answer, 1 to 3600 (30)\n"
     "  --verbose       tell on standard error what is mounted, and what was asked in the end\n"
-    "  -o OPTIONS      options of mount, as in fuse(8)\n"
+    "  -o OPTIONS      options of mount, as in mount.fuse3(8)\n"
     "  --kernel FD     speak to FD in the kernel's place, without MOUNTPOINT; for tests\n";
 
 enum { OPTION_SHARED = 256, OPTION_TIMES, OPTION_WAIT, OPTION_KERNEL, OPTION_SESSIONS };
