@@ -77,6 +77,7 @@ struct handle {
     size_t number;             /* in the table of handles */
     unsigned access;           /* OPEN_READ, OPEN_WRITE or OPEN_BOTH */
     bool appends, lost;
+    bool changed;              /* the file was, by this handle */
     struct connection *connection;
     unsigned generation;       /* of the connection, when it was opened */
     uint32_t descriptor;
@@ -102,7 +103,7 @@ struct bridge {
     uint64_t changes;           /* made by the bridge */
     size_t ahead;               /* bytes that are read ahead, of all handles */
     uint64_t frames, trips;
-    struct timespec began;
+    struct timespec began;      /* the time of what was never changed */
     struct fuse_session *session;
     char path[PATH_BYTES], other[PATH_BYTES];
 };

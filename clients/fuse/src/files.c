@@ -48,6 +48,7 @@ static void do_open(fuse_req_t request, fuse_ino_t number, struct fuse_file_info
     if (flags & OPEN_EMPTY) {
         node->attr.size = 0;
         times_changed(bridge, node);
+        handle->changed = true;
     }
     if (flags != OPEN_READ)
         node_touched(bridge, node);
@@ -174,8 +175,10 @@ static void do_write(fuse_req_t request, fuse_ino_t number, const char *bytes, s
     size_t total = written(bridge, handle, first, place, &fault);
     if (place + total > node->attr.size)
         node->attr.size = place + total;
-    if (total > 0 && (!info->writepage || bridge->options.shared))
+    if (total > 0 && (!info->writepage || bridge->options.shared)) {
         times_changed(bridge, node);
+        handle->changed = true;
+    }
     bool is_lost = total < size && (total == 0 || info->writepage);
     if (is_lost)
         fuse_reply_err(request, fault ? fault : EFBIG);
@@ -188,6 +191,8 @@ static void do_release(fuse_req_t request, fuse_ino_t number, struct fuse_file_i
     (void)number;
     struct bridge *bridge = bridge_of(request);
     struct handle *handle = handle_of(bridge, info);
+    if (handle && handle->changed)
+        keep_meta(bridge, handle->node);
     if (handle)
         handle_free(bridge, handle);
     fuse_reply_err(request, handle ? 0 : EBADF);
@@ -215,6 +220,7 @@ static int grow(struct bridge *bridge, struct handle *handle, uint64_t size)
     if (!fault) {
         handle->node->attr.size = size;
         times_changed(bridge, handle->node);
+        handle->changed = true;
     }
     return fault;
 }

@@ -9,6 +9,9 @@
 #include <sys/uio.h>
 #include <unistd.h>
 
+/* The beginning of 1980, which no format of archives refuses. */
+static const struct timespec LONG_AGO = {.tv_sec = 315532800};
+
 enum { STATUS_FAILED = 1, STATUS_USAGE = 2, SESSIONS = 4, WAIT = 30, WAIT_MAX = 3600 };
 
 static const char USAGE[] =
@@ -198,7 +201,7 @@ static int run(struct bridge *bridge, struct fuse_args *arguments)
 static bool begin(struct bridge *bridge)
 {
     bridge->epoch = 1;
-    bridge->began = now();
+    bridge->began = bridge->options.times ? LONG_AGO : now();
     if (!nodes_begin(bridge)) {
         fputs("overlayd-fuse: out of memory\n", stderr);
         return false;

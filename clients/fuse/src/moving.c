@@ -15,10 +15,13 @@ static void lose(struct bridge *bridge, struct node *parent, const char *name)
     struct node *node = node_at(bridge, parent, name);
     if (!node)
         return;
+    bool stays = node->names->of_node != NULL;
     if (node->attr.links > 0)
         node->attr.links--;
     times_status(bridge, node);
     node_unname(bridge, parent, name);
+    if (stays)
+        keep_meta(bridge, node);
 }
 
 static void remove_name(fuse_req_t request, fuse_ino_t number, const char *name, enum op op)

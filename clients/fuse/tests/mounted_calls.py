@@ -206,12 +206,20 @@ class RandomCalls(MountedCase):
             (folder / "c" / "link").symlink_to("../d")
             os.setxattr(folder / "d", "user.a", b"lower")
 
+    OPTIONS = ("--times",)
+
     def test_calls(self):
         outcomes = 0
         for seed in range(SEEDS):
             with self.subTest(seed=seed):
                 outcomes += self.play(seed)
         self.assertGreater(outcomes, CALLS * SEEDS // 5)  # so many weren't refused
+        self.mounted.remount()
+        here, there = (tree(root, link_owners=False)
+                       for root in (self.mounted.here, self.mounted.there))
+        for path, told in there.items():
+            self.assertEqual(here.pop(path), told, path)
+        self.assertEqual(here, {})
 
     def play(self, seed):
         callers = [Caller(os.path.join(root, str(seed)))
@@ -238,7 +246,7 @@ class RandomCalls(MountedCase):
 class RandomCallsShared(RandomCalls):
     """The same where the kernel keeps nothing."""
 
-    OPTIONS = ("--shared",)
+    OPTIONS = ("--shared", "--times")
 
 
 if __name__ == "__main__":

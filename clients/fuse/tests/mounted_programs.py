@@ -10,7 +10,7 @@ import sys
 import unittest
 
 from .kernel import WAIT
-from .mounts import Mounted, MountedCase, tree, trips, why_not
+from .mounts import Mounted, MountedCase, times, tree, trips, why_not
 
 OUTER = {name: value for name, value in os.environ.items() if not name.startswith("MAKE")}
 ENVIRONMENT = dict(
@@ -60,6 +60,7 @@ def fill(base):
 
 
 class Programs(MountedCase):
+    OPTIONS = ("--times",)
     fill = staticmethod(fill)
 
     def both(self, script, *needs):
@@ -79,7 +80,19 @@ class Programs(MountedCase):
         return outputs[0]
 
     def same(self):
-        here, there = (tree(root, LEAVES_OUT) for root in (self.mounted.here, self.mounted.there))
+        """Compares the mounts, and then what a new bridge shows of what the server has."""
+        self.compare()
+        before = times(self.mounted.here)
+        self.mounted.remount()
+        self.compare()
+        after = times(self.mounted.here)
+        changed = {path: (before[path], after[path]) for path in before
+                   if path in after and before[path] != after[path]}
+        self.assertEqual(changed, {})
+
+    def compare(self):
+        here, there = (tree(root, LEAVES_OUT, link_owners=False)
+                       for root in (self.mounted.here, self.mounted.there))
         self.assertEqual(sorted(here), sorted(there))
         for path, told in there.items():
             self.assertEqual(here[path], told, path)

@@ -59,10 +59,8 @@ class Mounted:
         self.server = self.serve(base)
         self.here, self.there = self.path("here"), self.path("over")
         os.mkdir(self.here)
-        self.process = subprocess.Popen(
-            [PROGRAM, self.server.path, self.here, "--verbose", *options],
-            stdin=subprocess.DEVNULL, stderr=subprocess.PIPE, text=True, env=ENVIRONMENT)
-        self.wait_for_mount()
+        self.options, self.process = options, None
+        self.mount()
         self.has_overlay = overlay
         if overlay:
             self.mount_overlay()
@@ -80,7 +78,10 @@ class Mounted:
         server.client().close()
         return server
 
-    def wait_for_mount(self):
+    def mount(self):
+        self.process = subprocess.Popen(
+            [PROGRAM, self.server.path, self.here, "--verbose", *self.options],
+            stdin=subprocess.DEVNULL, stderr=subprocess.PIPE, text=True, env=ENVIRONMENT)
         limit = time.monotonic() + WAIT
         while not os.path.ismount(self.here):
             if time.monotonic() > limit or self.process.poll() is not None:
@@ -94,19 +95,29 @@ class Mounted:
         subprocess.run(["mount", "-t", "overlay", "overlay", "-o", options, "over"],
                        cwd=self.folder, check=True)
 
-    def end(self):
-        """Unmounts both; what the bridge told in the end."""
-        if self.process is None:
-            return None
-        for root in [self.here] + [self.there] * self.has_overlay:
-            subprocess.run(["umount", "--lazy", root], check=True)
+    def unmount(self):
+        """What the bridge told in the end."""
+        subprocess.run(["umount", "--lazy", self.here], check=True)
         told = self.process.communicate(timeout=WAIT)[1]
         status, self.process = self.process.returncode, None
-        self.server.__exit__(None, None, None)
-        shutil.rmtree(self.folder)
         if status != 0:
             raise AssertionError(f"status {status}: {told}")
         return told
+
+    def remount(self):
+        """A new bridge and an empty cache: what is there then is what the server has."""
+        self.unmount()
+        self.mount()
+
+    def end(self):
+        """Unmounts both; what the bridge told in the end."""
+        try:
+            return self.unmount() if self.process else None
+        finally:
+            if self.has_overlay:
+                subprocess.run(["umount", "--lazy", self.there], check=True)
+            self.server.__exit__(None, None, None)
+            shutil.rmtree(self.folder)
 
 
 def trips(told):
@@ -135,7 +146,7 @@ def described(path, root, with_bytes=True):
     return told
 
 
-def tree(root, leaves_out=()):
+def tree(root, leaves_out=(), link_owners=True):
     """All objects below a directory; of files whose names end so not the bytes and sizes."""
     found = {}
     for folder, folders, files in os.walk(root):
@@ -144,7 +155,21 @@ def tree(root, leaves_out=()):
             told = described(path, root, not name.endswith(leaves_out))
             if name.endswith(leaves_out):
                 told[4:5] = []
+            if os.path.islink(path) and not link_owners:
+                told[1:3] = []
             found[os.path.relpath(path, root)] = told
+    return found
+
+
+def times(root):
+    """When each object but links was changed, its bytes and all else of it."""
+    found = {}
+    for folder, folders, files in os.walk(root):
+        for name in folders + files:
+            told = os.lstat(os.path.join(folder, name))
+            if not stat.S_ISLNK(told.st_mode):
+                path = os.path.relpath(os.path.join(folder, name), root)
+                found[path] = (told.st_mtime_ns, told.st_ctime_ns)
     return found
 
 

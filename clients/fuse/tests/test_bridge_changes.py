@@ -3,6 +3,7 @@
 import errno
 import os
 import stat
+import time
 import unittest
 
 from .bridges import Bridge, ServerCase
@@ -291,6 +292,35 @@ class Sets(ServerCase):
             self.assertEqual(kernel.walk("/made").attr[3:9], made[3:9])
             listed = {one.name: one.entry.attr for one in kernel.listing(ROOT)}
             self.assertEqual(listed[b"made"][3:9], made[3:9])
+
+    def test_times_of_what_was_never_changed(self):
+        """They are those of all bridges that keep times, and else those of the mount."""
+        server = self.served()
+        for options, wanted in ((("--times",), 315532800), ((), None)):
+            with Bridge(server.path, *options) as kernel:
+                found = kernel.walk("/d/f").attr
+                self.assertEqual(found.mtime, found.ctime)
+                self.assertEqual(found.mtime, found.atime)
+                if wanted:
+                    self.assertEqual((found.mtime, found.mtimensec), (wanted, 0))
+                else:
+                    self.assertAlmostEqual(found.mtime, time.time(), delta=3600)
+
+    def test_times_of_what_is_written_and_unlinked(self):
+        server = self.served()
+        for options in (("--times",), ("--times", "--shared")):
+            with Bridge(server.path, *options) as kernel:
+                d, f = kernel.walk("/d").nodeid, kernel.walk("/d/f").nodeid
+                kernel.setattr(f, SET_MTIME | SET_CTIME, mtime=(7, 0), ctime=(7, 0))
+                kernel.link(f, d, "g")
+                fh = kernel.open(f, os.O_WRONLY).fh
+                kernel.write(f, fh, 0, b"x")
+                kernel.release(f, fh)
+                kernel.unlink(d, "g")
+                written = kernel.getattr(f)
+                self.assertGreater(written.mtime, 7)
+            with Bridge(server.path, *options) as kernel:
+                self.assertEqual(kernel.walk("/d/f").attr[3:9], written[3:9])
 
     def test_times_that_are_no_times(self):
         server = self.served()
