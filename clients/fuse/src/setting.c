@@ -83,6 +83,9 @@ static int set_on_server(struct bridge *bridge, struct setting *setting)
     fault = ask_end(bridge);
     for (size_t i = setting->first; !fault && i < bridge->batch.count; i++)
         fault = refused(bridge, i);
+    if (!fault && setting->has_stat
+        && answer_attr(&bridge->batch, setting->after).kind != node->attr.kind)
+        fault = ESTALE;
     return fault;
 }
 
@@ -127,8 +130,10 @@ static int set(struct bridge *bridge, struct setting *setting)
     if (asks(setting, FUSE_SET_ATTR_MODE) && setting->node->attr.kind == KIND_LINK)
         return EOPNOTSUPP;
     int fault = changes || looks ? set_on_server(bridge, setting) : 0;
-    if (fault)
+    if (fault) {
+        setting->node->sure = 0;  /* some of it may have been made */
         return fault;
+    }
     set_attr(bridge, setting);
     set_times(bridge, setting);
     if (changes && setting->by_path)

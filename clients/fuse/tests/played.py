@@ -5,6 +5,7 @@ import socket
 import struct
 import tempfile
 import threading
+import time
 
 WAIT = 60.0
 DIRECTORY, FILE, LINK = 1, 2, 3
@@ -56,16 +57,22 @@ class Session:
     def run(self):
         with self.link:
             try:
-                while True:
-                    body = self.take(int.from_bytes(self.take(4), "big"))
-                    self.server.asked.append(body)
-                    lie = self.server.lie(body)
-                    if lie is None:
-                        self.link.sendall(self.answer(body[0], body[1:]))
-                    elif not lie(self, body):
-                        return
+                while self.step(self.take(int.from_bytes(self.take(4), "big"))):
+                    pass
             except (EOFError, OSError):
                 pass
+
+    def step(self, body):
+        """Answers a request, or lies; whether the session goes on."""
+        self.server.asked.append(body)
+        lie = self.server.lie(body)
+        try:
+            if lie is not None:
+                return lie(self, body)
+            self.link.sendall(self.answer(body[0], body[1:]))
+            return True
+        finally:
+            self.server.answered.append(body)
 
     def answer(self, op, fields):
         if op in (STAT, FSTAT):
@@ -99,7 +106,7 @@ class Played:
     def __init__(self, sessions=1 << 20):
         self.folder = tempfile.TemporaryDirectory()
         self.path = os.path.join(self.folder.name, "s")
-        self.lies, self.asked, self.accepted = {}, [], 0
+        self.lies, self.asked, self.answered, self.accepted = {}, [], [], 0
         self.sessions = sessions
         self.socket = None
         self.listen()
@@ -121,6 +128,15 @@ class Played:
             self.links.append(link)
             if len(self.links) <= self.sessions:
                 threading.Thread(target=Session(self, link).run, daemon=True).start()
+
+    def has_answered(self, last):
+        """Waits until a request is answered that ends so."""
+        limit = time.monotonic() + WAIT
+        while time.monotonic() < limit:
+            if self.answered and self.answered[-1].endswith(last):
+                return True
+            time.sleep(0.005)
+        return False
 
     def lie(self, body):
         lie = self.lies.pop(body[0], None)

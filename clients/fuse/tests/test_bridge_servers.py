@@ -116,18 +116,17 @@ class Lies(PlayedCase):
                     self.check(kernel, call, op, reply)
 
     def test_two_replies_to_one_request(self):
-        """Where the second comes in time for another request it is known by what is left over."""
+        """Where the second is taken for another request's it is known by what is left over."""
         kernel = self.bridge()
         self.check(kernel, *LIES[0][1:3], made(attr()) + made(attr(size=5)))
         for _ in range(3):
             self.server.lies[played.MKDIR] = made() + made(attr(played.DIRECTORY, size=0))
-            before = self.server.accepted
             try:
                 kernel.mkdir(ROOT, "d")
+                self.assertTrue(self.server.has_answered(bytes((played.STAT, 0, 2)) + b"/d"))
             except OSError as error:
                 self.assertEqual(error.errno, errno.EIO)
             self.assertEqual(kernel.lookup(ROOT, "f").attr.size, 4)
-            self.assertEqual(self.server.accepted, before + 1)
 
     def test_refusals_are_told(self):
         kernel = self.bridge()
@@ -138,6 +137,18 @@ class Lies(PlayedCase):
             self.server.lies[played.CHMOD] = frame(bytes((2, number)))
             self.refused(number, kernel.setattr, node, 1, mode=0o600)
         self.assertEqual(self.server.accepted, 1)
+
+    def test_a_change_that_is_made_in_part_is_looked_at_anew(self):
+        kernel = self.bridge()
+        node = kernel.lookup(ROOT, "f").nodeid
+        self.server.lies[played.CHOWN] = refused(12)
+        self.refused(errno.ENOMEM, kernel.setattr, node, 1 | 2, mode=0o600, uid=5)
+        self.server.lies[played.STAT] = made(attr(mode=0o600))
+        self.assertEqual(kernel.getattr(node).mode & 0o7777, 0o600)
+        self.server.lies[played.CHOWN] = refused(12)
+        self.refused(errno.ENOMEM, kernel.setattr, node, 2, uid=5)
+        self.server.lies[played.STAT] = made(attr(played.DIRECTORY))
+        self.refused(errno.ESTALE, kernel.setattr, node, 1, mode=0o640)
 
     def test_replies_in_single_bytes(self):
         kernel = self.bridge()
