@@ -1,5 +1,6 @@
 # What can be made; `make` alone lists it.
-.PHONY: help show play try-serve build serve test test-serve test-clients install clean
+.PHONY: help show play try-serve build serve test test-serve test-clients install clean \
+    build-fuse test-fuse test-fuse-mounted try-fuse
 
 EXAMPLE := examples/change-layer
 SOCKET := out/overlay.socket
@@ -16,6 +17,10 @@ help:
 	@echo "make test          the gate: every proof, test, refused edit and program run"
 	@echo "make test-serve    tests the server of out/overlayd, or of \$$OVERLAYD, over its own sockets"
 	@echo "make test-clients  tests the Python tools, with that program where it is built"
+	@echo "make try-fuse DIR=DIRECTORY  mount a copy of a directory, until it is unmounted"
+	@echo "make build-fuse    build the bridge to FUSE and leave it at out/overlayd-fuse"
+	@echo "make test-fuse     tests it, without FUSE or root; on the program where it is built"
+	@echo "make test-fuse-mounted  tests it as root, with real programs beside the kernel's overlayfs"
 	@echo "make install       copy that program, the Python tools and the manual to $(PREFIX),"
 	@echo "                   or to where PREFIX and DESTDIR say"
 	@echo "make clean         remove all that was built and proved"
@@ -71,3 +76,24 @@ install:
 clean:
 	rm -rf out crates/*/out clients/python/build clients/python/*.egg-info
 	find clients/python tools bench -name __pycache__ -prune -exec rm -rf {} +
+
+try-fuse:
+	@tools/try-fuse $(DIR)
+
+build-fuse:
+	@tools/need-fuse
+	@$(MAKE) --no-print-directory -C clients/fuse bridge
+
+# What the bridge needs may be missing where the engine is proved: that is told, and no fault.
+test-fuse:
+	@if tools/need-fuse; then \
+	    $(MAKE) --no-print-directory -C clients/fuse checked && \
+	    python3 -m unittest discover -s clients/fuse/tests -t clients/fuse; \
+	else echo "make test-fuse: skipped"; fi
+
+# Needs root, /dev/fuse, the kernel's overlayfs and the program; what is missing is told.
+test-fuse-mounted:
+	@if tools/need-fuse; then \
+	    $(MAKE) --no-print-directory -C clients/fuse checked && \
+	    python3 -m unittest discover -v -s clients/fuse/tests -t clients/fuse -p 'mounted_*.py'; \
+	else echo "make test-fuse-mounted: skipped"; fi

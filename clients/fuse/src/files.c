@@ -1,0 +1,251 @@
+/* The operations on files that are open: open, read, write, release, fallocate. */
+#include "bridge.h"
+
+#include <errno.h>
+#include <fcntl.h>
+#include <linux/falloc.h>
+
+enum { PIECES_MAX = 64 };
+
+static int open_on_server(struct bridge *bridge, struct handle *handle, unsigned flags)
+{
+    struct node *node = handle->node;
+    uint32_t descriptor;
+    int fault = path_of(node, bridge->path);
+    if (!fault)
+        fault = ask_for_open(bridge);
+    if (fault)
+        return fault;
+    size_t open = ask_opening(bridge, flags, 0, bridge->path, &descriptor);
+    if (flags == OPEN_READ)
+        ask_ahead(bridge, node, descriptor);
+    fault = ask_end(bridge);
+    if (!fault)
+        fault = refused(bridge, open);
+    if (fault)
+        return fault;
+    handle_opened(bridge, handle, flags, descriptor);
+    take_ahead(bridge, handle, open + 1);
+    return 0;
+}
+
+static void do_open(fuse_req_t request, fuse_ino_t number, struct fuse_file_info *info)
+{
+    struct bridge *bridge = bridge_of(request);
+    struct node *node = node_of(bridge, number);
+    struct handle *handle = node ? handle_new(bridge, node) : NULL;
+    if (!handle) {
+        fuse_reply_err(request, node ? ENOMEM : ESTALE);
+        return;
+    }
+    unsigned flags = open_flags(bridge, info->flags);
+    int fault = open_on_server(bridge, handle, flags);
+    if (fault) {
+        handle_free(bridge, handle);
+        fuse_reply_err(request, fault);
+        return;
+    }
+    if (flags & OPEN_EMPTY) {
+        node->attr.size = 0;
+        times_changed(bridge, node);
+        handle->changed = true;
+    }
+    if (flags != OPEN_READ)
+        node_touched(bridge, node);
+    info->fh = handle->number;
+    info->direct_io = bridge->options.shared;
+    info->keep_cache = is_sure(bridge, node);
+    if (fuse_reply_open(request, info) != 0)
+        handle_free(bridge, handle);
+}
+
+static void ask_place(struct bridge *bridge, struct handle *handle, uint64_t offset)
+{
+    if (handle->place != offset)
+        ask_seek(&bridge->batch, handle->descriptor, offset);
+}
+
+/* Why the request that moves the place was refused, where there is one before number `first`. */
+static int refused_place(const struct bridge *bridge, size_t first)
+{
+    return first > 0 && bridge->batch.asks[first - 1].op == OP_SEEK ? refused(bridge, first - 1)
+        : 0;
+}
+
+static void reply_pieces(fuse_req_t request, struct bridge *bridge, struct handle *handle,
+                         size_t first, uint64_t offset)
+{
+    struct iovec pieces[PIECES_MAX];
+    int count = 0, fault = refused_place(bridge, first);
+    size_t total = 0;
+    for (size_t i = first; !fault && i < bridge->batch.count; i++) {
+        size_t length;
+        fault = refused(bridge, i);
+        if (fault)
+            break;
+        const char *block = answer_block(&bridge->batch, i, &length);
+        pieces[count++] = (struct iovec){(void *)(uintptr_t)block, length};
+        total += length;
+        if (length < bridge->batch.asks[i].bound)
+            break;
+    }
+    handle->place = fault ? PLACE_UNKNOWN : offset + total;
+    if (fault && count == 0)
+        fuse_reply_err(request, fault);
+    else
+        fuse_reply_iov(request, pieces, count);
+}
+
+static void do_read(fuse_req_t request, fuse_ino_t number, size_t size, off_t offset,
+                    struct fuse_file_info *info)
+{
+    (void)number;
+    struct bridge *bridge = bridge_of(request);
+    struct handle *handle = handle_of(bridge, info);
+    uint64_t place = (uint64_t)offset;
+    int fault = handle && is_alive(handle) ? 0 : EIO;
+    if (!fault && reply_ahead(request, bridge, handle, size, place)) {
+        handle->node->fetched = true;
+        return;
+    }
+    if (!fault)
+        fault = ask_handle(bridge, handle);
+    if (fault) {
+        fuse_reply_err(request, fault);
+        return;
+    }
+    ask_place(bridge, handle, place);
+    size_t first = bridge->batch.count;
+    size = size < (size_t)PIECES_MAX * PIECE_MAX ? size : (size_t)PIECES_MAX * PIECE_MAX;
+    for (size_t at = 0; at < size; at += PIECE_MAX)
+        ask_count(&bridge->batch, OP_READ, handle->descriptor,
+                  (uint32_t)(size - at < PIECE_MAX ? size - at : PIECE_MAX));
+    fault = ask_end(bridge);
+    handle->node->fetched = true;
+    if (fault)
+        fuse_reply_err(request, fault);
+    else
+        reply_pieces(request, bridge, handle, first, place);
+}
+
+/* How much of the pieces was written, up to the first that didn't fit whole. */
+static size_t written(struct bridge *bridge, struct handle *handle, size_t first,
+                      uint64_t offset, int *fault)
+{
+    size_t total = 0;
+    bool is_short = false;
+    *fault = refused_place(bridge, first);
+    for (size_t i = first; !*fault && !is_short && i < bridge->batch.count; i++) {
+        *fault = refused(bridge, i);
+        uint32_t count = *fault ? 0 : answer_number(&bridge->batch, i);
+        is_short = count < bridge->batch.asks[i].bound;
+        total += count;
+    }
+    handle->place = *fault || is_short || handle->appends ? PLACE_UNKNOWN : offset + total;
+    return total;
+}
+
+/* Of what the kernel writes from its cache nobody sees how much was written, so all has to be. */
+static void do_write(fuse_req_t request, fuse_ino_t number, const char *bytes, size_t size,
+                     off_t offset, struct fuse_file_info *info)
+{
+    (void)number;
+    struct bridge *bridge = bridge_of(request);
+    struct handle *handle = handle_of(bridge, info);
+    uint64_t place = (uint64_t)offset;
+    if (handle && info->writepage && !is_alive(handle))
+        handle = live_handle(handle->node, true);
+    int fault = handle ? ask_handle(bridge, handle) : EIO;
+    if (fault) {
+        fuse_reply_err(request, fault);
+        return;
+    }
+    struct node *node = handle->node;
+    if (!handle->appends)
+        ask_place(bridge, handle, place);
+    size_t first = bridge->batch.count;
+    for (size_t at = 0; at < size; at += PIECE_MAX)
+        ask_write(&bridge->batch, handle->descriptor, bytes + at,
+                  (uint32_t)(size - at < PIECE_MAX ? size - at : PIECE_MAX));
+    fault = ask_end(bridge);
+    if (fault) {
+        fuse_reply_err(request, fault);
+        return;
+    }
+    size_t total = written(bridge, handle, first, place, &fault);
+    if (place + total > node->attr.size)
+        node->attr.size = place + total;
+    if (total > 0 && (!info->writepage || bridge->options.shared)) {
+        times_changed(bridge, node);
+        handle->changed = true;
+    }
+    bool is_lost = total < size && (total == 0 || info->writepage);
+    if (is_lost)
+        fuse_reply_err(request, fault ? fault : EFBIG);
+    else
+        fuse_reply_write(request, total);
+}
+
+static void do_release(fuse_req_t request, fuse_ino_t number, struct fuse_file_info *info)
+{
+    (void)number;
+    struct bridge *bridge = bridge_of(request);
+    struct handle *handle = handle_of(bridge, info);
+    if (handle && handle->changed)
+        keep_meta(bridge, handle->node);
+    if (handle)
+        handle_free(bridge, handle);
+    fuse_reply_err(request, handle ? 0 : EBADF);
+}
+
+/* What is beyond the end becomes zeros; room isn't kept, and no holes are made. */
+static int grow(struct bridge *bridge, struct handle *handle, uint64_t size)
+{
+    int fault = ask_handle(bridge, handle);
+    if (fault)
+        return fault;
+    size_t stat = ask_descriptor(&bridge->batch, OP_FSTAT, handle->descriptor);
+    fault = ask_end(bridge);
+    if (!fault)
+        fault = refused(bridge, stat);
+    if (fault || answer_attr(&bridge->batch, stat).size >= size)
+        return fault;
+    fault = ask_handle(bridge, handle);
+    if (fault)
+        return fault;
+    size_t truncate = ask_truncate(&bridge->batch, handle->descriptor, size);
+    fault = ask_end(bridge);
+    if (!fault)
+        fault = refused(bridge, truncate);
+    if (!fault) {
+        handle->node->attr.size = size;
+        times_changed(bridge, handle->node);
+        handle->changed = true;
+    }
+    return fault;
+}
+
+static void do_fallocate(fuse_req_t request, fuse_ino_t number, int mode, off_t offset,
+                         off_t length, struct fuse_file_info *info)
+{
+    (void)number;
+    struct bridge *bridge = bridge_of(request);
+    struct handle *handle = handle_of(bridge, info);
+    if (mode & ~FALLOC_FL_KEEP_SIZE)
+        fuse_reply_err(request, EOPNOTSUPP);
+    else if (!handle)
+        fuse_reply_err(request, EBADF);
+    else if (mode)
+        fuse_reply_err(request, 0);
+    else
+        fuse_reply_err(request, grow(bridge, handle, (uint64_t)offset + (uint64_t)length));
+}
+
+void file_operations(struct fuse_lowlevel_ops *operations)
+{
+    operations->open = do_open;
+    operations->read = do_read;
+    operations->write = do_write;
+    operations->release = do_release;
+    operations->fallocate = do_fallocate;
+}

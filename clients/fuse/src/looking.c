@@ -1,0 +1,195 @@
+/* The operations that only ask: lookup, getattr, readlink, statfs; and forget and init. */
+#include "bridge.h"
+
+#include <errno.h>
+#include <string.h>
+
+/* What isn't there is kept by the kernel too, where nobody else makes it. */
+static void reply_nothing(fuse_req_t request, struct bridge *bridge, struct node *parent,
+                          const char *name, int fault)
+{
+    struct fuse_entry_param entry = {0};
+    if (fault == ENOENT)
+        node_unname(bridge, parent, name);
+    if (fault != ENOENT || bridge->options.shared) {
+        fuse_reply_err(request, fault);
+        return;
+    }
+    entry.entry_timeout = 86400.0;
+    fuse_reply_entry(request, &entry);
+}
+
+static void do_lookup(fuse_req_t request, fuse_ino_t number, const char *name)
+{
+    struct bridge *bridge = bridge_of(request);
+    struct node *parent = node_of(bridge, number);
+    struct look look = {0};
+    int fault = parent ? path_in(parent, name, bridge->path) : ESTALE;
+    if (!fault)
+        fault = ask_any(bridge);
+    if (!fault) {
+        look = ask_look(bridge, bridge->path,
+                        wants_meta(bridge, node_at(bridge, parent, name)));
+        fault = ask_end(bridge);
+    }
+    if (fault) {
+        fuse_reply_err(request, fault);
+        return;
+    }
+    if (refused(bridge, look.stat)) {
+        reply_nothing(request, bridge, parent, name, refused(bridge, look.stat));
+        return;
+    }
+    struct attr attr = answer_attr(&bridge->batch, look.stat);
+    struct meta meta = meta_of(bridge, look);
+    struct node *node = node_found(bridge, parent, name, &attr);
+    if (!node) {
+        fuse_reply_err(request, ENOMEM);
+        return;
+    }
+    node_see(bridge, node, &attr);
+    node_see_meta(bridge, node, &meta);
+    reply_entry(request, bridge, node);
+}
+
+/* By a handle where the object has no name, or where the name may be another object's by now; a
+   handle that may keep what a file was is never asked. */
+static struct handle *handle_to_ask(struct bridge *bridge, const struct node *node,
+                                    const struct fuse_file_info *info)
+{
+    struct handle *handle = handle_of(bridge, info);
+    if (!node->names)
+        return handle && is_alive(handle) ? handle : live_handle(node, false);
+    bool is_true = handle && is_alive(handle) && (node->touched || handle->access != OPEN_READ);
+    return bridge->options.shared && is_true ? handle : NULL;
+}
+
+static int look_again(struct bridge *bridge, struct node *node, const struct handle *handle)
+{
+    struct look look = {0};
+    int fault = handle ? ask_handle(bridge, handle) : path_of(node, bridge->path);
+    if (!fault && !handle)
+        fault = ask_any(bridge);
+    if (fault)
+        return fault;
+    if (handle)
+        look.stat = ask_descriptor(&bridge->batch, OP_FSTAT, handle->descriptor);
+    else
+        look = ask_look(bridge, bridge->path, wants_meta(bridge, node));
+    fault = ask_end(bridge);
+    if (!fault)
+        fault = refused(bridge, look.stat);
+    if (fault)
+        return fault;
+    struct attr attr = answer_attr(&bridge->batch, look.stat);
+    struct meta meta = meta_of(bridge, look);
+    if (attr.kind != node->attr.kind && node->number != ROOT)
+        return ESTALE;
+    node_see(bridge, node, &attr);
+    node_see_meta(bridge, node, &meta);
+    return 0;
+}
+
+static void do_getattr(fuse_req_t request, fuse_ino_t number, struct fuse_file_info *info)
+{
+    struct bridge *bridge = bridge_of(request);
+    struct node *node = node_of(bridge, number);
+    struct stat stat;
+    int fault = node ? 0 : ESTALE;
+    if (node && !is_sure(bridge, node)) {
+        struct handle *handle = handle_to_ask(bridge, node, info);
+        bool is_gone = !node->names && node->number != ROOT && !handle;
+        if (is_gone)
+            node->attr.links = 0;
+        else
+            fault = look_again(bridge, node, handle);
+    }
+    if (fault) {
+        fuse_reply_err(request, fault);
+        return;
+    }
+    stat_of(bridge, node, &stat);
+    fuse_reply_attr(request, &stat, timeout_of(bridge, node));
+}
+
+static void do_readlink(fuse_req_t request, fuse_ino_t number)
+{
+    struct bridge *bridge = bridge_of(request);
+    struct node *node = node_of(bridge, number);
+    char target[PATH_BYTES];
+    size_t link = 0, length;
+    int fault = node ? path_of(node, bridge->path) : ESTALE;
+    if (!fault)
+        fault = ask_any(bridge);
+    if (!fault) {
+        link = ask_path(&bridge->batch, OP_READLINK, bridge->path);
+        fault = ask_end(bridge);
+    }
+    if (!fault)
+        fault = refused(bridge, link);
+    if (fault) {
+        fuse_reply_err(request, fault);
+        return;
+    }
+    const char *text = answer_text(&bridge->batch, link, &length);
+    memcpy(target, text, length);
+    target[length] = 0;
+    fuse_reply_readlink(request, target);
+}
+
+/* The server has no such numbers; these are large enough for whoever asks before it writes. */
+static void do_statfs(fuse_req_t request, fuse_ino_t number)
+{
+    struct statvfs stat = {.f_bsize = 4096, .f_frsize = 4096, .f_namemax = 255};
+    (void)number;
+    stat.f_blocks = stat.f_bfree = stat.f_bavail = 1 << 28;
+    stat.f_files = stat.f_ffree = stat.f_favail = 1 << 28;
+    fuse_reply_statfs(request, &stat);
+}
+
+static void do_forget(fuse_req_t request, fuse_ino_t number, uint64_t lookups)
+{
+    struct bridge *bridge = bridge_of(request);
+    struct node *node = node_of(bridge, number);
+    if (node)
+        node_forget(bridge, node, lookups);
+    fuse_reply_none(request);
+}
+
+static void do_forget_multi(fuse_req_t request, size_t count, struct fuse_forget_data *forgets)
+{
+    struct bridge *bridge = bridge_of(request);
+    for (size_t i = 0; i < count; i++) {
+        struct node *node = node_of(bridge, forgets[i].ino);
+        if (node)
+            node_forget(bridge, node, forgets[i].nlookup);
+    }
+    fuse_reply_none(request);
+}
+
+/* The kernel clears set-user-ID bits itself, and judges locks. */
+static void do_init(void *userdata, struct fuse_conn_info *connection)
+{
+    const struct bridge *bridge = userdata;
+    unsigned wanted = FUSE_CAP_READDIRPLUS;
+    unsigned unwanted = FUSE_CAP_READDIRPLUS_AUTO | FUSE_CAP_HANDLE_KILLPRIV;
+    unsigned cached = FUSE_CAP_WRITEBACK_CACHE | FUSE_CAP_CACHE_SYMLINKS;
+    if (bridge->options.shared)
+        unwanted |= cached;
+    else
+        wanted |= cached;
+    if (!bridge->options.shared)
+        unwanted |= FUSE_CAP_AUTO_INVAL_DATA;
+    connection->want = (connection->want | (connection->capable & wanted)) & ~unwanted;
+}
+
+void looking_operations(struct fuse_lowlevel_ops *operations)
+{
+    operations->init = do_init;
+    operations->lookup = do_lookup;
+    operations->forget = do_forget;
+    operations->forget_multi = do_forget_multi;
+    operations->getattr = do_getattr;
+    operations->readlink = do_readlink;
+    operations->statfs = do_statfs;
+}

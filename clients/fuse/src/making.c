@@ -1,0 +1,294 @@
+/* The operations that make something: mkdir, mknod, symlink, link, create. */
+#include "bridge.h"
+
+#include <errno.h>
+#include <fcntl.h>
+
+/* Something that is being made, at bridge->path. */
+struct making {
+    struct node *parent;
+    const char *name;
+    mode_t mode;
+    uint32_t uid, gid;
+    bool was_there;  /* another client was faster */
+};
+
+/* The server makes all for owner and group 0; a set-group-ID directory gives its group on. */
+static int begin(fuse_req_t request, fuse_ino_t parent, const char *name, mode_t mode,
+                 struct making *making)
+{
+    struct bridge *bridge = bridge_of(request);
+    const struct fuse_ctx *caller = fuse_req_ctx(request);
+    making->parent = node_of(bridge, parent);
+    if (!making->parent)
+        return ESTALE;
+    bool gives_group = (making->parent->attr.mode & S_ISGID) != 0;
+    making->was_there = false;
+    making->name = name;
+    making->mode = mode & 07777;
+    if (gives_group && S_ISDIR(mode))
+        making->mode |= S_ISGID;
+    making->uid = caller->uid;
+    making->gid = gives_group ? making->parent->attr.gid : caller->gid;
+    return path_in(making->parent, name, bridge->path);
+}
+
+static bool has_owner(const struct making *making)
+{
+    return making->uid != 0 || making->gid != 0;
+}
+
+/* Gives what was made its owner, and looks at it. The batch so far made it; its stat goes with it
+   where no owner has to be given, which must not happen to what was there before. */
+static int look_at(struct bridge *bridge, const struct making *making, bool owned,
+                   struct attr *attr, size_t made)
+{
+    struct connection *connection = bridge->asked;
+    bool later = owned && has_owner(making);
+    size_t stat = later ? 0 : ask_path(&bridge->batch, OP_STAT, bridge->path);
+    int fault = ask_end(bridge);
+    if (!fault)
+        fault = refused(bridge, made);
+    if (!fault && later) {
+        fault = ask_on(bridge, connection);
+        if (fault)
+            return fault;
+        ask_chown(&bridge->batch, making->uid, making->gid, bridge->path);
+        stat = ask_path(&bridge->batch, OP_STAT, bridge->path);
+        fault = ask_end(bridge);
+    }
+    if (!fault)
+        fault = refused(bridge, stat);
+    if (!fault)
+        *attr = answer_attr(&bridge->batch, stat);
+    return fault;
+}
+
+/* The node for what was made; a node that was known there stands for something else. */
+static struct node *made_node(struct bridge *bridge, const struct making *making,
+                              const struct attr *attr)
+{
+    if (!making->was_there)
+        node_unname(bridge, making->parent, making->name);
+    struct node *node = node_found(bridge, making->parent, making->name, attr);
+    if (!node)
+        return NULL;
+    if (making->was_there) {
+        node_see(bridge, node, attr);
+        return node;
+    }
+    if (attr->kind == KIND_LINK && has_owner(making)) {
+        node->has_owner = true;
+        node->attr.uid = making->uid;
+        node->attr.gid = making->gid;
+    }
+    node_see(bridge, node, attr);
+    node->touched = true;
+    times_new(node);
+    times_changed(bridge, making->parent);
+    return node;
+}
+
+static void reply_made(fuse_req_t request, struct bridge *bridge, const struct making *making,
+                       const struct attr *attr, int fault)
+{
+    struct node *node = fault ? NULL : made_node(bridge, making, attr);
+    if (!node) {
+        fuse_reply_err(request, fault ? fault : ENOMEM);
+        return;
+    }
+    keep_meta(bridge, node);
+    keep_meta(bridge, making->parent);
+    reply_entry(request, bridge, node);
+}
+
+static void do_mkdir(fuse_req_t request, fuse_ino_t parent, const char *name, mode_t mode)
+{
+    struct bridge *bridge = bridge_of(request);
+    struct making making;
+    struct attr attr;
+    int fault = begin(request, parent, name, mode | S_IFDIR, &making);
+    if (!fault)
+        fault = ask_any(bridge);
+    if (!fault) {
+        size_t made = ask_mode(&bridge->batch, OP_MKDIR, making.mode, bridge->path);
+        fault = look_at(bridge, &making, true, &attr, made);
+    }
+    reply_made(request, bridge, &making, &attr, fault);
+}
+
+static void do_symlink(fuse_req_t request, const char *target, fuse_ino_t parent,
+                       const char *name)
+{
+    struct bridge *bridge = bridge_of(request);
+    struct making making;
+    struct attr attr;
+    int fault = begin(request, parent, name, 0777, &making);
+    if (!fault)
+        fault = ask_any(bridge);
+    if (!fault) {
+        size_t made = ask_two(&bridge->batch, OP_SYMLINK, target, bridge->path);
+        fault = look_at(bridge, &making, false, &attr, made);
+    }
+    reply_made(request, bridge, &making, &attr, fault);
+}
+
+/* A fifo, socket or device is an empty file to the server. */
+static void do_mknod(fuse_req_t request, fuse_ino_t parent, const char *name, mode_t mode,
+                     dev_t device)
+{
+    struct bridge *bridge = bridge_of(request);
+    struct making making;
+    struct attr attr;
+    uint32_t descriptor;
+    int fault = begin(request, parent, name, mode, &making);
+    if (!fault)
+        fault = ask_for_open(bridge);
+    if (!fault) {
+        size_t made = ask_opening(bridge, OPEN_WRITE | OPEN_CREATE | OPEN_NEW, making.mode,
+                                  bridge->path, &descriptor);
+        ask_closing(bridge, descriptor);
+        fault = look_at(bridge, &making, true, &attr, made);
+    }
+    struct node *node = fault ? NULL : made_node(bridge, &making, &attr);
+    if (!node) {
+        fuse_reply_err(request, fault ? fault : ENOMEM);
+        return;
+    }
+    if (!S_ISREG(mode) && (mode & S_IFMT) != 0) {
+        node->special = mode & S_IFMT;
+        node->device = S_ISCHR(mode) || S_ISBLK(mode) ? device : 0;
+    }
+    keep_meta(bridge, node);
+    keep_meta(bridge, making.parent);
+    reply_entry(request, bridge, node);
+}
+
+/* The same node has a further name then. */
+static int link_on_server(struct bridge *bridge, struct node *node, struct node *parent,
+                          const char *name)
+{
+    int fault = path_of(node, bridge->other);
+    if (!fault)
+        fault = path_in(parent, name, bridge->path);
+    if (!fault)
+        fault = ask_any(bridge);
+    if (fault)
+        return fault;
+    size_t link = ask_two(&bridge->batch, OP_LINK, bridge->other, bridge->path);
+    size_t stat = ask_path(&bridge->batch, OP_STAT, bridge->path);
+    fault = ask_end(bridge);
+    if (!fault)
+        fault = refused(bridge, link);
+    if (!fault)
+        fault = refused(bridge, stat);
+    if (fault)
+        return fault;
+    struct attr attr = answer_attr(&bridge->batch, stat);
+    node_unname(bridge, parent, name);
+    if (!node_name(bridge, parent, name, node))
+        return ENOMEM;
+    node_see(bridge, node, &attr);
+    times_status(bridge, node);
+    times_changed(bridge, parent);
+    node_touched(bridge, node);
+    return 0;
+}
+
+static void do_link(fuse_req_t request, fuse_ino_t number, fuse_ino_t new_parent,
+                    const char *name)
+{
+    struct bridge *bridge = bridge_of(request);
+    struct node *node = node_of(bridge, number), *parent = node_of(bridge, new_parent);
+    int fault = node && parent ? link_on_server(bridge, node, parent, name) : ESTALE;
+    if (fault) {
+        fuse_reply_err(request, fault);
+        return;
+    }
+    keep_meta(bridge, node);
+    keep_meta(bridge, parent);
+    reply_entry(request, bridge, node);
+}
+
+/* What was opened though the rest was refused is closed again. */
+static int open_made(struct bridge *bridge, const struct making *making, unsigned flags,
+                     struct handle *handle, struct attr *attr)
+{
+    uint32_t descriptor;
+    int fault = ask_for_open(bridge);
+    if (fault)
+        return fault;
+    size_t made = ask_opening(bridge, flags, making->mode, bridge->path, &descriptor);
+    fault = look_at(bridge, making, (flags & OPEN_NEW) != 0, attr, made);
+    if (!fault)
+        handle_opened(bridge, handle, flags, descriptor);
+    else
+        bridge->asked->closing |= bridge->asked->used & UINT64_C(1) << descriptor;
+    return fault;
+}
+
+/* Opens a file that is made by it; where another client was faster, and it may, that one. */
+static int create_on_server(struct bridge *bridge, struct making *making, int how,
+                            struct handle *handle, struct attr *attr)
+{
+    unsigned flags = open_flags(bridge, how & ~O_TRUNC) | OPEN_CREATE | OPEN_NEW;
+    int fault = open_made(bridge, making, flags, handle, attr);
+    if (fault != EEXIST || (how & O_EXCL))
+        return fault;
+    making->was_there = true;
+    return open_made(bridge, making, open_flags(bridge, how), handle, attr);
+}
+
+static void reply_created(fuse_req_t request, struct bridge *bridge, struct handle *handle,
+                          struct fuse_file_info *info)
+{
+    struct fuse_entry_param entry;
+    struct node *node = handle->node;
+    entry_of(bridge, node, &entry);
+    info->fh = handle->number;
+    info->direct_io = bridge->options.shared;
+    info->keep_cache = !bridge->options.shared;
+    node->lookups++;
+    if (fuse_reply_create(request, &entry, info) != 0) {
+        node->lookups--;
+        handle_free(bridge, handle);
+    }
+}
+
+static void do_create(fuse_req_t request, fuse_ino_t parent, const char *name, mode_t mode,
+                      struct fuse_file_info *info)
+{
+    struct bridge *bridge = bridge_of(request);
+    struct making making;
+    struct attr attr;
+    struct handle opened = {0}, *handle = NULL;
+    int fault = begin(request, parent, name, mode, &making);
+    if (!fault)
+        fault = create_on_server(bridge, &making, info->flags, &opened, &attr);
+    struct node *node = fault ? NULL : made_node(bridge, &making, &attr);
+    if (node)
+        handle = handle_new(bridge, node);
+    if (!handle) {
+        if (opened.connection)
+            opened.connection->closing |= UINT64_C(1) << opened.descriptor;
+        fuse_reply_err(request, fault ? fault : ENOMEM);
+        return;
+    }
+    handle->connection = opened.connection;
+    handle->generation = opened.generation;
+    handle->descriptor = opened.descriptor;
+    handle->access = opened.access;
+    handle->appends = opened.appends;
+    keep_meta(bridge, node);
+    keep_meta(bridge, making.parent);
+    reply_created(request, bridge, handle, info);
+}
+
+void making_operations(struct fuse_lowlevel_ops *operations)
+{
+    operations->mkdir = do_mkdir;
+    operations->mknod = do_mknod;
+    operations->symlink = do_symlink;
+    operations->link = do_link;
+    operations->create = do_create;
+}

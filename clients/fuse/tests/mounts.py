@@ -1,0 +1,196 @@
+"""Mounts of this machine: one through the bridge, and the kernel's overlayfs beside it."""
+
+import contextlib
+import io
+import os
+import pathlib
+import shutil
+import stat
+import subprocess
+import tempfile
+import time
+import unittest
+
+import real_server
+from overlayd.importer.command import main as import_command
+
+from .bridges import ENVIRONMENT, NO_SERVER, PROGRAM
+from .kernel import WAIT
+
+FUSE = "/dev/fuse"
+OVERLAY = "redirect_dir=on,index=off,xino=off,metacopy=off"
+
+
+def why_not():
+    """Why nothing can be mounted here, or None."""
+    if NO_SERVER:
+        return NO_SERVER
+    if os.geteuid() != 0:
+        return "not root"
+    if not os.path.exists(FUSE):
+        return f"no {FUSE}"
+    return None
+
+
+def why_no_overlay():
+    """Why the kernel's overlayfs can't stand beside it, or None."""
+    with tempfile.TemporaryDirectory() as folder:
+        for name in ("l", "u", "w", "m"):
+            os.mkdir(os.path.join(folder, name))
+        options = f"lowerdir=l,upperdir=u,workdir=w,{OVERLAY}"
+        if subprocess.run(["mount", "-t", "overlay", "overlay", "-o", options, "m"], cwd=folder,
+                          capture_output=True, check=False).returncode:
+            return "overlayfs can't be mounted here"
+        subprocess.run(["umount", "m"], cwd=folder, check=True)
+    return None
+
+
+class Mounted:
+    """A directory as lower layer of both: `here` through the bridge, `there` by the kernel.
+
+    Their paths are of one length, since programs write them into files.
+    """
+
+    def __init__(self, fill, *options, overlay=True):
+        self.folder = tempfile.mkdtemp()
+        base = pathlib.Path(self.folder, "base")
+        base.mkdir()
+        fill(base)
+        self.server = self.serve(base)
+        self.here, self.there = self.path("here"), self.path("over")
+        os.mkdir(self.here)
+        self.options, self.process = options, None
+        self.mount()
+        self.has_overlay = overlay
+        if overlay:
+            self.mount_overlay()
+
+    def path(self, name):
+        return os.path.join(self.folder, name)
+
+    def serve(self, base):
+        imported = self.path("imported.toml")
+        with contextlib.redirect_stderr(io.StringIO()) as told:
+            if import_command(["-q", str(base), "-o", imported]) != 0:
+                raise AssertionError(told.getvalue())
+        manifest = pathlib.Path(imported).read_text("utf-8")
+        server = real_server.Server('history = 1000000\nredirect_dir = "on"\n' + manifest)
+        server.client().close()
+        return server
+
+    def mount(self):
+        self.process = subprocess.Popen(
+            [PROGRAM, self.server.path, self.here, "--verbose", *self.options],
+            stdin=subprocess.DEVNULL, stderr=subprocess.PIPE, text=True, env=ENVIRONMENT)
+        limit = time.monotonic() + WAIT
+        while not os.path.ismount(self.here):
+            if time.monotonic() > limit or self.process.poll() is not None:
+                raise AssertionError("no mount: " + self.process.stderr.read())
+            time.sleep(0.01)
+
+    def mount_overlay(self):
+        for name in ("upper", "work", "over"):
+            os.mkdir(self.path(name))
+        options = f"lowerdir=base,upperdir=upper,workdir=work,{OVERLAY}"
+        subprocess.run(["mount", "-t", "overlay", "overlay", "-o", options, "over"],
+                       cwd=self.folder, check=True)
+
+    def unmount(self):
+        """What the bridge told in the end."""
+        subprocess.run(["umount", "--lazy", self.here], check=True)
+        told = self.process.communicate(timeout=WAIT)[1]
+        status, self.process = self.process.returncode, None
+        if status != 0:
+            raise AssertionError(f"status {status}: {told}")
+        return told
+
+    def remount(self):
+        """A new bridge and an empty cache: what is there then is what the server has."""
+        self.unmount()
+        self.mount()
+
+    def end(self):
+        """Unmounts both; what the bridge told in the end."""
+        try:
+            return self.unmount() if self.process else None
+        finally:
+            if self.has_overlay:
+                subprocess.run(["umount", "--lazy", self.there], check=True)
+            self.server.__exit__(None, None, None)
+            shutil.rmtree(self.folder)
+
+
+def trips(told):
+    words = told.split()
+    return int(words[words.index("round") - 1])
+
+
+def attributes(path):
+    return sorted((name, os.getxattr(path, name, follow_symlinks=False))
+                  for name in os.listxattr(path, follow_symlinks=False)
+                  if name.startswith("user."))
+
+
+def described(path, root, with_bytes=True):
+    """What an object is, but for times, numbers, and what a directory's size and links are."""
+    found = os.lstat(path)
+    told = [oct(found.st_mode), found.st_uid, found.st_gid, found.st_rdev]
+    if not stat.S_ISDIR(found.st_mode):
+        told += [found.st_size, found.st_nlink]
+    if stat.S_ISLNK(found.st_mode):
+        told.append(os.readlink(path))
+    elif stat.S_ISREG(found.st_mode) or stat.S_ISDIR(found.st_mode):
+        told.append(attributes(path))
+    if stat.S_ISREG(found.st_mode) and with_bytes:
+        told.append(pathlib.Path(path).read_bytes().replace(os.fsencode(root), b"ROOT"))
+    return told
+
+
+def tree(root, leaves_out=(), link_owners=True):
+    """All objects below a directory; of files whose names end so not the bytes and sizes."""
+    found = {}
+    for folder, folders, files in os.walk(root):
+        for name in folders + files:
+            path = os.path.join(folder, name)
+            told = described(path, root, not name.endswith(leaves_out))
+            if name.endswith(leaves_out):
+                told[4:5] = []
+            if os.path.islink(path) and not link_owners:
+                told[1:3] = []
+            found[os.path.relpath(path, root)] = told
+    return found
+
+
+def times(root):
+    """When each object but links was changed, its bytes and all else of it."""
+    found = {}
+    for folder, folders, files in os.walk(root):
+        for name in folders + files:
+            told = os.lstat(os.path.join(folder, name))
+            if not stat.S_ISLNK(told.st_mode):
+                path = os.path.relpath(os.path.join(folder, name), root)
+                found[path] = (told.st_mtime_ns, told.st_ctime_ns)
+    return found
+
+
+class MountedCase(unittest.TestCase):
+    """Tests on one pair of mounts, each in a folder of its own."""
+
+    OPTIONS = ()
+    mounted = None
+
+    @staticmethod
+    def fill(base):
+        """What the lower layer has."""
+
+    @classmethod
+    def setUpClass(cls):
+        reason = why_not() or why_no_overlay()
+        if reason:
+            raise unittest.SkipTest(reason)
+        cls.mounted = Mounted(cls.fill, *cls.OPTIONS)
+
+    @classmethod
+    def tearDownClass(cls):
+        if cls.mounted:
+            cls.mounted.end()
