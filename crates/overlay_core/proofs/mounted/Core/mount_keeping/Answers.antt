@@ -11,6 +11,13 @@ use Rattle.overlay_core.proofs.Agreeing.{all-below, bounded, filled-layers, has-
 use Rattle.overlay_core.proofs.Waited.{none-waits}
 use Rattle.overlay_core.proofs.mounted.Core.mount_keeping.Goals as goal
 
+pub new-requires-2 : goal.new-requires-2
+new-requires-2 g c =
+    let same : c.keep_look_ups.new.self ≡ c.in_ok-layers.layers = c.keep_look_ups.ensures in
+    let are : AreLayers (layers_of c.keep_look_ups.new.self) = rw (same, c.in_ok-layers.ensures.upper, c.in_ok-layers.ensures.lowers)
+    (filled-layers (layer_of c.args.upper) (map layer_of c.args.lowers.items) c.requires.layers) in
+    are
+
 pub invariant_of-result : goal.invariant_of-result
 invariant_of-result g c =
     let w = c.in_ok-watched.watched in

@@ -3,17 +3,25 @@ use Rattle.std.proofs.lemmas.Int.{to_z_pos}
 use Rattle.ov_base.specs.declared.call.Call.TheVariants.{Arm}
 use Rattle.ov_base.specs.declared.reply.Reply.TheVariants.{Watch}
 use Rattle.plain_model.specs.Runs.{Called}
-use Rattle.merged_lookup.specs.Merged.{layers_of}
+use Rattle.merged_lookup.specs.Merged.{upper_of, layers_of, lowers_of}
 use Rattle.notifier.specs.Arming.{ArmsAt, IsArmRefused, IsLeft}
 use Rattle.overlay_core.specs.PathFaults.{arm_fault}
 use Rattle.overlay_core.specs.Watching.{Goes, Stays}
-use Rattle.overlay_core.proofs.Arming.{arm-goes, left-stays, object-refused, path-refused, slot-refused}
+use Rattle.overlay_core.proofs.Arming.{arm-goes, is-tracked, left-stays, object-refused, path-refused, slot-refused}
 use Rattle.overlay_core.proofs.Instances.{has-instance}
 use Rattle.overlay_core.proofs.Performing.{on-err}
 use Rattle.overlay_core.proofs.watched.Watched.arm.Goals as goal
 
 pub may_arm-requires : goal.may_arm-requires
 may_arm-requires g c = has-instance c.args.self.now.mount c.args.self.now.notifier c.args.client c.requires.state c.requires.there
+
+pub armed-armed-requires-clause-stands : goal.armed-armed-requires-clause-stands
+armed-armed-requires-clause-stands g c =
+    let m = c.args.self.now.mount in
+    let p = c.args.path.now in
+    let mask = c.args.mask in
+    let fault = ap (λ l. arm_fault (layers_of l) p mask) (sym c.layers.ensures) ∙ sym c.path_fault.ensures ∙ c.in_default-path_fault.is in
+    is-tracked (upper_of m.layers) (lowers_of m.layers) p mask c.object_at-object.result fault c.object_at-object.ensures
 
 pub returns-in-Err-clause-goes : goal.returns-in-Err-clause-goes
 returns-in-Err-clause-goes g c =
