@@ -196,6 +196,19 @@ class Shared(ServerCase):
         client.mkdir("/f")
         self.assertNotEqual(kernel.lookup(ROOT, "f").nodeid, f)
 
+    def test_who_reads_a_lower_file_keeps_its_bytes_from_others(self):
+        server = self.served()
+        kernel, client = self.bridge(server, "--shared"), self.client(server)
+        f = kernel.walk("/f").nodeid
+        reader = kernel.open(f).fh
+        with client.open("/f", os.O_WRONLY) as other:
+            other.write(b"abc")
+        self.assertEqual(kernel.read(f, reader, 0, 99), b"0123456789")
+        self.assertEqual(kernel.read(f, kernel.open(f).fh, 0, 99), b"abc3456789")
+        writer = kernel.open(f, os.O_WRONLY).fh
+        kernel.write(f, writer, 0, b"X")
+        self.assertEqual(kernel.read(f, reader, 0, 99), b"Xbc3456789")
+
     def test_two_bridges_append(self):
         server = self.served()
         one, other = self.bridge(server, "--shared"), self.bridge(server, "--shared")
