@@ -1,5 +1,5 @@
 # What can be made; `make` alone lists it.
-.PHONY: help show play try-serve build serve test test-serve test-clients install clean
+.PHONY: help show play try-serve build serve test test-serve test-memory test-clients install clean
 
 EXAMPLE := examples/change-layer
 SOCKET := out/overlay.socket
@@ -15,6 +15,7 @@ help:
 	@echo "make serve         build, then serve on that socket as try-serve does"
 	@echo "make test          the gate: every proof, test, refused edit and program run"
 	@echo "make test-serve    tests the server of out/overlayd, or of \$$OVERLAYD, over its own sockets"
+	@echo "make test-memory   tests that program with its requests for memory refused (needs cc)"
 	@echo "make test-clients  tests the Python tools, with that program where it is built"
 	@echo "make install       copy that program, the Python tools and the manual to $(PREFIX),"
 	@echo "                   or to where PREFIX and DESTDIR say"
@@ -47,6 +48,9 @@ test:
 
 test-serve:
 	tools/test-serve
+
+test-memory:
+	tools/test-memory
 
 test-clients:
 	python3 -m unittest discover -s clients/python/tests -t clients/python
