@@ -4,7 +4,7 @@ import time
 
 from framed import request_of
 from played import Play
-from refusing import EACH, SECONDS, Wrong, expect
+from refusing import EACH, SECONDS, expect
 from rows import Line
 from served import Service
 
@@ -110,9 +110,7 @@ def is_gone(service, before):
     """The server has as few descriptors as before the client came."""
     until = time.monotonic() + SECONDS
     while service.descriptors() != before:
-        if time.monotonic() > until:
-            raise Wrong("the connection of a client that vanished stays")
-        time.sleep(0.001)
+        service.runs_on(until)
     service.settle()
 
 

@@ -1,10 +1,9 @@
 """`overlayd play` with requests for memory refused."""
+import contextlib
 import os
 import select
 import subprocess
-import tempfile
 import time
-from pathlib import Path
 
 from refusing import SECONDS, Wrong, expect
 from rows import Line, job_of, without_steps
@@ -18,25 +17,11 @@ class Play(Stage):
     """A script that is played line by line."""
 
     def __init__(self, program, library, manifest):
-        super().__init__(library)
-        self.folder = tempfile.TemporaryDirectory(dir=library.parent)
-        path = Path(self.folder.name) / "manifest.toml"
-        path.write_text(manifest)
-        self.run = subprocess.Popen(
-            [program, "play", path], stdin=subprocess.PIPE, stdout=subprocess.PIPE,
-            stderr=subprocess.PIPE, bufsize=0, env=self.refusals.environment)
+        super().__init__(program, library, manifest, ["play", "manifest.toml"], subprocess.PIPE)
         self.begun = b""
 
-    def __enter__(self):
+    def begin(self):
         self.plays([Line("work", ["work 0"])])
-        return self
-
-    def __exit__(self, *_):
-        if self.run.poll() is None:
-            self.run.kill()
-        self.run.communicate()
-        self.refusals.close()
-        self.folder.cleanup()
 
     def printed(self):
         """The next line on standard output."""
@@ -56,7 +41,8 @@ class Play(Stage):
         """Where a line doesn't print one line, `work` is asked behind it, whose own line says that
         it is over."""
         several = line.verb in ("#", "start", "layer", "merge")
-        self.run.stdin.write(f"{line.text}\n{'work' + chr(10) if several else ''}".encode())
+        with contextlib.suppress(BrokenPipeError):
+            self.run.stdin.write(f"{line.text}\n{'work' + chr(10) if several else ''}".encode())
         if not several:
             return [self.printed()]
         lines = []
@@ -107,7 +93,9 @@ class PlayTrial(Trial):
         for client in self.busy(at):
             texts += [f"{client} drop", "work"]
         clients = range(sum(line.verb == "attach" for line in self.row.lines[:at]))
-        return stage.looks([*texts, *texts_of_clients(clients)])
+        seen = stage.looks([*texts, *texts_of_clients(clients)])
+        files = [line.split(" ")[6] for line in seen[0][1] if line[0] == "f"] if clients else []
+        return [*seen, *(("bytes of " + path, bytes_at(stage, path)) for path in files)]
 
     def look_without(self, at):
         """A step is left out by giving its call up."""
@@ -125,6 +113,12 @@ class PlayTrial(Trial):
         (_, merged), (name, upper) = seen[0], seen[1]
         upper = [one for one in upper if one in wanted[1][1] or not is_placed(one, call, merged)]
         super().is_as([seen[0], (name, upper), *seen[2:]], wanted, at)
+
+
+def bytes_at(stage, path):
+    """What client 0 reads of a file."""
+    (opened,) = stage.answer(Line(f"0 open r {path}", []))
+    return stage.answer(Line(f"0 read {opened.split(' ')[-1]} 65536", []))
 
 
 def is_placed(line, call, merged):

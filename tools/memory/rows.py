@@ -95,6 +95,8 @@ def row_of(file, name, keeps=False):
             part = parts.setdefault(line[3:], [])
         elif part is not None and line:
             part.append(line)
+    if "script" not in parts:
+        raise SystemExit(f"{file} has no row `{name}`")
     lines = lines_of(parts["script"], parts["wanted"])
     return Row(name, "\n".join(parts["manifest"]) + "\n", lines, keeps)
 

@@ -3,8 +3,6 @@ import contextlib
 import os
 import signal
 import socket
-import subprocess
-import tempfile
 import time
 from pathlib import Path
 
@@ -60,8 +58,10 @@ class Peer:
 
 
 def state_of(task):
-    """The state of a thread, as the system tells it."""
-    return (task / "stat").read_text().rpartition(")")[2].split()[0]
+    """The state of a thread, as the system tells it; None of one that has just ended."""
+    with contextlib.suppress(OSError):
+        return (task / "stat").read_text().rpartition(")")[2].split()[0]
+    return None
 
 
 class Service(Stage):
@@ -69,39 +69,34 @@ class Service(Stage):
     which `place` counts; where that isn't known the next reply tells it."""
 
     def __init__(self, program, library, manifest, workers):
-        super().__init__(library)
+        super().__init__(program, library, manifest,
+                         ["serve", "manifest.toml", "socket", "--workers", str(workers)])
+        self.path = Path(self.folder.name) / "socket"
         self.workers = workers
-        self.folder = tempfile.TemporaryDirectory(dir=library.parent)
-        (Path(self.folder.name) / "manifest.toml").write_text(manifest)
-        self.run = subprocess.Popen(
-            [program, "serve", "manifest.toml", "socket", "--workers", str(self.workers)],
-            cwd=self.folder.name,
-            stdin=subprocess.DEVNULL, stdout=subprocess.PIPE, stderr=subprocess.PIPE,
-            env=self.refusals.environment)
         self.peers = []
         self.place = 0
 
-    def __enter__(self):
-        path = Path(self.folder.name) / "socket"
+    def begin(self):
         until = time.monotonic() + SECONDS
-        while not path.exists():
-            if self.run.poll() is not None or time.monotonic() > until:
-                raise Wrong("the server doesn't begin")
-            time.sleep(0.002)
-        return self
+        while not self.path.exists():
+            self.runs_on(until)
 
-    def __exit__(self, *_):
+    def runs_on(self, until):
+        """The server has not ended, and what is waited for may still come."""
+        if self.run.poll() is not None:
+            raise Wrong(f"the server ended by itself: {self.run.returncode}")
+        if time.monotonic() > until:
+            raise Wrong("the server doesn't get on")
+        time.sleep(0.001)
+
+    def close(self):
         for peer in self.peers:
             peer.link.close()
-        if self.run.poll() is None:
-            self.run.kill()
-        self.run.communicate()
-        self.refusals.close()
-        self.folder.cleanup()
+        super().close()
 
     def attach(self):
         """A connection is attached once it is told that `x` is no path."""
-        peer = Peer(Path(self.folder.name) / "socket")
+        peer = Peer(self.path)
         self.peers.append(peer)
         body = peer.ask(NO_PATH)
         if body == NO_MEMORY:
@@ -109,7 +104,7 @@ class Service(Stage):
             self.peers.pop().link.close()
             return "not attached ENOMEM"
         expect(body, NOT_A_PATH, "stat x")
-        self.goes_on(None if self.place is None else self.place)
+        self.goes_on(self.place)
         return f"client {len(self.peers) - 1}"
 
     def goes_on(self, place):
@@ -137,11 +132,9 @@ class Service(Stage):
         until = time.monotonic() + SECONDS
         asleep = 0
         while asleep < 2:
+            self.runs_on(until)
             states = [state_of(task) for task in Path(f"/proc/{self.run.pid}/task").iterdir()]
             asleep = asleep + 1 if set(states) == {"S"} and len(states) >= self.workers else 0
-            if time.monotonic() > until:
-                raise Wrong("the server doesn't come to rest")
-            time.sleep(0.001)
 
     def descriptors(self):
         return len(os.listdir(f"/proc/{self.run.pid}/fd"))

@@ -1,11 +1,14 @@
 """Rows whose lines are asked with each of their requests for memory refused, in turn."""
 import itertools
+import subprocess
+import tempfile
 from collections import Counter
+from pathlib import Path
 
 from refusing import Refusals, Wrong, expect
 from rows import Line
 
-DESCRIPTORS = range(4)
+DESCRIPTORS, WATCHES = range(4), range(1, 6)
 ANSWERED, SPARED = "answered ENOMEM", "answered all the same"
 
 
@@ -14,11 +17,34 @@ class Ended(Exception):
 
 
 class Stage:
-    """Lines that are asked of a program in which requests for memory can be refused. `answer` gives
-    the lines that one prints."""
+    """Lines that are asked of a program in which requests for memory can be refused. `begin` waits
+    until it can be asked, and `answer` gives the lines that one line prints."""
 
-    def __init__(self, library):
+    def __init__(self, program, library, manifest, words, stdin=subprocess.DEVNULL):
         self.refusals = Refusals(library)
+        self.folder = tempfile.TemporaryDirectory(dir=library.parent)
+        (Path(self.folder.name) / "manifest.toml").write_text(manifest)
+        self.run = subprocess.Popen(
+            [program, *words], cwd=self.folder.name, env=self.refusals.environment, bufsize=0,
+            stdin=stdin, stdout=subprocess.PIPE, stderr=subprocess.PIPE)
+
+    def __enter__(self):
+        try:
+            self.begin()
+        except BaseException:
+            self.close()
+            raise
+        return self
+
+    def __exit__(self, *_):
+        self.close()
+
+    def close(self):
+        if self.run.poll() is None:
+            self.run.kill()
+        self.run.communicate()
+        self.refusals.close()
+        self.folder.cleanup()
 
     def plays(self, lines):
         for line in lines:
@@ -48,12 +74,15 @@ class Stage:
 
 
 def texts_of_clients(clients):
-    """Lines that show the queue of each client and its descriptors, and change them."""
+    """Lines that show the queue of each client, its descriptors and its watches, and change them.
+    No row has more of them."""
     for client in clients:
         yield f"{client} notices 65"
     for client, number in itertools.product(clients, DESCRIPTORS):
         yield from (f"{client} fstat {number}", f"{client} seek {number} 0 cur",
                     f"{client} read {number} 65536", f"{client} list {number} 256")
+    for client, number in itertools.product(clients, WATCHES):
+        yield f"{client} disarm {number}"
 
 
 def no_memory(line):
@@ -65,7 +94,7 @@ class Trial:
     """A row and a program. Those that follow say how it is asked: `stage` begins it on the row's
     layers with a history of so many places; `look` shows all that a line may have changed, and
     `look_without` shows it where the line is left out; `ended` judges what ended; `copies` says
-    of a call whether it may have steps between which others find the lock free."""
+    of a line whether it may copy a file and leave the next steps to be made."""
 
     def __init__(self, program, library, row):
         self.program, self.library, self.row = program, library, row
@@ -88,6 +117,7 @@ class Trial:
     def is_as(self, seen, wanted, _at):
         for (text, got), (_, should) in zip(seen, wanted):
             expect(got, should, f"afterwards, {text}")
+        expect(len(seen), len(wanted), "how much is looked at")
 
     def can_do_without(self, line):
         """Whether a call asks for memory that it can do without: to keep a look-up, or what it
