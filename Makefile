@@ -1,6 +1,6 @@
 # What can be made; `make` alone lists it.
-.PHONY: help show play try-serve build serve test test-serve test-clients install clean \
-    build-fuse test-fuse test-fuse-mounted try-fuse
+.PHONY: help show play try-serve build serve test test-serve test-memory test-clients install \
+    clean build-fuse test-fuse test-fuse-mounted try-fuse
 
 EXAMPLE := examples/change-layer
 SOCKET := out/overlay.socket
@@ -16,6 +16,7 @@ help:
 	@echo "make serve         build, then serve on that socket as try-serve does"
 	@echo "make test          the gate: every proof, test, refused edit and program run"
 	@echo "make test-serve    tests the server of out/overlayd, or of \$$OVERLAYD, over its own sockets"
+	@echo "make test-memory   tests that program with its requests for memory refused (needs cc)"
 	@echo "make test-clients  tests the Python tools, with that program where it is built"
 	@echo "make try-fuse DIR=DIRECTORY  mount a copy of a directory, until it is unmounted"
 	@echo "make build-fuse    build the bridge to FUSE and leave it at out/overlayd-fuse"
@@ -52,6 +53,9 @@ test:
 
 test-serve:
 	tools/test-serve
+
+test-memory:
+	tools/test-memory
 
 test-clients:
 	python3 -m unittest discover -s clients/python/tests -t clients/python
