@@ -46,6 +46,7 @@ struct node {
     struct attr attr;         /* as it was last told or changed */
     unsigned sure;            /* the epoch in which `attr` is true, or 0 */
     bool touched;             /* known to be in the upper layer */
+    bool written;             /* known to have its bytes there */
     bool fetched;             /* the kernel has read from it */
     bool has_times, has_owner;
     struct times times;       /* where has_times */
@@ -184,6 +185,7 @@ bool is_alive(const struct handle *handle);
 struct handle *live_handle(const struct node *node, bool writes);
 /* Notes that the node is in the upper layer, and opens anew what was opened before that. */
 void node_touched(struct bridge *bridge, struct node *node);
+void node_written(struct bridge *bridge, struct node *node);
 unsigned open_flags(const struct bridge *bridge, int flags);
 void handles_end(struct bridge *bridge);
 

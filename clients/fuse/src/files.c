@@ -51,7 +51,7 @@ static void do_open(fuse_req_t request, fuse_ino_t number, struct fuse_file_info
         handle->changed = true;
     }
     if (flags != OPEN_READ)
-        node_touched(bridge, node);
+        node_written(bridge, node);
     info->fh = handle->number;
     info->direct_io = bridge->options.shared;
     info->keep_cache = is_sure(bridge, node);

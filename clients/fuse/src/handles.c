@@ -115,16 +115,31 @@ static void reopen(struct bridge *bridge, struct handle *handle)
     close_later(bridge, &old);
 }
 
-/* A descriptor for reading alone on a file of a lower layer keeps the bytes that the file had,
-   which is not what a program of Linux expects once the file is copied up. */
+static void reopen_readers(struct bridge *bridge, struct node *node)
+{
+    for (struct handle *handle = node->handles; handle; handle = handle->next)
+        if (handle->access == OPEN_READ && is_alive(handle))
+            reopen(bridge, handle);
+}
+
+/* A descriptor for reading alone on a file of a lower layer keeps what the file was, which is not
+   what a program of Linux expects once the file is copied up. */
 void node_touched(struct bridge *bridge, struct node *node)
 {
     if (node->touched || node->attr.kind != KIND_FILE)
         return;
     node->touched = true;
-    for (struct handle *handle = node->handles; handle; handle = handle->next)
-        if (handle->access == OPEN_READ && is_alive(handle))
-            reopen(bridge, handle);
+    reopen_readers(bridge, node);
+}
+
+/* With metacopy a file is copied up without its bytes first, and such a descriptor keeps these. */
+void node_written(struct bridge *bridge, struct node *node)
+{
+    if (node->written || node->attr.kind != KIND_FILE)
+        return;
+    node->touched = true;
+    node->written = true;
+    reopen_readers(bridge, node);
 }
 
 /* The kernel's cache reads what it writes in part, and appends by itself. */

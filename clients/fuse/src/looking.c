@@ -60,7 +60,7 @@ static struct handle *handle_to_ask(struct bridge *bridge, const struct node *no
     struct handle *handle = handle_of(bridge, info);
     if (!node->names)
         return handle && is_alive(handle) ? handle : live_handle(node, false);
-    bool is_true = handle && is_alive(handle) && (node->touched || handle->access != OPEN_READ);
+    bool is_true = handle && is_alive(handle) && (node->written || handle->access != OPEN_READ);
     return bridge->options.shared && is_true ? handle : NULL;
 }
 

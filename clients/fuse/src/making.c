@@ -84,6 +84,7 @@ static struct node *made_node(struct bridge *bridge, const struct making *making
     }
     node_see(bridge, node, attr);
     node->touched = true;
+    node->written = true;
     times_new(node);
     times_changed(bridge, making->parent);
     return node;

@@ -136,7 +136,9 @@ static int set(struct bridge *bridge, struct setting *setting)
     }
     set_attr(bridge, setting);
     set_times(bridge, setting);
-    if (changes && setting->by_path)
+    if (changes && setting->by_path && asks(setting, FUSE_SET_ATTR_SIZE))
+        node_written(bridge, setting->node);
+    else if (changes && setting->by_path)
         node_touched(bridge, setting->node);
     keep_meta(bridge, setting->node);
     return 0;

@@ -5,7 +5,7 @@ import os
 import unittest
 
 from .bridges import Bridge, ServerCase
-from .kernel import (OPEN_DIRECT, OPEN_KEEP_CACHE, ROOT, SET_MODE, WRITE_CACHE)
+from .kernel import (OPEN_DIRECT, OPEN_KEEP_CACHE, ROOT, SET_MODE, SET_SIZE, WRITE_CACHE)
 
 LIMIT = 1048576
 CREATE, REPLACE = 1, 2
@@ -13,6 +13,9 @@ TREE = """layer = [{}, { entry = [
 { path = "/f", kind = "file", text = "0123456789" },
 { path = "/z", kind = "file", zeros = 1048576 },
 ] }]"""
+METACOPY = """redirect_dir = "on"
+metacopy = "on"
+"""
 
 
 def pattern(count):
@@ -208,6 +211,30 @@ class Shared(ServerCase):
         writer = kernel.open(f, os.O_WRONLY).fh
         kernel.write(f, writer, 0, b"X")
         self.assertEqual(kernel.read(f, reader, 0, 99), b"Xbc3456789")
+
+    def test_who_reads_a_file_without_bytes_of_its_own_sees_what_is_written(self):
+        server = self.served(METACOPY + TREE)
+        kernel, client = self.bridge(server, "--shared"), self.client(server)
+        f = kernel.walk("/f").nodeid
+        kernel.setattr(f, SET_MODE, mode=0o600)
+        reader = kernel.open(f).fh
+        writer = kernel.open(f, os.O_WRONLY).fh
+        kernel.write(f, writer, 0, b"abc")
+        self.assertEqual(kernel.read(f, reader, 0, 99), b"abc3456789")
+        kernel.setattr(f, SET_SIZE, size=4)
+        self.assertEqual(kernel.getattr(f, reader).size, 4)
+        self.assertEqual(kernel.read(f, reader, 0, 99), b"abc3")
+        self.assertEqual(client.stat("/f").st_mode & 0o7777, 0o600)
+
+    def test_a_size_gives_a_file_its_bytes(self):
+        server = self.served(METACOPY + TREE)
+        kernel = self.bridge(server, "--shared")
+        f = kernel.walk("/f").nodeid
+        kernel.setattr(f, SET_MODE, mode=0o600)
+        reader = kernel.open(f).fh
+        kernel.setattr(f, SET_SIZE, size=4)
+        self.assertEqual(kernel.getattr(f, reader).size, 4)
+        self.assertEqual(kernel.read(f, reader, 0, 99), b"0123")
 
     def test_two_bridges_append(self):
         server = self.served()

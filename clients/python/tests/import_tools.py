@@ -1,6 +1,7 @@
 """What the tests of the importer share: tars, images, runs of the command and of overlayd."""
 
 import contextlib
+import errno
 import gzip
 import hashlib
 import io
@@ -123,6 +124,18 @@ def skip(test: str, reason: str) -> NoReturn:
     """Skips a test with a line that says why."""
     print(f"skipped: {test}: {reason}", file=sys.stderr)
     raise unittest.SkipTest(reason)
+
+
+def set_attribute(test: str, path: Path, name: str, value: bytes) -> None:
+    """Sets an extended attribute; the test is skipped where that can't be."""
+    try:
+        os.setxattr(path, name, value, follow_symlinks=False)
+    except AttributeError:
+        skip(test, "this system has no extended attributes")
+    except OSError as error:
+        if error.errno not in (errno.ENOTSUP, errno.EPERM):
+            raise
+        skip(test, f"{name} can't be set here")
 
 
 def overlayd() -> Optional[str]:

@@ -22,6 +22,7 @@ from . import test_import_kernel as kernel
 from .export_tools import ExportCase
 
 LINES = r"""redirect_dir = "on"
+metacopy = "on"
 # the upper, which isn't looked at
 [[layer]]
 [[layer.entry]]

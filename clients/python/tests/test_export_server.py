@@ -184,12 +184,14 @@ class ServedTest(ExportCase):
             tools.skip(f"{cls.__module__}.{cls.__name__}", reason)
 
     def test_random_changes(self) -> None:
-        """20 seeds, each with an upper from the start; every other one makes redirects."""
+        """20 seeds, each with an upper from the start; every other one makes redirects, and every
+        fourth one files without bytes of their own too."""
         for seed in range(SEEDS):
             with self.subTest(seed=seed):
                 base = self.start(seed)
                 self.first_upper(base, seed)
                 options = ["--redirect-dir", "on"] if seed % 2 else []
+                options += ["--metacopy", "on"] if seed % 4 == 3 else []
                 tools.import_to(base / "m.toml", [*options, str(base / "first"), str(base / "low")])
                 shown, told = self.change(base, seed)
                 lines = self.each_alone(base / "up", shown.lines)

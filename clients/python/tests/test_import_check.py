@@ -3,6 +3,7 @@
 import contextlib
 import io
 import re
+import subprocess
 import tempfile
 import unittest
 from pathlib import Path
@@ -48,7 +49,7 @@ attrs = [["user.a", "1"], ["trusted.b", "2"]]
 """
 TOLD = """\
 m:1: redirect_dir: "on" or "off", and not "yes"
-m:2: colour: no such key; at the top there are layer, redirect_dir and history
+m:2: colour: no such key; at the top there are layer, redirect_dir, metacopy and history
 m:9: layer 1 entry 0: /etc/motd: path: /etc is not described before; an earlier entry of kind dir \
 has to be
 m:11: layer 1 entry 0: /etc/motd: mode: from 0 to 0o7777, and not 4096
@@ -65,6 +66,26 @@ m:27: layer 1 entry 3: /l: redirect: a redirect is one name, or a path from / wi
 m:28: layer 1 entry 3: /l: attrs: a name begins with user., has more, and 255 bytes at most: \
 "trusted.b"
 """
+# The beginning of a manifest, what is told of it, and what overlayd says.
+METACOPY = [
+    ('redirect_dir = "on"\nmetacopy = "on"', [], None),
+    ('metacopy = "on"\nredirect_dir = "on"', [], None),
+    ('metacopy = "off"', [], None),
+    ('redirect_dir = "off"\nmetacopy = "off"', [], None),
+    ('metacopy = "on"', [(1, '"off", where redirect_dir isn\'t "on", and not "on"')], "metacopy"),
+    ('redirect_dir = "off"\n\nmetacopy = "on"',
+     [(3, '"off", where redirect_dir isn\'t "on", and not "on"')], "metacopy"),
+    ('redirect_dir = "on"\nmetacopy = "maybe"', [(2, '"on" or "off", and not "maybe"')],
+     "metacopy"),
+    ("metacopy = true", [(1, 'a text, "off", where redirect_dir isn\'t "on"; it is true or false')],
+     "key"),
+    ('history = 1\nmetacopy = "on"\nredirect_dir = "yes"',
+     [(1, "from 2 to 1000000, and not 1"),
+      (2, '"off", where redirect_dir isn\'t "on", and not "on"'),
+      (3, '"on" or "off", and not "yes"')], "redirect_dir"),
+    ('history = 1\nredirect_dir = "on"\nmetacopy = ""',
+     [(1, "from 2 to 1000000, and not 1"), (3, '"on" or "off", and not ""')], "metacopy"),
+]
 # What is no TOML, the line, and the end of what is told.
 NO_TOML = [
     (b"a = 1\nb = \xff\n", 2, "bytes that aren't UTF-8"),
@@ -135,6 +156,28 @@ class Checks(unittest.TestCase):
         self.assertEqual((status, told), (1, TOLD.splitlines()))
         self.assertEqual(error, f"overlayd-import: {path}: 12 faults; overlayd says "
                          "`manifest: key`\n")
+
+    def test_metacopy(self) -> None:
+        """It needs redirects, and is judged after them and before the history."""
+        for head, told, word in METACOPY:
+            with self.subTest(head):
+                checked = check(f"{head}\nlayer = [{{}}, {{}}]\n".encode())
+                self.assertEqual([(fault.line, fault.what) for fault in checked.faults], told)
+                self.assertEqual(checked.first, word and f"manifest: {word}")
+
+    def test_metacopy_in_the_program(self) -> None:
+        """It says the same."""
+        program = tools.overlayd()
+        if program is None:
+            tools.skip(self.id(), "no overlayd was built (environment variable OVERLAYD)")
+        with tempfile.TemporaryDirectory() as folder:
+            path = Path(folder, "m")
+            for head, _, word in METACOPY:
+                path.write_text(f"{head}\nlayer = [{{}}, {{}}]\n", "utf-8")
+                done = subprocess.run([program, "show", str(path)], capture_output=True,
+                                      check=False)
+                self.assertEqual(done.stderr.decode(),
+                                 f"overlayd: manifest: {word}\n" if word else "")
 
     def test_what_is_no_toml(self) -> None:
         """The first place at which it is none."""

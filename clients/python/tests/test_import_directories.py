@@ -1,6 +1,5 @@
 """Directories, and uppers of the kernel's overlayfs by their attributes."""
 
-import errno
 import os
 import tempfile
 import unittest
@@ -66,14 +65,7 @@ class DirectoryTest(unittest.TestCase):
 
     def set(self, path: Path, name: str, value: bytes) -> None:
         """Sets an attribute; the test is skipped where that can't be."""
-        try:
-            os.setxattr(path, name, value, follow_symlinks=False)
-        except AttributeError:
-            tools.skip(self.id(), "this system has no extended attributes")
-        except OSError as error:
-            if error.errno not in (errno.ENOTSUP, errno.EPERM):
-                raise
-            tools.skip(self.id(), f"{name} can't be set here")
+        tools.set_attribute(self.id(), path, name, value)
 
     def layers(self, run: tools.Run) -> List[str]:
         """The text of each layer, without the test's own owner; nothing failed."""
@@ -181,16 +173,6 @@ attrs = [["user.a", "é\n"], ["user.b", "2"]]""")
         self.assertEqual(len(run.errors), 2, run.errors)
         self.assertEqual(run.errors[0], f"overlayd-import: left out: {self.upper}: /lost: redirect "
                          "\\xff: none that a manifest can say; nothing below is shown")
-
-    def test_metacopy(self) -> None:
-        """A file whose bytes are below is refused by its name."""
-        (self.upper / "f").touch()
-        self.set(self.upper / "f", "user.overlay.metacopy", b"")
-        run = tools.run_import(str(self.upper), str(self.lower))
-        self.assertEqual(run.status, 1)
-        self.assertEqual(run.errors, [
-            f"overlayd-import: {self.upper}: /f: a file whose bytes are in a lower layer "
-            "(metacopy); such uppers aren't read"])
 
     def test_devices(self) -> None:
         """0/0 is a whiteout; other devices are told."""

@@ -175,10 +175,11 @@ def script_and_answers(root: str, paths: List[str]) -> List[List[str]]:
     return [script, answers]
 
 
-class KernelTest(unittest.TestCase):
-    """Random layers."""
+class KernelCase(unittest.TestCase):
+    """Random layers that the kernel made; the uppers by changes of this class."""
 
     program = ""
+    changes = Changes
 
     @classmethod
     def setUpClass(cls) -> None:
@@ -187,6 +188,10 @@ class KernelTest(unittest.TestCase):
             tools.skip(f"{cls.__module__}.{cls.__name__}", reason)
         cls.program = tools.overlayd() or ""
 
+    def make_base(self, root: str, seed: int) -> None:
+        """Fills the lowest layer."""
+        Changes(root, seed).make(60)
+
     def stack(self, folder: Path, seed: int, uppers: int, changes: int,
               kept: str = OPTIONS) -> List[str]:
         """Makes a base and so many uppers over it, each by changes of a mount; the layers' names,
@@ -194,7 +199,7 @@ class KernelTest(unittest.TestCase):
         for name in ("m", "0"):
             (folder / name).mkdir()
         (folder / "0").chmod(0o750)
-        Changes(str(folder / "0"), seed).make(60)
+        self.make_base(str(folder / "0"), seed)
         layers = ["0"]
         for number in range(1, uppers + 1):
             upper, work = str(number), f"w{number}"
@@ -202,7 +207,7 @@ class KernelTest(unittest.TestCase):
             (folder / work).mkdir()
             options = f"lowerdir={':'.join(layers)},upperdir={upper},workdir={work},{kept}"
             self.assertEqual(mount(folder, options), 0)
-            Changes(str(folder / "m"), seed * 100 + number).make(changes)
+            self.changes(str(folder / "m"), seed * 100 + number).make(changes)
             unmount(folder)
             layers.insert(0, upper)
         return layers
@@ -221,6 +226,10 @@ class KernelTest(unittest.TestCase):
             unmount(folder)
         self.assertEqual(tools.show(self.program, manifest), lines)
         self.assertEqual(tools.play(self.program, manifest, "\n".join(script)), answers)
+
+
+class KernelTest(KernelCase):
+    """Layers without marks of files."""
 
     def test_two_layers(self) -> None:
         """An upper over a base."""

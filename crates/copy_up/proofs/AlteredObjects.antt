@@ -103,7 +103,7 @@ object-directory start old new n p key a gains s d nameless =
     beside x off (inr g) = inr (record { parent = parent-above n p x off g.parent; lacked = g.lacked; layer = g.layer; key = g.key; attributes = g.attributes; shown = g.shown; number = g.number; vacant = g.vacant; gained = d.elsewhere x off ∙ g.gained })
 
 -- a file or link of a lower layer that is copied up is the one object that is new
-module _ (old new : Layers) (p : Path) (c : Content) (a : Attributes) (leaf : CopiesLeaf old new p c a) (j k : ℕ) (x : Option Inode) (shown : shows 0 (layers_of old) p ≡ Some (Contents j k x)) (lower : 0 < j) where
+module _ (old new : Layers) (p : Path) (c : Content) (mark : Option Path) (a : Attributes) (leaf : CopiesLeaf old new p c mark a) (j k : ℕ) (x : Option Inode) (shown : shows 0 (layers_of old) p ≡ Some (Contents j k x)) (lower : 0 < j) where
   lacked-there : held (layer_of old.upper) p ≡ None
   lacked-there = free-inode (upper_of old).inodes (held (layer_of old.upper) p) (through (layer_of old.upper) (lowers_of old) p) j k x shown lower
 

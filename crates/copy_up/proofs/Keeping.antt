@@ -72,7 +72,7 @@ place-of l p s n is top free =
     record { attributes = d.attributes; opaque = d.opaque; redirect = d.redirect; directory = d.is; free = free }
 
 -- an upper that stays a layer over lower ones that stay
-stays-layers : (old new : Layers) → new.lowers ≡ old.lowers → (IsLayer (layer_of old.upper) → IsLayer (layer_of new.upper)) → StaysLayers old new
+pub stays-layers : (old new : Layers) → new.lowers ≡ old.lowers → (IsLayer (layer_of old.upper) → IsLayer (layer_of new.upper)) → StaysLayers old new
 stays-layers old new low keep h = (layer-raised old new low keep h.0, subst AreLayers (sym (lowers-same old new low)) h.1)
 
 -- a change of the upper at a path, after missing parents were placed

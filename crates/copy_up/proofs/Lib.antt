@@ -6,5 +6,6 @@ pub mod Keeping
 pub mod Needing
 pub mod Copying
 pub mod OtherAttributes
+pub mod OwnBytes
 pub mod OwnAttributes
 pub mod AlteredObjects

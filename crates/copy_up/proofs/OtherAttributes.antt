@@ -42,7 +42,7 @@ marks-alike k x y o (Some (Absolute q)) = record { spelled = λ n s. refl; cut_a
 marks-alike k x y o (Some (Single m)) = record { spelled = λ n s. refl; cut_alike = λ c. refl }
 
 -- an upper that passes on the same, and has no whiteout that it had not, stays thin
-thin-agree : (old new : Layers) → new.lowers ≡ old.lowers → ((x : Path) → AgreeTo (layer_of old.upper) (layer_of new.upper) x) → ((x : Path) → held (layer_of new.upper) x ≡ Some Whiteout → held (layer_of old.upper) x ≡ Some Whiteout) → StaysThin old new
+pub thin-agree : (old new : Layers) → new.lowers ≡ old.lowers → ((x : Path) → AgreeTo (layer_of old.upper) (layer_of new.upper) x) → ((x : Path) → held (layer_of new.upper) x ≡ Some Whiteout → held (layer_of old.upper) x ≡ Some Whiteout) → StaysThin old new
 thin-agree old new low agree white h =
     subst (λ (Ls : List Layer). IsThin (layer_of new.upper) Ls) (sym (lowers-same old new low))
     (λ n p is. ap is_some (under-agree (layer_of old.upper) (layer_of new.upper) (lowers_of old) n p (agree p)) ∙ h n p (white (n ∷ p) is))
@@ -60,8 +60,8 @@ module _ (old new : Layers) (low : new.lowers ≡ old.lowers) (p : Path) (key : 
   thin-directory = thin-agree old new low (agree-all (layer_of old.upper) (layer_of new.upper) p directory-alike s.elsewhere) no-whiteout
 
   -- shows them and changes no more
-  pub alters-directory : (IsLayer (layer_of old.upper) → IsLayer (layer_of new.upper)) → AreLayers (layers_of old) → Alters (upper_of old) (upper_of new) (lowers_of old) false p a
-  alters-directory keep h = law_of_altered_directory (upper_of old) (upper_of new) (lowers_of old) (layer-raised old new low keep h.0, h.1) false p a (altered-directory-raised old new low p a (record {
+  pub alters-directory : (marked : Bool) → (IsLayer (layer_of old.upper) → IsLayer (layer_of new.upper)) → AreLayers (layers_of old) → Alters (upper_of old) (upper_of new) (lowers_of old) marked p a
+  alters-directory marked keep h = law_of_altered_directory (upper_of old) (upper_of new) (lowers_of old) (layer-raised old new low keep h.0, h.1) marked p a (altered-directory-raised old new low p a (record {
     number = key;
     old = s.was;
     opaque = s.opaque;
@@ -73,8 +73,8 @@ module _ (old new : Layers) (low : new.lowers ≡ old.lowers) (p : Path) (key : 
   }))
 
   -- also where it was placed just before
-  pub alters-placed : (start : Layers) → ShowsSame start old → NamesSame start old → StaysLayers start old → (IsLayer (layer_of old.upper) → IsLayer (layer_of new.upper)) → AreLayers (layers_of start) → Alters (upper_of start) (upper_of new) (lowers_of start) false p a
-  alters-placed start same names stays keep h = alters-since start old (upper_of new) false p a same names (alters-directory keep (stays h))
+  pub alters-placed : (marked : Bool) (start : Layers) → ShowsSame start old → NamesSame start old → StaysLayers start old → (IsLayer (layer_of old.upper) → IsLayer (layer_of new.upper)) → AreLayers (layers_of start) → Alters (upper_of start) (upper_of new) (lowers_of start) marked p a
+  alters-placed marked start same names stays keep h = alters-since start old (upper_of new) marked p a same names (alters-directory marked keep (stays h))
 
 -- an inode of the upper that gets other attributes
 module _ (old new : Layers) (low : new.lowers ≡ old.lowers) (key : ℕ) (a : Attributes) (s : SetsInode (layer_of old.upper) (layer_of new.upper) key a) where
@@ -83,8 +83,8 @@ module _ (old new : Layers) (low : new.lowers ≡ old.lowers) (key : ℕ) (a : A
   thin-inode = thin-agree old new low (λ x. agree-where (layer_of old.upper) (layer_of new.upper) (λ _. Unit {0}) (λ k y u. tt) (λ y u. s.objects y) x tt) (λ x h. sym (s.objects x) ∙ h)
 
   -- shows them at each of its names and changes no more
-  pub alters-inode : (p : Path) → held (layer_of old.upper) p ≡ Some (Named key) → (IsLayer (layer_of old.upper) → IsLayer (layer_of new.upper)) → AreLayers (layers_of old) → Alters (upper_of old) (upper_of new) (lowers_of old) false p a
-  alters-inode p named keep h = law_of_altered_inode (upper_of old) (upper_of new) (lowers_of old) (layer-raised old new low keep h.0, h.1) false p a (altered-inode-raised old new low p a (record {
+  pub alters-inode : (marked : Bool) (p : Path) → held (layer_of old.upper) p ≡ Some (Named key) → (IsLayer (layer_of old.upper) → IsLayer (layer_of new.upper)) → AreLayers (layers_of old) → Alters (upper_of old) (upper_of new) (lowers_of old) marked p a
+  alters-inode marked p named keep h = law_of_altered_inode (upper_of old) (upper_of new) (lowers_of old) (layer-raised old new low keep h.0, h.1) marked p a (altered-inode-raised old new low p a (record {
     number = key;
     inode = s.inode;
     named = named;

@@ -114,15 +114,15 @@ module _ (old new : Layers) (p : Path) (d : Place) (low : new.lowers ≡ old.low
   own-thin (inr o) = thin-inode old new low d.key (changed x o.inode.attributes) (sets-inode o)
 
   -- shows the changed attributes
-  pub own-alters : (IsLayer (layer_of old.upper) → IsLayer (layer_of new.upper)) → IsOwn old p d → AltersAs old new p x
-  own-alters keeps (inl o) a shows h =
-      subst (λ (b : Attributes). Alters (upper_of old) (upper_of new) (lowers_of old) false p (changed x b))
+  pub own-alters : (marked : Bool) → (IsLayer (layer_of old.upper) → IsLayer (layer_of new.upper)) → IsOwn old p d → AltersAs old new marked p x
+  own-alters marked keeps (inl o) a shows h =
+      subst (λ (b : Attributes). Alters (upper_of old) (upper_of new) (lowers_of old) marked p (changed x b))
       (shown-folder old p d.layer d.key o.attributes a o.shown shows)
-      (alters-directory old new low p d.key (changed x o.attributes) (sets-directory o) keeps h)
-  own-alters keeps (inr o) a shows h =
-      subst (λ (b : Attributes). Alters (upper_of old) (upper_of new) (lowers_of old) false p (changed x b))
+      (alters-directory old new low p d.key (changed x o.attributes) (sets-directory o) marked keeps h)
+  own-alters marked keeps (inr o) a shows h =
+      subst (λ (b : Attributes). Alters (upper_of old) (upper_of new) (lowers_of old) marked p (changed x b))
       (shown-inode old p d.layer d.key (fill (lowers_of old) o.inode) a o.shown shows)
-      (alters-inode old new low d.key (changed x o.inode.attributes) (sets-inode o) p o.is.named keeps h)
+      (alters-inode old new low d.key (changed x o.inode.attributes) (sets-inode o) marked p o.is.named keeps h)
 
   -- stands under its key still
   pub own-key : IsOwn old p d → number_of (held (layer_of new.upper) p) ≡ Some d.key

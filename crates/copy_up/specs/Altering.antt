@@ -1,6 +1,6 @@
 -- What other attributes of what a path shows leave of the upper's objects (chmod(2), chown(2), setxattr(2), removexattr(2); overlayfs.rst,
 -- "Non-directories").
-use Rattle.std.specs.Prelude.{◌≡◌, ◌≢◌, ◌⊎◌, ℕ, false, Option, None, Some, IsSome, option_map}
+use Rattle.std.specs.Prelude.{◌≡◌, ◌≢◌, ◌⊎◌, ℕ, Bool, Option, None, Some, IsSome, option_map}
 use Rattle.slab.specs.Slab.{get}
 use Rattle.ov_base.specs.AttributeChanges.{changed}
 use Rattle.ov_base.specs.declared.attribute_change.AttributeChange.{AttributeChange}
@@ -48,9 +48,9 @@ abbrev pub ShowsAttributes : Layers → Path → Attributes → Type 0
 ShowsAttributes l p a = shown_attributes (shows 0 (layers_of l) p) ≡ Some a
 
 -- the path shows the attributes that it showed after a change of them, and so do the other names of its inode; nothing else is shown
--- otherwise
-abbrev pub AltersAs : Layers → Layers → Path → AttributeChange → Type 0
-AltersAs old new p x = (a : Attributes) → ShowsAttributes old p a → AreLayers (layers_of old) → Alters (upper_of old) (upper_of new) (lowers_of old) false p (changed x a)
+-- otherwise, and where low says so the bytes of a file of lower layers stay there
+abbrev pub AltersAs : Layers → Layers → Bool → Path → AttributeChange → Type 0
+AltersAs old new low p x = (a : Attributes) → ShowsAttributes old p a → AreLayers (layers_of old) → Alters (upper_of old) (upper_of new) (lowers_of old) low p (changed x a)
 
 -- the object at the path has them, and every other object is as before
 abbrev pub AltersObjectAs : Layers → Layers → Path → AttributeChange → Type 0

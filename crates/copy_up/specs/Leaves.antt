@@ -1,9 +1,9 @@
 -- What the copying up of a file or a symbolic link leaves (overlayfs.rst, "Non-directories").
-use Rattle.std.specs.Prelude.{◌≡◌, ℕ, false, None, Some}
+use Rattle.std.specs.Prelude.{◌≡◌, ℕ, Bool, ◌&&◌, cond, Option, None, Some, is_some}
 use Rattle.slab.specs.Slab.{get}
 use Rattle.ov_base.specs.declared.attributes.Attributes.{Attributes}
 use Rattle.ov_base.specs.declared.bytes.Content.{Content}
-use Rattle.plain_model.specs.Layers.{Path, Named, held, AreLayers}
+use Rattle.plain_model.specs.Layers.{Path, Named, Layer, held, below, is_file, AreLayers}
 use Rattle.mount_laws.specs.Altered.{Alters}
 use Rattle.layer_tree.specs.Tree.{layer_of}
 use Rattle.layer_tree.specs.Nameless.{KeepsObjects}
@@ -11,15 +11,19 @@ use Rattle.merged_lookup.specs.declared.layers.Layers.{Layers}
 use Rattle.merged_lookup.specs.Merged.{upper_of, layers_of, lowers_of}
 use Rattle.copy_up.specs.Showing.{KeepsOthers}
 
--- The upper holds the file or link at the path, an inode of its own with one name and these attributes, which are all that is shown anew.
--- Its number was no other object's; what the upper holds elsewhere, and what stands under its keys, stays, but for missing parents that
--- it gained.
-pub record CopiesLeaf (old new : Layers) (p : Path) (content : Content) (a : Attributes) : Type 0 where
+-- the mark of a copy of what stands at a path: of a file whose bytes stay below its spelling there, and else none
+abbrev pub copy_mark : Bool → Layer → Path → Content → Option Path
+copy_mark low U p content = cond (low && is_file content) (Some (below U p)) None
+
+-- The upper holds the file or link at the path, an inode of its own with one name, this mark and these attributes, which are all that is
+-- shown anew: with a mark its bytes stay a lower file's. Its number was no other object's; what the upper holds elsewhere, and what stands
+-- under its keys, stays, but for missing parents that it gained.
+pub record CopiesLeaf (old new : Layers) (p : Path) (content : Content) (mark : Option Path) (a : Attributes) : Type 0 where
   pub lowers : new.lowers ≡ old.lowers
   pub number : ℕ
   pub held_there : held (layer_of new.upper) p ≡ Some (Named number)
-  pub inode : (upper_of new).inodes number ≡ Some (record { content = content; attributes = a; links = 1; mark = None })
-  pub alters : AreLayers (layers_of old) → Alters (upper_of old) (upper_of new) (lowers_of old) false p a
+  pub inode : (upper_of new).inodes number ≡ Some (record { content = content; attributes = a; links = 1; mark = mark })
+  pub alters : AreLayers (layers_of old) → (low : Bool) → is_some mark ≡ (low && is_file content) → Alters (upper_of old) (upper_of new) (lowers_of old) low p a
   pub vacant : get old.upper number ≡ None
   pub others : KeepsOthers old new p
   pub objects : KeepsObjects old.upper new.upper (Some number)

@@ -1,5 +1,5 @@
 // Other attributes of what a path shows.
-ghost use Rattle.std.specs.Prelude.{◌≡◌, ◌≢◌, ◌<◌, ◌∷◌, ℕ, [], Some, None, true, false, IsSome, IfOk, OnOk, OnErr};
+ghost use Rattle.std.specs.Prelude.{◌≡◌, ◌≢◌, ◌<◌, ◌∷◌, ℕ, Bool, [], Some, None, true, IsSome, option_map, reverse, IfOk, OnOk, OnErr};
 ghost use Rattle.slab.specs.Slab.{get};
 ghost use Rattle.ov_base.specs.AttributeChanges.{changed};
 ghost use Rattle.ov_base.specs.declared.attributes.Attributes.{Attributes as AttributesOf};
@@ -8,15 +8,16 @@ ghost use Rattle.mount_laws.specs.Altered.{Alters};
 ghost use Rattle.layer_tree.specs.AttributeChange.{attributes_at, SetsAttributes, SetsInode, SetsDirectory};
 ghost use Rattle.layer_tree.specs.Nameless.{IsNameless};
 ghost use Rattle.layer_tree.specs.Tree.{layer_of, key_at, inode_at, IsDirectory};
-ghost use Rattle.merged_lookup.specs.Merged.{upper_of, layers_of, lowers_of, parent, parents_fault, top_of, IsStackOf, IsTopmost, ShowsInode};
+ghost use Rattle.merged_lookup.specs.Merged.{upper_of, layers_of, lowers_of, parent, parents_fault, way_fault, top_of, IsStackOf, IsTopmost, ShowsInode};
 ghost use Rattle.copy_up.specs.Showing.{number_of, ShowsSame, ChangesNoSight, GainsParents, Stays, StaysSound};
+ghost use Rattle.copy_up.specs.Leaves.{CopiesLeaf, copy_mark};
 ghost use Rattle.copy_up.specs.Altering.{AltersObject, AltersAs, AltersObjectAs};
 
-use crate::leaves::all_at_once;
+use crate::leaves::{all_at_once, mark_of, place_meta};
 use crate::parents::{place_parent, place_parents, placed_or};
 use merged_lookup::{Layers, Place, Stack, Topmost};
-use ov_base::{AttributeChange, Attributes, Path};
-use std::alloc::AllocError;
+use ov_base::{AttributeChange, Attributes, Name, Path};
+use std::alloc::{AllocError, Global};
 
 /// Changes the attributes of what is shown at a path, as chmod(2), chown(2) and setxattr(2) do, and
 /// gives the key under which it stands in the upper then: in place where the upper has it; a
@@ -24,16 +25,18 @@ use std::alloc::AllocError;
 /// them (overlayfs.rst, "Non-directories"). It is told the merged directory in which the object
 /// stands. It fails only when out of memory, and changes nothing that is shown then.
 pub fn alter(
+    alloc: Global,
     layers: &mut Layers,
     path: &Path,
     directory: &Stack,
     top: Topmost,
     change: AttributeChange,
+    metacopy: bool,
 ) -> Result<usize, AllocError>
     requires way { parents_fault (layers_of layers.old) path.now ≡ None }
     requires directory { IsStackOf layers.old (parent path.now) directory.now }
     requires shown { IsTopmost layers.old path.now (Some top) }
-    ensures altered { OnOk result (AltersAs layers.old layers.new path.now change) }
+    ensures altered { OnOk result (AltersAs layers.old layers.new metacopy path.now change) }
     ensures object { OnOk result (AltersObjectAs layers.old layers.new path.now change) }
     ensures key { IfOk result (λ key.
         number_of (held (layer_of layers.new.upper) path.now) ≡ Some key) }
@@ -50,7 +53,9 @@ pub fn alter(
     }
     match top {
         Topmost::Directory(place) => place_changed(layers, path, directory, place, change),
-        Topmost::Inode(place) => copy_changed(layers, path, directory, place, change),
+        Topmost::Inode(place) => {
+            copy_changed(alloc, layers, path, directory, place, change, metacopy)
+        }
     }
 }
 
@@ -67,7 +72,8 @@ fn place_changed(
     requires shown { (a : AttributesOf) ×
         (shows 0 (layers_of layers.old) path.now ≡ Some (Folder place.layer place.key a)) }
     requires lower { 0 < place.layer }
-    ensures altered { OnOk result (AltersAs layers.old layers.new path.now change) }
+    ensures altered { OnOk result ((low : Bool) →
+        AltersAs layers.old layers.new low path.now change) }
     ensures object { OnOk result (AltersObjectAs layers.old layers.new path.now change) }
     ensures key { IfOk result (λ key.
         number_of (held (layer_of layers.new.upper) path.now) ≡ Some key) }
@@ -107,9 +113,9 @@ fn place_with(
     requires directory { IsStackOf layers.old (parent path.now) directory.now }
     requires shown { is_directory (shows 0 (layers_of layers.old) path.now) ≡ true }
     requires below { path.now ≢ [] }
-    ensures altered { OnOk result (AreLayers (layers_of layers.old) →
+    ensures altered { OnOk result ((low : Bool) → AreLayers (layers_of layers.old) →
         Alters (upper_of layers.old) (upper_of layers.new) (lowers_of layers.old)
-        false path.now attributes) }
+        low path.now attributes) }
     ensures object { OnOk result (AltersObject layers.old layers.new path.now attributes) }
     ensures key { IfOk result (λ key.
         number_of (held (layer_of layers.new.upper) path.now) ≡ Some key) }
@@ -149,17 +155,19 @@ fn place_at(layers: &mut Layers, path: &Path, directory: &Stack) -> Result<Stack
 
 // `alter` of a file or symbolic link of a lower layer, which is copied up.
 fn copy_changed(
+    alloc: Global,
     layers: &mut Layers,
     path: &Path,
     directory: &Stack,
     place: Place,
     change: AttributeChange,
+    metacopy: bool,
 ) -> Result<usize, AllocError>
     requires way { parents_fault (layers_of layers.old) path.now ≡ None }
     requires directory { IsStackOf layers.old (parent path.now) directory.now }
     requires shown { ShowsInode layers.old path.now place }
     requires lower { 0 < place.layer }
-    ensures altered { OnOk result (AltersAs layers.old layers.new path.now change) }
+    ensures altered { OnOk result (AltersAs layers.old layers.new metacopy path.now change) }
     ensures object { OnOk result (AltersObjectAs layers.old layers.new path.now change) }
     ensures key { IfOk result (λ key.
         number_of (held (layer_of layers.new.upper) path.now) ≡ Some key) }
@@ -170,11 +178,46 @@ fn copy_changed(
     ensures sound { StaysSound layers.old layers.new }
 {
     let attributes = changed_inode(layers, place, change)?;
+    let mark = mark_of(alloc, layers, path, place, metacopy)?;
     let Some((name, parents)) = path.split_last() else {
         unreachable!()
     };
-    let key = all_at_once(layers, directory, parents, name, place, attributes)?;
+    let key = copy_marked(layers, directory, parents, name, place, attributes, mark)?;
     Ok(key)
+}
+
+// Copies up the file or symbolic link that a lower layer shows: with a mark the file without its
+// bytes, and else all of it.
+fn copy_marked(
+    layers: &mut Layers,
+    directory: &Stack,
+    parents: &[Name],
+    name: &Name,
+    place: Place,
+    attributes: Attributes,
+    mark: Option<Box<Path>>,
+) -> Result<usize, AllocError>
+    requires way { way_fault (layers_of layers.old) (reverse parents.now) ≡ None }
+    requires directory { IsStackOf layers.old (reverse parents.now) directory.now }
+    requires shown { (i : Inode) × (low : Bool) ×
+        (shows 0 (layers_of layers.old) (name.now ∷ reverse parents.now) ≡
+        Some (Contents place.layer place.key (Some i))) ×
+        (option_map (λ b. b.value) mark ≡
+        copy_mark low (layer_of layers.old.upper) (name.now ∷ reverse parents.now) i.content) }
+    requires lower { 0 < place.layer }
+    ensures copied { IfOk result (λ key. (i : Inode) →
+        shows 0 (layers_of layers.old) (name.now ∷ reverse parents.now) ≡
+        Some (Contents place.layer place.key (Some i)) →
+        (leaf : CopiesLeaf layers.old layers.new (name.now ∷ reverse parents.now) i.content
+        (option_map (λ b. b.value) mark) attributes) × (leaf.number ≡ key)) }
+    ensures no_memory { OnErr result (ChangesNoSight layers.old layers.new
+        (GainsParents layers.old layers.new (name.now ∷ reverse parents.now))) }
+    ensures sound { StaysSound layers.old layers.new }
+{
+    match mark {
+        Some(mark) => place_meta(layers, directory, parents, name, place, attributes, mark),
+        None => all_at_once(layers, directory, parents, name, place, attributes),
+    }
 }
 
 // A copy of the attributes of the file or symbolic link that is shown at a place, changed.

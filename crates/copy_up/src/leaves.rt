@@ -1,19 +1,19 @@
 // Files and symbolic links in the upper: new ones, and those of lower layers copied up.
-ghost use Rattle.std.specs.Prelude.{◌≡◌, ◌<◌, ◌∷◌, Some, None, reverse, IfOk, OnErr};
+ghost use Rattle.std.specs.Prelude.{◌≡◌, ◌<◌, ◌∷◌, Some, None, IsSome, true, option_map, reverse, IfOk, OnErr};
 ghost use Rattle.slab.specs.Slab.{get};
-ghost use Rattle.plain_model.specs.Layers.{Path as Names, Inode, Contents, shows, IsLayer};
+ghost use Rattle.plain_model.specs.Layers.{Path as Names, Inode, Contents, below, fill, is_file, shows, IsLayer};
 ghost use Rattle.mount_laws.specs.Leaves.{PlacesLeaf};
 ghost use Rattle.layer_tree.specs.Nameless.{KeepsObjects};
-ghost use Rattle.layer_tree.specs.Tree.{layer_of, SameObjects};
-ghost use Rattle.merged_lookup.specs.Merged.{layers_of, way_fault, IsStackOf};
+ghost use Rattle.layer_tree.specs.Tree.{layer_of, new_inode, SameObjects};
+ghost use Rattle.merged_lookup.specs.Merged.{layers_of, lowers_of, way_fault, IsStackOf, ShowsInode};
 ghost use Rattle.copy_up.specs.Showing.{ChangesNoSight, HasPlace, GainsParents, StaysSound};
-ghost use Rattle.copy_up.specs.Leaves.{CopiesLeaf};
+ghost use Rattle.copy_up.specs.Leaves.{CopiesLeaf, copy_mark};
 
 use crate::parents::{place_parents, placed_or};
 use layer_tree::Object;
 use merged_lookup::{Layers, Place, Stack};
-use ov_base::{Attributes, Content, Name};
-use std::alloc::AllocError;
+use ov_base::{Attributes, Content, Name, Path};
+use std::alloc::{AllocError, Global};
 
 /// Copies the file or symbolic link that a lower layer shows at a name of the merged directory at
 /// these names into the upper: an inode of its own, with these attributes, in directories that are
@@ -37,16 +37,106 @@ pub fn all_at_once(
         shows 0 (layers_of layers.old) (name.now ∷ reverse parents.now) ≡
         Some (Contents place.layer place.key (Some i)) →
         (leaf : CopiesLeaf layers.old layers.new (name.now ∷ reverse parents.now) i.content
-        attributes) × (leaf.number ≡ key)) }
+        None attributes) × (leaf.number ≡ key)) }
     ensures no_memory { OnErr result (ChangesNoSight layers.old layers.new
         (GainsParents layers.old layers.new (name.now ∷ reverse parents.now))) }
     ensures sound { StaysSound layers.old layers.new }
 {
     let content = layers.content_of(place)?;
+    let object = Object::Inode(content, attributes);
+    place_leaf(layers, directory, parents, name, place, object)
+}
+
+/// `all_at_once` of a file whose bytes stay in the lower layers: its mark is the path by which they
+/// have it (overlayfs.rst, "Metadata only copy up"). No byte is read.
+pub fn place_meta(
+    layers: &mut Layers,
+    directory: &Stack,
+    parents: &[Name],
+    name: &Name,
+    place: Place,
+    attributes: Attributes,
+    mark: Box<Path>,
+) -> Result<usize, AllocError>
+    requires way { way_fault (layers_of layers.old) (reverse parents.now) ≡ None }
+    requires directory { IsStackOf layers.old (reverse parents.now) directory.now }
+    requires shown { (i : Inode) ×
+        (shows 0 (layers_of layers.old) (name.now ∷ reverse parents.now) ≡
+        Some (Contents place.layer place.key (Some i))) × (is_file i.content ≡ true) }
+    requires lower { 0 < place.layer }
+    requires mark { mark.value ≡
+        below (layer_of layers.old.upper) (name.now ∷ reverse parents.now) }
+    ensures copied { IfOk result (λ key. (i : Inode) →
+        shows 0 (layers_of layers.old) (name.now ∷ reverse parents.now) ≡
+        Some (Contents place.layer place.key (Some i)) →
+        (leaf : CopiesLeaf layers.old layers.new (name.now ∷ reverse parents.now) i.content
+        (Some mark.value) attributes) × (leaf.number ≡ key)) }
+    ensures no_memory { OnErr result (ChangesNoSight layers.old layers.new
+        (GainsParents layers.old layers.new (name.now ∷ reverse parents.now))) }
+    ensures sound { StaysSound layers.old layers.new }
+{
+    let object = Object::Marked(mark, attributes);
+    place_leaf(layers, directory, parents, name, place, object)
+}
+
+// Places this copy of the file or symbolic link that a lower layer shows in the upper.
+fn place_leaf(
+    layers: &mut Layers,
+    directory: &Stack,
+    parents: &[Name],
+    name: &Name,
+    place: Place,
+    object: Object,
+) -> Result<usize, AllocError>
+    requires way { way_fault (layers_of layers.old) (reverse parents.now) ≡ None }
+    requires directory { IsStackOf layers.old (reverse parents.now) directory.now }
+    requires shown { (i : Inode) ×
+        (shows 0 (layers_of layers.old) (name.now ∷ reverse parents.now) ≡
+        Some (Contents place.layer place.key (Some i))) }
+    requires lower { 0 < place.layer }
+    requires leaf { (copy : Inode) × (new_inode object ≡ Some copy) }
+    ensures copied { IfOk result (λ key. (i copy : Inode) →
+        shows 0 (layers_of layers.old) (name.now ∷ reverse parents.now) ≡
+        Some (Contents place.layer place.key (Some i)) →
+        new_inode object ≡ Some copy → (fill (lowers_of layers.old) copy).content ≡ i.content →
+        (leaf : CopiesLeaf layers.old layers.new (name.now ∷ reverse parents.now) i.content
+        copy.mark copy.attributes) × (leaf.number ≡ key)) }
+    ensures no_memory { OnErr result (ChangesNoSight layers.old layers.new
+        (GainsParents layers.old layers.new (name.now ∷ reverse parents.now))) }
+    ensures sound { StaysSound layers.old layers.new }
+{
     let placed = place_parents(layers, directory, parents)?;
     let dir = placed_or(&placed, directory).top();
-    let key = insert_leaf(layers, dir.key, name, content, attributes)?;
+    let key = insert_leaf(layers, dir.key, name, object)?;
     Ok(key)
+}
+
+/// The mark of a copy of the file or symbolic link that a path shows at a place of a lower layer: of a
+/// file, where the option is on, the path by which the layer under the upper finds it, and else none.
+pub fn mark_of(
+    alloc: Global,
+    layers: &Layers,
+    path: &Path,
+    place: Place,
+    metacopy: bool,
+) -> Result<Option<Box<Path>>, AllocError>
+    requires { ShowsInode layers.now path.now place }
+    ensures { IfOk result (λ mark. (i : Inode) →
+        shows 0 (layers_of layers.now) path.now ≡ Some (Contents place.layer place.key (Some i)) →
+        option_map (λ b. b.value) mark ≡
+        copy_mark metacopy (layer_of layers.now.upper) path.now i.content) }
+{
+    if !metacopy {
+        return Ok(None);
+    }
+    match &layers.inode_at(place).content {
+        Content::File(_) => {
+            let spelled = layers.spelling_below(alloc, path)?;
+            let mark = Box::new(alloc, spelled)?;
+            Ok(Some(mark))
+        }
+        Content::SymbolicLink(_) => Ok(None),
+    }
 }
 
 /// Puts a new file or symbolic link at a name of a directory of the upper at which no object
@@ -55,12 +145,12 @@ pub fn insert_leaf(
     layers: &mut Layers,
     dir: usize,
     name: &Name,
-    content: Content,
-    attributes: Attributes,
+    object: Object,
 ) -> Result<usize, AllocError>
-    requires { (p : Names) × HasPlace (layer_of layers.old.upper) dir name.now p }
+    requires place { (p : Names) × HasPlace (layer_of layers.old.upper) dir name.now p }
+    requires leaf { IsSome (new_inode object) }
     ensures lowers { layers.new.lowers ≡ layers.old.lowers }
-    ensures placed { IfOk result (λ key. (p : Names) → HasPlace (layer_of layers.old.upper) dir name.now p → PlacesLeaf (layer_of layers.old.upper) (layer_of layers.new.upper) (name.now ∷ p) key (record { content = content; attributes = attributes; links = 1; mark = None })) }
+    ensures placed { IfOk result (λ key. (p : Names) (i : Inode) → HasPlace (layer_of layers.old.upper) dir name.now p → new_inode object ≡ Some i → PlacesLeaf (layer_of layers.old.upper) (layer_of layers.new.upper) (name.now ∷ p) key i) }
     ensures unchanged { OnErr result (SameObjects (layer_of layers.old.upper) (layer_of layers.new.upper)) }
     ensures vacant { IfOk result (λ key. get layers.old.upper key ≡ None) }
     ensures objects { IfOk result (λ key. KeepsObjects layers.old.upper layers.new.upper (Some key)) }
@@ -69,8 +159,6 @@ pub fn insert_leaf(
 {
     layers.lawful();
     let name = name.clone()?;
-    let key = layers
-        .upper_mut()
-        .insert(dir, name, Object::Inode(content, attributes))?;
+    let key = layers.upper_mut().insert(dir, name, object)?;
     Ok(key)
 }

@@ -110,7 +110,7 @@ module _ (old : Tree) (key : ℕ) (before : Node) (found : get old key ≡ Some 
           absurd (cc)
       of (node.Inode j) was now =
           record {
-            inode = record { content = j.content; attributes = j.attributes; links = j.links; mark = None };
+            inode = record { content = j.content; attributes = j.attributes; links = j.links; mark = option_map (λ b. b.value) j.mark };
             before = ap (option_and_then inode_of) was;
             now = ap (option_and_then inode_of) now;
             inodes = λ k differs. ap (option_and_then inode_of) (sets_attributes.others k differs);

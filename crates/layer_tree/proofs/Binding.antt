@@ -8,6 +8,7 @@ use Rattle.std.specs.Ordering.{nat_cmp}
 use Rattle.std.specs.Cmp.Lexicographic.{slice_cmp}
 use Rattle.std.proofs.lemmas.Bool.{cases_eq}
 use Rattle.slab.specs.Slab.{get, Updates}
+use Rattle.ov_base.specs.declared.bytes.Content.TheVariants as content
 use Rattle.plain_model.specs.Layers as layers
 use Rattle.plain_model.specs.Layers.{Path}
 use Rattle.layer_tree.specs.Walk.{Rebinds}
@@ -93,19 +94,23 @@ Sound-unbinds old new dir name e tree u no_object =
 planted_empty : (o : Object) (n : Node) → IsPlanted o n → (m : List ℕ) → option_and_then (λ table. entry_in table m) (table_of n) ≡ None
 planted_empty (object.Directory a marks) n p m = rw p.2 (ap (λ e. map.get e m) p.1 ∙ get-empty (slice_cmp nat_cmp) m)
 planted_empty (object.Inode c a) n p m = rw p
+planted_empty (object.Marked q a) n p m = rw p
 
 planted_seen : (o : Object) (n : Node) (key : ℕ) → IsPlanted o n → seen key n ≡ seen_object key o
 planted_seen (object.Directory a marks) n key p = rw p.2
 planted_seen (object.Inode c a) n key p = rw p
+planted_seen (object.Marked q a) n key p = rw p
 
 planted_inode : (o : Object) (n : Node) → IsPlanted o n → inode_of n ≡ new_inode o
 planted_inode (object.Directory a marks) n p = rw p.2
 planted_inode (object.Inode c a) n p = rw p
+planted_inode (object.Marked q a) n p = rw p
 
 -- the redirect of an object is the same under each key
 leads_same : (o : Object) (key : ℕ) → leads_on (Some (seen_object key o)) ≡ leads_on (Some (seen_object 0 o))
 leads_same (object.Directory a marks) key = refl
 leads_same (object.Inode c a) key = refl
+leads_same (object.Marked q a) key = refl
 
 -- a new object under a vacant key, and its name in a directory
 module _ (t0 t1 t2 : Tree) (dir key : ℕ) (name : List ℕ) (o : Object) (n : Node) (is_dir : IsDirectory t0 dir) (vacant : get t0 key ≡ None) (updates : Updates t0 t1 key (Some n)) (planted : IsPlanted o n) (r : Retables t1 t2 dir (λ m. map.insert m name (to.Object key)) 1) where
@@ -254,6 +259,7 @@ links_inserts old new dir name o key tree ins no_object k i is = of (cases_eq k 
     one : (o : Object) → new_inode o ≡ Some i → 1 ≡ i.links
     one (object.Directory a m) f = absurd (cc)
     one (object.Inode c a) f = ap (λ (x : layers.Inode). x.links) (unwrapped (record { content = c; attributes = a; links = 1; mark = None }) i f)
+    one (object.Marked q a) f = ap (λ (x : layers.Inode). x.links) (unwrapped (record { content = content.File []; attributes = a; links = 1; mark = Some q.value }) i f)
 
     first : inode_at new key ≡ Some i → HasNames (child new) key i.links
     first at =

@@ -3,6 +3,7 @@ use Rattle.std.proofs.Common.{◌≡◌, ◌≢◌, ℕ, List, [], ◌∷◌, �
 use Rattle.std.specs.Option.{option_and_then}
 use Rattle.std.specs.Prelude.{option_map}
 use Rattle.slab.specs.Slab.{get}
+use Rattle.ov_base.specs.declared.bytes.Content.TheVariants as content
 use Rattle.plain_model.specs.Layers as layers
 use Rattle.plain_model.specs.Layers.{Path, Named, held, IsLayer}
 use Rattle.layer_tree.specs.Table.{object_key}
@@ -129,7 +130,9 @@ IsLayer-inserts old new dir name o key ins no_object path at sets tree =
     first : (o : Object) (i : layers.Inode) → new_inode o ≡ Some i → (seen_object key o ≡ Named key) × (i.links ≡ 1)
     first (object.Directory a m) i h = absurd (cc)
     first (object.Inode c a) i h = (refl, sym (ap (λ (x : layers.Inode). x.links) (unwrapped (record { content = c; attributes = a; links = 1; mark = None }) i h)))
+    first (object.Marked q a) i h = (refl, sym (ap (λ (x : layers.Inode). x.links) (unwrapped (record { content = content.File []; attributes = a; links = 1; mark = Some q.value }) i h)))
 
     differs : (o : Object) (k : ℕ) → k ≢ key → seen_object key o ≢ Named k
     differs (object.Directory a m) k off f = cc
     differs (object.Inode c a) k off f = off (cc)
+    differs (object.Marked q a) k off f = off (cc)

@@ -21,3 +21,4 @@ pub mod AttributeChanges
 pub mod Linking
 pub mod Moving
 pub mod Marking
+pub mod Marked

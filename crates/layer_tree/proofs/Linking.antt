@@ -96,7 +96,7 @@ counted_inode t key room = of (get t key) room
     of : (o : Option Node) → HasCountRoom o → (i : layers.Inode) × (option_and_then inode_of o ≡ Some i)
     of None h = absurd h
     of (Some (node.Directory d)) h = absurd h
-    of (Some (node.Inode i)) h = (record { content = i.content; attributes = i.attributes; links = i.links; mark = None }, refl)
+    of (Some (node.Inode i)) h = (record { content = i.content; attributes = i.attributes; links = i.links; mark = option_map (λ b. b.value) i.mark }, refl)
 
 -- nothing stands in an inode
 inode_empty : (t : Tree) (key : ℕ) → seen_at t key ≡ Some (layers.Named key) → (n : List ℕ) → entry t key n ≡ None

@@ -1,12 +1,12 @@
 -- How the objects under their keys change. No public clause cites this module.
-use Rattle.std.specs.Prelude.{◌≡◌, ◌≢◌, ℕ, ◌+◌, ◌-◌, ◌<◌, ◌≤◌, Bool, true, false, List, Option, Some, None, option_map}
+use Rattle.std.specs.Prelude.{◌≡◌, ◌≢◌, ℕ, ◌+◌, ◌-◌, ◌<◌, ◌≤◌, Bool, true, false, List, [], Option, Some, None, is_some, option_map}
 use Rattle.std.specs.Option.{option_and_then, option_map_or}
 use Rattle.std.specs.FinMap as map
 use Rattle.slab.specs.Slab.{get}
 use Rattle.layer_tree.specs.Table.{Table, NameMap, entry_in}
 use Rattle.ov_base.specs.declared.bytes.Content.TheVariants as content
 use Rattle.plain_model.specs.Layers as layers
-use Rattle.layer_tree.specs.Tree.{Tree, table_of, inode_of, file_bytes}
+use Rattle.layer_tree.specs.Tree.{Tree, table_of, inode_of, file_bytes, unmarked_bytes}
 use Rattle.layer_tree.specs.declared.name_table.Entry.{Entry}
 use Rattle.layer_tree.specs.declared.name_table.Entry.TheVariants as bound
 use Rattle.layer_tree.specs.declared.node.Node.{Node}
@@ -19,7 +19,8 @@ use Rattle.layer_tree.specs.declared.node.Object.TheVariants as object
 abbrev pub IsPlanted : Object → Node → Type 0
 IsPlanted (object.Directory a m) n =
     (t : Table) × (t.entries ≡ map.empty) × (n ≡ node.Directory (record { names = t; attributes = a; marks = m }))
-IsPlanted (object.Inode c a) n = n ≡ node.Inode (record { content = c; attributes = a; links = 1 })
+IsPlanted (object.Inode c a) n = n ≡ node.Inode (record { content = c; attributes = a; links = 1; mark = None })
+IsPlanted (object.Marked q a) n = n ≡ node.Inode (record { content = content.File []; attributes = a; links = 1; mark = Some q })
 
 -- a directory has these entries now, and lost at most `used` places
 pub record Retabled (old new : Node) (change : NameMap → NameMap) (used : ℕ) : Type 0 where
@@ -82,7 +83,15 @@ pub record GainsName (old new : Tree) (key : ℕ) : Type 0 where
 abbrev pub node_bytes : Node → Option (List ℕ)
 node_bytes n = option_and_then (λ (i : layers.Inode). file_bytes i.content) (inode_of n)
 
--- the node with these bytes
+-- the bytes of a node that is a file with bytes of its own
+abbrev pub node_own : Node → Option (List ℕ)
+node_own n = option_and_then (λ (i : layers.Inode). unmarked_bytes i.mark i.content) (inode_of n)
+
+-- the node with these bytes of its own
 abbrev pub with_file : List ℕ → Node → Node
 with_file bytes (node.Directory d) = node.Directory d
-with_file bytes (node.Inode i) = node.Inode (record i { content = content.File bytes })
+with_file bytes (node.Inode i) = node.Inode (record i { content = content.File bytes; mark = None })
+
+-- whether a node is a file that bears a mark
+abbrev pub is_marked_node : Node → Bool
+is_marked_node n = is_some (option_and_then (λ (i : layers.Inode). i.mark) (inode_of n))

@@ -39,7 +39,7 @@ marks_of (node.Inode i) = None
 -- the inode of a file or symbolic link
 abbrev pub inode_of : Node → Option layers.Inode
 inode_of (node.Directory d) = None
-inode_of (node.Inode i) = Some (record { content = i.content; attributes = i.attributes; links = i.links; mark = None })
+inode_of (node.Inode i) = Some (record { content = i.content; attributes = i.attributes; links = i.links; mark = option_map (λ b. b.value) i.mark })
 
 -- what a layer holds where this object stands under a key
 abbrev pub seen : ℕ → Node → layers.Object
@@ -88,6 +88,23 @@ marks_at t key = option_and_then marks_of (get t key)
 -- the bytes of the file under a key
 abbrev pub bytes_at : Tree → ℕ → Option (List ℕ)
 bytes_at t key = option_and_then (λ (i : layers.Inode). file_bytes i.content) (inode_at t key)
+
+-- the bytes of a file that bears no mark: those of a marked one aren't its own
+abbrev pub unmarked_bytes : Option Path → Content → Option (List ℕ)
+unmarked_bytes None c = file_bytes c
+unmarked_bytes (Some q) c = None
+
+-- the bytes of the file under a key that has bytes of its own
+abbrev pub own_at : Tree → ℕ → Option (List ℕ)
+own_at t key = option_and_then (λ (i : layers.Inode). unmarked_bytes i.mark i.content) (inode_at t key)
+
+-- the mark of the file under a key
+abbrev pub mark_at : Tree → ℕ → Option Path
+mark_at t key = option_and_then (λ (i : layers.Inode). i.mark) (inode_at t key)
+
+-- an inode of the layer bears a mark
+abbrev pub HasMark : Layer → Type 0
+HasMark L = (key : ℕ) × (i : layers.Inode) × (L.inodes key ≡ Some i) × (is_some i.mark ≡ true)
 
 -- the attributes of a directory, and none set for anything else
 abbrev pub directory_attributes : Option layers.Object → Attributes
@@ -159,11 +176,13 @@ pub record IsHeldTogether (L : Layer) : Type 0 where
 abbrev pub seen_object : ℕ → Object → layers.Object
 seen_object key (object.Directory a m) = layers.Directory key a m.opaque m.redirect
 seen_object key (object.Inode c a) = layers.Named key
+seen_object key (object.Marked q a) = layers.Named key
 
 -- the inode of a new object, which has one name
 abbrev pub new_inode : Object → Option layers.Inode
 new_inode (object.Directory a m) = None
 new_inode (object.Inode c a) = Some (record { content = c; attributes = a; links = 1; mark = None })
+new_inode (object.Marked q a) = Some (record { content = content.File []; attributes = a; links = 1; mark = Some q.value })
 
 -- the inode with one name less
 abbrev pub with_less : layers.Inode → layers.Inode
@@ -173,9 +192,9 @@ with_less i = record i { links = i.links - 1 }
 abbrev pub written : List ℕ → ℕ → List ℕ → List ℕ
 written bytes start new = (take start bytes ++ replicate (start - length bytes) 0) ++ new ++ drop (start + length new) bytes
 
--- the inode with these bytes
+-- the inode with these bytes of its own
 abbrev pub with_bytes : List ℕ → layers.Inode → layers.Inode
-with_bytes bytes i = record i { content = content.File bytes }
+with_bytes bytes i = record i { content = content.File bytes; mark = None }
 
 -- the new layer has this at the path, and at every other path what the old one has
 pub record SetsPath (old new : Layer) (path : Path) (o : layers.Object) : Type 0 where
@@ -215,7 +234,7 @@ pub record Unbinds (old new : Tree) (dir : ℕ) (name : List ℕ) (to : Option E
   pub unlinked : (k : ℕ) → child old dir name ≡ Some k → inode_at new k ≡ option_map with_less (inode_at old k)
   pub inodes : (k : ℕ) → child old dir name ≢ Some k → inode_at new k ≡ inode_at old k
 
--- The file under the key has these bytes. Every name is bound as it was, and every other inode has what it had.
+-- The file under the key has these bytes of its own. Every name is bound as it was, and every other inode has what it had.
 pub record Writes (old new : Tree) (key : ℕ) (bytes : List ℕ) : Type 0 where
   pub there : inode_at new key ≡ option_map (with_bytes bytes) (inode_at old key)
   pub inodes : (k : ℕ) → k ≢ key → inode_at new k ≡ inode_at old k

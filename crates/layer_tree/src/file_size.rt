@@ -2,7 +2,7 @@
 ghost use Rattle.std.specs.Prelude.{◌≡◌, ℕ, ◌≤◌, Some, OnErr, IsOk, is_ok, IsSome, if◌then◌else◌, List, length};
 ghost use Rattle.plain_model.specs.Changes.{sized};
 ghost use Rattle.layer_tree.specs.Tree.{file_bytes};
-ghost use Rattle.layer_tree.specs.Change.{node_bytes, with_file};
+ghost use Rattle.layer_tree.specs.Change.{node_own, with_file};
 
 use crate::node::Node;
 use ov_base::{Bytes, Content};
@@ -12,10 +12,10 @@ use std::mem::replace;
 /// Gives a node that is a file this length, with zero bytes beyond its end. It fails only when out
 /// of memory, and changes nothing then; a cut never fails.
 pub fn resize_in(alloc: Global, node: &mut Node, size: usize) -> Result<(), AllocError>
-    requires { IsSome (node_bytes node.old) }
-    ensures sized { (old : List ℕ) → node_bytes node.old ≡ Some old → node.new ≡ with_file (if is_ok result then sized old size else old) node.old }
+    requires { IsSome (node_own node.old) }
+    ensures sized { (old : List ℕ) → node_own node.old ≡ Some old → node.new ≡ with_file (if is_ok result then sized old size else old) node.old }
     ensures err { OnErr result (node.new ≡ node.old) }
-    ensures succeeds { (old : List ℕ) → node_bytes node.old ≡ Some old → size ≤ length old → IsOk result }
+    ensures succeeds { (old : List ℕ) → node_own node.old ≡ Some old → size ≤ length old → IsOk result }
 {
     match node {
         Node::Inode(inode) => resize_content(alloc, &mut inode.content, size),

@@ -1,7 +1,7 @@
 // What is laid over the bytes of a file.
 ghost use Rattle.std.specs.Prelude.{◌≡◌, ℕ, ◌+◌, ◌^◌, ◌<◌, ◌≤◌, Some, OnErr, is_ok, IsSome, if◌then◌else◌, List, length, take, drop, ◌++◌};
 ghost use Rattle.layer_tree.specs.Tree.{file_bytes, written};
-ghost use Rattle.layer_tree.specs.Change.{node_bytes, with_file};
+ghost use Rattle.layer_tree.specs.Change.{node_own, with_file};
 
 use crate::node::Node;
 use ov_base::{Bytes, Content};
@@ -16,9 +16,9 @@ pub fn write_in(
     start: usize,
     bytes: &[u8],
 ) -> Result<(), AllocError>
-    requires file { IsSome (node_bytes node.old) }
+    requires file { IsSome (node_own node.old) }
     requires end { start + length bytes.now < 2 ^ 64 }
-    ensures wrote { (old : List ℕ) → node_bytes node.old ≡ Some old → node.new ≡ with_file (if is_ok result then written old start bytes.now else old) node.old }
+    ensures wrote { (old : List ℕ) → node_own node.old ≡ Some old → node.new ≡ with_file (if is_ok result then written old start bytes.now else old) node.old }
     ensures err { OnErr result (node.new ≡ node.old) }
 {
     match node {

@@ -8,7 +8,7 @@ ghost use Rattle.std.specs.Str.{bytes_eq};
 ghost use Rattle.std.specs.Ordering.{nat_cmp};
 ghost use Rattle.std.specs.Cmp.Lexicographic.{slice_cmp, pointwise};
 ghost use Rattle.std.specs.FinMap as map;
-ghost use Rattle.slab.specs.Slab.{get, slab_len, HasRoomFor};
+ghost use Rattle.slab.specs.Slab.{entries, get, slab_len, HasRoomFor};
 ghost use Rattle.plain_model.specs.Layers as layers;
 ghost use Rattle.plain_model.specs.Layers.{held, IsLayer};
 ghost use Rattle.layer_tree.specs.Table.{object_key};
@@ -26,8 +26,8 @@ use crate::link_count::lose_name;
 use crate::name_table::{Entry, NameTable};
 use crate::node::{Directory, Inode, Marks, Node, Object};
 use indexmap::map::Slice;
-use ov_base::{Attributes, Content, Name, Path};
-use slab::Slab;
+use ov_base::{Attributes, Bytes, Content, Name, Path};
+use slab::{Iter, Slab};
 use std::alloc::{AllocError, AllocFailed, Global};
 use std::hash::RandomState;
 use std::marker::Model;
@@ -90,6 +90,13 @@ impl Layer {
         ensures { option_copied result ≡ get self.now key }
     {
         self.nodes.get(key)
+    }
+
+    /// The objects with their keys, by rising key.
+    pub fn nodes(&self) -> Iter<'_, Node>
+        ensures { result ≡ entries self.now }
+    {
+        self.nodes.iter()
     }
 
     /// Whether a directory stands under a key.
@@ -352,6 +359,13 @@ fn planted(alloc: Global, keys: RandomState, object: Object) -> Node
             content,
             attributes,
             links: 1,
+            mark: None,
+        }),
+        Object::Marked(mark, attributes) => Node::Inode(Inode {
+            content: Content::File(Bytes::new(alloc)),
+            attributes,
+            links: 1,
+            mark: Some(mark),
         }),
     }
 }

@@ -2,6 +2,7 @@
 #![tactic(auto)]
 
 mod attribute_change;
+mod file_fill;
 mod file_size;
 mod file_write;
 mod hashed_names;

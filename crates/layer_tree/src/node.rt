@@ -1,6 +1,6 @@
 // The objects of a layer.
 use crate::name_table::NameTable;
-use ov_base::{Attributes, Content, Redirect};
+use ov_base::{Attributes, Content, Path, Redirect};
 
 /// The marks of a directory: `trusted.overlay.opaque` and `trusted.overlay.redirect` of overlayfs.rst.
 #[derive(Drop)]
@@ -17,12 +17,15 @@ pub struct Directory {
     pub marks: Marks,
 }
 
-/// A file or symbolic link of a layer, and how many names it has there.
+/// A file or symbolic link of a layer, and how many names it has there. A file with a mark has no
+/// bytes of its own: they are those of the file that the layers below show at the mark's path
+/// (overlayfs.rst, "Metadata only copy up").
 #[derive(Drop)]
 pub struct Inode {
     pub content: Content,
     pub attributes: Attributes,
     pub links: u64,
+    pub mark: Option<Box<Path>>,
 }
 
 /// What stands under a key of a layer.
@@ -40,4 +43,6 @@ const _: () = prove!(size_of::<Node>() == 120);
 pub enum Object {
     Directory(Attributes, Marks),
     Inode(Content, Attributes),
+    /// A file without bytes of its own, with its mark.
+    Marked(Box<Path>, Attributes),
 }

@@ -41,9 +41,9 @@ gains-since start old V p c a same names g =
       names = λ q k ne. (λ h. (names q k).0 ((g.names q k ne).0 h), λ h. (g.names q k ne).1 ((names q k).1 h));
     }
 
-module _ (start old new : Layers) (same : ShowsSame start old) (stays : StaysLayers start old) (names : (x : Path) (k : ℕ) → (held (layer_of old.upper) x ≡ Some (Named k)) ↔ (held (layer_of start.upper) x ≡ Some (Named k))) (low : new.lowers ≡ old.lowers) (keep : IsLayer (layer_of old.upper) → IsLayer (layer_of new.upper)) (n : Name) (q : Path) (key : ℕ) (c : Content) (a : Attributes) (absent : shows 0 (layers_of start) (n ∷ q) ≡ None) (placed : PlacesLeaf (layer_of old.upper) (layer_of new.upper) (n ∷ q) key (leaf_of c a)) where
-  raised : PlacesLeaf (upper_of old) (upper_of new) (n ∷ q) key (leaf_of c a)
-  raised = leaf-raised old new low (n ∷ q) key (leaf_of c a) placed
+module _ (start old new : Layers) (same : ShowsSame start old) (stays : StaysLayers start old) (names : (x : Path) (k : ℕ) → (held (layer_of old.upper) x ≡ Some (Named k)) ↔ (held (layer_of start.upper) x ≡ Some (Named k))) (low : new.lowers ≡ old.lowers) (keep : IsLayer (layer_of old.upper) → IsLayer (layer_of new.upper)) (n : Name) (q : Path) (key : ℕ) (c : Content) (a : Attributes) (absent : shows 0 (layers_of start) (n ∷ q) ≡ None) (placed : PlacesLeaf (layer_of old.upper) (layer_of new.upper) (n ∷ q) key (leaf_of c None a)) where
+  raised : PlacesLeaf (upper_of old) (upper_of new) (n ∷ q) key (leaf_of c None a)
+  raised = leaf-raised old new low (n ∷ q) key (leaf_of c None a) placed
 
   -- is made under its key
   makes-at : GainsParents start old (n ∷ q) → get old.upper key ≡ None → KeepsObjects old.upper new.upper (Some key) → (leaf : MakesLeaf start new (n ∷ q) c a) × (leaf.number ≡ key)
@@ -53,7 +53,7 @@ module _ (start old new : Layers) (same : ShowsSame start old) (stays : StaysLay
       number = key;
       held_there = placed.here;
       inode = raised.inode;
-      gains = λ h. gains-since start old (upper_of new) (n ∷ q) c a same names (law_of_placed_leaf (upper_of old) (upper_of new) (lowers_of old) (stays h) (layer-raised old new low keep (stays h).0, (stays h).1) n q key (leaf_of c a) (same.absent (n ∷ q) absent) refl raised);
+      gains = λ h. gains-since start old (upper_of new) (n ∷ q) c a same names (law_of_placed_leaf (upper_of old) (upper_of new) (lowers_of old) (stays h) (layer-raised old new low keep (stays h).0, (stays h).1) n q key (leaf_of c None a) (same.absent (n ∷ q) absent) refl raised);
       vacant = vacant_before start.upper old.upper None gains.objects key vacant;
       others = others-then start old new (n ∷ q) gains low placed.elsewhere
           (λ m r. ap is_object (nothing-held old.upper (n ∷ q) (free-directory (held (layer_of old.upper) (n ∷ q)) (free-absent (upper_of old).inodes (held (layer_of old.upper) (n ∷ q)) (through (layer_of old.upper) (lowers_of old) (n ∷ q)) (same.absent (n ∷ q) absent))) m r))
@@ -64,14 +64,14 @@ module _ (start old new : Layers) (same : ShowsSame start old) (stays : StaysLay
   )
 
   thin-at : StaysThin start old → StaysThin start new
-  thin-at thin h = subst (λ (Ls : List Layer). IsThin (layer_of new.upper) Ls) (sym (lowers-same old new low)) ((law_of_thin (layer_of old.upper) (layer_of new.upper) (lowers_of old) (thin h) n q).leaf key (leaf_of c a) placed)
+  thin-at thin h = subst (λ (Ls : List Layer). IsThin (layer_of new.upper) Ls) (sym (lowers-same old new low)) ((law_of_thin (layer_of old.upper) (layer_of new.upper) (lowers_of old) (thin h) n q).leaf key (leaf_of c None a) placed)
 
 -- a file or link at a path that ends in the name, under its key
-pub leaf-made : (start old new : Layers) → ShowsSame start old → StaysLayers start old → ((x : Path) (k : ℕ) → (held (layer_of old.upper) x ≡ Some (Named k)) ↔ (held (layer_of start.upper) x ≡ Some (Named k))) → new.lowers ≡ old.lowers → (IsLayer (layer_of old.upper) → IsLayer (layer_of new.upper)) → (p : Path) (n : Name) (q : Path) (key : ℕ) (c : Content) (a : Attributes) → p ≡ n ∷ q → shows 0 (layers_of start) p ≡ None → PlacesLeaf (layer_of old.upper) (layer_of new.upper) (n ∷ q) key (leaf_of c a) → GainsParents start old (n ∷ q) → get old.upper key ≡ None → KeepsObjects old.upper new.upper (Some key) → (leaf : MakesLeaf start new p c a) × (leaf.number ≡ key)
+pub leaf-made : (start old new : Layers) → ShowsSame start old → StaysLayers start old → ((x : Path) (k : ℕ) → (held (layer_of old.upper) x ≡ Some (Named k)) ↔ (held (layer_of start.upper) x ≡ Some (Named k))) → new.lowers ≡ old.lowers → (IsLayer (layer_of old.upper) → IsLayer (layer_of new.upper)) → (p : Path) (n : Name) (q : Path) (key : ℕ) (c : Content) (a : Attributes) → p ≡ n ∷ q → shows 0 (layers_of start) p ≡ None → PlacesLeaf (layer_of old.upper) (layer_of new.upper) (n ∷ q) key (leaf_of c None a) → GainsParents start old (n ∷ q) → get old.upper key ≡ None → KeepsObjects old.upper new.upper (Some key) → (leaf : MakesLeaf start new p c a) × (leaf.number ≡ key)
 leaf-made start old new same stays names low keep p n q key c a e absent placed gains vacant kept =
     subst (λ (z : Path). (leaf : MakesLeaf start new z c a) × (leaf.number ≡ key)) (sym e) (makes-at start old new same stays names low keep n q key c a (sym (ap (shows 0 (layers_of start)) e) ∙ absent) placed gains vacant kept)
 
-pub leaf-thin : (start old new : Layers) → ShowsSame start old → StaysLayers start old → ((x : Path) (k : ℕ) → (held (layer_of old.upper) x ≡ Some (Named k)) ↔ (held (layer_of start.upper) x ≡ Some (Named k))) → new.lowers ≡ old.lowers → (IsLayer (layer_of old.upper) → IsLayer (layer_of new.upper)) → (p : Path) (n : Name) (q : Path) (key : ℕ) (c : Content) (a : Attributes) → p ≡ n ∷ q → shows 0 (layers_of start) p ≡ None → PlacesLeaf (layer_of old.upper) (layer_of new.upper) (n ∷ q) key (leaf_of c a) → StaysThin start old → StaysThin start new
+pub leaf-thin : (start old new : Layers) → ShowsSame start old → StaysLayers start old → ((x : Path) (k : ℕ) → (held (layer_of old.upper) x ≡ Some (Named k)) ↔ (held (layer_of start.upper) x ≡ Some (Named k))) → new.lowers ≡ old.lowers → (IsLayer (layer_of old.upper) → IsLayer (layer_of new.upper)) → (p : Path) (n : Name) (q : Path) (key : ℕ) (c : Content) (a : Attributes) → p ≡ n ∷ q → shows 0 (layers_of start) p ≡ None → PlacesLeaf (layer_of old.upper) (layer_of new.upper) (n ∷ q) key (leaf_of c None a) → StaysThin start old → StaysThin start new
 leaf-thin start old new same stays names low keep p n q key c a e absent placed thin = thin-at start old new same stays names low keep n q key c a (sym (ap (shows 0 (layers_of start)) e) ∙ absent) placed thin
 
 not-zero : (n : ℕ) → 0 < n → nat_eq n 0 ≡ false

@@ -62,7 +62,7 @@ module _ (old new : Tree) (dir : ℕ) (name : Name) (tree : IsTree old) (bare : 
         by (Some (node.Directory x)) e = unnamed key led (was-directory key (ap (λ z. is_some (option_and_then table_of z)) e)) d n again
         by (Some (node.Inode i)) e =
             let is : inode_at new key ≡ inode_of (node.Inode i) = ap (option_and_then inode_of) e in
-            linkless key (record { content = i.content; attributes = i.attributes; links = i.links; mark = None }) is (no-links i.links (sym (ap (has_more 0) is) ∙ last)) d n again
+            linkless key (record { content = i.content; attributes = i.attributes; links = i.links; mark = option_map (λ b. b.value) i.mark }) is (no-links i.links (sym (ap (has_more 0) is) ∙ last)) d n again
 
     -- without another name it has none
     pub nameless-left : IsNameless new key

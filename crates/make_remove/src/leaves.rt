@@ -12,6 +12,7 @@ ghost use Rattle.ov_base.specs.declared.bytes.Content.TheVariants as content;
 use crate::objects::{new_attributes, vacant};
 use crate::seen::Seen;
 use copy_up::{insert_leaf, place_parents, placed_or};
+use layer_tree::Object;
 use merged_lookup::{Layers, Stack};
 use ov_base::{Attributes, Bytes, Content, Errno, LinkTarget, Mode, Path};
 use std::alloc::{AllocError, Global};
@@ -113,6 +114,7 @@ fn make_leaf(
     };
     let placed = place_parents(layers, directory, parents)?;
     let dir = placed_or(&placed, directory).top();
-    let key = insert_leaf(layers, dir.key, name, content, attributes)?;
+    let object = Object::Inode(content, attributes);
+    let key = insert_leaf(layers, dir.key, name, object)?;
     Ok(key)
 }

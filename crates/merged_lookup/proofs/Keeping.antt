@@ -1,5 +1,5 @@
 -- What the upper hands down, and what is kept for it.
-use Rattle.std.proofs.Common.{IfSome, ◌≡◌, ℕ, ◌+◌, ◌<◌, ◌++◌, Bool, true, false, not, List, [], ◌∷◌, Option, None, Some, refl, sym, ap, ◌∙◌, subst, inl, inr, ◌⊎◌, ◌==◌, Contains, Result, Ok, Err, OnOk, OnErr, slice_get, is_some, length, drop, take, reverse, arith, nat_eq, get_or}
+use Rattle.std.proofs.Common.{IfSome, ◌≡◌, ℕ, ◌+◌, ◌<◌, ◌++◌, Bool, true, false, not, List, [], ◌∷◌, Option, None, Some, refl, sym, ap, ◌∙◌, subst, inl, inr, ◌⊎◌, ◌==◌, Contains, Result, Ok, Err, OnOk, OnErr, slice_get, is_some, length, drop, map, take, reverse, arith, nat_eq, get_or}
 use Rattle.std.proofs.lemmas.Bool.{false≢true}
 use Rattle.std.proofs.lemmas.List.{length-map}
 use Rattle.std.specs.Option.{option_map}
@@ -107,15 +107,15 @@ topmost-by Ls q (Some (shown.Directory d)) b e = shown-folder (shows 1 Ls q) d (
 topmost-by Ls q (Some (shown.Inode d)) b e = shown-inode (shows 1 Ls q) d (sym b) (sym e)
 
 -- the topmost object that the lower layers show at a name in these places
-pub lower-topmost : (l : Layers) (p : Path) (n : Name) (s : List Place) (o : Option Topmost) → s ≡ places_from 1 (trees l) p →
-    option_map place_shown o ≡ first (trees l) s n → leads o ≡ not (nat_eq (length (descend (trees l) s n)) 0) → ShowsTopmost (lowers_of l) (n ∷ p) o
-lower-topmost l p n s o is place directory =
-    let ts : List Tree = trees l in
-    let us : List Tree = l.lowers.items in
+pub lower-topmost : (t : Tree) (us : List Tree) (p : Path) (n : Name) (s : List Place) (o : Option Topmost) → s ≡ places_from 1 (t ∷ us) p →
+    option_map place_shown o ≡ first (t ∷ us) s n → leads o ≡ not (nat_eq (length (descend (t ∷ us) s n)) 0) → ShowsTopmost (map layer_of us) (n ∷ p) o
+lower-topmost t us p n s o is place directory =
+    let ts : List Tree = t ∷ us in
+    let lowers : List Layer = map layer_of us in
     let q : Path = n ∷ p in
-    topmost-by (lowers_of l) q o
+    topmost-by lowers q o
     (directory ∙ ap (λ z. not (nat_eq (length (descend ts z n)) 0)) is ∙ ap (λ z. not (nat_eq (length z) 0)) (descend-places 1 ts us refl p n)
-    ∙ directory-top (places_at 1 (lowers_of l) q) (shows 1 (lowers_of l) q) (top-shown 1 (lowers_of l) q))
+    ∙ directory-top (places_at 1 lowers q) (shows 1 lowers q) (top-shown 1 lowers q))
     (place ∙ ap (λ z. first ts z n) is ∙ first-places 1 ts us refl p n)
 
 -- what was found in the lower layers may be kept
@@ -123,7 +123,7 @@ pub kept-right : (l : Layers) (p : Path) (n : Name) (k : Kept) → k.directory.i
     option_map place_shown k.shown ≡ first (trees l) k.directory.items n → leads k.shown ≡ not (nat_eq (length (descend (trees l) k.directory.items n)) 0) →
     IsKept (lowers_of l) (n ∷ p) k
 kept-right l p n k is place directory =
-    record { directory = is; shown = lower-topmost l p n k.directory.items k.shown is place directory }
+    record { directory = is; shown = lower-topmost l.upper l.lowers.items p n k.directory.items k.shown is place directory }
 
 -- the places of a directory that the upper hands down
 pub kept-places : (l : Layers) (p : Path) (dir : Option ℕ) → HandsDown l.upper p dir →

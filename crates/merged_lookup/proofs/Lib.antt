@@ -12,4 +12,5 @@ pub mod Searching
 pub mod Respelling
 pub mod Trails
 pub mod Keeping
+pub mod Marking
 pub mod Preparing

@@ -10,4 +10,6 @@ pub mod Respelling
 pub mod Trails
 pub mod Kept
 pub mod Lower
+pub mod Marking
+pub mod Numbered
 pub mod Prepared

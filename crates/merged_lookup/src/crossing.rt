@@ -1,13 +1,15 @@
 // The way of a path down the layers, one layer after the other.
-ghost use Rattle.std.specs.Prelude.{◌≡◌, ◌+◌, ◌++◌, ◌<◌, List, ℕ, length, drop, map, reverse, false};
+ghost use Rattle.std.specs.Prelude.{◌≡◌, ◌+◌, ◌++◌, ◌<◌, ◌≤◌, List, ℕ, length, drop, map, reverse, false};
 ghost use Rattle.plain_model.specs.Layers.{held, cut, cuts, below};
 ghost use Rattle.layer_tree.specs.Tree.{layer_of};
 ghost use Rattle.merged_lookup.specs.Merged.{trees};
 ghost use Rattle.merged_lookup.specs.Descent.{places_from};
+ghost use Rattle.merged_lookup.specs.Numbered.{row};
 ghost use Rattle.merged_lookup.specs.Passing.{pass, holds_under, directory_key, redirected};
 ghost use Rattle.merged_lookup.specs.Spelling.{names_of, IsRow};
 
 use crate::layers::Layers;
+use crate::numbered::Numbered;
 use crate::onward::{Onward, onward_under};
 use crate::spelling::Spelling;
 use crate::stack::{Place, Places};
@@ -85,13 +87,21 @@ pub(crate) fn walk_below<'a>(layers: &'a Layers, first: usize, path: &'a Path) -
     cross_all(layers, first, path.names())
 }
 
-// The directories that names lead to from the roots of the layers from this one on. Each layer is gone through once, by its own spelling
-// of the names, so the look-ups are at most about the square of the layers times these names and those of the redirects that count.
+// The directories that names lead to from the roots of the layers of a mount from this one on.
 pub(crate) fn cross_all<'a>(layers: &'a Layers, first: usize, names: &'a [Name]) -> Places
     ensures { result.items ≡ places_from first (trees layers.now) (reverse names.now) }
 {
+    cross_from(layers.numbered(), first, names)
+}
+
+// The directories that names lead to from the roots of the layers from this one on. Each layer is gone through once, by its own spelling
+// of the names, so the look-ups are at most about the square of the layers times these names and those of the redirects that count.
+pub(crate) fn cross_from<'a>(layers: Numbered<'a>, first: usize, names: &'a [Name]) -> Places
+    requires { length layers.lowers.now ≤ 16 }
+    ensures { result.items ≡ places_from first (row layers.entry) (reverse names.now) }
+{
     let mut places = Places::new();
-    let mut spelling = Spelling::new(layers.upper(), names);
+    let mut spelling = Spelling::new(layers.upper, names);
     for index in first..layers.count() {
         let Some(layer) = layers.layer(index) else {
             return places;

@@ -4,11 +4,13 @@ ghost use Rattle.arrayvec.specs.ArrayVec.{array_vec_len};
 ghost use Rattle.merged_lookup.specs.Merged.{trees};
 ghost use Rattle.merged_lookup.specs.Descent as down;
 ghost use Rattle.merged_lookup.specs.Descent.{places_from, place_shown, leads};
+ghost use Rattle.merged_lookup.specs.Numbered.{row};
 ghost use Rattle.merged_lookup.specs.Trails.{LeadsOn};
 
 use crate::crossing::walk_below;
 use crate::found::Topmost;
 use crate::layers::Layers;
+use crate::numbered::Numbered;
 use crate::onward::{Onward, onward_in};
 use crate::stack::{Place, Places};
 use crate::trail::{Trail, further};
@@ -126,10 +128,18 @@ fn append(places: &mut Places, rest: &Places)
     let _ = places.try_extend_from_slice(rest.as_slice());
 }
 
-// The object that a name shows in these places: what the topmost one that has the name has there, unless it is a whiteout.
+// The object that a name shows in these places of a mount.
 pub(crate) fn topmost(layers: &Layers, places: &[Place], name: &Name) -> Option<Topmost>
     ensures place { option_map place_shown result ≡ down.first (trees layers.now) places.now name.now }
     ensures directory { leads result ≡ not (nat_eq (length (down.descend (trees layers.now) places.now name.now)) 0) }
+{
+    topmost_at(layers.numbered(), places, name)
+}
+
+// The object that a name shows in these places: what the topmost one that has the name has there, unless it is a whiteout.
+pub(crate) fn topmost_at(layers: Numbered<'_>, places: &[Place], name: &Name) -> Option<Topmost>
+    ensures place { option_map place_shown result ≡ down.first (row layers.entry) places.now name.now }
+    ensures directory { leads result ≡ not (nat_eq (length (down.descend (row layers.entry) places.now name.now)) 0) }
 {
     for place in places {
         match onward_in(layers.layer(place.layer)?, place.key, name) {

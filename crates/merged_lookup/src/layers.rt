@@ -12,6 +12,7 @@ use crate::crossing::cross_all;
 use crate::descent::{below_upper, copied, enter, roots, topmost};
 use crate::found::{Found, Parent, Topmost};
 use crate::kept::Kept;
+use crate::numbered::Numbered;
 use crate::prepared::Prepared;
 use crate::stack::{Place, Places, Stack};
 use crate::stacked::Stacked;
@@ -76,6 +77,7 @@ impl Layers {
     ghost use Rattle.merged_lookup.specs.Merged.{trees, node_in, fill_at, layers_of, lowers_of, places_at, IsStackOf, IsAnswer, IsFound, IsTopmost, IsParentOf, parent, parents_fault, walk_fault, way_fault, inode_fault, place_fault, ShowsInode};
     ghost use Rattle.merged_lookup.specs.Descent.{first, places_from};
     ghost use Rattle.merged_lookup.specs.Changing.{LendsUpper};
+    ghost use Rattle.merged_lookup.specs.Numbered.{row};
     ghost use Rattle.merged_lookup.specs.Trails.{IsTrail, IsUppers};
     ghost use Rattle.std.specs.Borrow.{sem};
     ghost use Rattle.layer_tree.specs.declared.node.Node.TheVariants as Node;
@@ -136,22 +138,30 @@ impl Layers {
         self.stacked.upper.lawful();
     }
 
+    // The layers by their numbers.
+    pub(crate) fn numbered(&self) -> Numbered<'_>
+        ensures row { row result ≡ trees self.now }
+        ensures few { length result.lowers.now ≤ 16 }
+    {
+        Numbered {
+            upper: &self.stacked.upper,
+            lowers: self.stacked.lowers.as_slice(),
+        }
+    }
+
     /// How many layers there are, the upper included.
     pub fn count(&self) -> usize
         ensures count { result ≡ length (trees self.now) }
         ensures few { result ≤ 17 }
     {
-        self.stacked.lowers.len() + 1
+        self.numbered().count()
     }
 
     /// A layer by its number, 0 for the upper.
     pub fn layer(&self, index: usize) -> Option<&Layer>
         ensures { option_copied result ≡ slice_get (trees self.now) index }
     {
-        match index {
-            0 => Some(&self.stacked.upper),
-            _ => self.stacked.lowers.get(index - 1),
-        }
+        self.numbered().layer(index)
     }
 
     /// The root directory.

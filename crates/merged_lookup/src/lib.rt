@@ -12,6 +12,8 @@ mod found;
 mod kept;
 mod layers;
 mod locate;
+mod marked;
+mod numbered;
 mod onward;
 mod paths;
 mod prepared;
@@ -23,6 +25,7 @@ mod trail;
 
 pub use found::{Found, Parent, Topmost};
 pub use layers::{LAYERS_MAX, Layers};
+pub use marked::low_file_in;
 pub use prepared::Prepared;
 pub use stack::{Place, Stack};
 pub use stacked::Stacked;

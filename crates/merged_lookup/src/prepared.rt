@@ -1,5 +1,5 @@
 // Bytes that wait to be placed, and what a file or symbolic link holds.
-ghost use Rattle.std.specs.Prelude.{◌≡◌, ◌<◌, Some, IfOk, IfSome};
+ghost use Rattle.std.specs.Prelude.{◌≡◌, ◌<◌, Some, IsSome, IfOk, IfSome};
 ghost use Rattle.plain_model.specs.Layers.{Path, Inode, Contents, shows};
 ghost use Rattle.merged_lookup.specs.Merged.{layers_of, lowers_of, ShowsInode};
 ghost use Rattle.merged_lookup.specs.Lower.{lower_bytes};
@@ -48,6 +48,22 @@ impl Layers {
         }
         let content = self.inode_at(place).content.clone()?;
         Ok(content)
+    }
+
+    /// The bytes of the file at a place of a lower layer: those that were offered for this place,
+    /// which are moved, or else a clone.
+    pub fn low_copy(&mut self, source: Place) -> Result<Bytes, AllocError>
+        requires { IsSome (lower_bytes (lowers_of self.old) source) }
+        ensures same { self.new ≡ self.old }
+        ensures bytes { IfOk result (λ b. lower_bytes (lowers_of self.old) source ≡ Some b) }
+    {
+        if let Some(bytes) = self.take_offered(source) {
+            return Ok(bytes);
+        }
+        match self.file_at(source) {
+            Some(Content::File(bytes)) => bytes.clone(),
+            Some(Content::SymbolicLink(_)) | None => unreachable!(),
+        }
     }
 
     // The bytes that were offered for a place, no longer offered then.

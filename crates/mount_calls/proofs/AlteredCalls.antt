@@ -17,12 +17,12 @@ use Rattle.mount_calls.proofs.Named.{is_refused, keeps-named}
 use Rattle.mount_calls.proofs.Stating.{the_lowers, the_upper}
 
 -- it is made, whatever came of it
-pub alter-made : (m : Mount) (new : Layers) (p : Path) (x : AttributeCall) (r : Result (Result ℕ Errno) AllocError) → AltersUnless x m.layers new p r →
+pub alter-made : (m : Mount) (new : Layers) (p : Path) (x : AttributeCall) (r : Result (Result ℕ Errno) AllocError) → AltersUnless x m.layers new m.metacopy p r →
     MakesEach (call_at p x) m (record m { layers = new }) (outcome_result r)
 alter-made m new p x (Ok (Ok key)) y c =
     makes-done c (call_at p x) m new
     (λ s st. altered-done m s st new c p x key y)
-    (λ s st fine. keeps-named m.layers new (call_at p x) y.live s st.layers st.metacopy c)
+    (λ s st fine. keeps-named m.layers new m.metacopy (call_at p x) y.live s st.layers st.metacopy c)
     (layers-asked m.layers new p x y.around) y.lowers y.sound.thin
 alter-made m new p x (Ok (Err e)) y c =
     makes-unmade c (call_at p x) m new e (λ s. ap is_refused (answers-asked s c p x))

@@ -36,25 +36,25 @@ use Rattle.mount_calls.proofs.Raising.{attributes-filled, link-filled}
 
 -- a call that was judged, and the change that it asks for made
 module _
-    (x : AttributeCall) (old new : Layers) (p : Path) (target : Stack × Topmost) (h : IsTarget old p x target) (low : new.lowers ≡ old.lowers)
+    (x : AttributeCall) (old new : Layers) (metacopy : Bool) (p : Path) (target : Stack × Topmost) (h : IsTarget old p x target) (low : new.lowers ≡ old.lowers)
     (sound : StaysSound old new) (made : AttributeChange)
-    (asks : (a : Attributes) → changed made a ≡ asked x a) (alters : AltersAs old new p made) where
+    (asks : (a : Attributes) → changed made a ≡ asked x a) (alters : AltersAs old new metacopy p made) where
   -- alters each state, over the lower layers that there were
-  state-altered : (s : State) → IsMountOf (upper_of old) (lowers_of old) s → s.options.metacopy ≡ false → (c : ℕ) → AltersState (upper_of new) (lowers_of old) s c p (call_at p x)
+  state-altered : (s : State) → IsMountOf (upper_of old) (lowers_of old) s → s.options.metacopy ≡ metacopy → (c : ℕ) → AltersState (upper_of new) (lowers_of old) s c p (call_at p x)
   state-altered s m option c =
       altered-asked p x (upper_of old) (upper_of new) (lowers_of old) s m c h.allowed h.attributes h.shown
       (subst (λ (b : Bool). Alters (upper_of old) (upper_of new) (lowers_of old) b p (asked x h.attributes)) (sym option)
-      (subst (λ (a : Attributes). Alters (upper_of old) (upper_of new) (lowers_of old) false p a) (asks h.attributes) (alters h.attributes h.shown m.layers)))
+      (subst (λ (a : Attributes). Alters (upper_of old) (upper_of new) (lowers_of old) metacopy p a) (asks h.attributes) (alters h.attributes h.shown m.layers)))
 
   -- leaves live files live, also where it changes their attributes
-  live-altered : IsTree old.upper → AltersObjectAs old new p made → KeepsLive old new (call_at p x)
+  live-altered : IsTree old.upper → AltersObjectAs old new p made → KeepsLive old new metacopy (call_at p x)
   live-altered tree object s m option c d j l =
       live-asked p x (upper_of old) (upper_of new) (lowers_of old) s c h.attributes h.shown (state-altered s m option c) d j
       (subst (λ (a : Attributes). AltersNamed (upper_of old) (upper_of new) p a j) (asks h.attributes) (alters-named old new low tree p (changed made h.attributes) (object h.attributes h.shown) j _ l.inode))
       l
 
   -- ends so with the attributes that the call gives
-  pub alters-done : IsTree old.upper → AltersObjectAs old new p made → (key : ℕ) → number_of (held (upper_of new) p) ≡ Some key → AltersUnless x old new p (Ok (Ok key))
+  pub alters-done : IsTree old.upper → AltersObjectAs old new p made → (key : ℕ) → number_of (held (upper_of new) p) ≡ Some key → AltersUnless x old new metacopy p (Ok (Ok key))
   alters-done tree object key there = record {
     refused = tt;
     unchanged = tt;
@@ -70,10 +70,10 @@ module _
 
 -- a change that wants memory leaves what is shown, and what the upper holds around the path
 pub alters-wanted :
-    (x : AttributeCall) (old new : Layers) (p : Path) (r : Result (Result ℕ Errno) AllocError) →
-    IsErr r → ChangesNoSight old new (GainsParents old new p) → StaysSound old new → AltersUnless x old new p r
-alters-wanted x old new p (Ok y) wrong kept sound = let no : false ≡ true = wrong in absurd (cc)
-alters-wanted x old new p (Err e) wrong kept sound = record {
+    (x : AttributeCall) (old new : Layers) (metacopy : Bool) (p : Path) (r : Result (Result ℕ Errno) AllocError) →
+    IsErr r → ChangesNoSight old new (GainsParents old new p) → StaysSound old new → AltersUnless x old new metacopy p r
+alters-wanted x old new metacopy p (Ok y) wrong kept sound = let no : false ≡ true = wrong in absurd (cc)
+alters-wanted x old new metacopy p (Err e) wrong kept sound = record {
   refused = tt;
   unchanged = tt;
   allowed = tt;
@@ -87,12 +87,12 @@ alters-wanted x old new p (Err e) wrong kept sound = record {
 }
 
 -- and so does one for which there is none at all
-pub alters-unmade : (x : AttributeCall) (l : Layers) (p : Path) (r : Result (Result ℕ Errno) AllocError) → IsErr r → AltersUnless x l l p r
-alters-unmade x l p r wrong = alters-wanted x l l p r wrong (record { shown = same-self l; mount = λ s h. h; beneath = gains-self l p }) (sound-self l)
+pub alters-unmade : (x : AttributeCall) (l : Layers) (metacopy : Bool) (p : Path) (r : Result (Result ℕ Errno) AllocError) → IsErr r → AltersUnless x l l metacopy p r
+alters-unmade x l metacopy p r wrong = alters-wanted x l l metacopy p r wrong (record { shown = same-self l; mount = λ s h. h; beneath = gains-self l p }) (sound-self l)
 
 -- a call that is refused changes nothing
-pub alters-refused : (x : AttributeCall) (l : Layers) (p : Path) (e : Errno) → asked_fault (layers_of l) p x ≡ Some e → AltersUnless x l l p (Ok (Err e))
-alters-refused x l p e fault = record {
+pub alters-refused : (x : AttributeCall) (l : Layers) (metacopy : Bool) (p : Path) (e : Errno) → asked_fault (layers_of l) p x ≡ Some e → AltersUnless x l l metacopy p (Ok (Err e))
+alters-refused x l metacopy p e fault = record {
   refused = fault;
   unchanged = refl;
   allowed = tt;

@@ -184,13 +184,13 @@ module _ (m : Mount) (s : State) (st : IsStateOf m s) (new : Layers) where
       serve-done _ s c k reply.Done _ ok (sym answer) (state-after c k m.clients mounts tables still (tables-after c k same directories files) st.one refl)
 
   -- a call that alters what a path shows
-  pub altered-done : (c : ℕ) (p : Path) (x : AttributeCall) (key : ℕ) → AltersUnless x m.layers new p (Ok (Ok key)) → Serves (refusal s c (call_at p x)) s c (call_at p x) reply.Done (record m { layers = new })
+  pub altered-done : (c : ℕ) (p : Path) (x : AttributeCall) (key : ℕ) → AltersUnless x m.layers new m.metacopy p (Ok (Ok key)) → Serves (refusal s c (call_at p x)) s c (call_at p x) reply.Done (record m { layers = new })
   altered-done c p x key y =
       let k = call_at p x in
       let z : AltersState V (lowers_of new) s c p k = y.alters s st.layers st.metacopy c in
       done c k (refusal-asked (the_upper m) (the_lowers m) s st.layers c p x ∙ y.allowed) z.answer z.mounts z.tables (still-asked s c p x) y.lowers
       (λ b fd o h on. handle-on s.tree (after s c k).tree (λ q d at. z.paths q ∙ at) z.hidden (λ d f. z.folders d ∙ f) m.clients.directories o h)
-      (files-kept m.layers new s st.layers c k m.clients st.metacopy y.live (leaves-asked p x))
+      (files-kept m.layers new s st.layers c k m.clients m.metacopy st.metacopy y.live (leaves-asked p x))
 
   -- open directories stand where they stood after a call that makes a node
   pub handle-beside : (c : ℕ) (k : Call) (p : Path) (x : Node) → (after s c k).tree ≡ made_way s.tree s.serial (way_of s.tree p) x → ((q : Path) (d : NodeId) → node_at s.tree q ≡ Some d → node_at (after s c k).tree q ≡ Some d) → KeepsHidden s.tree (after s c k).tree → (o : OpenDirectory) (h : Handle) → IsHandle s.tree m.clients.directories o h → IsHandle (after s c k).tree m.clients.directories o h
@@ -200,26 +200,26 @@ module _ (m : Mount) (s : State) (st : IsStateOf m s) (new : Layers) where
       m.clients.directories o h
 
   -- a mkdir that isn't refused is served
-  pub mkdir-done : (c : ℕ) (p : Path) (mode : ℕ) → mkdir_fault (the_layers m) p mode ≡ None → new.lowers ≡ m.layers.lowers → Makes V (lowers_of new) s c p mode → KeepsLive m.layers new (call.Mkdir p mode) → KeepsLeaves (call.Mkdir p mode) → Serves (refusal s c (call.Mkdir p mode)) s c (call.Mkdir p mode) reply.Done (record m { layers = new })
+  pub mkdir-done : (c : ℕ) (p : Path) (mode : ℕ) → mkdir_fault (the_layers m) p mode ≡ None → new.lowers ≡ m.layers.lowers → Makes V (lowers_of new) s c p mode → KeepsLive m.layers new m.metacopy (call.Mkdir p mode) → KeepsLeaves (call.Mkdir p mode) → Serves (refusal s c (call.Mkdir p mode)) s c (call.Mkdir p mode) reply.Done (record m { layers = new })
   mkdir-done c p mode ok same x live leaves =
       let k = call.Mkdir p mode in
       done c k (law_of_mkdir (the_upper m) (the_lowers m) s st.layers c p mode ∙ ok) x.answer x.mounts x.tables refl same
-      (λ b fd o h on. handle-beside c k p _ refl x.stays x.hidden o h) (files-kept m.layers new s st.layers c k m.clients st.metacopy live leaves)
+      (λ b fd o h on. handle-beside c k p _ refl x.stays x.hidden o h) (files-kept m.layers new s st.layers c k m.clients m.metacopy st.metacopy live leaves)
 
   -- so is a symlink
-  pub symlink-done : (c : ℕ) (target : List ℕ) (p : Path) → symlink_fault (the_layers m) target p ≡ None → new.lowers ≡ m.layers.lowers → MakesLink V (lowers_of new) s c target p → KeepsLive m.layers new (call.Symlink target p) → KeepsLeaves (call.Symlink target p) → Serves (refusal s c (call.Symlink target p)) s c (call.Symlink target p) reply.Done (record m { layers = new })
+  pub symlink-done : (c : ℕ) (target : List ℕ) (p : Path) → symlink_fault (the_layers m) target p ≡ None → new.lowers ≡ m.layers.lowers → MakesLink V (lowers_of new) s c target p → KeepsLive m.layers new m.metacopy (call.Symlink target p) → KeepsLeaves (call.Symlink target p) → Serves (refusal s c (call.Symlink target p)) s c (call.Symlink target p) reply.Done (record m { layers = new })
   symlink-done c target p ok same x live leaves =
       let k = call.Symlink target p in
       done c k (law_of_symlink (the_upper m) (the_lowers m) s st.layers c target p ∙ ok) x.answer x.mounts x.tables refl same
-      (λ b fd o h on. handle-beside c k p _ refl x.stays x.hidden o h) (files-kept m.layers new s st.layers c k m.clients st.metacopy live leaves)
+      (λ b fd o h on. handle-beside c k p _ refl x.stays x.hidden o h) (files-kept m.layers new s st.layers c k m.clients m.metacopy st.metacopy live leaves)
 
   -- so is a link
-  pub link-done : (c : ℕ) (p q : Path) → link_fault (the_layers m) p q ≡ None → new.lowers ≡ m.layers.lowers → MakesName V (lowers_of new) s c p q → KeepsLive m.layers new (call.Hardlink p q) → KeepsLeaves (call.Hardlink p q) → Serves (refusal s c (call.Hardlink p q)) s c (call.Hardlink p q) reply.Done (record m { layers = new })
+  pub link-done : (c : ℕ) (p q : Path) → link_fault (the_layers m) p q ≡ None → new.lowers ≡ m.layers.lowers → MakesName V (lowers_of new) s c p q → KeepsLive m.layers new m.metacopy (call.Hardlink p q) → KeepsLeaves (call.Hardlink p q) → Serves (refusal s c (call.Hardlink p q)) s c (call.Hardlink p q) reply.Done (record m { layers = new })
   link-done c p q ok same x live leaves =
       let k = call.Hardlink p q in
       done c k (law_of_link (the_upper m) (the_lowers m) s st.layers c p q ∙ ok) x.answer x.mounts x.tables refl same
       (λ b fd o h on. handle-on s.tree (after s c k).tree x.stays x.hidden (linked-folder s.options s.tree (node_at s.tree p) (way_of s.tree q)) m.clients.directories o h)
-      (files-kept m.layers new s st.layers c k m.clients st.metacopy live leaves)
+      (files-kept m.layers new s st.layers c k m.clients m.metacopy st.metacopy live leaves)
 
   -- no directory is open at the path of a file or link
   not-there : (p : Path) → unlink_fault (the_layers m) p ≡ None → (l : Location) (d : NodeId) → Stands s.tree l d → is_folder (s.tree d) ≡ true → l ≢ At p

@@ -1,13 +1,14 @@
 -- What closing a descriptor does to a mount, where a file that nothing names or holds any more is freed.
 use Rattle.std.proofs.Common.{arith, ◌≡◌, ◌↔◌, ℕ, ◌<◌, true, false, cond, ◌||◌, List, Option, None, Some, Ok, Err, refl, sym, ap, ◌∙◌, subst, ◌⊎◌, inl, inr, is_some}
 use Rattle.merged_lookup.specs.Merged.{upper_of}
-use Rattle.mount_calls.proofs.Words.{after, cases_Bool, Errno, false≢true, file_holders, Handle, handle_of, Inode, IsLive, IsMountOf, Layer, layer_of, Layers, lowers_of, node_at, NodeId, Path, refusal, SetsSlot, State, StaysMount, Table, Tree, with_handle}
+use Rattle.mount_calls.proofs.Words.{after, cases_Bool, Errno, false≢true, File, file_holders, Handle, handle_of, Inode, IsLive, IsMountOf, Layer, layer_of, Layers, lowers_of, node_at, NodeId, OpenFile, Path, refusal, SetsSlot, State, StaysMount, Table, Tree, Upper, with_handle}
 use Rattle.ov_base.specs.declared.call.Call.TheVariants as call
 use Rattle.ov_base.specs.declared.errno.Errno.TheVariants as errno
 use Rattle.ov_base.specs.declared.reply.Reply.TheVariants as reply
 use Rattle.plain_model.specs.Changes.{is_named, is_held, settled}
 use Rattle.plain_model.proofs.Kept.{at-path}
 use Rattle.plain_model.proofs.Lasting.{some-named}
+use Rattle.plain_model.proofs.OwnBytes.{law_of_own}
 use Rattle.copy_up.specs.Showing.{StaysThin}
 use Rattle.mount_laws.specs.Descriptors.{ClosesHandle}
 use Rattle.mount_laws.specs.Removed.{ClosesHidden}
@@ -25,7 +26,7 @@ use Rattle.mount_calls.specs.Living.{StaysHeld, KeepsPaths, FreesClosed}
 use Rattle.mount_calls.specs.States.{IsOpenAs, AreTables, IsStateOf, Serves}
 use Rattle.mount_calls.proofs.Carrying.{tables-on}
 use Rattle.mount_calls.proofs.Serving.{handle-same, open-at}
-use Rattle.mount_calls.proofs.Slots.{changes-as, handle-none, state-set}
+use Rattle.mount_calls.proofs.Slots.{changes-as, file-at, handle-none, state-set, upper-live}
 use Rattle.mount_calls.proofs.Stating.{the_upper, Alike, keep-state}
 use Rattle.mount_calls.proofs.Answering.{serve-refused, serve-done}
 
@@ -105,6 +106,10 @@ close-leaves clients old new (Some k) freed none = record {
 live-still : (U : Layer) (t u : Tree) (d : NodeId) (k : ℕ) → ((q : Path) → node_at u q ≡ node_at t q) → u d ≡ t d → IsLive U t d k → IsLive U u d k
 live-still U t u d k paths same l = grind arith
 
+-- what has a key in the upper is an open file of it
+upper-file : (o : Option handles.Handle) (k : ℕ) → key_in_upper (file_in o) ≡ Some k → (f : OpenFile) × (o ≡ Some (File f)) × (f.source ≡ Upper k)
+upper-file o k h = grind arith
+
 -- a client closes a descriptor
 module _ (m : Mount) (s : State) (st : IsStateOf m s) (c d : ℕ) where
   -- one that isn't open is refused
@@ -122,7 +127,11 @@ module _ (m : Mount) (s : State) (st : IsStateOf m s) (c d : ℕ) where
 
   -- a file of the upper that is open has an inode
   inode-there : (k : ℕ) → key_in_upper (file_by m.clients c d) ≡ Some k → is_some ((the_upper m).inodes k) ≡ true
-  inode-there k e = grind arith
+  inode-there k e =
+      let u = upper-file (opened_by m.clients c d) k e in
+      let x = file-at m s st c d u.0 u.1 in
+      let of = upper-live (the_upper m) (lowers_of m.layers) s.tree u.0.source u.0.low x.0 k u.2 x.2.source in
+      ap is_some of.0.inode
 
   -- an open one is closed
   module _ (new : Clients) (led : handles.Handle) (ch : ChangesClient m.clients new c (λ x y. Closes x y d (Ok led))) (files : (k : ℕ) → HasFile new k ↔ 0 < file_holders new.files k)
@@ -163,6 +172,7 @@ module _ (m : Mount) (s : State) (st : IsStateOf m s) (c d : ℕ) where
                 live = λ b i f g k opens on key is. live-still (upper_of l) s.tree step.tree g.node k law.paths (law.held b i g on)
                     (live s.tree g.node k ((files k).0 (record { client = b; descriptor = i; file = f; opened = opens; key = key })) is);
                 leaves = λ b i g on leaf. ap is_leaf (law.held b i g on) ∙ leaf;
+                owns = law_of_own s c (call.Close d);
               }));
           one = subst (AreOne new) (sym law.tables) state.one;
           arrived = ch.next ∙ st.arrived;
@@ -183,4 +193,4 @@ module _ (m : Mount) (s : State) (st : IsStateOf m s) (c d : ℕ) where
         closes = changes-as m.clients new c _ _ (λ x y g. g.closes) ch
 
         state : IsStateOf (record m { clients = new }) (record s { tables = left })
-        state = state-set m s st c d handle.1 handle.2 (record m { clients = new }) refl refl None None closes (λ f g k e. cc) tt
+        state = state-set m s st c d handle.1 handle.2 (record m { clients = new }) refl refl refl None None closes (λ f g k e. cc) tt

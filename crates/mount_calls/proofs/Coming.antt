@@ -84,9 +84,9 @@ module _ (U : Layer) (lowers : List Layer) (t : Tree) (clients : Clients) (ks : 
   come-fewer = fewer-but clients new ks (ks ++ free_table n ∷ []) n h.others (handles-last-other ks n) opens-none
 
 -- a mount without clients stands for the opening state of the merge
-pub begins : (m : Mount) → ((n : ℕ) → get nat_cmp m.clients.attached n ≡ None) → m.clients.next ≡ 0 → (t : Tree) → AreLayers (layers_of m.layers) → IsMerge (upper_of m.layers) (lowers_of m.layers) t → IsStateOf m (opening t (record { redirects = m.redirects; metacopy = false; read_only = false }))
+pub begins : (m : Mount) → ((n : ℕ) → get nat_cmp m.clients.attached n ≡ None) → m.clients.next ≡ 0 → (t : Tree) → AreLayers (layers_of m.layers) → IsMerge (upper_of m.layers) (lowers_of m.layers) t → IsStateOf m (opening t (record { redirects = m.redirects; metacopy = m.metacopy; read_only = false }))
 begins m none next t a merge = record {
-  layers = law_of_beginning (upper_of m.layers) (lowers_of m.layers) t m.redirects false a merge;
+  layers = law_of_beginning (upper_of m.layers) (lowers_of m.layers) t m.redirects m.metacopy a merge;
   arrived = next;
   redirects = refl;
   metacopy = refl;

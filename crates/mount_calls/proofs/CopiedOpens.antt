@@ -1,7 +1,8 @@
 -- Opens that copy a file up: the states that the mount stands for on the way.
 use Rattle.std.proofs.Common.{◌≡◌, ◌≢◌, ◌↔◌, ℕ, zero, suc, ◌<◌, ◌&&◌, true, false, cond, List, [], Option, None, Some, Result, Ok, Err, IfOk, OnErr, refl, sym, ap, ◌∙◌, subst, inl, inr, is_some, arith}
 use Rattle.merged_lookup.specs.Merged.{upper_of}
-use Rattle.mount_calls.proofs.Words.{after, AllocError, Attributes, bad_flags, base, bytes_at, Call, change, Contents, EINVAL, false≢true, File, file_bytes, Handle, Inode, inode_of, IsLive, IsMountOf, Layer, layer_of, Layers, layers_of, Leaf, live_handle, lowers_of, lowest_free, MountOptions, Node, node_at, NodeId, OpenFile, OpenFlags, opening_fault, option_and_then, option_map, or_else, over_node, Own, parents_fault, Path, Place, put, refusal, rewritten, see, shows, shows_link, ShowsInode, sized, State, StaysLayers, Tree, Upper, way_of, when, with_bytes, with_handle}
+use Rattle.mount_calls.proofs.Words.{after, AllocError, Attributes, bad_flags, base, Call, change, Contents, EINVAL, false≢true, File, file_bytes, Handle, Inode, inode_of, IsLive, IsMountOf, Layer, layer_of, Layers, layers_of, Leaf, live_handle, lowers_of, lowest_free, MountOptions, Node, node_at, NodeId, OpenFile, OpenFlags, opening_fault, option_and_then, option_map, or_else, over_node, Own, parents_fault, Path, Place, put, refusal, rewritten, see, shows, shows_link, ShowsInode, sized, State, StaysLayers, Tree, Upper, way_of, when, with_bytes, with_handle}
+use Rattle.layer_tree.specs.Tree.{own_at}
 use Rattle.slab.specs.Slab.{get}
 use Rattle.ov_base.specs.declared.bytes.Content.TheVariants as content
 use Rattle.ov_base.specs.declared.call.Call.TheVariants as call
@@ -12,6 +13,7 @@ use Rattle.plain_model.specs.Tree.{Origin, origin_in, SeenLeaf}
 use Rattle.plain_model.specs.Refusals.{bad_mode}
 use Rattle.plain_model.specs.Changes.{low_after, opened, touched, with_attributes, with_owner}
 use Rattle.plain_model.proofs.Keeping.{put-here}
+use Rattle.plain_model.proofs.OwnBytes.{law_of_own}
 use Rattle.plain_model.proofs.Paths.{ids_tell, one_or_not, paths_tell}
 use Rattle.layer_tree.specs.declared.node.Inode.{Inode as StoredInode}
 use Rattle.mount_laws.specs.Looks.{absent, is_link_inode}
@@ -47,7 +49,7 @@ use Rattle.mount_calls.proofs.Openings.{IsShownFile, leaf-seen, file-there, free
 use Rattle.mount_calls.proofs.OpeningWrites.{sized-none, writing-served}
 use Rattle.mount_calls.proofs.Rewritten.{state-rewritten}
 use Rattle.mount_calls.proofs.Stating.{the_layers, the_lowers, the_upper}
-use Rattle.mount_calls.proofs.Stored.{StandsAt, bytes-stored, stands-filled}
+use Rattle.mount_calls.proofs.Marks.{StandsAt, bare-mark, bare-own, live-own, stands-filled}
 
 -- the inode that stands at a place has the attributes that are shown
 pub attributes-stored : (l : Layers) (d : Place) (x : StoredInode) → ((p : Path) → ShowsInode l p d → StandsAt l d x p) → (p : Path) (i : Inode) → shows 0 (layers_of l) p ≡ Some (Contents d.layer d.key (Some i)) → x.attributes ≡ i.attributes
@@ -59,14 +61,14 @@ attributes-stored l d x is p i shown =
 
 -- a file of a lower layer is copied, with its own attributes
 abbrev pub Copied : Layers → Layers → Path → Place → (Inode → Attributes) → ℕ → Type 0
-Copied old new p d a key = (i : Inode) → shows 0 (layers_of old) p ≡ Some (Contents d.layer d.key (Some i)) → (leaf : CopiesLeaf old new p i.content (a i)) × (leaf.number ≡ key)
+Copied old new p d a key = (i : Inode) → shows 0 (layers_of old) p ≡ Some (Contents d.layer d.key (Some i)) → (leaf : CopiesLeaf old new p i.content None (a i)) × (leaf.number ≡ key)
 
 -- as it is told by the path that leads to it, and of attributes that are the file's own
 pub copied-as : (old new : Layers) (p q : Path) (d : Place) (a : Attributes) → p ≡ q → ((p : Path) (i : Inode) → shows 0 (layers_of old) p ≡ Some (Contents d.layer d.key (Some i)) → a ≡ i.attributes) → (r : Result ℕ AllocError) → IfOk r (Copied old new q d (λ i. a)) → IfOk r (Copied old new p d (λ i. i.attributes))
 copied-as old new p q d a same own (Err e) h = tt
 copied-as old new p q d a same own (Ok key) h = λ i shown.
-    subst (λ (z : Path). (leaf : CopiesLeaf old new z i.content i.attributes) × (leaf.number ≡ key)) (sym same)
-    (subst (λ (b : Attributes). (leaf : CopiesLeaf old new q i.content b) × (leaf.number ≡ key)) (own p i shown)
+    subst (λ (z : Path). (leaf : CopiesLeaf old new z i.content None i.attributes) × (leaf.number ≡ key)) (sym same)
+    (subst (λ (b : Attributes). (leaf : CopiesLeaf old new q i.content None b) × (leaf.number ≡ key)) (own p i shown)
     (h i (ap (shows 0 (layers_of old)) (sym same) ∙ shown)))
 
 -- the lower layers stay where a file is copied, and where memory runs out for that
@@ -130,10 +132,10 @@ module _ (m : Mount) (s : State) (st : IsStateOf m s) (c : ℕ) (clients : Clien
   a = there.inode.attributes
 
   -- and copied
-  copy : (leaf : CopiesLeaf m.layers new p there.inode.content a) × (leaf.number ≡ key)
+  copy : (leaf : CopiesLeaf m.layers new p there.inode.content None a) × (leaf.number ≡ key)
   copy = copied there.inode there.shown
 
-  abbrev leaf : CopiesLeaf m.layers new p there.inode.content a
+  abbrev leaf : CopiesLeaf m.layers new p there.inode.content None a
   leaf = copy.0
 
   -- nothing stood under its key
@@ -144,8 +146,15 @@ module _ (m : Mount) (s : State) (st : IsStateOf m s) (c : ℕ) (clients : Clien
   abbrev owned : Call
   owned = call.Chown p a.uid a.gid
 
+  -- on a mount where that copies the bytes
+  abbrev whole : State
+  whole = record s { options = record s.options { metacopy = false } }
+
+  mounted-whole : IsMountOf (the_upper m) (the_lowers m) whole
+  mounted-whole = record { layers = st.layers.layers; shows = st.layers.shows; kept = st.layers.kept; writable = st.layers.writable }
+
   abbrev t : Tree
-  t = (after s c owned).tree
+  t = (after whole c owned).tree
 
   -- is not refused
   unrefused-owner : chown_fault (the_layers m) p ≡ None
@@ -159,8 +168,8 @@ module _ (m : Mount) (s : State) (st : IsStateOf m s) (c : ℕ) (clients : Clien
   attributes-shown = ap shown_attributes there.shown
 
   -- it copies the file up too
-  owns : AltersState V (the_lowers m) s c p owned
-  owns = law_of_owner_changed p a.uid a.gid (the_upper m) V (the_lowers m) s st.layers c unrefused-owner a attributes-shown (subst (λ z. Alters (the_upper m) V (the_lowers m) z p a) (sym st.metacopy) (leaf.alters st.layers.layers))
+  owns : AltersState V (the_lowers m) whole c p owned
+  owns = law_of_owner_changed p a.uid a.gid (the_upper m) V (the_lowers m) whole mounted-whole c unrefused-owner a attributes-shown (leaf.alters st.layers.layers false refl)
 
   -- the upper held nothing at the path
   unheld : held (the_upper m) p ≡ None
@@ -209,13 +218,14 @@ module _ (m : Mount) (s : State) (st : IsStateOf m s) (c : ℕ) (clients : Clien
       state-on (record m { clients = clients }) s (reserved-state m s st c clients same) new leaf.lowers t s.serial mounts
       (handle-on s.tree t (λ q d at. owns.paths q ∙ at) owns.hidden (λ d folder. owns.folders d ∙ folder) clients.directories)
       (record {
-        live = λ b fd g h k at on is live. law_of_live_through_owner p a.uid a.gid (the_upper m) V (the_lowers m) s c a attributes-shown owns h.node k (other-file h.node k live) live;
-        leaves = λ b fd h on. chown-leaves p a.uid a.gid s st.layers.kept c h.node;
+        live = λ b fd g h k at on is live. law_of_live_through_owner p a.uid a.gid (the_upper m) V (the_lowers m) whole c a attributes-shown owns h.node k (other-file h.node k live) live;
+        leaves = λ b fd h on. chown-leaves p a.uid a.gid whole st.layers.kept c h.node;
+        owns = law_of_own whole c owned;
       })
     where
       mounts : IsMountOf V (lowers_of new) (record s { tree = t })
       mounts =
-          let x = subst (λ z. IsMountOf V z (after s c owned)) (sym (lowers-same m.layers new leaf.lowers)) owns.mounts in
+          let x = subst (λ z. IsMountOf V z (after whole c owned)) (sym (lowers-same m.layers new leaf.lowers)) owns.mounts in
           record { layers = x.layers; shows = x.shows; kept = x.kept; writable = x.writable }
 
   -- the upper shows it
@@ -225,12 +235,12 @@ module _ (m : Mount) (s : State) (st : IsStateOf m s) (c : ℕ) (clients : Clien
       ap (λ i. Some (Contents 0 leaf.number i)) leaf.inode ∙
       ap (λ k. Some (Contents 0 k (Some (record { content = there.inode.content; attributes = a; links = 1; mark = None })))) copy.1
 
-  module _ (d : ℕ) (last : Clients) (ch : OpensFile clients last c d (file_at (record { layer = 0; key = key }) f) (Ok tt)) where
+  module _ (d : ℕ) (last : Clients) (ch : OpensFile clients last c d (file_at (record { layer = 0; key = key }) f None) (Ok tt)) where
     abbrev asked : Call
     asked = call.Open p f mode
 
     abbrev file : OpenFile
-    file = file_at (record { layer = 0; key = key }) f
+    file = file_at (record { layer = 0; key = key }) f None
 
     -- the machine finds the same descriptor
     free : lowest_free s.tables c ≡ Some d
@@ -252,6 +262,10 @@ module _ (m : Mount) (s : State) (st : IsStateOf m s) (c : ℕ) (clients : Clien
     live : IsLive V t law.node key
     live = law_of_live_shown V (lowers_of new) (record s { tree = t }) copied-state.layers p key _ there.bytes law.node shown-now there.content at-node
 
+    -- its inode is the copy
+    copied-inode : V.inodes key ≡ Some (record { content = there.inode.content; attributes = a; links = 1; mark = None })
+    copied-inode = ap V.inodes (sym copy.1) ∙ leaf.inode
+
     -- the state in which it is open
     abbrev held-open : State
     held-open = record s { tree = t; tables = with_handle s.tables c d (Some made) }
@@ -260,7 +274,7 @@ module _ (m : Mount) (s : State) (st : IsStateOf m s) (c : ℕ) (clients : Clien
     opened-state : IsStateOf (record m { layers = new; clients = last }) held-open
     opened-state =
         state-open (record m { layers = new; clients = clients }) (record s { tree = t }) copied-state c (File file) d last ch made
-        (record { source = (live, refl); reads = refl; writes = refl; append = refl; place = refl; unlisted = refl })
+        (record { source = (live, refl); own = λ on. bare-own V t law.node key live _ copied-inode refl; reads = refl; writes = refl; append = refl; place = refl; unlisted = refl })
         (fresh-one (record m { layers = new; clients = clients }) (record s { tree = t }) copied-state c p file made at-node (live, refl))
 
     -- the node was a file of a lower layer
@@ -273,16 +287,16 @@ module _ (m : Mount) (s : State) (st : IsStateOf m s) (c : ℕ) (clients : Clien
         (seen (the_upper m) (the_lowers m) s st.layers p law.node law.at ∙ ap (see (base (the_upper m) (the_lowers m) p)) there.shown ∙ ap (λ z. Some (SeenLeaf z a origin there.inode.links)) there.content)
 
     -- whose bytes are copied too
-    own-bytes : low_after s.options.metacopy (content.File there.bytes) origin ≡ false
+    own-bytes : low_after false (content.File there.bytes) origin ≡ false
     own-bytes = by place.layer lower
       where
-        by : (j : ℕ) → 0 < j → low_after s.options.metacopy (content.File there.bytes) (origin_in j there.inode) ≡ false
+        by : (j : ℕ) → 0 < j → low_after false (content.File there.bytes) (origin_in j there.inode) ≡ false
         by zero low = absurd (omega (arith, low))
-        by (suc j) low = ap (λ z. z && true) st.metacopy
+        by (suc j) low = refl
 
     -- it is the upper's own now
-    tree-owned : t ≡ own f w s.options s.tree law.node there.bytes a origin was.0 was.1 there.bytes
-    tree-owned = ap (change (with_attributes s.options (with_owner a.uid a.gid)) s.tree) law.at ∙ own-owned f w s.options s.tree law.node there.bytes a origin was.0 was.1 own-bytes
+    tree-owned : t ≡ own f w whole.options s.tree law.node there.bytes a origin was.0 was.1 there.bytes
+    tree-owned = ap (change (with_attributes whole.options (with_owner a.uid a.gid)) s.tree) law.at ∙ own-owned f w whole.options s.tree law.node there.bytes a origin was.0 was.1 own-bytes
 
     -- the machine's answer and its state, where this becomes of the tree
     done : (layers : Layers) (u : Tree) → change (opened f) s.tree (Some law.node) ≡ u → IsStateOf (record m { layers = layers; clients = last }) (record held-open { tree = u }) → Serves (refusal s c asked) s c asked (reply.Descriptor d) (record m { layers = layers; clients = last })
@@ -290,13 +304,13 @@ module _ (m : Mount) (s : State) (st : IsStateOf m s) (c : ℕ) (clients : Clien
 
     -- an open that keeps the bytes
     pub copied-kept : f.truncate ≡ false → Serves (refusal s c asked) s c asked (reply.Descriptor d) (record m { layers = new; clients = last })
-    copied-kept e = done new t (own-kept f w s.options s.tree law.node there.bytes a origin was.0 was.1 e ∙ sym tree-owned) opened-state
+    copied-kept e = done new t (own-kept f w whole.options s.tree law.node there.bytes a origin was.0 was.1 e ∙ sym tree-owned) opened-state
 
     -- an open that empties the file
-    pub copied-emptied : f.truncate ≡ true → (layers : Layers) → StaysLayers new layers → ((k : ℕ) (old : List ℕ) → file.source ≡ Upper k → bytes_at new.upper k ≡ Some old → SetsFile new layers k (sized old 0)) → Serves (refusal s c asked) s c asked (reply.Descriptor d) (record m { layers = layers; clients = last })
+    pub copied-emptied : f.truncate ≡ true → (layers : Layers) → StaysLayers new layers → ((k : ℕ) (old : List ℕ) → file.source ≡ Upper k → own_at new.upper k ≡ Some old → SetsFile new layers k (sized old 0)) → Serves (refusal s c asked) s c asked (reply.Descriptor d) (record m { layers = layers; clients = last })
     copied-emptied e layers keeps sets =
-        let bytes : bytes_at new.upper key ≡ Some live.bytes = bytes-stored new key _ live.inode in
+        let bytes : own_at new.upper key ≡ Some live.bytes = live-own new t law.node key live (bare-mark V t law.node key live _ copied-inode refl) in
         let empties : SetsFile new layers key [] = subst (SetsFile new layers key) (sized-none live.bytes) (sets key live.bytes refl bytes) in
         done layers (rewritten t law.node [])
-        (own-emptied f w s.options s.tree law.node there.bytes a origin was.0 was.1 e ∙ sym (own-rewritten f w s.options s.tree law.node there.bytes a origin was.0 was.1) ∙ ap (λ z. rewritten z law.node []) (sym tree-owned))
+        (own-emptied f w whole.options s.tree law.node there.bytes a origin was.0 was.1 e ∙ sym (own-rewritten f w whole.options s.tree law.node there.bytes a origin was.0 was.1) ∙ ap (λ z. rewritten z law.node []) (sym tree-owned))
         (state-rewritten (record m { layers = new; clients = last }) held-open opened-state layers key law.node [] (open-leads (record m { layers = new; clients = clients }) (record s { tree = t }) copied-state c (File file) d last ch file made key refl refl) keeps empties)

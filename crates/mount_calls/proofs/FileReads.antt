@@ -1,7 +1,7 @@
 -- Reads of open files, and what fstat shows of what is open.
 use Rattle.std.proofs.Common.{◌≡◌, ℕ, ◌+◌, true, not, List, Option, None, Some, Result, Ok, Err, refl, sym, ap, ◌∙◌, subst, is_some, length, take, drop, nat_lt}
 use Rattle.std.proofs.Common.{arith}
-use Rattle.mount_calls.proofs.Words.{At, Attributes, base, ChangesSlot, Directory, directory_in, Errno, FileSource, Folder, folder_attributes, Handle, handle_of, Inode, is_directory, Layer, Location, Node, OpenDirectory, OpenFile, option_and_then, or_else, Path, refusal, Removed, Reply, Shown, shows, Stat, State, when, with_handle, with_place}
+use Rattle.mount_calls.proofs.Words.{At, Attributes, base, ChangesSlot, Directory, directory_in, Errno, Folder, folder_attributes, Handle, handle_of, Inode, is_directory, Layer, Location, Node, OpenDirectory, OpenFile, option_and_then, or_else, Path, refusal, Removed, Reply, Shown, shows, Stat, State, when, with_handle, with_place}
 use Rattle.ov_base.specs.declared.call.Call.TheVariants as call
 use Rattle.ov_base.specs.declared.errno.Errno.TheVariants as errno
 use Rattle.ov_base.specs.declared.reply.ObjectKind.TheVariants as kind
@@ -17,7 +17,7 @@ use Rattle.open_handles.specs.Opened.{path_in, attributes_in}
 use Rattle.mount_calls.specs.declared.clients.Clients.{Clients}
 use Rattle.mount_calls.specs.declared.mount.Mount.{Mount}
 use Rattle.mount_calls.specs.Attaching.{opened_by, directory_by, file_by, located, path_of, ChangesClient}
-use Rattle.mount_calls.specs.Files.{source_inode}
+use Rattle.mount_calls.specs.Files.{seen_inode}
 use Rattle.mount_calls.specs.Opening.{read_fault}
 use Rattle.mount_calls.specs.Status.{stat_with, stat_of_inode, stat_at, stat_shown, unless_refused}
 use Rattle.mount_calls.specs.States.{Stands, IsHandle, IsStateOf, Serves}
@@ -73,7 +73,7 @@ module _ (m : Mount) (s : State) (st : IsStateOf m s) (c d : ℕ) where
     read-refused e h = serve-refused _ s c _ e m (read-refusal ∙ h) st
 
     -- a read gives the next bytes, and the file's place is after them
-    pub read-done : (f : OpenFile) → file_by m.clients c d ≡ Some f → read_fault (opened_by m.clients c d) n ≡ None → (bytes given : List ℕ) → AreBytes m.layers f.source bytes → given ≡ take n (drop f.place bytes) → (new : Clients) → ChangesClient m.clients new c (λ x y. ChangesSlot x y d (with_place (f.place + length given))) → Reads (reply.Read given) (record m { clients = new })
+    pub read-done : (f : OpenFile) → file_by m.clients c d ≡ Some f → read_fault (opened_by m.clients c d) n ≡ None → (bytes given : List ℕ) → AreBytes m.layers f bytes → given ≡ take n (drop f.place bytes) → (new : Clients) → ChangesClient m.clients new c (λ x y. ChangesSlot x y d (with_place (f.place + length given))) → Reads (reply.Read given) (record m { clients = new })
     read-done f is good bytes given are next new ch =
         let opens = file-open (opened_by m.clients c d) f is in
         let x = file-at m s st c d f opens in
@@ -96,11 +96,11 @@ module _ (m : Mount) (s : State) (st : IsStateOf m s) (c d : ℕ) where
   status-shown h on r is = grind arith
 
   -- of a file, its inode
-  pub file-status : (f : OpenFile) → file_by m.clients c d ≡ Some f → (source : FileSource) → f.source ≡ source → (r : Result Stat Errno) → ((i : Inode) → source_inode (the_upper m) (the_lowers m) source ≡ Some i → r ≡ stat_of_inode (Some i)) → Shows (status_reply r)
-  file-status f is source at r tells =
+  pub file-status : (f : OpenFile) → file_by m.clients c d ≡ Some f → (r : Result Stat Errno) → ((i : Inode) → seen_inode (the_upper m) (the_lowers m) f.source f.low ≡ Some i → r ≡ stat_of_inode (Some i)) → Shows (status_reply r)
+  file-status f is r tells =
       let x = file-at m s st c d f (file-open (opened_by m.clients c d) f is) in
       let sees : Sees (the_upper m) (the_lowers m) s.tree f x.0 = file-sees (the_upper m) (the_lowers m) s.tree f x.0 x.2 in
-      status-shown x.0 x.1 (status_reply r) (ap status_reply (tells _ (ap (source_inode (the_upper m) (the_lowers m)) (sym at) ∙ sees.inode)) ∙ sym sees.status)
+      status-shown x.0 x.1 (status_reply r) (ap status_reply (tells _ sees.inode) ∙ sym sees.status)
 
   -- of a directory, what stands where it does
   directory-status : (o : OpenDirectory) → opened_by m.clients c d ≡ Some (Directory o) → (r : Result Stat Errno) → ((l : Location) → located m.clients o ≡ Some l → r ≡ status_standing (the_layers m) l) → Shows (status_reply r)

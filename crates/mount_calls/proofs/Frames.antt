@@ -120,8 +120,8 @@ but-same old new p q e = record { others = λ x a b. stays x; ends = inl stays }
     stays x = inl (inl (ap (λ (l : Layers). held (upper_of l) x) e))
 
 -- one that is made names an inode at both
-pub but-given : (old new : Layers) (p q : Path) → GivesName old new p q → KeepsBut old new p q
-but-given old new p q gives = record {
+pub but-given : (old new : Layers) (metacopy : Bool) (p q : Path) → GivesName old new metacopy p q → KeepsBut old new p q
+but-given old new metacopy p q gives = record {
   others = gives.paths;
   ends = inr (λ are.
       let both = (gives.gains are).together in
@@ -157,8 +157,8 @@ renames-parents old new p q apart g = record { one = λ h. absurd (false≢true 
     by x (inr (inr h)) = inr (inr h)
 
 -- what moved took what the upper held along, also once what lost its last name is freed
-pub renames-moved : (a b c : Layers) (p q : Path) (directory : Bool) (released : Option ℕ) → Moves a b p q directory released → SameObjects (upper_of b) (upper_of c) → KeepsRenamed a c p q
-renames-moved a b c p q directory released moves same = record {
+pub renames-moved : (a b c : Layers) (metacopy : Bool) (p q : Path) (directory : Bool) (released : Option ℕ) → Moves a b metacopy p q directory released → SameObjects (upper_of b) (upper_of c) → KeepsRenamed a c p q
+renames-moved a b c metacopy p q directory released moves same = record {
   one = λ h. absurd (false≢true (sym moves.apart ∙ h));
   paths = inl (record {
     along = λ x y f off. by x y (moves.over.paths x y f off);

@@ -61,13 +61,13 @@ renames-then : (b c : Layers) → StaysMount b c → (s : State) (client : ℕ) 
 renames-then b c mounts s client p q r = search rules
 
 -- what moved, moved
-pub moves-then : (clients : Clients) (a b c : Layers) (redirects : Bool) (p q : Path) (directory : Bool) (released : Option ℕ) → Moves a b p q directory released → (is_one (upper_of a) p q ≡ false → ShowsNoName (layers_of a) q) → (is_one (upper_of a) p q ≡ false → RenameSteps a b redirects p q) → StaysMount b c → StaysHeld clients b c → SameObjects (upper_of b) (upper_of c) → ShowsSame b c → RenamesHeld clients a c redirects p q
-moves-then clients a b c redirects p q directory released moves bare steps mounts held objects same = record {
+pub moves-then : (clients : Clients) (a b c : Layers) (redirects metacopy : Bool) (p q : Path) (directory : Bool) (released : Option ℕ) → Moves a b metacopy p q directory released → (is_one (upper_of a) p q ≡ false → ShowsNoName (layers_of a) q) → (is_one (upper_of a) p q ≡ false → RenameSteps a b redirects metacopy p q) → StaysMount b c → StaysHeld clients b c → SameObjects (upper_of b) (upper_of c) → ShowsSame b c → RenamesHeld clients a c redirects metacopy p q
+moves-then clients a b c redirects metacopy p q directory released moves bare steps mounts held objects same = record {
   apart = moves.apart;
   bare = bare moves.apart;
   steps = λ s is option bytes client. renames-then b c mounts s client p q (steps moves.apart s is option bytes client);
   live = λ s is option bytes client d k some on live.
-      held (after s client (call.Rename p q)).tree d k some (rename-held clients a b redirects p q moves.over (steps moves.apart) s is option bytes client d k some on live);
+      held (after s client (call.Rename p q)).tree d k some (rename-held clients a b redirects metacopy p q moves.over (steps moves.apart) s is option bytes client d k some on live);
   named = λ s is option bytes client d k y live at.
       let step : Renames (upper_of b) (lowers_of b) s client p q = steps moves.apart s is option bytes client in
       named-live (upper_of c) (lowers_of c) (after s client (call.Rename p q)) (renames-then b c mounts s client p q step).mounts d k y at
@@ -77,7 +77,7 @@ moves-then clients a b c redirects p q directory released moves bare steps mount
 
 -- an inode as a layer has it
 abbrev inode_as : StoredInode → Inode
-inode_as x = record { content = x.content; attributes = x.attributes; links = x.links; mark = None }
+inode_as x = record { content = x.content; attributes = x.attributes; links = x.links; mark = option_map (λ b. b.value) x.mark }
 
 -- an inode without links has no name, and nothing stands in it
 pub unlinked : (t : LayerTree) (k : ℕ) (x : StoredInode) → IsTree t → ((key : ℕ) (i : Inode) → inode_at t key ≡ Some i → i.links ≡ 0 → (dir : ℕ) (name : List ℕ) → child t dir name ≢ Some key) → get t k ≡ Some (node.Inode x) → x.links ≡ 0 → IsNameless t k × ((i : Inode) → inode_at t k ≡ Some i → i.links ≡ 0)

@@ -1,25 +1,28 @@
 -- What a call lacks can be had: a parent is on a way that is shown, and a file has the bytes that its layer's limits allow.
 use Rattle.std.specs.Prelude.{slice_get}
-use Rattle.std.proofs.Common.{◌≡◌, ◌≢◌, map, ℕ, zero, suc, ◌<◌, ◌≤◌, Bool, true, false, cond, nat_lt, List, [], ◌∷◌, length, Option, None, Some, All, refl, ap, ◌∙◌, subst, arith}
+use Rattle.std.proofs.Common.{◌≡◌, ◌≢◌, map, ℕ, zero, suc, ◌<◌, ◌≤◌, Bool, true, false, cond, nat_lt, List, [], ◌∷◌, length, Option, None, Some, All, option_map, refl, sym, ap, ◌∙◌, subst, arith}
 use Rattle.std.specs.Option.{option_and_then}
 use Rattle.std.proofs.lemmas.Bool.{ltb-true}
 use Rattle.ov_base.specs.declared.bytes.Content.{Content}
 use Rattle.ov_base.specs.declared.bytes.Content.TheVariants as content
 use Rattle.ov_base.specs.declared.call.Call.{Call}
-use Rattle.plain_model.specs.Layers.{Path, Object, Directory, Named, Whiteout, Inode, Layer, held, below, cuts, Shown, Folder, Contents, over, unless, shows}
+use Rattle.plain_model.specs.Layers.{Path, Object, Directory, Named, Whiteout, Inode, Layer, held, below, cuts, Shown, Folder, Contents, file_or, over, unless, shows}
 use Rattle.plain_model.specs.Limits.{IsContentWithin, IsWithinLimits}
 use Rattle.layer_tree.specs.Tree as tree
 use Rattle.layer_tree.specs.Tree.{Tree, inode_at, layer_of}
 use Rattle.merged_lookup.specs.declared.layers.Layers.{Layers}
+use Rattle.merged_lookup.specs.declared.stack.Place.{Place}
 use Rattle.merged_lookup.specs.Lower.{file_bytes}
+use Rattle.merged_lookup.specs.Marking.{file_content, file_place, place_if}
 use Rattle.merged_lookup.specs.Merged.{upper_of, layers_of, lowers_of, parents_fault}
 use Rattle.merged_lookup.proofs.Preparing.{lower-shown}
 use Rattle.copy_up.specs.Needs.{IsNeed}
+use Rattle.copy_up.proofs.OwnBytes.{has-source}
 use Rattle.work_dir.specs.declared.limits.TheConstants.{FILE_MAX}
 use Rattle.work_dir.specs.declared.next.Lack.{Lack}
-use Rattle.work_dir.specs.declared.source.Source.{Source}
+use Rattle.ov_base.specs.declared.source.Source.{Source}
 use Rattle.mount_calls.specs.declared.mount.Mount.{Mount}
-use Rattle.mount_calls.specs.Lacks.{bytes_at, file_lack, lack_among, lacking, low_file, need_of, parent_lack, path_of_call, source_of, CanBeHad, OpensToChange}
+use Rattle.mount_calls.specs.Lacks.{bytes_at, copied_file, data_at, file_lack, lack_among, lacking, low_file, marked_file, need_of, parent_lack, path_of_call, source_in, source_of, CanBeHad, OpensToChange}
 use Rattle.mount_calls.proofs.Lacking.{need-lacking}
 use Rattle.mount_calls.proofs.Stating.{the_layers, the_lowers, the_upper}
 
@@ -95,6 +98,13 @@ is-low-file (Some (Folder j k a)) d h = cc
 is-low-file (Some (Contents j k None)) d h = cc
 is-low-file (Some (Contents j k (Some i))) d h = low-file-in j k i d (nat_lt 0 j) i.content refl refl h
 
+-- a file is shown at this place
+record IsPlaced (s : Option Shown) (d : Place) : Type 0 where
+  pub inode : Inode
+  pub bytes : List ℕ
+  pub content : inode.content ≡ content.File bytes
+  pub shown : s ≡ Some (Contents d.layer d.key (Some inode))
+
 -- each file that is lacking has bytes
 abbrev pub IsOfBytes : Mount → Option Source → Type 0
 IsOfBytes m file = (d : Source) → file ≡ Some d → HasBytes (the_lowers m) d
@@ -106,6 +116,59 @@ pub shown-bytes : (m : Mount) (p : Path) → IsOfBytes m (low_file (shows 0 (the
 shown-bytes m p d h =
     let f = is-low-file (shows 0 (the_layers m) p) d h in
     low-bytes m.layers p d.layer d.key f.inode f.bytes f.content f.shown f.lower
+
+-- so also where a change of attributes or names copies them
+pub copied-bytes : (m : Mount) (p : Path) → IsOfBytes m (copied_file m.metacopy (shows 0 (the_layers m) p))
+copied-bytes m p = by m.metacopy
+  where
+    by : (b : Bool) → IsOfBytes m (copied_file b (shows 0 (the_layers m) p))
+    by true = none-bytes m
+    by false = shown-bytes m p
+
+-- the file at a place that is shown
+placed-in : (e : Place) (x : Inode) (d : Place) (c : Content) → x.content ≡ c → place_if e (file_content (Some (record x { content = c }))) ≡ Some d → IsPlaced (Some (Contents e.layer e.key (Some x))) d
+placed-in e x d (content.File b) is h =
+    let same : e ≡ d = cc in
+    subst (λ z. IsPlaced (Some (Contents e.layer e.key (Some x))) z) same (record { inode = x; bytes = b; content = is; shown = refl })
+placed-in e x d (content.SymbolicLink target) is h = cc
+
+of-place : (s : Option Shown) (d : Place) → file_place s ≡ Some d → IsPlaced s d
+of-place None d h = cc
+of-place (Some (Folder j k a)) d h = cc
+of-place (Some (Contents j k None)) d h = cc
+of-place (Some (Contents j k (Some x))) d h = placed-in (record { layer = j; key = k }) x d x.content refl h
+
+-- so has a marked file, by the lower file that is shown at its mark
+marked-bytes : (l : Layers) (m : Option Path) (d : Source) → marked_file (lowers_of l) m ≡ Some d → HasBytes (lowers_of l) d
+marked-bytes l None d h = cc
+marked-bytes l (Some q) d h = by (file_place (shows 1 (lowers_of l) q)) refl h
+  where
+    placed : (e : Place) → file_place (shows 1 (lowers_of l) q) ≡ Some e → HasBytes (lowers_of l) (source_in e)
+    placed e at =
+        let x = of-place (shows 1 (lowers_of l) q) e at in
+        let s = has-source l q e (sym at) in
+        let both : content.File s.bytes ≡ content.File x.bytes =
+        sym (s.shown []) ∙ ap (file_or (content.File [])) x.shown
+        ∙ ap (λ z. file_or (content.File []) (Some (Contents e.layer e.key (Some (record x.inode { content = z }))))) x.content in
+        let one : s.bytes ≡ x.bytes = cc in (
+          x.bytes,
+          s.there ∙ ap Some one,
+          λ a. bytes-within x.inode.content x.bytes x.content (shown-within 1 (lowers_of l) a q e.layer e.key x.inode x.shown),
+        )
+
+    by : (o : Option Place) → file_place (shows 1 (lowers_of l) q) ≡ o → option_map source_in o ≡ Some d → HasBytes (lowers_of l) d
+    by None at h = cc
+    by (Some e) at h = let same : source_in e ≡ d = cc in subst (HasBytes (lowers_of l)) same (placed e at)
+
+pub data-bytes : (m : Mount) (p : Path) → IsOfBytes m (data_at (the_lowers m) (shows 0 (the_layers m) p))
+data-bytes m p d h = by (shows 0 (the_layers m) p) refl h
+  where
+    by : (s : Option Shown) → shows 0 (the_layers m) p ≡ s → data_at (the_lowers m) s ≡ Some d → HasBytes (the_lowers m) d
+    by None e h = cc
+    by (Some (Folder j k a)) e h = cc
+    by (Some (Contents zero k None)) e h = cc
+    by (Some (Contents zero k (Some i))) e h = marked-bytes m.layers i.mark d h
+    by (Some (Contents (suc j) k i)) e h = shown-bytes m p d (ap low_file e ∙ h)
 
 -- a file that is lacking can be had
 can-file : (m : Mount) (k : Call) (file : Option Source) → IsOfBytes m file → CanBeHad m k (file_lack file)

@@ -28,8 +28,8 @@ marks-key l p opaque r k (i, a, h) j last is =
     absurd (cc)
 
 -- so it is where a directory moved, also once what was replaced is freed
-pub folder-key : (a b c : Layers) (p q : Path) (released : Option ℕ) (k : ℕ) → Moves a b p q true released → SameObjects (upper_of b) (upper_of c) → IsKeyAt c q k
-folder-key a b c p q released k m same = by (cases_Bool (base (upper_of a) (lowers_of a) p))
+pub folder-key : (a b c : Layers) (metacopy : Bool) (p q : Path) (released : Option ℕ) (k : ℕ) → Moves a b metacopy p q true released → SameObjects (upper_of b) (upper_of c) → IsKeyAt c q k
+folder-key a b c metacopy p q released k m same = by (cases_Bool (base (upper_of a) (lowers_of a) p))
   where
     marks : MovesMarks a b p q
     marks = m.over.marks m.kind

@@ -1,10 +1,10 @@
 -- What a path lacks, by the numbers of its names, and what a call lacks.
-use Rattle.std.proofs.Common.{◌≡◌, ℕ, ◌<◌, ◌≤◌, Bool, true, false, ◌||◌, cond, List, [], ◌∷◌, length, take, reverse, Option, None, Some, is_none, refl, sym, ap, ap₂, ◌∙◌, subst, arith}
+use Rattle.std.proofs.Common.{◌≡◌, ℕ, zero, suc, ◌<◌, ◌≤◌, Bool, true, false, ◌||◌, cond, List, [], ◌∷◌, length, take, reverse, Option, None, Some, is_none, refl, sym, ap, ap₂, ◌∙◌, subst, arith}
 use Rattle.std.specs.Option.{option_or}
 use Rattle.std.proofs.lemmas.Bool.{false≢true, lt-ltb}
 use Rattle.std.proofs.lemmas.List.{reverse-append, reverse-reverse, length-reverse, take-append-le, take_all}
 use borrow.Author.Count.{below_more}
-use Rattle.plain_model.specs.Layers.{Name, Path, Inode, Layer, held, holds_directory, Shown, Contents, shows}
+use Rattle.plain_model.specs.Layers.{Name, Path, Inode, Layer, held, holds_directory, Shown, Folder, Contents, shows}
 use Rattle.merged_lookup.specs.declared.found.Topmost.{Topmost}
 use Rattle.merged_lookup.specs.declared.found.Topmost.TheVariants as topmost
 use Rattle.merged_lookup.specs.declared.layers.Layers.{Layers}
@@ -14,11 +14,11 @@ use Rattle.copy_up.specs.declared.needs.Need.TheVariants as need
 use Rattle.copy_up.specs.Needs.{IsNeed, first_names, has_directory}
 use Rattle.work_dir.specs.declared.next.Lack.{Lack}
 use Rattle.work_dir.specs.declared.next.Lack.TheVariants as lack
-use Rattle.work_dir.specs.declared.source.Source.{Source}
+use Rattle.ov_base.specs.declared.source.Source.{Source}
 use Rattle.mount_calls.specs.declared.attribute_changes.AttributeCall.{AttributeCall}
 use Rattle.mount_calls.specs.declared.attribute_changes.AttributeCall.TheVariants as asks
 use Rattle.mount_calls.specs.AttributeCalls.{call_at}
-use Rattle.mount_calls.specs.Lacks.{lacking_to, lacking, need_of, LawOfNeeds, source_of, low_file, parent_lack, lack_among, lack_of}
+use Rattle.mount_calls.specs.Lacks.{lacking_to, lacking, need_of, LawOfNeeds, source_of, copied_file, low_file, data_at, parent_lack, lack_among, lack_of}
 
 -- the first names of a path are those of its parent, as far as that goes
 first-within : (n : Name) (q : Path) (k : ℕ) → k ≤ length q → first_names k (n ∷ q) ≡ first_names k q
@@ -101,31 +101,56 @@ pub low-own : (s : Option Shown) (layer key : ℕ) (i : Option Inode) → layer 
 low-own s layer key None h e = sym (ap low_file e)
 low-own s layer key (Some i) h e = sym (ap low_file (e ∙ ap (λ z. Some (Contents z key (Some i))) h))
 
+-- no bytes are copied where no file of a lower layer is shown, and where none are copied
+pub copied-none : (metacopy : Bool) (s : Option Shown) → low_file s ≡ None → copied_file metacopy s ≡ None
+copied-none true s h = refl
+copied-none false s h = h
+
+pub none-copied : (metacopy : Bool) (s : Option Shown) → metacopy ≡ true → None ≡ copied_file metacopy s
+none-copied metacopy s h = sym (ap (λ b. copied_file b s) h)
+
+-- and those of a file that is shown where bytes are
+pub all-copied : (metacopy : Bool) (s : Option Shown) → metacopy ≡ false → low_file s ≡ copied_file metacopy s
+all-copied metacopy s h = sym (ap (λ b. copied_file b s) h)
+
 -- what is lacking for a change of attributes
-pub attribute-lack : (U : Layer) (lowers : List Layer) (p : Path) (x : AttributeCall) → lack_among U false (p ∷ []) (low_file (shows 0 (U ∷ lowers) p)) ≡ lack_of U lowers (call_at p x)
-attribute-lack U lowers p (asks.Mode mode) = refl
-attribute-lack U lowers p (asks.Owner uid gid) = refl
-attribute-lack U lowers p (asks.Set name value) = refl
-attribute-lack U lowers p (asks.Delete name) = refl
+pub attribute-lack : (U : Layer) (lowers : List Layer) (metacopy : Bool) (p : Path) (x : AttributeCall) → lack_among U false (p ∷ []) (copied_file metacopy (shows 0 (U ∷ lowers) p)) ≡ lack_of U lowers metacopy (call_at p x)
+attribute-lack U lowers metacopy p (asks.Mode mode) = refl
+attribute-lack U lowers metacopy p (asks.Owner uid gid) = refl
+attribute-lack U lowers metacopy p (asks.Set name value) = refl
+attribute-lack U lowers metacopy p (asks.Delete name) = refl
 
 -- something is shown as the topmost object
 pub top-shown : (l : Layers) (p : Path) (t : Topmost) → IsTopmost l p (Some t) → is_none (shows 0 (layers_of l) p) ≡ false
 top-shown l p (topmost.Directory d) h = ap is_none h.1
 top-shown l p (topmost.Inode d) h = ap is_none h.shown
 
--- for an open, by whether it writes and by what is shown
-abbrev pub open_lack : Layer → Path → Bool → Bool → Option Shown → Lack
-open_lack U p writes absent s = lack_among U false (cond (writes || absent) (p ∷ []) []) (cond writes (low_file s) None)
+-- where no bytes are a lower file's, none are of a file of a lower layer
+pub low-none : (lowers : List Layer) (s : Option Shown) → data_at lowers s ≡ None → low_file s ≡ None
+low-none lowers None h = h
+low-none lowers (Some (Folder j k a)) h = h
+low-none lowers (Some (Contents zero k None)) h = h
+low-none lowers (Some (Contents zero k (Some i))) h = refl
+low-none lowers (Some (Contents (suc j) k i)) h = h
 
-pub open-absent : (U : Layer) (p : Path) (writes : Bool) (s : Option Shown) → s ≡ None → lack_among U false (p ∷ []) None ≡ open_lack U p writes (is_none s) s
-open-absent U p true s h = ap (λ x. lack_among U false (p ∷ []) (low_file x)) (sym h)
-open-absent U p false s h = ap (λ x. lack_among U false (cond (is_none x) (p ∷ []) []) None) (sym h)
+-- of what lower layers show the bytes are where it is
+pub low-data : (lowers : List Layer) (s : Option Shown) (j k : ℕ) (i : Option Inode) → 0 < j → s ≡ Some (Contents j k i) → low_file s ≡ data_at lowers s
+low-data lowers s zero k i low h = absurd (omega arith)
+low-data lowers s (suc j) k i low h = ap low_file h ∙ sym (ap (data_at lowers) h)
 
-pub open-writes : (U : Layer) (p : Path) (writes : Bool) (s : Option Shown) → writes ≡ true → lack_among U false (p ∷ []) (low_file s) ≡ open_lack U p writes (is_none s) s
-open-writes U p writes s h = ap (λ w. open_lack U p w (is_none s) s) (sym h)
+-- for an open, by whether it writes and whether anything is shown, and by where the bytes are of what is
+abbrev pub open_lack : Layer → Path → Bool → Bool → Option Source → Lack
+open_lack U p writes absent d = lack_among U false (cond (writes || absent) (p ∷ []) []) (cond writes d None)
 
-pub open-reads : (U : Layer) (p : Path) (writes : Bool) (s : Option Shown) → writes ≡ false → is_none s ≡ false → lack.Nothing ≡ open_lack U p writes (is_none s) s
-open-reads U p writes s h g = sym (ap₂ (λ w b. open_lack U p w b s) h g)
+pub open-absent : (U : Layer) (lowers : List Layer) (p : Path) (writes : Bool) (s : Option Shown) → s ≡ None → lack_among U false (p ∷ []) None ≡ open_lack U p writes (is_none s) (data_at lowers s)
+open-absent U lowers p true s h = ap (λ x. lack_among U false (p ∷ []) (data_at lowers x)) (sym h)
+open-absent U lowers p false s h = ap (λ x. lack_among U false (cond (is_none x) (p ∷ []) []) None) (sym h)
+
+pub open-writes : (U : Layer) (p : Path) (writes absent : Bool) (d : Option Source) → writes ≡ true → lack_among U false (p ∷ []) d ≡ open_lack U p writes absent d
+open-writes U p writes absent d h = ap (λ w. open_lack U p w absent d) (sym h)
+
+pub open-reads : (U : Layer) (p : Path) (writes absent : Bool) (d : Option Source) → writes ≡ false → absent ≡ false → lack.Nothing ≡ open_lack U p writes absent d
+open-reads U p writes absent d h g = sym (ap₂ (λ w b. open_lack U p w b d) h g)
 
 -- for a rename, by whether both paths are one object
 abbrev pub rename_lack : Layer → Path → Path → Bool → Option Source → Lack

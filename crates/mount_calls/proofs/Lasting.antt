@@ -131,8 +131,8 @@ module _ (old new : Layers) (p : Path) (mode : ℕ) (m : MakesDirectory old new 
       here q e k = grind (arith, unnamed)
 
 -- mkdir leaves each live file live
-pub mkdir-live : (old new : Layers) (p : Path) (mode : ℕ) → StaysLayers old new → MakesDirectory old new p mode → MkdirSteps old new p mode → KeepsLive old new (call.Mkdir p mode)
-mkdir-live old new p mode keeps m steps s is option c d k live =
+pub mkdir-live : (old new : Layers) (metacopy : Bool) (p : Path) (mode : ℕ) → StaysLayers old new → MakesDirectory old new p mode → MkdirSteps old new p mode → KeepsLive old new metacopy (call.Mkdir p mode)
+mkdir-live old new metacopy p mode keeps m steps s is option c d k live =
     let x : Makes (upper_of new) (lowers_of old) s c p mode = subst (λ (Ls : List Layer). Makes (upper_of new) Ls s c p mode) (lowers-same old new m.lowers) (steps s is c) in
     law_of_live_through_made (upper_of old) (upper_of new) (lowers_of old) s is c p mode (gains old new p mode m s is c x) x d k (inode-raised old new m.lowers k (m.objects.inodes k (λ e. cc))) live
 
@@ -153,24 +153,24 @@ module _ (old new : Layers) (p : Path) (y : Content) (a : Attributes) (m : Makes
   same-inode = inode-raised old new m.lowers k (m.objects.inodes k (λ e. differs (let z : Some m.number ≡ Some k = e in cc)))
 
 -- symlink leaves each live file live
-pub symlink-live : (old new : Layers) (target : List ℕ) (p : Path) → MakesLeaf old new p (content.SymbolicLink target) (new_attributes 0o777) → SymlinkSteps old new target p → KeepsLive old new (call.Symlink target p)
-symlink-live old new target p m steps s is option c d k live =
+pub symlink-live : (old new : Layers) (metacopy : Bool) (target : List ℕ) (p : Path) → MakesLeaf old new p (content.SymbolicLink target) (new_attributes 0o777) → SymlinkSteps old new target p → KeepsLive old new metacopy (call.Symlink target p)
+symlink-live old new metacopy target p m steps s is option c d k live =
     let g : GainsLeaf (upper_of old) (upper_of new) (lowers_of old) p (content.SymbolicLink target) (fresh 0o777) = m.gains is.layers in
     law_of_live_through_link (upper_of old) (upper_of new) (lowers_of old) s is c target p g
     (subst (λ (Ls : List Layer). MakesLink (upper_of new) Ls s c target p) (lowers-same old new m.lowers) (steps s is c)) d k
     (gained-differs old new p _ _ m s.tree d k live g) (same-inode old new p _ _ m s.tree d k live) live
 
 -- an open that makes its file leaves each live file live
-pub create-live : (old new : Layers) (p : Path) (mode : ℕ) → MakesLeaf old new p (content.File []) (new_attributes mode) → CreateSteps old new p mode → (flags : OpenFlags) → KeepsLive old new (call.Open p flags mode)
-create-live old new p mode m steps flags s is option c d k live =
+pub create-live : (old new : Layers) (metacopy : Bool) (p : Path) (mode : ℕ) → MakesLeaf old new p (content.File []) (new_attributes mode) → CreateSteps old new p mode → (flags : OpenFlags) → KeepsLive old new metacopy (call.Open p flags mode)
+create-live old new metacopy p mode m steps flags s is option c d k live =
     let g : GainsLeaf (upper_of old) (upper_of new) (lowers_of old) p (content.File []) (fresh mode) = m.gains is.layers in
     law_of_live_through_file (upper_of old) (upper_of new) (lowers_of old) s is c p flags mode g
     (subst (λ (Ls : List Layer). MakesFile (upper_of new) Ls s c p flags mode) (lowers-same old new m.lowers) (steps s is c flags)) d k
     (gained-differs old new p _ _ m s.tree d k live g) (same-inode old new p _ _ m s.tree d k live) live
 
 -- link leaves each live file live, also the one that it names
-pub link-live : (old new : Layers) (p q : Path) → new.lowers ≡ old.lowers → GivesName old new p q → LinkSteps old new p q → KeepsLive old new (call.Hardlink p q)
-link-live old new p q low gives steps s is option c d k live =
+pub link-live : (old new : Layers) (metacopy : Bool) (p q : Path) → new.lowers ≡ old.lowers → GivesName old new metacopy p q → LinkSteps old new metacopy p q → KeepsLive old new metacopy (call.Hardlink p q)
+link-live old new metacopy p q low gives steps s is option c d k live =
     law_of_live_through_name (upper_of old) (upper_of new) (lowers_of old) s is c p q
     (subst (λ (b : Bool). GainsName (upper_of old) (upper_of new) (lowers_of old) b p q) (sym option) (gives.gains is.layers))
     (subst (λ (Ls : List Layer). MakesName (upper_of new) Ls s c p q) (lowers-same old new low) (steps s is option c)) d k
@@ -210,7 +210,7 @@ pub rmdir-held : (p : Path) (clients : Clients) (old new : Layers) (released : O
 rmdir-held p = held-live p (call.Rmdir p) (law_of_live_through_rmdir p)
 
 -- and where rename moves an object
-pub rename-held : (clients : Clients) (old new : Layers) (redirects : Bool) (p q : Path) → MovesOver old new p q → RenameSteps old new redirects p q → (s : State) → IsMountOf (upper_of old) (lowers_of old) s → s.options.redirects ≡ redirects → s.options.metacopy ≡ false → (c : ℕ) → KeepsHeldFrom s c clients old new (call.Rename p q)
-rename-held clients old new redirects p q over steps s is option off c d k some on live =
+pub rename-held : (clients : Clients) (old new : Layers) (redirects metacopy : Bool) (p q : Path) → MovesOver old new metacopy p q → RenameSteps old new redirects metacopy p q → (s : State) → IsMountOf (upper_of old) (lowers_of old) s → s.options.redirects ≡ redirects → s.options.metacopy ≡ metacopy → (c : ℕ) → KeepsHeldFrom s c clients old new (call.Rename p q)
+rename-held clients old new redirects metacopy p q over steps s is option off c d k some on live =
     law_of_live_through_rename (upper_of old) (upper_of new) (lowers_of new) s c p q (steps s is option off c) d k
     (over.links is.layers k (ap is_some live.inode)) (λ named. on) live

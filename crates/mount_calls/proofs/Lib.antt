@@ -1,5 +1,5 @@
 pub mod Words
-pub mod Stored
+pub mod Marks
 pub mod Shown
 pub mod Objects
 pub mod Counting
@@ -40,6 +40,7 @@ pub mod Named
 pub mod Freed
 pub mod Makings
 pub mod CopiedOpens
+pub mod FilledOpens
 pub mod Frames
 pub mod ComingUp
 pub mod Keys

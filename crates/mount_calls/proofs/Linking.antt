@@ -1,18 +1,18 @@
 -- What readlink answers.
 use Rattle.std.proofs.Common.{◌≡◌, ℕ, Bool, true, false, not, List, Option, None, Some, Result, refl, sym, ap, ◌∙◌, ◌⊎◌, inl, inr, arith}
-use Rattle.mount_calls.proofs.Words.{AllocError, EINVAL, Errno, IfOk, inode_of, Layer, layer_of, Layers, layers_of, lowers_of, node_in, option_and_then, or_else, Path, Place, refusal, Reply, Shown, shows, shows_link, ShowsInode, State, trees, when}
+use Rattle.mount_calls.proofs.Words.{AllocError, Content, EINVAL, Errno, IfOk, Inode, Layer, Layers, layers_of, lowers_of, option_and_then, or_else, Path, Place, refusal, Reply, Shown, shows, shows_link, ShowsInode, State, when}
+use Rattle.ov_base.specs.declared.bytes.Content.TheVariants as content
+use Rattle.merged_lookup.specs.Marking.{content_in, inode_over}
 use Rattle.ov_base.specs.declared.call.Call.TheVariants as call
 use Rattle.ov_base.specs.declared.reply.Reply.TheVariants as reply
 use Rattle.merged_lookup.specs.Merged.{upper_of, walk_fault}
-use Rattle.merged_lookup.proofs.Filled.{raw-inode}
-use Rattle.merged_lookup.proofs.Looking.{inode-shown}
 use Rattle.mount_laws.specs.Leaves.{Reads, inode_target, shown_target}
 use Rattle.mount_laws.proofs.Refusing.{law_of_readlink}
 use Rattle.mount_calls.specs.declared.mount.Mount.{Mount}
-use Rattle.mount_calls.specs.Status.{target_reply}
+use Rattle.mount_calls.specs.Status.{content_target, target_reply}
 use Rattle.mount_calls.specs.States.{IsStateOf, Serves}
 use Rattle.mount_calls.proofs.Answering.{serve-refused, serve-done}
-use Rattle.mount_calls.proofs.Raising.{target-filled}
+use Rattle.mount_calls.proofs.Marks.{over-shown}
 use Rattle.mount_calls.proofs.Stating.{the_layers}
 
 -- the reply to readlink of what has this target, or none, where the walk is refused or not
@@ -24,13 +24,20 @@ link_reply (Some e) target = reply.Refused e
 abbrev pub readlink_reply : List Layer → Path → Reply
 readlink_reply Ls p = link_reply (walk_fault Ls p) (shown_target (shows 0 Ls p))
 
+-- what an inode holds has its target
+content-target : (c : Content) (i : Inode) → content_target c ≡ inode_target (Some (record i { content = c }))
+content-target (content.File bytes) i = refl
+content-target (content.SymbolicLink target) i = refl
+
+held-target : (o : Option Inode) → option_and_then content_target (content_in o) ≡ inode_target o
+held-target None = refl
+held-target (Some i) = content-target i.content i
+
 -- the reply to readlink of a file or symbolic link that is shown
-pub link-inode : (l : Layers) (p : Path) (d : Place) → walk_fault (layers_of l) p ≡ None → ShowsInode l p d → target_reply (inode_target (option_and_then inode_of (node_in (trees l) d))) ≡ readlink_reply (layers_of l) p
+pub link-inode : (l : Layers) (p : Path) (d : Place) → walk_fault (layers_of l) p ≡ None → ShowsInode l p d → target_reply (option_and_then content_target (content_in (inode_over l d))) ≡ readlink_reply (layers_of l) p
 link-inode l p d none i =
-    let raw = raw-inode l p d.layer d.key i.inode i.shown in
-    let same : option_and_then inode_of (node_in (trees l) d) ≡ raw.raw = inode-shown 0 (trees l) (trees l) refl p d.layer d.key raw.raw raw.is in
-    ap (λ z. target_reply (inode_target z)) same
-    ∙ ap target_reply (sym (target-filled d.layer (lowers_of l) raw.raw) ∙ ap inode_target (sym raw.same))
+    ap (λ z. target_reply (option_and_then content_target (content_in z))) (over-shown l p d i.inode i.shown)
+    ∙ ap target_reply (held-target i.inode)
     ∙ sym (ap (λ w. link_reply w (shown_target (shows 0 (layers_of l) p))) none ∙ ap (λ o. target_reply (shown_target o)) i.shown)
 
 -- a call that may run out of memory answers the same reply told otherwise

@@ -1,7 +1,7 @@
 -- Opens that make a file: the states that the mount stands for on the way.
-use Rattle.std.proofs.Common.{arith, ◌≡◌, ◌↔◌, ℕ, zero, suc, false, cond, List, [], None, Some, Ok, refl, sym, ap, ◌∙◌, subst, is_none}
+use Rattle.std.proofs.Common.{arith, ◌≡◌, ◌↔◌, ◌<◌, ℕ, zero, suc, false, cond, List, [], None, Some, Ok, refl, sym, ap, ◌∙◌, subst, is_none, is_some}
 use Rattle.merged_lookup.specs.Merged.{upper_of}
-use Rattle.mount_calls.proofs.Words.{after, Call, change, File, file_holders, fresh, Handle, IsLive, IsMountOf, Layer, layer_of, Layers, layers_of, Leaf, live_handle, lowers_of, lowest_free, made_way, New, NodeId, OpenFile, OpenFlags, opening_fault, Own, Path, refusal, shows, State, StaysMount, Tree, Upper, way_of, with_handle}
+use Rattle.mount_calls.proofs.Words.{after, Call, change, false≢true, File, file_holders, fresh, Handle, inode_of, IsLive, IsMountOf, Layer, layer_of, Layers, layers_of, Leaf, live_handle, lowers_of, lowest_free, made_way, New, NodeId, OpenFile, OpenFlags, opening_fault, option_and_then, option_map, Own, Path, refusal, shows, State, StaysMount, Tree, Upper, way_of, with_handle}
 use mathlib.Core.Logic.{∥∥₁_elim}
 use mathlib.Core.HLevel.{⊥_prop}
 use Rattle.slab.specs.Slab.{get}
@@ -9,10 +9,12 @@ use Rattle.ov_base.specs.declared.bytes.Content.TheVariants as content
 use Rattle.ov_base.specs.declared.call.Call.TheVariants as call
 use Rattle.ov_base.specs.declared.reply.Reply.TheVariants as reply
 use Rattle.plain_model.specs.Changes.{opened}
+use Rattle.plain_model.specs.Layers.{fill}
 use Rattle.mount_laws.specs.Leaves.{GainsLeaf, MakesFile}
 use Rattle.mount_laws.specs.Opening.{OpensMaking}
 use Rattle.mount_laws.proofs.OpenFiles.{one-number, law_of_live_made}
 use Rattle.mount_laws.proofs.Opening.{law_of_opened_making}
+use Rattle.open_handles.specs.FileHolders.{HOLDERS_MAX}
 use Rattle.copy_up.specs.Showing.{GainsParents}
 use Rattle.copy_up.proofs.Keeping.{lowers-same}
 use Rattle.make_remove.specs.Making.{new_attributes}
@@ -26,12 +28,18 @@ use Rattle.mount_calls.specs.States.{HasStateOf, IsStateOf, Serves}
 use Rattle.mount_calls.proofs.Carrying.{AreCounted, files-kept, state-on, state-stays}
 use Rattle.mount_calls.proofs.Changing.{handle-beside}
 use Rattle.mount_calls.proofs.Lasting.{create-live, open-leaves, parents-live}
+use Rattle.mount_calls.proofs.Marks.{bare-own}
 use Rattle.mount_calls.proofs.Openings.{free-there, state-open, open-served, unfaulted}
+use Rattle.mount_calls.proofs.Slots.{file-at, open-live, upper-live}
 use Rattle.mount_calls.proofs.Stating.{the_lowers, the_upper, keep-state}
 
 -- no client has a file open under whose key nothing stands
 not-open : (m : Mount) (s : State) → IsStateOf m s → (k : ℕ) → get m.layers.upper k ≡ None → HasFile m.clients k → ⊥
-not-open m s st k vacant has = grind arith
+not-open m s st k vacant has =
+    let x = file-at m s st has.client has.descriptor has.file has.opened in
+    let of = upper-live (the_upper m) (the_lowers m) s.tree has.file.source has.file.low x.0 k has.key x.2.source in
+    let none : (the_upper m).inodes k ≡ None = ap (λ o. option_map (fill (the_lowers m)) (option_and_then inode_of o)) vacant in
+    false≢true (sym (ap is_some none) ∙ ap is_some of.0.inode)
 
 -- so no handle holds it, where room is made
 pub none-holds : (m : Mount) (c : ℕ) (clients : Clients) → ChangesClient m.clients clients c (λ x y. y ≡ x) → ∥ HasStateOf m ∥₁ → AreCounted clients → (key : ℕ) → ((s : State) → IsStateOf m s → get m.layers.upper key ≡ None) → (k : ℕ) → Upper key ≡ Upper k → file_holders clients.files k ≡ 0
@@ -46,6 +54,12 @@ none-holds m c clients same state counted key vacant k is = by (file_holders cli
     by : (n : ℕ) → file_holders clients.files k ≡ n → n ≡ 0
     by zero e = refl
     by (suc n) e = absurd (open-no ((counted k).1 (rw e (omega arith))))
+
+-- and one more can be counted
+pub none-countable : (m : Mount) (c : ℕ) (clients : Clients) → ChangesClient m.clients clients c (λ x y. y ≡ x) → ∥ HasStateOf m ∥₁ → AreCounted clients → (key : ℕ) → ((s : State) → IsStateOf m s → get m.layers.upper key ≡ None) → (k : ℕ) → Upper key ≡ Upper k → file_holders clients.files k < HOLDERS_MAX
+none-countable m c clients same state counted key vacant k is =
+    let none : file_holders clients.files k ≡ 0 = none-holds m c clients same state counted key vacant k is in
+    omega (arith, none)
 
 module _ (m : Mount) (s : State) (st : IsStateOf m s) (c : ℕ) (clients : Clients) (same : ChangesClient m.clients clients c (λ x y. y ≡ x)) where
   -- the mount in which room is made
@@ -63,7 +77,7 @@ module _ (m : Mount) (s : State) (st : IsStateOf m s) (c : ℕ) (clients : Clien
   -- an open that makes its file
   module _ (p : Path) (f : OpenFlags) (mode : ℕ) (fine : opening_fault (layers_of m.layers) p f mode (Some 0) ≡ None) (absent : shows 0 (layers_of m.layers) p ≡ None)
       (new : Layers) (key : ℕ) (leaf : MakesLeaf m.layers new p (content.File []) (new_attributes mode)) (number : leaf.number ≡ key) (steps : CreateSteps m.layers new p mode)
-      (d : ℕ) (last : Clients) (ch : OpensFile clients last c d (file_at (record { layer = 0; key = key }) f) (Ok tt)) where
+      (d : ℕ) (last : Clients) (ch : OpensFile clients last c d (file_at (record { layer = 0; key = key }) f None) (Ok tt)) where
     abbrev V : Layer
     V = upper_of new
 
@@ -71,7 +85,7 @@ module _ (m : Mount) (s : State) (st : IsStateOf m s) (c : ℕ) (clients : Clien
     asked = call.Open p f mode
 
     abbrev file : OpenFile
-    file = file_at (record { layer = 0; key = key }) f
+    file = file_at (record { layer = 0; key = key }) f None
 
     abbrev u : Tree
     u = (after s c asked).tree
@@ -107,7 +121,7 @@ module _ (m : Mount) (s : State) (st : IsStateOf m s) (c : ℕ) (clients : Clien
     made-state =
         state-on reserved s reserved-state new leaf.lowers u (suc s.serial) made-mounts
         (handle-beside reserved s reserved-state new c asked p _ tree-made steps-there.stays steps-there.hidden)
-        (files-kept m.layers new s st.layers c asked clients st.metacopy (create-live m.layers new p mode leaf steps f) (open-leaves p f mode))
+        (files-kept m.layers new s st.layers c asked clients m.metacopy st.metacopy (create-live m.layers new m.metacopy p mode leaf steps f) (open-leaves p f mode))
 
     -- the new file is live
     made-live : IsLive V u (New s.serial) key
@@ -118,13 +132,20 @@ module _ (m : Mount) (s : State) (st : IsStateOf m s) (c : ℕ) (clients : Clien
 
     -- no open file is on its node or under its key
     made-fresh : (j : ℕ) (e : NodeId) → IsOpenOn clients s.tables j e → (New s.serial ≡ e) ↔ (key ≡ j)
-    made-fresh j e y = grind arith
+    made-fresh j e y =
+        let live : IsLive (the_upper m) s.tree e j = open-live reserved s reserved-state j e y in
+        let none : s.tree (New s.serial) ≡ None = st.layers.kept.unused s.serial (omega arith) in (
+          λ same_node. absurd (false≢true (sym (ap is_some none) ∙ ap (λ z. is_some (s.tree z)) same_node ∙ ap is_some live.node)),
+          λ same_key.
+              absurd (not-open reserved s reserved-state j (ap (get m.layers.upper) (sym same_key) ∙ ap (get m.layers.upper) (sym number) ∙ leaf.vacant)
+              (record { client = y.client; descriptor = y.descriptor; file = y.file; opened = y.opened; key = y.key })),
+        )
 
     -- the mount stands for the state in which the file is open
     opened-state : IsStateOf (record m { layers = new; clients = last }) (record s { tree = u; serial = suc s.serial; tables = with_handle s.tables c d (Some made) })
     opened-state =
         state-open (record m { layers = new; clients = clients }) (record s { tree = u; serial = suc s.serial }) made-state c (File file) d last ch made
-        (record { source = (made-live, refl); reads = refl; writes = refl; append = refl; place = refl; unlisted = refl })
+        (record { source = (made-live, refl); own = λ on. bare-own V u (New s.serial) key made-live _ (ap V.inodes (sym number) ∙ leaf.inode) refl; reads = refl; writes = refl; append = refl; place = refl; unlisted = refl })
         (λ g k j e same_file of y.
         let files : file ≡ g = cc in
         let keys : Upper key ≡ Upper k = ap (λ (z : OpenFile). z.source) files ∙ of in

@@ -1,7 +1,7 @@
 -- Files of the upper to which a path leads are live, and stay so through each call.
 use Rattle.std.proofs.Common.{◌≡◌, ◌≢◌, ℕ, ◌-◌, Bool, true, false, cond, List, [], ◌∷◌, Option, None, Some, Result, Ok, Err, IsSome, refl, sym, ap, ◌∙◌, subst, ◌⊎◌, inl, inr, is_none, is_some, length, nat_eq}
 use Rattle.merged_lookup.specs.Merged.{upper_of}
-use Rattle.mount_calls.proofs.Words.{after, AllocError, bytes_at, Call, cases_Bool, cases_eq, change, Content, Contents, false≢true, fresh, Handle, handle_of, Inode, IsLive, IsMountOf, Layer, layer_of, Layers, Leaf, lowers_of, lowest_free, made_way, Node, node_at, NodeId, OnErr, opening_fault, OpenFlags, Own, Path, refusal, Removes, Reply, reply_of, shows, sized, State, Tree, way_of, with_bytes, with_handle}
+use Rattle.mount_calls.proofs.Words.{after, AllocError, Call, cases_Bool, cases_eq, change, Content, Contents, false≢true, fresh, Handle, handle_of, Inode, IsLive, IsMountOf, Layer, layer_of, Layers, Leaf, lowers_of, lowest_free, made_way, Node, node_at, NodeId, OnErr, opening_fault, OpenFlags, Own, Path, refusal, Removes, Reply, reply_of, shows, sized, State, Tree, way_of, with_bytes, with_handle}
 use Rattle.std.specs.Result.{OnOk}
 use Rattle.ov_base.specs.declared.bytes.Content.TheVariants as content
 use Rattle.ov_base.specs.declared.call.Call.TheVariants as call
@@ -15,7 +15,7 @@ use Rattle.plain_model.proofs.Keeping.{IsMild, change-like}
 use Rattle.plain_model.proofs.Kept.{bytes-mild, opened-mild}
 use Rattle.plain_model.proofs.Merged.{named-seen}
 use Rattle.layer_tree.specs.ContentChange.{SetsBytes}
-use Rattle.layer_tree.specs.Tree.{SameObjects, SameTree}
+use Rattle.layer_tree.specs.Tree.{own_at, SameObjects, SameTree}
 use Rattle.layer_tree.specs.Tree.{Tree as LayerTree}
 use Rattle.mount_laws.specs.Removals.{Loses, fewer}
 use Rattle.mount_laws.specs.Renaming.{MovesLink, Renames}
@@ -131,27 +131,27 @@ pub stay-files : (old new : Layers) → new ≡ old → KeepsFiles old new
 stay-files old new same q k f = subst (λ (l : Layers). NamesFile (upper_of l) q k) (sym same) f
 
 -- a file gets other bytes
-module _ (u new : LayerTree) (key : ℕ) (now : List ℕ → List ℕ) (there : IsSome (bytes_at u key)) (objects : SameObjects (layer_of u) (layer_of new)) where
+module _ (u new : LayerTree) (key : ℕ) (now : List ℕ → List ℕ) (there : IsSome (own_at u key)) (objects : SameObjects (layer_of u) (layer_of new)) where
   -- each path names the same file while it gets them
-  sets-files : ((old : List ℕ) → bytes_at u key ≡ Some old → SetsBytes (layer_of u) (layer_of new) key (now old)) → (q : Path) (k : ℕ) → NamesFile (layer_of u) q k → NamesFile (layer_of new) q k
-  sets-files sets q k f = by (bytes_at u key) refl there
+  sets-files : ((old : List ℕ) → own_at u key ≡ Some old → SetsBytes (layer_of u) (layer_of new) key (now old)) → (q : Path) (k : ℕ) → NamesFile (layer_of u) q k → NamesFile (layer_of new) q k
+  sets-files sets q k f = by (own_at u key) refl there
     where
       in-it : (old : List ℕ) → SetsBytes (layer_of u) (layer_of new) key (now old) → (k ≡ key) ⊎ (k ≡ key → ⊥) → NamesFile (layer_of new) q k
-      in-it old w (inl e) = record { inode = record w.inode { content = content.File (now old) }; bytes = now old; named = objects q ∙ f.named; stored = ap (layer_of new).inodes e ∙ w.now; file = refl }
+      in-it old w (inl e) = record { inode = record w.inode { content = content.File (now old); mark = None }; bytes = now old; named = objects q ∙ f.named; stored = ap (layer_of new).inodes e ∙ w.now; file = refl }
       in-it old w (inr away) = record { inode = f.inode; bytes = f.bytes; named = objects q ∙ f.named; stored = w.inodes k away ∙ f.stored; file = f.file }
 
-      by : (o : Option (List ℕ)) → bytes_at u key ≡ o → is_some o ≡ true → NamesFile (layer_of new) q k
+      by : (o : Option (List ℕ)) → own_at u key ≡ o → is_some o ≡ true → NamesFile (layer_of new) q k
       by None at some = absurd (false≢true some)
       by (Some old) at some = in-it old (sets old at) (cases_eq k key)
 
   -- and so where memory runs out for them
-  pub written-files : (l : Layers) → l.upper ≡ u → (r : Result (Unit {0}) AllocError) → OnOk r ((old : List ℕ) → bytes_at u key ≡ Some old → SetsBytes (layer_of u) (layer_of new) key (now old)) → OnErr r (SameTree u new) → KeepsFiles l (record l { upper = new })
+  pub written-files : (l : Layers) → l.upper ≡ u → (r : Result (Unit {0}) AllocError) → OnOk r ((old : List ℕ) → own_at u key ≡ Some old → SetsBytes (layer_of u) (layer_of new) key (now old)) → OnErr r (SameTree u new) → KeepsFiles l (record l { upper = new })
   written-files l is r sets same q k f = filled-names (lowers_of l) (layer_of new) q k (by r sets same)
     where
       was : NamesFile (layer_of u) q k
       was = subst (λ (z : LayerTree). NamesFile (layer_of z) q k) is (raw-names (lowers_of l) (layer_of l.upper) q k f)
 
-      by : (x : Result (Unit {0}) AllocError) → OnOk x ((old : List ℕ) → bytes_at u key ≡ Some old → SetsBytes (layer_of u) (layer_of new) key (now old)) → OnErr x (SameTree u new) → NamesFile (layer_of new) q k
+      by : (x : Result (Unit {0}) AllocError) → OnOk x ((old : List ℕ) → own_at u key ≡ Some old → SetsBytes (layer_of u) (layer_of new) key (now old)) → OnErr x (SameTree u new) → NamesFile (layer_of new) q k
       by (Ok x) w tree = sets-files w q k was
       by (Err e) w tree = record { inode = was.inode; bytes = was.bytes; named = objects q ∙ was.named; stored = tree.inodes k ∙ was.stored; file = was.file }
 
@@ -233,8 +233,8 @@ refused-named old s c k e new answers served fine =
     absurd (false≢true (sym answers ∙ sym (ap is_refused (subst (λ o. Serves o s c k (reply.Refused e) new) fine served).0)))
 
 -- a call through which live files stay so
-pub keeps-named : (old new : Layers) (k : Call) → KeepsLive old new k → (s : State) → IsMountOf (upper_of old) (lowers_of old) s → s.options.metacopy ≡ false → (c : ℕ) → KeepsNamed s c old new k
-keeps-named old new k keeps s m option c d j q live at = keeps s m option c d j live
+pub keeps-named : (old new : Layers) (metacopy : Bool) (k : Call) → KeepsLive old new metacopy k → (s : State) → IsMountOf (upper_of old) (lowers_of old) s → s.options.metacopy ≡ metacopy → (c : ℕ) → KeepsNamed s c old new k
+keeps-named old new metacopy k keeps s m option c d j q live at = keeps s m option c d j live
 
 -- a call that changes neither the layers nor the tree
 pub reads-named : (old new : Layers) (s : State) (c : ℕ) (k : Call) → new ≡ old → (after s c k).tree ≡ s.tree → KeepsNamed s c old new k

@@ -1,10 +1,13 @@
 -- Opens for writing of files of the upper: what is opened is as the machine opens it, emptied where that is asked for.
-use Rattle.std.proofs.Common.{arith, ◌≡◌, ℕ, true, false, cond, List, [], None, Some, Ok, refl, sym, ap, ◌∙◌, subst, ◌⊎◌, inl, inr, nat_eq, is_some}
-use Rattle.mount_calls.proofs.Words.{Attributes, bad_flags, bytes_at, Call, cases_Bool, change, Contents, EINVAL, File, file_bytes, Handle, Inode, IsLive, Layer, Layers, layers_of, Leaf, live_handle, Lower, lowest_free, Node, NodeId, OpenFile, OpenFlags, opening_fault, option_and_then, Own, Path, Place, refusal, rewritten, shows, ShowsInode, sized, State, StaysLayers, Tree, Upper, way_of, when, with_handle}
+use Rattle.std.proofs.Common.{arith, ◌≡◌, ℕ, true, false, cond, List, [], Option, None, Some, Ok, refl, sym, ap, ◌∙◌, subst, ◌⊎◌, inl, inr, nat_eq, nat_lt, is_some}
+use Rattle.mount_calls.proofs.Words.{Attributes, bad_flags, Call, cases_Bool, change, Contents, EINVAL, File, file_bytes, Handle, Inode, IsLive, Layer, Layers, layers_of, Leaf, live_handle, Lower, lowest_free, Node, NodeId, OpenFile, OpenFlags, opening_fault, option_and_then, Own, Path, Place, refusal, rewritten, shows, ShowsInode, sized, State, StaysLayers, Tree, Upper, way_of, when, with_handle}
 use Rattle.ov_base.specs.declared.bytes.Content.TheVariants as content
 use Rattle.ov_base.specs.declared.call.Call.TheVariants as call
 use Rattle.ov_base.specs.declared.reply.Reply.TheVariants as reply
+use Rattle.ov_base.specs.declared.source.Source.{Source}
+use Rattle.layer_tree.specs.Tree.{mark_at, own_at}
 use Rattle.plain_model.specs.Changes.{opened}
+use Rattle.plain_model.specs.Tree.{is_data_low}
 use Rattle.plain_model.proofs.Looking.{when-not}
 use Rattle.mount_laws.specs.Opening.{OpensWriting}
 use Rattle.mount_laws.proofs.Links.{first-none}
@@ -13,14 +16,14 @@ use Rattle.mount_laws.proofs.OpenFiles.{law_of_live_shown}
 use Rattle.mount_laws.proofs.Opens.{put-same}
 use Rattle.mount_calls.specs.declared.clients.Clients.{Clients}
 use Rattle.mount_calls.specs.declared.mount.Mount.{Mount}
-use Rattle.mount_calls.specs.Files.{IsOf, source_at, file_at}
+use Rattle.mount_calls.specs.Files.{IsKept, IsOf, read_mark, source_at, file_at}
 use Rattle.mount_calls.specs.Living.{SetsFile}
 use Rattle.mount_calls.specs.Opening.{OpensFile}
 use Rattle.mount_calls.specs.States.{IsStateOf, Serves}
-use Rattle.mount_calls.proofs.Openings.{IsShownFile, fresh-one, free-there, state-open, unfaulted, file-there, open-file, open-leads, open-served}
+use Rattle.mount_calls.proofs.Openings.{IsShownFile, fresh-one, free-there, state-open, unfaulted, file-there, open-file, open-leads, open-served, writes-kept}
 use Rattle.mount_calls.proofs.Rewritten.{state-rewritten}
 use Rattle.mount_calls.proofs.Stating.{the_layers, the_lowers, the_upper}
-use Rattle.mount_calls.proofs.Stored.{bytes-stored, live-unmarked}
+use Rattle.mount_calls.proofs.Marks.{live-own, mark-there}
 
 -- flags that go together and ask to empty a file ask to write it
 writes-flag : (f : OpenFlags) → bad_flags f ≡ false → f.truncate ≡ true → f.writes ≡ true
@@ -54,12 +57,12 @@ writing-served m s st c p f mode fine law d free t becomes =
     (law.state ∙ ap (λ y. record s { tree = y; tables = with_handle s.tables c law.descriptor (Some (live_handle f law.node (way_of s.tree p))) }) becomes)
 
 -- a file of the upper is opened to be written
-module _ (m : Mount) (s : State) (st : IsStateOf m s) (c : ℕ) (p : Path) (f : OpenFlags) (mode : ℕ) (fine : opening_fault (layers_of m.layers) p f mode (Some 0) ≡ None) (w : f.writes ≡ true) (place : Place) (own : place.layer ≡ 0) (shown : ShowsInode m.layers p place) (d : ℕ) (new : Clients) (ch : OpensFile m.clients new c d (file_at place f) (Ok tt)) where
+module _ (m : Mount) (s : State) (st : IsStateOf m s) (c : ℕ) (p : Path) (f : OpenFlags) (mode : ℕ) (fine : opening_fault (layers_of m.layers) p f mode (Some 0) ≡ None) (w : f.writes ≡ true) (place : Place) (own : place.layer ≡ 0) (bare : mark_at m.layers.upper place.key ≡ None) (shown : ShowsInode m.layers p place) (d : ℕ) (new : Clients) (ch : OpensFile m.clients new c d (file_at place f None) (Ok tt)) where
   abbrev asked : Call
   asked = call.Open p f mode
 
   abbrev file : OpenFile
-  file = file_at place f
+  file = file_at place f None
 
   -- the machine finds the same descriptor
   free : lowest_free s.tables c ≡ Some d
@@ -81,17 +84,21 @@ module _ (m : Mount) (s : State) (st : IsStateOf m s) (c : ℕ) (p : Path) (f : 
   live : IsLive (the_upper m) s.tree law.node place.key
   live = law_of_live_shown (the_upper m) (the_lowers m) s st.layers p place.key there.inode there.bytes law.node (there.shown ∙ ap (λ j. Some (Contents j place.key (Some there.inode))) own) there.content law.at
 
+  -- without a mark
+  live-mark : live.mark ≡ None
+  live-mark = sym (mark-there m.layers place.key _ live.inode) ∙ bare
+
   -- its node has bytes of its own
   own-node : s.tree law.node ≡ Some (Leaf (content.File live.bytes) live.attributes (Own false) live.links)
-  own-node = live.node ∙ ap (λ z. Some (Leaf (content.File live.bytes) live.attributes (Own (is_some z)) live.links)) (live-unmarked m.layers s.tree law.node place.key live)
+  own-node = live.node ∙ ap (λ z. Some (Leaf (content.File live.bytes) live.attributes (Own (is_some z)) live.links)) live-mark
 
   -- the new handle
   abbrev made : Handle
   made = live_handle f law.node (way_of s.tree p)
 
   -- it is of the file
-  of : IsOf (the_upper m) (the_lowers m) s.tree (source_at place) made
-  of = subst (λ z. IsOf (the_upper m) (the_lowers m) s.tree z made) (sym key) (live, refl)
+  of : IsOf (the_upper m) (the_lowers m) s.tree (source_at place) None made
+  of = subst (λ z. IsOf (the_upper m) (the_lowers m) s.tree z None made) (sym key) (live, refl)
 
   -- the state with the new handle alone
   abbrev held : State
@@ -101,7 +108,7 @@ module _ (m : Mount) (s : State) (st : IsStateOf m s) (c : ℕ) (p : Path) (f : 
   held-state : IsStateOf (record m { clients = new }) held
   held-state =
       state-open m s st c (File file) d new ch made
-      (record { source = of; reads = refl; writes = refl; append = refl; place = refl; unlisted = refl })
+      (record { source = of; own = λ on. ap is_data_low own-node; reads = refl; writes = refl; append = refl; place = refl; unlisted = refl })
       (fresh-one m s st c p file made law.at of)
 
   -- the machine's answer and its state, where this becomes of the tree
@@ -113,18 +120,20 @@ module _ (m : Mount) (s : State) (st : IsStateOf m s) (c : ℕ) (p : Path) (f : 
   open-kept e = done m.layers s.tree (tree-kept f w s.tree law.node live.bytes live.attributes live.links own-node e) held-state
 
   -- an open that empties the file
-  pub open-emptied : f.truncate ≡ true → (layers : Layers) → StaysLayers m.layers layers → ((k : ℕ) (old : List ℕ) → file.source ≡ Upper k → bytes_at m.layers.upper k ≡ Some old → SetsFile m.layers layers k (sized old 0)) → Serves (refusal s c asked) s c asked (reply.Descriptor d) (record m { layers = layers; clients = new })
+  pub open-emptied : f.truncate ≡ true → (layers : Layers) → StaysLayers m.layers layers → ((k : ℕ) (old : List ℕ) → file.source ≡ Upper k → own_at m.layers.upper k ≡ Some old → SetsFile m.layers layers k (sized old 0)) → Serves (refusal s c asked) s c asked (reply.Descriptor d) (record m { layers = layers; clients = new })
   open-emptied e layers keeps sets =
-      let bytes : bytes_at m.layers.upper place.key ≡ Some live.bytes = bytes-stored m.layers place.key _ live.inode in
+      let bytes : own_at m.layers.upper place.key ≡ Some live.bytes = live-own m.layers s.tree law.node place.key live live-mark in
       let empties : SetsFile m.layers layers place.key [] = subst (SetsFile m.layers layers place.key) (sized-none live.bytes) (sets place.key live.bytes key bytes) in
       done layers (rewritten s.tree law.node [])
       (tree-emptied f w s.tree law.node live.bytes live.attributes live.links own-node e)
       (state-rewritten (record m { clients = new }) held held-state layers place.key law.node [] (open-leads m s st c (File file) d new ch file made place.key refl key) keeps empties)
 
--- an open of a file that isn't emptied, for writing where it is the upper's
-pub open-whole : (m : Mount) (s : State) (st : IsStateOf m s) (c : ℕ) (p : Path) (f : OpenFlags) (mode : ℕ) → opening_fault (layers_of m.layers) p f mode (Some 0) ≡ None → f.truncate ≡ false → (place : Place) → (f.writes ≡ true → place.layer ≡ 0) → ShowsInode m.layers p place → (d : ℕ) (new : Clients) → OpensFile m.clients new c d (file_at place f) (Ok tt) → Serves (refusal s c (call.Open p f mode)) s c (call.Open p f mode) (reply.Descriptor d) (record m { clients = new })
-open-whole m s st c p f mode fine t place own shown d new ch = by (cases_Bool f.writes)
+-- an open of a file that isn't emptied, for writing where it is the upper's and has bytes of its own
+pub open-whole : (m : Mount) (s : State) (st : IsStateOf m s) (c : ℕ) (p : Path) (f : OpenFlags) (mode : ℕ) → opening_fault (layers_of m.layers) p f mode (Some 0) ≡ None → f.truncate ≡ false → (place : Place) → (f.writes ≡ true → (place.layer ≡ 0) × (mark_at m.layers.upper place.key ≡ None)) → ShowsInode m.layers p place → (low : Option Source) → IsKept (the_lowers m) (read_mark m.layers place f.writes) low → (d : ℕ) (new : Clients) → OpensFile m.clients new c d (file_at place f low) (Ok tt) → Serves (refusal s c (call.Open p f mode)) s c (call.Open p f mode) (reply.Descriptor d) (record m { clients = new })
+open-whole m s st c p f mode fine t place own shown low kept d new ch = by (cases_Bool f.writes)
   where
     by : (f.writes ≡ true) ⊎ (f.writes ≡ false) → Serves (refusal s c (call.Open p f mode)) s c (call.Open p f mode) (reply.Descriptor d) (record m { clients = new })
-    by (inl w) = open-kept m s st c p f mode fine w place (own w) shown d new ch t
-    by (inr r) = open-file m s st c p f mode fine place shown r d new ch
+    by (inl w) =
+        let none : low ≡ None = writes-kept (the_lowers m) (mark_at m.layers.upper place.key) low f.writes (nat_lt 0 place.layer) w kept in
+        open-kept m s st c p f mode fine w place (own w).0 (own w).1 shown d new (subst (λ z. OpensFile m.clients new c d (file_at place f z) (Ok tt)) none ch) t
+    by (inr r) = open-file m s st c p f mode fine place shown r low kept d new ch

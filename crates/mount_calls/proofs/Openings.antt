@@ -1,7 +1,7 @@
 -- Opens: what they are refused for, and that what is opened for reading is as the machine opens it.
-use Rattle.std.proofs.Common.{arith, ◌≡◌, ◌↔◌, ℕ, zero, suc, ◌<◌, Bool, true, false, not, cond, ◌&&◌, ◌||◌, List, [], ◌∷◌, Option, None, Some, Ok, Err, map, refl, sym, ap, ◌∙◌, subst, ◌⊎◌, inl, inr, is_none, is_some}
+use Rattle.std.proofs.Common.{arith, ◌≡◌, ◌↔◌, ℕ, zero, suc, ◌<◌, Bool, true, false, not, cond, ◌&&◌, ◌||◌, List, [], ◌∷◌, Option, None, Some, Ok, Err, map, refl, sym, ap, ◌∙◌, subst, ◌⊎◌, inl, inr, is_none, is_some, nat_lt}
 use Rattle.std.proofs.Common.{rules}
-use Rattle.mount_calls.proofs.Words.{after, AllocError, At, Attributes, bad_flags, base, Call, Content, Contents, DESCRIPTORS_MAX, Directory, EINVAL, Errno, face, File, Folder, Handle, Inode, inode_of, is_directory, Layer, layer_of, Layers, layers_of, Leaf, Lower, lowers_of, lowest_free, ne_eqb, Node, node_at, node_in, node_of, NodeId, OpenFile, OpenFlags, opening_fault, option_and_then, or_else, Own, parents_fault, Path, Place, refusal, reply_of, see, SetsSlot, Shown, shows, shows_link, ShowsInode, State, Table, trees, Upper, way_of, when, with_handle}
+use Rattle.mount_calls.proofs.Words.{after, AllocError, At, Attributes, bad_flags, base, Call, Content, Contents, DESCRIPTORS_MAX, Directory, EINVAL, Errno, face, false≢true, File, Folder, Handle, Inode, inode_of, is_directory, Layer, layer_of, Layers, layers_of, Leaf, Lower, lowers_of, lowest_free, ne_eqb, Node, node_at, node_in, node_of, NodeId, OpenFile, OpenFlags, opening_fault, option_and_then, or_else, Own, parents_fault, Path, Place, refusal, reply_of, see, SetsSlot, Shown, shows, shows_link, ShowsInode, State, Table, trees, Upper, way_of, when, with_handle}
 use Rattle.ov_base.specs.declared.bytes.Content.TheVariants as content
 use Rattle.ov_base.specs.declared.call.Call.TheVariants as call
 use Rattle.ov_base.specs.declared.errno.Errno.TheVariants.{ELOOP, ENOTDIR, EMFILE}
@@ -11,7 +11,10 @@ use Rattle.plain_model.specs.Machine.{Live}
 use Rattle.plain_model.specs.Refusals.{bad_mode}
 use Rattle.plain_model.specs.Changes.{new_handle, view_by, view_of}
 use Rattle.plain_model.proofs.Looking.{when-not}
-use Rattle.layer_tree.specs.Tree.{Tree}
+use Rattle.layer_tree.specs.Tree.{mark_at, Tree}
+use Rattle.merged_lookup.specs.Merged.{upper_of}
+use Rattle.ov_base.specs.declared.source.Source.{Source}
+use Rattle.std.proofs.lemmas.Bool.{lt-ltb}
 use Rattle.merged_lookup.proofs.Filled.{IsInodeOf, raw-inode}
 use Rattle.merged_lookup.proofs.Looking.{inode_in, inode-shown}
 use Rattle.mount_laws.specs.Looks.{is_link_inode}
@@ -19,7 +22,7 @@ use Rattle.mount_laws.specs.Opening.{shown_fault, inode_view, shown_view, OpensR
 use Rattle.mount_laws.proofs.Looks.{is_present, present}
 use Rattle.mount_laws.proofs.Links.{first-none, second-none}
 use Rattle.mount_laws.proofs.Opening.{law_of_open_refusal, law_of_opened_for_reading}
-use Rattle.mount_laws.proofs.OpenFiles.{law_of_live_shown}
+use Rattle.mount_laws.proofs.OpenFiles.{law_of_live_one, law_of_live_shown}
 use Rattle.open_handles.specs.declared.handle.Handle as handles
 use Rattle.open_handles.specs.Listings.{Opens}
 use Rattle.mount_calls.specs.declared.clients.Clients.{Clients}
@@ -29,15 +32,15 @@ use Rattle.std.specs.Ordering.{nat_cmp}
 use Rattle.notice_laws.proofs.Numbers.{some-is}
 use Rattle.mount_calls.specs.Attaching.{ChangesClient}
 use Rattle.mount_calls.specs.FreeDescriptors.{IsFull, IsLowestFree}
-use Rattle.mount_calls.specs.Files.{lower_inode, is_leaf, IsFrozen, IsOf, IsOpenOn, AreOne, source_at, file_at}
+use Rattle.mount_calls.specs.Files.{lower_inode, is_leaf, low_place, read_mark, IsFrozen, IsKept, KeepsBytes, IsOf, IsOpenOn, AreOne, SeesFile, source_at, file_at}
 use Rattle.mount_calls.specs.Opening.{inode_refusal, OpensAt, OpensFile}
 use Rattle.mount_calls.specs.States.{IsLeft, AreTables, IsStateOf, Serves}
 use Rattle.mount_calls.proofs.Answering.{serve-done}
 use Rattle.mount_calls.proofs.Raising.{link-filled}
-use Rattle.mount_calls.proofs.Slots.{changes-as, opened-after}
+use Rattle.mount_calls.proofs.Slots.{changes-as, open-live, opened-after, upper-live}
 use Rattle.mount_calls.proofs.Serving.{handle-set, lowest-slot, opened-is, room-of, placed, open-at, free-lowest, free-none, tables-set}
 use Rattle.mount_calls.proofs.Stating.{the_layers, the_lowers, the_upper, Alike, with-tables, keep-state}
-use Rattle.mount_calls.proofs.Stored.{shown-unmarked, stored-shown}
+use Rattle.mount_calls.proofs.Marks.{low-shown, lower-in, mark-there, over-shown}
 
 -- why a file or symbolic link isn't opened for reading is told by the node at its place
 pub inode-refused : (l : Layers) (p : Path) (d : Place) (f : OpenFlags) (b : Bool) → ShowsInode l p d → is_link_inode (option_and_then inode_of (node_in (trees l) d)) ≡ b → inode_refusal f (shows 0 (layers_of l) p) ≡ or_else (when b ELOOP) (when f.directory ENOTDIR)
@@ -79,7 +82,7 @@ no-write : (f : OpenFlags) (j k : ℕ) (a : Attributes) → shown_fault f (Some 
 no-write f j k a fine = grind arith
 
 -- what is opened is no symbolic link
-no-link : (f : OpenFlags) (o : Option Shown) → shown_fault f o ≡ None → shows_link o ≡ false
+pub no-link : (f : OpenFlags) (o : Option Shown) → shown_fault f o ≡ None → shows_link o ≡ false
 no-link f o fine = grind arith
 
 -- a file that is shown
@@ -93,19 +96,36 @@ pub record IsShownFile (o : Option Shown) (j k : ℕ) : Type 0 where
 shown-file : (o : Option Shown) (j k : ℕ) (x : Option Inode) → o ≡ Some (Contents j k x) → is_present o ≡ true → shows_link o ≡ false → IsShownFile o j k
 shown-file o j k x is there link = grind arith
 
--- the inode of a lower layer is the one at its place
-lower-in : (u : Tree) (ts : List Tree) (j k : ℕ) → lower_inode (map layer_of ts) (suc j) k ≡ inode_in (u ∷ ts) (suc j) k
-lower-in u [] j k = refl
-lower-in u (t ∷ ts) zero k = refl
-lower-in u (t ∷ ts) (suc j) k = lower-in t ts j k
-
 -- what stands in a lower layer is told apart from what stands in the upper
 source-below : (j k : ℕ) → source_at (record { layer = suc j; key = k }) ≡ Lower (suc j) k
 source-below j k = ap (λ b. cond b (Upper k) (Lower (suc j) k)) (ne_eqb (suc j) 0 (λ e. absurd (omega arith)))
 
--- a file of the upper that has no mark is seen as it comes to be
-upper-view : (i : Inode) (bytes : List ℕ) → i.content ≡ content.File bytes → i.mark ≡ None → inode_view 0 (Some i) ≡ Live
-upper-view i bytes file bare = ap (λ z. inode_view 0 (Some (record i { content = z }))) file ∙ ap (λ z. view_by (Own (is_some z)) bytes i.attributes) bare
+-- who writes keeps no bytes
+pub writes-kept : (lowers : List Layer) (q : Option Path) (low : Option Source) (b z : Bool) → b ≡ true → IsKept lowers (cond (b || z) None q) low → low ≡ None
+writes-kept lowers q low b z on kept = subst (λ x. IsKept lowers (cond (x || z) None q) low) on kept
+
+-- nor who opens a file of a lower layer
+below-kept : (lowers : List Layer) (q : Option Path) (low : Option Source) (b z : Bool) → z ≡ true → IsKept lowers (cond (b || z) None q) low → low ≡ None
+below-kept lowers q low true z on kept = kept
+below-kept lowers q low false z on kept = subst (λ x. IsKept lowers (cond x None q) low) on kept
+
+-- who reads a file of the upper alone keeps those at its mark
+reads-kept : (lowers : List Layer) (q : Option Path) (low : Option Source) (b : Bool) → b ≡ false → IsKept lowers (cond (b || false) None q) low → IsKept lowers q low
+reads-kept lowers q low b off kept = subst (λ x. IsKept lowers (cond (x || false) None q) low) off kept
+
+-- and sees the file as it comes to be, but for those
+kept-view : (l : Layers) (k : ℕ) (i : Inode) (bytes : List ℕ) (low : Option Source) (h : Handle) → (upper_of l).inodes k ≡ Some i → i.content ≡ content.File bytes → IsKept (lowers_of l) (mark_at l.upper k) low → h.view ≡ inode_view 0 (Some i) → h.writes ≡ false → SeesFile (lowers_of l) low h
+kept-view l k i bytes low h is file kept view alone = by i.mark refl (subst (λ q. IsKept (lowers_of l) q low) (mark-there l k i is) kept)
+  where
+    seen-so : (q : Option Path) → i.mark ≡ q → h.view ≡ view_by (Own (is_some q)) bytes i.attributes
+    seen-so q e = view ∙ ap (λ z. inode_view 0 (Some (record i { content = z }))) file ∙ ap (λ z. view_by (Own (is_some z)) bytes i.attributes) e
+
+    by : (q : Option Path) → i.mark ≡ q → IsKept (lowers_of l) q low → SeesFile (lowers_of l) low h
+    by None e none = subst (λ x. SeesFile (lowers_of l) x h) (sym none) (seen-so None e)
+    by (Some q) e there =
+        let keeps : KeepsBytes (lowers_of l) there.0 h =
+        record { bytes = bytes; low = low-shown l k i bytes q (low_place there.0) is e file there.2; view = seen-so (Some q) e; reads_alone = alone } in
+        subst (λ x. SeesFile (lowers_of l) x h) (sym there.1) keeps
 
 -- a node that is seen as a file or link is one
 pub leaf-seen : (o : Option Node) (content : Content) (a : Attributes) (u : Origin) (l : ℕ) → face o ≡ Some (SeenLeaf content a u l) → (n : ℕ) × (o ≡ Some (Leaf content a u n))
@@ -161,8 +181,11 @@ module _ (m : Mount) (s : State) (st : IsStateOf m s) (c : ℕ) where
   open-wanted d h new e ch = keep-state m s st c new (changes-as m.clients new c _ _ (λ x y g. g.err) ch)
 
   -- an open file at a path is one with it exactly where it is one inode
-  pub fresh-one : (p : Path) (file : OpenFile) (x : Handle) → node_at s.tree p ≡ Some x.node → IsOf (the_upper m) (the_lowers m) s.tree file.source x → (g : OpenFile) (k j : ℕ) (e : NodeId) → File file ≡ File g → g.source ≡ Upper k → IsOpenOn m.clients s.tables j e → (x.node ≡ e) ↔ (k ≡ j)
-  fresh-one p file x at of g k j e same key y = grind arith
+  pub fresh-one : (p : Path) (file : OpenFile) (x : Handle) → node_at s.tree p ≡ Some x.node → IsOf (the_upper m) (the_lowers m) s.tree file.source file.low x → (g : OpenFile) (k j : ℕ) (e : NodeId) → File file ≡ File g → g.source ≡ Upper k → IsOpenOn m.clients s.tables j e → (x.node ≡ e) ↔ (k ≡ j)
+  fresh-one p file x at of g k j e same key y =
+      let files : file ≡ g = cc in
+      let keyed : file.source ≡ Upper k = ap (λ (z : OpenFile). z.source) files ∙ key in
+      law_of_live_one (the_upper m) s.tree p x.node e k j at (upper-live (the_upper m) (the_lowers m) s.tree file.source file.low x k keyed of).0 (open-live m s st j e y)
 
   -- a descriptor that is opened on both sides, alike
   module _ (h : handles.Handle) (d : ℕ) (new : Clients) (ch : ChangesClient m.clients new c (λ x y. Opens x y d h (Ok tt))) where
@@ -187,7 +210,7 @@ module _ (m : Mount) (s : State) (st : IsStateOf m s) (c : ℕ) where
     pub state-open : (made : Handle) → Alike m.layers s new h made → ((g : OpenFile) (k j : ℕ) (e : NodeId) → h ≡ File g → g.source ≡ Upper k → IsOpenOn m.clients s.tables j e → (made.node ≡ e) ↔ (k ≡ j)) → IsStateOf (record m { clients = new }) (record s { tables = with_handle s.tables c d (Some made) })
     state-open made is fresh =
         let sets : ChangesClient m.clients new c (λ x y. SetsSlot x y d (Some h)) = changes-as m.clients new c _ _ (λ x y g. g.opens) ch in
-        with-tables m s st (record m { clients = new }) (with_handle s.tables c d (Some made)) refl refl ch.next
+        with-tables m s st (record m { clients = new }) (with_handle s.tables c d (Some made)) refl refl refl ch.next
         (tables-set alike m.clients s.tables st.tables new (Alike m.layers s new) c d (Some h) (Some made) sets ch.changes.lowest.in_range
         (λ b i o g now was on like. placed (the_upper m) (the_lowers m) s.tree m.clients.directories new.directories o g (λ x l q at. ch.places b i x l (now ∙ ap Some q) at) like)
         is)
@@ -288,7 +311,7 @@ module _ (m : Mount) (s : State) (st : IsStateOf m s) (c : ℕ) where
       frozen : (j k : ℕ) → IsShownFile (shows 0 (the_layers m) p) (suc j) k → f.writes ≡ false → (o : OpensReading (the_layers m) s c p f mode) → IsFrozen (the_lowers m) s.tree (suc j) k (new_handle f o.node (way_of s.tree p) (s.tree o.node))
       frozen j k file w o =
           let i : Inode = file.inode in
-          let below : inode_in (trees m.layers) (suc j) k ≡ Some i = stored-shown m.layers p (suc j) k (Some i) file.shown in
+          let below : inode_in (trees m.layers) (suc j) k ≡ Some i = over-shown m.layers p (record { layer = suc j; key = k }) (Some i) file.shown in
           let seen : face (s.tree o.node) ≡ see (base (the_upper m) (the_lowers m) p) (shows 0 (the_layers m) p) = sym (ap (λ z. face (node_of s.tree z)) o.at) ∙ st.layers.shows.sights p in
           record {
             bytes = file.bytes;
@@ -302,17 +325,24 @@ module _ (m : Mount) (s : State) (st : IsStateOf m s) (c : ℕ) where
           }
 
       -- the handle that the machine makes for a file is of its inode
-      of-shown : (j k : ℕ) → IsShownFile (shows 0 (the_layers m) p) j k → f.writes ≡ false → (o : OpensReading (the_layers m) s c p f mode) → IsOf (the_upper m) (the_lowers m) s.tree (source_at (record { layer = j; key = k })) (new_handle f o.node (way_of s.tree p) (s.tree o.node))
-      of-shown zero k file w o = (law_of_live_shown (the_upper m) (the_lowers m) s st.layers p k file.inode file.bytes o.node file.shown file.content o.at, o.view ∙ ap shown_view file.shown ∙ upper-view file.inode file.bytes file.content (shown-unmarked m.layers p zero k file.inode file.shown))
-      of-shown (suc j) k file w o = subst (λ z. IsOf (the_upper m) (the_lowers m) s.tree z (new_handle f o.node (way_of s.tree p) (s.tree o.node))) (sym (source-below j k)) (frozen j k file w o)
+      of-shown : (j k : ℕ) → IsShownFile (shows 0 (the_layers m) p) j k → f.writes ≡ false → (o : OpensReading (the_layers m) s c p f mode) → (low : Option Source) → IsKept (the_lowers m) (read_mark m.layers (record { layer = j; key = k }) f.writes) low → IsOf (the_upper m) (the_lowers m) s.tree (source_at (record { layer = j; key = k })) low (new_handle f o.node (way_of s.tree p) (s.tree o.node))
+      of-shown zero k file w o low kept = (
+        law_of_live_shown (the_upper m) (the_lowers m) s st.layers p k file.inode file.bytes o.node file.shown file.content o.at,
+        kept-view m.layers k file.inode file.bytes low (new_handle f o.node (way_of s.tree p) (s.tree o.node))
+            (over-shown m.layers p (record { layer = 0; key = k }) (Some file.inode) file.shown) file.content
+            (reads-kept (the_lowers m) (mark_at m.layers.upper k) low f.writes w kept) (o.view ∙ ap shown_view file.shown) w,
+      )
+      of-shown (suc j) k file w o low kept =
+          subst (λ z. IsOf (the_upper m) (the_lowers m) s.tree z low (new_handle f o.node (way_of s.tree p) (s.tree o.node))) (sym (source-below j k))
+          (frozen j k file w o, below-kept (the_lowers m) (mark_at m.layers.upper k) low f.writes (nat_lt 0 (suc j)) (lt-ltb 0 (suc j) (omega arith)) kept)
 
       -- an open of a file
-      pub open-file : (place : Place) → ShowsInode m.layers p place → f.writes ≡ false → (d : ℕ) (new : Clients) → OpensFile m.clients new c d (file_at place f) (Ok tt) → Serves (refusal s c asked) s c asked (reply.Descriptor d) (record m { clients = new })
-      open-file place i w d new ch =
+      pub open-file : (place : Place) → ShowsInode m.layers p place → f.writes ≡ false → (low : Option Source) → IsKept (the_lowers m) (read_mark m.layers place f.writes) low → (d : ℕ) (new : Clients) → OpensFile m.clients new c d (file_at place f low) (Ok tt) → Serves (refusal s c asked) s c asked (reply.Descriptor d) (record m { clients = new })
+      open-file place i w low kept d new ch =
           let file : IsShownFile (shows 0 (the_layers m) p) place.layer place.key = file-there place i in
           let there : is_some (shows 0 (the_layers m) p) ≡ true = ap is_some file.shown in
-          let o : OpensReading (the_layers m) s c p f mode = law w there (File (file_at place f)) d new ch in
-          let of : IsOf (the_upper m) (the_lowers m) s.tree (source_at place) (new_handle f o.node (way_of s.tree p) (s.tree o.node)) = of-shown place.layer place.key file w o in
-          open-done w there (File (file_at place f)) d new ch
-          (record { source = of; reads = refl; writes = refl; append = refl; place = refl; unlisted = refl })
-          (fresh-one p (file_at place f) (new_handle f o.node (way_of s.tree p) (s.tree o.node)) o.at of)
+          let o : OpensReading (the_layers m) s c p f mode = law w there (File (file_at place f low)) d new ch in
+          let of : IsOf (the_upper m) (the_lowers m) s.tree (source_at place) low (new_handle f o.node (way_of s.tree p) (s.tree o.node)) = of-shown place.layer place.key file w o low kept in
+          open-done w there (File (file_at place f low)) d new ch
+          (record { source = of; own = λ on. absurd (false≢true (sym w ∙ on)); reads = refl; writes = refl; append = refl; place = refl; unlisted = refl })
+          (fresh-one p (file_at place f low) (new_handle f o.node (way_of s.tree p) (s.tree o.node)) o.at of)

@@ -36,6 +36,7 @@ module _ (m : Mount) (new : Clients) (c d : ℕ) (o : OpenDirectory) (was : open
               (set-as _ _ d _ _ (ap (option_map (after_names n)) before ∙ ap (λ z. Some (Directory (record o { listing = option_map (drop n) z }))) e) h.changes.left);
           layers = refl;
           redirects = refl;
+          metacopy = refl;
         }
 
     -- the names come from the listing that is kept
@@ -59,6 +60,7 @@ module _ (m : Mount) (new : Clients) (c d : ℕ) (o : OpenDirectory) (was : open
       changes = slot-becomes m.clients new c d (Directory o) (with_listing (Some (drop n left))) was h;
       layers = refl;
       redirects = refl;
+      metacopy = refl;
     }
       where
         by : (l : Option (List Name)) → is_some l ≡ false → AreLeft (layers_of m.layers) (path_of m.clients o) l left

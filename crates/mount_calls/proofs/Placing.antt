@@ -20,9 +20,9 @@ use Rattle.mount_laws.proofs.Opening.{law_of_open_refusal}
 use Rattle.copy_up.specs.Showing.{GainsParents, KeepsPath}
 use Rattle.rename_redirect.specs.Renaming.{KeepsMoved}
 use Rattle.work_dir.specs.declared.next.Lack.TheVariants as lack
-use Rattle.work_dir.specs.declared.source.Source.{Source}
+use Rattle.ov_base.specs.declared.source.Source.{Source}
 use Rattle.mount_calls.specs.Keeping.{BringsNone, KeepsAround, KeepsLayers, KeepsRenamed}
-use Rattle.mount_calls.specs.Lacks.{file_lack, lack_among, lack_of, lacking, lacking_to, low_file, parent_lack, path_of_call, CanBeHad, OpensToChange}
+use Rattle.mount_calls.specs.Lacks.{file_lack, lack_among, lack_of, lacking, lacking_to, copied_file, data_at, parent_lack, path_of_call, CanBeHad, OpensToChange}
 use Rattle.mount_calls.specs.declared.mount.Mount.{Mount}
 use Rattle.mount_calls.specs.States.{IsStateOf}
 use Rattle.mount_calls.proofs.Stating.{the_layers, the_lowers, the_upper}
@@ -59,46 +59,46 @@ module _ (old new : Layers) where
   }
 
   -- PLACING A LACKING PARENT OF A CALL KEEPS THE LAYERS AS THE CALL DOES
-  pub place-keeps : (k : Call) (second : Bool) (count : ℕ) (p : Path) → lack_of (upper_of old) (lowers_of old) k ≡ lack.Parent second count →
+  pub place-keeps : (metacopy : Bool) (k : Call) (second : Bool) (count : ℕ) (p : Path) → lack_of (upper_of old) (lowers_of old) metacopy k ≡ lack.Parent second count →
       path_of_call k second ≡ Some p → OpensToChange (layers_of old) k → GainsParents old new p → KeepsLayers k old new
-  place-keeps (call.Stat a) second count p is at opens g = cc
-  place-keeps (call.Readlink a) second count p is at opens g = cc
-  place-keeps (call.Chmod a mode) true count p is at opens g = cc
-  place-keeps (call.Chmod a mode) false count p is at opens g = around-path a p at g
-  place-keeps (call.Chown a uid gid) true count p is at opens g = cc
-  place-keeps (call.Chown a uid gid) false count p is at opens g = around-path a p at g
-  place-keeps (call.SetAttribute a n v) true count p is at opens g = cc
-  place-keeps (call.SetAttribute a n v) false count p is at opens g = around-path a p at g
-  place-keeps (call.GetAttribute a n) second count p is at opens g = cc
-  place-keeps (call.DeleteAttribute a n) true count p is at opens g = cc
-  place-keeps (call.DeleteAttribute a n) false count p is at opens g = around-path a p at g
-  place-keeps (call.ListAttributes a) second count p is at opens g = cc
-  place-keeps (call.Mkdir a mode) true count p is at opens g = cc
-  place-keeps (call.Mkdir a mode) false count p is at opens g = around-path a p at g
-  place-keeps (call.Symlink target a) true count p is at opens g = cc
-  place-keeps (call.Symlink target a) false count p is at opens g = none-path a p at g
-  place-keeps (call.Unlink a) true count p is at opens g = cc
-  place-keeps (call.Unlink a) false count p is at opens g = none-path a p at g
-  place-keeps (call.Rmdir a) true count p is at opens g = cc
-  place-keeps (call.Rmdir a) false count p is at opens g = none-path a p at g
-  place-keeps (call.Hardlink a b) second count p is at opens g =
+  place-keeps metacopy (call.Stat a) second count p is at opens g = cc
+  place-keeps metacopy (call.Readlink a) second count p is at opens g = cc
+  place-keeps metacopy (call.Chmod a mode) true count p is at opens g = cc
+  place-keeps metacopy (call.Chmod a mode) false count p is at opens g = around-path a p at g
+  place-keeps metacopy (call.Chown a uid gid) true count p is at opens g = cc
+  place-keeps metacopy (call.Chown a uid gid) false count p is at opens g = around-path a p at g
+  place-keeps metacopy (call.SetAttribute a n v) true count p is at opens g = cc
+  place-keeps metacopy (call.SetAttribute a n v) false count p is at opens g = around-path a p at g
+  place-keeps metacopy (call.GetAttribute a n) second count p is at opens g = cc
+  place-keeps metacopy (call.DeleteAttribute a n) true count p is at opens g = cc
+  place-keeps metacopy (call.DeleteAttribute a n) false count p is at opens g = around-path a p at g
+  place-keeps metacopy (call.ListAttributes a) second count p is at opens g = cc
+  place-keeps metacopy (call.Mkdir a mode) true count p is at opens g = cc
+  place-keeps metacopy (call.Mkdir a mode) false count p is at opens g = around-path a p at g
+  place-keeps metacopy (call.Symlink target a) true count p is at opens g = cc
+  place-keeps metacopy (call.Symlink target a) false count p is at opens g = none-path a p at g
+  place-keeps metacopy (call.Unlink a) true count p is at opens g = cc
+  place-keeps metacopy (call.Unlink a) false count p is at opens g = none-path a p at g
+  place-keeps metacopy (call.Rmdir a) true count p is at opens g = cc
+  place-keeps metacopy (call.Rmdir a) false count p is at opens g = none-path a p at g
+  place-keeps metacopy (call.Hardlink a b) second count p is at opens g =
       record { others = λ x off away. either-path a b p second at g x; ends = inl (either-path a b p second at g) }
-  place-keeps (call.Rename a b) second count p is at opens g =
+  place-keeps metacopy (call.Rename a b) second count p is at opens g =
       renames-path a b p second
-      (apart-lacking (upper_of old) a b (is_one (upper_of old) a b) (low_file (shows 0 (layers_of old) a)) second count is) at g
-  place-keeps (call.Open a f mode) true count p is at opens g = cc
-  place-keeps (call.Open a f mode) false count p is at opens g =
+      (apart-lacking (upper_of old) a b (is_one (upper_of old) a b) (copied_file metacopy (shows 0 (layers_of old) a)) second count is) at g
+  place-keeps metacopy (call.Open a f mode) true count p is at opens g = cc
+  place-keeps metacopy (call.Open a f mode) false count p is at opens g =
       subst (λ b. cond b (BringsNone old new a) (new ≡ old)) (sym opens) (none-path a p at g)
-  place-keeps (call.Read d n) second count p is at opens g = cc
-  place-keeps (call.Write d bytes) second count p is at opens g = cc
-  place-keeps (call.Seek d offset whence) second count p is at opens g = cc
-  place-keeps (call.Truncate d size) second count p is at opens g = cc
-  place-keeps (call.Fstat d) second count p is at opens g = cc
-  place-keeps (call.ListNames d n) second count p is at opens g = cc
-  place-keeps (call.Close d) second count p is at opens g = cc
-  place-keeps (call.Arm slot a mask) second count p is at opens g = cc
-  place-keeps (call.Disarm watch) second count p is at opens g = cc
-  place-keeps (call.TakeNotices n) second count p is at opens g = cc
+  place-keeps metacopy (call.Read d n) second count p is at opens g = cc
+  place-keeps metacopy (call.Write d bytes) second count p is at opens g = cc
+  place-keeps metacopy (call.Seek d offset whence) second count p is at opens g = cc
+  place-keeps metacopy (call.Truncate d size) second count p is at opens g = cc
+  place-keeps metacopy (call.Fstat d) second count p is at opens g = cc
+  place-keeps metacopy (call.ListNames d n) second count p is at opens g = cc
+  place-keeps metacopy (call.Close d) second count p is at opens g = cc
+  place-keeps metacopy (call.Arm slot a mask) second count p is at opens g = cc
+  place-keeps metacopy (call.Disarm watch) second count p is at opens g = cc
+  place-keeps metacopy (call.TakeNotices n) second count p is at opens g = cc
 
 directory-some : (o : Option Object) → holds_directory o ≡ true → is_some o ≡ true
 directory-some None h = cc
@@ -136,13 +136,13 @@ module _ (U : Layer) where
   nothing-moved p q true file h g e = refl
   nothing-moved p q false file h g e = nothing-both p q file h g e
 
-  pub nothing-read : (p : Path) (writes absent : Bool) (s : Option Shown) → writes ≡ false → absent ≡ false → open_lack U p writes absent s ≡ lack.Nothing
-  nothing-read p writes absent s h g = ap₂ (λ w b. open_lack U p w b s) h g
+  pub nothing-read : (p : Path) (writes absent : Bool) (d : Option Source) → writes ≡ false → absent ≡ false → open_lack U p writes absent d ≡ lack.Nothing
+  nothing-read p writes absent d h g = ap₂ (λ w b. open_lack U p w b d) h g
 
-  pub nothing-opened : (p : Path) (writes absent : Bool) (s : Option Shown) → lacking U p ≡ None → low_file s ≡ None → open_lack U p writes absent s ≡ lack.Nothing
-  nothing-opened p true absent s h e = nothing-one p (low_file s) h e
-  nothing-opened p false true s h e = nothing-one p None h refl
-  nothing-opened p false false s h e = refl
+  pub nothing-opened : (p : Path) (writes absent : Bool) (d : Option Source) → lacking U p ≡ None → d ≡ None → open_lack U p writes absent d ≡ lack.Nothing
+  nothing-opened p true absent d h e = nothing-one p d h e
+  nothing-opened p false true d h e = nothing-one p None h refl
+  nothing-opened p false false d h e = refl
 
 -- what a lack of a parent tells of the path that it is of
 pub can-here : (m : Mount) (k : Call) (second : Bool) (count : ℕ) (q : Path) → Some q ≡ path_of_call k second → CanBeHad m k (lack.Parent second count) →
@@ -151,9 +151,9 @@ can-here m k second count q is can = (sym is, can.4)
 
 -- an open that neither writes nor makes its file lacks nothing, where it is allowed
 pub nothing-unopened : (m : Mount) (p : Path) (f : OpenFlags) (mode : ℕ) → (f.writes || f.create) ≡ false → (s : State) → IsStateOf m s → (c : ℕ) →
-    refusal s c (call.Open p f mode) ≡ None → lack_of (the_upper m) (the_lowers m) (call.Open p f mode) ≡ lack.Nothing
+    refusal s c (call.Open p f mode) ≡ None → lack_of (the_upper m) (the_lowers m) m.metacopy (call.Open p f mode) ≡ lack.Nothing
 nothing-unopened m p f mode off s st c fine =
     let flags = first-false f.writes f.create off in
     let shown = shown-there f (shows 0 (the_layers m) p) flags.1
     (opening-shown (the_layers m) p f mode (lowest_free s.tables c) (sym (law_of_open_refusal (the_upper m) (the_lowers m) s st.layers c p f mode) ∙ fine)) in
-    nothing-read (the_upper m) p f.writes (is_none (shows 0 (the_layers m) p)) (shows 0 (the_layers m) p) flags.0 shown
+    nothing-read (the_upper m) p f.writes (is_none (shows 0 (the_layers m) p)) (data_at (the_lowers m) (shows 0 (the_layers m) p)) flags.0 shown

@@ -17,7 +17,7 @@ use Rattle.copy_up.proofs.Keeping.{lowers-same}
 use Rattle.mount_calls.specs.Living.{NamesFile}
 
 -- what is a file has bytes
-has-bytes : (c : Content) → is_file c ≡ true → (bytes : List ℕ) × (c ≡ content.File bytes)
+pub has-bytes : (c : Content) → is_file c ≡ true → (bytes : List ℕ) × (c ≡ content.File bytes)
 has-bytes (content.File bytes) h = (bytes, refl)
 has-bytes (content.SymbolicLink target) h = cc
 

@@ -171,5 +171,5 @@ module _
       way-open V lowers u es way o h
       (open-on U V lowers s.tree u ds es o h
       (λ d e. directories b fd d h on)
-      (λ f e is. file-on U V lowers s.tree u f h is (λ k. files.live b fd f h k (at ∙ ap Some e) on) (files.leaves b fd h on))
+      (λ f e is. file-on U V lowers s.tree u f h is (λ k. files.live b fd f h k (at ∙ ap Some e) on) (files.leaves b fd h on) (files.owns h.node))
       is)

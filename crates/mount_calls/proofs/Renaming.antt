@@ -129,7 +129,7 @@ module _ (m : Mount) (s : State) (st : IsStateOf m s) where
 
     -- what p shows moves to q
     module _
-        (new : Layers) (low : new.lowers ≡ m.layers.lowers) (held : RenamesHeld m.clients m.layers new m.redirects p q)
+        (new : Layers) (low : new.lowers ≡ m.layers.lowers) (held : RenamesHeld m.clients m.layers new m.redirects m.metacopy p q)
         (counted : AreCounted m.clients) (below : NoneBelow m.clients.directories q)
         (replaced : Option Attributes) (copied : (k : ℕ) → places.opened m.clients.directories k ≡ Some (At q) → IsSome replaced)
         (has : (a : Attributes) → replaced ≡ Some a → HasAttributes (the_layers m) q a)

@@ -1,7 +1,7 @@
 -- Seeks: of an open file to a place, and of an open directory to its start.
 use Rattle.std.proofs.Common.{◌≡◌, ℕ, ℤ, pos, nat_abs, ◌+ℤ◌, int_lt, Bool, cond, List, Option, None, Some, Result, Ok, Err, refl, sym, ap, ◌∙◌, subst, length, nat_eq, nat_lt, arith}
 use Rattle.merged_lookup.specs.Merged.{upper_of}
-use Rattle.mount_calls.proofs.Words.{ChangesSlot, Directory, Errno, File, file_in, FileSource, Handle, handle_of, Inode, layer_of, Layers, lowers_of, OpenDirectory, OpenFile, or_else, refusal, Reply, State, when, with_handle, with_listing, with_place}
+use Rattle.mount_calls.proofs.Words.{ChangesSlot, Directory, Errno, File, file_in, Handle, handle_of, Inode, layer_of, Layers, lowers_of, OpenDirectory, OpenFile, or_else, refusal, Reply, State, when, with_handle, with_listing, with_place}
 use Rattle.ov_base.specs.declared.call.Call.TheVariants as call
 use Rattle.ov_base.specs.declared.errno.Errno.TheVariants as errno
 use Rattle.ov_base.specs.declared.reply.Reply.TheVariants as reply
@@ -17,7 +17,7 @@ use Rattle.open_handles.specs.Places.{sought_from}
 use Rattle.mount_calls.specs.declared.clients.Clients.{Clients}
 use Rattle.mount_calls.specs.declared.mount.Mount.{Mount}
 use Rattle.mount_calls.specs.Attaching.{opened_by, file_by, ChangesClient}
-use Rattle.mount_calls.specs.Files.{IsFile, source_inode, bytes_of_inode}
+use Rattle.mount_calls.specs.Files.{IsFile, seen_inode, bytes_of_inode}
 use Rattle.mount_calls.specs.Opening.{seek_fault, seek_place}
 use Rattle.mount_calls.specs.States.{IsStateOf, Serves}
 use Rattle.mount_calls.proofs.Answering.{serve-refused, serve-done}
@@ -26,11 +26,11 @@ use Rattle.mount_calls.proofs.Slots.{opened-after, slot-becomes, file-open, file
 use Rattle.mount_calls.proofs.Stating.{the_lowers, the_upper}
 
 -- these are the bytes of an open file
-abbrev pub AreBytes : Layers → FileSource → List ℕ → Type 0
-AreBytes l source bytes = (i : Inode) → source_inode (upper_of l) (lowers_of l) source ≡ Some i → bytes ≡ bytes_of_inode i
+abbrev pub AreBytes : Layers → OpenFile → List ℕ → Type 0
+AreBytes l f bytes = (i : Inode) → seen_inode (upper_of l) (lowers_of l) f.source f.low ≡ Some i → bytes ≡ bytes_of_inode i
 
 -- they are what a handle on it reads
-pub bytes-read : (l : Layers) (s : State) (f : OpenFile) (h : Handle) (bytes : List ℕ) → IsFile (upper_of l) (lowers_of l) s.tree f h → AreBytes l f.source bytes → laws.seen s h ≡ bytes
+pub bytes-read : (l : Layers) (s : State) (f : OpenFile) (h : Handle) (bytes : List ℕ) → IsFile (upper_of l) (lowers_of l) s.tree f h → AreBytes l f bytes → laws.seen s h ≡ bytes
 bytes-read l s f h bytes file are =
     let sees : Sees (upper_of l) (lowers_of l) s.tree f h = file-sees (upper_of l) (lowers_of l) s.tree f h file in
     sees.seen ∙ sym (are _ sees.inode)
@@ -76,7 +76,7 @@ module _ (m : Mount) (s : State) (st : IsStateOf m s) (c d : ℕ) where
         no-fault g = cc
 
     -- seeks in an open file of these bytes
-    module _ (f : OpenFile) (is : file_by m.clients c d ≡ Some f) (bytes : List ℕ) (are : AreBytes m.layers f.source bytes) where
+    module _ (f : OpenFile) (is : file_by m.clients c d ≡ Some f) (bytes : List ℕ) (are : AreBytes m.layers f bytes) where
       -- it is open
       opens : opened_by m.clients c d ≡ Some (File f)
       opens = file-open (opened_by m.clients c d) f is
@@ -126,7 +126,7 @@ module _ (m : Mount) (s : State) (st : IsStateOf m s) (c d : ℕ) where
       let set = slot-becomes m.clients new c d (Directory o) (with_listing None) is ch in
       serve-done _ s c _ _ (record m { clients = new }) (law.refused (pos 0) 0) (sym law.answer)
       (subst (IsStateOf (record m { clients = new })) (sym law.state)
-      (state-set m s st c d x.0 x.1 (record m { clients = new }) refl refl (Some (with_listing None (Directory o))) (Some (record x.0 { place = 0; listed = None })) set (λ f z k same is key. cc same)
+      (state-set m s st c d x.0 x.1 (record m { clients = new }) refl refl refl (Some (with_listing None (Directory o))) (Some (record x.0 { place = 0; listed = None })) set (λ f z k same is key. cc same)
       (record {
         location = x.2.location;
         located = ch.places c d (record o { listing = None }) x.2.location (opened-after m.clients new c d (with_listing None (Directory o)) set) x.2.located;

@@ -1,11 +1,11 @@
 -- What the looks of a call saw, and that it lacks nothing where they saw that the upper has all.
-use Rattle.std.proofs.Common.{◌≡◌, ◌≢◌, ◌⊎◌, inl, inr, ℕ, false, List, [], ◌∷◌, Option, None, Some, Result, Ok, IfOk, is_none, refl, sym, ap, ◌∙◌, subst}
+use Rattle.std.proofs.Common.{Bool, ◌≡◌, ◌≢◌, ◌⊎◌, inl, inr, ℕ, false, List, [], ◌∷◌, Option, None, Some, Result, Ok, IfOk, is_none, is_some, refl, sym, ap, ◌∙◌, subst}
 use Rattle.ov_base.specs.declared.bytes.Bytes.{Bytes}
 use Rattle.ov_base.specs.declared.call.Call.{Call}
 use Rattle.ov_base.specs.declared.call.Call.TheVariants as call
 use Rattle.ov_base.specs.declared.errno.Errno.{Errno}
 use Rattle.plain_model.specs.Layers.{Path, shows}
-use Rattle.layer_tree.specs.Tree.{layer_of, IsHeldTogether}
+use Rattle.layer_tree.specs.Tree.{layer_of, mark_at, IsHeldTogether}
 use Rattle.merged_lookup.specs.declared.layers.Layers.{Layers}
 use Rattle.merged_lookup.specs.declared.found.Topmost.{Topmost}
 use Rattle.merged_lookup.specs.declared.found.Topmost.TheVariants as topmost
@@ -17,8 +17,10 @@ use Rattle.copy_up.proofs.Keeping.{held-on-top}
 use Rattle.work_dir.specs.declared.next.Lack.TheVariants as lack
 use Rattle.mount_calls.specs.declared.look.Look.{Look}
 use Rattle.mount_calls.specs.declared.looks.Looks.{Looks}
-use Rattle.mount_calls.specs.Lacks.{lack_among, lack_of, lacking, low_file, HasAllOf}
+use Rattle.mount_calls.specs.Lacks.{copied_file, data_at, lack_among, lack_of, lacking, low_file, marked_file, HasAllAt, HasAllOf}
 use Rattle.mount_calls.specs.Looking.{looked_paths, AreLooks, IsLook, SawEach}
+use Rattle.mount_calls.proofs.Lacking.{copied-none, low-none}
+use Rattle.mount_calls.proofs.Marks.{data-own, none-mark}
 use Rattle.mount_calls.proofs.Placing.{held-to, nothing-both, nothing-moved, nothing-one, nothing-opened}
 
 -- the looks of a call are those of what it is
@@ -37,42 +39,49 @@ saw-parents l p look directory top together saw is upper =
 pub saw-top : (l : Layers) (p : Path) (look : Look) (directory : Stack) (top : Option Topmost) → IsLook l p look → look.shown ≡ Ok (directory, top) → IsTopmost l p top
 saw-top l p look directory top saw is = subst (λ (r : Result (Stack × Option Topmost) Errno). IfOk r (λ seen. IsTopmost l p seen.1)) is saw.top
 
--- what is shown is no file of a lower layer: nothing, a directory, or what the upper has
-pub no-lower-none : (l : Layers) (p : Path) → IsTopmost l p None → low_file (shows 0 (layers_of l) p) ≡ None
-no-lower-none l p at = ap low_file at.shown
+-- what is shown is no file whose bytes are a lower layer's: nothing, a directory, or what the upper has without a mark
+pub no-low-none : (l : Layers) (p : Path) → IsTopmost l p None → data_at (lowers_of l) (shows 0 (layers_of l) p) ≡ None
+no-low-none l p at = ap (data_at (lowers_of l)) at.shown
 
-pub no-lower-directory : (l : Layers) (p : Path) (d : Place) → IsTopmost l p (Some (topmost.Directory d)) → low_file (shows 0 (layers_of l) p) ≡ None
-no-lower-directory l p d at = ap low_file at.1
+pub no-low-directory : (l : Layers) (p : Path) (d : Place) → IsTopmost l p (Some (topmost.Directory d)) → data_at (lowers_of l) (shows 0 (layers_of l) p) ≡ None
+no-low-directory l p d at = ap (data_at (lowers_of l)) at.1
+
+pub no-low-inode : (l : Layers) (p : Path) (d : Place) → IsTopmost l p (Some (topmost.Inode d)) → d.layer ≡ 0 → is_some (mark_at l.upper d.key) ≡ false → data_at (lowers_of l) (shows 0 (layers_of l) p) ≡ None
+no-low-inode l p d at own bare = sym (data-own l p d at own) ∙ ap (marked_file (lowers_of l)) (none-mark (mark_at l.upper d.key) bare)
+
+-- so it is no file of a lower layer
+own : (l : Layers) (metacopy : Bool) (p : Path) → HasAllAt l p → copied_file metacopy (shows 0 (layers_of l) p) ≡ None
+own l metacopy p h = copied-none metacopy (shows 0 (layers_of l) p) (low-none (lowers_of l) (shows 0 (layers_of l) p) h.own)
 
 -- A CALL LACKS NOTHING WHOSE LOOKS SAW THAT THE UPPER HAS ALL
-pub nothing-seen : (l : Layers) (k : Call) → HasAllOf l (looked_paths k) → looked_paths k ≢ [] → lack_of (upper_of l) (lowers_of l) k ≡ lack.Nothing
-nothing-seen l (call.Chmod p mode) h some = nothing-one (upper_of l) p (low_file (shows 0 (layers_of l) p)) h.parents h.own
-nothing-seen l (call.Chown p uid gid) h some = nothing-one (upper_of l) p (low_file (shows 0 (layers_of l) p)) h.parents h.own
-nothing-seen l (call.SetAttribute p n v) h some = nothing-one (upper_of l) p (low_file (shows 0 (layers_of l) p)) h.parents h.own
-nothing-seen l (call.DeleteAttribute p n) h some = nothing-one (upper_of l) p (low_file (shows 0 (layers_of l) p)) h.parents h.own
-nothing-seen l (call.Open p f mode) h some =
-    nothing-opened (upper_of l) p f.writes (is_none (shows 0 (layers_of l) p)) (shows 0 (layers_of l) p) h.parents h.own
-nothing-seen l (call.Hardlink p q) h some = nothing-both (upper_of l) p q (low_file (shows 0 (layers_of l) p)) h.0.parents h.1 h.0.own
-nothing-seen l (call.Rename p q) h some =
-    nothing-moved (upper_of l) p q (is_one (upper_of l) p q) (low_file (shows 0 (layers_of l) p)) h.0.parents h.1 h.0.own
-nothing-seen l (call.Stat p) h some = absurd (some refl)
-nothing-seen l (call.Readlink p) h some = absurd (some refl)
-nothing-seen l (call.GetAttribute p n) h some = absurd (some refl)
-nothing-seen l (call.ListAttributes p) h some = absurd (some refl)
-nothing-seen l (call.Mkdir p mode) h some = nothing-one (upper_of l) p None h.parents refl
-nothing-seen l (call.Symlink target p) h some = nothing-one (upper_of l) p None h.parents refl
-nothing-seen l (call.Unlink p) h some = nothing-one (upper_of l) p None h.parents refl
-nothing-seen l (call.Rmdir p) h some = nothing-one (upper_of l) p None h.parents refl
-nothing-seen l (call.Read d n) h some = absurd (some refl)
-nothing-seen l (call.Write d bytes) h some = absurd (some refl)
-nothing-seen l (call.Seek d offset whence) h some = absurd (some refl)
-nothing-seen l (call.Truncate d size) h some = absurd (some refl)
-nothing-seen l (call.Fstat d) h some = absurd (some refl)
-nothing-seen l (call.ListNames d n) h some = absurd (some refl)
-nothing-seen l (call.Close d) h some = absurd (some refl)
-nothing-seen l (call.Arm slot p mask) h some = absurd (some refl)
-nothing-seen l (call.Disarm watch) h some = absurd (some refl)
-nothing-seen l (call.TakeNotices n) h some = absurd (some refl)
+pub nothing-seen : (l : Layers) (metacopy : Bool) (k : Call) → HasAllOf l (looked_paths k) → looked_paths k ≢ [] → lack_of (upper_of l) (lowers_of l) metacopy k ≡ lack.Nothing
+nothing-seen l metacopy (call.Chmod p mode) h some = nothing-one (upper_of l) p (copied_file metacopy (shows 0 (layers_of l) p)) h.parents (own l metacopy p h)
+nothing-seen l metacopy (call.Chown p uid gid) h some = nothing-one (upper_of l) p (copied_file metacopy (shows 0 (layers_of l) p)) h.parents (own l metacopy p h)
+nothing-seen l metacopy (call.SetAttribute p n v) h some = nothing-one (upper_of l) p (copied_file metacopy (shows 0 (layers_of l) p)) h.parents (own l metacopy p h)
+nothing-seen l metacopy (call.DeleteAttribute p n) h some = nothing-one (upper_of l) p (copied_file metacopy (shows 0 (layers_of l) p)) h.parents (own l metacopy p h)
+nothing-seen l metacopy (call.Open p f mode) h some =
+    nothing-opened (upper_of l) p f.writes (is_none (shows 0 (layers_of l) p)) (data_at (lowers_of l) (shows 0 (layers_of l) p)) h.parents h.own
+nothing-seen l metacopy (call.Hardlink p q) h some = nothing-both (upper_of l) p q (copied_file metacopy (shows 0 (layers_of l) p)) h.0.parents h.1 (own l metacopy p h.0)
+nothing-seen l metacopy (call.Rename p q) h some =
+    nothing-moved (upper_of l) p q (is_one (upper_of l) p q) (copied_file metacopy (shows 0 (layers_of l) p)) h.0.parents h.1 (own l metacopy p h.0)
+nothing-seen l metacopy (call.Stat p) h some = absurd (some refl)
+nothing-seen l metacopy (call.Readlink p) h some = absurd (some refl)
+nothing-seen l metacopy (call.GetAttribute p n) h some = absurd (some refl)
+nothing-seen l metacopy (call.ListAttributes p) h some = absurd (some refl)
+nothing-seen l metacopy (call.Mkdir p mode) h some = nothing-one (upper_of l) p None h.parents refl
+nothing-seen l metacopy (call.Symlink target p) h some = nothing-one (upper_of l) p None h.parents refl
+nothing-seen l metacopy (call.Unlink p) h some = nothing-one (upper_of l) p None h.parents refl
+nothing-seen l metacopy (call.Rmdir p) h some = nothing-one (upper_of l) p None h.parents refl
+nothing-seen l metacopy (call.Read d n) h some = absurd (some refl)
+nothing-seen l metacopy (call.Write d bytes) h some = absurd (some refl)
+nothing-seen l metacopy (call.Seek d offset whence) h some = absurd (some refl)
+nothing-seen l metacopy (call.Truncate d size) h some = absurd (some refl)
+nothing-seen l metacopy (call.Fstat d) h some = absurd (some refl)
+nothing-seen l metacopy (call.ListNames d n) h some = absurd (some refl)
+nothing-seen l metacopy (call.Close d) h some = absurd (some refl)
+nothing-seen l metacopy (call.Arm slot p mask) h some = absurd (some refl)
+nothing-seen l metacopy (call.Disarm watch) h some = absurd (some refl)
+nothing-seen l metacopy (call.TakeNotices n) h some = absurd (some refl)
 
 -- a call with a path that is looked at has one
 pub some-looked : {p : Path} {ps : List Path} (k : Call) → looked_paths k ≡ p ∷ ps → looked_paths k ≢ []
@@ -105,14 +114,14 @@ IsOfName k =
     ⊎ ((p : Path) × (k ≡ call.Rmdir p))))
 
 -- IT LACKS NOTHING WHERE ITS LOOK SAW THAT THE UPPER HAS EACH PARENT
-module _ (l : Layers) (saw : Looks) (parents : (p : Path) → SawEach l (p ∷ []) saw → lacking (upper_of l) p ≡ None) where
-  nothing-named : (k j : Call) (p : Path) → k ≡ j → looked_paths j ≡ p ∷ [] → lack_of (upper_of l) (lowers_of l) j ≡ lack_among (upper_of l) false (p ∷ []) None →
-      AreLooks l k saw → lack_of (upper_of l) (lowers_of l) k ≡ lack.Nothing
+module _ (l : Layers) (metacopy : Bool) (saw : Looks) (parents : (p : Path) → SawEach l (p ∷ []) saw → lacking (upper_of l) p ≡ None) where
+  nothing-named : (k j : Call) (p : Path) → k ≡ j → looked_paths j ≡ p ∷ [] → lack_of (upper_of l) (lowers_of l) metacopy j ≡ lack_among (upper_of l) false (p ∷ []) None →
+      AreLooks l k saw → lack_of (upper_of l) (lowers_of l) metacopy k ≡ lack.Nothing
   nothing-named k j p is path same looked =
       let at : SawEach l (p ∷ []) saw = subst (λ ps. SawEach l ps saw) (ap looked_paths is ∙ path) looked in
-      ap (λ z. lack_of (upper_of l) (lowers_of l) z) is ∙ same ∙ nothing-one (upper_of l) p None (parents p at) refl
+      ap (λ z. lack_of (upper_of l) (lowers_of l) metacopy z) is ∙ same ∙ nothing-one (upper_of l) p None (parents p at) refl
 
-  pub nothing-of-name : (k : Call) → IsOfName k → AreLooks l k saw → lack_of (upper_of l) (lowers_of l) k ≡ lack.Nothing
+  pub nothing-of-name : (k : Call) → IsOfName k → AreLooks l k saw → lack_of (upper_of l) (lowers_of l) metacopy k ≡ lack.Nothing
   nothing-of-name k (inl h) looked = nothing-named k (call.Mkdir h.0 h.1) h.0 h.2 refl refl looked
   nothing-of-name k (inr (inl h)) looked = nothing-named k (call.Symlink h.0 h.1) h.1 h.2 refl refl looked
   nothing-of-name k (inr (inr (inl h))) looked = nothing-named k (call.Unlink h.0) h.0 h.1 refl refl looked

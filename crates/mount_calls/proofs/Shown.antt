@@ -1,14 +1,15 @@
 -- What stands at the places that the layers show.
 use Rattle.std.proofs.Common.{◌≡◌, List, None, Result, refl}
-use Rattle.mount_calls.proofs.Words.{Errno, inode_of, Layer, Layers, layers_of, node_in, option_and_then, Path, Place, shows, ShowsInode, Stat, trees}
+use Rattle.merged_lookup.specs.Marking.{inode_over}
+use Rattle.mount_calls.proofs.Words.{Errno, Layer, Layers, layers_of, Path, Place, shows, ShowsInode, Stat}
 use Rattle.merged_lookup.specs.Merged.{walk_fault}
 use Rattle.mount_calls.specs.Status.{stat_at, stat_shown, stat_of_inode}
-use Rattle.mount_calls.proofs.Stored.{stored-shown}
+use Rattle.mount_calls.proofs.Marks.{over-shown}
 
 -- What stat shows of a file or symbolic link that is found.
-pub stat-inode : (l : Layers) (p : Path) (d : Place) → ShowsInode l p d → stat_shown (shows 0 (layers_of l) p) ≡ stat_of_inode (option_and_then inode_of (node_in (trees l) d))
+pub stat-inode : (l : Layers) (p : Path) (d : Place) → ShowsInode l p d → stat_shown (shows 0 (layers_of l) p) ≡ stat_of_inode (inode_over l d)
 stat-inode l p d i =
-    let same : option_and_then inode_of (node_in (trees l) d) ≡ i.inode = stored-shown l p d.layer d.key i.inode i.shown in
+    let same : inode_over l d ≡ i.inode = over-shown l p d i.inode i.shown in
     rw (i.shown, ← same) refl
 
 -- The answer where the walk isn't refused.

@@ -1,11 +1,12 @@
 -- The handles of what a client has open, and the states in which one of its descriptors changes.
 use Rattle.std.proofs.Common.{◌≡◌, ℕ, ◌<◌, true, List, Option, None, Some, refl, sym, ap, ◌∙◌, subst, is_some, length, option_map, arith}
-use Rattle.mount_calls.proofs.Words.{ChangesSlot, DESCRIPTORS_MAX, Directory, File, file_in, FileSource, Handle, handle_of, handles_of, IsLive, Layer, NodeId, OpenDirectory, OpenFile, SetsSlot, State, Tree, Upper, with_handle, with_place}
+use Rattle.mount_calls.proofs.Words.{ChangesSlot, DESCRIPTORS_MAX, Directory, File, file_in, FileSource, Handle, handle_of, handles_of, IsLive, Layer, Lower, NodeId, OpenDirectory, OpenFile, SetsSlot, State, Tree, Upper, with_handle, with_place}
+use Rattle.ov_base.specs.declared.source.Source.{Source}
 use Rattle.open_handles.specs.declared.handle.Handle as handles
 use Rattle.mount_calls.specs.declared.clients.Clients.{Clients}
 use Rattle.mount_calls.specs.declared.mount.Mount.{Mount}
 use Rattle.mount_calls.specs.Attaching.{opened_by, ChangesClient}
-use Rattle.mount_calls.specs.Files.{is_leaf, IsOf, IsFile, IsOpenOn}
+use Rattle.mount_calls.specs.Files.{is_leaf, IsOf, IsFile, IsOpenOn, SeesFile}
 use Rattle.mount_calls.specs.States.{IsHandle, IsSlot, IsStateOf}
 use Rattle.mount_calls.proofs.Serving.{opened-is, slot-closed, open-at, room-of, in-room, tables-set, placed, one-fewer, set-fewer}
 use Rattle.mount_calls.proofs.Stating.{the_lowers, the_upper, Alike, with-tables}
@@ -32,9 +33,32 @@ opened-after old new c d o h = opened-is new c d h.after h.is ∙ h.changes.here
 pub file-open : (o : Option handles.Handle) (f : OpenFile) → file_in o ≡ Some f → o ≡ Some (File f)
 file-open o f h = grind arith
 
+-- a handle on a file of the upper is on a live one
+pub upper-live : (U : Layer) (lowers : List Layer) (t : Tree) (x : FileSource) (low : Option Source) (h : Handle) (k : ℕ) → x ≡ Upper k → IsOf U lowers t x low h → IsLive U t h.node k × SeesFile lowers low h
+upper-live U lowers t (Upper j) low h k is of = let e : j ≡ k = cc in (subst (λ z. IsLive U t h.node z) e of.0, of.1)
+upper-live U lowers t (Lower i j) low h k is of = cc
+
+-- a handle that sees as another saw sees the same of a file of the upper
+sees-on : (lowers : List Layer) (low : Option Source) (h g : Handle) → g.view ≡ h.view → g.writes ≡ h.writes → SeesFile lowers low h → SeesFile lowers low g
+sees-on lowers None h g view writes s = view ∙ s
+sees-on lowers (Some d) h g view writes s = record { bytes = s.bytes; low = s.low; view = view ∙ s.view; reads_alone = writes ∙ s.reads_alone }
+
 -- a handle that sees as another saw, where live files stay so and files stay files, is of the inode that that was of
-pub of-on : (U V : Layer) (lowers : List Layer) (t u : Tree) (x : FileSource) (h g : Handle) → g.view ≡ h.view → g.writes ≡ h.writes → ((k : ℕ) → x ≡ Upper k → IsLive U t h.node k → IsLive V u g.node k) → (is_leaf (t h.node) ≡ true → is_leaf (u g.node) ≡ true) → IsOf U lowers t x h → IsOf V lowers u x g
-of-on U V lowers t u x h g view writes live leaf s = grind arith
+pub of-on : (U V : Layer) (lowers : List Layer) (t u : Tree) (x : FileSource) (low : Option Source) (h g : Handle) → g.view ≡ h.view → g.writes ≡ h.writes → ((k : ℕ) → x ≡ Upper k → IsLive U t h.node k → IsLive V u g.node k) → (is_leaf (t h.node) ≡ true → is_leaf (u g.node) ≡ true) → IsOf U lowers t x low h → IsOf V lowers u x low g
+of-on U V lowers t u (Upper k) low h g view writes live leaf s = (live k refl s.0, sees-on lowers low h g view writes s.1)
+of-on U V lowers t u (Lower j k) low h g view writes live leaf s = (
+  record {
+    bytes = s.0.bytes;
+    attributes = s.0.attributes;
+    links = s.0.links;
+    mark = s.0.mark;
+    inode = s.0.inode;
+    view = view ∙ s.0.view;
+    file = leaf s.0.file;
+    reads_alone = writes ∙ s.0.reads_alone;
+  },
+  s.1,
+)
 
 module _ (m : Mount) (s : State) (st : IsStateOf m s) where
   abbrev alike : handles.Handle → Handle → Type 0
@@ -42,7 +66,11 @@ module _ (m : Mount) (s : State) (st : IsStateOf m s) where
 
   -- a file of the upper that is open is live
   pub open-live : (k : ℕ) (d : NodeId) → IsOpenOn m.clients s.tables k d → IsLive (the_upper m) s.tree d k
-  open-live k d y = grind arith
+  open-live k d y =
+      let x = open-at alike m.clients s.tables st.tables y.client y.descriptor (File y.file) y.opened in
+      let same : x.0 ≡ y.handle = cc (x.1, y.on) in
+      let of = upper-live (the_upper m) (the_lowers m) s.tree y.file.source y.file.low x.0 k y.key x.2.source in
+      subst (λ z. IsLive (the_upper m) s.tree z k) (ap (λ (h : Handle). h.node) same ∙ y.at) of.0
 
   module _ (c d : ℕ) where
     -- the handle of an open file
@@ -63,9 +91,9 @@ module _ (m : Mount) (s : State) (st : IsStateOf m s) where
 
     module _ (h : Handle) (on : handle_of s.tables c d ≡ Some h) where
       -- a descriptor is set on both sides, alike, and to a file of the upper only where it led to the same
-      pub state-set : (new : Mount) → new.layers ≡ m.layers → new.redirects ≡ m.redirects → (o : Option handles.Handle) (x : Option Handle) → ChangesClient m.clients new.clients c (λ b y. SetsSlot b y d o) → ((f : OpenFile) (z : Handle) (k : ℕ) → o ≡ Some (File f) → x ≡ Some z → f.source ≡ Upper k → IsOpenOn m.clients s.tables k z.node) → IsSlot (Alike m.layers s new.clients) o x → IsStateOf new (record s { tables = with_handle s.tables c d x })
-      state-set new same option o x ch again like =
-          with-tables m s st new (with_handle s.tables c d x) same option ch.next
+      pub state-set : (new : Mount) → new.layers ≡ m.layers → new.redirects ≡ m.redirects → new.metacopy ≡ m.metacopy → (o : Option handles.Handle) (x : Option Handle) → ChangesClient m.clients new.clients c (λ b y. SetsSlot b y d o) → ((f : OpenFile) (z : Handle) (k : ℕ) → o ≡ Some (File f) → x ≡ Some z → f.source ≡ Upper k → IsOpenOn m.clients s.tables k z.node) → IsSlot (Alike m.layers s new.clients) o x → IsStateOf new (record s { tables = with_handle s.tables c d x })
+      state-set new same redirects metacopy o x ch again like =
+          with-tables m s st new (with_handle s.tables c d x) same redirects metacopy ch.next
           (tables-set alike m.clients s.tables st.tables new.clients (Alike m.layers s new.clients) c d o x ch inside
           (λ b i p z opens was is l. placed (the_upper m) (the_lowers m) s.tree m.clients.directories new.clients.directories p z (λ e q is_e at. ch.places b i e q (opens ∙ ap Some is_e) at) l)
           like)
@@ -80,10 +108,10 @@ module _ (m : Mount) (s : State) (st : IsStateOf m s) where
       -- the place of an open file moves
       pub place-moved : (f : OpenFile) → opened_by m.clients c d ≡ Some (File f) → (place : ℕ) (new : Clients) → ChangesClient m.clients new c (λ x y. ChangesSlot x y d (with_place place)) → IsStateOf (record m { clients = new }) (record s { tables = with_handle s.tables c d (Some (record h { place = place })) })
       place-moved f opens place new ch =
-          state-set (record m { clients = new }) refl refl (Some (File (record f { place = place }))) (Some moved)
+          state-set (record m { clients = new }) refl refl refl (Some (File (record f { place = place }))) (Some moved)
           (slot-becomes m.clients new c d (File f) (with_place place) opens ch)
           again
-          (record { source = of-on (the_upper m) (the_upper m) (the_lowers m) s.tree s.tree f.source h moved refl refl (λ k e live. live) (λ leaf. leaf) file.source; reads = file.reads; writes = file.writes; append = file.append; place = refl; unlisted = file.unlisted })
+          (record { source = of-on (the_upper m) (the_upper m) (the_lowers m) s.tree s.tree f.source f.low h moved refl refl (λ k e live. live) (λ leaf. leaf) file.source; own = file.own; reads = file.reads; writes = file.writes; append = file.append; place = refl; unlisted = file.unlisted })
         where
           moved : Handle
           moved = record h { place = place }

@@ -26,13 +26,13 @@ Alike l s clients = IsOpenAs (upper_of l) (lowers_of l) s.tree clients.directori
 
 module _ (m : Mount) (s : State) (st : IsStateOf m s) where
   -- the state with other tables, of a mount of the same layers
-  pub with-tables : (new : Mount) (ks : List Table) → new.layers ≡ m.layers → new.redirects ≡ m.redirects → new.clients.next ≡ m.clients.next → AreTables (Alike m.layers s new.clients) new.clients ks → AreOne new.clients ks → IsStateOf new (record s { tables = ks })
-  with-tables new ks same option next a one = grind arith
+  pub with-tables : (new : Mount) (ks : List Table) → new.layers ≡ m.layers → new.redirects ≡ m.redirects → new.metacopy ≡ m.metacopy → new.clients.next ≡ m.clients.next → AreTables (Alike m.layers s new.clients) new.clients ks → AreOne new.clients ks → IsStateOf new (record s { tables = ks })
+  with-tables new ks same redirects metacopy next a one = grind arith
 
   -- the same clients with the same descriptors
   pub keep-same : (new : Clients) → SameClients m.clients new → IsStateOf (record m { clients = new }) s
   keep-same new same =
-      with-tables (record m { clients = new }) s.tables refl refl same.next
+      with-tables (record m { clients = new }) s.tables refl refl refl same.next
       (tables-same (Alike m.layers s m.clients) m.clients s.tables st.tables new (Alike m.layers s new) same
       (λ c d o h on at is. placed (upper_of m.layers) (lowers_of m.layers) s.tree m.clients.directories new.directories o h (λ e l f. same.places c d e l (on ∙ ap Some f)) is))
       (one-fewer m.clients new s.tables s.tables

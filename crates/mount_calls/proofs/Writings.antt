@@ -1,19 +1,20 @@
 -- Writes and truncations of open files.
-use Rattle.std.proofs.Common.{arith, ◌≡◌, ◌≢◌, ℕ, ◌+◌, ◌-◌, true, false, min, not, ◌&&◌, List, [], ◌∷◌, Option, None, Some, Result, Ok, Err, refl, sym, ap, ◌∙◌, subst, is_none, is_some, length, nat_eq, nat_lt}
+use Rattle.std.proofs.Common.{arith, ◌≡◌, ◌≢◌, ℕ, ◌+◌, ◌-◌, Bool, true, false, cond, min, not, ◌&&◌, List, [], ◌∷◌, Option, None, Some, Result, Ok, Err, refl, sym, ap, ◌∙◌, subst, is_none, is_some, length, nat_eq, nat_lt}
 use Rattle.merged_lookup.specs.Merged.{upper_of}
-use Rattle.mount_calls.proofs.Words.{AllocError, bytes_at, change, ChangesSlot, eqb-true, Errno, false≢true, File, file_bytes, Handle, handle_of, Inode, IsLive, Layer, layer_of, Layers, Leaf, lowers_of, Node, NodeId, OnErr, OpenFile, option_and_then, or_else, over_node, Own, put, refusal, Reply, rewritten, sized, State, StaysLayers, StaysMount, Tree, Upper, when, with_bytes, with_handle, with_place}
+use Rattle.mount_calls.proofs.Words.{AllocError, change, ChangesSlot, eqb-true, Errno, false≢true, File, file_bytes, FileSource, Handle, handle_of, Inode, IsLive, Layer, layer_of, Layers, Leaf, Lower, lowers_of, Node, NodeId, OnErr, OpenFile, option_and_then, or_else, over_node, Own, put, refusal, Reply, rewritten, sized, State, StaysLayers, StaysMount, Tree, Upper, when, with_bytes, with_handle, with_place}
 use Rattle.std.proofs.lemmas.List.{length-take, nil_from_length}
 use Rattle.ov_base.specs.declared.bytes.Content.TheVariants as content
 use Rattle.ov_base.specs.declared.call.Call.TheVariants as call
 use Rattle.ov_base.specs.declared.errno.Errno.TheVariants as errno
 use Rattle.ov_base.specs.declared.reply.Reply.TheVariants as reply
+use Rattle.ov_base.specs.declared.source.Source.{Source}
 use Rattle.plain_model.specs.Layers.{IsLayer}
 use Rattle.plain_model.specs.Tree.{IsThin}
 use Rattle.plain_model.specs.Machine.{bytes_of_node}
 use Rattle.plain_model.specs.Refusals.{FILE_MAX, TRANSFER_MAX}
 use Rattle.plain_model.specs.Changes.{fitting, wrote}
 use Rattle.plain_model.proofs.Uppers.{agree-where, under-agree}
-use Rattle.layer_tree.specs.Tree.{SameObjects, SameTree, written}
+use Rattle.layer_tree.specs.Tree.{own_at, SameObjects, SameTree, written}
 use Rattle.layer_tree.specs.Tree.{Tree as LayerTree}
 use Rattle.mount_laws.specs.Descriptors.{TruncatesFile, WritesFile, resized, write_start}
 use Rattle.mount_laws.proofs.Descriptors.{law_of_directory_handle, law_of_truncate, law_of_unopened, law_of_write}
@@ -23,15 +24,15 @@ use Rattle.open_handles.specs.Places.{IsWritePlace, count_fitting}
 use Rattle.mount_calls.specs.declared.clients.Clients.{Clients}
 use Rattle.mount_calls.specs.declared.mount.Mount.{Mount}
 use Rattle.mount_calls.specs.Attaching.{file_by, opened_by, ChangesClient}
-use Rattle.mount_calls.specs.Files.{IsFile, IsOpenOn, bytes_of_inode, source_inode}
+use Rattle.mount_calls.specs.Files.{IsFile, IsOf, IsOpenOn, SeesFile, bytes_of_inode, seen_inode, source_inode}
 use Rattle.mount_calls.specs.Living.{SetsFile}
 use Rattle.mount_calls.specs.Opening.{truncate_fault, write_fault, written_key}
 use Rattle.mount_calls.specs.States.{IsStateOf, Serves}
 use Rattle.mount_calls.proofs.Answering.{serve-done, serve-refused}
 use Rattle.mount_calls.proofs.Rewritten.{state-rewritten}
-use Rattle.mount_calls.proofs.Slots.{file-open, by-opened, place-moved}
+use Rattle.mount_calls.proofs.Slots.{file-at, file-open, by-opened, place-moved, upper-live}
 use Rattle.mount_calls.proofs.Stating.{the_lowers, the_upper}
-use Rattle.mount_calls.proofs.Stored.{bytes-stored}
+use Rattle.mount_calls.proofs.Marks.{live-bare, live-own}
 
 -- where every path holds what it held, no whiteout is needless that was needed
 thin-held : (old new : Layers) → new.lowers ≡ old.lowers → SameObjects (upper_of old) (upper_of new) → StaysThin old new
@@ -64,7 +65,15 @@ upper-written l u new r is objects keeps same =
 
 -- a handle on an open file writes where that has a key to write to
 not-writing : (U : Layer) (lowers : List Layer) (t : Tree) (f : OpenFile) (h : Handle) → IsFile U lowers t f h → not h.writes ≡ is_none (written_key f)
-not-writing U lowers t f h x = grind arith
+not-writing U lowers t f h x = by f.source refl x.source
+  where
+    none-cond : (b : Bool) (k : ℕ) → not b ≡ is_none (cond b (Some k) None)
+    none-cond true k = refl
+    none-cond false k = refl
+
+    by : (y : FileSource) → f.source ≡ y → IsOf U lowers t y f.low h → not h.writes ≡ is_none (written_key f)
+    by (Upper k) e of = rw e (ap not x.writes ∙ none-cond f.writes k)
+    by (Lower j k) e of = rw e (ap not of.0.reads_alone)
 
 -- the last of three refusals, where none of the first two is there
 last-of : (a b x : Option Errno) → or_else a b ≡ None → or_else a (or_else b x) ≡ x
@@ -110,19 +119,46 @@ record IsWriting (m : Mount) (s : State) (c d : ℕ) (f : OpenFile) (h : Handle)
   key : ℕ
   source : f.source ≡ Upper key
   live : IsLive (upper_of m.layers) s.tree h.node key
+  bare : live.mark ≡ None
+  whole : f.low ≡ None
+
+-- a file to write to is of the upper
+to-upper : (f : OpenFile) → is_none (written_key f) ≡ false → (key : ℕ) × (f.source ≡ Upper key) × (f.writes ≡ true)
+to-upper f h = grind arith
+
+-- who writes keeps no bytes
+none-kept : (lowers : List Layer) (low : Option Source) (h : Handle) → SeesFile lowers low h → h.writes ≡ true → low ≡ None
+none-kept lowers None h sees on = refl
+none-kept lowers (Some d) h sees on = absurd (false≢true (sym sees.reads_alone ∙ on))
 
 module _ (m : Mount) (s : State) (st : IsStateOf m s) (c d : ℕ) where
   -- a file that has a key to write to is of the upper, and live
   writing : (f : OpenFile) → opened_by m.clients c d ≡ Some (File f) → is_none (written_key f) ≡ false → (h : Handle) × IsWriting m s c d f h
-  writing f e some = grind arith
+  writing f e some =
+      let x = file-at m s st c d f e in
+      let k = to-upper f some in
+      let may : x.0.writes ≡ true = x.2.writes ∙ k.2 in
+      let of = upper-live (the_upper m) (the_lowers m) s.tree f.source f.low x.0 k.0 k.1 x.2.source in (
+        x.0,
+        record {
+          opened = e;
+          on = x.1;
+          file = x.2;
+          key = k.0;
+          source = k.1;
+          live = of.0;
+          bare = live-bare (the_upper m) s.tree x.0.node k.0 of.0 (x.2.own may);
+          whole = none-kept (the_lowers m) f.low x.0 of.1 may;
+        },
+      )
 
   -- by it the file is open on its node
   open-on : (f : OpenFile) (h : Handle) (w : IsWriting m s c d f h) → IsOpenOn m.clients s.tables w.key h.node
   open-on f h w = record { client = c; descriptor = d; file = f; handle = h; opened = w.opened; key = w.source; on = w.on; at = refl }
 
   -- the upper has these bytes of it
-  bytes-there : (f : OpenFile) (h : Handle) (w : IsWriting m s c d f h) → bytes_at m.layers.upper w.key ≡ Some w.live.bytes
-  bytes-there f h w = bytes-stored m.layers w.key _ w.live.inode
+  bytes-there : (f : OpenFile) (h : Handle) (w : IsWriting m s c d f h) → own_at m.layers.upper w.key ≡ Some w.live.bytes
+  bytes-there f h w = live-own m.layers s.tree h.node w.key w.live w.bare
 
   module _ (size : ℕ) where
     -- the truncation is answered so, by a mount that becomes this
@@ -142,7 +178,7 @@ module _ (m : Mount) (s : State) (st : IsStateOf m s) (c d : ℕ) where
     truncate-refused e h = serve-refused _ s c _ e m (truncate-refusal ∙ h) st
 
     -- else the file gets the size
-    pub truncate-done : (f : OpenFile) → file_by m.clients c d ≡ Some f → truncate_fault (opened_by m.clients c d) size ≡ None → (new : Layers) → StaysLayers m.layers new → ((k : ℕ) (old : List ℕ) → f.source ≡ Upper k → bytes_at m.layers.upper k ≡ Some old → SetsFile m.layers new k (sized old size)) → Truncates reply.Done (record m { layers = new })
+    pub truncate-done : (f : OpenFile) → file_by m.clients c d ≡ Some f → truncate_fault (opened_by m.clients c d) size ≡ None → (new : Layers) → StaysLayers m.layers new → ((k : ℕ) (old : List ℕ) → f.source ≡ Upper k → own_at m.layers.upper k ≡ Some old → SetsFile m.layers new k (sized old size)) → Truncates reply.Done (record m { layers = new })
     truncate-done f is good new keeps sets =
         serve-done _ s c _ _ (record m { layers = new }) (truncate-refusal ∙ good) (sym (law.answer size))
         (subst (IsStateOf (record m { layers = new })) (ap (λ (t : Tree). record s { tree = t }) (sym same) ∙ sym (law.state size))
@@ -216,11 +252,11 @@ module _ (m : Mount) (s : State) (st : IsStateOf m s) (c d : ℕ) where
       write-nothing empty = grind (arith, nil_from_length, eqb-true, serve-done, write-refusal, none-fits)
 
       -- where a write begins in a file of these bytes
-      module _ (held : List ℕ) (reads : (i : Inode) → source_inode (the_upper m) (the_lowers m) f.source ≡ Some i → held ≡ bytes_of_inode i) (start : ℕ) (begins : IsWritePlace f (length held) start) where
+      module _ (held : List ℕ) (reads : (i : Inode) → seen_inode (the_upper m) (the_lowers m) f.source f.low ≡ Some i → held ≡ bytes_of_inode i) (start : ℕ) (begins : IsWritePlace f (length held) start) where
         -- the machine's begins there too
         begin : start ≡ write_start s h
         begin =
-            let inode : source_inode (the_upper m) (the_lowers m) f.source ≡ Some (record { content = content.File w.live.bytes; attributes = w.live.attributes; links = w.live.links; mark = w.live.mark }) = ap (source_inode (the_upper m) (the_lowers m)) w.source ∙ w.live.inode in
+            let inode : seen_inode (the_upper m) (the_lowers m) f.source f.low ≡ Some (record { content = content.File w.live.bytes; attributes = w.live.attributes; links = w.live.links; mark = w.live.mark }) = ap (seen_inode (the_upper m) (the_lowers m) f.source) w.whole ∙ ap (source_inode (the_upper m) (the_lowers m)) w.source ∙ w.live.inode in
             begins s.tree h w.file.append w.file.place (ap (λ o. length (bytes_of_node o)) w.live.node ∙ sym (ap length (reads _ inode)))
 
         -- so the place is refused alike
@@ -232,7 +268,7 @@ module _ (m : Mount) (s : State) (st : IsStateOf m s) (c d : ℕ) where
         write-unfitting e none = serve-refused _ s c _ e m (placed-refusal ∙ unfitting (length bytes) start e none) st
 
         -- else what fits is written, and the handle's place is after it
-        pub write-done : nat_eq (length bytes) 0 ≡ false → (count : ℕ) → count_fitting start (length bytes) ≡ Ok count → (given : List ℕ) → given ≡ fitting start bytes → (new : Layers) → StaysLayers m.layers new → ((k : ℕ) (old : List ℕ) → f.source ≡ Upper k → bytes_at m.layers.upper k ≡ Some old → SetsFile m.layers new k (written old start given)) → (clients : Clients) → ChangesClient m.clients clients c (λ x y. ChangesSlot x y d (with_place (start + count))) → Writes (reply.Written count) (record m { layers = new; clients = clients })
+        pub write-done : nat_eq (length bytes) 0 ≡ false → (count : ℕ) → count_fitting start (length bytes) ≡ Ok count → (given : List ℕ) → given ≡ fitting start bytes → (new : Layers) → StaysLayers m.layers new → ((k : ℕ) (old : List ℕ) → f.source ≡ Upper k → own_at m.layers.upper k ≡ Some old → SetsFile m.layers new k (written old start given)) → (clients : Clients) → ChangesClient m.clients clients c (λ x y. ChangesSlot x y d (with_place (start + count))) → Writes (reply.Written count) (record m { layers = new; clients = clients })
         write-done full count fit given fitted new keeps sets clients moves =
             serve-done _ s c _ _ (record m { layers = new; clients = clients })
             (placed-refusal ∙ (fits (length bytes) start count fit).0)

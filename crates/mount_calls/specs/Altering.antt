@@ -1,5 +1,5 @@
 -- What the calls on attributes read at a path, and what those that change them leave of the layers of a mount.
-use Rattle.std.specs.Prelude.{◌≡◌, ℕ, false, List, Option, None, Some, Result, Ok, Err, MatchResult, IfOk, IfErr, OnOk, OnErr}
+use Rattle.std.specs.Prelude.{◌≡◌, ℕ, Bool, false, List, Option, None, Some, Result, Ok, Err, MatchResult, IfOk, IfErr, OnOk, OnErr}
 use Rattle.std.specs.Borrow.{Bor}
 use Rattle.std.specs.declared.alloc.AllocError.{AllocError}
 use Rattle.ov_base.specs.declared.attributes.Attributes.{Attributes}
@@ -32,24 +32,25 @@ pub record ShowsAttributes (Ls : List Layer) (p : Path) (a : Attributes) : Type 
   pub allowed : chown_fault Ls p ≡ None
   pub shown : shown_attributes (shows 0 Ls p) ≡ Some a
 
--- each state that the mount stood for is altered as the call alters it, and the mount stands for the altered one
-abbrev pub AltersStates : Layers → Layers → Path → Call → Type 0
-AltersStates old new p k = (s : State) → IsMountOf (upper_of old) (lowers_of old) s → s.options.metacopy ≡ false → (c : ℕ) → AltersState (upper_of new) (lowers_of new) s c p k
+-- each state with this option that the mount stood for is altered as the call alters it, and the mount stands for the altered one
+abbrev pub AltersStates : Layers → Layers → Bool → Path → Call → Type 0
+AltersStates old new metacopy p k =
+    (s : State) → IsMountOf (upper_of old) (lowers_of old) s → s.options.metacopy ≡ metacopy → (c : ℕ) → AltersState (upper_of new) (lowers_of new) s c p k
 
 -- A call that changes attributes at a path is refused with its fault, where there is one, and
--- changes nothing then; else each state is altered as the call alters it, and the key is that under
+-- changes nothing then; else each state with this option is altered as the call alters it, and the key is that under
 -- which the upper has what the path shows. Files that are open stay live. An allocation failure
 -- leaves all that is shown, and no call changes a lower layer, nor what the upper holds around the
 -- path, but for missing parents of it that it gains.
-pub record AltersUnless (x : AttributeCall) (old new : Layers) (p : Path) (result : Result (Result ℕ Errno) AllocError) : Type 0 where
+pub record AltersUnless (x : AttributeCall) (old new : Layers) (metacopy : Bool) (p : Path) (result : Result (Result ℕ Errno) AllocError) : Type 0 where
   pub refused : IfOk result (λ r. IfErr r (λ e. asked_fault (layers_of old) p x ≡ Some e))
   pub unchanged : IfOk result (λ r. OnErr r (new ≡ old))
   pub allowed : IfOk result (λ r. OnOk r (asked_fault (layers_of old) p x ≡ None))
-  pub alters : IfOk result (λ r. OnOk r (AltersStates old new p (call_at p x)))
+  pub alters : IfOk result (λ r. OnOk r (AltersStates old new metacopy p (call_at p x)))
   pub key : IfOk result (λ r. IfOk r (λ k. number_of (held (layer_of new.upper) p) ≡ Some k))
   pub lowers : new.lowers ≡ old.lowers
   pub around : KeepsAround old new p
-  pub live : IfOk result (λ r. OnOk r (KeepsLive old new (call_at p x)))
+  pub live : IfOk result (λ r. OnOk r (KeepsLive old new metacopy (call_at p x)))
   pub no_memory : OnErr result (ChangesNoSight old new (StaysLive old new))
   pub sound : StaysSound old new
 

@@ -1,15 +1,21 @@
--- What a handle on a file is of: an inode of the upper, which it sees as it comes to be, or one of a lower layer, as it was when it was
--- opened for reading alone (overlayfs.rst, "Non-standard behavior").
-use Rattle.std.specs.Prelude.{◌≡◌, ◌↔◌, ℕ, Bool, true, false, cond, nat_eq, List, [], Option, None, Some, ◌<◌}
+-- What a handle on a file is of: an inode of the upper, which it sees as it comes to be, but for the bytes of a lower file that it may
+-- keep, or one of a lower layer, as it was when it was opened for reading alone (overlayfs.rst, "Non-standard behavior").
+use Rattle.std.specs.Prelude.{◌≡◌, ◌↔◌, ℕ, Bool, true, false, cond, nat_eq, nat_lt, ◌||◌, List, [], Option, None, Some, option_map, unwrap_or, ◌<◌}
 use Rattle.ov_base.specs.declared.attributes.Attributes.{Attributes}
 use Rattle.ov_base.specs.declared.bytes.Content.TheVariants as content
 use Rattle.ov_base.specs.declared.call.OpenFlags.{OpenFlags}
 use Rattle.ov_base.specs.declared.node_id.NodeId.{NodeId}
-use Rattle.plain_model.specs.Layers.{Path, Inode, Layer}
-use Rattle.plain_model.specs.Tree.{Node, Leaf, Tree}
-use Rattle.plain_model.specs.Machine.{Live, Frozen, Handle, Table, handle_of}
+use Rattle.ov_base.specs.declared.source.Source.{Source}
+use Rattle.layer_tree.specs.Tree.{mark_at}
+use Rattle.plain_model.specs.Layers.{Path, Inode, Layer, shows}
+use Rattle.plain_model.specs.Tree.{Node, Leaf, Tree, is_data_low}
+use Rattle.plain_model.specs.Machine.{Live, Frozen, Kept, Handle, Table, handle_of}
+use Rattle.merged_lookup.specs.declared.layers.Layers.{Layers}
 use Rattle.merged_lookup.specs.declared.stack.Place.{Place}
 pub use Rattle.merged_lookup.specs.Lower.{lower_inode}
+use Rattle.merged_lookup.specs.Lower.{lower_bytes}
+use Rattle.merged_lookup.specs.Marking.{file_place}
+use Rattle.merged_lookup.specs.Merged.{lowers_of}
 use Rattle.mount_laws.specs.OpenFiles.{IsLive}
 use Rattle.open_handles.specs.declared.handle.Handle.TheVariants.{File}
 use Rattle.open_handles.specs.declared.open_file.FileSource.{FileSource}
@@ -28,6 +34,23 @@ abbrev pub source_inode : Layer → List Layer → FileSource → Option Inode
 source_inode U lowers (Upper k) = U.inodes k
 source_inode U lowers (Lower layer k) = lower_inode lowers layer k
 
+-- where a lower file is
+abbrev pub low_place : Source → Place
+low_place d = record { layer = d.layer; key = d.key }
+
+-- an inode as of a file of these bytes
+abbrev pub with_file : List ℕ → Inode → Inode
+with_file bytes i = record i { content = content.File bytes }
+
+-- the inode of an open file with the bytes that it keeps
+abbrev pub with_kept : List Layer → Option Source → Option Inode → Option Inode
+with_kept lowers None o = o
+with_kept lowers (Some d) o = option_map (with_file (unwrap_or (lower_bytes lowers (low_place d)) [])) o
+
+-- the inode that an open file is, as it sees it
+abbrev pub seen_inode : Layer → List Layer → FileSource → Option Source → Option Inode
+seen_inode U lowers source low = with_kept lowers low (source_inode U lowers source)
+
 -- whether a node is a file or a symbolic link
 abbrev pub is_leaf : Option Node → Bool
 is_leaf (Some (Leaf content a u l)) = true
@@ -45,14 +68,27 @@ pub record IsFrozen (lowers : List Layer) (t : Tree) (layer k : ℕ) (h : Handle
   pub file : is_leaf (t h.node) ≡ true
   pub reads_alone : h.writes ≡ false
 
--- a handle is of the inode that an open file is
-abbrev pub IsOf : Layer → List Layer → Tree → FileSource → Handle → Type 0
-IsOf U lowers t (Upper k) h = IsLive U t h.node k × (h.view ≡ Live)
-IsOf U lowers t (Lower layer k) h = IsFrozen lowers t layer k h
+-- A handle for reading alone keeps the bytes of a lower file: those that a marked file of the upper had as it was opened.
+pub record KeepsBytes (lowers : List Layer) (d : Source) (h : Handle) : Type 0 where
+  pub bytes : List ℕ
+  pub low : lower_bytes lowers (low_place d) ≡ Some bytes
+  pub view : h.view ≡ Kept bytes
+  pub reads_alone : h.writes ≡ false
+
+-- what a handle sees of a file of the upper: all as it comes to be, or but for the bytes that it keeps
+abbrev pub SeesFile : List Layer → Option Source → Handle → Type 0
+SeesFile lowers None h = h.view ≡ Live
+SeesFile lowers (Some d) h = KeepsBytes lowers d h
+
+-- a handle is of the inode that an open file is, with the bytes that it keeps
+abbrev pub IsOf : Layer → List Layer → Tree → FileSource → Option Source → Handle → Type 0
+IsOf U lowers t (Upper k) low h = IsLive U t h.node k × SeesFile lowers low h
+IsOf U lowers t (Lower layer k) low h = IsFrozen lowers t layer k h × (low ≡ None)
 
 -- a handle on an open file, with its access and its place
 pub record IsFile (U : Layer) (lowers : List Layer) (t : Tree) (f : OpenFile) (h : Handle) : Type 0 where
-  pub source : IsOf U lowers t f.source h
+  pub source : IsOf U lowers t f.source f.low h
+  pub own : h.writes ≡ true → is_data_low (t h.node) ≡ false
   pub reads : h.reads ≡ f.reads
   pub writes : h.writes ≡ f.writes
   pub append : h.append ≡ f.append
@@ -86,9 +122,23 @@ abbrev pub source_place : FileSource → Place
 source_place (Upper k) = record { layer = 0; key = k }
 source_place (Lower layer k) = record { layer = layer; key = k }
 
--- a file that is opened with these flags, where it is shown at this place
-abbrev pub file_at : Place → OpenFlags → OpenFile
-file_at d f = record { source = source_at d; reads = f.reads; writes = f.writes; append = f.append; place = 0 }
+-- a file that is opened with these flags, where it is shown at this place, with the bytes that it keeps
+abbrev pub file_at : Place → OpenFlags → Option Source → OpenFile
+file_at d f low = record { source = source_at d; low = low; reads = f.reads; writes = f.writes; append = f.append; place = 0 }
+
+-- the place of the file that the lower layers show at a mark
+abbrev pub place_below : List Layer → Option Path → Option Place
+place_below lowers None = None
+place_below lowers (Some q) = file_place (shows 1 lowers q)
+
+-- the mark of what is opened at a place for reading alone; who writes keeps no bytes, and of a lower layer's file the handle keeps all
+abbrev pub read_mark : Layers → Place → Bool → Option Path
+read_mark l d writes = cond (writes || nat_lt 0 d.layer) None (mark_at l.upper d.key)
+
+-- of a file with a mark the lower file that is shown there is kept, and else none
+abbrev pub IsKept : List Layer → Option Path → Option Source → Type 0
+IsKept lowers None low = low ≡ None
+IsKept lowers (Some q) low = (d : Source) × (low ≡ Some d) × (file_place (shows 1 lowers q) ≡ Some (low_place d))
 
 -- a client has the upper's file of this key open
 pub record HasFile (clients : Clients) (k : ℕ) : Type 0 where

@@ -1,7 +1,7 @@
 -- What a call lacks in the upper before it can be made there: a directory on the way to a path that
 -- it changes, and then the bytes of a file of a lower layer (overlayfs.rst, "Non-directories": a
 -- file is copied up as it is first changed, and its parents with it).
-use Rattle.std.specs.Prelude.{◌≡◌, ◌↔◌, ℕ, nat_lt, ◌≤◌, Bool, true, false, ◌||◌, ◌&&◌, cond}
+use Rattle.std.specs.Prelude.{◌≡◌, ◌↔◌, ℕ, zero, nat_lt, ◌≤◌, Bool, true, false, ◌||◌, ◌&&◌, cond}
 use Rattle.std.specs.Prelude.{List, [], ◌∷◌, length, All, Option, None, Some, is_none, unwrap_or}
 use Rattle.std.specs.Prelude.{option_map, Result, IfErr, IfOk, OnOk}
 use Rattle.std.specs.Option.{option_or}
@@ -16,6 +16,7 @@ use Rattle.plain_model.specs.Machine.{State}
 use Rattle.plain_model.specs.Refusals.{refusal}
 use Rattle.layer_tree.specs.Tree.{layer_of}
 use Rattle.merged_lookup.specs.declared.layers.Layers.{Layers}
+use Rattle.merged_lookup.specs.declared.stack.Place.{Place}
 use Rattle.merged_lookup.specs.Lower.{lower_bytes}
 use Rattle.merged_lookup.specs.Merged.{upper_of, layers_of, lowers_of, parent, parents_fault}
 use Rattle.mount_laws.specs.Renaming.{is_one}
@@ -25,8 +26,9 @@ use Rattle.copy_up.specs.Needs.{IsNeed}
 use Rattle.work_dir.specs.declared.limits.TheConstants.{FILE_MAX}
 use Rattle.work_dir.specs.declared.next.Lack.{Lack}
 use Rattle.work_dir.specs.declared.next.Lack.TheVariants as lacks
-use Rattle.work_dir.specs.declared.source.Source.{Source}
+use Rattle.ov_base.specs.declared.source.Source.{Source}
 use Rattle.mount_calls.specs.declared.mount.Mount.{Mount}
+use Rattle.mount_calls.specs.Files.{place_below}
 use Rattle.mount_calls.specs.States.{IsStateOf}
 
 -- the first directory on the way to this path, itself the last, that the upper doesn't hold, by its
@@ -93,18 +95,37 @@ low_file (Some (Contents layer key (Some i))) =
     cond (nat_lt 0 layer) (source_of layer key i.content) None
 low_file _ = None
 
--- where the bytes are that a call copies up: of a file that it changes, opens for writing, links or
--- moves
-abbrev pub data_place : Layer → List Layer → Call → Option Source
-data_place U lowers (call.Chmod p mode) = low_file (shows 0 (U ∷ lowers) p)
-data_place U lowers (call.Chown p uid gid) = low_file (shows 0 (U ∷ lowers) p)
-data_place U lowers (call.SetAttribute p n v) = low_file (shows 0 (U ∷ lowers) p)
-data_place U lowers (call.DeleteAttribute p n) = low_file (shows 0 (U ∷ lowers) p)
-data_place U lowers (call.Open p f mode) = cond f.writes (low_file (shows 0 (U ∷ lowers) p)) None
-data_place U lowers (call.Hardlink old new) = low_file (shows 0 (U ∷ lowers) old)
-data_place U lowers (call.Rename old new) =
-    cond (is_one U old new) None (low_file (shows 0 (U ∷ lowers) old))
-data_place U lowers _ = None
+-- what stands at a place of a lower layer
+abbrev pub source_in : Place → Source
+source_in d = record { layer = d.layer; key = d.key }
+
+-- where the lower file is whose bytes a marked file shows
+abbrev pub marked_file : List Layer → Option Path → Option Source
+marked_file lowers m = option_map source_in (place_below lowers m)
+
+-- where the bytes are of a file that is shown, if they are a lower file's: its own, or those that a
+-- marked file of the upper shows
+abbrev pub data_at : List Layer → Option Shown → Option Source
+data_at lowers (Some (Contents zero key (Some i))) = marked_file lowers i.mark
+data_at lowers s = low_file s
+
+-- where the bytes are that a change of attributes or names copies up: those of a lower file that is
+-- shown, and none where files are copied up without them
+abbrev pub copied_file : Bool → Option Shown → Option Source
+copied_file metacopy s = cond metacopy None (low_file s)
+
+-- where the bytes are that a call copies up: of a file that it changes, links or moves, and of one
+-- that it opens for writing, marked or not
+abbrev pub data_place : Layer → List Layer → Bool → Call → Option Source
+data_place U lowers metacopy (call.Chmod p mode) = copied_file metacopy (shows 0 (U ∷ lowers) p)
+data_place U lowers metacopy (call.Chown p uid gid) = copied_file metacopy (shows 0 (U ∷ lowers) p)
+data_place U lowers metacopy (call.SetAttribute p n v) = copied_file metacopy (shows 0 (U ∷ lowers) p)
+data_place U lowers metacopy (call.DeleteAttribute p n) = copied_file metacopy (shows 0 (U ∷ lowers) p)
+data_place U lowers metacopy (call.Open p f mode) = cond f.writes (data_at lowers (shows 0 (U ∷ lowers) p)) None
+data_place U lowers metacopy (call.Hardlink old new) = copied_file metacopy (shows 0 (U ∷ lowers) old)
+data_place U lowers metacopy (call.Rename old new) =
+    cond (is_one U old new) None (copied_file metacopy (shows 0 (U ∷ lowers) old))
+data_place U lowers metacopy _ = None
 
 -- a file's bytes, where some are lacking
 abbrev pub file_lack : Option Source → Lack
@@ -124,14 +145,15 @@ lack_among U second (p ∷ ps) d =
     parent_lack second (lacking U p) (lack_among U true ps d)
 
 -- WHAT A CALL LACKS
-abbrev pub lack_of : Layer → List Layer → Call → Lack
-lack_of U lowers k = lack_among U false (changed_paths U lowers k) (data_place U lowers k)
+abbrev pub lack_of : Layer → List Layer → Bool → Call → Lack
+lack_of U lowers metacopy k =
+    lack_among U false (changed_paths U lowers k) (data_place U lowers metacopy k)
 
--- the upper has the parents of a path, and what is shown there is no file of a lower layer, so that
--- nothing is lacking
+-- the upper has the parents of a path, and what is shown there is no file whose bytes are a lower
+-- layer's, so that nothing is lacking
 pub record HasAllAt (l : Layers) (p : Path) : Type 0 where
   pub parents : lacking (layer_of l.upper) p ≡ None
-  pub own : low_file (shows 0 (layers_of l) p) ≡ None
+  pub own : data_at (lowers_of l) (shows 0 (layers_of l) p) ≡ None
 
 -- the upper has all that is lacking for the first of these paths, and the parents of a second one
 abbrev pub HasAllOf : Layers → List Path → Type 0
@@ -186,5 +208,5 @@ CanBeHad m k (lacks.File d) =
 pub record TellsLack (m : Mount) (c : ℕ) (k : Call) (r : Result Lack Errno) : Type 0 where
   pub refused : IfErr r (λ e. (s : State) → IsStateOf m s → refusal s c k ≡ Some e)
   pub allowed : OnOk r ((s : State) → IsStateOf m s → refusal s c k ≡ None)
-  pub lack : IfOk r (λ l. l ≡ lack_of (upper_of m.layers) (lowers_of m.layers) k)
+  pub lack : IfOk r (λ l. l ≡ lack_of (upper_of m.layers) (lowers_of m.layers) m.metacopy k)
   pub can : IfOk r (CanBeHad m k)

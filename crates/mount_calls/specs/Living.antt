@@ -1,6 +1,6 @@
 -- What changes of the layers leave of open files: those of the upper stay live (POSIX.1-2017, unlink() and close(): a file without a name
 -- is there until its last descriptor is closed).
-use Rattle.std.specs.Prelude.{◌≡◌, ℕ, ◌<◌, false, true, Some, List}
+use Rattle.std.specs.Prelude.{◌≡◌, ℕ, ◌<◌, Bool, true, Some, List}
 use Rattle.ov_base.specs.declared.bytes.Content.TheVariants as content
 use Rattle.ov_base.specs.declared.call.Call.{Call}
 use Rattle.ov_base.specs.declared.node_id.NodeId.{NodeId}
@@ -21,10 +21,10 @@ use Rattle.mount_calls.specs.declared.clients.Clients.{Clients}
 abbrev pub StaysLive : Layers → Layers → Type 0
 StaysLive old new = (t : Tree) (d : NodeId) (k : ℕ) → IsLive (upper_of old) t d k → IsLive (upper_of new) t d k
 
--- and through a call of the machine
-abbrev pub KeepsLive : Layers → Layers → Call → Type 0
-KeepsLive old new call =
-    (s : State) → IsMountOf (upper_of old) (lowers_of old) s → s.options.metacopy ≡ false → (c : ℕ) (d : NodeId) (k : ℕ) →
+-- and through a call of the machine on a mount with this option
+abbrev pub KeepsLive : Layers → Layers → Bool → Call → Type 0
+KeepsLive old new metacopy call =
+    (s : State) → IsMountOf (upper_of old) (lowers_of old) s → s.options.metacopy ≡ metacopy → (c : ℕ) (d : NodeId) (k : ℕ) →
     IsLive (upper_of old) s.tree d k → IsLive (upper_of new) (after s c call).tree d k
 
 -- a live file that a handle holds stays so in each tree

@@ -37,22 +37,22 @@ RefusesRenames l redirects p q e =
     (s : State) → IsMountOf (upper_of l) (lowers_of l) s → s.options.redirects ≡ redirects →
     (c : ℕ) → refusal s c (call.Rename p q) ≡ Some e
 
--- What p shows moves to q, in which no name was shown: every state with this option goes on so by rename, and of the upper's files what
+-- What p shows moves to q, in which no name was shown: every state with these options goes on so by rename, and of the upper's files what
 -- handles hold stays live, and what has a name then.
-pub record RenamesHeld (clients : Clients) (old new : Layers) (redirects : Bool) (p q : Path) : Type 0 where
+pub record RenamesHeld (clients : Clients) (old new : Layers) (redirects metacopy : Bool) (p q : Path) : Type 0 where
   pub apart : is_one (layer_of old.upper) p q ≡ false
   pub bare : ShowsNoName (layers_of old) q
-  pub steps : RenameSteps old new redirects p q
+  pub steps : RenameSteps old new redirects metacopy p q
   pub live :
       (s : State) → IsMountOf (upper_of old) (lowers_of old) s → s.options.redirects ≡ redirects →
-      s.options.metacopy ≡ false → (c : ℕ) →
+      s.options.metacopy ≡ metacopy → (c : ℕ) →
       KeepsHeldFrom s c clients old new (call.Rename p q)
   pub named :
       (s : State) → IsMountOf (upper_of old) (lowers_of old) s → s.options.redirects ≡ redirects →
-      s.options.metacopy ≡ false → (c : ℕ) →
+      s.options.metacopy ≡ metacopy → (c : ℕ) →
       KeepsNamed s c old new (call.Rename p q)
 
 -- the object moved, or both paths were one object and nothing changed
-abbrev pub MovesOrStays : Bool → Clients → Layers → Layers → Bool → Path → Path → Type 0
-MovesOrStays true clients old new redirects p q = RenamesHeld clients old new redirects p q
-MovesOrStays false clients old new redirects p q = (is_one (layer_of old.upper) p q ≡ true) × (new ≡ old)
+abbrev pub MovesOrStays : Bool → Clients → Layers → Layers → Bool → Bool → Path → Path → Type 0
+MovesOrStays true clients old new redirects metacopy p q = RenamesHeld clients old new redirects metacopy p q
+MovesOrStays false clients old new redirects metacopy p q = (is_one (layer_of old.upper) p q ≡ true) × (new ≡ old)

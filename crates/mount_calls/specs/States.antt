@@ -80,7 +80,7 @@ pub record IsStateOf (m : Mount) (s : State) : Type 0 where
   pub one : AreOne m.clients s.tables
   pub arrived : m.clients.next ≡ s.arrived
   pub redirects : s.options.redirects ≡ m.redirects
-  pub metacopy : s.options.metacopy ≡ false
+  pub metacopy : s.options.metacopy ≡ m.metacopy
 
 -- some state is one that the mount stands for
 abbrev pub HasStateOf : Mount → Type 0
@@ -115,3 +115,4 @@ pub record Pages (old new : Mount) (c d count : ℕ) (given : List Name) : Type 
   pub changes : ChangesClient old.clients new.clients c (λ before after. SetsSlot before after d (Some (Directory (record directory { listing = Some (drop count left) }))))
   pub layers : new.layers ≡ old.layers
   pub redirects : new.redirects ≡ old.redirects
+  pub metacopy : new.metacopy ≡ old.metacopy

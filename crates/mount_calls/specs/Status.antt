@@ -29,6 +29,11 @@ abbrev pub content_bytes : Content → List ℕ
 content_bytes (content.File bytes) = bytes
 content_bytes (content.SymbolicLink target) = target
 
+-- the target of a symbolic link; a file has none
+abbrev pub content_target : Content → Option (List ℕ)
+content_target (content.File bytes) = None
+content_target (content.SymbolicLink target) = Some target
+
 -- what stat shows of a file or symbolic link with these attributes
 abbrev pub stat_of_content : Content → Attributes → ℕ → Stat
 stat_of_content c a links = stat_with (content_kind c) a (length (content_bytes c)) (min links 4294967295)

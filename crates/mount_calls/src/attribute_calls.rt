@@ -32,7 +32,14 @@ impl Mount {
             number_of (held (layer_of self.new.layers.upper) path.now) ≡ Some key)) }
         ensures clients { self.new.clients ≡ self.old.clients }
     {
-        alter_seen(&mut self.layers, path, look, &call)
+        alter_seen(
+            self.alloc,
+            &mut self.layers,
+            path,
+            look,
+            &call,
+            self.metacopy,
+        )
     }
 
     /// The value of a user attribute of what stands at a path.

@@ -16,7 +16,7 @@ use crate::user_attributes::{has_no_room, is_unset, name_fault, value_fault};
 use copy_up::alter;
 use merged_lookup::{Layers, Stack, Topmost};
 use ov_base::{AttributeChange, AttributeName, Bytes, Errno, Mode, Path, UserAttributes};
-use std::alloc::AllocError;
+use std::alloc::{AllocError, Global};
 
 /// A change of attributes that a client asks for, of what stands at a path.
 #[derive(Clone, Copy)]
@@ -73,15 +73,17 @@ impl<'a> AttributeCall<'a> {
 }
 
 /// Makes a call on the attributes of what was seen at a path, and gives the key under which that
-/// stands in the upper then.
+/// stands in the upper then. With `metacopy` a file is copied up without its bytes.
 pub(crate) fn alter_seen(
+    alloc: Global,
     layers: &mut Layers,
     path: &Path,
     look: &Look,
     call: &AttributeCall,
+    metacopy: bool,
 ) -> Result<Result<usize, Errno>, AllocError>
     requires { IsLook layers.old path.now look.now }
-    ensures { AltersUnless call.now layers.old layers.new path.now result }
+    ensures { AltersUnless call.now layers.old layers.new metacopy path.now result }
 {
     let (directory, top) = match judged(layers, look, call) {
         Ok(target) => target,
@@ -89,7 +91,7 @@ pub(crate) fn alter_seen(
     };
     let change = call.change()?;
     layers.lawful();
-    let key = alter(layers, path, directory, top, change)?;
+    let key = alter(alloc, layers, path, directory, top, change, metacopy)?;
     Ok(Ok(key))
 }
 

@@ -6,7 +6,7 @@ ghost use Rattle.std.specs.Ordering.{nat_cmp};
 ghost use Rattle.open_handles.specs.Opened.{At, opened, holders, attributes_in, NoneBelow};
 ghost use Rattle.open_handles.specs.Renames.{IsReady, IsSettled};
 ghost use Rattle.plain_model.specs.Laws.{IsOutside};
-ghost use Rattle.open_handles.specs.FileHolders.{file_holders};
+ghost use Rattle.open_handles.specs.FileHolders.{file_holders, HOLDERS_MAX};
 ghost use Rattle.mount_calls.specs.Held.{handles_below, files_below};
 
 use crate::closing::{close_file, close_handle, hold_file};
@@ -211,11 +211,12 @@ impl Clients {
         Ok(())
     }
 
-    /// Opens a file that no handle holds yet under the lowest free descriptor of a client, for which
-    /// there is room.
+    /// Opens a file under the lowest free descriptor of a client, for which there is room. No more
+    /// handles hold it than leaves one to be counted.
     pub fn open_reserved(&mut self, client: u64, descriptor: u32, file: OpenFile)
         requires room { HasFileRoom self.old client descriptor }
-        requires fresh { (k : ℕ) → file.source ≡ sources.Upper k → file_holders self.old.files k ≡ 0 }
+        requires countable { (k : ℕ) → file.source ≡ sources.Upper k →
+            file_holders self.old.files k < HOLDERS_MAX }
         ensures { OpensFile self.old self.new client descriptor file (Ok tt) }
     {
         let _ = hold_file(&mut self.files, file.source);
@@ -233,6 +234,13 @@ impl Clients {
             Some(Handle::File(file)) => Some(*file),
             _ => None,
         }
+    }
+
+    /// Whether one handle more on a file of the upper can be counted.
+    pub fn is_countable(&self, key: usize) -> bool
+        ensures { result ≡ nat_lt (file_holders self.now.files key) HOLDERS_MAX }
+    {
+        self.files.is_countable(key)
     }
 
     /// Whether a handle holds a file of the upper.

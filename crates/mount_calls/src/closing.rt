@@ -1,6 +1,6 @@
 // Closing what a client has open.
 ghost use Rattle.std.specs.Prelude.{◌≡◌, ◌+◌, ℕ, ◌≤◌, ◌∷◌, [], Some, OnOk, OnErr, IsOk, ◌<◌};
-ghost use Rattle.open_handles.specs.FileHolders.{file_holders, room};
+ghost use Rattle.open_handles.specs.FileHolders.{file_holders, room, HOLDERS_MAX};
 ghost use Rattle.open_handles.specs.declared.open_file.FileSource.TheVariants as sources;
 ghost use Rattle.open_handles.specs.Holding.{handles_on, files_on, is_upper};
 ghost use Rattle.open_handles.specs.Opened.{holders};
@@ -32,7 +32,7 @@ pub(crate) fn close_handle(
 pub(crate) fn hold_file(files: &mut OpenFiles, source: FileSource) -> Result<(), AllocError>
     ensures ok { OnOk result ((k : ℕ) → file_holders files.new k ≡ file_holders files.old k + is_upper source k) }
     ensures err { OnErr result ((k : ℕ) → file_holders files.new k ≡ file_holders files.old k) }
-    ensures succeeds { 0 < room files.old → ((k : ℕ) → source ≡ sources.Upper k → file_holders files.old k ≡ 0) → IsOk result }
+    ensures succeeds { 0 < room files.old → ((k : ℕ) → source ≡ sources.Upper k → file_holders files.old k < HOLDERS_MAX) → IsOk result }
 {
     match source {
         FileSource::Upper(key) => files.hold(key),

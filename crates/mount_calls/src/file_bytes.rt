@@ -1,7 +1,7 @@
 // Changing the bytes of files of the upper (POSIX.1-2017, write() and ftruncate()).
 ghost use Rattle.std.specs.Prelude.{◌≡◌, ◌+◌, ◌<◌, ◌^◌, ℕ, List, Some, IsOk, OnOk, OnErr, length};
 ghost use Rattle.plain_model.specs.Changes.{sized};
-ghost use Rattle.layer_tree.specs.Tree.{bytes_at, layer_of, written, SameObjects};
+ghost use Rattle.layer_tree.specs.Tree.{own_at, layer_of, written, SameObjects};
 ghost use Rattle.copy_up.specs.Showing.{StaysMount, StaysSound};
 ghost use Rattle.open_handles.specs.declared.open_file.FileSource.TheVariants as sources;
 ghost use Rattle.mount_calls.specs.Living.{KeepsFiles, SetsFile, StaysLive};
@@ -10,8 +10,8 @@ use merged_lookup::Layers;
 use open_handles::FileSource;
 use std::alloc::AllocError;
 
-/// Lays bytes over those of an open file of the upper from a place on, with zero bytes between the
-/// file's end and that place. An allocation failure changes nothing.
+/// Lays bytes over those of an open file of the upper that has its own from a place on, with zero
+/// bytes between the file's end and that place. An allocation failure changes nothing.
 pub(crate) fn write_file(
     layers: &mut Layers,
     source: FileSource,
@@ -20,7 +20,7 @@ pub(crate) fn write_file(
 ) -> Result<(), AllocError>
     requires { start + length bytes.now < 2 ^ 64 }
     ensures sets { OnOk result ((k : ℕ) (old : List ℕ) → source ≡ sources.Upper k →
-        bytes_at layers.old.upper k ≡ Some old →
+        own_at layers.old.upper k ≡ Some old →
         SetsFile layers.old layers.new k (written old start bytes.now)) }
     ensures files { KeepsFiles layers.old layers.new }
     ensures objects { SameObjects (layer_of layers.old.upper) (layer_of layers.new.upper) }
@@ -32,13 +32,13 @@ pub(crate) fn write_file(
     let FileSource::Upper(key) = source else {
         return Ok(());
     };
-    if layers.upper().read(key).is_none() {
+    if layers.upper().own(key).is_none() {
         return Ok(());
     }
     layers.upper_mut().write(key, start, bytes)
 }
 
-/// Cuts an open file of the upper to a length, or fills it with zero bytes up to it. An allocation
+/// Cuts an open file of the upper that has bytes of its own to a length, or fills it with zero bytes up to it. An allocation
 /// failure changes nothing, and a cut to nothing never allocates.
 pub(crate) fn resize_file(
     layers: &mut Layers,
@@ -46,7 +46,7 @@ pub(crate) fn resize_file(
     size: usize,
 ) -> Result<(), AllocError>
     ensures sets { OnOk result ((k : ℕ) (old : List ℕ) → source ≡ sources.Upper k →
-        bytes_at layers.old.upper k ≡ Some old →
+        own_at layers.old.upper k ≡ Some old →
         SetsFile layers.old layers.new k (sized old size)) }
     ensures empties { size ≡ 0 → IsOk result }
     ensures files { KeepsFiles layers.old layers.new }
@@ -59,7 +59,7 @@ pub(crate) fn resize_file(
     let FileSource::Upper(key) = source else {
         return Ok(());
     };
-    if layers.upper().read(key).is_none() {
+    if layers.upper().own(key).is_none() {
         return Ok(());
     }
     layers.upper_mut().resize(key, size)

@@ -2,7 +2,6 @@
 ghost use Rattle.std.specs.Prelude.{◌≡◌, None, Some, Ok, IfOk, IfErr, IsSome, option_copied};
 ghost use Rattle.ov_base.specs.declared.attributes.Attributes.{Attributes as DirectoryAttributes};
 ghost use Rattle.mount_calls.specs.Attaching.{directory_by, file_by, opened_by};
-ghost use Rattle.open_handles.specs.declared.open_file.OpenFile.{OpenFile as OpenedFile};
 ghost use Rattle.mount_calls.specs.Making.{MakesCall, TellsCall};
 ghost use Rattle.mount_calls.specs.Opening as opening;
 ghost use Rattle.mount_calls.specs.Opening.{read_fault, seek_fault};
@@ -11,7 +10,7 @@ ghost use Rattle.mount_calls.specs.Status.{stat_with};
 use crate::files::{bytes_in, status_in};
 use crate::mount::Mount;
 use crate::status::{status_at, status_with};
-use open_handles::{FileSource, Handle, OpenFile, read_at, sought};
+use open_handles::{Handle, OpenFile, read_at, sought};
 use ov_base::{Attributes, Bytes, Call, Errno, ObjectKind, Reply, Stat};
 use std::alloc::AllocError;
 
@@ -27,11 +26,7 @@ impl Mount {
             Ok(file) => file,
             Err(errno) => return Ok(Reply::Refused(errno)),
         };
-        let bytes = read_at(
-            bytes_in(&self.layers, file.source),
-            file.place,
-            count as usize,
-        );
+        let bytes = read_at(bytes_in(&self.layers, file), file.place, count as usize);
         let end = file.place + bytes.len() as u64;
         let copy = Bytes::from_slice(self.alloc, bytes)?;
         self.clients.move_to(client, descriptor, end);
@@ -100,7 +95,7 @@ impl Mount {
         requires { file_by self.old.clients client descriptor ≡ Some file }
         ensures { MakesCall client (Call.Seek descriptor offset whence) self.old self.new (Ok result) }
     {
-        let size = bytes_in(&self.layers, file.source).len();
+        let size = bytes_in(&self.layers, file).len();
         match place_sought(file, size, offset, whence) {
             Ok(place) => {
                 self.clients.move_to(client, descriptor, place);
@@ -116,17 +111,17 @@ impl Mount {
     {
         match self.clients.opened(client, descriptor) {
             None => Ok(Reply::Refused(Errno::EBADF)),
-            Some(Handle::File(file)) => Ok(self.file_status(client, descriptor, file.source)),
+            Some(Handle::File(file)) => Ok(self.file_status(client, descriptor, *file)),
             Some(Handle::Directory(_)) => self.directory_status(client, descriptor),
         }
     }
 
     // What stat(2) shows of an open file.
-    fn file_status(&self, client: u64, descriptor: u32, source: FileSource) -> Reply
-        requires { (f : OpenedFile) × (file_by self.now.clients client descriptor ≡ Some f) × (f.source ≡ source) }
+    fn file_status(&self, client: u64, descriptor: u32, file: OpenFile) -> Reply
+        requires { file_by self.now.clients client descriptor ≡ Some file }
         ensures { TellsCall client (Call.Fstat descriptor) self.now result }
     {
-        match status_in(&self.layers, source) {
+        match status_in(&self.layers, file) {
             Ok(status) => Reply::Status(status),
             Err(errno) => Reply::Refused(errno),
         }

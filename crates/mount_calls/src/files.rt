@@ -1,20 +1,25 @@
 // Open files: where the layers have them, and what they hold.
-ghost use Rattle.std.specs.Prelude.{◌≡◌, Some};
+ghost use Rattle.std.specs.Prelude.{◌≡◌, [], Some, IfOk, is_some, option_map, unwrap_or};
+ghost use Rattle.std.specs.Option.{option_and_then, option_copied};
 ghost use Rattle.plain_model.specs.Layers.{Inode as HeldInode};
+ghost use Rattle.layer_tree.specs.Tree.{inode_of, mark_at};
+ghost use Rattle.merged_lookup.specs.Lower.{lower_bytes};
 ghost use Rattle.merged_lookup.specs.Merged.{upper_of, lowers_of};
 ghost use Rattle.mount_calls.specs.Files as files;
-ghost use Rattle.mount_calls.specs.Files.{source_inode, bytes_of_inode};
+ghost use Rattle.mount_calls.specs.Files.{low_place, place_below, read_mark, seen_inode, source_inode, bytes_of_inode, with_file, IsKept};
 ghost use Rattle.mount_calls.specs.Status.{stat_of_inode};
 
-use crate::status::inode_status;
-use layer_tree::{Inode, Node};
+use crate::status::{file_status, inode_status};
+use layer_tree::Node;
 use merged_lookup::{Layers, Place};
 use open_handles::{FileSource, OpenFile};
-use ov_base::{Content, Errno, OpenFlags, Stat};
+use ov_base::{Content, Errno, OpenFlags, Source, Stat};
+use std::alloc::AllocError;
 
-/// A file that is opened with these flags, where it is shown at this place.
-pub(crate) fn file_at(place: Place, flags: OpenFlags) -> OpenFile
-    ensures { result ≡ files.file_at place flags }
+/// A file that is opened with these flags, where it is shown at this place, with the bytes that it
+/// keeps.
+pub(crate) fn file_at(place: Place, flags: OpenFlags, low: Option<Source>) -> OpenFile
+    ensures { result ≡ files.file_at place flags low }
 {
     let source = if place.layer == 0 {
         FileSource::Upper(place.key)
@@ -26,10 +31,54 @@ pub(crate) fn file_at(place: Place, flags: OpenFlags) -> OpenFile
     };
     OpenFile {
         source,
+        low,
         reads: flags.reads,
         writes: flags.writes,
         append: flags.append,
         place: 0,
+    }
+}
+
+/// The lower file whose bytes are kept by an open with these flags of what is shown at a place: the one
+/// at the mark of a file of the upper that is opened for reading alone (overlayfs.rst, "Non-standard
+/// behavior"). It takes no memory, and fails only where the mark shows no file, which no mount has.
+pub(crate) fn kept_low(
+    layers: &Layers,
+    place: Place,
+    flags: OpenFlags,
+) -> Result<Option<Source>, AllocError>
+    ensures { IfOk result (IsKept (lowers_of layers.now) (read_mark layers.now place flags.writes)) }
+{
+    if flags.writes || place.layer > 0 {
+        return Ok(None);
+    }
+    let Some(mark) = layers.upper().mark(place.key) else {
+        return Ok(None);
+    };
+    match layers.low_file(mark) {
+        Some(low) => Ok(Some(Source {
+            layer: low.layer,
+            key: low.key,
+        })),
+        None => Err(AllocError),
+    }
+}
+
+/// Whether a file of the upper bears a mark.
+pub(crate) fn is_marked(layers: &Layers, key: usize) -> bool
+    ensures { result ≡ is_some (mark_at layers.now.upper key) }
+{
+    layers.upper().mark(key).is_some()
+}
+
+/// The place of the file that the lower layers show at the mark of a file of the upper, if they show
+/// one there.
+pub(crate) fn marked_place(layers: &Layers, key: usize) -> Option<Place>
+    ensures { result ≡ place_below (lowers_of layers.now) (mark_at layers.now.upper key) }
+{
+    match layers.upper().mark(key) {
+        Some(mark) => layers.low_file(mark),
+        None => None,
     }
 }
 
@@ -43,26 +92,63 @@ fn place_of(source: FileSource) -> Place
     }
 }
 
-/// The bytes of an open file.
-pub(crate) fn bytes_in(layers: &Layers, source: FileSource) -> &[u8]
+/// The bytes of the file that a lower layer has at a place, if it has one there.
+pub(crate) fn low_bytes(layers: &Layers, source: Source) -> Option<&[u8]>
+    ensures { option_copied result ≡ lower_bytes (lowers_of layers.now) (low_place source) }
+{
+    if source.layer == 0 {
+        return None;
+    }
+    layers.layer(source.layer)?.read(source.key)
+}
+
+/// The bytes of an open file: those that it keeps, or else what it holds now.
+pub(crate) fn bytes_in(layers: &Layers, file: OpenFile) -> &[u8]
+    ensures { (i : HeldInode) → seen_inode (upper_of layers.now) (lowers_of layers.now) file.source file.low ≡ Some i → result.now ≡ bytes_of_inode i }
+{
+    match file.low {
+        Some(low) => kept_bytes(layers, low),
+        None => bytes_now(layers, file.source),
+    }
+}
+
+// The bytes of a lower file, and none where there is no such file.
+fn kept_bytes(layers: &Layers, low: Source) -> &[u8]
+    ensures { result.now ≡ unwrap_or (lower_bytes (lowers_of layers.now) (low_place low)) [] }
+{
+    match low_bytes(layers, low) {
+        Some(bytes) => bytes,
+        None => &[],
+    }
+}
+
+// What an open file holds now.
+fn bytes_now(layers: &Layers, source: FileSource) -> &[u8]
     ensures { (i : HeldInode) → source_inode (upper_of layers.now) (lowers_of layers.now) source ≡ Some i → result.now ≡ bytes_of_inode i }
 {
-    match layers.node(place_of(source)) {
-        Some(
-            Node::Inode(
-                Inode {
-                    content: Content::File(bytes),
-                    ..
-                },
-            ),
-        ) => bytes.as_slice(),
+    match layers.content_at(place_of(source)) {
+        Some(Content::File(bytes)) => bytes.as_slice(),
         _ => &[],
     }
 }
 
 /// What fstat(2) shows of an open file.
-pub(crate) fn status_in(layers: &Layers, source: FileSource) -> Result<Stat, Errno>
-    ensures { (i : HeldInode) → source_inode (upper_of layers.now) (lowers_of layers.now) source ≡ Some i → result ≡ stat_of_inode (Some i) }
+pub(crate) fn status_in(layers: &Layers, file: OpenFile) -> Result<Stat, Errno>
+    ensures { (i : HeldInode) → seen_inode (upper_of layers.now) (lowers_of layers.now) file.source file.low ≡ Some i → result ≡ stat_of_inode (Some i) }
 {
-    inode_status(layers.node(place_of(source)))
+    let place = place_of(file.source);
+    match file.low {
+        Some(low) => sized_status(layers.node(place), kept_bytes(layers, low)),
+        None => inode_status(layers, place),
+    }
+}
+
+// What stat(2) shows of an inode as of a file of these bytes; a directory, and nothing, is ENOENT.
+fn sized_status(node: Option<&Node>, bytes: &[u8]) -> Result<Stat, Errno>
+    ensures { result ≡ stat_of_inode (option_map (with_file bytes.now) (option_and_then inode_of (option_copied node.entry))) }
+{
+    match node {
+        Some(Node::Inode(inode)) => Ok(file_status(inode, bytes.len())),
+        _ => Err(Errno::ENOENT),
+    }
 }

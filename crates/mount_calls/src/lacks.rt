@@ -5,7 +5,7 @@ ghost use Rattle.std.specs.Ordering.{nat_cmp};
 ghost use Rattle.plain_model.specs.Layers.{Path as Names, shows};
 ghost use Rattle.plain_model.specs.Machine.{State};
 ghost use Rattle.plain_model.specs.Refusals.{refusal};
-ghost use Rattle.layer_tree.specs.Tree.{layer_of};
+ghost use Rattle.layer_tree.specs.Tree.{layer_of, mark_at};
 ghost use Rattle.merged_lookup.specs.Merged.{upper_of, layers_of, lowers_of, IsFound, IsTopmost, ShowsInode};
 ghost use Rattle.mount_calls.specs.AttributeCalls.{call_at};
 ghost use Rattle.mount_calls.specs.Lacks as lacks;
@@ -16,14 +16,15 @@ ghost use Rattle.mount_calls.specs.States.{IsStateOf};
 ghost use Rattle.work_dir.specs.declared.next.Lack.TheVariants as Lacking;
 
 use crate::attribute_changes::{AttributeCall, judged, mode_fault};
+use crate::files::marked_place;
 use crate::looks::Looks;
 use crate::mount::Mount;
 use copy_up::{Need, need_at};
 use make_remove::{leaf_at, removable, vacant};
 use merged_lookup::{Found, Layers, Place, Topmost};
-use ov_base::{Bytes, Call, Content, Errno, LinkTarget, OpenFlags, Path};
+use ov_base::{Bytes, Call, Content, Errno, LinkTarget, OpenFlags, Path, Source};
 use rename_redirect::{linkable, movable};
-use work_dir::{Lack, Source};
+use work_dir::Lack;
 
 /// Whether a call changes what paths show, or opens what one shows, so that it may lack something.
 pub fn may_lack(call: &Call) -> bool
@@ -90,7 +91,7 @@ impl Mount {
         requires looks { AreLooks self.now.layers call.now looks }
         ensures { result ≡ true → (s : State) → IsStateOf self.now s → (c : ℕ) →
             refusal s c call.now ≡ None →
-            lack_of (upper_of self.now.layers) (lowers_of self.now.layers) call.now
+            lack_of (upper_of self.now.layers) (lowers_of self.now.layers) self.now.metacopy call.now
             ≡ Lacking.Nothing }
     {
         match call {
@@ -123,7 +124,7 @@ impl Mount {
             Ok(target) => target,
             Err(errno) => return Err(errno),
         };
-        let file = low_file(&self.layers, top);
+        let file = copied_file(&self.layers, self.metacopy, top);
         Ok(lack_on(&self.layers, path, near, file))
     }
 
@@ -180,7 +181,7 @@ impl Mount {
             return Ok(lack_on(&self.layers, path, near, None));
         };
         if flags.writes {
-            let file = low_file(&self.layers, top);
+            let file = data_file(&self.layers, top);
             let lack = lack_on(&self.layers, path, near, file);
             return Ok(lack);
         }
@@ -223,7 +224,7 @@ impl Mount {
             Ok(found) => found,
             Err(errno) => return Err(errno),
         };
-        let file = low_inode(&self.layers, place);
+        let file = copied_inode(&self.layers, self.metacopy, place);
         Ok(lack_on_both(&self.layers, old, new, (from_near, onto_near), file))
     }
 
@@ -241,7 +242,7 @@ impl Mount {
             Ok(None) => return Ok(Lack::Nothing),
             Err(errno) => return Err(errno),
         };
-        let file = found_file(layers, &moved.1);
+        let file = found_file(layers, self.metacopy, &moved.1);
         Ok(lack_on_both(layers, old, new, (from_near, onto_near), file))
     }
 }
@@ -305,28 +306,79 @@ fn file_lack(file: Option<Source>) -> Lack
     }
 }
 
-// Where a file of a lower layer is that is shown as the topmost object.
-fn low_file(layers: &Layers, top: Topmost) -> Option<Source>
+// Where the bytes are of a file of a lower layer that is shown as the topmost object, if a change of
+// its attributes copies them.
+fn copied_file(layers: &Layers, metacopy: bool, top: Topmost) -> Option<Source>
     requires { (p : Names) × IsTopmost layers.now p (Some top) }
     ensures { (p : Names) → IsTopmost layers.now p (Some top) →
-        result ≡ lacks.low_file (shows 0 (layers_of layers.now) p) }
+        result ≡ lacks.copied_file metacopy (shows 0 (layers_of layers.now) p) }
 {
     match top {
-        Topmost::Inode(place) => low_inode(layers, place),
+        Topmost::Inode(place) => copied_inode(layers, metacopy, place),
         Topmost::Directory(_) => None,
     }
 }
 
-// Where a file of a lower layer is that was found.
-fn found_file(layers: &Layers, found: &Found) -> Option<Source>
+// Where the bytes are of a file that is shown as the topmost object, if they are a lower file's.
+fn data_file(layers: &Layers, top: Topmost) -> Option<Source>
+    requires { (p : Names) × IsTopmost layers.now p (Some top) }
+    ensures { (p : Names) → IsTopmost layers.now p (Some top) →
+        result ≡ lacks.data_at (lowers_of layers.now) (shows 0 (layers_of layers.now) p) }
+{
+    match top {
+        Topmost::Inode(place) => data_inode(layers, place),
+        Topmost::Directory(_) => None,
+    }
+}
+
+// Where the bytes are of a file that is shown at a place, if they are a lower file's.
+fn data_inode(layers: &Layers, place: Place) -> Option<Source>
+    requires { (p : Names) × ShowsInode layers.now p place }
+    ensures { (p : Names) → ShowsInode layers.now p place →
+        result ≡ lacks.data_at (lowers_of layers.now) (shows 0 (layers_of layers.now) p) }
+{
+    if place.layer == 0 {
+        return marked_source(layers, place.key);
+    }
+    low_inode(layers, place)
+}
+
+// Where the lower file is whose bytes a marked file of the upper shows.
+fn marked_source(layers: &Layers, key: usize) -> Option<Source>
+    ensures { result ≡ lacks.marked_file (lowers_of layers.now) (mark_at layers.now.upper key) }
+{
+    match marked_place(layers, key) {
+        Some(place) => Some(Source {
+            layer: place.layer,
+            key: place.key,
+        }),
+        None => None,
+    }
+}
+
+// Where the bytes are of a file of a lower layer that was found, if a rename of it copies them.
+fn found_file(layers: &Layers, metacopy: bool, found: &Found) -> Option<Source>
     requires { (p : Names) × IsFound layers.now p found.now }
     ensures { (p : Names) → IsFound layers.now p found.now →
-        result ≡ lacks.low_file (shows 0 (layers_of layers.now) p) }
+        result ≡ lacks.copied_file metacopy (shows 0 (layers_of layers.now) p) }
 {
     match found {
-        Found::Inode(place) => low_inode(layers, *place),
+        Found::Inode(place) => copied_inode(layers, metacopy, *place),
         Found::Directory(_) => None,
     }
+}
+
+// Where the bytes are of a file of a lower layer that is shown at a place, if they are copied with its
+// attributes.
+fn copied_inode(layers: &Layers, metacopy: bool, place: Place) -> Option<Source>
+    requires { (p : Names) × ShowsInode layers.now p place }
+    ensures { (p : Names) → ShowsInode layers.now p place →
+        result ≡ lacks.copied_file metacopy (shows 0 (layers_of layers.now) p) }
+{
+    if metacopy {
+        return None;
+    }
+    low_inode(layers, place)
 }
 
 // Where a file of a lower layer is that is shown at a place.

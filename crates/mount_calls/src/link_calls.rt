@@ -28,7 +28,15 @@ impl Mount {
         ensures key { IfOk result (λ outcome. IfOk outcome (IsKeyAt self.new.layers old.now)) }
         ensures clients { self.new.clients ≡ self.old.clients }
     {
-        match link(&mut self.layers, old, new, &from.shown, &onto.shown)? {
+        match link(
+            self.alloc,
+            &mut self.layers,
+            old,
+            new,
+            self.metacopy,
+            &from.shown,
+            &onto.shown,
+        )? {
             Ok(key) => Ok(Ok(key)),
             Err(errno) => Ok(Err(errno)),
         }

@@ -2,15 +2,16 @@
 ghost use Rattle.std.specs.Prelude.{◌≡◌, ◌∷◌, [], List, true, false, None};
 ghost use Rattle.plain_model.specs.Layers.{Path as Names, shows};
 ghost use Rattle.layer_tree.specs.Tree.{layer_of};
-ghost use Rattle.merged_lookup.specs.Merged.{layers_of, IsTopmost};
+ghost use Rattle.merged_lookup.specs.Merged.{layers_of, lowers_of, IsTopmost, ShowsInode};
 ghost use Rattle.merged_lookup.specs.declared.layers.Layers.{Layers as Held};
 ghost use Rattle.mount_calls.specs.Lacks as lacks;
 ghost use Rattle.mount_calls.specs.Lacks.{lacking, HasAllAt, HasAllOf};
 ghost use Rattle.mount_calls.specs.Looking as looking;
 ghost use Rattle.mount_calls.specs.Looking.{paths_of, IsLook, SawEach};
 
+use crate::files::is_marked;
 use crate::look::Look;
-use merged_lookup::{Layers, Topmost};
+use merged_lookup::{Layers, Place, Topmost};
 use ov_base::{Call, Path};
 
 /// The paths of a call that are looked at once for all that it asks: the one of a change of
@@ -116,7 +117,7 @@ impl Look {
     }
 
     // Whether it saw that nothing can be lacking: the upper has each parent, and what stands there
-    // is no file of a lower layer.
+    // is no file of a lower layer, nor one of the upper without bytes of its own.
     fn saw_all(&self, layers: &Layers) -> bool
         ensures { result ≡ true → (p : Names) → IsLook layers.now p self.now →
             HasAllAt layers.now p }
@@ -124,18 +125,29 @@ impl Look {
         let Ok((_, top)) = &self.shown else {
             return false;
         };
-        self.saw_parents(layers) && !is_lower(*top)
+        self.saw_parents(layers) && !is_low(layers, *top)
     }
 }
 
-// Whether a file or symbolic link of a lower layer is the topmost object.
-fn is_lower(top: Option<Topmost>) -> bool
-    ensures { result ≡ false → (l : Held) (p : Names) → IsTopmost l p top →
-        lacks.low_file (shows 0 (layers_of l) p) ≡ None }
+// Whether a file or symbolic link of a lower layer is the topmost object, or a marked file.
+fn is_low(layers: &Layers, top: Option<Topmost>) -> bool
+    ensures { result ≡ false → (p : Names) → IsTopmost layers.now p top →
+        lacks.data_at (lowers_of layers.now) (shows 0 (layers_of layers.now) p) ≡ None }
 {
     match top {
-        Some(Topmost::Inode(place)) => place.layer > 0,
+        Some(Topmost::Inode(place)) => is_low_inode(layers, place),
         Some(Topmost::Directory(_)) => false,
         None => false,
     }
+}
+
+// Whether what is shown at a place is a lower layer's, or a marked file.
+fn is_low_inode(layers: &Layers, place: Place) -> bool
+    ensures { result ≡ false → (p : Names) → ShowsInode layers.now p place →
+        lacks.data_at (lowers_of layers.now) (shows 0 (layers_of layers.now) p) ≡ None }
+{
+    if place.layer > 0 {
+        return true;
+    }
+    is_marked(layers, place.key)
 }

@@ -1,21 +1,18 @@
 // A mount and the clients on it: what each call does, by the plain machine.
 ghost use Rattle.std.specs.Prelude.{◌≡◌, ◌<◌, ◌+◌, ◌^◌, ℕ, false, List, Some, None, Ok, IfOk, IfErr, OnOk, OnErr, IsSome, IsSomeAnd, is_some, MatchResult, option_copied, true};
 ghost use Rattle.plain_model.specs.Layers.{AreLayers};
-ghost use Rattle.layer_tree.specs.Tree.{inode_of};
 ghost use Rattle.merged_lookup.specs.Merged.{upper_of, layers_of, lowers_of};
 ghost use Rattle.notice_laws.specs.Objects.{IsObject};
 ghost use Rattle.mount_calls.specs.States.{AreNamesIn};
 ghost use Rattle.mount_calls.specs.Files.{key_in_upper};
-ghost use Rattle.mount_calls.specs.Status.{outcome_result, target_reply};
+ghost use Rattle.mount_calls.specs.Status.{outcome_result, target_reply, content_target};
 ghost use Rattle.std.specs.Option.{option_and_then};
-ghost use Rattle.mount_laws.specs.Leaves.{inode_target};
 
 use crate::clients::Clients;
 use crate::look::Look;
 use crate::removals::{free_closed, rmdir_and_free, unlink_and_free};
 use crate::status::status_at;
 use dir_listing::{Cursor, names};
-use layer_tree::{Inode, Node};
 use make_remove::{mkdir, symlink};
 use merged_lookup::{Found, Layers, Topmost};
 use notice_laws::Object;
@@ -27,12 +24,14 @@ use std::hash::RandomState;
 /// The most names that one `list` gives.
 const LIST_MAX: u32 = 256;
 
-/// The layers of a mount, the clients attached to it, and whether renames of its directories make redirects.
+/// The layers of a mount, the clients attached to it, whether renames of its directories make redirects, and whether its files are copied up
+/// without their bytes where their attributes or names change.
 #[derive(Drop)]
 pub struct Mount {
     pub(crate) layers: Layers,
     pub(crate) clients: Clients,
     pub(crate) redirects: bool,
+    pub(crate) metacopy: bool,
     pub(crate) alloc: Global,
 }
 
@@ -56,24 +55,27 @@ impl Mount {
     ghost use Rattle.mount_calls.specs.Making.{MakesCall, MakesEach, TellsEach};
     ghost use Rattle.copy_up.specs.Showing.{StaysThin};
 
-    /// A mount of these layers without a client, whose renames of directories make redirects or not. The names of open directories are
-    /// hashed with these keys.
+    /// A mount of these layers without a client, whose renames of directories make redirects or not, and whose changes of attributes and
+    /// names copy no bytes or do. The names of open directories are hashed with these keys.
     pub fn new(
         alloc: Global,
         keys: RandomState,
         layers: Layers,
         redirects: bool,
+        metacopy: bool,
     ) -> Result<Mount, AllocError>
         ensures layers { IfOk result (λ mount. mount.layers ≡ layers) }
         ensures redirects { IfOk result (λ mount. mount.redirects ≡ redirects) }
+        ensures metacopy { IfOk result (λ mount. mount.metacopy ≡ metacopy) }
         ensures none { IfOk result (λ mount. (n : ℕ) → get nat_cmp mount.clients.attached n ≡ None) }
         ensures first { IfOk result (λ mount. mount.clients.next ≡ 0) }
-        ensures begins { IfOk result (λ mount. (t : Tree) → AreLayers (layers_of layers) → IsMerge (upper_of layers) (lowers_of layers) t → IsStateOf mount (machine.opening t (record { redirects = redirects; metacopy = false; read_only = false }))) }
+        ensures begins { IfOk result (λ mount. (t : Tree) → AreLayers (layers_of layers) → IsMerge (upper_of layers) (lowers_of layers) t → IsStateOf mount (machine.opening t (record { redirects = redirects; metacopy = metacopy; read_only = false }))) }
     {
         Ok(Mount {
             layers,
             clients: Clients::new(alloc, keys)?,
             redirects,
+            metacopy,
             alloc,
         })
     }
@@ -165,7 +167,7 @@ impl Mount {
         ensures { IfOk result (TellsEach (Call.Readlink path.now) self.now) }
     {
         match self.layers.walk_topmost(path) {
-            Ok(Topmost::Inode(place)) => read_link(self.layers.node(place)),
+            Ok(Topmost::Inode(place)) => read_link(self.layers.content_at(place)),
             Ok(Topmost::Directory(_)) => Ok(Reply::Refused(Errno::EINVAL)),
             Err(errno) => Ok(Reply::Refused(errno)),
         }
@@ -317,18 +319,11 @@ pub(crate) fn upper_key(file: Option<OpenFile>) -> Option<usize>
 }
 
 // The reply to readlink of a file or symbolic link: a file is EINVAL.
-fn read_link(node: Option<&Node>) -> Result<Reply, AllocError>
-    ensures { IfOk result (λ reply. reply ≡ target_reply (inode_target (option_and_then inode_of (option_copied node.entry)))) }
+fn read_link(content: Option<&Content>) -> Result<Reply, AllocError>
+    ensures { IfOk result (λ reply. reply ≡ target_reply (option_and_then content_target (option_copied content.entry))) }
 {
-    match node {
-        Some(
-            Node::Inode(
-                Inode {
-                    content: Content::SymbolicLink(target),
-                    ..
-                },
-            ),
-        ) => Ok(Reply::Target(target.as_bytes().clone()?)),
+    match content {
+        Some(Content::SymbolicLink(target)) => Ok(Reply::Target(target.as_bytes().clone()?)),
         _ => Ok(Reply::Refused(Errno::EINVAL)),
     }
 }

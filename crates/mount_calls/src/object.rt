@@ -3,7 +3,7 @@ ghost use Rattle.std.specs.Prelude.{◌≡◌, ℕ, Bool, List, ◌∷◌, Some,
 ghost use Rattle.plain_model.specs.Layers as held;
 ghost use Rattle.plain_model.specs.Layers.{Layer, Path as Names, shows};
 ghost use Rattle.layer_tree.specs.Tree.{inode_of};
-ghost use Rattle.merged_lookup.specs.Merged.{upper_of, lowers_of, ShowsInode};
+ghost use Rattle.merged_lookup.specs.Merged.{upper_of, lowers_of, fill_at, ShowsInode};
 ghost use Rattle.notice_laws.specs.Objects.{IsObject};
 ghost use Rattle.mount_calls.specs.Attaching.{file_by};
 ghost use Rattle.mount_calls.specs.Files.{key_in_upper};
@@ -46,9 +46,12 @@ pub(crate) fn object_in(layers: &Layers, place: Place) -> Object
     upper_object(place.key, inode)
 }
 
-// An inode of the upper under a key: a link isn't tracked.
+// An inode of the upper under a key, of which its kind and its links are asked, which are shown as
+// they are: a link isn't tracked.
 fn upper_object(key: usize, inode: &Inode) -> Object
-    ensures { (U : Layer) (lowers : List Layer) (p : Names) → shows 0 (U ∷ lowers) p ≡ Some (held.Contents 0 key (inode_of (Node.Inode inode.now))) → IsObject U lowers p result }
+    ensures { (U : Layer) (lowers below : List Layer) (p : Names) →
+        shows 0 (U ∷ lowers) p ≡ Some (held.Contents 0 key (fill_at 0 below (inode_of (Node.Inode inode.now)))) →
+        IsObject U lowers p result }
 {
     match inode.content {
         Content::File(_) => Object::Upper {

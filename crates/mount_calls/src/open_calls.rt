@@ -1,17 +1,19 @@
 // `open`, by the plain machine (POSIX.1-2017, open(), as Linux's namei.c asks for its errors).
-ghost use Rattle.std.specs.Prelude.{◌≡◌, ◌<◌, true, false, None, Some, IfOk, IfErr, OnOk, OnErr, IsSome};
+ghost use Rattle.std.specs.Prelude.{◌≡◌, ◌<◌, ℕ, true, false, cond, is_some, List, [], None, Some, IfOk, IfErr, OnOk, OnErr, IsSome};
 ghost use Rattle.std.specs.BTreeMap.{get};
 ghost use Rattle.std.specs.Ordering.{nat_cmp};
+ghost use Rattle.ov_base.specs.declared.bytes.Content.TheVariants.{File};
 ghost use Rattle.ov_base.specs.declared.errno.Errno.TheVariants.{EINVAL};
 ghost use Rattle.plain_model.specs.Layers.{Path as Names, Inode as HeldInode, Contents, shows};
 ghost use Rattle.plain_model.specs.Machine.{State};
 ghost use Rattle.plain_model.specs.Refusals as refusals;
 ghost use Rattle.plain_model.specs.Refusals.{refusal, when};
-ghost use Rattle.layer_tree.specs.Tree.{layer_of, SameObjects};
+ghost use Rattle.layer_tree.specs.Tree.{layer_of, bytes_at, mark_at, SameObjects};
 ghost use Rattle.merged_lookup.specs.declared.found.Topmost.TheVariants as topmost;
 ghost use Rattle.merged_lookup.specs.declared.stack.Place.{Place as ShownPlace};
-ghost use Rattle.merged_lookup.specs.Merged.{layers_of, parent, parents_fault, IsStackOf, IsTopmost, ShowsInode};
+ghost use Rattle.merged_lookup.specs.Merged.{upper_of, layers_of, parent, parents_fault, IsStackOf, IsTopmost, ShowsInode};
 ghost use Rattle.mount_laws.specs.Looks.{or_else};
+ghost use Rattle.mount_laws.specs.OpenFiles.{ChangesFile};
 ghost use Rattle.mount_laws.specs.Opening.{opening_fault, shown_fault};
 ghost use Rattle.copy_up.specs.Leaves.{CopiesLeaf};
 ghost use Rattle.copy_up.specs.Showing.{ChangesNoSight, GainsParents, StaysSound, StaysThin};
@@ -24,13 +26,14 @@ ghost use Rattle.mount_calls.specs.Opening as opening;
 ghost use Rattle.mount_calls.specs.States.{HasStateOf, IsStateOf};
 
 use crate::file_bytes::resize_file;
-use crate::files::file_at;
+use crate::files::{file_at, is_marked, kept_low, marked_place};
 use crate::look::Look;
 use crate::mount::Mount;
-use copy_up::all_at_once;
+use copy_up::{all_at_once, fill};
 use layer_tree::{Inode, Node};
 use make_remove::create;
 use merged_lookup::{Layers, Place, Stack, Topmost};
+use open_handles::FileSource;
 use ov_base::{Call, Content, Errno, Mode, OpenFlags, Path, Reply};
 use std::alloc::AllocError;
 
@@ -84,7 +87,8 @@ impl Mount {
 
     /// Makes an open that was judged, by what was seen at its path: of what the path shows, or of a
     /// file that is made where it shows nothing; a symbolic link isn't followed. A file of a lower
-    /// layer that is opened for writing is copied up first (overlayfs.rst, "Non-directories").
+    /// layer that is opened for writing is copied up first (overlayfs.rst, "Non-directories"), and a
+    /// marked one of the upper gets bytes of its own ("Metadata only copy up").
     pub fn open_judged(
         &mut self,
         client: u64,
@@ -118,11 +122,15 @@ impl Mount {
             Some(Topmost::Inode(place)) if flags.writes && place.layer > 0 => {
                 self.open_copied(client, descriptor, path, flags, mode, directory, place)
             }
+            Some(Topmost::Inode(place)) if flags.writes && is_marked(&self.layers, place.key) => {
+                self.open_filled(client, descriptor, path, flags, mode, place)
+            }
             Some(top) => self.open_shown(client, descriptor, path, flags, mode, top),
         }
     }
 
-    // Opens what is shown, where nothing is copied up; a file is emptied where that is asked for.
+    // Opens what is shown, where nothing is copied up and no file gets bytes of its own; a file is
+    // emptied where that is asked for.
     fn open_shown(
         &mut self,
         client: u64,
@@ -137,7 +145,7 @@ impl Mount {
         requires allowed { opening_fault (layers_of self.old.layers) path.now flags mode (Some 0) ≡ None }
         requires shown { IsTopmost self.old.layers path.now (Some top) }
         requires own { flags.writes ≡ true → (d : ShownPlace) → top ≡ topmost.Inode d →
-            d.layer ≡ 0 }
+            (d.layer ≡ 0) × (is_some (mark_at self.old.layers.upper d.key) ≡ false) }
         ensures answers { OnOk result (AnswersCall client (Call.Open path.now flags mode)
             self.old self.new (Reply.Descriptor descriptor)) }
         ensures no_memory { OnErr result (RunsOut self.old self.new) }
@@ -151,7 +159,8 @@ impl Mount {
             self.clients.open(client, descriptor, path)?;
             return Ok(());
         };
-        let file = file_at(place, flags);
+        let low = kept_low(&self.layers, place, flags)?;
+        let file = file_at(place, flags, low);
         self.clients.open_file(client, descriptor, file)?;
         if flags.truncate {
             resize_file(&mut self.layers, file.source, 0)?;
@@ -189,10 +198,47 @@ impl Mount {
         self.clients.reserve_file(client, descriptor)?;
         self.clients.lawful();
         let key = bring_up(&mut self.layers, path, directory, place)?;
-        let file = file_at(Place { layer: 0, key }, flags);
+        let file = file_at(Place { layer: 0, key }, flags, None);
         if flags.truncate {
             resize_file(&mut self.layers, file.source, 0)?;
         }
+        self.clients.open_reserved(client, descriptor, file);
+        Ok(())
+    }
+
+    // Opens a marked file of the upper for writing, for which it gets bytes of its own.
+    fn open_filled(
+        &mut self,
+        client: u64,
+        descriptor: u32,
+        path: &Path,
+        flags: OpenFlags,
+        mode: Mode,
+        place: Place,
+    ) -> Result<(), AllocError>
+        requires attached { IsSome (get nat_cmp self.old.clients.attached client) }
+        requires free { IsLowestFree self.old.clients client descriptor }
+        requires allowed { opening_fault (layers_of self.old.layers) path.now flags mode (Some 0) ≡ None }
+        requires shown { IsTopmost self.old.layers path.now (Some (topmost.Inode place)) }
+        requires writes { flags.writes ≡ true }
+        requires own { place.layer ≡ 0 }
+        requires marked { IsSome (mark_at self.old.layers.upper place.key) }
+        requires state { ∥ HasStateOf self.old ∥₁ }
+        ensures answers { OnOk result (AnswersCall client (Call.Open path.now flags mode)
+            self.old self.new (Reply.Descriptor descriptor)) }
+        ensures no_memory { OnErr result (RunsOut self.old self.new) }
+        ensures clients { KeepsAttached self.old.clients self.new.clients }
+        ensures around { BringsNone self.old.layers self.new.layers path.now }
+        ensures lowers { self.new.layers.lowers ≡ self.old.layers.lowers }
+        ensures thin { StaysThin self.old.layers self.new.layers }
+    {
+        let key = place.key;
+        self.clients.reserve_file(client, descriptor)?;
+        if !self.clients.is_countable(key) {
+            return Err(AllocError);
+        }
+        give_bytes(&mut self.layers, key, flags)?;
+        let file = file_at(Place { layer: 0, key }, flags, None);
         self.clients.open_reserved(client, descriptor, file);
         Ok(())
     }
@@ -224,10 +270,32 @@ impl Mount {
         self.clients.reserve_file(client, descriptor)?;
         self.clients.lawful();
         let key = create(self.alloc, &mut self.layers, directory, path, mode)?;
-        let file = file_at(Place { layer: 0, key }, flags);
+        let file = file_at(Place { layer: 0, key }, flags, None);
         self.clients.open_reserved(client, descriptor, file);
         Ok(())
     }
+}
+
+// Gives a marked file of the upper bytes of its own: those that it shows, or none where an open with
+// these flags empties it. An allocation failure changes nothing.
+fn give_bytes(layers: &mut Layers, key: usize, flags: OpenFlags) -> Result<(), AllocError>
+    requires file { IsSome (bytes_at layers.old.upper key) }
+    requires marked { IsSome (mark_at layers.old.upper key) }
+    ensures gives { OnOk result ((i : HeldInode) (b : List ℕ) →
+        (upper_of layers.old).inodes key ≡ Some i → i.content ≡ File b →
+        ChangesFile (upper_of layers.old) (upper_of layers.new) key
+        (cond flags.truncate [] b) None) }
+    ensures objects { SameObjects (layer_of layers.old.upper) (layer_of layers.new.upper) }
+    ensures lowers { layers.new.lowers ≡ layers.old.lowers }
+    ensures sound { StaysSound layers.old layers.new }
+    ensures no_memory { OnErr result (layers.new ≡ layers.old) }
+{
+    let source = marked_place(layers, key);
+    fill(layers, key, source)?;
+    if flags.truncate {
+        resize_file(layers, FileSource::Upper(key), 0)?;
+    }
+    Ok(())
 }
 
 // The mode that an open asks for, where its flags go together: a mode of more than twelve bits is EINVAL too.
@@ -305,7 +373,7 @@ fn bring_up(
     requires lower { 0 < place.layer }
     ensures copied { IfOk result (λ key. (i : HeldInode) →
         shows 0 (layers_of layers.old) path.now ≡ Some (Contents place.layer place.key (Some i)) →
-        (leaf : CopiesLeaf layers.old layers.new path.now i.content i.attributes) ×
+        (leaf : CopiesLeaf layers.old layers.new path.now i.content None i.attributes) ×
         (leaf.number ≡ key)) }
     ensures around { BringsNone layers.old layers.new path.now }
     ensures lowers { layers.new.lowers ≡ layers.old.lowers }

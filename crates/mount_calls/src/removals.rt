@@ -117,6 +117,7 @@ pub(crate) fn rename_and_free(
     old: &Path,
     new: &Path,
     redirects: bool,
+    metacopy: bool,
     from: &Look,
     onto: &Look,
 ) -> Result<Result<Option<usize>, Errno>, AllocError>
@@ -129,7 +130,8 @@ pub(crate) fn rename_and_free(
         OnOk r (rename_fault (upper_of layers.old) (lowers_of layers.old) redirects
         old.now new.now false ≡ None)) }
     ensures does { IfOk result (λ r. IfOk r (λ moved.
-        MovesOrStays (is_some moved) clients.now layers.old layers.new redirects old.now new.now)) }
+        MovesOrStays (is_some moved) clients.now layers.old layers.new redirects metacopy
+        old.now new.now)) }
     ensures key { IfOk result (λ r. IfOk r (λ moved. IfSome moved (IsKeyAt layers.new new.now))) }
     ensures paths { KeepsRenamed layers.old layers.new old.now new.now }
     ensures lowers { layers.new.lowers ≡ layers.old.lowers }
@@ -138,7 +140,16 @@ pub(crate) fn rename_and_free(
     ensures no_memory { OnErr result
         (ChangesNoSight layers.old layers.new (StaysLive layers.old layers.new)) }
 {
-    match rename(alloc, layers, old, new, redirects, &from.shown, &onto.shown)? {
+    match rename(
+        alloc,
+        layers,
+        old,
+        new,
+        redirects,
+        metacopy,
+        &from.shown,
+        &onto.shown,
+    )? {
         Ok(Renamed::Unchanged) => Ok(Ok(None)),
         Ok(Renamed::Directory(released)) => {
             free_released(layers, clients, released);

@@ -52,6 +52,7 @@ impl Mount {
             old,
             new,
             self.redirects,
+            self.metacopy,
             from,
             onto,
         ) {

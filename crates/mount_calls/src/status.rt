@@ -5,8 +5,7 @@ ghost use Rattle.mount_calls.specs.Status.{content_kind, content_bytes, stat_of_
 ghost use Rattle.ov_base.specs.declared.attributes.Attributes.{Attributes};
 ghost use Rattle.plain_model.specs.Layers as held;
 ghost use Rattle.plain_model.specs.Layers.{Path, shows};
-ghost use Rattle.std.specs.Option.{option_and_then, option_copied};
-ghost use Rattle.layer_tree.specs.Tree.{inode_of};
+ghost use Rattle.merged_lookup.specs.Marking.{inode_over};
 ghost use Rattle.merged_lookup.specs.Merged.{layers_of};
 
 use layer_tree::{Inode, Node};
@@ -20,7 +19,7 @@ pub fn status_at(layers: &Layers, path: &Path) -> Result<Stat, Errno>
 {
     match layers.walk_topmost(path)? {
         Topmost::Directory(place) => Ok(directory_status(layers, place)),
-        Topmost::Inode(place) => inode_status(layers.node(place)),
+        Topmost::Inode(place) => inode_status(layers, place),
     }
 }
 
@@ -32,13 +31,16 @@ fn directory_status(layers: &Layers, place: Place) -> Stat
     status_with(ObjectKind::Directory, layers.attributes_at(place), 0, 1)
 }
 
-/// What stat(2) shows of the inode that stands somewhere; a directory, and nothing, is ENOENT.
-pub(crate) fn inode_status(node: Option<&Node>) -> Result<Stat, Errno>
-    ensures { result ≡ stat_of_inode (option_and_then inode_of (option_copied node.entry)) }
+/// What stat(2) shows of the inode at a place, as it shows; a directory, and nothing, is ENOENT.
+pub(crate) fn inode_status(layers: &Layers, place: Place) -> Result<Stat, Errno>
+    ensures { result ≡ stat_of_inode (inode_over layers.now place) }
 {
-    match node {
-        Some(Node::Inode(inode)) => Ok(status_of_inode(inode)),
-        _ => Err(Errno::ENOENT),
+    let Some(Node::Inode(inode)) = layers.node(place) else {
+        return Err(Errno::ENOENT);
+    };
+    match layers.content_at(place) {
+        Some(content) => Ok(status_with_content(inode, content)),
+        None => unreachable!(),
     }
 }
 
@@ -50,19 +52,28 @@ pub fn status_of(node: &Node) -> Stat
         Node::Directory(directory) => {
             status_with(ObjectKind::Directory, &directory.attributes, 0, 1)
         }
-        Node::Inode(inode) => status_of_inode(inode),
+        Node::Inode(inode) => status_with_content(inode, &inode.content),
     }
 }
 
-fn status_of_inode(inode: &Inode) -> Stat
-    ensures { result ≡ stat_of_content inode.now.content inode.now.attributes inode.now.links }
+// What stat(2) shows of an inode that holds this.
+fn status_with_content(inode: &Inode, content: &Content) -> Stat
+    ensures { result ≡ stat_of_content content.now inode.now.attributes inode.now.links }
 {
     status_with(
-        kind_of(&inode.content),
+        kind_of(content),
         &inode.attributes,
-        size_of(&inode.content),
+        size_of(content),
         saturated(inode.links),
     )
+}
+
+/// What stat(2) shows of an inode as of a file of so many bytes.
+pub(crate) fn file_status(inode: &Inode, size: usize) -> Stat
+    ensures { result ≡ status.stat_with ObjectKind.File inode.now.attributes size (min inode.now.links 4294967295) }
+{
+    let links = saturated(inode.links);
+    status_with(ObjectKind::File, &inode.attributes, size as u64, links)
 }
 
 /// What stat(2) shows of an object of this kind, with these attributes.

@@ -12,12 +12,12 @@ ghost use Rattle.mount_calls.specs.Living.{StaysLive};
 ghost use Rattle.mount_calls.specs.States.{StaysState};
 ghost use Rattle.work_dir.specs.declared.next.Lack.TheVariants as Lacking;
 
+use crate::files::low_bytes;
 use crate::mount::Mount;
 use copy_up::place_dir;
 use merged_lookup::{Place, Prepared};
-use ov_base::{Bytes, Call, Path};
+use ov_base::{Bytes, Call, Path, Source};
 use std::alloc::AllocError;
-use work_dir::Source;
 
 /// The path of a call that changes something, or its second one.
 pub fn path_of_call(call: &Call, second: bool) -> Option<&Path>
@@ -46,7 +46,7 @@ impl Mount {
     /// each case.
     pub fn place(&mut self, call: &Call, second: bool, count: usize) -> Result<(), AllocError>
         requires lacks { lack_of (upper_of self.old.layers) (lowers_of self.old.layers)
-            call.now ≡ Lacking.Parent second count }
+            self.old.metacopy call.now ≡ Lacking.Parent second count }
         requires can { CanBeHad self.old call.now (Lacking.Parent second count) }
         ensures stays { StaysState self.old self.new }
         ensures live { StaysLive self.old.layers self.new.layers }
@@ -69,10 +69,7 @@ impl Mount {
     pub fn low_bytes(&self, source: Source) -> Option<&[u8]>
         ensures { option_copied result ≡ bytes_at (lowers_of self.now.layers) source }
     {
-        if source.layer == 0 {
-            return None;
-        }
-        self.layers.layer(source.layer)?.read(source.key)
+        low_bytes(&self.layers, source)
     }
 
     /// Offers the bytes of a lower file, which the next copy of it takes in place of a clone.

@@ -32,7 +32,7 @@ impl Mount {
         if bytes.is_empty() {
             return Ok(Reply::Written(0));
         }
-        let start = file.write_place(bytes_in(&self.layers, file.source).len());
+        let start = file.write_place(bytes_in(&self.layers, file).len());
         let count = match fitting(start, bytes.len()) {
             Ok(count) => count,
             Err(errno) => return Ok(Reply::Refused(errno)),

@@ -2,7 +2,6 @@
 use Rattle.std.proofs.Common.{◌≡◌, ℕ, zero, suc, Bool, true, false, not, cond, ◌&&◌, ◌||◌, List, [], ◌∷◌, Option, None, Some, refl, sym, ap, ◌∙◌, is_some, is_none}
 use Rattle.std.specs.Option.{unwrap_or}
 use Rattle.std.proofs.lemmas.Bool.{false≢true}
-use Rattle.ov_base.specs.declared.attributes.Attributes.{Attributes}
 use Rattle.ov_base.specs.declared.bytes.Content.{Content}
 use Rattle.ov_base.specs.declared.bytes.Content.TheVariants.{File, SymbolicLink}
 use Rattle.ov_base.specs.declared.call.Call.TheVariants.{Open}
@@ -12,8 +11,8 @@ use Rattle.ov_base.specs.declared.errno.Errno.TheVariants.{ENOENT, EEXIST, ENOTD
 use Rattle.ov_base.specs.declared.node_id.NodeId.{NodeId}
 use Rattle.ov_base.specs.declared.reply.Reply.TheVariants as reply
 use Rattle.plain_model.specs.Layers.{Path, Layer, Shown, Folder, Contents, shows, is_directory}
-use Rattle.plain_model.specs.Tree.{Node, Branch, Leaf, Origin, Own, Untouched, Tree, node_at, node_of, face, Sight, SeenLeaf, see, is_folder}
-use Rattle.plain_model.specs.Machine.{View, Live, Frozen, Handle, Table, State, Look, look, is_found, is_link, lowest_free, DESCRIPTORS_MAX}
+use Rattle.plain_model.specs.Tree.{Node, Branch, Leaf, Own, Untouched, Tree, node_at, node_of, face, Sight, SeenLeaf, see, is_folder}
+use Rattle.plain_model.specs.Machine.{View, Live, Handle, Table, State, Look, look, is_found, is_link, lowest_free, DESCRIPTORS_MAX}
 use Rattle.plain_model.specs.Refusals.{◌or_else◌, when, walked, bad_flags, bad_mode, refusal}
 use Rattle.plain_model.specs.Changes.{change, opened, over_node, fresh, made_way, opens, way_of, new_handle, view_of, view_by, with_bytes, touched, with_handle, next_if}
 use Rattle.plain_model.proofs.Looking.{when-not, refusal-writable}

@@ -1,11 +1,10 @@
 -- What a change makes of a raw upper it makes of the filled one.
-use Rattle.std.proofs.Common.{◌≡◌, ◌≢◌, ℕ, ◌+◌, List, [], ◌∷◌, ◌++◌, Option, None, Some, option_map, refl, sym, ap, ◌∙◌}
+use Rattle.std.proofs.Common.{◌≡◌, ℕ, List, Option, None, Some, option_map, ap, ◌∙◌}
 use Rattle.ov_base.specs.declared.attributes.Attributes.{Attributes}
 use Rattle.ov_base.specs.declared.bytes.Content.TheVariants.{File}
-use Rattle.plain_model.specs.Layers.{Name, Path, Named, Inode, Layer, Contents, held, below, shows, content_over, fill, filled}
+use Rattle.plain_model.specs.Layers.{Path, Inode, Layer, Contents, below, shows, content_over, fill, filled}
 use Rattle.mount_laws.specs.Leaves.{PlacesLeaf}
 use Rattle.mount_laws.specs.Linking.{AddsName}
-use Rattle.mount_laws.specs.Moving.{MovesName, MovesDirectory}
 use Rattle.mount_laws.specs.Altered.{AltersInode, AltersDirectory}
 use Rattle.mount_laws.specs.OpenFiles.{WritesInode, DropsInode}
 use Rattle.plain_model.proofs.Filled.{marked-content}

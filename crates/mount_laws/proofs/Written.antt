@@ -1,19 +1,19 @@
--- A live file that is written, and one without a name that is forgotten: the layers show the tree then, and other live files stay so.
+-- A live file that gets other bytes, or bytes of its own, and one without a name that is forgotten: the layers show the tree then, and other live files stay so.
 use Rattle.std.proofs.Common.{◌≡◌, ◌≢◌, ℕ, List, [], ◌∷◌, Option, None, Some, refl, sym, ap, ap₂, ◌∙◌, ◌⊎◌, inl, inr, is_some}
 use Rattle.std.proofs.lemmas.Bool.{false≢true, cases_Bool}
 use Rattle.ov_base.specs.declared.bytes.Content.TheVariants.{File}
 use Rattle.ov_base.specs.declared.node_id.NodeId.{NodeId}
 use Rattle.plain_model.specs.Layers.{Name, Path, Named, Inode, Layer, held, through, AreLayers}
-use Rattle.plain_model.specs.Tree.{same_id, Leaf, Own, Tree, entry, node_at, node_of, put, face, sight_at, see_inode, merged, AreLinked, Remounts, count_of}
+use Rattle.plain_model.specs.Tree.{same_id, Node, Leaf, Own, Tree, entry, node_at, node_of, put, face, sight_at, see_inode, merged, AreLinked, Remounts, count_of}
 use Rattle.plain_model.specs.Machine.{State}
-use Rattle.plain_model.specs.Changes.{over_node, with_bytes}
-use Rattle.plain_model.proofs.Keeping.{Like, put-here, put-there, change-like, change-kept, removed-kept}
+use Rattle.plain_model.specs.Changes.{over_node, change, with_bytes}
+use Rattle.plain_model.proofs.Keeping.{Like, IsMild, put-here, put-there, change-like, change-kept, removed-kept}
 use Rattle.plain_model.proofs.Kept.{bytes-mild}
 use Rattle.plain_model.proofs.Merged.{named-seen}
 use Rattle.plain_model.proofs.Paths.{ids_tell}
 use Rattle.plain_model.proofs.Uppers.{meld, merged-meld, agree-where, through-agree}
 use Rattle.mount_laws.specs.Looks.{IsMountOf, IsHidden}
-use Rattle.mount_laws.specs.OpenFiles.{IsLive, WritesInode, rewritten, Rewrites, LawOfWritten, DropsInode, Forgets, LawOfForgotten}
+use Rattle.mount_laws.specs.OpenFiles.{IsLive, LawOfWritten, ChangesFile, AltersFile, DropsInode, Forgets, LawOfForgotten}
 use Rattle.mount_laws.proofs.Alters.{meld-alike}
 use Rattle.mount_laws.proofs.Handles.{not-same}
 use Rattle.mount_laws.proofs.Removed.{same-paths, same-mount}
@@ -46,15 +46,17 @@ stays-live U V t u e j node inode paths objects l = record {
   paths = λ q. (λ h. objects q ∙ (l.paths q).0 (sym (paths q) ∙ h), λ h. paths q ∙ (l.paths q).1 (sym (objects q) ∙ h));
 }
 
--- the node d, of the inode k, has other bytes
+-- the node d, of the inode k, has other bytes, or bytes of its own
 module _
     (U V : Layer) (lowers : List Layer) (s : State) (m : IsMountOf U lowers s) (b : AreLayers (V ∷ lowers)) (d : NodeId) (k : ℕ)
-    (bytes : List ℕ) (l : IsLive U s.tree d k) (w : WritesInode U V k bytes) where
+    (f : Node → Node) (mild : IsMild f) (bytes : List ℕ) (mark : Option Path) (l : IsLive U s.tree d k)
+    (does : f (Leaf (File l.bytes) l.attributes (Own (is_some l.mark)) l.links) ≡ Leaf (File bytes) l.attributes (Own (is_some mark)) l.links)
+    (w : ChangesFile U V k bytes mark) where
   abbrev u : Tree
-  u = rewritten s.tree d bytes
+  u = change f s.tree (Some d)
 
   like : (x : NodeId) → Like (s.tree x) (u x)
-  like = change-like (with_bytes bytes) (bytes-mild bytes) s.tree (Some d)
+  like = change-like f mild s.tree (Some d)
 
   -- paths lead where they led
   entries : (o : Option NodeId) (n : Name) → entry u o n ≡ entry s.tree o n
@@ -66,13 +68,13 @@ module _
   paths (n ∷ q) = ap (λ o. entry u o n) (paths q) ∙ entries (node_at s.tree q) n
 
   others : (e : NodeId) → e ≢ d → u e ≡ s.tree e
-  others e apart = put-there s.tree d (over_node (with_bytes bytes) (s.tree d)) e (not-same d e (λ h. apart (sym h)))
+  others e apart = put-there s.tree d (over_node f (s.tree d)) e (not-same d e (λ h. apart (sym h)))
 
   -- the node has the bytes, and so has the inode
-  own-node : u d ≡ Some (Leaf (File bytes) l.attributes (Own (is_some l.mark)) l.links)
+  own-node : u d ≡ Some (Leaf (File bytes) l.attributes (Own (is_some mark)) l.links)
   own-node =
-      put-here s.tree d (over_node (with_bytes bytes) (s.tree d)) d ((ids_tell d d).1 refl)
-      ∙ ap (over_node (with_bytes bytes)) l.node
+      put-here s.tree d (over_node f (s.tree d)) d ((ids_tell d d).1 refl)
+      ∙ ap (over_node f) l.node ∙ ap Some does
 
   was : w.inode ≡ record { content = File l.bytes; attributes = l.attributes; links = l.links; mark = l.mark }
   was =
@@ -80,8 +82,8 @@ module _
       sym w.before ∙ l.inode in
       cc
 
-  own-inode : V.inodes k ≡ Some (record { content = File bytes; attributes = l.attributes; links = l.links; mark = l.mark })
-  own-inode = w.now ∙ ap {A = Inode} (λ i. Some (record i { content = File bytes })) was
+  own-inode : V.inodes k ≡ Some (record { content = File bytes; attributes = l.attributes; links = l.links; mark = mark })
+  own-inode = w.now ∙ ap {A = Inode} (λ i. Some (record i { content = File bytes; mark = mark })) was
 
   -- a path that names the inode shows the bytes, and any other what it did
   own-sight : (q : Path) → held U q ≡ Some (Named k) → face (u d) ≡ merged V lowers q
@@ -103,7 +105,7 @@ module _
             let is : d ≡ x = (ids_tell d x).0 e in
             ap (λ z. face (u z)) (sym is) ∙ own-sight q ((l.paths q).0 (h ∙ ap Some (sym is)))
         | inr n ↦
-            ap face (put-there s.tree d (over_node (with_bytes bytes) (s.tree d)) x n)
+            ap face (put-there s.tree d (over_node f (s.tree d)) x n)
             ∙ before (Some x) h
             ∙ sym (other q (λ e. false≢true (sym n ∙ (ids_tell d x).1 (let z : Some d ≡ Some x = sym e ∙ h in cc))))
       ]
@@ -115,8 +117,9 @@ module _
   lift y z (inl e) = inl e
   lift y z (inr k) = inr (same-linked V U (λ x. sym (w.objects x)) y z k)
 
-  rewrites : Rewrites U V lowers s d k bytes
-  rewrites = record {
+  -- so it is by any change that leaves what kind of node it is, and its names
+  pub alters : AltersFile U V lowers s d k f
+  alters = record {
     mounts = record {
       layers = b;
       shows = record {
@@ -124,7 +127,7 @@ module _
         linked = linked-paths;
         apart = λ y z x h g. lift y z (m.shows.apart y z x (sym (paths y) ∙ h) (sym (paths z) ∙ g));
       };
-      kept = change-kept (with_bytes bytes) (bytes-mild bytes) s.tree s.serial (Some d) m.kept;
+      kept = change-kept f mild s.tree s.serial (Some d) m.kept;
       writable = m.writable;
     };
     paths = paths;
@@ -135,7 +138,7 @@ module _
       bytes = bytes;
       attributes = l.attributes;
       links = l.links;
-      mark = l.mark;
+      mark = mark;
       inode = own-inode;
       node = own-node;
       paths = λ q. (λ h. w.objects q ∙ (l.paths q).0 (sym (paths q) ∙ h), λ h. paths q ∙ (l.paths q).1 (sym (w.objects q) ∙ h));
@@ -145,7 +148,17 @@ module _
 
 -- other bytes of a live file make the mount one of the upper that has them
 pub law_of_written : LawOfWritten
-law_of_written U V lowers s m b d k bytes l w = rewrites U V lowers s m b d k bytes l w
+law_of_written U V lowers s m b d k bytes l w =
+    let two : Some w.inode ≡ Some (record { content = File l.bytes; attributes = l.attributes; links = l.links; mark = l.mark }) = sym w.before ∙ l.inode in
+    let one : w.inode ≡ record { content = File l.bytes; attributes = l.attributes; links = l.links; mark = l.mark } = cc in
+    let a : AltersFile U V lowers s d k (with_bytes bytes) = alters U V lowers s m b d k (with_bytes bytes) (bytes-mild bytes) bytes l.mark l refl (record {
+      inode = w.inode;
+      before = w.before;
+      now = w.now ∙ ap (λ (x : Inode). Some (record w.inode { content = File bytes; mark = x.mark })) one;
+      inodes = w.inodes;
+      objects = w.objects;
+    }) in
+    record { mounts = a.mounts; paths = a.paths; others = a.others; hidden = a.hidden; folders = a.folders; live = a.live; stays = a.stays }
 
 -- the node d, of the inode k without a name, goes
 module _

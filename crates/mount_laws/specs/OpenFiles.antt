@@ -1,6 +1,6 @@
 -- Open files that stand in the upper: what is live, and what a write and the last close make of the mount (POSIX.1-2017, open(), write()
 -- and close(): a file without a name is there until its last descriptor is closed).
-use Rattle.std.specs.Prelude.{◌≡◌, ◌≢◌, ◌↔◌, ℕ, List, [], ◌∷◌, Option, None, Some, is_some}
+use Rattle.std.specs.Prelude.{◌≡◌, ◌≢◌, ◌↔◌, ℕ, true, cond, List, [], ◌∷◌, Option, None, Some, is_some}
 use Rattle.ov_base.specs.declared.attributes.Attributes.{Attributes}
 use Rattle.ov_base.specs.declared.bytes.Content.TheVariants.{File}
 use Rattle.ov_base.specs.declared.call.Call.TheVariants as call
@@ -8,9 +8,9 @@ use Rattle.ov_base.specs.declared.call.OpenFlags.{OpenFlags}
 use Rattle.ov_base.specs.declared.node_id.NodeId.{NodeId}
 use Rattle.ov_base.specs.declared.node_id.NodeId.TheVariants.{New}
 use Rattle.plain_model.specs.Layers.{Path, Named, Inode, Layer, held, Contents, shows, AreLayers}
-use Rattle.plain_model.specs.Tree.{Leaf, Own, Tree, node_at, put, is_folder}
+use Rattle.plain_model.specs.Tree.{Node, Leaf, Own, Tree, node_at, put, is_folder}
 use Rattle.plain_model.specs.Machine.{State}
-use Rattle.plain_model.specs.Changes.{fresh, change, with_bytes, after}
+use Rattle.plain_model.specs.Changes.{fresh, change, with_bytes, opened, after}
 use Rattle.mount_laws.specs.Looks.{IsMountOf, IsHidden}
 use Rattle.mount_laws.specs.Leaves.{GainsLeaf, MakesFile}
 
@@ -71,6 +71,32 @@ abbrev pub LawOfWritten : Type 0
 LawOfWritten =
     (U V : Layer) (lowers : List Layer) (s : State) → IsMountOf U lowers s → AreLayers (V ∷ lowers) →
     (d : NodeId) (k : ℕ) (bytes : List ℕ) → IsLive U s.tree d k → WritesInode U V k bytes → Rewrites U V lowers s d k bytes
+
+-- The upper V is U with these bytes and this mark of the inode; what it holds at each path, and its other inodes, stay.
+pub record ChangesFile (U V : Layer) (k : ℕ) (bytes : List ℕ) (mark : Option Path) : Type 0 where
+  pub inode : Inode
+  pub before : U.inodes k ≡ Some inode
+  pub now : V.inodes k ≡ Some (record inode { content = File bytes; mark = mark })
+  pub inodes : (j : ℕ) → j ≢ k → V.inodes j ≡ U.inodes j
+  pub objects : (x : Path) → held V x ≡ held U x
+
+-- The tree with the node d changed makes the mount one of the upper V: paths lead where they led, other nodes are as they were, what is a
+-- directory stays one, and d and the other live files are live.
+pub record AltersFile (U V : Layer) (lowers : List Layer) (s : State) (d : NodeId) (k : ℕ) (f : Node → Node) : Type 0 where
+  pub mounts : IsMountOf V lowers (record s { tree = change f s.tree (Some d) })
+  pub paths : (q : Path) → node_at (change f s.tree (Some d)) q ≡ node_at s.tree q
+  pub others : (e : NodeId) → e ≢ d → change f s.tree (Some d) e ≡ s.tree e
+  pub hidden : (e : NodeId) → IsHidden s.tree e → IsHidden (change f s.tree (Some d)) e
+  pub folders : (e : NodeId) → is_folder (change f s.tree (Some d) e) ≡ is_folder (s.tree e)
+  pub live : IsLive V (change f s.tree (Some d)) d k
+  pub stays : (e : NodeId) (j : ℕ) → e ≢ d → j ≢ k → IsLive U s.tree e j → IsLive V (change f s.tree (Some d)) e j
+
+-- a live file that is opened for writing, whose bytes are its own then: those that it shows, or none where it is emptied
+abbrev pub LawOfChangedFile : Type 0
+LawOfChangedFile =
+    (U V : Layer) (lowers : List Layer) (s : State) → IsMountOf U lowers s → AreLayers (V ∷ lowers) →
+    (d : NodeId) (k : ℕ) (flags : OpenFlags) → flags.writes ≡ true → (l : IsLive U s.tree d k) →
+    ChangesFile U V k (cond flags.truncate [] l.bytes) None → AltersFile U V lowers s d k (opened flags)
 
 -- The upper V is U without the inode; what it holds at each path, and its other inodes, stay.
 pub record DropsInode (U V : Layer) (k : ℕ) : Type 0 where

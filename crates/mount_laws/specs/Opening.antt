@@ -11,7 +11,7 @@ use Rattle.ov_base.specs.declared.node_id.NodeId.TheVariants.{New}
 use Rattle.ov_base.specs.declared.reply.Reply.TheVariants as reply
 use Rattle.plain_model.specs.Layers.{Name, Path, Inode, Layer, Shown, Contents, shows, is_directory}
 use Rattle.plain_model.specs.Tree.{origin_in, node_at, is_folder}
-use Rattle.plain_model.specs.Machine.{View, Live, Frozen, Handle, State, lowest_free}
+use Rattle.plain_model.specs.Machine.{View, Live, Handle, State, lowest_free}
 use Rattle.plain_model.specs.Refusals.{when, bad_flags, bad_mode, refusal}
 use Rattle.plain_model.specs.Changes.{change, opened, way_of, new_handle, view_by, view_of, with_handle, after}
 use Rattle.plain_model.specs.Replies.{reply_of}

@@ -5,7 +5,7 @@ ghost use Rattle.mount_laws.specs.Removed.{LawOfCloseRemoved, LawOfListRemoved};
 ghost use Rattle.mount_laws.specs.Leaves.{LawOfFileMade, LawOfLinkMade, LawOfPlacedLeaf, LawOfReadlink, LawOfSymlink};
 ghost use Rattle.mount_laws.specs.Linking.{LawOfAddedName, LawOfCopiedName, LawOfLink, LawOfNameMade};
 ghost use Rattle.mount_laws.specs.Looks.{LawOfBadDescriptors, LawOfBeginning, LawOfClose, LawOfDirectories, LawOfList, LawOfMade, LawOfMkdir, LawOfOpen, LawOfPlacedDirectory, LawOfPlacedParent, LawOfStat, LawOfWalks};
-ghost use Rattle.mount_laws.specs.OpenFiles.{LawOfForgotten, LawOfLiveMade, LawOfLiveOne, LawOfLiveShown, LawOfWritten};
+ghost use Rattle.mount_laws.specs.OpenFiles.{LawOfChangedFile, LawOfForgotten, LawOfLiveMade, LawOfLiveOne, LawOfLiveShown, LawOfWritten};
 ghost use Rattle.mount_laws.specs.Removals.{LawOfRemovedDirectory, LawOfRmdir, LawOfTakenAway, LawOfUnlink, LawOfUnlinked};
 ghost use Rattle.mount_laws.specs.Seeks.{LawOfSeek};
 ghost use Rattle.mount_laws.specs.StayOpen.{LawOfAddedLink, LawOfAltersNamed, LawOfCopiedLink, LawOfLiveKept, LawOfLiveThroughDeleted, LawOfLiveThroughFile, LawOfLiveThroughLink, LawOfLiveThroughMade, LawOfLiveThroughMode, LawOfLiveThroughName, LawOfLiveThroughOwner, LawOfLiveThroughParent, LawOfLiveThroughRmdir, LawOfLiveThroughSet, LawOfLiveThroughUnlink};
@@ -238,6 +238,12 @@ pub fn law_of_live_made()
 /// Other bytes of a live file make the mount one of the upper that has them; paths lead where they led and other files stay live.
 pub fn law_of_written()
     ensures { LawOfWritten }
+{}
+
+/// Bytes of its own for a live file that is opened for writing make the mount one of the upper that has them; paths lead where they led
+/// and other files stay live (overlayfs.rst, "Metadata only copy up").
+pub fn law_of_changed_file()
+    ensures { LawOfChangedFile }
 {}
 
 /// A file without a name goes with its last handle (POSIX.1-2017, close()), and nothing else does.

@@ -2,7 +2,7 @@
 ghost use Rattle.std.specs.Prelude.{◌≡◌, ◌<◌, ◌≤◌, ◌^◌, IfOk, take, drop};
 ghost use Rattle.open_handles.specs.Places.{sought_from, base_of, write_begin, count_fitting, IsSeekBase, IsWritePlace, AreFitting};
 
-use ov_base::Errno;
+use ov_base::{Errno, Source};
 
 /// The most bytes of a file.
 pub const FILE_MAX: u64 = 1_048_576;
@@ -18,10 +18,12 @@ pub enum FileSource {
     Lower { layer: usize, key: usize },
 }
 
-/// A file that is open, its access, and its place in bytes (POSIX.1-2017, "Open File Description").
+/// A file that is open, the lower file whose bytes it keeps if it keeps any, its access, and its place
+/// in bytes (POSIX.1-2017, "Open File Description"; overlayfs.rst, "Non-standard behavior").
 #[derive(Clone, Copy)]
 pub struct OpenFile {
     pub source: FileSource,
+    pub low: Option<Source>,
     pub reads: bool,
     pub writes: bool,
     pub append: bool,

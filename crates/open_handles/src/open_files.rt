@@ -59,6 +59,13 @@ impl OpenFiles {
         self.holders(key) > 0
     }
 
+    /// Whether one handle more on a file can be counted.
+    pub fn is_countable(&self, key: usize) -> bool
+        ensures { result ≡ nat_lt (file_holders self.now key) HOLDERS_MAX }
+    {
+        self.holders(key) < usize::MAX
+    }
+
     /// Makes room for one file more, so that the next `hold` takes no memory.
     pub fn reserve(&mut self) -> Result<(), AllocError>
         ensures same { SameCounts self.old self.new }

@@ -18,6 +18,7 @@ mod options;
 mod path;
 mod redirect;
 mod reply;
+mod source;
 
 pub use attribute_change::AttributeChange;
 pub use attribute_name::AttributeName;
@@ -36,3 +37,4 @@ pub use options::Options;
 pub use path::{PATH_MAX, Path};
 pub use redirect::Redirect;
 pub use reply::{ObjectKind, Reply, Stat};
+pub use source::Source;

@@ -2,5 +2,6 @@ pub mod Clients
 pub mod Histories
 pub mod JobSteps
 pub mod Manifests
+pub mod Mountable
 pub mod Scripts
 pub mod Stages

@@ -1,14 +1,15 @@
 -- The lines of objects.
-use Rattle.std.specs.Prelude.{ℕ, Bool, true, false, List, [], ◌∷◌, ◌++◌, cond, reverse, Option, Some, None, codes}
+use Rattle.std.specs.Prelude.{ℕ, Bool, true, false, List, [], ◌∷◌, ◌++◌, cond, length, reverse, Option, Some, None, option_map, codes}
 use Rattle.std.specs.List.{flat_map}
 use Rattle.ov_base.specs.declared.bytes.Content.{Content}
 use Rattle.ov_base.specs.declared.bytes.Content.TheVariants as content
 use Rattle.ov_base.specs.declared.redirect.Redirect.{Redirect}
 use Rattle.ov_base.specs.declared.redirect.Redirect.TheVariants as redirect
+use Rattle.plain_model.specs.Layers.{Path}
 use Rattle.layer_tree.specs.declared.node.Marks.{Marks}
 use Rattle.layer_tree.specs.declared.node.Node.{Node}
 use Rattle.layer_tree.specs.declared.node.Node.TheVariants as node
-use Rattle.mount_calls.specs.Status.{status_of}
+use Rattle.mount_calls.specs.Status.{content_bytes, status_of}
 use Rattle.ov_script.specs.Escapes.{escaped_of}
 use Rattle.ov_script.specs.Lines.{stat_words}
 
@@ -33,15 +34,26 @@ abbrev pub target_words : Content → List ℕ
 target_words (content.File bytes) = []
 target_words (content.SymbolicLink target) = codes " -> " ++ escaped_of target
 
--- what follows the path: the marks of a directory where they are told, the target of a symbolic link
+-- the mark of a file without bytes of its own
+abbrev pub metacopy_words : Option Path → List ℕ
+metacopy_words None = []
+metacopy_words (Some path) = codes " metacopy " ++ path_text (reverse path)
+
+-- what follows the path: the target of a symbolic link, and where marks are told those of a directory or a file
 abbrev pub words_after : Bool → Node → List ℕ
 words_after true (node.Directory d) = mark_words d.marks
 words_after false (node.Directory d) = []
-words_after marks (node.Inode i) = target_words i.content
+words_after true (node.Inode i) = target_words i.content ++ metacopy_words (option_map (λ b. b.value) i.mark)
+words_after false (node.Inode i) = target_words i.content
 
--- the line of an object at a path, without its line break
-abbrev pub object_line : Bool → Node → List (List ℕ) → List ℕ
-object_line marks n path = stat_words (status_of n) ++ 32 ∷ path_text path ++ words_after marks n
+-- the line of an object of this size at a path, without its line break
+abbrev pub object_line : Bool → Node → ℕ → List (List ℕ) → List ℕ
+object_line marks n size path = stat_words (record (status_of n) { size = size }) ++ 32 ∷ path_text path ++ words_after marks n
+
+-- how many bytes a file or the target of a symbolic link has, if there is one
+abbrev pub content_size : Option Content → ℕ
+content_size None = 0
+content_size (Some c) = length (content_bytes c)
 
 -- the line of a whiteout at a path, without its line break
 abbrev pub whiteout_line : List (List ℕ) → List ℕ

@@ -131,10 +131,11 @@ fn put_layer<W: Write, F: Callback, H: Rule>(
     ensures err { IfErr result (plays.IsCommandRefusal stage.now (asked.Layer index)) }
     ensures stream { TellsLine output.old.failed output.new.failed result }
 {
-    let Some(layer) = stage.core.layers().layer(index as usize) else {
+    let layers = stage.core.layers();
+    let Some(_) = layers.layer(index as usize) else {
         return Err(LineFault::BadCommand);
     };
-    write_layer(alloc, layer, output)?;
+    write_layer(alloc, layers, index as usize, output)?;
     Ok(())
 }
 

@@ -1,11 +1,11 @@
 // The lines of objects.
-ghost use Rattle.std.specs.Prelude.{Some};
+ghost use Rattle.std.specs.Prelude.{Some, option_map};
 ghost use Rattle.ov_server.specs.Objects as objects;
-ghost use Rattle.ov_server.specs.Objects.{path_text, object_line, whiteout_line, words_after, mark_words, redirect_text, redirect_words};
+ghost use Rattle.ov_server.specs.Objects.{path_text, object_line, whiteout_line, words_after, mark_words, metacopy_words, redirect_text, redirect_words};
 
 use layer_tree::{Marks, Node};
 use mount_calls::status_of;
-use ov_base::{Content, Name, Redirect};
+use ov_base::{Content, Name, Path, Redirect, Stat};
 use ov_script::{Escaped, StatWords};
 use std::fmt;
 
@@ -28,19 +28,24 @@ impl fmt::Display for PathText<'_> {
     }
 }
 
-/// The line of an object of a layer at a path, without its line break; `with_marks` adds the marks of a directory.
+/// The line of an object of a layer at a path, without its line break, with the size that it shows; `with_marks` adds the marks of a
+/// directory or a file.
 #[derive(Clone, Copy)]
 pub struct ObjectLine<'a> {
     pub node: &'a Node,
+    pub size: u64,
     pub path: &'a [Name],
     pub with_marks: bool,
 }
 
 impl fmt::Display for ObjectLine<'_> {
-    ghost output = { λ l. Some (object_line l.with_marks l.node.now l.path.now) };
+    ghost output = { λ l. Some (object_line l.with_marks l.node.now l.size l.path.now) };
 
     fn fmt<W: fmt::Write>(&self, f: &mut fmt::Formatter<W>) -> fmt::Result {
-        let status = StatWords(status_of(self.node));
+        let status = StatWords(Stat {
+            size: self.size,
+            ..status_of(self.node)
+        });
         let path = PathText(self.path);
         let words = WordsAfter {
             node: self.node,
@@ -63,7 +68,7 @@ impl fmt::Display for WhiteoutLine<'_> {
     }
 }
 
-// What follows the path: the marks of a directory, the target of a symbolic link.
+// What follows the path: the target of a symbolic link, and the marks of a directory or a file.
 #[derive(Clone, Copy)]
 struct WordsAfter<'a> {
     node: &'a Node,
@@ -85,7 +90,12 @@ impl fmt::Display for WordsAfter<'_> {
             }
             Node::Inode(inode) => {
                 let target = TargetWords(&inode.content);
-                write!(f, "{target}")
+                if self.with_marks {
+                    let mark = MetacopyWords(&inode.mark);
+                    write!(f, "{target}{mark}")
+                } else {
+                    write!(f, "{target}")
+                }
             }
         }
     }
@@ -103,6 +113,23 @@ impl fmt::Display for TargetWords<'_> {
             Content::SymbolicLink(target) => {
                 let target = Escaped(target.as_bytes().as_slice());
                 write!(f, " -> {target}")
+            }
+        }
+    }
+}
+
+#[derive(Clone, Copy)]
+struct MetacopyWords<'a>(&'a Option<Box<Path>>);
+
+impl fmt::Display for MetacopyWords<'_> {
+    ghost output = { λ m. Some (metacopy_words (option_map (λ b. b.value) m.0.now)) };
+
+    fn fmt<W: fmt::Write>(&self, f: &mut fmt::Formatter<W>) -> fmt::Result {
+        match self.0 {
+            None => Ok(()),
+            Some(path) => {
+                let path = PathText(path.names());
+                write!(f, " metacopy {path}")
             }
         }
     }

@@ -1,15 +1,16 @@
 // Trees as object lines, each directory before what is in it, names by their bytes.
 ghost use Rattle.std.specs.Prelude.{◌≡◌, ◌∷◌, ◌++◌, [], OnOk, string_bytes};
 ghost use Rattle.ov_server.specs.Devices.{Marks};
-ghost use Rattle.ov_server.specs.Objects.{object_line, whiteout_line};
+ghost use Rattle.merged_lookup.specs.Marking.{content_in, inode_over};
+ghost use Rattle.ov_server.specs.Objects.{content_size, object_line, whiteout_line};
 
 use crate::devices::Output;
 use crate::fault::DeviceFault;
 use crate::object_lines::{ObjectLine, WhiteoutLine};
 use dir_listing::names;
 use layer_tree::{Entry, Layer, Node, ROOT};
-use merged_lookup::{Found, Layers, Stack};
-use ov_base::Name;
+use merged_lookup::{Found, Layers, Place, Stack};
+use ov_base::{Content, Name};
 use std::alloc::{AllocError, Global};
 use std::io::Write;
 
@@ -18,7 +19,7 @@ trait Tree {
     // What names a directory of the tree.
     type Directory: Drop;
 
-    // Whether lines tell the marks of directories.
+    // Whether lines tell the marks of objects.
     const WITH_MARKS: bool;
 
     fn root(&self) -> Self::Directory;
@@ -34,13 +35,19 @@ trait Tree {
 #[derive(Drop)]
 enum Child<'a, D> {
     Directory(D),
-    Inode(&'a Node),
+    // With the size that it shows.
+    Inode(&'a Node, u64),
     Whiteout,
     Nothing,
 }
 
+// The layer of a number, among those of a mount.
 #[derive(Clone, Copy)]
-struct LayerTree<'a>(&'a Layer);
+struct LayerTree<'a> {
+    layers: &'a Layers,
+    index: usize,
+    layer: &'a Layer,
+}
 
 impl Tree for LayerTree<'_> {
     type Directory = usize;
@@ -52,18 +59,24 @@ impl Tree for LayerTree<'_> {
     }
 
     fn names(&self, alloc: Global, directory: &usize) -> Result<Vec<Name>, AllocError> {
-        self.0.names(alloc, *directory)
+        self.layer.names(alloc, *directory)
     }
 
     fn node(&self, directory: &usize) -> Option<&Node> {
-        self.0.node(*directory)
+        self.layer.node(*directory)
     }
 
     fn child(&self, directory: &usize, name: &Name) -> Child<'_, usize> {
-        match self.0.entry(*directory, name) {
-            Some(Entry::Object(key)) => match self.0.node(key) {
+        match self.layer.entry(*directory, name) {
+            Some(Entry::Object(key)) => match self.layer.node(key) {
                 Some(Node::Directory(_)) => Child::Directory(key),
-                Some(node) => Child::Inode(node),
+                Some(node) => {
+                    let place = Place {
+                        layer: self.index,
+                        key,
+                    };
+                    Child::Inode(node, size_at(self.layers, place))
+                }
                 None => Child::Nothing,
             },
             Some(Entry::Whiteout) => Child::Whiteout,
@@ -96,11 +109,22 @@ impl Tree for MergedTree<'_> {
         match self.0.step(directory, name) {
             Some(Found::Directory(stack)) => Child::Directory(stack),
             Some(Found::Inode(place)) => match self.0.node(place) {
-                Some(node) => Child::Inode(node),
+                Some(node) => Child::Inode(node, size_at(self.0, place)),
                 None => Child::Nothing,
             },
             None => Child::Nothing,
         }
+    }
+}
+
+// How many bytes what stands at a place shows, of a file or the target of a symbolic link.
+fn size_at(layers: &Layers, place: Place) -> u64
+    ensures { result ≡ content_size (content_in (inode_over layers.now place)) }
+{
+    match layers.content_at(place) {
+        Some(Content::File(bytes)) => bytes.as_slice().len() as u64,
+        Some(Content::SymbolicLink(target)) => target.as_bytes().as_slice().len() as u64,
+        None => 0,
     }
 }
 
@@ -118,15 +142,24 @@ struct Walk<D> {
     levels: Vec<Level<D>>,
 }
 
-/// Puts the tree of a layer out.
+/// Puts the tree of the layer of a number out, if there is one: the upper's marked files have the size that they show.
 pub fn write_layer<W: Write>(
     alloc: Global,
-    layer: &Layer,
+    layers: &Layers,
+    index: usize,
     output: &mut Output<W>,
 ) -> Result<(), DeviceFault>
     ensures { Marks output.old.failed output.new.failed result }
 {
-    write_tree(alloc, &LayerTree(layer), output)
+    let Some(layer) = layers.layer(index) else {
+        return Ok(());
+    };
+    let tree = LayerTree {
+        layers,
+        index,
+        layer,
+    };
+    write_tree(alloc, &tree, output)
 }
 
 /// Puts the merged tree out.
@@ -206,8 +239,8 @@ fn written<T: Tree>(
 ) -> Result<Option<Level<T::Directory>>, AllocError> {
     match child {
         Child::Directory(directory) => Ok(Some(entered(alloc, tree, directory, path, text)?)),
-        Child::Inode(node) => {
-            write_object(node, path, T::WITH_MARKS, text)?;
+        Child::Inode(node, size) => {
+            write_object(node, size, path, T::WITH_MARKS, text)?;
             Ok(None)
         }
         Child::Whiteout => {
@@ -227,7 +260,7 @@ fn entered<T: Tree>(
     text: &mut String,
 ) -> Result<Level<T::Directory>, AllocError> {
     if let Some(node) = tree.node(&directory) {
-        write_object(node, path, T::WITH_MARKS, text)?;
+        write_object(node, 0, path, T::WITH_MARKS, text)?;
     }
     let mut left = tree.names(alloc, &directory)?;
     left.reverse();
@@ -236,14 +269,16 @@ fn entered<T: Tree>(
 
 fn write_object(
     node: &Node,
+    size: u64,
     path: &[Name],
     with_marks: bool,
     text: &mut String,
 ) -> Result<(), AllocError>
-    ensures { OnOk result (string_bytes text.new ≡ string_bytes text.old ++ object_line with_marks node.now path.now ++ 10 ∷ []) }
+    ensures { OnOk result (string_bytes text.new ≡ string_bytes text.old ++ object_line with_marks node.now size path.now ++ 10 ∷ []) }
 {
     let line = ObjectLine {
         node,
+        size,
         path,
         with_marks,
     };

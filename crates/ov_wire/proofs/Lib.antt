@@ -9,3 +9,4 @@ mod Reading
 mod Listing
 mod HexDigits
 mod Pairs
+mod Unmarked

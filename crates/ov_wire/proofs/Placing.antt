@@ -25,6 +25,7 @@ stands-directory L names o None h = ap holds_directory h
 stands-directory L names o (Some put.Whiteout) h = ap holds_directory h
 stands-directory L names o (Some (put.Object (object.Directory a m))) h = ap holds_directory h.1
 stands-directory L names o (Some (put.Object (object.Inode c a))) h = ap holds_directory h.1
+stands-directory L names o (Some (put.Object (object.Marked q a))) h = absurd h
 stands-directory L names o (Some (put.Link None)) h = absurd h
 stands-directory L names o (Some (put.Link (Some to))) h = ap holds_directory h.1
 
@@ -34,6 +35,7 @@ stands-some L names o None h = ap (λ (x : Option Object). is_some x) h
 stands-some L names o (Some put.Whiteout) h = ap (λ (x : Option Object). is_some x) h
 stands-some L names o (Some (put.Object (object.Directory a m))) h = ap (λ (x : Option Object). is_some x) h.1
 stands-some L names o (Some (put.Object (object.Inode c a))) h = ap (λ (x : Option Object). is_some x) h.1
+stands-some L names o (Some (put.Object (object.Marked q a))) h = absurd h
 stands-some L names o (Some (put.Link None)) h = absurd h
 stands-some L names o (Some (put.Link (Some to))) h = ap (λ (x : Option Object). is_some x) h.1
 
@@ -43,6 +45,7 @@ stands-kept old new kept same names o None h = h
 stands-kept old new kept same names o (Some put.Whiteout) h = h
 stands-kept old new kept same names o (Some (put.Object (object.Directory a m))) h = h
 stands-kept old new kept same names o (Some (put.Object (object.Inode c a))) h = (h.0, h.1, kept h.0 _ h.2)
+stands-kept old new kept same names o (Some (put.Object (object.Marked q a))) h = h
 stands-kept old new kept same names o (Some (put.Link None)) h = h
 stands-kept old new kept same names o (Some (put.Link (Some to))) h = (h.0, h.1, same to (ap (λ (x : Option Object). is_some x) h.2) ∙ h.2)
 
@@ -244,6 +247,7 @@ module _ (old new : Layer) (a : Attributes) (set : Bool) (before : List Entry) (
   beside n q off None is h = p.elsewhere (n ∷ q) off ∙ h
   beside n q off (Some put.Whiteout) is h = p.elsewhere (n ∷ q) off ∙ h
   beside n q off (Some (put.Object (object.Directory b m))) is h = (h.0, p.elsewhere (n ∷ q) off ∙ h.1)
+  beside n q off (Some (put.Object (object.Marked t b))) is h = h
   beside n q off (Some (put.Link None)) is h = h
   beside n q off (Some (put.Link (Some t))) is h = (h.0, p.elsewhere (n ∷ q) off ∙ h.1, kept-held t h.0 h.2)
   beside n q off (Some (put.Object (object.Inode c b))) is h = (h.0, p.elsewhere (n ∷ q) off ∙ h.1, counts (cases_Bool (same_path to (n ∷ q))))
@@ -316,6 +320,7 @@ leads-same L a set before d (put.Link (Some (n ∷ p))) to_further tells = ap (�
     of (Some put.Whiteout) h = ap (λ (o : Option Object). is_named o && true) h
     of (Some (put.Object (object.Directory b m))) h = ap (λ (o : Option Object). is_named o && true) h.1
     of (Some (put.Object (object.Inode c b))) h = ap (λ (o : Option Object). is_named o && true) h.1
+    of (Some (put.Object (object.Marked q b))) h = absurd h
     of (Some (put.Link None)) h = absurd h
     of (Some (put.Link (Some t))) h = ap (λ (o : Option Object). is_named o && false) h.1
 
@@ -393,6 +398,7 @@ root-entry L a true before i d h = absurd (of (is_directory (Some i)) h)
 root-entry L a false before put.Whiteout d h = absurd (cc)
 root-entry L a false before (put.Link to) d h = absurd (cc)
 root-entry L a false before (put.Object (object.Inode c b)) d h = absurd (cc)
+root-entry L a false before (put.Object (object.Marked q b)) d h = absurd (cc)
 root-entry L a false before (put.Object (object.Directory b m)) d h =
     (([], put.Object (object.Directory b m)) ∷ before, ap (λ s. cond (not s) (Ok (([], put.Object (object.Directory b m)) ∷ before)) (Err fault.Exists)) (sym d.set), root-draft L a b m before d)
 

@@ -13,6 +13,7 @@ use Rattle.layer_tree.specs.declared.node.Object.{Object as NewObject}
 use Rattle.layer_tree.specs.declared.node.Object.TheVariants as object
 use Rattle.layer_tree.proofs.Changing.{key_of_entry, kind_seen, presence_seen}
 use Rattle.layer_tree.proofs.Following.{follow, follow-path}
+use Rattle.ov_wire.specs.ManifestEntries.{is_marked}
 use Rattle.ov_wire.specs.ManifestLayers.{Stands}
 use Rattle.ov_wire.specs.Drafts.{Puts, PutsName, is_named, leads_in}
 use Rattle.layer_tree.specs.Link.{Links}
@@ -58,17 +59,18 @@ nothing-below L layer p none (m ∷ r) = of (held L (m ∷ (r ++ p))) refl (noth
         absurd (true≢false (sym parent ∙ ap holds_directory above))
 
 -- an object came
-pub puts-object : (old new : Tree) (dir : ℕ) (name : Name) (path : Path) (o : NewObject) (key : ℕ) → SetsPath (layer_of old) (layer_of new) (name ∷ path) (seen_object key o) → Inserts old new dir name o key → Puts (layer_of old) (layer_of new) (name ∷ path) (put.Object o)
-puts-object old new dir name path o key s i = record {
-  there = there o s.there i.inode;
+pub puts-object : (old new : Tree) (dir : ℕ) (name : Name) (path : Path) (o : NewObject) (key : ℕ) → is_marked o ≡ false → SetsPath (layer_of old) (layer_of new) (name ∷ path) (seen_object key o) → Inserts old new dir name o key → Puts (layer_of old) (layer_of new) (name ∷ path) (put.Object o)
+puts-object old new dir name path o key own s i = record {
+  there = there o own s.there i.inode;
   fresh = λ k h. fresh o k (sym s.there ∙ h);
   elsewhere = s.elsewhere;
   inodes = λ k x is. i.inodes k (λ same. absurd (lost k x is same)) ∙ is;
 }
   where
-    there : (o : NewObject) → held (layer_of new) (name ∷ path) ≡ Some (seen_object key o) → inode_at new key ≡ new_inode o → Stands (layer_of new) 1 (held (layer_of new) (name ∷ path)) (Some (put.Object o))
-    there (object.Directory a m) h is = (key, h)
-    there (object.Inode c a) h is = (key, h, is)
+    there : (o : NewObject) → is_marked o ≡ false → held (layer_of new) (name ∷ path) ≡ Some (seen_object key o) → inode_at new key ≡ new_inode o → Stands (layer_of new) 1 (held (layer_of new) (name ∷ path)) (Some (put.Object o))
+    there (object.Directory a m) own h is = (key, h)
+    there (object.Inode c a) own h is = (key, h, is)
+    there (object.Marked q a) own h is = absurd (true≢false own)
 
     none : inode_at old key ≡ None
     none = ap (option_and_then inode_of) i.fresh
@@ -76,6 +78,7 @@ puts-object old new dir name path o key s i = record {
     fresh : (o : NewObject) (k : ℕ) → Some (seen_object key o) ≡ Some (layers.Named k) → inode_at old k ≡ None
     fresh (object.Directory a m) k e = absurd (cc)
     fresh (object.Inode c a) k e = let same : key ≡ k = cc in ap (inode_at old) (sym same) ∙ none
+    fresh (object.Marked q a) k e = let same : key ≡ k = cc in ap (inode_at old) (sym same) ∙ none
 
     lost : (k : ℕ) (x : Inode) → inode_at old k ≡ Some x → k ≡ key → ⊥
     lost k x is same =

@@ -1,12 +1,14 @@
 -- Entries and layers one after the other, as they are read.
-use Rattle.std.proofs.Common.{◌≡◌, ℕ, Bool, suc, ◌+◌, ◌<◌, ◌≤◌, List, [], ◌∷◌, ◌++◌, length, get_or, drop, take, map, true, Option, Some, None, Result, Ok, Err, IfOk, IfErr, is_ok, true≢false, refl, sym, ap, subst, ◌∙◌, add-one}
+use Rattle.std.proofs.Common.{◌≡◌, ℕ, Bool, suc, ◌+◌, ◌<◌, ◌≤◌, List, [], ◌∷◌, ◌++◌, length, get_or, drop, take, map, true, false, cond, codes, ◌&&◌, nat_le, ℤ, pos, negsuc, Option, Some, None, Result, Ok, Err, IfOk, IfErr, is_ok, true≢false, refl, sym, ap, subst, ◌∙◌, add-one}
 use Rattle.std.proofs.lemmas.List.{drop_more, drop_all, take_more, map-append}
-use Rattle.toml.specs.Data.{Items, no_items, item, Members}
+use Rattle.toml.specs.Data.{Items, no_items, item, Members, as_integer, get_member}
 use Rattle.toml.specs.View.{view, items_view}
 use Rattle.toml.specs.declared.value.Value.{Value}
 use Rattle.plain_model.specs.Layers.{Layer, IsLayer, AreLayers}
-use Rattle.ov_wire.specs.ManifestEntries.{and_then}
-use Rattle.ov_wire.specs.Manifests.{entries_in, whole_of, Refuses}
+use Rattle.std.specs.Option.{option_and_then, option_map_or, unwrap_or}
+use Rattle.std.specs.Str.{bytes_eq}
+use Rattle.ov_wire.specs.ManifestEntries.{and_then, members_all, text_at}
+use Rattle.ov_wire.specs.Manifests.{checked, entries_in, history_of, history_within, is_top_key, metacopy_named, metacopy_of, options_of, redirects_named, redirects_of, whole_of, Refuses}
 use Rattle.ov_base.specs.declared.attributes.Attributes.{Attributes}
 use Rattle.ov_base.specs.declared.options.Options.{Options}
 use Rattle.layer_tree.specs.Tree.{Tree, layer_of}
@@ -95,6 +97,7 @@ first-told i items later (whole.Memory m) h = tt
 first-told i items later whole.NotToml h = absurd h
 first-told i items later whole.Key h = absurd h
 first-told i items later whole.RedirectDir h = absurd h
+first-told i items later whole.Metacopy h = absurd h
 first-told i items later whole.History h = absurd h
 first-told i items later whole.Layers h = absurd h
 
@@ -130,5 +133,62 @@ refuses-told (Err (whole.Entry layer number g)) (Err f) told ok = cc
 refuses-told (Err whole.NotToml) (Err f) told ok = cc
 refuses-told (Err whole.Key) (Err f) told ok = cc
 refuses-told (Err whole.RedirectDir) (Err f) told ok = cc
+refuses-told (Err whole.Metacopy) (Err f) told ok = cc
 refuses-told (Err whole.History) (Err f) told ok = cc
 refuses-told (Err whole.Layers) (Err f) told ok = cc
+
+-- what isn't that fault, and goes on to none, isn't it
+then-toml : {A B : Type 0} (x : Result A ManifestFault) (f : A → Result B ManifestFault) → (x ≡ Err whole.NotToml → ⊥) → ((a : A) → f a ≡ Err whole.NotToml → ⊥) → and_then x f ≡ Err whole.NotToml → ⊥
+then-toml (Ok a) f h g is = g a is
+then-toml (Err e) f h g is = let same : e ≡ whole.NotToml = cc in h (ap Err same)
+
+-- nor one of two that aren't
+either-toml : {T : Type 0} (b : Bool) (x y : Result T ManifestFault) → (x ≡ Err whole.NotToml → ⊥) → (y ≡ Err whole.NotToml → ⊥) → cond b x y ≡ Err whole.NotToml → ⊥
+either-toml true x y h g is = h is
+either-toml false x y h g is = g is
+
+-- nor what a text says, or else a default
+said-toml : {T : Type 0} (o : Option (List ℕ)) (f : List ℕ → Result T ManifestFault) (d : Result T ManifestFault) → ((word : List ℕ) → f word ≡ Err whole.NotToml → ⊥) → (d ≡ Err whole.NotToml → ⊥) → option_map_or f o d ≡ Err whole.NotToml → ⊥
+said-toml None f d h g is = g is
+said-toml (Some word) f d h g is = h word is
+
+-- nor a value or another fault
+value-toml : {T : Type 0} (x : T) (r : Result T ManifestFault) → r ≡ Ok x → r ≡ Err whole.NotToml → ⊥
+value-toml x r e is = cc
+
+key-toml : {T : Type 0} (r : Result T ManifestFault) → r ≡ Err whole.Key → r ≡ Err whole.NotToml → ⊥
+key-toml r e is = cc
+
+redirect-toml : {T : Type 0} (r : Result T ManifestFault) → r ≡ Err whole.RedirectDir → r ≡ Err whole.NotToml → ⊥
+redirect-toml r e is = cc
+
+metacopy-toml : {T : Type 0} (r : Result T ManifestFault) → r ≡ Err whole.Metacopy → r ≡ Err whole.NotToml → ⊥
+metacopy-toml r e is = cc
+
+history-toml : {T : Type 0} (r : Result T ManifestFault) → r ≡ Err whole.History → r ≡ Err whole.NotToml → ⊥
+history-toml r e is = cc
+
+length-toml : (z : ℤ) → history_within z ≡ Err whole.NotToml → ⊥
+length-toml (pos n) is = either-toml (nat_le 2 n && nat_le n 1000000) (Ok n) (Err whole.History) (value-toml n (Ok n) refl) (history-toml (Err whole.History) refl) is
+length-toml (negsuc n) is = history-toml (history_within (negsuc n)) refl is
+
+word-toml : (word : List ℕ) → redirects_named word ≡ Err whole.NotToml → ⊥
+word-toml word =
+    either-toml (bytes_eq word (codes "on")) (Ok true) _ (value-toml true (Ok true) refl)
+    (either-toml (bytes_eq word (codes "off")) (Ok false) (Err whole.RedirectDir) (value-toml false (Ok false) refl) (redirect-toml (Err whole.RedirectDir) refl))
+
+copies-toml : (redirects : Bool) (word : List ℕ) → metacopy_named redirects word ≡ Err whole.NotToml → ⊥
+copies-toml redirects word =
+    either-toml (bytes_eq word (codes "on")) _ _
+    (either-toml redirects (Ok true) (Err whole.Metacopy) (value-toml true (Ok true) refl) (metacopy-toml (Err whole.Metacopy) refl))
+    (either-toml (bytes_eq word (codes "off")) (Ok false) (Err whole.Metacopy) (value-toml false (Ok false) refl) (metacopy-toml (Err whole.Metacopy) refl))
+
+-- THE OPTIONS OF A TEXT THAT IS TOML ARE NEVER REFUSED FOR NOT BEING SO
+pub options-toml : (m : Members) → options_of m ≡ Err whole.NotToml → ⊥
+options-toml m =
+    then-toml (checked m) _ (either-toml (members_all is_top_key m) (Ok tt) (Err whole.Key) (value-toml tt (Ok tt) refl) (key-toml (Err whole.Key) refl))
+    (λ unit. then-toml (redirects_of m) _
+    (said-toml (text_at (codes "redirect_dir") m) redirects_named (Ok false) word-toml (value-toml false (Ok false) refl))
+    (λ redirects. then-toml (metacopy_of redirects m) _
+    (said-toml (text_at (codes "metacopy") m) (metacopy_named redirects) (Ok false) (copies-toml redirects) (value-toml false (Ok false) refl))
+    (λ metacopy. then-toml (history_of m) _ (length-toml (unwrap_or (option_and_then as_integer (get_member (codes "history") m)) (pos 100000))) (λ history. let options : Options = record { redirects = redirects; metacopy = metacopy; history = history } in value-toml options (Ok options) refl))))

@@ -214,6 +214,7 @@ redirect-within (Some text) s e r is =
 abbrev IsItemWithin : Item → Type 0
 IsItemWithin (put.Object (object.Directory a m)) = AreAttributesWithin a × ((r : Redirect) → m.redirect ≡ Some r → IsSpelledRedirect r)
 IsItemWithin (put.Object (object.Inode c a)) = AreAttributesWithin a × IsContentWithin c
+IsItemWithin (put.Object (object.Marked q a)) = ⊥
 IsItemWithin put.Whiteout = Unit {0}
 IsItemWithin (put.Link to) = Unit {0}
 
@@ -279,6 +280,7 @@ stands-put L names o (Some j) h some = (j, refl)
 directory-put : (L : Layer) (names k : ℕ) (a : Attributes) (o : Bool) (r : Option Redirect) (i : Item) → Stands L names (Some (Directory k a o r)) (Some i) → IsItemWithin i → AreAttributesWithin a × ((s : Redirect) → r ≡ Some s → IsSpelledRedirect s)
 directory-put L names k a o r put.Whiteout h w = absurd (cc)
 directory-put L names k a o r (put.Object (object.Inode c b)) h w = let no = h.1 in absurd (cc)
+directory-put L names k a o r (put.Object (object.Marked q b)) h w = absurd h
 directory-put L names k a o r (put.Link None) h w = absurd h
 directory-put L names k a o r (put.Link (Some to)) h w = let no = h.1 in absurd (cc)
 directory-put L names k a o r (put.Object (object.Directory b m)) h w =
@@ -292,6 +294,7 @@ inode-put : (L : Layer) (names k : ℕ) (x : Inode) (i : Item) → is_inode (Som
 inode-put L names k x put.Whiteout is h there w = absurd (true≢false (sym is))
 inode-put L names k x (put.Link to) is h there w = absurd (true≢false (sym is))
 inode-put L names k x (put.Object (object.Directory b m)) is h there w = absurd (true≢false (sym is))
+inode-put L names k x (put.Object (object.Marked q b)) is h there w = absurd h
 inode-put L names k x (put.Object (object.Inode c a)) is h there w =
     let key : h.0 ≡ k = let same = h.1 in cc in
     let made : Some (record { content = c; attributes = a; links = names; mark = None }) ≡ L.inodes k = sym h.2 ∙ ap L.inodes key in
@@ -304,6 +307,7 @@ named-put : (L : Layer) (names k : ℕ) (i : Item) → Stands L names (Some (Nam
 named-put L names k put.Whiteout h = absurd (cc)
 named-put L names k (put.Object (object.Directory b m)) h = let no = h.1 in absurd (cc)
 named-put L names k (put.Object (object.Inode c a)) h = inl refl
+named-put L names k (put.Object (object.Marked q a)) h = absurd h
 named-put L names k (put.Link None) h = absurd h
 named-put L names k (put.Link (Some to)) h = inr (to, refl, h.2 ∙ ap (λ (j : ℕ). Some (Named j)) (let same = h.1 in one h.0 k same))
   where
@@ -332,6 +336,7 @@ root-within entries h = of (put_at entries []) refl
     of (Some (put.Link to)) e = unset-within
     of (Some (put.Object (object.Directory a m))) e = ((put-within entries [] (put.Object (object.Directory a m)) h e).1).0
     of (Some (put.Object (object.Inode c a))) e = unset-within
+    of (Some (put.Object (object.Marked q a))) e = unset-within
 
 module _ (L : Layer) (entries : List Entry) (s : IsAsSaid L entries) (all : AreEntriesWithin entries) where
   -- what stands below the root was put there, within the limits

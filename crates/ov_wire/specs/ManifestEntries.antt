@@ -16,6 +16,7 @@ use Rattle.ov_base.specs.declared.attributes.Attributes.{Attributes}
 use Rattle.ov_base.specs.declared.bytes.Content.TheVariants as content
 use Rattle.layer_tree.specs.Tree.{leads_on, seen_object}
 use Rattle.layer_tree.specs.declared.node.Marks.{Marks}
+use Rattle.layer_tree.specs.declared.node.Object.{Object}
 use Rattle.layer_tree.specs.declared.node.Object.TheVariants as object
 use Rattle.ov_wire.specs.declared.manifest.entry.EntryKind.{EntryKind}
 use Rattle.ov_wire.specs.declared.manifest.entry.EntryKind.TheVariants as kind
@@ -275,8 +276,13 @@ read entry =
     and_then (checked k path entry) (λ _.
     and_then (item_of k entry) (λ i. Ok (path, i)))))
 
--- a layer takes it: an absolute redirect of a directory has at least one name
+-- whether it is a file without bytes of its own
+abbrev pub is_marked : Object → Bool
+is_marked (object.Marked q a) = true
+is_marked _ = false
+
+-- a layer takes it: an absolute redirect of a directory has at least one name; and it is no file without bytes of its own
 abbrev pub IsPlaceable : Item → Type 0
-IsPlaceable (puts.Object o) = IsTrue (leads_on (Some (seen_object 0 o)))
+IsPlaceable (puts.Object o) = IsTrue (leads_on (Some (seen_object 0 o))) × (is_marked o ≡ false)
 IsPlaceable puts.Whiteout = Unit {0}
 IsPlaceable (puts.Link to) = Unit {0}

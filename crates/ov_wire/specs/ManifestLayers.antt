@@ -5,7 +5,7 @@ use Rattle.toml.specs.Data.{Data, Items, no_items, item, Members, as_table}
 use Rattle.ov_base.specs.declared.attributes.Attributes.{Attributes}
 use Rattle.ov_base.specs.declared.options.Options.{Options}
 use Rattle.plain_model.specs.Layers.{Name, Path, Object, Directory, Named, Whiteout, Layer, held, same_path}
-use Rattle.layer_tree.specs.Tree.{Tree, layer_of}
+use Rattle.layer_tree.specs.Tree.{HasMark, Tree, layer_of}
 use Rattle.layer_tree.specs.declared.node.Object.TheVariants as object
 use Rattle.ov_wire.specs.ManifestEntries.{and_then, items_at, read}
 use Rattle.ov_wire.specs.Manifests.{entries_in, whole_of}
@@ -95,12 +95,13 @@ root_of (Some (put.Object (object.Directory a m))) = a
 root_of _ = record { mode = 493; uid = 0; gid = 0; user = [] }
 
 -- What a layer holds where this was put. A file or symbolic link is an inode with so many names; a further name names the inode of the
--- path to which it leads.
+-- path to which it leads. No entry puts a file without bytes of its own.
 abbrev pub Stands : Layer → ℕ → Option Object → Option Item → Type 0
 Stands L names o None = o ≡ None
 Stands L names o (Some put.Whiteout) = o ≡ Some Whiteout
 Stands L names o (Some (put.Object (object.Directory a m))) = (key : ℕ) × (o ≡ Some (Directory key a m.opaque m.redirect))
 Stands L names o (Some (put.Object (object.Inode c a))) = (key : ℕ) × (o ≡ Some (Named key)) × (L.inodes key ≡ Some (record { content = c; attributes = a; links = names; mark = None }))
+Stands L names o (Some (put.Object (object.Marked q a))) = ⊥
 Stands L names o (Some (put.Link None)) = ⊥
 Stands L names o (Some (put.Link (Some to))) = (key : ℕ) × (o ≡ Some (Named key)) × (held L to ≡ Some (Named key))
 
@@ -122,6 +123,10 @@ pub record IsAsSaid (L : Layer) (entries : List Entry) : Type 0 where
   pub below : HoldsEntries L entries
   pub apart : HoldsApart L entries
   pub lead : LeadOn entries
+
+-- no file of the layer bears a mark
+abbrev pub HasNoMark : Layer → Type 0
+HasNoMark L = HasMark L → ⊥
 
 -- the layer is as its entries say, none of which is at fault
 abbrev pub IsSpelled : Layer → Items → Type 0

@@ -28,9 +28,10 @@ is_layer d = option_map_or (members_all is_layer_key) (as_table d) false
 abbrev pub is_top_key : List ℕ → Data → Bool
 is_top_key key value =
     if bytes_eq key (codes "redirect_dir") then is_some (as_str value)
+    else (if bytes_eq key (codes "metacopy") then is_some (as_str value)
     else (if bytes_eq key (codes "history") then is_some (as_integer value)
     else (if bytes_eq key (codes "layer") then is_array_of is_layer value
-    else false))
+    else false)))
 
 -- whether redirects are made, by the word for it
 abbrev pub redirects_named : List ℕ → Result Bool ManifestFault
@@ -42,6 +43,17 @@ redirects_named word =
 -- whether redirects are made; without the key they are not
 abbrev pub redirects_of : Members → Result Bool ManifestFault
 redirects_of manifest = option_map_or redirects_named (text_at (codes "redirect_dir") manifest) (Ok false)
+
+-- whether files are copied up without their bytes, by the word for it, which is none where no redirects are made
+abbrev pub metacopy_named : Bool → List ℕ → Result Bool ManifestFault
+metacopy_named redirects word =
+    if bytes_eq word (codes "on") then (if redirects then Ok true else Err fault.Metacopy)
+    else (if bytes_eq word (codes "off") then Ok false
+    else Err fault.Metacopy)
+
+-- whether files are copied up without their bytes; without the key they are not
+abbrev pub metacopy_of : Bool → Members → Result Bool ManifestFault
+metacopy_of redirects manifest = option_map_or (metacopy_named redirects) (text_at (codes "metacopy") manifest) (Ok false)
 
 -- a length of 2 to 1,000,000
 abbrev pub history_within : ℤ → Result ℕ ManifestFault
@@ -69,9 +81,10 @@ abbrev pub options_of : Members → Result Options ManifestFault
 options_of manifest =
     and_then (checked manifest) (λ _.
     and_then (redirects_of manifest) (λ redirects.
-    and_then (history_of manifest) (λ history. Ok (record { redirects = redirects; history = history }))))
+    and_then (metacopy_of redirects manifest) (λ metacopy.
+    and_then (history_of manifest) (λ history. Ok (record { redirects = redirects; metacopy = metacopy; history = history })))))
 
--- the options of a manifest of 2 to 17 layers, or THE FIRST FAULT OF THE WHOLE: `key`, `redirect_dir`, `history`, `layers`
+-- the options of a manifest of 2 to 17 layers, or THE FIRST FAULT OF THE WHOLE: `key`, `redirect_dir`, `metacopy`, `history`, `layers`
 abbrev pub whole_of : Members → Result Options ManifestFault
 whole_of manifest = and_then (options_of manifest) (λ options. if nat_le 2 (layer_count manifest) && nat_le (layer_count manifest) 17 then Ok options else Err fault.Layers)
 

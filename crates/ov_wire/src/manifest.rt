@@ -1,5 +1,5 @@
 // Manifests: the layers and options of a mount, as TOML.
-ghost use Rattle.std.specs.Prelude.{◌≡◌, ◌≢◌, ◌<◌, ◌≤◌, Ok, Err, IsOk, IsSome, ◌∷◌, map, length, IfOk, IfErr, IfSome, Some, None, option_map, string_bytes, IsUtf8, All};
+ghost use Rattle.std.specs.Prelude.{◌≡◌, true, ◌≢◌, ◌<◌, ◌≤◌, Ok, Err, IsOk, IsSome, ◌∷◌, map, length, IfOk, IfErr, IfSome, Some, None, option_map, string_bytes, IsUtf8, All};
 ghost use Rattle.std.specs.List.{list_all};
 ghost use Rattle.std.specs.Vec.{vec_len};
 ghost use Rattle.toml.specs.Data.{Members, item};
@@ -11,7 +11,7 @@ ghost use Rattle.layer_tree.specs.Tree.{layer_of};
 ghost use Rattle.ov_wire.specs.Manifests.{IsOfEntry, Refuses};
 ghost use Rattle.ov_wire.specs.ManifestEntries.{is_array_of};
 ghost use Rattle.ov_wire.specs.ManifestLayers as layers;
-ghost use Rattle.ov_wire.specs.ManifestLayers.{AreSpelled, IsTold, layer_items, layers_fault};
+ghost use Rattle.ov_wire.specs.ManifestLayers.{AreSpelled, HasNoMark, IsTold, layer_items, layers_fault};
 ghost use Rattle.ov_wire.specs.Manifests as spec;
 
 mod entry;
@@ -54,8 +54,10 @@ pub fn manifest_of(
     ensures faults { (m : Members) → IsUtf8 bytes.now → parse_document bytes.now ≡ Some m → IfErr (layers.manifest_of m) (Refuses result) }
     ensures told { (m : Members) → IsUtf8 bytes.now → parse_document bytes.now ≡ Some m → IfErr result (IsTold (layers.fault_of (layers.manifest_of m))) }
     ensures options { IfOk result (λ r. option_map layers.manifest_of (parse_document bytes.now) ≡ Some (Ok r.2)) }
+    ensures redirected { IfOk result (λ r. r.2.metacopy ≡ true → r.2.redirects ≡ true) }
     ensures spelled { IfOk result (λ r. IfSome (parse_document bytes.now) (λ m. AreSpelled (layer_of r.0 ∷ map layer_of r.1.items) (layer_items m))) }
     ensures layers { IfOk result (λ r. AreLayers (layer_of r.0 ∷ map layer_of r.1.items)) }
+    ensures unmarked { IfOk result (λ r. All HasNoMark (layer_of r.0 ∷ map layer_of r.1.items)) }
     ensures limits { IfOk result (λ r. All IsWithinLimits (layer_of r.0 ∷ map layer_of r.1.items)) }
     ensures short_paths { IfOk result (λ r. All HasShortPaths (layer_of r.0 ∷ map layer_of r.1.items)) }
     ensures some_lower { IfOk result (λ r. 0 < vec_len r.1) }
@@ -85,8 +87,10 @@ pub fn layers_of(
     ensures toml { result ≢ Err ManifestFault.NotToml }
     ensures entries { IsOk (spec.whole_of (table_view manifest.now)) → IfErr result IsOfEntry }
     ensures options { IfOk result (λ r. layers.manifest_of (table_view manifest.now) ≡ Ok r.2) }
+    ensures redirected { IfOk result (λ r. r.2.metacopy ≡ true → r.2.redirects ≡ true) }
     ensures spelled { IfOk result (λ r. AreSpelled (layer_of r.0 ∷ map layer_of r.1.items) (layer_items (table_view manifest.now))) }
     ensures layers { IfOk result (λ r. AreLayers (layer_of r.0 ∷ map layer_of r.1.items)) }
+    ensures unmarked { IfOk result (λ r. All HasNoMark (layer_of r.0 ∷ map layer_of r.1.items)) }
     ensures limits { IfOk result (λ r. All IsWithinLimits (layer_of r.0 ∷ map layer_of r.1.items)) }
     ensures short_paths { IfOk result (λ r. All HasShortPaths (layer_of r.0 ∷ map layer_of r.1.items)) }
     ensures some_lower { IfOk result (λ r. 0 < vec_len r.1) }
@@ -116,6 +120,7 @@ fn read_layers(
     ensures told { IfErr result (IsTold (layers_fault 0 (item (view upper.now) (items_view lowers.now)))) }
     ensures spelled { IfOk result (λ r. AreSpelled (layer_of r.0 ∷ map layer_of r.1.items) (item (view upper.now) (items_view lowers.now))) }
     ensures layers { IfOk result (λ r. AreLayers (layer_of r.0 ∷ map layer_of r.1.items)) }
+    ensures unmarked { IfOk result (λ r. All HasNoMark (layer_of r.0 ∷ map layer_of r.1.items)) }
 {
     let upper = read_layer(alloc, keys, 0, entries_in(upper))?;
     let lowers = read_lowers(alloc, keys, lowers)?;
@@ -134,6 +139,7 @@ fn read_lowers(
     ensures told { IfErr result (IsTold (layers_fault 1 (items_view layers.now))) }
     ensures spelled { IfOk result (λ lowers. AreSpelled (map layer_of lowers.items) (items_view layers.now)) }
     ensures layers { IfOk result (λ lowers. AreLayers (map layer_of lowers.items)) }
+    ensures unmarked { IfOk result (λ lowers. All HasNoMark (map layer_of lowers.items)) }
 {
     let mut lowers = Vec::with_capacity(alloc, layers.len())?;
     for (index, layer) in layers.iter().enumerate() {
@@ -144,12 +150,18 @@ fn read_lowers(
 
 // The options, where no key of the whole is at fault.
 fn options_of(manifest: &Table) -> Result<Options, ManifestFault>
-    ensures { result ≡ spec.options_of (table_view manifest.now) }
+    ensures said { result ≡ spec.options_of (table_view manifest.now) }
+    ensures redirected { IfOk result (λ options. options.metacopy ≡ true → options.redirects ≡ true) }
 {
     check_keys(manifest)?;
     let redirects = redirects_of(manifest)?;
+    let metacopy = metacopy_of(manifest, redirects)?;
     let history = history_of(manifest)?;
-    Ok(Options { redirects, history })
+    Ok(Options {
+        redirects,
+        metacopy,
+        history,
+    })
 }
 
 fn check_keys(manifest: &Table) -> Result<(), ManifestFault>
@@ -176,6 +188,7 @@ fn is_top_key(key: &str, value: &Value) -> bool
 {
     match key {
         "redirect_dir" => value.is_str(),
+        "metacopy" => value.is_str(),
         "history" => value.is_integer(),
         "layer" => is_array_of_layers(value),
         _ => false,
@@ -253,6 +266,29 @@ fn redirects_named(word: &str) -> Result<bool, ManifestFault>
         "on" => Ok(true),
         "off" => Ok(false),
         _ => Err(ManifestFault::RedirectDir),
+    }
+}
+
+// Whether files are copied up without their bytes, which is a fault where no redirects are made;
+// without the key they aren't.
+fn metacopy_of(manifest: &Table, redirects: bool) -> Result<bool, ManifestFault>
+    ensures said { result ≡ spec.metacopy_of redirects (table_view manifest.now) }
+    ensures redirected { IfOk result (λ metacopy. metacopy ≡ true → redirects ≡ true) }
+{
+    match text_at(manifest, "metacopy") {
+        Some(word) => metacopy_named(word, redirects),
+        None => Ok(false),
+    }
+}
+
+fn metacopy_named(word: &str, redirects: bool) -> Result<bool, ManifestFault>
+    ensures said { result ≡ spec.metacopy_named redirects word.now }
+    ensures redirected { IfOk result (λ metacopy. metacopy ≡ true → redirects ≡ true) }
+{
+    match word {
+        "on" if redirects => Ok(true),
+        "off" => Ok(false),
+        _ => Err(ManifestFault::Metacopy),
     }
 }
 

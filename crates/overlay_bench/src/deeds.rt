@@ -49,6 +49,12 @@ pub enum Deed {
     SetAttribute,
     /// Seeking to the start of an open file of the upper and writing 4,096 bytes.
     Write,
+    /// Changing the mode of a lower file of so many bytes, each time another one, on a mount that copies them or doesn't.
+    Chmod { size: u32, metacopy: bool },
+    /// `stat` of a file whose mode was changed, for which its bytes were copied or weren't.
+    StatChanged { metacopy: bool },
+    /// Opening such a file, reading its 4,096 bytes and closing it.
+    ReadChanged { metacopy: bool },
 }
 
 impl Deed {
@@ -57,7 +63,20 @@ impl Deed {
         match (asking(word), changing(word)) {
             (Some(deed), _) => Some(deed),
             (None, Some(deed)) => Some(deed),
-            (None, None) => redirected(word),
+            (None, None) => match changed(word) {
+                Some(deed) => Some(deed),
+                None => redirected(word),
+            },
+        }
+    }
+
+    /// Whether it is done on a mount that copies files up without their bytes.
+    pub fn is_with_metacopy(self) -> bool {
+        match self {
+            Deed::Chmod { metacopy, .. }
+            | Deed::StatChanged { metacopy }
+            | Deed::ReadChanged { metacopy } => metacopy,
+            _ => false,
         }
     }
 
@@ -105,6 +124,29 @@ fn changing(word: &str) -> Option<Deed> {
         "rename_directory" => Some(Deed::RenameDirectory),
         "setattr" => Some(Deed::SetAttribute),
         "write_4k" => Some(Deed::Write),
+        _ => None,
+    }
+}
+
+// Changes of modes, and what is done with files whose mode was changed.
+fn changed(word: &str) -> Option<Deed> {
+    match word {
+        "chmod_empty" => Some(Deed::Chmod {
+            size: 0,
+            metacopy: true,
+        }),
+        "chmod_1m" => Some(Deed::Chmod {
+            size: 1_048_576,
+            metacopy: true,
+        }),
+        "chmod_1m_copied" => Some(Deed::Chmod {
+            size: 1_048_576,
+            metacopy: false,
+        }),
+        "stat_marked" => Some(Deed::StatChanged { metacopy: true }),
+        "stat_copied" => Some(Deed::StatChanged { metacopy: false }),
+        "open_read_marked" => Some(Deed::ReadChanged { metacopy: true }),
+        "open_read_copied" => Some(Deed::ReadChanged { metacopy: false }),
         _ => None,
     }
 }

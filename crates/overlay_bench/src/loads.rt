@@ -101,7 +101,22 @@ fn layers_for(
     let Load::Deed(deed, _) = load else {
         return served(alloc, lowers);
     };
+    let manifest = layers_of(alloc, deed, lowers, count)?;
+    if deed.is_with_metacopy() {
+        manifest.with_metacopy(alloc)
+    } else {
+        Ok(manifest)
+    }
+}
+
+fn layers_of(
+    alloc: Global,
+    deed: Deed,
+    lowers: u32,
+    count: u32,
+) -> Result<ManifestText, AllocError> {
     match deed {
+        Deed::Chmod { size, .. } => copied(alloc, lowers, count, size),
         Deed::Copy(size) => copied(alloc, lowers, count, size),
         Deed::StatAmong(files) => copied(alloc, lowers, files, 0),
         Deed::CopyAgain(size) => copied_again(alloc, lowers, count, size),

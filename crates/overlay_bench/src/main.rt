@@ -31,6 +31,7 @@ const USAGE: &str = "usage: overlay_bench LOAD COUNT [LOWERS]
 calls of a client over LOWERS lower layers, 16 if not given: stat stat_many stat_many_1k stat_many_10k absent absent_new list list_10k symlink mkdir whiteout rename rename_directory setattr
 several calls an operation, over as many: open_read (open, read, close) create (open, close, unlink) copy_64k copy_1m (open, close) copy_64k_again copy_1m_again (open, close, unlink) link (link, unlink) write_4k (seek, write)
 each of these with _steps behind its word: every call is made step by step, not at once
+a mode changed of a lower file, for which no bytes are copied or all are: chmod_empty chmod_1m chmod_1m_copied; what is done with a file whose mode was changed so: stat_marked open_read_marked, stat_copied open_read_copied
 create_watched (create, with 1,008 watches of 63 clients elsewhere) notify_1 notify_64 (COUNT files made and removed in a directory that so many clients watch; a notice read is an operation)
 sessions over memory, 64 KiB a piece or a byte: session_stat session_stat_bytes session_write_64k (seek, write), beside plain_copy_64k
 directories made in one, by names that collide under fixed keys and by others: collide others

@@ -21,6 +21,13 @@ impl ManifestText {
         Ok(ManifestText { text })
     }
 
+    /// The same, on a mount that copies files up without their bytes.
+    pub fn with_metacopy(&self, alloc: Global) -> Result<ManifestText, AllocError> {
+        let mut text = String::from_str(alloc, "redirect_dir = \"on\"\nmetacopy = \"on\"\n")?;
+        text.push_str(self.text.as_str())?;
+        Ok(ManifestText { text })
+    }
+
     /// The text so far.
     pub fn as_bytes(&self) -> &[u8] {
         self.text.as_bytes()

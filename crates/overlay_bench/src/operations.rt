@@ -22,6 +22,9 @@ pub fn before(alloc: Global, deed: Deed) -> Result<Vec<Call>, AllocError> {
         Deed::Write => calls.push(opening(alloc, deed, 0)?)?,
         Deed::Link | Deed::Rename => opened_in(alloc, &mut calls, deed, 0)?,
         Deed::SetAttribute => calls.push(setting(alloc, path_for(alloc, deed, 0)?)?)?,
+        Deed::StatChanged { .. } | Deed::ReadChanged { .. } => {
+            calls.push(changing(path_for(alloc, deed, 0)?))?;
+        }
         _ => {}
     }
     Ok(calls)
@@ -54,13 +57,19 @@ fn operation_in(
         | Deed::StatAmong(_)
         | Deed::Absent
         | Deed::AbsentNew
+        | Deed::StatChanged { .. }
         | Deed::Redirected(_, _) => {
             let path = path_for(alloc, deed, number)?;
             calls.push(Call::Stat { path })?;
         }
         Deed::List => listed_in(alloc, calls, MERGED, FILES)?,
         Deed::ListWide => listed_in(alloc, calls, WIDE, OBJECTS)?,
-        Deed::Read | Deed::Create | Deed::CreateWatched | Deed::Copy(_) | Deed::CopyAgain(_) => {
+        Deed::Read
+        | Deed::ReadChanged { .. }
+        | Deed::Create
+        | Deed::CreateWatched
+        | Deed::Copy(_)
+        | Deed::CopyAgain(_) => {
             opened_in(alloc, calls, deed, number)?;
         }
         Deed::Write => {
@@ -96,6 +105,7 @@ fn named_in(
         Deed::Rename => calls.push(renaming_back(alloc, path, number)?)?,
         Deed::RenameDirectory => calls.push(renaming(alloc, path, number)?)?,
         Deed::SetAttribute => calls.push(setting(alloc, path)?)?,
+        Deed::Chmod { .. } => calls.push(changing(path))?,
         _ => calls.push(Call::Unlink { path })?,
     }
     Ok(())
@@ -110,7 +120,7 @@ fn opened_in(
 ) -> Result<(), AllocError> {
     let descriptor = DESCRIPTOR;
     calls.push(opening(alloc, deed, number)?)?;
-    if matches!(deed, Deed::Read) {
+    if matches!(deed, Deed::Read | Deed::ReadChanged { .. }) {
         let count = BLOCK;
         calls.push(Call::Read { descriptor, count })?;
     }
@@ -187,7 +197,7 @@ fn name_for(deed: Deed, number: u32) -> (&'static str, u32) {
         Deed::Create | Deed::CreateWatched | Deed::Link | Deed::Rename => ("made-", 0),
         Deed::Symlink | Deed::Mkdir => ("made-", 0),
         Deed::RenameDirectory => ("wide-", number),
-        Deed::Copy(_) | Deed::CopyAgain(_) => ("copy-", number),
+        Deed::Copy(_) | Deed::CopyAgain(_) | Deed::Chmod { .. } => ("copy-", number),
         _ => ("name-", 0),
     }
 }
@@ -226,7 +236,7 @@ fn renaming_back(alloc: Global, path: Path, number: u32) -> Result<Call, AllocEr
 
 // The call that opens the file.
 fn opening(alloc: Global, deed: Deed, number: u32) -> Result<Call, AllocError> {
-    let reads = matches!(&deed, Deed::Read);
+    let reads = matches!(&deed, Deed::Read | Deed::ReadChanged { .. });
     let creates = matches!(
         &deed,
         Deed::Create | Deed::CreateWatched | Deed::Link | Deed::Rename
@@ -259,6 +269,11 @@ fn setting(alloc: Global, path: Path) -> Result<Call, AllocError> {
         name: Bytes::from_slice(alloc, b"user.note")?,
         value: Bytes::from_slice(alloc, b"value")?,
     })
+}
+
+// The call that changes the mode of a file.
+fn changing(path: Path) -> Call {
+    Call::Chmod { path, mode: 0o600 }
 }
 
 // The call that seeks to the start of what is open.

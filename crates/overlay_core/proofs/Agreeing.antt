@@ -3,7 +3,7 @@ use Rattle.std.proofs.Common.{arith, ◌≡◌, ℕ, ◌+◌, ◌<◌, ◌≤◌
 use Rattle.std.proofs.lemmas.Bool.{ltb-false}
 use Rattle.ov_base.specs.declared.options.Options.{Options}
 use Rattle.overlay_core.specs.Mounting.{mount_fault}
-use Rattle.overlay_core.specs.declared.mounted.MountFault.TheVariants.{NoLower, TooManyLowers, BadHistory}
+use Rattle.overlay_core.specs.declared.mount_faults.MountFault.TheVariants.{NoLower, TooManyLowers, BadHistory}
 use Rattle.std.proofs.lemmas.Grind.{merely}
 use mathlib.Core.Logic.{∥∥₁_map}
 use Rattle.plain_model.specs.Layers.{AreLayers, Layer, filled}

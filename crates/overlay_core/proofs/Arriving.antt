@@ -38,13 +38,13 @@ use Rattle.overlay_core.specs.Watching.{Agrees, BeginsWith, Goes, HasState, Stay
 use Rattle.overlay_core.proofs.Watching.{tracks-same, mount_upper}
 
 -- a mount of layers begins with each of their merges, where nothing is kept for watches
-pub begins-with : (m : Mount) (k : Notified) (layers : Layers) (redirects : Bool) → m.layers ≡ layers → AreLayers (layers_of layers) →
+pub begins-with : (m : Mount) (k : Notified) (layers : Layers) (redirects metacopy : Bool) → m.layers ≡ layers → AreLayers (layers_of layers) →
     ((t : Tree) → AreLayers (layers_of layers) → IsMerge (upper_of layers) (lowers_of layers) t →
-    IsStateOf m (opening t (record { redirects = redirects; metacopy = false; read_only = false }))) →
+    IsStateOf m (opening t (record { redirects = redirects; metacopy = metacopy; read_only = false }))) →
     ((n : ℕ) → spot_of k.objects n ≡ None) → k.handles ≡ [] → k.instances ≡ [] → k.renames ≡ 0 →
-    BeginsWith layers (record { redirects = redirects; metacopy = false; read_only = false }) m k
-begins-with m k layers redirects same are h none handles instances renames t merge =
-    let options : MountOptions = record { redirects = redirects; metacopy = false; read_only = false } in
+    BeginsWith layers (record { redirects = redirects; metacopy = metacopy; read_only = false }) m k
+begins-with m k layers redirects metacopy same are h none handles instances renames t merge =
+    let options : MountOptions = record { redirects = redirects; metacopy = metacopy; read_only = false } in
     record {
       stands = h t are merge;
       settled = law_of_settled_opening (upper_of layers) (lowers_of layers) t options merge;

@@ -13,7 +13,6 @@ use Rattle.ov_base.specs.declared.errno.Errno.TheVariants.{EBADF}
 use Rattle.ov_base.specs.declared.reply.Reply.{Reply}
 use Rattle.ov_base.specs.declared.reply.Reply.TheVariants.{Refused}
 use Rattle.plain_model.specs.Layers.{Layer}
-use Rattle.plain_model.specs.Tree.{Tree, is_folder}
 use Rattle.plain_model.specs.Watching.{ISDIR, Instance, Rule}
 use Rattle.plain_model.specs.Machine.{Handle, State, Table, handle_of, handles_of, held_in}
 use Rattle.plain_model.specs.Refusals.{refusal, when}
@@ -31,8 +30,6 @@ use Rattle.mount_laws.proofs.Lists.{law_of_bad_descriptors}
 use Rattle.mount_laws.proofs.OneName.{law_of_one_name_kept}
 use Rattle.open_handles.specs.declared.handle.Handle as handles
 use Rattle.open_handles.specs.declared.handle.Handle.TheVariants.{Directory, File}
-use Rattle.open_handles.specs.declared.open_file.FileSource.{FileSource}
-use Rattle.open_handles.specs.declared.open_file.FileSource.TheVariants.{Upper, Lower}
 use Rattle.open_handles.specs.declared.tracked_client.TrackedHandle.{TrackedHandle}
 use Rattle.open_handles.specs.Dentries.{Dentries}
 use Rattle.open_handles.specs.Tracked.{Tracked}
@@ -45,9 +42,8 @@ use Rattle.notice_laws.proofs.Closing.{law_of_closed}
 use Rattle.mount_calls.specs.declared.mount.Mount.{Mount}
 use Rattle.mount_calls.specs.declared.clients.Clients.{Clients}
 use Rattle.mount_calls.specs.Attaching.{KeepsOthers, is_attached, opened_by}
-use Rattle.mount_calls.specs.Files.{IsOf}
 use Rattle.mount_calls.specs.Living.{KeepsNamed, KeepsPaths}
-use Rattle.mount_calls.proofs.FileSight.{leaf-not-folder}
+use Rattle.mount_calls.proofs.FileSight.{file-not-folder}
 use Rattle.mount_calls.proofs.Serving.{get-others, slot-closed, slot-open}
 use Rattle.mount_calls.specs.States.{IsOpenAs, IsSlot, IsStateOf, Serves}
 use Rattle.overlay_core.specs.Leaving.{ClosesEach, Follows, IsFollowed, Shuts, closing}
@@ -85,11 +81,6 @@ shuts s es cs hs heard x = record {
   few = let e = length-map s.tables (λ (k : Table). k.client) in let f = x.few in let g = ap length x.clients in omega arith;
 }
 
--- what an open file is of is no directory
-file-file : (U : Layer) (lowers : List Layer) (t : Tree) (f : FileSource) (h : Handle) → IsOf U lowers t f h → is_folder (t h.node) ≡ false
-file-file U lowers t (Upper k) h is = ap is_folder is.0.node
-file-file U lowers t (Lower layer k) h is = leaf-not-folder (t h.node) is.file
-
 -- an open handle tells its close as the machine's
 pub closing-same : (U : Layer) (lowers : List Layer) (s : State) (directories : Dentries) (o : handles.Handle) (h : Handle) →
     IsOpenAs U lowers s.tree directories o h → closing_bits s (Some h) ≡ closing o
@@ -97,7 +88,7 @@ closing-same U lowers s directories (Directory o) h is =
     ap (λ b. cond b (closes (Some h) + ISDIR) (closes (Some h))) is.directory
     ∙ ap (λ (x : Handle). closes (Some x) + ISDIR) is.access
 closing-same U lowers s directories (File f) h is =
-    ap (λ b. cond b (closes (Some h) + ISDIR) (closes (Some h))) (file-file U lowers s.tree f.source h is.source)
+    ap (λ b. cond b (closes (Some h) + ISDIR) (closes (Some h))) (file-not-folder U lowers s.tree f h is)
     ∙ ap (λ b. cond b 8 16) is.writes
 
 -- what is free in the state is free for the mount

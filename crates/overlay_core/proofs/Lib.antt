@@ -28,3 +28,4 @@ pub mod StepsMade
 pub mod KeptTemps
 pub mod Histories
 pub mod Waited
+pub mod Marks

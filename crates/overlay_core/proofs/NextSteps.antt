@@ -19,33 +19,33 @@ next-ready (Some e) l p b t size ready = refl
 next-ready None l p b t size ready = let e : l ≡ Nothing = ready refl in rw e refl
 
 -- a call that may lack nothing does
-pub plain-lacks : (U : Layer) (lowers : List Layer) (k : Call) (b : Bool) → b ≡ may_lack k → b ≡ false →
-    lack_of U lowers k ≡ Nothing
-plain-lacks U lowers (call.Chmod p mode) b is h = cc
-plain-lacks U lowers (call.Chown p uid gid) b is h = cc
-plain-lacks U lowers (call.SetAttribute p n v) b is h = cc
-plain-lacks U lowers (call.DeleteAttribute p n) b is h = cc
-plain-lacks U lowers (call.Mkdir p mode) b is h = cc
-plain-lacks U lowers (call.Symlink target p) b is h = cc
-plain-lacks U lowers (call.Open p f mode) b is h = cc
-plain-lacks U lowers (call.Unlink p) b is h = cc
-plain-lacks U lowers (call.Rmdir p) b is h = cc
-plain-lacks U lowers (call.Hardlink p q) b is h = cc
-plain-lacks U lowers (call.Rename p q) b is h = cc
-plain-lacks U lowers (call.Stat p) b is h = refl
-plain-lacks U lowers (call.Readlink p) b is h = refl
-plain-lacks U lowers (call.GetAttribute p n) b is h = refl
-plain-lacks U lowers (call.ListAttributes p) b is h = refl
-plain-lacks U lowers (call.Read d n) b is h = refl
-plain-lacks U lowers (call.Write d bytes) b is h = refl
-plain-lacks U lowers (call.Seek d offset whence) b is h = refl
-plain-lacks U lowers (call.Truncate d size) b is h = refl
-plain-lacks U lowers (call.Fstat d) b is h = refl
-plain-lacks U lowers (call.ListNames d n) b is h = refl
-plain-lacks U lowers (call.Close d) b is h = refl
-plain-lacks U lowers (call.Arm slot p mask) b is h = refl
-plain-lacks U lowers (call.Disarm watch) b is h = refl
-plain-lacks U lowers (call.TakeNotices n) b is h = refl
+pub plain-lacks : (U : Layer) (lowers : List Layer) (metacopy : Bool) (k : Call) (b : Bool) → b ≡ may_lack k → b ≡ false →
+    lack_of U lowers metacopy k ≡ Nothing
+plain-lacks U lowers metacopy (call.Chmod p mode) b is h = cc
+plain-lacks U lowers metacopy (call.Chown p uid gid) b is h = cc
+plain-lacks U lowers metacopy (call.SetAttribute p n v) b is h = cc
+plain-lacks U lowers metacopy (call.DeleteAttribute p n) b is h = cc
+plain-lacks U lowers metacopy (call.Mkdir p mode) b is h = cc
+plain-lacks U lowers metacopy (call.Symlink target p) b is h = cc
+plain-lacks U lowers metacopy (call.Open p f mode) b is h = cc
+plain-lacks U lowers metacopy (call.Unlink p) b is h = cc
+plain-lacks U lowers metacopy (call.Rmdir p) b is h = cc
+plain-lacks U lowers metacopy (call.Hardlink p q) b is h = cc
+plain-lacks U lowers metacopy (call.Rename p q) b is h = cc
+plain-lacks U lowers metacopy (call.Stat p) b is h = refl
+plain-lacks U lowers metacopy (call.Readlink p) b is h = refl
+plain-lacks U lowers metacopy (call.GetAttribute p n) b is h = refl
+plain-lacks U lowers metacopy (call.ListAttributes p) b is h = refl
+plain-lacks U lowers metacopy (call.Read d n) b is h = refl
+plain-lacks U lowers metacopy (call.Write d bytes) b is h = refl
+plain-lacks U lowers metacopy (call.Seek d offset whence) b is h = refl
+plain-lacks U lowers metacopy (call.Truncate d size) b is h = refl
+plain-lacks U lowers metacopy (call.Fstat d) b is h = refl
+plain-lacks U lowers metacopy (call.ListNames d n) b is h = refl
+plain-lacks U lowers metacopy (call.Close d) b is h = refl
+plain-lacks U lowers metacopy (call.Arm slot p mask) b is h = refl
+plain-lacks U lowers metacopy (call.Disarm watch) b is h = refl
+plain-lacks U lowers metacopy (call.TakeNotices n) b is h = refl
 
 -- what takes no memory may lack nothing
 pub plain-memory : (k : Call) → takes_no_memory k ≡ true → may_lack k ≡ false

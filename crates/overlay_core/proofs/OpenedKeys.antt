@@ -63,9 +63,9 @@ module _ (new : Mount) (s : State) (c : ℕ) (p : Path) (f : OpenFlags) (mode fd
       mine : IsLive V t.tree h.node j
       mine = law_of_live_shown V L t stands.layers p j at.inode at.bytes h.node at.shown at.file here
 
-      source : (x : FileSource) (g : OpenFile) → g.source ≡ x → IsOf V L t.tree x h → unwrap_or (key_in_upper (Some g)) 0 ≡ j
+      source : (x : FileSource) (g : OpenFile) → g.source ≡ x → IsOf V L t.tree x g.low h → unwrap_or (key_in_upper (Some g)) 0 ≡ j
       source (Upper k) g is on = rw is (sym ((law_of_live_one V t.tree p h.node h.node j k here mine on.0).0 refl))
-      source (Lower layer k) g is on = let no : Live ≡ Frozen on.bytes on.attributes on.links = sym sees ∙ on.view in cc
+      source (Lower layer k) g is on = let no : Live ≡ Frozen on.0.bytes on.0.attributes on.0.links = sym sees ∙ on.0.view in cc
 
       by : (o : Option handles.Handle) → IsSlot (IsOpenAs V L t.tree new.clients.directories) o (Some h) → unwrap_or (key_in_upper (file_in o)) 0 ≡ j
       by None on = absurd on

@@ -9,7 +9,7 @@ use Rattle.work_dir.specs.Beginnings.{Beginning, IsBeginning}
 use Rattle.work_dir.specs.OpenJobs.{job_at, temp_of, of_client, unless_of, of_chunks, is_of, held, closed_any, Changes, Same}
 use Rattle.work_dir.specs.declared.limits.TheConstants.{CHUNK, FILE_MAX}
 use Rattle.work_dir.specs.declared.next.Lack.TheVariants.{File}
-use Rattle.work_dir.specs.declared.source.Source.{Source}
+use Rattle.ov_base.specs.declared.source.Source.{Source}
 use Rattle.work_dir.specs.declared.table.OpenJob.{OpenJob}
 use Rattle.mount_calls.specs.Lacks.{bytes_at, lack_size}
 use Rattle.mount_calls.proofs.Words.{cases_eq}

@@ -13,7 +13,7 @@ use Rattle.work_dir.specs.NextSteps.{next_of, IsDue, IsPartial}
 use Rattle.work_dir.specs.declared.next.Lack.{Lack}
 use Rattle.work_dir.specs.declared.next.Lack.TheVariants.{File}
 use Rattle.work_dir.specs.declared.next.Next.TheVariants.{Begin, Copy}
-use Rattle.work_dir.specs.declared.source.Source.{Source}
+use Rattle.ov_base.specs.declared.source.Source.{Source}
 use Rattle.mount_calls.specs.Lacks.{lack_of, lack_size}
 use Rattle.mount_calls.specs.States.{IsStateOf}
 use Rattle.mount_calls.specs.declared.mount.Mount.{Mount}
@@ -38,7 +38,7 @@ module _ (m : Mount) (w : Waiting) (j : Job) (t : Option Beginning) (is : IsFor 
       next_by m j t (refusal s j.client j.call) ≡ Copy
   copies-next told s st =
       let L = lowers_of m.layers in
-      let lack : lack_by m j ≡ File w.source = ap (lack_of (upper_of m.layers) L) is.1 ∙ waits.1 in
+      let lack : lack_by m j ≡ File w.source = ap (lack_of (upper_of m.layers) L m.metacopy) is.1 ∙ waits.1 in
       let none : refusal s j.client j.call ≡ None = ap₂ (refusal s) is.0 is.1 ∙ waits.0 s st in
       ap (λ r. next_of r (lack_by m j) j.placings j.begins t (lack_size L (lack_by m j))) none
       ∙ ap (λ (l : Lack). next_of None l j.placings j.begins t (lack_size L l)) lack

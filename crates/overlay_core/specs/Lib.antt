@@ -3,6 +3,7 @@ pub mod Performing
 pub mod Leaving
 pub mod PathFaults
 pub mod Mounting
+pub mod Marks
 pub mod Views
 pub mod Jobs
 pub mod Drives

@@ -1,9 +1,11 @@
 -- When layers are a mount, and what its options come to.
-use Rattle.std.specs.Prelude.{ℕ, ◌+◌, ◌-◌, ◌||◌, cond, false, Option, None, Some, nat_eq, nat_lt}
+use Rattle.std.specs.Prelude.{◌≡◌, ◌⊎◌, ℕ, ◌+◌, ◌-◌, ◌&&◌, ◌||◌, not, Any, Bool, cond, true, false, List, Option, None, Some, nat_eq, nat_lt}
 use Rattle.ov_base.specs.declared.options.Options.{Options}
+use Rattle.plain_model.specs.Layers.{Contents, Inode, Layer, Path, Shown, is_file, shows}
 use Rattle.plain_model.specs.Machine.{MountOptions}
-use Rattle.overlay_core.specs.declared.mounted.MountFault.{MountFault}
-use Rattle.overlay_core.specs.declared.mounted.MountFault.TheVariants.{NoLower, TooManyLowers, BadHistory}
+use Rattle.layer_tree.specs.Tree.{HasMark}
+use Rattle.overlay_core.specs.declared.mount_faults.MountFault.{MountFault}
+use Rattle.overlay_core.specs.declared.mount_faults.MountFault.TheVariants.{NoLower, TooManyLowers, BadHistory, BadMetacopy}
 
 -- why so many lower layers and these options are no mount's, the first of three faults
 abbrev pub mount_fault : ℕ → Options → Option MountFault
@@ -13,9 +15,31 @@ mount_fault lowers options =
     (cond (nat_lt options.history 2 || nat_lt 1000000 options.history) (Some BadHistory)
     None))
 
+-- whether a file is shown
+abbrev pub shows_file : Option Shown → Bool
+shows_file (Some (Contents j k (Some i))) = is_file i.content
+shows_file _ = false
+
+-- an inode of the upper bears a mark at which the layers below it show no file
+abbrev pub IsAstray : Layer → List Layer → Type 0
+IsAstray U lowers = (key : ℕ) × (i : Inode) × (q : Path) × (U.inodes key ≡ Some i) × (i.mark ≡ Some q) × (shows_file (shows 1 lowers q) ≡ false)
+
+-- marks are to be made where no redirects are, or stand where none may, in a lower layer, or lead astray
+abbrev pub IsBadMetacopy : Options → Layer → List Layer → Type 0
+IsBadMetacopy options U lowers = ((options.metacopy && not options.redirects) ≡ true) ⊎ (Any HasMark lowers ⊎ IsAstray U lowers)
+
+-- why an upper over so many layers is no mount: the first of the three faults, or else the marks
+abbrev pub IsFault : ℕ → Options → Layer → List Layer → MountFault → Type 0
+IsFault n options U lowers fault =
+    (mount_fault n options ≡ Some fault) ⊎ ((mount_fault n options ≡ None) × (fault ≡ BadMetacopy) × IsBadMetacopy options U lowers)
+
+-- there is no such fault
+abbrev pub IsMountable : ℕ → Options → Layer → List Layer → Type 0
+IsMountable n options U lowers = (mount_fault n options ≡ None) × (IsBadMetacopy options U lowers → ⊥)
+
 -- the options of a mount, all of which may be written, as the plain machine has them
 abbrev pub machine_options : Options → MountOptions
-machine_options options = record { redirects = options.redirects; metacopy = false; read_only = false }
+machine_options options = record { redirects = options.redirects; metacopy = options.metacopy; read_only = false }
 
 -- the places of a history that are left where so much was finished, and each attached client keeps one
 abbrev pub places_left : Options → ℕ → ℕ → ℕ

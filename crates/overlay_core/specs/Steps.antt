@@ -18,7 +18,7 @@ use Rattle.work_dir.specs.declared.next.Lack.{Lack}
 use Rattle.work_dir.specs.declared.next.Lack.TheVariants.{Parent, File}
 use Rattle.work_dir.specs.declared.next.Next.{Next}
 use Rattle.work_dir.specs.declared.next.Next.TheVariants.{Finish, Place, Begin, Copy, AtOnce}
-use Rattle.work_dir.specs.declared.source.Source.{Source}
+use Rattle.ov_base.specs.declared.source.Source.{Source}
 use Rattle.work_dir.specs.declared.table.OpenJob.{OpenJob}
 use Rattle.mount_calls.specs.Attaching.{KeepsAttached}
 use Rattle.mount_calls.specs.Keeping.{KeepsLayers}
@@ -42,7 +42,7 @@ without work j = closed_any work j.number j.client
 
 -- what a job's call lacks
 abbrev pub lack_by : Mount → Job → Lack
-lack_by m j = lack_of (upper_of m.layers) (lowers_of m.layers) j.call
+lack_by m j = lack_of (upper_of m.layers) (lowers_of m.layers) m.metacopy j.call
 
 -- THE NEXT STEP OF A JOB that holds this temp: it is asked anew why the call is refused and what it
 -- lacks

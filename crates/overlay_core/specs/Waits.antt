@@ -25,7 +25,7 @@ IsFor j w = (j.client ≡ w.client) × (j.call ≡ waiting_call w)
 abbrev pub WaitsFor : Mount → Waiting → Type 0
 WaitsFor m w =
     ((s : State) → IsStateOf m s → refusal s w.client (waiting_call w) ≡ None)
-    × (lack_of (upper_of m.layers) (lowers_of m.layers) (waiting_call w) ≡ File w.source)
+    × (lack_of (upper_of m.layers) (lowers_of m.layers) m.metacopy (waiting_call w) ≡ File w.source)
     × (lack_size (lowers_of m.layers) (File w.source) ≡ w.size)
 
 -- so does the first of those that are kept, if there is one

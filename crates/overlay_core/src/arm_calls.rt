@@ -4,7 +4,7 @@ ghost use Rattle.plain_model.specs.Layers as held;
 ghost use Rattle.plain_model.specs.Layers.{Layer, Path as Names, shows};
 ghost use Rattle.plain_model.specs.Runs.{Called};
 ghost use Rattle.layer_tree.specs.Tree.{inode_of};
-ghost use Rattle.merged_lookup.specs.Merged.{layers_of};
+ghost use Rattle.merged_lookup.specs.Merged.{fill_at, layers_of};
 ghost use Rattle.mount_laws.specs.Looks.{walk_fault};
 ghost use Rattle.mount_calls.specs.Attaching.{is_attached};
 ghost use Rattle.overlay_core.specs.PathFaults.{arm_fault};
@@ -22,7 +22,9 @@ const ONLYDIR: u32 = 0x0100_0000;
 
 // Why an arm is refused for a file or symbolic link that is shown.
 fn inode_fault(inode: &Inode, mask: u32) -> Option<Errno>
-    ensures { (Ls : List Layer) (p : Names) (layer key : ℕ) → walk_fault Ls p ≡ None → shows 0 Ls p ≡ Some (held.Contents layer key (inode_of (Node.Inode inode.now))) → result ≡ arm_fault Ls p mask }
+    ensures { (Ls lowers : List Layer) (p : Names) (layer key : ℕ) → walk_fault Ls p ≡ None →
+        shows 0 Ls p ≡ Some (held.Contents layer key (fill_at layer lowers (inode_of (Node.Inode inode.now)))) →
+        result ≡ arm_fault Ls p mask }
 {
     match inode.content {
         Content::SymbolicLink(_) => Some(Errno::ELOOP),

@@ -43,14 +43,15 @@ impl<F: Callback, R: Rule> Watched<F, R> {
         keys: RandomState,
         layers: Layers,
         redirects: bool,
+        metacopy: bool,
     ) -> Result<Watched<F, R>, AllocError>
         requires { AreLayers (layers_of layers) }
         ensures layers { IfOk result (λ watched. watched.mount.layers ≡ layers) }
         ensures nobody { IfOk result (λ watched. (n : ℕ) → get nat_cmp watched.mount.clients.attached n ≡ None) }
         ensures first { IfOk result (λ watched. watched.mount.clients.next ≡ 0) }
-        ensures begins { IfOk result (λ watched. BeginsWith layers (record { redirects = redirects; metacopy = false; read_only = false }) watched.mount watched.notifier) }
+        ensures begins { IfOk result (λ watched. BeginsWith layers (record { redirects = redirects; metacopy = metacopy; read_only = false }) watched.mount watched.notifier) }
     {
-        let mount = Mount::new(alloc, keys, layers, redirects)?;
+        let mount = Mount::new(alloc, keys, layers, redirects, metacopy)?;
         let notifier = Notifier::new(alloc, keys)?;
         Ok(Watched { mount, notifier })
     }

@@ -6,6 +6,7 @@ mod attribute_notices;
 mod client_notices;
 mod finishing;
 mod job;
+mod mount_faults;
 mod mounted;
 mod move_notices;
 mod name_notices;
@@ -20,7 +21,8 @@ mod watch_calls;
 mod watched;
 
 pub use job::{Job, Standing};
-pub use mounted::{Core, LOOK_UPS_KEPT, MountFault, Unmounted};
+pub use mount_faults::MountFault;
+pub use mounted::{Core, LOOK_UPS_KEPT, Unmounted};
 pub use schedule::drive;
 pub use turn::Turn;
 pub use watched::Watched;

@@ -14,12 +14,13 @@ ghost use Rattle.mount_calls.specs.Living.{KeepsPaths};
 ghost use Rattle.merged_lookup.specs.Merged.{lowers_of};
 ghost use Rattle.mount_calls.specs.Lacks.{may_lack};
 ghost use Rattle.work_dir.specs.OpenJobs.{has_temp, is_of, unless_of};
-ghost use Rattle.overlay_core.specs.Mounting.{machine_options, mount_fault};
+ghost use Rattle.overlay_core.specs.Mounting.{machine_options, IsFault, IsMountable};
 ghost use Rattle.overlay_core.specs.Temps.{AreTemps};
 ghost use Rattle.overlay_core.specs.Waits.{WaitsForAny};
 ghost use Rattle.ov_base.specs.declared.reply.Reply.TheVariants as Reply;
 
 use crate::job::{Job, Standing};
+use crate::mount_faults::{MountFault, fault_of};
 use crate::stepping::{make, step};
 use crate::turn::Turn;
 use crate::waiting::Waiting;
@@ -33,25 +34,8 @@ use std::hash::RandomState;
 use watch_table::{Callback, HOOKS_MAX, Hook, NotAttached, Rule};
 use work_dir::WorkDir;
 
-/// The most lower layers of a mount.
-const LOWERS_MAX: usize = 16;
-
 /// The most look-ups in the lower layers that a new mount keeps.
 pub const LOOK_UPS_KEPT: usize = 1_024;
-
-/// The least and the greatest length of a history.
-const HISTORY_MIN: u32 = 2;
-
-const HISTORY_MAX: u32 = 1_000_000;
-
-/// Why layers are no mount, the first of these: no lower layer, over 16, or a history that isn't 2
-/// to 1,000,000 long.
-#[derive(Clone, Copy, Debug, PartialEq, Eq)]
-pub enum MountFault {
-    NoLower,
-    TooManyLowers,
-    BadHistory,
-}
 
 /// Layers that could not be mounted, and why.
 #[derive(Drop)]
@@ -104,12 +88,13 @@ impl<F: Callback, R: Rule> Core<F, R> {
         requires layers { AreLayers (layer_of upper ∷ map layer_of lowers.items) }
         requires limits { All IsWithinLimits (layer_of upper ∷ map layer_of lowers.items) }
         ensures fault { IfOk result (λ mounting. IfErr mounting (λ unmounted.
-            mount_fault (vec_len lowers) options ≡ Some unmounted.fault)) }
+            IsFault (vec_len lowers) options (layer_of upper) (map layer_of lowers.items) unmounted.fault)) }
         ensures handed_back { IfOk result (λ mounting. IfErr mounting (λ unmounted.
             (unmounted.upper ≡ upper) × (unmounted.lowers ≡ lowers))) }
-        ensures mounted { IfOk result (λ mounting.
-            OnOk mounting (mount_fault (vec_len lowers) options ≡ None)) }
-        ensures no_memory { OnErr result (mount_fault (vec_len lowers) options ≡ None) }
+        ensures mounted { IfOk result (λ mounting. OnOk mounting (
+            IsMountable (vec_len lowers) options (layer_of upper) (map layer_of lowers.items))) }
+        ensures no_memory { OnErr result (
+            IsMountable (vec_len lowers) options (layer_of upper) (map layer_of lowers.items)) }
         ensures layers { IfOk result (λ mounting. IfOk mounting (λ core.
             ((core_layers core).upper ≡ upper) × ((core_layers core).lowers ≡ lowers))) }
         ensures options { IfOk result (λ mounting. IfOk mounting (λ core.
@@ -141,12 +126,13 @@ impl<F: Callback, R: Rule> Core<F, R> {
         requires limits { All IsWithinLimits (layer_of upper ∷ map layer_of lowers.items) }
         requires look_ups { look_ups ≤ 65536 }
         ensures fault { IfOk result (λ mounting. IfErr mounting (λ unmounted.
-            mount_fault (vec_len lowers) options ≡ Some unmounted.fault)) }
+            IsFault (vec_len lowers) options (layer_of upper) (map layer_of lowers.items) unmounted.fault)) }
         ensures handed_back { IfOk result (λ mounting. IfErr mounting (λ unmounted.
             (unmounted.upper ≡ upper) × (unmounted.lowers ≡ lowers))) }
-        ensures mounted { IfOk result (λ mounting.
-            OnOk mounting (mount_fault (vec_len lowers) options ≡ None)) }
-        ensures no_memory { OnErr result (mount_fault (vec_len lowers) options ≡ None) }
+        ensures mounted { IfOk result (λ mounting. OnOk mounting (
+            IsMountable (vec_len lowers) options (layer_of upper) (map layer_of lowers.items))) }
+        ensures no_memory { OnErr result (
+            IsMountable (vec_len lowers) options (layer_of upper) (map layer_of lowers.items)) }
         ensures layers { IfOk result (λ mounting. IfOk mounting (λ core.
             ((core_layers core).upper ≡ upper) × ((core_layers core).lowers ≡ lowers))) }
         ensures options { IfOk result (λ mounting. IfOk mounting (λ core.
@@ -161,7 +147,7 @@ impl<F: Callback, R: Rule> Core<F, R> {
             CoreBegins core options)) }
         ensures idle { IfOk result (λ mounting. IfOk mounting (λ core. core_work core ≡ [])) }
     {
-        if let Some(fault) = fault_of(lowers.len(), options) {
+        if let Some(fault) = fault_of(&upper, lowers.as_slice(), options) {
             return Ok(Err(Unmounted {
                 fault,
                 upper,
@@ -170,7 +156,7 @@ impl<F: Callback, R: Rule> Core<F, R> {
         }
         let mut layers = Layers::new(alloc, keys, upper, lowers, look_ups.max(1))?;
         layers.keep_look_ups(alloc, look_ups);
-        let watched = Watched::new(alloc, keys, layers, options.redirects)?;
+        let watched = Watched::new(alloc, keys, layers, options.redirects, options.metacopy)?;
         let work = WorkDir::new(alloc);
         Ok(Ok(Core {
             watched,
@@ -388,22 +374,6 @@ fn refusal_of(hooks: usize, attached: u64) -> Option<Errno>
     }
     if attached >= CLIENTS_MAX as u64 {
         return Some(Errno::ENFILE);
-    }
-    None
-}
-
-// Why so many lower layers and these options are no mount's.
-fn fault_of(lowers: usize, options: Options) -> Option<MountFault>
-    ensures { result ≡ mount_fault lowers options }
-{
-    if lowers == 0 {
-        return Some(MountFault::NoLower);
-    }
-    if lowers > LOWERS_MAX {
-        return Some(MountFault::TooManyLowers);
-    }
-    if options.history < HISTORY_MIN || options.history > HISTORY_MAX {
-        return Some(MountFault::BadHistory);
     }
     None
 }

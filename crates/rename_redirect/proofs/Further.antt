@@ -4,26 +4,24 @@ use Rattle.std.specs.Option.{option_and_then}
 use Rattle.std.specs.Prelude.{option_map}
 use Rattle.std.proofs.lemmas.Bool.{false≢true}
 use Rattle.slab.specs.Slab.{get}
-use Rattle.ov_base.specs.declared.attributes.Attributes.{Attributes}
-use Rattle.ov_base.specs.declared.bytes.Content.{Content}
 use Rattle.plain_model.specs.Layers.{Name, Path, Object, Directory, Named, Inode, Layer, held, IsLayer}
 use Rattle.plain_model.proofs.Paths.{cases_pair}
 use Rattle.mount_laws.specs.Leaves.{PlacesLeaf}
 use Rattle.mount_laws.specs.Linking.{AddsName}
 use Rattle.mount_laws.proofs.Places.{longer}
 use Rattle.layer_tree.specs.Table.{object_key}
-use Rattle.layer_tree.specs.Tree.{Tree, layer_of, key_at, child, inode_at, inode_of, IsHeldTogether, SetsPath, SameObjects, SameTree, Inserts}
+use Rattle.layer_tree.specs.Tree.{Tree, layer_of, key_at, child, inode_at, inode_of, new_inode, seen_object, IsHeldTogether, SetsPath, SameObjects, SameTree, Inserts}
 use Rattle.layer_tree.specs.Link.{Links, HasCountRoom, with_more}
 use Rattle.layer_tree.specs.Nameless.{IsNameless, KeepsObjects}
 use Rattle.layer_tree.specs.declared.node.Node.{Node}
 use Rattle.layer_tree.specs.declared.node.Node.TheVariants as node
-use Rattle.layer_tree.specs.declared.node.Object.TheVariants as object
+use Rattle.layer_tree.specs.declared.node.Object.{Object as NewObject}
 use Rattle.layer_tree.proofs.Changing.{same_presence}
 use Rattle.layer_tree.proofs.Keeping.{named_key}
 use Rattle.layer_tree.proofs.Nameless.{nameless_apart, keeps_same, keeps_leaf, keeps_then}
 use Rattle.merged_lookup.proofs.Descending.{key-of}
 use Rattle.copy_up.specs.Showing.{is_object, HasPlace}
-use Rattle.copy_up.proofs.Copying.{leaf_of, leaf-placed}
+use Rattle.copy_up.proofs.Copying.{leaf-object, leaf-placed}
 use Rattle.copy_up.proofs.Placing.{free-directory, nothing-held}
 use Rattle.rename_redirect.specs.Linking.{KeepsDirectories, CopiesName}
 
@@ -113,7 +111,7 @@ new-room t key i is one = of (get t key) is
     of None h = absurd (cc)
     of (Some (node.Directory d)) h = absurd (cc)
     of (Some (node.Inode x)) h =
-        let e : ◌≡◌ {A = Inode} (record { content = x.content; attributes = x.attributes; links = x.links; mark = None }) i = cc in
+        let e : ◌≡◌ {A = Inode} (record { content = x.content; attributes = x.attributes; links = x.links; mark = option_map (λ b. b.value) x.mark }) i = cc in
         few x.links (ap (λ (z : Inode). z.links) e ∙ one)
 
 -- where the same is held a place stays
@@ -128,7 +126,7 @@ place-same U V dir n p same h =
     }
 
 -- a new inode in a layer in which room was made
-module _ (start old new : Tree) (same : SameTree start old) (alike : SameObjects (layer_of start) (layer_of old)) (from : ℕ) (n : Name) (c : Content) (a : Attributes) (key : ℕ) (i : Inserts old new from n (object.Inode c a) key) (sets : (path : Path) → key_at old path ≡ Some from → SetsPath (layer_of old) (layer_of new) (n ∷ path) (Named key)) (p : Path) (first : HasPlace (layer_of start) from n p) where
+module _ (start old new : Tree) (same : SameTree start old) (alike : SameObjects (layer_of start) (layer_of old)) (from : ℕ) (n : Name) (o : NewObject) (copy : Inode) (is : new_inode o ≡ Some copy) (key : ℕ) (i : Inserts old new from n o key) (sets : (path : Path) → key_at old path ≡ Some from → SetsPath (layer_of old) (layer_of new) (n ∷ path) (seen_object key o)) (p : Path) (first : HasPlace (layer_of start) from n p) where
   first-place : HasPlace (layer_of old) from n p
   first-place = place-same (layer_of start) (layer_of old) from n p alike first
 
@@ -136,11 +134,11 @@ module _ (start old new : Tree) (same : SameTree start old) (alike : SameObjects
   first-key = key-of old p from first-place.attributes first-place.opaque first-place.redirect first-place.directory
 
   first-sets : SetsPath (layer_of old) (layer_of new) (n ∷ p) (Named key)
-  first-sets = sets p first-key
+  first-sets = let s = sets p first-key in record { there = s.there ∙ ap Some ((leaf-object o copy is).seen key); elsewhere = s.elsewhere }
 
-  first-leaf : PlacesLeaf (layer_of start) (layer_of new) (n ∷ p) key (leaf_of c a)
+  first-leaf : PlacesLeaf (layer_of start) (layer_of new) (n ∷ p) key copy
   first-leaf =
-      let leaf = leaf-placed old new from n p key c a first-place first-sets i in
+      let leaf = leaf-placed old new from n p key o copy is first-place (sets p first-key) i in
       record {
         here = leaf.here;
         beneath = leaf.beneath;
@@ -152,7 +150,7 @@ module _ (start old new : Tree) (same : SameTree start old) (alike : SameObjects
       }
 
   first-kept : KeepsObjects start new (Some key)
-  first-kept = keeps_then start old new (Some key) (keeps_same start old same) (keeps_leaf old new from n (object.Inode c a) key i p first-key)
+  first-kept = keeps_then start old new (Some key) (keeps_same start old same) (keeps_leaf old new from n o key i p first-key)
 
   first-directories : KeepsDirectories (layer_of start) (layer_of new)
   first-directories x k b o r h = sets-directories (layer_of old) (layer_of new) (n ∷ p) (Named key) first-place.free first-sets x k b o r (alike x ∙ h)
@@ -167,7 +165,7 @@ module _ (start old new : Tree) (same : SameTree start old) (alike : SameObjects
       second-sets : SetsPath (layer_of new) (layer_of last) (m ∷ q) (Named key)
       second-sets = named q (key-of new q to second-place.attributes second-place.opaque second-place.redirect second-place.directory)
 
-      pub copies-name : IsHeldTogether (layer_of new) → (IsLayer (layer_of start) → IsLayer (layer_of new)) → CopiesName (layer_of start) (layer_of last) (n ∷ p) (m ∷ q) c a
+      pub copies-name : IsHeldTogether (layer_of new) → (IsLayer (layer_of start) → IsLayer (layer_of new)) → CopiesName (layer_of start) (layer_of last) (n ∷ p) (m ∷ q) copy
       copies-name together keep =
           record {
             copied = layer_of new;

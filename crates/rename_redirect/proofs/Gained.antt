@@ -1,8 +1,6 @@
 -- What the upper holds once parents of one path, or of two, were gained.
 use Rattle.std.proofs.Common.{◌≡◌, ◌≢◌, ◌⊎◌, false, [], ◌∷◌, ◌++◌, None, Some, sym, ◌∙◌, subst, inl, inr}
-use Rattle.ov_base.specs.declared.attributes.Attributes.{Attributes}
-use Rattle.ov_base.specs.declared.bytes.Content.{Content}
-use Rattle.plain_model.specs.Layers.{Name, Path, Directory, Layer, held}
+use Rattle.plain_model.specs.Layers.{Name, Path, Directory, Inode, Layer, held}
 use Rattle.plain_model.specs.Laws.{IsOutside}
 use Rattle.plain_model.proofs.Paths.{place}
 use Rattle.mount_laws.specs.Linking.{AddsName}
@@ -44,9 +42,9 @@ beside-name t V p q free adds x = beside t V q free adds.beneath x (adds.elsewhe
 
 -- and a new inode at two names
 pub beside-copy :
-    (t : Tree) (V : Layer) (p q : Path) (content : Content) (a : Attributes) →
+    (t : Tree) (V : Layer) (p q : Path) (i : Inode) →
     is_object (held (layer_of t) p) ≡ false → is_object (held (layer_of t) q) ≡ false →
-    CopiesName (layer_of t) V p q content a → (x : Path) → x ≢ p → x ≢ q → held V x ≡ held (layer_of t) x
-beside-copy t V p q content a from onto copy x off =
+    CopiesName (layer_of t) V p q i → (x : Path) → x ≢ p → x ≢ q → held V x ≡ held (layer_of t) x
+beside-copy t V p q i from onto copy x off =
     beside t V q onto copy.further.beneath x
     (λ out. copy.further.elsewhere x out ∙ beside t copy.copied p from copy.leaf.beneath x (copy.leaf.elsewhere x) off)

@@ -1,7 +1,7 @@
 -- A further name in an upper whose missing parents were placed.
-use Rattle.std.proofs.Common.{◌≡◌, ◌≢◌, ◌<◌, inl, inr, ℕ, zero, suc, Bool, true, false, List, ◌∷◌, None, Some, is_some, option_map, refl, sym, ap, ◌∙◌, subst, arith}
+use Rattle.std.proofs.Common.{◌≡◌, ◌≢◌, ◌<◌, inl, inr, ℕ, zero, suc, Bool, true, false, ◌&&◌, List, ◌∷◌, None, Some, is_some, option_map, refl, sym, ap, ◌∙◌, subst, arith}
 use Rattle.ov_base.specs.declared.errno.Errno.TheVariants as errno
-use Rattle.plain_model.specs.Layers.{Name, Path, Directory, Named, Inode, Layer, held, Contents, shows, is_directory, filled, IsLayer, AreLayers}
+use Rattle.plain_model.specs.Layers.{Name, Path, Directory, Named, Inode, Layer, held, Contents, shows, is_directory, is_file, fill, filled, IsLayer, AreLayers}
 use Rattle.plain_model.specs.Laws.{IsOutside}
 use Rattle.plain_model.specs.Tree.{IsThin, merged}
 use Rattle.plain_model.specs.Refusals.{when}
@@ -14,7 +14,7 @@ use Rattle.mount_laws.proofs.Changed.{law_of_copied_leaf}
 use Rattle.mount_laws.proofs.Linked.{law_of_name_made}
 use Rattle.mount_laws.proofs.LinkedOpen.{law_of_added_link, law_of_copied_link}
 use Rattle.mount_laws.proofs.Naming.{law_of_added_name, law_of_copied_name}
-use Rattle.mount_laws.proofs.Raised.{raised-leaf, raised-name}
+use Rattle.mount_laws.proofs.Raised.{raised-name}
 use Rattle.layer_tree.specs.Tree.{layer_of, SameObjects}
 use Rattle.layer_tree.specs.Nameless.{KeepsObjects}
 use Rattle.layer_tree.proofs.Nameless.{keeps_then}
@@ -26,7 +26,7 @@ use Rattle.copy_up.proofs.Raising.{raise, layer-raised, inode-raised}
 use Rattle.copy_up.proofs.Frames.{gains-self, gains-then, gains-unchanged, path-then}
 use Rattle.copy_up.proofs.Keeping.{lowers-same, linked-by, lift, same-self, same-then, same-unchanged, failed}
 use Rattle.rename_redirect.specs.Linking.{GivesName, GainsBoth, CopiesName, KeepsDirectories, LinkSteps}
-use Rattle.rename_redirect.proofs.Filling.{filled-stays, name-raised}
+use Rattle.rename_redirect.proofs.Filling.{filled-stays, leaf-filled, name-raised}
 use Rattle.rename_redirect.proofs.Gained.{gains-paths}
 use Rattle.rename_redirect.proofs.Shown.{still-absent, thin-linked}
 
@@ -59,14 +59,14 @@ module _ (start mid : Layers) (V : Layer) (same : ShowsSame start mid) (stays : 
   inodes : (j : ℕ) → B.inodes j ≡ A.inodes j
   inodes j = inode-raised start mid same.lowers j (stays.inodes j)
 
-  name-since : GainsName B V (lowers_of mid) false p q → GainsName A V (lowers_of start) false p q
-  name-since g =
+  name-since : (marked : Bool) → GainsName B V (lowers_of mid) marked p q → GainsName A V (lowers_of start) marked p q
+  name-since marked g =
       record {
         layers = subst (λ (Ls : List Layer). AreLayers (V ∷ Ls)) low g.layers;
-        here = sym (ap (λ Ls. merged V Ls p) low) ∙ g.here ∙ ap (option_map (linked_sight false)) (same.sights p);
-        there = sym (ap (λ Ls. merged V Ls q) low) ∙ g.there ∙ ap (option_map (linked_sight false)) (same.sights p);
+        here = sym (ap (λ Ls. merged V Ls p) low) ∙ g.here ∙ ap (option_map (linked_sight marked)) (same.sights p);
+        there = sym (ap (λ Ls. merged V Ls q) low) ∙ g.there ∙ ap (option_map (linked_sight marked)) (same.sights p);
         together = g.together;
-        linked = λ x a b l. sym (ap (λ Ls. merged V Ls x) low) ∙ g.linked x a b (linked-by A B up p x l) ∙ ap (option_map (linked_sight false)) (same.sights x);
+        linked = λ x a b l. sym (ap (λ Ls. merged V Ls x) low) ∙ g.linked x a b (linked-by A B up p x l) ∙ ap (option_map (linked_sight marked)) (same.sights x);
         others = λ x a b off. sym (ap (λ Ls. merged V Ls x) low) ∙ g.others x a b (λ l. off (linked-by B A down p x l)) ∙ same.sights x;
         earlier = λ x z a b l. lift (linked-by B A down x z) (g.earlier x z a b l);
         later = λ x z l. g.later x z (linked-by A B up x z l);
@@ -84,18 +84,18 @@ module _ (start mid : Layers) (V : Layer) (same : ShowsSame start mid) (stays : 
 
 -- what p showed is given the further name q
 pub gives-name :
-    (start mid new : Layers) → ShowsSame start mid → Stays start mid → (p q : Path) → GainsBoth start mid p q →
-    (AreLayers (layers_of mid) → GainsName (upper_of mid) (upper_of new) (lowers_of mid) false p q) →
+    (start mid new : Layers) → ShowsSame start mid → Stays start mid → (p q : Path) (marked : Bool) → GainsBoth start mid p q →
+    (AreLayers (layers_of mid) → GainsName (upper_of mid) (upper_of new) (lowers_of mid) marked p q) →
     (AreLayers (layers_of mid) → (j : ℕ) → is_some ((upper_of mid).inodes j) ≡ true →
     GainsLink (upper_of mid) (upper_of new) p q j) →
     ((x : Path) → x ≢ p → x ≢ q → held (layer_of new.upper) x ≡ held (layer_of mid.upper) x) →
     KeepsDirectories (layer_of mid.upper) (layer_of new.upper) →
-    (key : ℕ) → KeepsObjects mid.upper new.upper (Some key) → GivesName start new p q
-gives-name start mid new same stays p q gains name links rest directories key kept =
+    (key : ℕ) → KeepsObjects mid.upper new.upper (Some key) → GivesName start new marked p q
+gives-name start mid new same stays p q marked gains name links rest directories key kept =
     let placed = keeps_then start.upper gains.mid.upper mid.upper None gains.first.objects gains.second.objects in
     let all = keeps_then start.upper mid.upper new.upper (Some key) placed kept in
     record {
-      gains = λ h. name-since start mid (upper_of new) same stays p q (name (stays.sound.layers h));
+      gains = λ h. name-since start mid (upper_of new) same stays p q marked (name (stays.sound.layers h));
       links = λ h j is. link-since start mid (upper_of new) same stays p q j (links (stays.sound.layers h) j (ap is_some (inode-raised start mid same.lowers j (stays.inodes j)) ∙ is));
       paths = λ x a b. elim (gains-paths start mid p q gains x) [
         | inl k ↦ inl (path-then start mid new p x (rest x a b) k)
@@ -127,8 +127,8 @@ module _ (mid new : Layers) (low : new.lowers ≡ mid.lowers) (keep : IsLayer (l
   name : AddsName (upper_of mid) (upper_of new) p (n ∷ q)
   name = name-raised mid new low p (n ∷ q) adds
 
-  pub own-name : AreLayers (layers_of mid) → GainsName (upper_of mid) (upper_of new) (lowers_of mid) false p (n ∷ q)
-  own-name h = law_of_added_name (upper_of mid) (upper_of new) (lowers_of mid) h (layer-raised mid new low keep h.0, h.1) false p n q absent name
+  pub own-name : (marked : Bool) → AreLayers (layers_of mid) → GainsName (upper_of mid) (upper_of new) (lowers_of mid) marked p (n ∷ q)
+  own-name marked h = law_of_added_name (upper_of mid) (upper_of new) (lowers_of mid) h (layer-raised mid new low keep h.0, h.1) marked p n q absent name
 
   pub own-links : AreLayers (layers_of mid) → (j : ℕ) → is_some ((upper_of mid).inodes j) ≡ true → GainsLink (upper_of mid) (upper_of new) p (n ∷ q) j
   own-links h j is = law_of_added_link (upper_of mid) (upper_of new) (lowers_of mid) h p (n ∷ q) absent name j
@@ -137,36 +137,36 @@ module _ (mid new : Layers) (low : new.lowers ≡ mid.lowers) (keep : IsLayer (l
   own-thin h = subst (λ (Ls : List Layer). IsThin (layer_of new.upper) Ls) (sym (lowers-same mid new low)) (thin-linked (layer_of mid.upper) (layer_of new.upper) (lowers_of mid) p (n ∷ q) adds h)
 
 -- one of a lower layer is copied up and given a further name
-module _ (mid new : Layers) (low : new.lowers ≡ mid.lowers) (keep : IsLayer (layer_of mid.upper) → IsLayer (layer_of new.upper)) (n : Name) (p : Path) (m : Name) (q : Path) (l k : ℕ) (i : Inode) (shown : shows 0 (layers_of mid) (n ∷ p) ≡ Some (Contents (suc l) k (Some i))) (absent : shows 0 (layers_of mid) (m ∷ q) ≡ None) (out : IsOutside (n ∷ p) (m ∷ q)) (copy : CopiesName (layer_of mid.upper) (layer_of new.upper) (n ∷ p) (m ∷ q) i.content i.attributes) where
+module _ (mid new : Layers) (low : new.lowers ≡ mid.lowers) (keep : IsLayer (layer_of mid.upper) → IsLayer (layer_of new.upper)) (n : Name) (p : Path) (m : Name) (q : Path) (l k : ℕ) (i : Inode) (shown : shows 0 (layers_of mid) (n ∷ p) ≡ Some (Contents (suc l) k (Some i))) (absent : shows 0 (layers_of mid) (m ∷ q) ≡ None) (out : IsOutside (n ∷ p) (m ∷ q)) (inode : Inode) (marked : Bool) (marks : is_some inode.mark ≡ (marked && is_file i.content)) (content : (fill (lowers_of mid) inode).content ≡ i.content) (attributes : inode.attributes ≡ i.attributes) (copy : CopiesName (layer_of mid.upper) (layer_of new.upper) (n ∷ p) (m ∷ q) inode) where
   -- the upper with the copy, as it shows
   abbrev C : Layer
   C = filled copy.copied (lowers_of mid)
 
   -- gets the copy, and then its further name
-  leaf : PlacesLeaf (upper_of mid) C (n ∷ p) copy.number (leaf_of i.content i.attributes)
-  leaf = raised-leaf (lowers_of mid) (layer_of mid.upper) copy.copied (n ∷ p) copy.number (leaf_of i.content i.attributes) copy.leaf
+  leaf : PlacesLeaf (upper_of mid) C (n ∷ p) copy.number (leaf_of i.content inode.mark i.attributes)
+  leaf = leaf-filled (layer_of mid.upper) copy.copied (lowers_of mid) (n ∷ p) copy.number inode i content attributes copy.leaf
 
   further : AddsName C (upper_of new) (n ∷ p) (m ∷ q)
   further = raise mid new low (λ V. AddsName C V (n ∷ p) (m ∷ q)) (raised-name (lowers_of mid) copy.copied (layer_of new.upper) (n ∷ p) (m ∷ q) copy.further)
 
   copy-absent : shows 0 (C ∷ lowers_of mid) (m ∷ q) ≡ None
-  copy-absent = still-absent (upper_of mid) C (lowers_of mid) (n ∷ p) copy.number (leaf_of i.content i.attributes) leaf (m ∷ q) out absent
+  copy-absent = still-absent (upper_of mid) C (lowers_of mid) (n ∷ p) copy.number (leaf_of i.content inode.mark i.attributes) leaf (m ∷ q) out absent
 
-  pub copy-name : AreLayers (layers_of mid) → GainsName (upper_of mid) (upper_of new) (lowers_of mid) false (n ∷ p) (m ∷ q)
+  pub copy-name : AreLayers (layers_of mid) → GainsName (upper_of mid) (upper_of new) (lowers_of mid) marked (n ∷ p) (m ∷ q)
   copy-name h =
       let c : IsLayer C = filled-stays (layer_of mid.upper) copy.copied (lowers_of mid) copy.lawful h.0 in
-      law_of_copied_name (upper_of mid) C (upper_of new) (lowers_of mid) false (n ∷ p) (m ∷ q) l k i shown
-      (law_of_copied_leaf (upper_of mid) C (lowers_of mid) h (c, h.1) n p l k copy.number i i.attributes shown false None refl leaf)
-      (law_of_added_name C (upper_of new) (lowers_of mid) (c, h.1) (layer-raised mid new low keep h.0, h.1) false (n ∷ p) m q copy-absent further)
+      law_of_copied_name (upper_of mid) C (upper_of new) (lowers_of mid) marked (n ∷ p) (m ∷ q) l k i shown
+      (law_of_copied_leaf (upper_of mid) C (lowers_of mid) h (c, h.1) n p l k copy.number i i.attributes shown marked inode.mark marks leaf)
+      (law_of_added_name C (upper_of new) (lowers_of mid) (c, h.1) (layer-raised mid new low keep h.0, h.1) marked (n ∷ p) m q copy-absent further)
 
   pub copy-links : AreLayers (layers_of mid) → (j : ℕ) → is_some ((upper_of mid).inodes j) ≡ true → GainsLink (upper_of mid) (upper_of new) (n ∷ p) (m ∷ q) j
-  copy-links h j is = law_of_copied_link (upper_of mid) C (upper_of new) (lowers_of mid) h (n ∷ p) (m ∷ q) l copy.number k i (leaf_of i.content i.attributes) shown leaf absent further j is
+  copy-links h j is = law_of_copied_link (upper_of mid) C (upper_of new) (lowers_of mid) h (n ∷ p) (m ∷ q) l copy.number k i (leaf_of i.content inode.mark i.attributes) shown leaf absent further j is
 
   pub copy-thin : StaysThin mid new
   copy-thin h =
       subst (λ (Ls : List Layer). IsThin (layer_of new.upper) Ls) (sym (lowers-same mid new low))
       (thin-linked copy.copied (layer_of new.upper) (lowers_of mid) (n ∷ p) (m ∷ q) copy.further
-      ((law_of_thin (layer_of mid.upper) copy.copied (lowers_of mid) h n p).leaf copy.number (leaf_of i.content i.attributes) copy.leaf))
+      ((law_of_thin (layer_of mid.upper) copy.copied (lowers_of mid) h n p).leaf copy.number inode copy.leaf))
 
 -- a number above 0 follows one
 pub follows : (j : ℕ) → 0 < j → (l : ℕ) × (j ≡ suc l)
@@ -178,7 +178,7 @@ pub link-fine : (Ls : List Layer) (p q : Path) → walk_fault Ls p ≡ None → 
 link-fine Ls p q walk way none file = λ i. or_else (walk i) (or_else (way i) (or_else (when (is_some (none i)) errno.EEXIST) (when (file i) errno.EPERM)))
 
 -- link is the machine's step where the name is given
-pub link-steps : (old new : Layers) (p q : Path) → new.lowers ≡ old.lowers → link_fault (layers_of old) p q ≡ None → GivesName old new p q → LinkSteps old new p q
-link-steps old new p q low fine given s h off c =
+pub link-steps : (old new : Layers) (marked : Bool) (p q : Path) → new.lowers ≡ old.lowers → link_fault (layers_of old) p q ≡ None → GivesName old new marked p q → LinkSteps old new marked p q
+link-steps old new marked p q low fine given s h off c =
     subst (λ (Ls : List Layer). MakesName (upper_of new) Ls s c p q) (sym (lowers-same old new low))
     (law_of_name_made (upper_of old) (upper_of new) (lowers_of old) s h c p q fine (subst (λ (z : Bool). GainsName (upper_of old) (upper_of new) (lowers_of old) z p q) (sym off) (given.gains h.layers)))

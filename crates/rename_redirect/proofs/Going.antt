@@ -69,10 +69,10 @@ module _ (l : Layers) (old new t u : Path) (r : Route) (is_old : old ≡ r.name.
   }
 
   -- what moved so is what rename moves
-  pub moves-as : (b : Layers) (directory : Bool) (released : Option ℕ) → is_one (layer_of l.upper) old new ≡ false → is_directory (shows 0 (layers_of l) (r.name.now ∷ t)) ≡ directory → MovesOver l b (r.name.now ∷ t) (r.further.now ∷ u) × Replaces l b (r.further.now ∷ u) released → Moves l b old new directory released
-  moves-as b directory released apart kind m = record {
+  pub moves-as : (b : Layers) (marked directory : Bool) (released : Option ℕ) → is_one (layer_of l.upper) old new ≡ false → is_directory (shows 0 (layers_of l) (r.name.now ∷ t)) ≡ directory → MovesOver l b marked (r.name.now ∷ t) (r.further.now ∷ u) × Replaces l b (r.further.now ∷ u) released → Moves l b marked old new directory released
+  moves-as b marked directory released apart kind m = record {
     apart = apart;
     kind = ap (λ x. is_directory (shows 0 (layers_of l) x)) is_old ∙ kind;
-    over = subst (λ x. MovesOver l b x new) (sym is_old) (subst (λ x. MovesOver l b (r.name.now ∷ t) x) (sym is_new) m.0);
+    over = subst (λ x. MovesOver l b marked x new) (sym is_old) (subst (λ x. MovesOver l b marked (r.name.now ∷ t) x) (sym is_new) m.0);
     replaces = subst (λ x. Replaces l b x released) (sym is_new) m.1;
   }

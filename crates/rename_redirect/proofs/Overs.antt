@@ -58,7 +58,7 @@ last-alike a b (Some Whiteout) same = refl
 last-alike a b (Some (Directory k x o r)) same = refl
 last-alike a b (Some (Named k)) same = ap (λ i. cond (has_more 1 i) None (Some k)) (same k refl)
 
-module _ (u w v : Tree) (lowers : List Layer) (n : Name) (p : Path) (m : Name) (q : Path) (covered : Bool) (released : Option ℕ) (ready : Prepared u w lowers (n ∷ p)) (together : IsHeldTogether (layer_of u)) (out : IsOutside (n ∷ p) (m ∷ q)) (within : IsOutside (m ∷ q) (n ∷ p)) (is_covered : covered ≡ is_some (under (layer_of u) lowers n p)) (e : MovesEntry w v (n ∷ p) (m ∷ q) (left_object covered) released) where
+module _ (u w v : Tree) (lowers : List Layer) (n : Name) (p : Path) (m : Name) (q : Path) (covered marked : Bool) (released : Option ℕ) (ready : Prepared u w lowers marked (n ∷ p)) (together : IsHeldTogether (layer_of u)) (out : IsOutside (n ∷ p) (m ∷ q)) (within : IsOutside (m ∷ q) (n ∷ p)) (is_covered : covered ≡ is_some (under (layer_of u) lowers n p)) (e : MovesEntry w v (n ∷ p) (m ∷ q) (left_object covered) released) where
   agree : (x : Path) → IsOutside (n ∷ p) x → AgreeTo (layer_of u) (layer_of w) x
   agree = agree-where (layer_of u) (layer_of w) (IsOutside (n ∷ p)) (outside-parent (n ∷ p)) (λ x h. ready.elsewhere x (λ z. h [] z))
 
@@ -153,10 +153,10 @@ module _ (u w v : Tree) (lowers : List Layer) (n : Name) (p : Path) (m : Name) (
           let second = sym new-held ∙ l.second in
           apart (record { number = l.number; first = ready.named l.number (named-inode l.number second) l.first; second = second })
 
-      pub name-moves : (IsLayer (layer_of u) → IsLayer (layer_of v)) → AreLayers (full u lowers ∷ lowers) → MovesTo (full u lowers) (full v lowers) lowers false (n ∷ p) (m ∷ q)
+      pub name-moves : (IsLayer (layer_of u) → IsLayer (layer_of v)) → AreLayers (full u lowers ∷ lowers) → MovesTo (full u lowers) (full v lowers) lowers marked (n ∷ p) (m ∷ q)
       name-moves keep h =
           ready.moves h (full v lowers) (m ∷ q)
-          (law_of_moved_name (full w lowers) (full v lowers) lowers (ready-layer h.0, h.1) (filled-stays (layer_of u) (layer_of v) lowers keep h.0, h.1) false (n ∷ p) (m ∷ q) out within still-apart name)
+          (law_of_moved_name (full w lowers) (full v lowers) lowers (ready-layer h.0, h.1) (filled-stays (layer_of u) (layer_of v) lowers keep h.0, h.1) marked (n ∷ p) (m ∷ q) out within still-apart name)
 
   -- the directory that moved gets other marks
   module _ (key : ℕ) (a : Attributes) (was : Bool) (had : Option Redirect) (source : held (layer_of w) (n ∷ p) ≡ Some (Directory key a was had)) (t : Tree) (opaque : Bool) (redirect : Option Redirect) (marks : MarksDirectory (layer_of v) (layer_of t) (m ∷ q) key opaque redirect) (unnamed : NamesNoInode (layer_of u) (m ∷ q)) (when_base : base (layer_of u) lowers (n ∷ p) ≡ true → (opaque ≡ false) × (redirect ≡ Some (Absolute (below (layer_of u) (n ∷ p))))) (when_not : base (layer_of u) lowers (n ∷ p) ≡ false → (redirect ≡ None) × (opaque ≡ is_directory (under (layer_of u) lowers m q))) where
@@ -204,10 +204,10 @@ module _ (u w v : Tree) (lowers : List Layer) (n : Name) (p : Path) (m : Name) (
     pub directory-links : AreLayers (full u lowers ∷ lowers) → (j : ℕ) → is_some ((full u lowers).inodes j) ≡ true → MovesLink (full u lowers) (full t lowers) (n ∷ p) (m ∷ q) j
     directory-links h j is = kept-link (full t lowers) j is ((law_of_moved_link (full w lowers) (full t lowers) lowers (ready-layer h.0, h.1) (n ∷ p) m q j).directory still-unnamed directory)
 
-    pub directory-moves : (IsLayer (layer_of u) → IsLayer (layer_of t)) → AreLayers (full u lowers ∷ lowers) → MovesTo (full u lowers) (full t lowers) lowers false (n ∷ p) (m ∷ q)
+    pub directory-moves : (IsLayer (layer_of u) → IsLayer (layer_of t)) → AreLayers (full u lowers ∷ lowers) → MovesTo (full u lowers) (full t lowers) lowers marked (n ∷ p) (m ∷ q)
     directory-moves keep h =
         ready.moves h (full t lowers) (m ∷ q)
-        (law_of_moved_directory (full w lowers) (full t lowers) lowers (ready-layer h.0, h.1) (filled-stays (layer_of u) (layer_of t) lowers keep h.0, h.1) false (n ∷ p) m q out within still-unnamed directory)
+        (law_of_moved_directory (full w lowers) (full t lowers) lowers (ready-layer h.0, h.1) (filled-stays (layer_of u) (layer_of t) lowers keep h.0, h.1) marked (n ∷ p) m q out within still-unnamed directory)
 
     -- a directory has the number and attributes that it had
     pub marked-follows : (x y : Path) → Follows (n ∷ p) (m ∷ q) x y → (k : ℕ) (b : Attributes) → HoldsDirectory (layer_of u) x k b → HoldsDirectory (layer_of t) y k b
@@ -230,60 +230,60 @@ module _ (u w v : Tree) (lowers : List Layer) (n : Name) (p : Path) (m : Name) (
     )
 
 -- what lower layers show under the names of a route is asked by the layers
-module _ (old new : Layers) (w : Tree) (p q : Path) (r : Route) (released : Option ℕ) (move : IsMove old p q r) (together : IsHeldTogether (layer_of old.upper)) (low : new.lowers ≡ old.lowers) (keep : IsLayer (layer_of old.upper) → IsLayer (layer_of new.upper)) (ready : Prepared old.upper w (lowers_of old) (r.name.now ∷ p)) (key : ℕ) (source : held (layer_of w) (r.name.now ∷ p) ≡ Some (Named key)) (e : MovesEntry w new.upper (r.name.now ∷ p) (r.further.now ∷ q) (left_object r.covered) released) where
+module _ (old new : Layers) (w : Tree) (p q : Path) (r : Route) (released : Option ℕ) (marked : Bool) (move : IsMove old p q r) (together : IsHeldTogether (layer_of old.upper)) (low : new.lowers ≡ old.lowers) (keep : IsLayer (layer_of old.upper) → IsLayer (layer_of new.upper)) (ready : Prepared old.upper w (lowers_of old) marked (r.name.now ∷ p)) (key : ℕ) (source : held (layer_of w) (r.name.now ∷ p) ≡ Some (Named key)) (e : MovesEntry w new.upper (r.name.now ∷ p) (r.further.now ∷ q) (left_object r.covered) released) where
   -- a file or link moves
-  pub over-inode : is_directory (shows 0 (layers_of old) (r.name.now ∷ p)) ≡ false → MovesOver old new (r.name.now ∷ p) (r.further.now ∷ q)
+  pub over-inode : is_directory (shows 0 (layers_of old) (r.name.now ∷ p)) ≡ false → MovesOver old new marked (r.name.now ∷ p) (r.further.now ∷ q)
   over-inode file = record {
     lowers = low;
-    moves = λ h. raise old new low (λ V. MovesTo (upper_of old) V (lowers_of old) false (r.name.now ∷ p) (r.further.now ∷ q)) (name-moves old.upper w new.upper (lowers_of old) r.name.now p r.further.now q r.covered released ready together move.route.out move.route.within move.covered e key source move.apart keep h);
-    left = left-there old.upper w new.upper (lowers_of old) r.name.now p r.further.now q r.covered released ready together move.route.out move.route.within move.covered e;
+    moves = λ h. raise old new low (λ V. MovesTo (upper_of old) V (lowers_of old) marked (r.name.now ∷ p) (r.further.now ∷ q)) (name-moves old.upper w new.upper (lowers_of old) r.name.now p r.further.now q r.covered marked released ready together move.route.out move.route.within move.covered e key source move.apart keep h);
+    left = left-there old.upper w new.upper (lowers_of old) r.name.now p r.further.now q r.covered marked released ready together move.route.out move.route.within move.covered e;
     marks = λ h. absurd (false≢true (sym file ∙ h));
     paths = λ x y f off. inl (follows-held (layer_of w) (layer_of new.upper) (r.name.now ∷ p) (r.further.now ∷ q) (left_object r.covered) e.path x y f ∙ ready.elsewhere x off);
-    directories = directory-follows old.upper w new.upper (lowers_of old) r.name.now p r.further.now q r.covered released ready together move.route.out move.route.within move.covered e;
-    links = λ h j is. raise old new low (λ V. MovesLink (upper_of old) V (r.name.now ∷ p) (r.further.now ∷ q) j) (name-links old.upper w new.upper (lowers_of old) r.name.now p r.further.now q r.covered released ready together move.route.out move.route.within move.covered e key source h j is);
-    seen = λ k is off. seen-kept old.upper w new.upper (lowers_of old) r.name.now p r.further.now q r.covered released ready together move.route.out move.route.within move.covered e k is;
-    nameless = nameless-kept old.upper w new.upper (lowers_of old) r.name.now p r.further.now q r.covered released ready together move.route.out move.route.within move.covered e;
+    directories = directory-follows old.upper w new.upper (lowers_of old) r.name.now p r.further.now q r.covered marked released ready together move.route.out move.route.within move.covered e;
+    links = λ h j is. raise old new low (λ V. MovesLink (upper_of old) V (r.name.now ∷ p) (r.further.now ∷ q) j) (name-links old.upper w new.upper (lowers_of old) r.name.now p r.further.now q r.covered marked released ready together move.route.out move.route.within move.covered e key source h j is);
+    seen = λ k is off. seen-kept old.upper w new.upper (lowers_of old) r.name.now p r.further.now q r.covered marked released ready together move.route.out move.route.within move.covered e k is;
+    nameless = nameless-kept old.upper w new.upper (lowers_of old) r.name.now p r.further.now q r.covered marked released ready together move.route.out move.route.within move.covered e;
   }
 
   pub replaces-inode : Replaces old new (r.further.now ∷ q) released
   replaces-inode = record {
-    handed_back = handed old.upper w new.upper (lowers_of old) r.name.now p r.further.now q r.covered released ready together move.route.out move.route.within move.covered e;
+    handed_back = handed old.upper w new.upper (lowers_of old) r.name.now p r.further.now q r.covered marked released ready together move.route.out move.route.within move.covered e;
     nameless = e.unnamed;
   }
 
   pub thin-inode : AreLayers (layers_of old) → StaysThin old new
   thin-inode h t =
       subst (λ (Ls : List Layer). IsThin (layer_of new.upper) Ls) (sym (lowers-same old new low))
-      (name-thin old.upper w new.upper (lowers_of old) r.name.now p r.further.now q r.covered released ready together move.route.out move.route.within move.covered e key source h.1 t)
+      (name-thin old.upper w new.upper (lowers_of old) r.name.now p r.further.now q r.covered marked released ready together move.route.out move.route.within move.covered e key source h.1 t)
 
 -- a directory moves and gets other marks
-module _ (old mid new : Layers) (w : Tree) (p q : Path) (r : Route) (released : Option ℕ) (top : Place) (marks : Marks) (move : IsMove old p q r) (folder : IsFolderMove old p q r top marks) (together : IsHeldTogether (layer_of old.upper)) (low : new.lowers ≡ old.lowers) (keep : IsLayer (layer_of old.upper) → IsLayer (layer_of new.upper)) (ready : Prepared old.upper w (lowers_of old) (r.name.now ∷ p)) (key : ℕ) (a : Attributes) (was : Bool) (had : Option Redirect) (source : held (layer_of w) (r.name.now ∷ p) ≡ Some (Directory key a was had)) (e : MovesEntry w mid.upper (r.name.now ∷ p) (r.further.now ∷ q) (left_object r.covered) released) (m : MarksDirectory (layer_of mid.upper) (layer_of new.upper) (r.further.now ∷ q) key marks.opaque marks.redirect) (sets : SetsMarks mid.upper new.upper key marks) (nameless : (k : ℕ) → IsNameless mid.upper k → IsNameless new.upper k) where
-  pub over-directory : ((k : ℕ) → IsSome (get old.upper k) → (directory_number (held (layer_of old.upper) (r.name.now ∷ p)) ≡ Some k → ⊥) → k ≢ key) → MovesOver old new (r.name.now ∷ p) (r.further.now ∷ q)
+module _ (old mid new : Layers) (w : Tree) (p q : Path) (r : Route) (released : Option ℕ) (marked : Bool) (top : Place) (marks : Marks) (move : IsMove old p q r) (folder : IsFolderMove old p q r top marks) (together : IsHeldTogether (layer_of old.upper)) (low : new.lowers ≡ old.lowers) (keep : IsLayer (layer_of old.upper) → IsLayer (layer_of new.upper)) (ready : Prepared old.upper w (lowers_of old) marked (r.name.now ∷ p)) (key : ℕ) (a : Attributes) (was : Bool) (had : Option Redirect) (source : held (layer_of w) (r.name.now ∷ p) ≡ Some (Directory key a was had)) (e : MovesEntry w mid.upper (r.name.now ∷ p) (r.further.now ∷ q) (left_object r.covered) released) (m : MarksDirectory (layer_of mid.upper) (layer_of new.upper) (r.further.now ∷ q) key marks.opaque marks.redirect) (sets : SetsMarks mid.upper new.upper key marks) (nameless : (k : ℕ) → IsNameless mid.upper k → IsNameless new.upper k) where
+  pub over-directory : ((k : ℕ) → IsSome (get old.upper k) → (directory_number (held (layer_of old.upper) (r.name.now ∷ p)) ≡ Some k → ⊥) → k ≢ key) → MovesOver old new marked (r.name.now ∷ p) (r.further.now ∷ q)
   over-directory other = record {
     lowers = low;
-    moves = λ h. raise old new low (λ V. MovesTo (upper_of old) V (lowers_of old) false (r.name.now ∷ p) (r.further.now ∷ q)) (directory-moves old.upper w mid.upper (lowers_of old) r.name.now p r.further.now q r.covered released ready together move.route.out move.route.within move.covered e key a was had source new.upper marks.opaque marks.redirect m folder.unnamed folder.when_base folder.when_not keep h);
-    left = m.elsewhere (r.name.now ∷ p) (λ z. move.route.within [] z) ∙ left-there old.upper w mid.upper (lowers_of old) r.name.now p r.further.now q r.covered released ready together move.route.out move.route.within move.covered e;
+    moves = λ h. raise old new low (λ V. MovesTo (upper_of old) V (lowers_of old) marked (r.name.now ∷ p) (r.further.now ∷ q)) (directory-moves old.upper w mid.upper (lowers_of old) r.name.now p r.further.now q r.covered marked released ready together move.route.out move.route.within move.covered e key a was had source new.upper marks.opaque marks.redirect m folder.unnamed folder.when_base folder.when_not keep h);
+    left = m.elsewhere (r.name.now ∷ p) (λ z. move.route.within [] z) ∙ left-there old.upper w mid.upper (lowers_of old) r.name.now p r.further.now q r.covered marked released ready together move.route.out move.route.within move.covered e;
     marks = λ h.
-        let b = marks-moved old.upper w mid.upper (lowers_of old) r.name.now p r.further.now q r.covered released ready together move.route.out move.route.within move.covered e key a was had source new.upper marks.opaque marks.redirect m folder.unnamed folder.when_base folder.when_not in
+        let b = marks-moved old.upper w mid.upper (lowers_of old) r.name.now p r.further.now q r.covered marked released ready together move.route.out move.route.within move.covered e key a was had source new.upper marks.opaque marks.redirect m folder.unnamed folder.when_base folder.when_not in
         record { when_base = b.0; when_not = b.1 };
     paths = λ x y f off.
         inl
         (m.elsewhere y (follows-apart (r.name.now ∷ p) (r.further.now ∷ q) x y f off)
         ∙ follows-held (layer_of w) (layer_of mid.upper) (r.name.now ∷ p) (r.further.now ∷ q) (left_object r.covered) e.path x y f
         ∙ ready.elsewhere x off);
-    directories = marked-follows old.upper w mid.upper (lowers_of old) r.name.now p r.further.now q r.covered released ready together move.route.out move.route.within move.covered e key a was had source new.upper marks.opaque marks.redirect m folder.unnamed folder.when_base folder.when_not;
-    links = λ h j is. raise old new low (λ V. MovesLink (upper_of old) V (r.name.now ∷ p) (r.further.now ∷ q) j) (directory-links old.upper w mid.upper (lowers_of old) r.name.now p r.further.now q r.covered released ready together move.route.out move.route.within move.covered e key a was had source new.upper marks.opaque marks.redirect m folder.unnamed folder.when_base folder.when_not h j is);
-    seen = λ k is off. ap (option_map (seen k)) (sets.others k (other k is off)) ∙ seen-kept old.upper w mid.upper (lowers_of old) r.name.now p r.further.now q r.covered released ready together move.route.out move.route.within move.covered e k is;
-    nameless = λ k h. nameless k (nameless-kept old.upper w mid.upper (lowers_of old) r.name.now p r.further.now q r.covered released ready together move.route.out move.route.within move.covered e k h);
+    directories = marked-follows old.upper w mid.upper (lowers_of old) r.name.now p r.further.now q r.covered marked released ready together move.route.out move.route.within move.covered e key a was had source new.upper marks.opaque marks.redirect m folder.unnamed folder.when_base folder.when_not;
+    links = λ h j is. raise old new low (λ V. MovesLink (upper_of old) V (r.name.now ∷ p) (r.further.now ∷ q) j) (directory-links old.upper w mid.upper (lowers_of old) r.name.now p r.further.now q r.covered marked released ready together move.route.out move.route.within move.covered e key a was had source new.upper marks.opaque marks.redirect m folder.unnamed folder.when_base folder.when_not h j is);
+    seen = λ k is off. ap (option_map (seen k)) (sets.others k (other k is off)) ∙ seen-kept old.upper w mid.upper (lowers_of old) r.name.now p r.further.now q r.covered marked released ready together move.route.out move.route.within move.covered e k is;
+    nameless = λ k h. nameless k (nameless-kept old.upper w mid.upper (lowers_of old) r.name.now p r.further.now q r.covered marked released ready together move.route.out move.route.within move.covered e k h);
   }
 
   pub replaces-directory : Replaces old new (r.further.now ∷ q) released
   replaces-directory = record {
-    handed_back = handed old.upper w mid.upper (lowers_of old) r.name.now p r.further.now q r.covered released ready together move.route.out move.route.within move.covered e;
+    handed_back = handed old.upper w mid.upper (lowers_of old) r.name.now p r.further.now q r.covered marked released ready together move.route.out move.route.within move.covered e;
     nameless = λ k h. nameless k (e.unnamed k h);
   }
 
   pub thin-directory : AreLayers (layers_of old) → StaysThin old new
   thin-directory h t =
       subst (λ (Ls : List Layer). IsThin (layer_of new.upper) Ls) (sym (lowers-same old new low))
-      (directory-thin old.upper w mid.upper (lowers_of old) r.name.now p r.further.now q r.covered released ready together move.route.out move.route.within move.covered e key a was had source new.upper marks.opaque marks.redirect m folder.unnamed folder.when_base folder.when_not h.1 t)
+      (directory-thin old.upper w mid.upper (lowers_of old) r.name.now p r.further.now q r.covered marked released ready together move.route.out move.route.within move.covered e key a was had source new.upper marks.opaque marks.redirect m folder.unnamed folder.when_base folder.when_not h.1 t)

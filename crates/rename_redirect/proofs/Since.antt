@@ -120,9 +120,9 @@ module _ (a b : Layers) (p q : Path) (same : ShowsSame a b) (stays : Stays a b) 
   linked : (x y : Path) → AreLinked B x y ↔ AreLinked A x y
   linked x y = (linked-by B A (λ z k. (stays.names z k).0) x y, linked-by A B (λ z k. (stays.names z k).1) x y)
 
-  moves-since : (V : Layer) → MovesTo B V (lowers_of b) false p q → MovesTo A V (lowers_of a) false p q
-  moves-since V m =
-      law_of_same_move A B V (lowers_of a) (λ x. sym (ap (λ Ls. merged B Ls x) low) ∙ same.sights x) linked false p q (subst (λ Ls. MovesTo B V Ls false p q) low m)
+  moves-since : (marked : Bool) (V : Layer) → MovesTo B V (lowers_of b) marked p q → MovesTo A V (lowers_of a) marked p q
+  moves-since marked V m =
+      law_of_same_move A B V (lowers_of a) (λ x. sym (ap (λ Ls. merged B Ls x) low) ∙ same.sights x) linked marked p q (subst (λ Ls. MovesTo B V Ls marked p q) low m)
 
   left-since : (t : Path) → left_at B (lowers_of b) t ≡ left_at A (lowers_of a) t
   left-since [] = refl
@@ -156,10 +156,10 @@ module _ (a b : Layers) (p q : Path) (same : ShowsSame a b) (stays : Stays a b) 
         by (inl h) (inr g) = inr (inr (parent-then a b c q x y (follows-parent p q x y out f (inr g.parent)) e (parent-since a gains.mid b q x gains.same_first gains.first.objects (sym h ∙ g.lacked) g)))
         by (inr g) (inr h) = let z : Some (Directory g.number g.attributes false None) ≡ None = sym g.gained ∙ h.lacked in absurd (cc)
 
-    over-since : MovesOver b c p q → MovesOver a c p q
-    over-since o = record {
+    over-since : (marked : Bool) → MovesOver b c marked p q → MovesOver a c marked p q
+    over-since marked o = record {
       lowers = o.lowers ∙ same.lowers;
-      moves = λ h. moves-since (upper_of c) (o.moves (stays.sound.layers h));
+      moves = λ h. moves-since marked (upper_of c) (o.moves (stays.sound.layers h));
       left = o.left ∙ left-since p;
       marks = λ h. marks-since (o.marks (still-folder ∙ h));
       paths = λ x y f off. paths-since x y f (o.paths x y f off);
@@ -175,16 +175,16 @@ module _ (a b : Layers) (p q : Path) (same : ShowsSame a b) (stays : Stays a b) 
       nameless = r.nameless;
     }
 
-    kept-since : (directory : Bool) (released : Option ℕ) → Moves b c p q directory released → Moves a c p q directory released
-    kept-since directory released m = record {
+    kept-since : (marked directory : Bool) (released : Option ℕ) → Moves b c marked p q directory released → Moves a c marked p q directory released
+    kept-since marked directory released m = record {
       apart = sym still-one ∙ m.apart;
       kind = sym still-folder ∙ m.kind;
-      over = over-since m.over;
+      over = over-since marked m.over;
       replaces = replaces-since released m.replaces;
     }
 
     -- what rename did after the parents were placed
-    pub does-since : (r : Renamed) → is_one A p q ≡ false → DoesRename b c p q r → DoesRename a c p q r
-    does-since renamed.Unchanged apart d = absurd (false≢true (sym apart ∙ sym still-one ∙ d.0))
-    does-since (renamed.Directory released) apart d = kept-since true released d
-    does-since (renamed.Inode key released) apart d = (kept-since false released d.0, d.1)
+    pub does-since : (marked : Bool) (r : Renamed) → is_one A p q ≡ false → DoesRename b c marked p q r → DoesRename a c marked p q r
+    does-since marked renamed.Unchanged apart d = absurd (false≢true (sym apart ∙ sym still-one ∙ d.0))
+    does-since marked (renamed.Directory released) apart d = kept-since marked true released d
+    does-since marked (renamed.Inode key released) apart d = (kept-since marked false released d.0, d.1)

@@ -24,14 +24,14 @@ use Rattle.rename_redirect.specs.Judging.{IsFaultOf}
 use Rattle.rename_redirect.specs.Renaming.{MovesOver, DoesRename, RenameSteps}
 
 -- two objects moved, where rename did something
-pub renamed-over : (a b : Layers) (p q : Path) (r : Renamed) → is_one (layer_of a.upper) p q ≡ false → DoesRename a b p q r → MovesOver a b p q
-renamed-over a b p q renamed.Unchanged apart d = absurd (false≢true (sym apart ∙ d.0))
-renamed-over a b p q (renamed.Directory released) apart d = d.over
-renamed-over a b p q (renamed.Inode key released) apart d = d.0.over
+pub renamed-over : (a b : Layers) (marked : Bool) (p q : Path) (r : Renamed) → is_one (layer_of a.upper) p q ≡ false → DoesRename a b marked p q r → MovesOver a b marked p q
+renamed-over a b marked p q renamed.Unchanged apart d = absurd (false≢true (sym apart ∙ d.0))
+renamed-over a b marked p q (renamed.Directory released) apart d = d.over
+renamed-over a b marked p q (renamed.Inode key released) apart d = d.0.over
 
 -- and that is the machine's step
-pub rename-steps : (a b : Layers) (redirects : Bool) (p q : Path) → rename_fault (upper_of a) (lowers_of a) redirects p q false ≡ None → ShowsNoName (layers_of a) q → is_one (layer_of a.upper) p q ≡ false → MovesOver a b p q → RenameSteps a b redirects p q
-rename-steps a b redirects p q fine empty apart over s m option off c =
+pub rename-steps : (a b : Layers) (redirects marked : Bool) (p q : Path) → rename_fault (upper_of a) (lowers_of a) redirects p q false ≡ None → ShowsNoName (layers_of a) q → is_one (layer_of a.upper) p q ≡ false → MovesOver a b marked p q → RenameSteps a b redirects marked p q
+rename-steps a b redirects marked p q fine empty apart over s m option off c =
     subst (λ (Ls : List Layer). Renames (upper_of b) Ls s c p q) (sym (lowers-same a b over.lowers))
     (law_of_renamed (upper_of a) (upper_of b) (lowers_of a) s m c p q empty (ap (λ x. rename_fault (upper_of a) (lowers_of a) x p q false) option ∙ fine) apart (subst (λ (z : Bool). MovesTo (upper_of a) (upper_of b) (lowers_of a) z p q) (sym off) (over.moves m.layers)))
 

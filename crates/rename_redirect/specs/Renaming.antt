@@ -42,13 +42,13 @@ abbrev pub KeepsMoved : Layers → Layers → Path → Path → Path → Path �
 KeepsMoved old new p q x y =
     (held (layer_of new.upper) y ≡ held (layer_of old.upper) x) ⊎ (PlacedParent old new p x ⊎ PlacedParent old new q x)
 
--- What p showed moved to q, and at p a whiteout is left exactly where the lower layers show something there. A directory that moved has
--- the marks that its new place asks for. What the upper holds at other paths stays at the paths that follow them, but for missing parents
--- that it gained; its directories keep number and attributes, and its inodes have the names that follow their names. Else what stood under
--- its keys stays, also what has no name.
-pub record MovesOver (old new : Layers) (p q : Path) : Type 0 where
+-- What p showed moved to q, where the bytes of a file of lower layers stay there if low says so, and at p a whiteout is left exactly where
+-- the lower layers show something there. A directory that moved has the marks that its new place asks for. What the upper holds at other
+-- paths stays at the paths that follow them, but for missing parents that it gained; its directories keep number and attributes, and its
+-- inodes have the names that follow their names. Else what stood under its keys stays, also what has no name.
+pub record MovesOver (old new : Layers) (low : Bool) (p q : Path) : Type 0 where
   pub lowers : new.lowers ≡ old.lowers
-  pub moves : AreLayers (layers_of old) → MovesTo (upper_of old) (upper_of new) (lowers_of old) false p q
+  pub moves : AreLayers (layers_of old) → MovesTo (upper_of old) (upper_of new) (lowers_of old) low p q
   pub left : held (layer_of new.upper) p ≡ left_at (layer_of old.upper) (lowers_of old) p
   pub marks : is_directory (shows 0 (layers_of old) p) ≡ true → MovesMarks old new p q
   pub paths : (x y : Path) → Follows p q x y → x ≢ p → KeepsMoved old new p q x y
@@ -69,20 +69,20 @@ pub record Replaces (old new : Layers) (q : Path) (released : Option ℕ) : Type
   pub nameless : (key : ℕ) → released ≡ Some key → IsNameless new.upper key
 
 -- what p showed, a directory or not, moved to q, over what the upper held there
-pub record Moves (old new : Layers) (p q : Path) (directory : Bool) (released : Option ℕ) : Type 0 where
+pub record Moves (old new : Layers) (low : Bool) (p q : Path) (directory : Bool) (released : Option ℕ) : Type 0 where
   pub apart : is_one (layer_of old.upper) p q ≡ false
   pub kind : is_directory (shows 0 (layers_of old) p) ≡ directory
-  pub over : MovesOver old new p q
+  pub over : MovesOver old new low p q
   pub replaces : Replaces old new q released
 
 -- both paths were one object and nothing changed, or the object moved; an inode stands under the key that is handed on
-abbrev pub DoesRename : Layers → Layers → Path → Path → Renamed → Type 0
-DoesRename old new p q renamed.Unchanged = (is_one (layer_of old.upper) p q ≡ true) × (new ≡ old)
-DoesRename old new p q (renamed.Directory released) = Moves old new p q true released
-DoesRename old new p q (renamed.Inode key released) = Moves old new p q false released × (held (layer_of new.upper) q ≡ Some (Named key))
+abbrev pub DoesRename : Layers → Layers → Bool → Path → Path → Renamed → Type 0
+DoesRename old new low p q renamed.Unchanged = (is_one (layer_of old.upper) p q ≡ true) × (new ≡ old)
+DoesRename old new low p q (renamed.Directory released) = Moves old new low p q true released
+DoesRename old new low p q (renamed.Inode key released) = Moves old new low p q false released × (held (layer_of new.upper) q ≡ Some (Named key))
 
--- every state of the machine with this option whose mount has the old layers goes on to one with the new layers by rename
-abbrev pub RenameSteps : Layers → Layers → Bool → Path → Path → Type 0
-RenameSteps old new redirects p q =
+-- every state of the machine with these options whose mount has the old layers goes on to one with the new layers by rename
+abbrev pub RenameSteps : Layers → Layers → Bool → Bool → Path → Path → Type 0
+RenameSteps old new redirects metacopy p q =
     (s : State) → IsMountOf (upper_of old) (lowers_of old) s → s.options.redirects ≡ redirects →
-    s.options.metacopy ≡ false → (c : ℕ) → Renames (upper_of new) (lowers_of new) s c p q
+    s.options.metacopy ≡ metacopy → (c : ℕ) → Renames (upper_of new) (lowers_of new) s c p q

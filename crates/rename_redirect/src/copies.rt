@@ -4,20 +4,23 @@ ghost use Rattle.plain_model.specs.Layers.{Name as NameOf, Path as Names, Inode,
 ghost use Rattle.layer_tree.specs.Tree.{layer_of};
 ghost use Rattle.merged_lookup.specs.Merged.{layers_of, parents_fault, parent, IsStackOf, ShowsInode};
 ghost use Rattle.copy_up.specs.Showing.{ShowsSame, ChangesNoSight, HasPlace, Stays, StaysSound};
-ghost use Rattle.rename_redirect.specs.Linking.{GainsBoth, GivesName};
+ghost use Rattle.rename_redirect.specs.Linking.{GainsBoth, GivesName, CopiesInode};
 
 use crate::moves::place_ways;
 use crate::names::insert_in_upper;
-use copy_up::placed_or;
+use copy_up::{mark_of, placed_or};
+use layer_tree::Object;
 use merged_lookup::{Layers, Place, Stack};
-use ov_base::{Attributes, Content, Path};
-use std::alloc::AllocError;
+use ov_base::Path;
+use std::alloc::{AllocError, Global};
 
 // `link` of what a path shows of a lower layer, which gives the copy's key: all that needs memory comes before the first change that shows.
 pub(crate) fn link_copy(
+    alloc: Global,
     layers: &mut Layers,
     old: &Path,
     new: &Path,
+    metacopy: bool,
     directory: &Stack,
     onto: &Stack,
     place: Place,
@@ -29,7 +32,7 @@ pub(crate) fn link_copy(
     requires parents { parents_fault (layers_of layers.old) new.now ≡ None }
     requires onto { IsStackOf layers.old (parent new.now) onto.now }
     requires absent { shows 0 (layers_of layers.old) new.now ≡ None }
-    ensures linked { OnOk result (GivesName layers.old layers.new old.now new.now) }
+    ensures linked { OnOk result (GivesName layers.old layers.new metacopy old.now new.now) }
     ensures key { IfOk result (λ key. held (layer_of layers.new.upper) old.now ≡ Some (Named key)) }
     ensures lowers { layers.new.lowers ≡ layers.old.lowers }
     ensures no_memory { OnErr result
@@ -42,25 +45,34 @@ pub(crate) fn link_copy(
     let Some((further, _)) = new.split_last() else {
         unreachable!()
     };
-    let copy = copy_of(layers, place)?;
+    let copy = copy_of(alloc, layers, old, place, metacopy)?;
     let (from, onto) = place_both(layers, old, new, directory, onto, place)?;
     let key = insert_in_upper(layers, from, name, onto, further, copy)?;
     Ok(key)
 }
 
-// A copy of a lower layer's file or symbolic link, which is shown at a place: what it holds, and its attributes.
+// A copy of a lower layer's file or symbolic link, which a path shows at a place: what it holds, or of a file where the option is on its
+// mark, and its attributes.
 pub(crate) fn copy_of(
+    alloc: Global,
     layers: &mut Layers,
+    path: &Path,
     place: Place,
-) -> Result<(Content, Attributes), AllocError>
-    requires shown { (p : Names) × ShowsInode layers.old p place }
+    metacopy: bool,
+) -> Result<Object, AllocError>
+    requires shown { ShowsInode layers.old path.now place }
     requires lower { 0 < place.layer }
     ensures same { layers.new ≡ layers.old }
-    ensures copy { IfOk result (λ copy. (p : Names) → ShowsInode layers.old p place → (i : Inode) × (shows 0 (layers_of layers.old) p ≡ Some (Contents place.layer place.key (Some i))) × (copy.0 ≡ i.content) × (copy.1 ≡ i.attributes)) }
+    ensures copy { IfOk result (λ object. (i : Inode) × (shows 0 (layers_of layers.old) path.now ≡ Some (Contents place.layer place.key (Some i))) × CopiesInode layers.old metacopy path.now i object) }
 {
     let attributes = layers.inode_at(place).attributes.clone()?;
-    let content = layers.content_of(place)?;
-    Ok((content, attributes))
+    match mark_of(alloc, layers, path, place, metacopy)? {
+        Some(mark) => Ok(Object::Marked(mark, attributes)),
+        None => {
+            let content = layers.content_of(place)?;
+            Ok(Object::Inode(content, attributes))
+        }
+    }
 }
 
 // The keys of the directories of the upper in which the last names of two paths stand; those that the upper lacks are placed. The old

@@ -1,5 +1,5 @@
 // `link`.
-ghost use Rattle.std.specs.Prelude.{◌≡◌, Some, None, IfOk, IfErr, OnOk, OnErr};
+ghost use Rattle.std.specs.Prelude.{◌≡◌, Bool, Some, None, IfOk, IfErr, OnOk, OnErr};
 ghost use Rattle.plain_model.specs.Layers.{Path as Names, Named, held, shows};
 ghost use Rattle.mount_laws.specs.Linking.{link_fault};
 ghost use Rattle.layer_tree.specs.Tree.{layer_of};
@@ -15,18 +15,21 @@ use copy_up::{place_parents, placed_or};
 use make_remove::{Seen, there, vacant};
 use merged_lookup::{Layers, Place, Stack, Topmost};
 use ov_base::{Errno, Path};
-use std::alloc::AllocError;
+use std::alloc::{AllocError, Global};
 
 /// Gives the file or symbolic link that a path shows a further name, as link(2); one of a lower
-/// layer is copied up first (overlayfs.rst, "Non-directories"). The walk of the old path is refused
-/// first, then the way to the new one, as `mkdir`'s; where something is shown there it is EEXIST,
-/// and a directory at the old path is EPERM. All that is judged by what was seen at the two paths.
-/// Returns the key under which the upper has it then. A refusal changes nothing, and an allocation
-/// failure changes nothing that is shown.
+/// layer is copied up first (overlayfs.rst, "Non-directories"), with the option a file without its
+/// bytes ("Metadata only copy up"). The walk of the old path is refused first, then the way to the
+/// new one, as `mkdir`'s; where something is shown there it is EEXIST, and a directory at the old
+/// path is EPERM. All that is judged by what was seen at the two paths. Returns the key under which
+/// the upper has it then. A refusal changes nothing, and an allocation failure changes nothing that
+/// is shown.
 pub fn link(
+    alloc: Global,
     layers: &mut Layers,
     old: &Path,
     new: &Path,
+    metacopy: bool,
     from: &Seen,
     onto: &Seen,
 ) -> Result<Result<usize, Errno>, AllocError>
@@ -37,10 +40,10 @@ pub fn link(
     ensures unchanged { IfOk result (λ r. OnErr r (layers.new ≡ layers.old)) }
     ensures allowed { IfOk result (λ r.
         OnOk r (link_fault (layers_of layers.old) old.now new.now ≡ None)) }
-    ensures linked { IfOk result (λ r. OnOk r (GivesName layers.old layers.new old.now new.now)) }
+    ensures linked { IfOk result (λ r. OnOk r (GivesName layers.old layers.new metacopy old.now new.now)) }
     ensures key { IfOk result (λ r. IfOk r (λ key.
         held (layer_of layers.new.upper) old.now ≡ Some (Named key))) }
-    ensures steps { IfOk result (λ r. OnOk r (LinkSteps layers.old layers.new old.now new.now)) }
+    ensures steps { IfOk result (λ r. OnOk r (LinkSteps layers.old layers.new metacopy old.now new.now)) }
     ensures lowers { layers.new.lowers ≡ layers.old.lowers }
     ensures no_memory { OnErr result
         (ChangesNoSight layers.old layers.new (GainsBoth layers.old layers.new old.now new.now)) }
@@ -50,7 +53,7 @@ pub fn link(
         Ok(found) => found,
         Err(errno) => return Ok(Err(errno)),
     };
-    let key = give_name(layers, old, new, directory, onto, place)?;
+    let key = give_name(alloc, layers, old, new, metacopy, directory, onto, place)?;
     Ok(Ok(key))
 }
 
@@ -79,9 +82,11 @@ pub fn linkable<'a>(from: &'a Seen, onto: &'a Seen) -> Result<(&'a Stack, &'a St
 
 // `link` of what a path shows, at a path in this merged directory that shows nothing; it gives the key.
 fn give_name(
+    alloc: Global,
     layers: &mut Layers,
     old: &Path,
     new: &Path,
+    metacopy: bool,
     directory: &Stack,
     onto: &Stack,
     place: Place,
@@ -92,7 +97,7 @@ fn give_name(
     requires parents { parents_fault (layers_of layers.old) new.now ≡ None }
     requires onto { IsStackOf layers.old (parent new.now) onto.now }
     requires absent { shows 0 (layers_of layers.old) new.now ≡ None }
-    ensures linked { OnOk result (GivesName layers.old layers.new old.now new.now) }
+    ensures linked { OnOk result (GivesName layers.old layers.new metacopy old.now new.now) }
     ensures key { IfOk result (λ key. held (layer_of layers.new.upper) old.now ≡ Some (Named key)) }
     ensures lowers { layers.new.lowers ≡ layers.old.lowers }
     ensures no_memory { OnErr result
@@ -102,7 +107,7 @@ fn give_name(
     if place.layer == 0 {
         return link_own(layers, old, new, onto, place);
     }
-    link_copy(layers, old, new, directory, onto, place)
+    link_copy(alloc, layers, old, new, metacopy, directory, onto, place)
 }
 
 // `link` of an inode of the upper.
@@ -118,7 +123,8 @@ fn link_own(
     requires parents { parents_fault (layers_of layers.old) new.now ≡ None }
     requires onto { IsStackOf layers.old (parent new.now) onto.now }
     requires absent { shows 0 (layers_of layers.old) new.now ≡ None }
-    ensures linked { OnOk result (GivesName layers.old layers.new old.now new.now) }
+    ensures linked { OnOk result ((low : Bool) →
+        GivesName layers.old layers.new low old.now new.now) }
     ensures key { IfOk result (λ key. held (layer_of layers.new.upper) old.now ≡ Some (Named key)) }
     ensures lowers { layers.new.lowers ≡ layers.old.lowers }
     ensures no_memory { OnErr result

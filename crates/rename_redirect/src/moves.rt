@@ -1,5 +1,5 @@
 // What a path shows moves to another path.
-ghost use Rattle.std.specs.Prelude.{◌≡◌, ◌∷◌, true, false, Some, None, IfOk, OnOk, OnErr, unwrap_or};
+ghost use Rattle.std.specs.Prelude.{◌≡◌, ◌∷◌, Bool, true, false, Some, None, IfOk, OnOk, OnErr, unwrap_or};
 ghost use Rattle.ov_base.specs.declared.redirect.Redirect.TheVariants.{Absolute};
 ghost use Rattle.plain_model.specs.Layers.{Path as Names, Named, held, below, shows, is_directory, base, under, IsLayer, AreLayers};
 ghost use Rattle.plain_model.specs.Laws.{IsOutside};
@@ -30,6 +30,7 @@ pub(crate) fn move_object(
     layers: &mut Layers,
     old: &Path,
     new: &Path,
+    metacopy: bool,
     directory: &Stack,
     found: Found,
     onto: &Stack,
@@ -45,7 +46,7 @@ pub(crate) fn move_object(
         NamesNoInode (layer_of layers.old.upper) new.now }
     requires out { IsOutside old.now new.now }
     requires within { IsOutside new.now old.now }
-    ensures does { IfOk result (λ r. DoesRename layers.old layers.new old.now new.now r) }
+    ensures does { IfOk result (λ r. DoesRename layers.old layers.new metacopy old.now new.now r) }
     ensures lowers { layers.new.lowers ≡ layers.old.lowers }
     ensures no_memory { OnErr result
         (ChangesNoSight layers.old layers.new (GainsBoth layers.old layers.new old.now new.now)) }
@@ -55,7 +56,7 @@ pub(crate) fn move_object(
     let (placed, placed_onto) = place_ways(layers, old, new, directory, onto)?;
     let from = placed_or(&placed, directory);
     let onto = placed_or(&placed_onto, onto);
-    let renamed = move_placed(alloc, layers, old, new, from, found, onto)?;
+    let renamed = move_placed(alloc, layers, old, new, metacopy, from, found, onto)?;
     Ok(renamed)
 }
 
@@ -145,6 +146,7 @@ fn move_placed(
     layers: &mut Layers,
     old: &Path,
     new: &Path,
+    metacopy: bool,
     from: &Stack,
     found: Found,
     onto: &Stack,
@@ -159,7 +161,7 @@ fn move_placed(
     requires kind { is_directory (shows 0 (layers_of layers.old) old.now) ≡ true → NamesNoInode (layer_of layers.old.upper) new.now }
     requires out { IsOutside old.now new.now }
     requires within { IsOutside new.now old.now }
-    ensures does { IfOk result (λ r. DoesRename layers.old layers.new old.now new.now r) }
+    ensures does { IfOk result (λ r. DoesRename layers.old layers.new metacopy old.now new.now r) }
     ensures lowers { layers.new.lowers ≡ layers.old.lowers }
     ensures unchanged { OnErr result (SameObjects (layer_of layers.old.upper) (layer_of layers.new.upper)) }
     ensures same { OnErr result (KeepsObjects layers.old.upper layers.new.upper None) }
@@ -186,7 +188,7 @@ fn move_placed(
             Ok(Renamed::Directory(released))
         }
         Found::Inode(place) => {
-            let (key, released) = move_inode(layers, &route, place)?;
+            let (key, released) = move_inode(alloc, layers, old, &route, place, metacopy)?;
             Ok(Renamed::Inode { key, released })
         }
     }
@@ -228,7 +230,7 @@ fn move_directory(
 ) -> Result<Option<usize>, AllocError>
     requires goes { (p q : Names) × IsMove layers.old p q route.now × IsFolderMove layers.old p q route.now top marks }
     ensures lowers { layers.new.lowers ≡ layers.old.lowers }
-    ensures moved { IfOk result (λ released. (p q : Names) → IsMove layers.old p q route.now → IsFolderMove layers.old p q route.now top marks → MovesOver layers.old layers.new (route.now.name.now ∷ p) (route.now.further.now ∷ q) × Replaces layers.old layers.new (route.now.further.now ∷ q) released) }
+    ensures moved { IfOk result (λ released. (p q : Names) (low : Bool) → IsMove layers.old p q route.now → IsFolderMove layers.old p q route.now top marks → MovesOver layers.old layers.new low (route.now.name.now ∷ p) (route.now.further.now ∷ q) × Replaces layers.old layers.new (route.now.further.now ∷ q) released) }
     ensures unchanged { OnErr result (SameObjects (layer_of layers.old.upper) (layer_of layers.new.upper)) }
     ensures same { OnErr result (KeepsObjects layers.old.upper layers.new.upper None) }
     ensures keeps { IsLayer (layer_of layers.old.upper) → IsLayer (layer_of layers.new.upper) }
@@ -253,16 +255,19 @@ fn move_directory(
 }
 
 // Moves a file or symbolic link, and gives the key under which the upper has it, and that of what lost
-// its last name by it.
+// its last name by it. It is told the path from which it moves.
 fn move_inode(
+    alloc: Global,
     layers: &mut Layers,
+    old: &Path,
     route: &Route<'_>,
     place: Place,
+    metacopy: bool,
 ) -> Result<(usize, Option<usize>), AllocError>
-    requires goes { (p q : Names) × IsMove layers.old p q route.now × ShowsInode layers.old (route.now.name.now ∷ p) place }
+    requires goes { (p q : Names) × IsMove layers.old p q route.now × ShowsInode layers.old (route.now.name.now ∷ p) place × (old.now ≡ route.now.name.now ∷ p) }
     ensures lowers { layers.new.lowers ≡ layers.old.lowers }
-    ensures moved { IfOk result (λ keys. (p q : Names) → IsMove layers.old p q route.now → ShowsInode layers.old (route.now.name.now ∷ p) place → MovesOver layers.old layers.new (route.now.name.now ∷ p) (route.now.further.now ∷ q) × Replaces layers.old layers.new (route.now.further.now ∷ q) keys.1) }
-    ensures key { IfOk result (λ keys. (p q : Names) → IsMove layers.old p q route.now → ShowsInode layers.old (route.now.name.now ∷ p) place → held (layer_of layers.new.upper) (route.now.further.now ∷ q) ≡ Some (Named keys.0)) }
+    ensures moved { IfOk result (λ keys. (p q : Names) → IsMove layers.old p q route.now → ShowsInode layers.old (route.now.name.now ∷ p) place → old.now ≡ route.now.name.now ∷ p → MovesOver layers.old layers.new metacopy (route.now.name.now ∷ p) (route.now.further.now ∷ q) × Replaces layers.old layers.new (route.now.further.now ∷ q) keys.1) }
+    ensures key { IfOk result (λ keys. (p q : Names) → IsMove layers.old p q route.now → ShowsInode layers.old (route.now.name.now ∷ p) place → old.now ≡ route.now.name.now ∷ p → held (layer_of layers.new.upper) (route.now.further.now ∷ q) ≡ Some (Named keys.0)) }
     ensures unchanged { OnErr result (SameObjects (layer_of layers.old.upper) (layer_of layers.new.upper)) }
     ensures same { OnErr result (KeepsObjects layers.old.upper layers.new.upper None) }
     ensures keeps { IsLayer (layer_of layers.old.upper) → IsLayer (layer_of layers.new.upper) }
@@ -273,7 +278,7 @@ fn move_inode(
         let released = move_in_upper(layers, route)?;
         return Ok((place.key, released));
     }
-    let (content, attributes) = copy_of(layers, place)?;
-    let (key, released) = insert_and_move(layers, route, Object::Inode(content, attributes))?;
+    let copy = copy_of(alloc, layers, old, place, metacopy)?;
+    let (key, released) = insert_and_move(layers, route, copy)?;
     Ok((key, released))
 }

@@ -1,16 +1,16 @@
 // Further names in the upper, of an inode that it has and of a new one.
 ghost use Rattle.std.specs.Prelude.{◌≡◌, ◌≢◌, ◌<◌, ◌≤◌, ◌∷◌, ℕ, Some, None, IfOk, OnOk, OnErr};
 ghost use Rattle.slab.specs.Slab.{HasRoomFor};
-ghost use Rattle.plain_model.specs.Layers.{Path as Names, Named, held, IsLayer};
+ghost use Rattle.plain_model.specs.Layers.{Path as Names, Inode, Named, held, IsLayer};
 ghost use Rattle.mount_laws.specs.Linking.{AddsName};
 ghost use Rattle.layer_tree.specs.Nameless.{KeepsObjects};
-ghost use Rattle.layer_tree.specs.Tree.{layer_of, names_room, IsDirectory, SameObjects, SameTree};
+ghost use Rattle.layer_tree.specs.Tree.{layer_of, new_inode, names_room, IsDirectory, SameObjects, SameTree};
 ghost use Rattle.copy_up.specs.Showing.{HasPlace};
 ghost use Rattle.rename_redirect.specs.Linking.{CopiesName, KeepsDirectories};
 
 use layer_tree::{Layer, Object};
 use merged_lookup::Layers;
-use ov_base::{Attributes, Content, Name};
+use ov_base::Name;
 use std::alloc::AllocError;
 
 // Gives an inode of the upper a further name, in a directory in which no object stands at it; the lower layers stay.
@@ -44,12 +44,13 @@ pub(crate) fn insert_in_upper(
     name: &Name,
     to: usize,
     further: &Name,
-    object: (Content, Attributes),
+    object: Object,
 ) -> Result<usize, AllocError>
     requires places { (p q : Names) × HasPlace (layer_of layers.old.upper) from name.now p × HasPlace (layer_of layers.old.upper) to further.now q × (further.now ∷ q ≢ name.now ∷ p) }
+    requires leaf { (i : Inode) × (new_inode object ≡ Some i) }
     ensures lowers { layers.new.lowers ≡ layers.old.lowers }
     ensures key { IfOk result (λ key. (p q : Names) → HasPlace (layer_of layers.old.upper) from name.now p → HasPlace (layer_of layers.old.upper) to further.now q → further.now ∷ q ≢ name.now ∷ p → held (layer_of layers.new.upper) (name.now ∷ p) ≡ Some (Named key)) }
-    ensures copied { OnOk result ((p q : Names) → HasPlace (layer_of layers.old.upper) from name.now p → HasPlace (layer_of layers.old.upper) to further.now q → further.now ∷ q ≢ name.now ∷ p → CopiesName (layer_of layers.old.upper) (layer_of layers.new.upper) (name.now ∷ p) (further.now ∷ q) object.0 object.1) }
+    ensures copied { OnOk result ((p q : Names) (i : Inode) → HasPlace (layer_of layers.old.upper) from name.now p → HasPlace (layer_of layers.old.upper) to further.now q → further.now ∷ q ≢ name.now ∷ p → new_inode object ≡ Some i → CopiesName (layer_of layers.old.upper) (layer_of layers.new.upper) (name.now ∷ p) (further.now ∷ q) i) }
     ensures directories { OnOk result (KeepsDirectories (layer_of layers.old.upper) (layer_of layers.new.upper)) }
     ensures objects { OnOk result ((key : ℕ) × KeepsObjects layers.old.upper layers.new.upper (Some key)) }
     ensures unchanged { OnErr result (SameObjects (layer_of layers.old.upper) (layer_of layers.new.upper)) }
@@ -60,10 +61,7 @@ pub(crate) fn insert_in_upper(
     let name = name.clone()?;
     let further = further.clone()?;
     room_for_both(layers.upper_mut(), from, to)?;
-    let (content, attributes) = object;
-    let key = layers
-        .upper_mut()
-        .insert_reserved(from, name, Object::Inode(content, attributes));
+    let key = layers.upper_mut().insert_reserved(from, name, object);
     layers.lawful();
     layers.upper_mut().link(to, further, key)?;
     Ok(key)

@@ -37,20 +37,22 @@ pub enum Renamed {
 }
 
 /// Moves what a path shows to another path, as rename(2), over a file, a symbolic link or a
-/// directory that shows no name. A file of a lower layer is copied up first, and so is a directory
-/// that only lower layers have, without what is in it; one that they have moves with a redirect
+/// directory that shows no name. A file of a lower layer is copied up first, with the option
+/// without its bytes (overlayfs.rst, "Metadata only copy up"), and so is a directory that only
+/// lower layers have, without what is in it; one that they have moves with a redirect
 /// (overlayfs.rst, "redirect_dir"). The root is EBUSY; the walk of the old path is refused first,
-/// then the way to the new one. Where both are one object nothing is done; else a directory is not
-/// moved below itself (EINVAL), nor over what is no directory (ENOTDIR), nor anything else over a
-/// directory (EISDIR), nor one that lower layers have if redirects aren't made (EXDEV), nor any
-/// over one that shows a name (ENOTEMPTY). All that is judged by what was seen at the two paths. A
-/// refusal changes nothing, and an allocation failure changes nothing that is shown.
+/// then the way to the new one. Where both are one object nothing is done; else a directory is
+/// not moved below itself (EINVAL), nor over what is no directory (ENOTDIR), nor anything else
+/// over a directory (EISDIR), nor one that lower layers have if redirects aren't made (EXDEV),
+/// nor any over one that shows a name (ENOTEMPTY). All that is judged by what was seen at the two
+/// paths. A refusal changes nothing, and an allocation failure changes nothing that is shown.
 pub fn rename(
     alloc: Global,
     layers: &mut Layers,
     old: &Path,
     new: &Path,
     redirects: bool,
+    metacopy: bool,
     from: &Seen,
     onto: &Seen,
 ) -> Result<Result<Renamed, Errno>, AllocError>
@@ -72,10 +74,10 @@ pub fn rename(
         OnOk r (is_one (layer_of layers.old.upper) old.now new.now ≡ false →
         ShowsNoName (layers_of layers.old) new.now)) }
     ensures does { IfOk result (λ r. IfOk r (λ renamed.
-        DoesRename layers.old layers.new old.now new.now renamed)) }
+        DoesRename layers.old layers.new metacopy old.now new.now renamed)) }
     ensures steps { IfOk result (λ r.
         OnOk r (is_one (layer_of layers.old.upper) old.now new.now ≡ false →
-        RenameSteps layers.old layers.new redirects old.now new.now)) }
+        RenameSteps layers.old layers.new redirects metacopy old.now new.now)) }
     ensures lowers { layers.new.lowers ≡ layers.old.lowers }
     ensures no_memory { OnErr result
         (ChangesNoSight layers.old layers.new (GainsBoth layers.old layers.new old.now new.now)) }
@@ -88,7 +90,7 @@ pub fn rename(
         Ok(None) => return Ok(Ok(Renamed::Unchanged)),
         Err(errno) => return Ok(Err(errno)),
     };
-    let renamed = move_object(alloc, layers, old, new, directory, found, onto)?;
+    let renamed = move_object(alloc, layers, old, new, metacopy, directory, found, onto)?;
     Ok(Ok(renamed))
 }
 

@@ -39,6 +39,8 @@ pub struct Entry<'a> {
     pub links: u32,
     pub opaque: bool,
     pub redirect: Option<&'a [u8]>,
+    /// The path of the lower file whose bytes a file without bytes of its own shows, which no manifest says.
+    pub metacopy: Option<&'a [u8]>,
 }
 
 /// The layers of a manifest, the upper first. None where the manifest isn't of that form.
@@ -133,6 +135,7 @@ fn object_of<'a>(table: &'a Table, path: &'a [u8], kind: Kind) -> Option<Entry<'
             .and_then(Value::as_bool)
             .unwrap_or(false),
         redirect: bytes_at(table, "redirect"),
+        metacopy: None,
     })
 }
 

@@ -21,23 +21,24 @@ const LINES: u32 = 40;
 
 const LINES_MORE: u32 = 20;
 
-// What makes a manifest one whose mount makes redirects.
+// What makes a manifest one whose mount makes redirects, and one whose mount copies files up without their bytes, too.
 const REDIRECTS: &[u8] = b"redirect_dir = \"on\"\n";
 
-/// Plays generated scripts over the manifest of a file, half of them on a mount that makes redirects, and tells how many get the same lines from
-/// the engine and from the reference.
+const METACOPY: &[u8] = b"redirect_dir = \"on\"\nmetacopy = \"on\"\n";
+
+/// Plays generated scripts over the manifest of a file, half of them on a mount that makes redirects and half of these on one that copies files
+/// up without their bytes, and tells how many get the same lines from the engine and from the reference.
 pub fn play_generated<R: Files + AllocGlobal + Print>(
     rt: &R,
     keys: RandomState,
     (file, layers): (&str, u32),
 ) -> io::Result<()> {
-    let follows = fs::read(rt, file)?;
-    let makes = with_redirects(rt.alloc(), follows.as_slice())?;
+    let manifests = Manifests::of(rt.alloc(), fs::read(rt, file)?)?;
     let mut count = 0u64;
     for seed in 0..SCRIPTS {
-        let manifest = if seed & 1 == 0 { &follows } else { &makes };
+        let manifest = manifests.with_seed(seed);
         let script = script_of(rt.alloc(), seed, layers)?;
-        match script_difference(rt.alloc(), keys, manifest.as_slice(), script.as_bytes())? {
+        match script_difference(rt.alloc(), keys, manifest, script.as_bytes())? {
             None => count = count.saturating_add(1),
             Some(found) => println!(rt; "script {seed} over {file} differs: {found}")?,
         }
@@ -45,11 +46,40 @@ pub fn play_generated<R: Files + AllocGlobal + Print>(
     println!(rt; "{count} generated scripts over {file} agree")
 }
 
-/// A manifest as that of a mount that makes redirects.
-pub fn with_redirects(alloc: Global, manifest: &[u8]) -> Result<Vec<u8>, AllocError> {
-    let mut makes = Vec::from_slice(alloc, REDIRECTS)?;
-    makes.extend_from_slice(manifest)?;
-    Ok(makes)
+/// One manifest as that of three mounts.
+#[derive(Drop)]
+pub struct Manifests {
+    follows: Vec<u8>,
+    redirects: Vec<u8>,
+    metacopy: Vec<u8>,
+}
+
+impl Manifests {
+    /// The manifest of a mount that makes neither, and with either option on top.
+    pub fn of(alloc: Global, follows: Vec<u8>) -> Result<Manifests, AllocError> {
+        let redirects = with_options(alloc, REDIRECTS, follows.as_slice())?;
+        let metacopy = with_options(alloc, METACOPY, follows.as_slice())?;
+        Ok(Manifests {
+            follows,
+            redirects,
+            metacopy,
+        })
+    }
+
+    /// The one that goes with a seed.
+    pub fn with_seed(&self, seed: u64) -> &[u8] {
+        match seed & 3 {
+            1 => self.redirects.as_slice(),
+            3 => self.metacopy.as_slice(),
+            _ => self.follows.as_slice(),
+        }
+    }
+}
+
+fn with_options(alloc: Global, options: &[u8], manifest: &[u8]) -> Result<Vec<u8>, AllocError> {
+    let mut text = Vec::from_slice(alloc, options)?;
+    text.extend_from_slice(manifest)?;
+    Ok(text)
 }
 
 fn script_difference(

@@ -2,7 +2,7 @@
 use crate::dice::Dice;
 use crate::engine::{look_ups_difference_in_turn, run_of};
 use crate::expanded::push_line;
-use crate::generated::with_redirects;
+use crate::generated::Manifests;
 use crate::playing::reference_difference;
 use crate::random_calls::push_open_of;
 use crate::random_steps::{FILES, PLACES, push_turn};
@@ -33,19 +33,18 @@ const LINES: u32 = 60;
 
 const LINES_MORE: u32 = 40;
 
-/// Plays generated scripts, half of them on a mount that makes redirects, and tells how many get
-/// the same lines from the engine and from the reference.
+/// Plays generated scripts, half of them on a mount that makes redirects and half of these on one
+/// that copies files up without their bytes, and tells how many get the same lines from the engine
+/// and from the reference.
 pub fn play_generated_steps<R: Files + AllocGlobal + Print>(
     rt: &R,
     keys: RandomState,
 ) -> io::Result<()> {
     let text = fs::read_to_string(rt, MANIFEST)?;
-    let follows = expanded(rt.alloc(), text.as_str())?;
-    let makes = with_redirects(rt.alloc(), follows.as_slice())?;
+    let manifests = Manifests::of(rt.alloc(), expanded(rt.alloc(), text.as_str())?)?;
     let mut count = 0u64;
     for seed in 0..SCRIPTS {
-        let manifest = if seed & 1 == 0 { &follows } else { &makes };
-        match step_difference(rt.alloc(), keys, manifest.as_slice(), seed)? {
+        match step_difference(rt.alloc(), keys, manifests.with_seed(seed), seed)? {
             None => count = count.saturating_add(1),
             Some(found) => println!(rt; "script {seed} in steps differs: {found}")?,
         }
@@ -75,7 +74,7 @@ fn step_difference(
     }
 }
 
-// A further number of kept look-ups goes by turns, and each number goes with either manifest.
+// A further number of kept look-ups goes by turns, and each number goes with each manifest.
 fn script_difference(
     alloc: Global,
     keys: RandomState,
@@ -84,7 +83,7 @@ fn script_difference(
 ) -> io::Result<Option<String>> {
     let engine = run_of(alloc, keys, manifest, Some(script))?;
     let text = engine.text.as_slice();
-    let kept = look_ups_difference_in_turn(alloc, keys, seed >> 1, (manifest, script), text)?;
+    let kept = look_ups_difference_in_turn(alloc, keys, seed >> 2, (manifest, script), text)?;
     if let Some(kept) = kept {
         return Ok(Some(format!(in alloc; "with {kept} look-ups kept")?));
     }

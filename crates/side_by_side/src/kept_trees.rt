@@ -2,20 +2,28 @@
 use crate::tree_lines::{Tree, push_path, push_target, push_words};
 use dir_listing::names;
 use layer_tree::{Entry, Layer, Marks, Node};
-use merged_lookup::{Found, Layers};
+use merged_lookup::{Found, Layers, Place};
 use mount_calls::status_of;
-use ov_base::{Content, NameList, Path, Redirect};
+use ov_base::{Content, NameList, Path, Redirect, Stat};
 use ov_script::Escaped;
 use std::alloc::{AllocError, Global};
 
-impl Tree for Layer {
+/// The layer of a number, among those of a mount.
+#[derive(Clone, Copy)]
+pub struct KeptLayer<'a> {
+    pub layers: &'a Layers,
+    pub index: usize,
+    pub layer: &'a Layer,
+}
+
+impl Tree for KeptLayer<'_> {
     fn push_object(
         &self,
         alloc: Global,
         path: &Path,
         lines: &mut String,
     ) -> Result<(), AllocError> {
-        match self.find(path) {
+        match self.layer.find(path) {
             Some(Entry::Object(key)) => push_kept(alloc, self, key, path, lines),
             Some(Entry::Whiteout) => {
                 lines.push_str("c 0000 0 0 0 1 ")?;
@@ -27,8 +35,8 @@ impl Tree for Layer {
     }
 
     fn names_at(&self, alloc: Global, path: &Path) -> Result<NameList, AllocError> {
-        match self.find(path) {
-            Some(Entry::Object(key)) => Ok(NameList::from_vec(self.names(alloc, key)?)),
+        match self.layer.find(path) {
+            Some(Entry::Object(key)) => Ok(NameList::from_vec(self.layer.names(alloc, key)?)),
             _ => Ok(NameList::new(alloc)),
         }
     }
@@ -44,8 +52,9 @@ impl Tree for Layers {
         let Ok(shown) = self.walk_topmost(path) else {
             return Ok(());
         };
-        if let Some(node) = self.node(shown.place()) {
-            push_node(alloc, node, path, lines)?;
+        let place = shown.place();
+        if let Some(node) = self.node(place) {
+            push_node(alloc, node, size_at(self, place), path, lines)?;
             lines.push_str("\n")?;
         }
         Ok(())
@@ -62,29 +71,51 @@ impl Tree for Layers {
 // Appends the line of an object that a layer keeps under a key.
 fn push_kept(
     alloc: Global,
-    layer: &Layer,
+    kept: &KeptLayer<'_>,
     key: usize,
     path: &Path,
     lines: &mut String,
 ) -> Result<(), AllocError> {
-    if let Some(node) = layer.node(key) {
-        push_node(alloc, node, path, lines)?;
-        if let Some(marks) = layer.marks(key) {
+    let place = Place {
+        layer: kept.index,
+        key,
+    };
+    if let Some(node) = kept.layer.node(key) {
+        push_node(alloc, node, size_at(kept.layers, place), path, lines)?;
+        if let Some(marks) = kept.layer.marks(key) {
             push_marks(alloc, marks, lines)?;
+        }
+        if let Some(mark) = kept.layer.mark(key) {
+            lines.push_str(" metacopy ")?;
+            push_path(alloc, mark, lines)?;
         }
         lines.push_str("\n")?;
     }
     Ok(())
 }
 
-// Appends what a line says of an object but for its marks.
+// How many bytes the file or the target of the symbolic link at a place shows.
+fn size_at(layers: &Layers, place: Place) -> u64 {
+    match layers.content_at(place) {
+        Some(Content::File(bytes)) => bytes.as_slice().len() as u64,
+        Some(Content::SymbolicLink(target)) => target.as_bytes().as_slice().len() as u64,
+        None => 0,
+    }
+}
+
+// Appends what a line says of an object of this size but for its marks.
 fn push_node(
     alloc: Global,
     node: &Node,
+    size: u64,
     path: &Path,
     lines: &mut String,
 ) -> Result<(), AllocError> {
-    push_words(alloc, status_of(node), lines)?;
+    let status = Stat {
+        size,
+        ..status_of(node)
+    };
+    push_words(alloc, status, lines)?;
     push_path(alloc, path, lines)?;
     if let Node::Inode(inode) = node {
         if let Content::SymbolicLink(target) = &inode.content {

@@ -76,6 +76,10 @@ fn push_rest(alloc: Global, entry: &Entry<'_>, lines: &mut String) -> Result<(),
         let redirect = Escaped(redirect);
         lines.push_str(format!(in alloc; " redirect {redirect}")?.as_str())?;
     }
+    if let Some(path) = entry.metacopy {
+        let path = Escaped(path);
+        lines.push_str(format!(in alloc; " metacopy {path}")?.as_str())?;
+    }
     if let (Kind::SymbolicLink, Spelling::Text(target)) = (entry.kind, entry.bytes) {
         let target = Escaped(target);
         lines.push_str(format!(in alloc; " -> {target}")?.as_str())?;

@@ -42,7 +42,7 @@ use std::sync::Wait;
 use std::{fs, io};
 
 /// The files of the rows, each on one subject.
-const FILES: [&str; 19] = [
+const FILES: [&str; 20] = [
     "look_up.rows",
     "kept.rows",
     "redirects.rows",
@@ -53,6 +53,7 @@ const FILES: [&str; 19] = [
     "moved_directories.rows",
     "refusals.rows",
     "attributes.rows",
+    "metacopy.rows",
     "descriptors_and_clients.rows",
     "script_forms.rows",
     "manifest_faults.rows",

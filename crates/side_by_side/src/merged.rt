@@ -1,4 +1,5 @@
 // What the layers of a manifest show, by whole paths: each path is asked of each layer from the top, with nothing kept in between.
+use crate::contents::size_of;
 use crate::entries::{Entry, Kind};
 use crate::plain_layer::{PlainLayer, push_name, split_last};
 use std::alloc::{AllocError, Global};
@@ -89,6 +90,18 @@ pub fn needless_whiteout<'a>(
         }
     }
     Ok(None)
+}
+
+/// The size of the file that these layers show at a path, if they show one there.
+pub fn size_shown(
+    alloc: Global,
+    layers: &[PlainLayer<'_>],
+    path: &[u8],
+) -> Result<Option<u64>, AllocError> {
+    match shown_at(alloc, layers, path)? {
+        Some((_, entry)) if entry.kind == Kind::File => Ok(Some(size_of(entry.bytes))),
+        _ => Ok(None),
+    }
 }
 
 // The object that is shown at a path, and the number of its layer: of the layers that are reached, the first that holds anything.

@@ -47,15 +47,20 @@ fn opened(alloc: Global, manifest: &Table) -> Result<Option<(Reference, usize)>,
     let Some(layers) = layers_of(alloc, manifest)? else {
         return Ok(None);
     };
-    match reference_of(alloc, layers.as_slice(), makes_redirects(manifest))? {
+    match reference_of(
+        alloc,
+        layers.as_slice(),
+        is_on(manifest, "redirect_dir"),
+        is_on(manifest, "metacopy"),
+    )? {
         Some(reference) => Ok(Some((reference, layers.len()))),
         None => Ok(None),
     }
 }
 
-// Whether directories of lower layers may be renamed, which makes redirects.
-fn makes_redirects(manifest: &Table) -> bool {
-    manifest.get("redirect_dir").and_then(Value::as_str) == Some("on")
+// Whether a manifest has an option on.
+fn is_on(manifest: &Table, option: &str) -> bool {
+    manifest.get(option).and_then(Value::as_str) == Some("on")
 }
 
 impl PlainMount {
@@ -119,7 +124,7 @@ impl PlainMount {
 /// The lines of the tree that layers show; none where the root of the upper has no mode.
 pub fn lines_of(alloc: Global, layers: &[PlainLayer<'_>]) -> Result<String, AllocError> {
     let mut lines = String::new(alloc);
-    if let Some(reference) = reference_of(alloc, layers, false)? {
+    if let Some(reference) = reference_of(alloc, layers, false, false)? {
         push_tree(alloc, &reference, &mut lines)?;
     }
     Ok(lines)

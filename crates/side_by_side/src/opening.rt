@@ -7,12 +7,13 @@ use ov_base::Path;
 use plain_reference::{Builder, Origin, Reference};
 use std::alloc::{AllocError, Global};
 
-/// The reference at the tree that layers show, which makes redirects or not. None where there is no layer, or the root of the upper has no
+/// The reference at the tree that layers show, which makes redirects and files without bytes of their own or not. None where there is no layer, or the root of the upper has no
 /// mode.
 pub fn reference_of(
     alloc: Global,
     layers: &[PlainLayer<'_>],
     redirects: bool,
+    metacopy: bool,
 ) -> Result<Option<Reference>, AllocError> {
     let Some(upper) = layers.first() else {
         return Ok(None);
@@ -20,7 +21,7 @@ pub fn reference_of(
     let Some(root) = attributes_of(alloc, &upper.root())? else {
         return Ok(None);
     };
-    let mut builder = Builder::new(alloc, root, redirects, false)?;
+    let mut builder = Builder::new(alloc, root, redirects, metacopy)?;
     let objects = shown_below(alloc, layers)?;
     for shown in objects.as_slice() {
         put(alloc, &mut builder, objects.as_slice(), shown)?;

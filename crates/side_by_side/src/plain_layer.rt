@@ -100,6 +100,7 @@ fn bare_root<'a>() -> Entry<'a> {
         links: 1,
         opaque: false,
         redirect: None,
+        metacopy: None,
     }
 }
 

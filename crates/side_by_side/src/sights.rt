@@ -1,4 +1,5 @@
 // What a script asks of a mount beside calls, and where its text ends.
+use crate::kept_trees::KeptLayer;
 use crate::tree_lines::push_tree;
 use merged_lookup::Layers;
 use std::alloc::{AllocError, Global};
@@ -21,7 +22,14 @@ impl Sight {
         match self {
             Sight::Tree => push_tree(alloc, layers, lines)?,
             Sight::Layer(index) => match layers.layer(index) {
-                Some(layer) => push_tree(alloc, layer, lines)?,
+                Some(layer) => {
+                    let kept = KeptLayer {
+                        layers,
+                        index,
+                        layer,
+                    };
+                    push_tree(alloc, &kept, lines)?;
+                }
                 None => return Ok(false),
             },
         }

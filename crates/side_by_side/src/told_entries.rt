@@ -11,6 +11,7 @@ pub struct Told<'a> {
     path: Vec<u8>,
     redirect: Option<Vec<u8>>,
     target: Option<Vec<u8>>,
+    metacopy: Option<Vec<u8>>,
 }
 
 /// What lines tell, each path once. A line of which the words aren't those of an object tells nothing.
@@ -39,11 +40,13 @@ fn told_of<'a>(alloc: Global, line: &'a str) -> Result<Option<Told<'a>>, AllocEr
     };
     let redirect = spelled(alloc, words.redirect)?;
     let target = spelled(alloc, target_in(words.bytes))?;
+    let metacopy = spelled(alloc, words.metacopy)?;
     Ok(Some(Told {
         words,
         path,
         redirect,
         target,
+        metacopy,
     }))
 }
 
@@ -75,6 +78,7 @@ impl Told<'_> {
             first: path,
             bytes,
             redirect: self.redirect.as_ref().map(|redirect| redirect.as_slice()),
+            metacopy: self.metacopy.as_ref().map(|path| path.as_slice()),
             ..self.words
         }
     }
@@ -85,6 +89,7 @@ fn words_in(line: &str) -> Option<Entry<'_>> {
     let (line, target) = cut(line, " -> ");
     let (line, redirect) = cut(line, " redirect ");
     let (line, opaque) = cut(line, " opaque");
+    let (line, metacopy) = cut(line, " metacopy ");
     let words = first_words(line)?;
     match words.kind {
         Kind::Directory => Some(Entry {
@@ -98,7 +103,11 @@ fn words_in(line: &str) -> Option<Entry<'_>> {
             bytes: Spelling::Text(target?.as_bytes()),
             ..words
         }),
-        Kind::File | Kind::Whiteout => Some(words),
+        Kind::File => Some(Entry {
+            metacopy: metacopy.map(str::as_bytes),
+            ..words
+        }),
+        Kind::Whiteout => Some(words),
     }
 }
 
@@ -132,6 +141,7 @@ fn first_words(line: &str) -> Option<Entry<'_>> {
         links,
         opaque: false,
         redirect: None,
+        metacopy: None,
     })
 }
 

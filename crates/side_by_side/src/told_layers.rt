@@ -1,6 +1,7 @@
 // What is against the lines that the engine prints of a layer.
+use crate::contents::size_of;
 use crate::layer_lines::push_layer;
-use crate::merged::needless_whiteout;
+use crate::merged::{needless_whiteout, size_shown};
 use crate::mount::{PlainMount, lines_of};
 use crate::plain_layer::PlainLayer;
 use crate::told_entries::told_in;
@@ -26,7 +27,8 @@ pub fn layer_difference(
     }
 }
 
-// The upper's lines are those of a layer, which shows over the lower layers what the reference shows, and has no needless whiteout.
+// The upper's lines are those of a layer, whose marks lead to files, which shows over the lower layers what the reference shows, and has no
+// needless whiteout.
 fn upper_difference(
     alloc: Global,
     mount: &PlainMount,
@@ -45,10 +47,29 @@ fn upper_difference(
         return Ok(Some(format!(in alloc; "these are no layer's lines\n{text}")?));
     }
     let mut layers = mount.layers_below(alloc, upper)?;
+    if let Some(found) = mark_difference(alloc, layers.as_slice())? {
+        return Ok(Some(found));
+    }
     match shown_difference(alloc, mount, layers.as_slice())? {
         Some(found) => Ok(Some(found)),
         None => whiteout_difference(alloc, mount, layers.as_mut_slice()),
     }
+}
+
+// A file of the upper without bytes of its own has the size of the file that the lower layers show at its mark.
+fn mark_difference(alloc: Global, layers: &[PlainLayer<'_>]) -> Result<Option<String>, AllocError> {
+    let Some((upper, lowers)) = layers.split_first() else {
+        return Ok(None);
+    };
+    for entry in upper.entries.as_slice() {
+        if let Some(mark) = entry.metacopy {
+            if size_shown(alloc, lowers, mark)? != Some(size_of(entry.bytes)) {
+                let mark = Escaped(mark);
+                return Ok(Some(format!(in alloc; "no such file is below the mark {mark}\n")?));
+            }
+        }
+    }
+    Ok(None)
 }
 
 fn shown_difference(

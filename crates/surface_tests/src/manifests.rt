@@ -6,11 +6,17 @@ use std::test::Fail;
 
 #[test]
 fn options_of_manifests(rt: HostRuntime) -> Result<(), Fail> {
-    for (top, redirects, history) in [
-        ("", false, 100_000),
-        ("redirect_dir = \"on\"\nhistory = 7\n", true, 7),
+    for (top, redirects, metacopy, history) in [
+        ("", false, false, 100_000),
+        (
+            "redirect_dir = \"on\"\nmetacopy = \"on\"\nhistory = 7\n",
+            true,
+            true,
+            7,
+        ),
         (
             "redirect_dir = \"off\"\nhistory = 1000000\n",
+            false,
             false,
             1_000_000,
         ),
@@ -18,6 +24,7 @@ fn options_of_manifests(rt: HostRuntime) -> Result<(), Fail> {
         let manifest = format!(in rt.alloc(); "{top}layer = [{{}}, {{}}]")?;
         let (_, lowers, options) = read(rt.alloc(), RandomState::new(&rt)?, manifest.as_str())?;
         assert_eq!(rt; options.redirects, redirects, "{top}");
+        assert_eq!(rt; options.metacopy, metacopy, "{top}");
         assert_eq!(rt; options.history, history, "{top}");
         assert_eq!(rt; lowers.len(), 1);
     }

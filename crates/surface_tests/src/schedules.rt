@@ -96,3 +96,28 @@ fn refuses_histories<A: Abort, F: Callback + Copy, H: Rule>(
         }
     }
 }
+
+#[test]
+fn refuses_metacopy_without_redirects(rt: HostRuntime) -> Result<(), Fail> {
+    refuses_metacopy::<_, ByTag, ProgramRule>(&rt, rt.alloc(), RandomState::new(&rt)?)
+}
+
+fn refuses_metacopy<A: Abort, F: Callback + Copy, H: Rule>(
+    rt: &A,
+    alloc: Global,
+    keys: RandomState,
+) -> Result<(), Fail> {
+    let (upper, lowers, options) = manifest_of(alloc, keys, DIRECTORY.as_bytes())?;
+    let options = Options {
+        metacopy: true,
+        ..options
+    };
+    match Core::<F, H>::mount(alloc, keys, upper, lowers, options)? {
+        Ok(_) => Err(Fail::from("a mount")),
+        Err(unmounted) => {
+            assert!(rt; unmounted.fault == MountFault::BadMetacopy);
+            assert_eq!(rt; unmounted.lowers.len(), 1);
+            Ok(())
+        }
+    }
+}

@@ -1,7 +1,7 @@
 -- Beginnings of lower files.
 use Rattle.std.specs.Prelude.{◌≡◌, ℕ, ◌+◌, ◌*◌, Bool, ◌&&◌, List, [], length, take, nat_eq, nat_le}
 use Rattle.work_dir.specs.declared.limits.TheConstants.{CHUNK}
-use Rattle.work_dir.specs.declared.source.Source.{Source}
+use Rattle.ov_base.specs.declared.source.Source.{Source}
 
 -- some bytes of a lower file, which were copied in so many chunks, and room for so many bytes
 pub record Beginning : Type 0 where

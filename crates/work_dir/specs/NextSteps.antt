@@ -2,7 +2,7 @@
 use Rattle.std.specs.Prelude.{◌≡◌, ◌≢◌, ℕ, ◌<◌, ◌≤◌, cond, nat_lt, length, Option, Some, None}
 use Rattle.ov_base.specs.declared.errno.Errno.{Errno}
 use Rattle.work_dir.specs.declared.limits.TheConstants.{PLACINGS_MAX, BEGINS_MAX}
-use Rattle.work_dir.specs.declared.source.Source.{Source}
+use Rattle.ov_base.specs.declared.source.Source.{Source}
 use Rattle.work_dir.specs.declared.next.Lack.{Lack}
 use Rattle.work_dir.specs.declared.next.Lack.TheVariants.{Nothing, Parent, File}
 use Rattle.work_dir.specs.declared.next.Next.{Next}

@@ -4,12 +4,11 @@
 
 mod limits;
 mod next;
-mod source;
 mod table;
 mod temp;
 
 pub use limits::{BEGINS_MAX, CHUNK, CHUNKS_MAX, FILE_MAX, PLACINGS_MAX, STEPS_MAX};
 pub use next::{Lack, Next, next_after};
-pub use source::Source;
+pub use ov_base::Source;
 pub use table::{OpenJob, WorkDir};
 pub use temp::Temp;

@@ -3,9 +3,8 @@ ghost use Rattle.std.specs.Prelude.{◌≡◌, option_copied};
 ghost use Rattle.work_dir.specs.NextSteps.{next_of, next_of_file, IsDue};
 
 use crate::limits::{BEGINS_MAX, PLACINGS_MAX};
-use crate::source::Source;
 use crate::temp::Temp;
-use ov_base::Errno;
+use ov_base::{Errno, Source};
 
 /// What a call still lacks in the upper.
 #[derive(Clone, Copy, Debug, PartialEq, Eq)]

@@ -4,8 +4,7 @@ ghost use Rattle.work_dir.specs.Beginnings.{IsBeginning, empty_beginning, longer
 ghost use Rattle.work_dir.specs.declared.limits.TheConstants.{FILE_MAX, CHUNKS_MAX};
 
 use crate::limits::CHUNK;
-use crate::source::Source;
-use ov_base::Bytes;
+use ov_base::{Bytes, Source};
 use std::alloc::{AllocError, Global};
 use std::marker::Model;
 

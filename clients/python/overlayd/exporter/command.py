@@ -32,10 +32,11 @@ which takes a place of the mount's history.
   --layer FILE   the layer of an OCI image, a tar: .wh.NAME, .wh..wh..opq. The same changes are the
                  same bytes: all times are 0
 
-A directory that was moved is written whole. Several names of one file are written as files of
-their own, because the server doesn't tell which they are; that is told. Refused are attributes that
-begin with user.overlay., as they would be marks of overlayfs; in a layer names that begin with
-.wh.; and in an upper the owner and the group 4294967295, which no file system has.
+A directory that was moved is written whole, and so is a file that was copied up without its bytes
+(metacopy). Several names of one file are written as files of their own, because the server doesn't
+tell which they are; that is told. Refused are attributes that begin with user.overlay., as they
+would be marks of overlayfs; in a layer names that begin with .wh.; and in an upper the owner and
+the group 4294967295, which no file system has.
 
 The manifest is read as a stream where it has one `key = value` on each line, as overlayd-import
 writes it. Others are read whole, from Python 3.11 on.

@@ -186,7 +186,7 @@ def _checked(entry: Dict[str, Any]) -> Dict[str, Any]:
 
 
 def _check_option(key: str) -> None:
-    if key not in ("redirect_dir", "history"):
+    if key not in ("redirect_dir", "metacopy", "history"):
         raise OtherForm(f"the key {key} before the first entry")
 
 

@@ -18,7 +18,8 @@ _KEYS: Dict[str, Tuple[type, Tuple[str, ...]]] = {
 _TYPES = {str: "a text", int: "a whole number", bool: "true or false", list: "an array of arrays "
           "of two texts", Table: "a table"}
 _ORDER = ("kind", "path", "key", "value", "parent", "exists", "link")
-_TOP = ("key", "redirect_dir", "history", "layers")
+_TOP = ("key", "redirect_dir", "metacopy", "history", "layers")
+_OPTIONS = ("layer", "redirect_dir", "metacopy", "history")
 _BYTES = ("text", "hex", "zeros")
 _UNKNOWN = "of a kind that is none"
 _REDIRECT = "a redirect is one name, or a path from / with a name"
@@ -77,11 +78,11 @@ class _Check:
     def manifest(self, top: Table) -> Checked:
         """The whole: its options, and then entry by entry."""
         for key, found in top.members.items():
-            if key not in ("layer", "redirect_dir", "history"):
-                self.tell(found.line, key, "key",
-                          "no such key; at the top there are layer, redirect_dir and history")
-        self.option(top, "redirect_dir", str, lambda word: word in ("on", "off"),
-                    '"on" or "off"')
+            if key not in _OPTIONS:
+                self.tell(found.line, key, "key", "no such key; at the top there are "
+                          f"{', '.join(_OPTIONS[:-1])} and {_OPTIONS[-1]}")
+        self.option(top, "redirect_dir", str, _is_switch, '"on" or "off"')
+        self.metacopy(top)
         self.option(top, "history", int, _is_history,
                     f"from {limits.HISTORY_LEAST} to {limits.HISTORY_MOST}")
         given, before = top.members.get("layer"), len(self.faults)
@@ -113,6 +114,15 @@ class _Check:
             self.tell(found.line, key, "key", f"{_TYPES[kind]}, {words}; {_named(found.value)}")
         elif not allowed(found.value):
             self.tell(found.line, key, key, f"{words}, and not {_short(found.value)}")
+
+    def metacopy(self, top: Table) -> None:
+        """Whether files are copied up without their bytes, which needs redirects."""
+        redirects = top.members.get("redirect_dir")
+        if redirects is not None and redirects.value == "on":
+            self.option(top, "metacopy", str, _is_switch, '"on" or "off"')
+        else:
+            self.option(top, "metacopy", str, lambda word: word == "off",
+                        '"off", where redirect_dir isn\'t "on"')
 
     def tables(self, found: Optional[Found], key: str) -> List[Found]:
         """The tables of an array."""
@@ -259,6 +269,10 @@ def _short(value: Any) -> str:
     """A value in a line, the beginning of a long one."""
     text = f'"{ascii(value)[1:-1]}"' if isinstance(value, str) else ascii(value)
     return text if len(text) <= 60 else text[:57] + "..."
+
+
+def _is_switch(value: str) -> bool:
+    return value in ("on", "off")
 
 
 def _is_history(value: int) -> bool:

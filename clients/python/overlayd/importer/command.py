@@ -24,8 +24,8 @@ _MORE = """\
 sources, the highest layer first:
   a directory        a plain one, or an upper or lower directory of the kernel's overlayfs:
                      0/0 character devices, and empty files with the attribute overlay.whiteout,
-                     are whiteouts; overlay.opaque and overlay.redirect are read with trusted. and
-                     user. before them (trusted. only by root)
+                     are whiteouts; overlay.opaque, overlay.redirect and overlay.metacopy are read
+                     with trusted. and user. before them (trusted. only by root)
   a tar              one layer, also compressed by gzip, bzip2 or xz, with whiteouts as images
                      have them (.wh.NAME, .wh..wh..opq) or as overlayfs has them
   an image           an archive of docker save or an OCI layout, as a directory or a tar, with all
@@ -36,7 +36,8 @@ What a source is is guessed from it; dir:SOURCE, tar:SOURCE or image:SOURCE says
 layers: the first source is the upper layer. An empty upper is put above it where it is an image,
 where it is the only layer, and with --empty-upper. Of more than 16 lower layers the lowest are
 made one. A directory that a tar leaves out has the attributes that the layers below give it, or
-else mode 0755 and owner 0:0. A hard link to a file of a lower layer makes a copy of that file.
+else mode 0755 and owner 0:0. A hard link to a file of a lower layer makes a copy of that file. A
+file whose bytes are in a lower layer (metacopy) is written with its own attributes and these bytes.
 
 left out, each in one line on standard error (--quiet: not), with a sum at the end:
   fifos, sockets and devices; files of more than 1,048,576 bytes; names, targets and attributes
@@ -44,15 +45,17 @@ left out, each in one line on standard error (--quiet: not), with a sum at the e
   value 1,024; 64 attributes); attributes other than user. ones. Times are never kept.
 In the place of what is left out stands a whiteout where there are layers below, so that nothing
 older shows there. With --strict the first such thing ends the import, and nothing is written.
-Refused in any case: files whose bytes are in a lower layer (metacopy); tars that aren't whole.
+Refused in any case: files whose bytes are in a lower layer (metacopy) where the layers below have
+none for them; tars that aren't whole.
 
 checking a manifest: --check FILE reads one that is there, whole, and prints a line for each of its
 faults: file, line, layer and entry, path, key, and what is allowed. What overlayd says of it, which
 is the first fault alone and in one word, stands in the last line, on standard error. The status is
 1 where there is a fault.
 
-memory: one file at a time; besides, for tars and for directories that are made one, some 500
-bytes for each object. A tar is read twice, in its order.
+memory: one file at a time; besides, for tars, for directories that are made one and for those below
+a file whose bytes are in a lower layer, some 500 bytes for each object. A tar is read twice, in its
+order.
 
 exit status: 0 done; 1 refused or failed, with one line on standard error; 2 wrong usage.
 """
@@ -81,6 +84,9 @@ def parser() -> argparse.ArgumentParser:
                        help="the platform of an OCI image that has several")
     words.add_argument("--redirect-dir", choices=("on", "off"),
                        help="the manifest's redirect_dir (off where it isn't said)")
+    words.add_argument("--metacopy", choices=("on", "off"),
+                       help="the manifest's metacopy (off where it isn't said); on needs "
+                            "--redirect-dir on")
     words.add_argument("--history", type=_history, metavar="N",
                        help="the manifest's history, 2 to 1000000 (100000 where it isn't said)")
     return words
@@ -174,11 +180,11 @@ class Output:
 def run(words: argparse.Namespace, report: Report) -> None:
     """Imports what the command line says."""
     wish = Wish(words.sources, Choice(words.image, words.platform), words.empty_upper,
-                words.redirect_dir, words.history)
+                words.redirect_dir, words.metacopy, words.history)
     output = Output(words.output, waits=words.strict)
     try:
         layers = plan(wish, report, output.identities())
-        writer = ManifestWriter(output.stream, wish.redirect_dir, wish.history)
+        writer = ManifestWriter(output.stream, wish.redirect_dir, wish.metacopy, wish.history)
         write(layers, writer, report)
         output.keep()
     except BaseException:
@@ -206,6 +212,8 @@ def main(arguments: Optional[List[str]] = None) -> int:
     words = command.parse_args(arguments)
     if bool(words.sources) == (words.check is not None):
         command.error("either SOURCE, one or more, or --check FILE")
+    if words.metacopy == "on" and words.redirect_dir != "on":
+        command.error("--metacopy on needs --redirect-dir on")
     report = Report(sys.stderr, words.strict, words.quiet)
     try:
         if words.check is not None:

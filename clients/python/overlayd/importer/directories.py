@@ -5,10 +5,11 @@ import stat
 from typing import Dict, Iterable, Iterator, List, NamedTuple, Optional, Set, Tuple, Union
 
 from . import limits, marks
-from .merging import Layer
+from .merging import Layer, Merge
+from .metacopy import read_through
 from .objects import WHITEOUT, Content, Directory, File, Object, Symlink
 from .telling import ATTRIBUTE, OTHER_KIND, OVER_LIMIT, UNSAYABLE, Refused, Report, shown
-from .writing import LayerWriter, write_tree
+from .writing import Files, LayerWriter, write_tree
 
 _KINDS = {
     stat.S_IFIFO: "a fifo",
@@ -38,14 +39,15 @@ class _Open(NamedTuple):
 
 
 class DirectoryLayer(Content, Layer):
-    """A directory of the file system as a layer."""
+    """A directory of the file system as a layer; `below` has the layers under it."""
 
-    def __init__(self, path: str, report: Report, skip: Set[Identity]) -> None:
+    def __init__(self, path: str, report: Report, skip: Set[Identity], below: Merge) -> None:
         self.name = path
         self.covers = True
         self._path = os.fsencode(path)
         self._report = report
         self._skip = skip
+        self._below = below
         self._tree: Optional[Directory] = None
         self._shared: Dict[Identity, Union[File, Symlink]] = {}
         self._warned = False
@@ -72,18 +74,30 @@ class DirectoryLayer(Content, Layer):
         if self._tree is not None:
             write_tree(layer, self._tree)
             return
-        root = self.root()
+        root, later = self.root(), Files()
         layer.plain("/", root)
         for step in self._walk(root):
-            if isinstance(step.node, File):
-                if not layer.again(step.path, step.node):
-                    data = self._read(step.node, step.path)
-                    if data is not None:
-                        layer.file(step.path, step.node, data)
-                    elif self.covers:
-                        layer.plain(step.path, WHITEOUT)
-            elif not layer.again(step.path, step.node):
-                layer.plain(step.path, step.node)
+            self._write_step(layer, step, later)
+        later.write(layer)
+
+    def _write_step(self, layer: LayerWriter, step: Step, later: Files) -> None:
+        """Writes one name; a file whose bytes are in another layer is left for later."""
+        node = step.node
+        if isinstance(node, File) and node.source is not self:
+            later.add(step.path, node)
+        elif layer.again(step.path, node):
+            pass
+        elif isinstance(node, File):
+            data = self._read(node, step.path)
+            if data is not None:
+                layer.file(step.path, node, data)
+            elif self.covers:
+                layer.plain(step.path, WHITEOUT)
+        else:
+            if isinstance(node, Directory):
+                # of the tree the way to what is walked is all that is asked for, and kept
+                step.parent.children = {step.name: node}
+            layer.plain(step.path, node)
 
     def read_each(self, files: Iterable[File]) -> Iterator[Tuple[File, bytes]]:
         """The files with their bytes, in the order in which they are asked for."""
@@ -95,6 +109,7 @@ class DirectoryLayer(Content, Layer):
     def _walk(self, root: Directory) -> Iterator[Step]:
         """Each name below the root, a directory before what is in it, names by their bytes."""
         stack = [self._opened(self._path, "/", root)]
+        merge = self._below.under(root)
         while stack:
             here = stack[-1]
             raw = next(here.names, None)
@@ -113,7 +128,7 @@ class DirectoryLayer(Content, Layer):
                 continue
             name = raw.decode()
             path = here.base + name
-            node = self._object(full, path, status)
+            node = self._object(full, path, status, merge)
             if node is None and self.covers and limits.path_fault(path) is None:
                 node = WHITEOUT
             if node is None:
@@ -126,15 +141,17 @@ class DirectoryLayer(Content, Layer):
     def _opened(raw: bytes, base: str, node: Directory) -> _Open:
         return _Open(raw, base, iter(sorted(os.listdir(raw))), node)
 
-    def _object(self, full: bytes, path: str, status: os.stat_result) -> Optional[Object]:
-        """What stands there, or None where it was left out."""
+    def _object(self, full: bytes, path: str, status: os.stat_result,
+                merge: Merge) -> Optional[Object]:
+        """What stands there, or None where it was left out. `merge` has the way to it over the
+        layers below."""
         fault = limits.path_fault(path)
         kind = stat.S_IFMT(status.st_mode)
         if fault is not None:
             self._report.leave_out(self.name, path, UNSAYABLE, fault)
             return None
         if kind == stat.S_IFREG:
-            return self._file(full, path, status)
+            return self._file(full, path, status, merge)
         if kind == stat.S_IFDIR:
             return self._directory(full, path, status)
         if kind == stat.S_IFLNK:
@@ -150,17 +167,15 @@ class DirectoryLayer(Content, Layer):
         if not self._warned and os.geteuid() != 0:
             self._warned = True
             self._report.note(f"{shown(self.name)}: it has whiteouts, but only root can read "
-                              "`trusted.overlay.` attributes: opaque directories and redirects "
-                              "may be missed")
+                              "`trusted.overlay.` attributes: opaque directories, redirects and "
+                              "files whose bytes are in a lower layer may be missed")
 
-    def _file(self, full: bytes, path: str, status: os.stat_result) -> Optional[Object]:
+    def _file(self, full: bytes, path: str, status: os.stat_result,
+              merge: Merge) -> Optional[Object]:
         identity = (status.st_dev, status.st_ino)
         if identity in self._shared:
             return self._shared[identity]
         found = self._marks(full, path)
-        if found.metacopy:
-            raise Refused(f"{shown(self.name)}: {shown(path)}: a file whose bytes are in a lower "
-                          "layer (metacopy); such uppers aren't read")
         if found.whiteout and status.st_size == 0:
             return WHITEOUT
         if status.st_size > limits.FILE_BYTES:
@@ -170,6 +185,10 @@ class DirectoryLayer(Content, Layer):
                     status.st_size)
         file.source = self
         file.place = full
+        if found.metacopy:
+            fault = read_through(file, tuple(path[1:].split("/")), found.redirect, merge)
+            if fault is not None:
+                raise Refused(f"{shown(self.name)}: {shown(path)}: {fault}")
         return self._maybe_shared(file, status)
 
     def _maybe_shared(self, node: Union[File, Symlink], status: os.stat_result) -> Object:

@@ -2,7 +2,7 @@
 
 from typing import List, Optional, Sequence, Tuple, cast
 
-from .objects import Directory, Names, Object, Whiteout
+from .objects import Directory, File, Names, Object, Whiteout
 
 Found = Tuple[int, Object]
 Place = Tuple[int, Directory]
@@ -136,6 +136,15 @@ class Merge:
         under = [place for place in self.places(names[:-1]) if place[0] > 0]
         found = self.child(under, names[-1])
         return found[0][1] if found else None
+
+    def bytes_of(self, names: Names, redirect: Optional[str]) -> Optional[File]:
+        """The file of the layers below the first one that has the bytes of the first one's file at
+        these names: it is looked for there, or where the file's redirect says."""
+        if redirect is not None and redirect.startswith("/"):
+            found = Merge(self._layers[1:]).lookup(tuple(redirect[1:].split("/")))
+        else:
+            found = self.below((*names[:-1], redirect or names[-1]))
+        return found if isinstance(found, File) else None
 
 
 def flatten(layers: Sequence[Layer]) -> Directory:

@@ -25,6 +25,7 @@ class Wish(NamedTuple):
     choice: Choice = Choice()
     empty_upper: bool = False
     redirect_dir: Optional[str] = None
+    metacopy: Optional[str] = None
     history: Optional[int] = None
 
 
@@ -81,7 +82,7 @@ def _layers(sources: List[Source], report: Report, skip: Set[Identity]) -> List[
         if isinstance(source, Blob):
             layer = TarLayer(source, report, Merge(layers))
         else:
-            layer = DirectoryLayer(source, report, skip)
+            layer = DirectoryLayer(source, report, skip, Merge(layers))
         layer.covers = bool(layers)
         if isinstance(layer, TarLayer) and layer.tree().opaque:
             report.note(f"{shown(layer.name)}: its root is opaque: what is below it is left away")

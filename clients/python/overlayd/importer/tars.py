@@ -6,8 +6,9 @@ from typing import BinaryIO, Dict, Iterable, Iterator, List, Optional, Tuple, Un
 from . import limits, marks
 from .blobs import Blob, reading, skip
 from .merging import Layer, Merge
+from .metacopy import read_through
 from .objects import (WHITEOUT, Content, Directory, File, Inode, Names, Object, Symlink, at,
-                      path_text)
+                      path_text, walk)
 from .telling import ATTRIBUTE, LOST, OTHER_KIND, OVER_LIMIT, UNSAYABLE, Refused, Report, shown
 from .writing import LayerWriter, write_tree
 
@@ -142,6 +143,7 @@ class _Reading:
         self._hidden: List[Names] = []
         self._unresolved: List[Names] = []
         self._implied: List[Names] = [()]
+        self._marked: Dict[File, Optional[bytes]] = {}
 
     def tree(self) -> Directory:
         """Reads the tar, and then what it says of the layers below."""
@@ -152,6 +154,7 @@ class _Reading:
         self._hide()
         merge = self._below.under(self._root)
         self._resolve(merge)
+        self._read_through(merge)
         self._give_attributes(merge)
         return self._root
 
@@ -259,9 +262,6 @@ class _Reading:
 
     def _file(self, member: tarfile.TarInfo) -> Optional[Object]:
         found = self._marks(member)
-        if found.metacopy:
-            raise Refused(f"{shown(self._layer.name)}: {shown(member.name)}: a file whose bytes "
-                          "are in a lower layer (metacopy); such layers aren't read")
         if found.whiteout and member.size == 0:
             return WHITEOUT
         if member.size > limits.FILE_BYTES:
@@ -273,6 +273,8 @@ class _Reading:
         file.source = self._layer
         sparse = getattr(member, "sparse", None)
         file.place = member.offset_data if sparse is None else (member.offset_data, list(sparse))
+        if found.metacopy:
+            self._marked[file] = found.redirect
         return file
 
     def _symlink(self, member: tarfile.TarInfo) -> Optional[Object]:
@@ -347,6 +349,17 @@ class _Reading:
             if parent is not None:
                 parent.children.setdefault(target[-1], copies[target])
         return copies[target]
+
+    def _read_through(self, merge: Merge) -> None:
+        """Gives the files whose bytes are in a layer below what the layers below have for them."""
+        if not self._marked:
+            return
+        for path, node in walk(self._root):
+            if isinstance(node, File) and node in self._marked:
+                redirect = self._marked.pop(node)
+                fault = read_through(node, tuple(path[1:].split("/")), redirect, merge)
+                if fault is not None:
+                    raise Refused(f"{shown(self._layer.name)}: {shown(path)}: {fault}")
 
     def _give_attributes(self, merge: Merge) -> None:
         """Gives directories that the tar left out what the layers below say of them."""

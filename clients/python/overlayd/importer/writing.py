@@ -42,7 +42,8 @@ def bytes_line(data: bytes) -> bytes:
 class ManifestWriter:
     """Writes a manifest to a binary stream: options first, then layers and their entries."""
 
-    def __init__(self, out: BinaryIO, redirect_dir: Optional[str], history: Optional[int]) -> None:
+    def __init__(self, out: BinaryIO, redirect_dir: Optional[str] = None,
+                 metacopy: Optional[str] = None, history: Optional[int] = None) -> None:
         self._out = out
         self._began = False
         self.layers = 0
@@ -50,6 +51,8 @@ class ManifestWriter:
         self.bytes = 0
         if redirect_dir is not None:
             self._line(f"redirect_dir = {quoted(redirect_dir)}")
+        if metacopy is not None:
+            self._line(f"metacopy = {quoted(metacopy)}")
         if history is not None:
             self._line(f"history = {history}")
 
@@ -138,6 +141,10 @@ class LayerWriter:
         self._writer.link(path, first[1])
         return True
 
+    def has(self, node: Object) -> bool:
+        """Whether an object that may have more names was written."""
+        return id(node) in self._first
+
     def first(self, path: str, node: Object) -> None:
         """Keeps the first name of an object that may have more."""
         if isinstance(node, (File, Symlink)) and node.linked:
@@ -164,24 +171,45 @@ class LayerWriter:
         self.first(path, node)
 
 
+class Files:
+    """Files that are written when all else of their layer is there."""
+
+    def __init__(self) -> None:
+        self._paths: Dict[Content, Dict[File, List[str]]] = {}
+        self._again: List[Tuple[str, Object]] = []
+
+    def add(self, path: str, file: File) -> None:
+        """A path at which a file stands. Where it has no further names and stands at several, as
+        below two directories that lead to one, it is a file of its own at each."""
+        paths = self._paths.setdefault(file.source, {}).setdefault(file, [])
+        if paths and file.linked:
+            self.add_again(path, file)
+        else:
+            paths.append(path)
+
+    def add_again(self, path: str, node: Object) -> None:
+        """A further name of what is written by then, or of one of the files."""
+        self._again.append((path, node))
+
+    def write(self, layer: LayerWriter) -> None:
+        """Writes the files of each source, as they come there, the source of the first path first;
+        then further names."""
+        for source, paths in self._paths.items():
+            for file, data in source.read_each(paths):
+                for path in paths[file]:
+                    layer.file(path, file, data)
+        for path, node in self._again:
+            layer.again(path, node)
+
+
 def write_tree(layer: LayerWriter, root: Directory) -> None:
-    """Writes a whole tree: first what has no bytes, by paths; then the files of each source, as
-    they come there, the source of the first path first; then further names."""
-    files: Dict[Content, Dict[File, str]] = {}
-    seen: Dict[int, str] = {}
-    again: List[Tuple[str, Object]] = []
+    """Writes a whole tree: first what has no bytes, by paths; then the files."""
+    files = Files()
     for path, node in walk(root):
-        if isinstance(node, (File, Symlink)) and node.linked:
-            if id(node) in seen:
-                again.append((path, node))
-                continue
-            seen[id(node)] = path
         if isinstance(node, File):
-            files.setdefault(node.source, {})[node] = path
+            files.add(path, node)
+        elif layer.has(node):
+            files.add_again(path, node)
         else:
             layer.plain(path, node)
-    for source, paths in files.items():
-        for file, data in source.read_each(paths):
-            layer.file(paths[file], file, data)
-    for path, node in again:
-        layer.again(path, node)
+    files.write(layer)

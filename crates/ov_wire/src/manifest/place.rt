@@ -6,7 +6,7 @@ ghost use Rattle.ov_base.specs.declared.attributes.Attributes.{Attributes as Roo
 ghost use Rattle.plain_model.specs.Layers.{IsLayer, Named, held, holds_directory};
 ghost use Rattle.layer_tree.specs.Tree.{IsDirectory, layer_of, key_at, entry, inode_at as inode_under};
 ghost use Rattle.ov_wire.specs.ManifestEntries.{IsPlaceable, text_at as spelled_at};
-ghost use Rattle.ov_wire.specs.ManifestLayers.{ReadsLayer, with_entry, with_spelled, is_directory, is_further};
+ghost use Rattle.ov_wire.specs.ManifestLayers.{HasNoMark, ReadsLayer, with_entry, with_spelled, is_directory, is_further};
 ghost use Rattle.ov_wire.specs.ManifestLayers.{Entry as PutEntry};
 ghost use Rattle.ov_wire.specs.Drafts as draft;
 ghost use Rattle.ov_wire.specs.Drafts.{IsDraft, Lists, Tells, Places, Plants, LeadsTo, is_named, leads_in, has_text};
@@ -31,6 +31,7 @@ pub(super) fn read_layer(
 ) -> Result<Layer, ManifestFault>
     ensures err { IfErr result IsOfEntry }
     ensures layer { IfOk result (λ layer. IsLayer (layer_of layer)) }
+    ensures unmarked { IfOk result (λ layer. HasNoMark (layer_of layer)) }
     ensures reads { ReadsLayer index (items_view entries.now) result }
 {
     let mut layer = Layer::new(alloc, keys, root_attributes(alloc, entries)?)?;
@@ -93,6 +94,7 @@ fn read_entry(
     entry: &Value,
 ) -> Result<bool, EntryError>
     ensures keeps { IsLayer (layer_of layer.old) → IsLayer (layer_of layer.new) }
+    ensures unmarked { HasNoMark (layer_of layer.old) → HasNoMark (layer_of layer.new) }
     ensures places { (a : RootAttributes) (before : List PutEntry) → IsDraft (layer_of layer.old) a root_is_set before → Lists links.old before → Places (λ is_set. is_set) (layer_of layer.new) a (with_spelled before (view entry.now)) result }
     ensures lists { OnOk result ((before after : List PutEntry) → Lists links.old before → with_spelled before (view entry.now) ≡ Ok after → Lists links.new after) }
 {
@@ -145,6 +147,7 @@ fn put(
 ) -> Result<bool, EntryError>
     requires { IsPlaceable item }
     ensures keeps { IsLayer (layer_of layer.old) → IsLayer (layer_of layer.new) }
+    ensures unmarked { HasNoMark (layer_of layer.old) → HasNoMark (layer_of layer.new) }
     ensures places { (a : RootAttributes) (before : List PutEntry) → IsDraft (layer_of layer.old) a root_is_set before → Tells before item to_further → Places (λ is_set. is_set) (layer_of layer.new) a (with_entry before path.now item) result }
 {
     let Some((name, parents)) = path.split_last() else {
@@ -175,6 +178,7 @@ fn place(
 ) -> Result<(), EntryError>
     requires { IsPlaceable item }
     ensures keeps { IsLayer (layer_of layer.old) → IsLayer (layer_of layer.new) }
+    ensures unmarked { HasNoMark (layer_of layer.old) → HasNoMark (layer_of layer.new) }
     ensures places { (a : RootAttributes) (set : Bool) (before : List PutEntry) → IsDraft (layer_of layer.old) a set before → Tells before item to_further → Places (λ _. set) (layer_of layer.new) a (with_entry before (name.now ∷ reverse parents.now) item) result }
 {
     layer.lawful();
@@ -199,6 +203,7 @@ fn plant(
     requires is_dir { IsDirectory layer.old parent }
     requires free { entry layer.old parent name ≡ None }
     ensures keeps { (path : List (List ℕ)) → key_at layer.old path ≡ Some parent → IsLayer (layer_of layer.old) → IsLayer (layer_of layer.new) }
+    ensures unmarked { HasNoMark (layer_of layer.old) → HasNoMark (layer_of layer.new) }
     ensures plants { (path : List (List ℕ)) → key_at layer.old path ≡ Some parent → IsLayer (layer_of layer.old) → Plants (layer_of layer.old) (layer_of layer.new) (name ∷ path) to_further item result }
 {
     match item {

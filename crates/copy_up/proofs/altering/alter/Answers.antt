@@ -14,7 +14,7 @@ returns-then-place-eq0-clause-altered c =
     let old = c.args.layers.now in
     let own = is-own old c.lawful.ensures.tree c.lawful.ensures.together c.args.path.now c.args.top c.place-place.result c.place-place.ensures c.if-place-eq0.true c.requires.shown in
     on_ok_weaker c.alter_upper.result
-    (λ made. own-alters old c.alter_upper.new.layers c.args.path.now c.place-place.result c.alter_upper.ensures.lowers c.args.change made c.alter_upper.ensures.keeps own)
+    (λ made. own-alters old c.alter_upper.new.layers c.args.path.now c.place-place.result c.alter_upper.ensures.lowers c.args.change made c.args.metacopy c.alter_upper.ensures.keeps own)
     (changes-key old c.alter_upper.new.layers c.place-place.result.key c.args.change c.alter_upper.result c.alter_upper.ensures.sets c.alter_upper.ensures.inode c.alter_upper.ensures.directory)
 
 pub returns-then-place-eq0-clause-object : goal.returns-then-place-eq0-clause-object
@@ -51,3 +51,6 @@ returns-then-place-eq0-clause-key c =
 pub returns-then-place-eq0-clause-no_memory : goal.returns-then-place-eq0-clause-no_memory
 returns-then-place-eq0-clause-no_memory c =
     on_err_weaker c.alter_upper.result (no-sight c.args.layers.now c.alter_upper.new.layers c.args.path.now c.alter_upper.ensures.lowers) c.alter_upper.ensures.unchanged
+
+pub returns-in-Directory-clause-altered : goal.returns-in-Directory-clause-altered
+returns-in-Directory-clause-altered c = on_ok_weaker c.place_changed.result (λ altered. altered c.args.metacopy) c.place_changed.ensures.altered

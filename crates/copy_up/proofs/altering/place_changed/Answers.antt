@@ -1,4 +1,4 @@
-use Rattle.std.proofs.Common.{false, ap, ◌∙◌, subst}
+use Rattle.std.proofs.Common.{ap, ◌∙◌, subst}
 use Rattle.std.proofs.lemmas.Result.{on_ok_weaker}
 use Rattle.ov_base.specs.AttributeChanges.{changed}
 use Rattle.ov_base.specs.declared.attributes.Attributes.{Attributes}
@@ -19,10 +19,10 @@ pub place_with-requires-clause-below : goal.place_with-requires-clause-below
 place_with-requires-clause-below c = lower-below c.args.layers.now c.args.path.now c.args.place c.requires.shown.0 c.requires.shown.1 c.requires.lower
 
 pub returns-clause-altered : goal.returns-clause-altered
-returns-clause-altered c = on_ok_weaker c.place_with.result (λ alters a shows h.
+returns-clause-altered c = on_ok_weaker c.place_with.result (λ alters low a shows h.
     let same = shown-folder c.args.layers.now c.args.path.now _ _ c.requires.shown.0 a c.requires.shown.1 shows in
-    subst (λ (b : Attributes). Alters (upper_of c.args.layers.now) (upper_of c.place_with.new.layers) (lowers_of c.args.layers.now) false c.args.path.now b)
-    (c.in_ok-attributes.ensures c.args.path.now c.requires.shown.0 c.requires.shown.1 ∙ ap (changed c.args.change) same) (alters h)) c.place_with.ensures.altered
+    subst (λ (b : Attributes). Alters (upper_of c.args.layers.now) (upper_of c.place_with.new.layers) (lowers_of c.args.layers.now) low c.args.path.now b)
+    (c.in_ok-attributes.ensures c.args.path.now c.requires.shown.0 c.requires.shown.1 ∙ ap (changed c.args.change) same) (alters low h)) c.place_with.ensures.altered
 
 pub returns-clause-object : goal.returns-clause-object
 returns-clause-object c = on_ok_weaker c.place_with.result (λ object a shows.

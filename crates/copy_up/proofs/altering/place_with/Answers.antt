@@ -15,8 +15,8 @@ pub returns-clause-altered : goal.returns-clause-altered
 returns-clause-altered c =
     let p = c.place_at.ensures in
     let at : StandsAt c.place_at.new.layers.upper c.args.path.now c.top-dir.result.key = stands-at c.place_at.new.layers c.args.path.now c.in_ok-placed.placed c.top-dir.result c.lawful.ensures.tree c.in_ok-placed.ensures.stack c.in_ok-placed.ensures.upper c.top-dir.ensures in
-    alters-placed c.place_at.new.layers c.set_attributes.new.layers c.set_attributes.ensures.lowers c.args.path.now c.top-dir.result.key c.args.attributes (c.set_attributes.ensures.directory c.args.path.now at.key at.directory)
-    c.args.layers.now p.same p.stays.names p.stays.sound.layers c.set_attributes.ensures.keeps
+    λ low. alters-placed c.place_at.new.layers c.set_attributes.new.layers c.set_attributes.ensures.lowers c.args.path.now c.top-dir.result.key c.args.attributes (c.set_attributes.ensures.directory c.args.path.now at.key at.directory)
+    low c.args.layers.now p.same p.stays.names p.stays.sound.layers c.set_attributes.ensures.keeps
 
 pub returns-clause-object : goal.returns-clause-object
 returns-clause-object c =

@@ -1,8 +1,8 @@
 use Rattle.std.proofs.Common.{IsSome, rules, sym, subst}
-use Rattle.layer_tree.specs.Tree.{bytes_at, layer_of, SameObjects, Tree}
+use Rattle.layer_tree.specs.Tree.{own_at, layer_of, SameObjects, Tree}
 use Rattle.plain_model.specs.Changes.{sized}
 use Rattle.mount_calls.proofs.Named.{written-files}
-use Rattle.mount_calls.proofs.Stored.{sets-written}
+use Rattle.mount_calls.proofs.Marks.{sets-written}
 use Rattle.mount_calls.proofs.Writings.{upper-written}
 use Rattle.mount_calls.proofs.file_bytes.resize_file.Goals as goal
 
@@ -14,7 +14,7 @@ returns-clause-mounts c = (upper-written c.args.layers.now _ c.resize.new.self c
 
 pub returns-clause-files : goal.returns-clause-files
 returns-clause-files c =
-    let there : IsSome (bytes_at c.upper_mut.result.now c.in-Upper.key) = search rules in
+    let there : IsSome (own_at c.upper_mut.result.now c.in-Upper.key) = search rules in
     written-files c.upper_mut.result.now c.resize.new.self c.in-Upper.key (λ old. sized old c.args.size) there c.resize.ensures.objects_held c.args.layers.now (sym c.upper_mut.ensures.value) c.resize.result c.resize.ensures.sets c.resize.ensures.err
 
 pub returns-clause-objects : goal.returns-clause-objects

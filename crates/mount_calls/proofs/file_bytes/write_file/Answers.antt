@@ -1,7 +1,7 @@
 use Rattle.std.proofs.Common.{IsSome, rules, sym, subst}
-use Rattle.layer_tree.specs.Tree.{bytes_at, written, layer_of, SameObjects, Tree}
+use Rattle.layer_tree.specs.Tree.{own_at, written, layer_of, SameObjects, Tree}
 use Rattle.mount_calls.proofs.Named.{written-files}
-use Rattle.mount_calls.proofs.Stored.{sets-written}
+use Rattle.mount_calls.proofs.Marks.{sets-written}
 use Rattle.mount_calls.proofs.Writings.{upper-written}
 use Rattle.mount_calls.proofs.file_bytes.write_file.Goals as goal
 
@@ -13,7 +13,7 @@ returns-clause-mounts c = (upper-written c.args.layers.now _ c.write.new.self c.
 
 pub returns-clause-files : goal.returns-clause-files
 returns-clause-files c =
-    let there : IsSome (bytes_at c.upper_mut.result.now c.in-Upper.key) = search rules in
+    let there : IsSome (own_at c.upper_mut.result.now c.in-Upper.key) = search rules in
     written-files c.upper_mut.result.now c.write.new.self c.in-Upper.key (λ old. written old c.args.start c.args.bytes.now) there c.write.ensures.objects_held c.args.layers.now (sym c.upper_mut.ensures.value) c.write.result c.write.ensures.sets c.write.ensures.err
 
 pub returns-clause-objects : goal.returns-clause-objects

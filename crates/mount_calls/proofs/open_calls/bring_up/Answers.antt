@@ -3,7 +3,7 @@ use Rattle.plain_model.specs.Layers.{shows}
 use Rattle.merged_lookup.specs.Merged.{layers_of}
 use Rattle.mount_calls.proofs.CopiedOpens.{attributes-stored, copied-as, copied-lowers, copied-around}
 use Rattle.mount_calls.specs.Keeping.{BringsNone}
-use Rattle.mount_calls.proofs.Stored.{shown-inode}
+use Rattle.mount_calls.proofs.Marks.{shown-inode}
 use Rattle.mount_calls.proofs.Frames.{none-same}
 use Rattle.mount_calls.proofs.open_calls.bring_up.Goals as goal
 

@@ -17,7 +17,7 @@ returns-in-Ok-Directory-clause-does c =
     let does = rw (c.in-Ok-Directory.is, c.in-Ok-Directory.field-0-is) at c.in_ok-rename.ensures.does in
     let bare = rw c.in-Ok-Directory.is at c.in_ok-rename.ensures.bare in
     let steps = rw c.in-Ok-Directory.is at c.in_ok-rename.ensures.steps in
-    moves-then c.args.clients.now c.args.layers.now c.rename.new.layers c.free_released.new.layers c.args.redirects c.args.old.now c.args.new.now
+    moves-then c.args.clients.now c.args.layers.now c.rename.new.layers c.free_released.new.layers c.args.redirects c.args.metacopy c.args.old.now c.args.new.now
     true _ does bare steps c.free_released.ensures.mounts c.free_released.ensures.live c.free_released.ensures.held c.free_released.ensures.same
 
 pub returns-in-Ok-Directory-clause-keeps : goal.returns-in-Ok-Directory-clause-keeps
@@ -28,7 +28,7 @@ returns-in-Ok-Inode-clause-does c =
     let does = rw (c.in-Ok-Inode.is, c.in-Ok-Inode.field-0-is) at c.in_ok-rename.ensures.does in
     let bare = rw c.in-Ok-Inode.is at c.in_ok-rename.ensures.bare in
     let steps = rw c.in-Ok-Inode.is at c.in_ok-rename.ensures.steps in
-    moves-then c.args.clients.now c.args.layers.now c.rename.new.layers c.free_released-in-Ok-Inode.new.layers c.args.redirects c.args.old.now c.args.new.now
+    moves-then c.args.clients.now c.args.layers.now c.rename.new.layers c.free_released-in-Ok-Inode.new.layers c.args.redirects c.args.metacopy c.args.old.now c.args.new.now
     false _ does.0 bare steps c.free_released-in-Ok-Inode.ensures.mounts c.free_released-in-Ok-Inode.ensures.live c.free_released-in-Ok-Inode.ensures.held c.free_released-in-Ok-Inode.ensures.same
 
 pub returns-in-Ok-Inode-clause-keeps : goal.returns-in-Ok-Inode-clause-keeps
@@ -48,12 +48,12 @@ returns-in-Ok-Unchanged-clause-paths c =
 pub returns-in-Ok-Directory-clause-paths : goal.returns-in-Ok-Directory-clause-paths
 returns-in-Ok-Directory-clause-paths c =
     let does = rw (c.in-Ok-Directory.is, c.in-Ok-Directory.field-0-is) at c.in_ok-rename.ensures.does in
-    renames-moved c.args.layers.now c.rename.new.layers c.free_released.new.layers c.args.old.now c.args.new.now true _ does c.free_released.ensures.held
+    renames-moved c.args.layers.now c.rename.new.layers c.free_released.new.layers c.args.metacopy c.args.old.now c.args.new.now true _ does c.free_released.ensures.held
 
 pub returns-in-Ok-Inode-clause-paths : goal.returns-in-Ok-Inode-clause-paths
 returns-in-Ok-Inode-clause-paths c =
     let does = rw (c.in-Ok-Inode.is, c.in-Ok-Inode.field-0-is) at c.in_ok-rename.ensures.does in
-    renames-moved c.args.layers.now c.rename.new.layers c.free_released-in-Ok-Inode.new.layers c.args.old.now c.args.new.now false _ does.0 c.free_released-in-Ok-Inode.ensures.held
+    renames-moved c.args.layers.now c.rename.new.layers c.free_released-in-Ok-Inode.new.layers c.args.metacopy c.args.old.now c.args.new.now false _ does.0 c.free_released-in-Ok-Inode.ensures.held
 
 pub returns-in-Err-clause-paths : goal.returns-in-Err-clause-paths
 returns-in-Err-clause-paths c = renames-same c.args.layers.now c.rename.new.layers c.args.old.now c.args.new.now (rw c.in-Err.is at c.in_ok-rename.ensures.unchanged)
@@ -64,7 +64,7 @@ returns-in_err-rename-clause-paths c = renames-parents c.args.layers.now c.renam
 pub returns-in-Ok-Directory-clause-key : goal.returns-in-Ok-Directory-clause-key
 returns-in-Ok-Directory-clause-key c =
     let does = rw (c.in-Ok-Directory.is, c.in-Ok-Directory.field-0-is) at c.in_ok-rename.ensures.does in
-    folder-key c.args.layers.now c.rename.new.layers c.free_released.new.layers c.args.old.now c.args.new.now _ 0 does c.free_released.ensures.held
+    folder-key c.args.layers.now c.rename.new.layers c.free_released.new.layers c.args.metacopy c.args.old.now c.args.new.now _ 0 does c.free_released.ensures.held
 
 pub returns-in-Ok-Inode-clause-key : goal.returns-in-Ok-Inode-clause-key
 returns-in-Ok-Inode-clause-key c =

@@ -1,10 +1,8 @@
 use Rattle.std.proofs.Common.{rules, ◌≡◌, ◌∙◌, sym, ap, None, Some, Ok}
-use Rattle.std.specs.Option.{option_and_then}
 use Rattle.ov_base.specs.declared.attributes.Attributes.{Attributes}
 use Rattle.plain_model.specs.Layers.{Folder, shows}
-use Rattle.layer_tree.specs.Tree.{inode_of}
 use Rattle.merged_lookup.specs.Merged.{layers_of, walk_fault, ShowsInode}
-use Rattle.mount_calls.specs.Status.{stat_of_inode, stat_shown}
+use Rattle.mount_calls.specs.Status.{stat_shown}
 use Rattle.mount_calls.proofs.Shown.{stat-inode, stat-found}
 use Rattle.mount_calls.proofs.status.status_at.Goals as goal
 
@@ -18,4 +16,4 @@ pub returns-in-Inode : goal.returns-in-Inode
 returns-in-Inode c =
     let none : walk_fault (layers_of c.args.layers.now) c.args.path.now ≡ None = search rules in
     let found : ShowsInode c.args.layers.now c.args.path.now c.in-Inode.place = rw c.in-Inode.is at c.in_ok-place.ensures.found in
-    stat-found (layers_of c.args.layers.now) c.args.path.now _ none (stat-inode c.args.layers.now c.args.path.now c.in-Inode.place found ∙ sym (c.inode_status.ensures ∙ ap (λ o. stat_of_inode (option_and_then inode_of o)) c.node.ensures))
+    stat-found (layers_of c.args.layers.now) c.args.path.now _ none (stat-inode c.args.layers.now c.args.path.now c.in-Inode.place found ∙ sym c.inode_status.ensures)

@@ -1,13 +1,19 @@
-use Rattle.std.proofs.Common.{◌≡◌, ◌∷◌, Ok, map, sym, ap, subst, ◌∙◌, rules, arith}
+use Rattle.std.proofs.Common.{◌≡◌, ◌∷◌, Err, Ok, map, sym, ap, subst, ◌∙◌, rules, arith}
 use Rattle.std.proofs.lemmas.Grind.{common_steps}
 use Rattle.toml.specs.Data.{item}
 use Rattle.toml.specs.View.{view, table_view, items_view}
 use Rattle.layer_tree.specs.Tree.{layer_of}
 use Rattle.ov_wire.specs.Manifests.{whole_of}
 use Rattle.ov_wire.specs.ManifestLayers.{AreSpelled, layer_items}
-use Rattle.ov_wire.proofs.Reading.{options-of-entries, spelled-faultless}
+use Rattle.ov_wire.specs.declared.manifest.fault.ManifestFault.TheVariants.{NotToml}
+use Rattle.ov_wire.proofs.Reading.{options-of-entries, options-toml, spelled-faultless}
 use Rattle.ov_wire.proofs.WithinLimits.{spelled-within, spelled-short}
 use Rattle.ov_wire.proofs.manifest.layers_of.Goals as goal
+
+pub returns-in_err-options-clause-toml : goal.returns-in_err-options-clause-toml
+returns-in_err-options-clause-toml c = λ h.
+    let same : c.options_of.result ≡ Err NotToml = first_of (search rules, grind (arith, common_steps)) in
+    options-toml (table_view c.args.manifest.now) (sym c.options_of.ensures.said ∙ same)
 
 pub returns-clause-options : goal.returns-clause-options
 returns-clause-options c =

@@ -4,6 +4,7 @@ use Rattle.toml.specs.View.{view}
 use Rattle.ov_wire.specs.Manifests.{entries_in}
 use Rattle.ov_wire.specs.ManifestLayers.{IsSpelled}
 use Rattle.ov_wire.proofs.Reading.{spelled-on, layers-on, layer-on}
+use Rattle.ov_wire.proofs.Unmarked.{unmarked-on}
 use Rattle.ov_wire.proofs.manifest.read_lowers.Goals as goal
 
 pub loop-index-preserved : goal.loop-index-preserved
@@ -14,5 +15,6 @@ loop-index-preserved c =
       count = search rules;
       spelled = spelled-on c.loop-index.lowers.items c.push.new.self.items c.in_ok-read_layer.field-0 c.args.layers.now c.loop-index.index c.index-layers-index.result c.in_ok-push.ensures.items c.loop-index-test.true c.index-layers-index.is c.loop-index.invariant.spelled spelled;
       layers = layers-on c.loop-index.lowers.items c.push.new.self.items c.in_ok-read_layer.field-0 c.args.layers.now c.loop-index.index c.index-layers-index.result c.in_ok-push.ensures.items c.loop-index.invariant.layers c.in_ok-read_layer.ensures.layer;
+      unmarked = unmarked-on c.loop-index.lowers.items c.push.new.self.items c.in_ok-read_layer.field-0 c.in_ok-push.ensures.items c.loop-index.invariant.unmarked c.in_ok-read_layer.ensures.unmarked;
       faults = c.loop-index.invariant.faults ∙ layer-on c.args.layers.now c.loop-index.index (c.loop-index.index + 1) c.index-layers-index.result spelled.0 c.loop-index-test.true c.index-layers-index.is spelled.1;
     }

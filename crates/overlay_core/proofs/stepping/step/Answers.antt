@@ -61,7 +61,7 @@ returns-then-not-may_lack-clause-makes g c =
     (λ s st.
     next-ready (refusal s j.client j.call) (lack_by m j) j.placings j.begins t (lack_size (lowers_of m.layers) (lack_by m j))
     (λ fine.
-    plain-lacks (upper_of m.layers) (lowers_of m.layers) j.call c.may_lack.result
+    plain-lacks (upper_of m.layers) (lowers_of m.layers) m.metacopy j.call c.may_lack.result
     (rw c.call-2.ensures at c.may_lack.ensures) c.if-not-may_lack.true))
     (c.plain.ensures.makes c.held.new.work Finish t tt
     (rw c.remember.ensures (c.held.ensures.temps (lowers_of c.args.watched.now.mount.layers) c.requires.temps).0))

@@ -1,14 +1,13 @@
-use Rattle.std.proofs.Common.{[], ◌∷◌, Some, reverse, sym, ap, ◌∙◌, subst}
-use Rattle.ov_base.specs.declared.attributes.Attributes.{Attributes}
-use Rattle.ov_base.specs.declared.bytes.Content.{Content}
-use Rattle.plain_model.specs.Layers.{Path, Contents, held, shows}
+use Rattle.std.proofs.Common.{[], ◌∷◌, List, Some, is_some, reverse, sym, ap, ◌∙◌, subst}
+use Rattle.plain_model.specs.Layers.{Path, Layer, Contents, content_over, held, shows}
 use Rattle.layer_tree.specs.Tree.{layer_of}
 use Rattle.merged_lookup.specs.declared.layers.Layers.{Layers}
 use Rattle.merged_lookup.specs.Merged.{layers_of, parent, IsStackOf}
 use Rattle.copy_up.specs.Showing.{ShowsSame, ChangesNoSight, Stays}
+use Rattle.copy_up.proofs.Copying.{marks-file}
 use Rattle.copy_up.proofs.Frames.{gains-self}
-use Rattle.copy_up.proofs.Keeping.{on-err, same-self, failed-stays, then-layers}
-use Rattle.rename_redirect.specs.Linking.{CopiesName, GainsBoth, GivesName}
+use Rattle.copy_up.proofs.Keeping.{lowers-same, on-err, same-self, failed-stays, then-layers}
+use Rattle.rename_redirect.specs.Linking.{GainsBoth, GivesName}
 use Rattle.rename_redirect.proofs.Gained.{beside-copy}
 use Rattle.rename_redirect.proofs.Given.{gains-first, gives-name, fails-both, copy-name, copy-links, copy-thin, follows}
 use Rattle.rename_redirect.proofs.Shown.{outside-split}
@@ -31,8 +30,11 @@ returns-in_err-from-clause-no_memory c =
     let both = subst (λ (z : Layers). GainsBoth z c.place_both.new.layers c.args.old.now c.args.new.now) c.copy_of.ensures.same c.place_both.ensures.gains in
     on-err _ c.from_residual-in_err-from.result (record { shown = same; mount = stays.mounts; beneath = both })
 
-pub insert_in_upper-requires : goal.insert_in_upper-requires
-insert_in_upper-requires c =
+pub insert_in_upper-requires-clause-leaf : goal.insert_in_upper-requires-clause-leaf
+insert_in_upper-requires-clause-leaf c = let made = c.in_ok-copy.ensures.copy.2 in (made.copy, made.is)
+
+pub insert_in_upper-requires-clause-places : goal.insert_in_upper-requires-clause-places
+insert_in_upper-requires-clause-places c =
     let n = c.in-Some.name.now in
     let t = reverse c.in-Some.field-0-1.now in
     let m = c.in-Some-split_last.further.now in
@@ -40,7 +42,7 @@ insert_in_upper-requires c =
     let from = c.in_ok-from.ensures.from n t c.in-Some.ensures in
     let onto = c.in_ok-from.ensures.onto m u c.in-Some-split_last.ensures in
     let out = outside-split c.args.layers.now c.args.old.now c.args.new.now n t m u c.in-Some.ensures c.in-Some-split_last.ensures c.args.place.layer c.args.place.key c.requires.shown.inode c.requires.parents c.requires.absent c.requires.shown.shown in
-    record { places = (t, u, from, onto, λ e. out [] e) }
+    (t, u, from, onto, λ e. out [] e)
 
 pub returns-in_err-key-clause-no_memory : goal.returns-in_err-key-clause-no_memory
 returns-in_err-key-clause-no_memory c =
@@ -64,22 +66,23 @@ returns-clause-linked c =
     let from = c.in_ok-from.ensures.from n t c.in-Some.ensures in
     let onto = c.in_ok-from.ensures.onto m u c.in-Some-split_last.ensures in
     let out = outside-split c.args.layers.now c.args.old.now c.args.new.now n t m u c.in-Some.ensures c.in-Some-split_last.ensures c.args.place.layer c.args.place.key c.requires.shown.inode c.requires.parents c.requires.absent c.requires.shown.shown in
-    let found = c.in_ok-copy.ensures.copy c.args.old.now c.requires.shown in
+    let found = c.in_ok-copy.ensures.copy in
     let i = found.0 in
     let s = follows c.args.place.layer c.requires.lower in
     let shown = sym (ap (shows 0 (layers_of l1)) c.in-Some.ensures) ∙ c.place_both.ensures.shown (Some i) (ap (λ (z : Layers). shows 0 (layers_of z) c.args.old.now) c.copy_of.ensures.same ∙ found.1) ∙ ap (λ j. Some (Contents j c.args.place.key (Some i))) s.1 in
     let absent = same.absent (m ∷ u) (sym (ap (shows 0 (layers_of l0)) c.in-Some-split_last.ensures) ∙ c.requires.absent) in
-    let copy = subst (λ (z : Content). CopiesName (layer_of l1.upper) (layer_of l2.upper) (n ∷ t) (m ∷ u) z i.attributes) found.2
-    (subst (λ (z : Attributes). CopiesName (layer_of l1.upper) (layer_of l2.upper) (n ∷ t) (m ∷ u) c.in_ok-copy.copy.0 z) found.3
-    (c.in_ok-key.ensures.copied t u from onto (λ e. out [] e))) in
+    let made = found.2 in
+    let copy = c.in_ok-key.ensures.copied t u made.copy from onto (λ e. out [] e) made.is in
+    let marks = ap is_some made.mark ∙ marks-file c.args.metacopy (layer_of l0.upper) c.args.old.now i.content in
+    let content = ap (λ (Ls : List Layer). content_over Ls made.copy.mark made.copy.content) (lowers-same l0 l1 same.lowers) ∙ made.content in
     let objects = c.in_ok-key.ensures.objects in
     let gains = subst (λ (z : Path). GainsBoth l0 l1 z (m ∷ u)) c.in-Some.ensures (subst (GainsBoth l0 l1 c.args.old.now) c.in-Some-split_last.ensures both) in
-    subst (λ (z : Path). GivesName l0 l2 z c.args.new.now) (sym c.in-Some.ensures)
-    (subst (λ (z : Path). GivesName l0 l2 (n ∷ t) z) (sym c.in-Some-split_last.ensures)
-    (gives-name l0 l1 l2 same stays (n ∷ t) (m ∷ u) gains
-    (copy-name l1 l2 c.insert_in_upper.ensures.lowers c.insert_in_upper.ensures.keeps n t m u s.0 c.args.place.key i shown absent out copy)
-    (copy-links l1 l2 c.insert_in_upper.ensures.lowers c.insert_in_upper.ensures.keeps n t m u s.0 c.args.place.key i shown absent out copy)
-    (beside-copy l1.upper (layer_of l2.upper) (n ∷ t) (m ∷ u) i.content i.attributes from.free onto.free copy)
+    subst (λ (z : Path). GivesName l0 l2 c.args.metacopy z c.args.new.now) (sym c.in-Some.ensures)
+    (subst (λ (z : Path). GivesName l0 l2 c.args.metacopy (n ∷ t) z) (sym c.in-Some-split_last.ensures)
+    (gives-name l0 l1 l2 same stays (n ∷ t) (m ∷ u) c.args.metacopy gains
+    (copy-name l1 l2 c.insert_in_upper.ensures.lowers c.insert_in_upper.ensures.keeps n t m u s.0 c.args.place.key i shown absent out made.copy c.args.metacopy marks content made.attributes copy)
+    (copy-links l1 l2 c.insert_in_upper.ensures.lowers c.insert_in_upper.ensures.keeps n t m u s.0 c.args.place.key i shown absent out made.copy c.args.metacopy marks content made.attributes copy)
+    (beside-copy l1.upper (layer_of l2.upper) (n ∷ t) (m ∷ u) made.copy from.free onto.free copy)
     c.in_ok-key.ensures.directories objects.0 objects.1))
 
 pub returns-clause-sound : goal.returns-clause-sound
@@ -96,17 +99,18 @@ returns-clause-sound c =
     let from = c.in_ok-from.ensures.from n t c.in-Some.ensures in
     let onto = c.in_ok-from.ensures.onto m u c.in-Some-split_last.ensures in
     let out = outside-split c.args.layers.now c.args.old.now c.args.new.now n t m u c.in-Some.ensures c.in-Some-split_last.ensures c.args.place.layer c.args.place.key c.requires.shown.inode c.requires.parents c.requires.absent c.requires.shown.shown in
-    let found = c.in_ok-copy.ensures.copy c.args.old.now c.requires.shown in
+    let found = c.in_ok-copy.ensures.copy in
     let i = found.0 in
     let s = follows c.args.place.layer c.requires.lower in
     let shown = sym (ap (shows 0 (layers_of l1)) c.in-Some.ensures) ∙ c.place_both.ensures.shown (Some i) (ap (λ (z : Layers). shows 0 (layers_of z) c.args.old.now) c.copy_of.ensures.same ∙ found.1) ∙ ap (λ j. Some (Contents j c.args.place.key (Some i))) s.1 in
     let absent = same.absent (m ∷ u) (sym (ap (shows 0 (layers_of l0)) c.in-Some-split_last.ensures) ∙ c.requires.absent) in
-    let copy = subst (λ (z : Content). CopiesName (layer_of l1.upper) (layer_of l2.upper) (n ∷ t) (m ∷ u) z i.attributes) found.2
-    (subst (λ (z : Attributes). CopiesName (layer_of l1.upper) (layer_of l2.upper) (n ∷ t) (m ∷ u) c.in_ok-copy.copy.0 z) found.3
-    (c.in_ok-key.ensures.copied t u from onto (λ e. out [] e))) in
+    let made = found.2 in
+    let copy = c.in_ok-key.ensures.copied t u made.copy from onto (λ e. out [] e) made.is in
+    let marks = ap is_some made.mark ∙ marks-file c.args.metacopy (layer_of l0.upper) c.args.old.now i.content in
+    let content = ap (λ (Ls : List Layer). content_over Ls made.copy.mark made.copy.content) (lowers-same l0 l1 same.lowers) ∙ made.content in
     record {
       layers = then-layers l0 l1 l2 stays.sound.layers c.insert_in_upper.ensures.lowers c.insert_in_upper.ensures.keeps;
-      thin = λ h. copy-thin l1 l2 c.insert_in_upper.ensures.lowers c.insert_in_upper.ensures.keeps n t m u s.0 c.args.place.key i shown absent out copy (stays.sound.thin h);
+      thin = λ h. copy-thin l1 l2 c.insert_in_upper.ensures.lowers c.insert_in_upper.ensures.keeps n t m u s.0 c.args.place.key i shown absent out made.copy c.args.metacopy marks content made.attributes copy (stays.sound.thin h);
     }
 
 pub returns-clause-key : goal.returns-clause-key

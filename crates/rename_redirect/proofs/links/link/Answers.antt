@@ -29,4 +29,4 @@ returns-clause-allowed c = (c.in-Ok.ensures.may c.args.layers.now c.args.old.now
 pub returns-clause-steps : goal.returns-clause-steps
 returns-clause-steps c =
     let may : MayLink c.args.layers.now c.args.old.now c.args.new.now c.in-Ok.found.0.now c.in-Ok.found.1.now c.in-Ok.found.2 = c.in-Ok.ensures.may c.args.layers.now c.args.old.now c.args.new.now c.requires.from c.requires.onto in
-    link-steps c.args.layers.now c.give_name.new.layers c.args.old.now c.args.new.now c.give_name.ensures.lowers may.fine c.in_ok-key.ensures.linked
+    link-steps c.args.layers.now c.give_name.new.layers c.args.metacopy c.args.old.now c.args.new.now c.give_name.ensures.lowers may.fine c.in_ok-key.ensures.linked

@@ -32,7 +32,7 @@ returns-in_err-link_in_upper-clause-no_memory c =
     (fails-both l0 l1 c.link_in_upper.new.layers p.same p.stays c.link_in_upper.ensures.lowers c.in_err-link_in_upper.ensures.unchanged c.in_err-link_in_upper.ensures.same c.link_in_upper.ensures.keeps c.args.old.now c.args.new.now (gains-second l0 l1 c.args.old.now c.args.new.now p.same (subst (GainsParents l0 l1) (sym c.in-Some.ensures) (p.gains c.in-Some.name.now))))
 
 pub returns-clause-linked : goal.returns-clause-linked
-returns-clause-linked c =
+returns-clause-linked c = λ low.
     let p = c.place_parents.ensures in
     let l0 = c.args.layers.now in
     let l1 = c.place_parents.new.layers in
@@ -43,9 +43,9 @@ returns-clause-linked c =
     let named = upper-named l0 c.args.old.now c.args.place c.requires.shown.inode c.requires.own c.requires.shown.shown in
     let absent = p.same.absent (n ∷ t) (sym (ap (shows 0 (layers_of l0)) c.in-Some.ensures) ∙ c.requires.absent) in
     let adds = c.in_ok-link_in_upper.ensures.added c.args.old.now t ((p.stays.names c.args.old.now c.args.place.key).1 named.named) place in
-    subst (λ (z : Path). GivesName l0 l2 c.args.old.now z) (sym c.in-Some.ensures)
-    (gives-name l0 l1 l2 p.same p.stays c.args.old.now (n ∷ t) (gains-second l0 l1 c.args.old.now (n ∷ t) p.same (p.gains n))
-    (own-name l1 l2 c.link_in_upper.ensures.lowers c.link_in_upper.ensures.keeps c.args.old.now n t absent adds)
+    subst (λ (z : Path). GivesName l0 l2 low c.args.old.now z) (sym c.in-Some.ensures)
+    (gives-name l0 l1 l2 p.same p.stays c.args.old.now (n ∷ t) low (gains-second l0 l1 c.args.old.now (n ∷ t) p.same (p.gains n))
+    (own-name l1 l2 c.link_in_upper.ensures.lowers c.link_in_upper.ensures.keeps c.args.old.now n t absent adds low)
     (own-links l1 l2 c.link_in_upper.ensures.lowers c.link_in_upper.ensures.keeps c.args.old.now n t absent adds)
     (λ x a. beside-name l1.upper (layer_of l2.upper) c.args.old.now (n ∷ t) place.free adds x)
     c.in_ok-link_in_upper.ensures.directories c.args.place.key c.in_ok-link_in_upper.ensures.objects)

@@ -1,4 +1,4 @@
-use Rattle.std.proofs.Common.{◌≡◌, ◌≢◌, ◌∷◌, [], ℕ, false, Option, None, Some, is_some, sym, ap, ◌∙◌}
+use Rattle.std.proofs.Common.{◌≡◌, ◌≢◌, ◌∷◌, [], ℕ, Bool, false, Option, None, Some, is_some, sym, ap, ◌∙◌}
 use Rattle.std.proofs.lemmas.Bool.{false≢true}
 use Rattle.slab.specs.Slab.{get}
 use Rattle.ov_base.specs.declared.attributes.Attributes.{Attributes}
@@ -50,20 +50,20 @@ pub returns-then-top-eq0-clause-keeps : goal.returns-then-top-eq0-clause-keeps
 returns-then-top-eq0-clause-keeps c = λ h. c.mark_in_upper.ensures.keeps (c.move_in_upper.ensures.keeps h)
 
 pub returns-then-top-eq0-clause-moved : goal.returns-then-top-eq0-clause-moved
-returns-then-top-eq0-clause-moved c = λ p q move folder.
+returns-then-top-eq0-clause-moved c = λ p q marked move folder.
     let l = c.args.layers.now in
     let l1 = c.move_in_upper.new.layers in
     let l2 = c.mark_in_upper.new.layers in
     let r = c.args.route.now in
     let own = folder.own c.if-top-eq0.true in
-    let ready = prepared-own l.upper (lowers_of l) (r.name.now ∷ p) in
+    let ready = prepared-own l.upper (lowers_of l) marked (r.name.now ∷ p) in
     let e = c.in_ok-released.ensures.moved p q move.route in
     let at = key-of l1.upper (r.further.now ∷ q) c.args.top.key own.attributes own.opaque own.redirect (e.path.inside [] ∙ own.directory) in
     let m = c.mark_in_upper.ensures.directory (r.further.now ∷ q) at in
     let low = c.mark_in_upper.ensures.lowers ∙ c.move_in_upper.ensures.lowers in (
-      over-directory l l1 l2 l.upper p q r c.in_ok-released.released c.args.top c.args.marks move folder c.lawful.ensures.together low (λ h. c.mark_in_upper.ensures.keeps (c.move_in_upper.ensures.keeps h)) ready c.args.top.key own.attributes own.opaque own.redirect own.directory e m c.mark_in_upper.ensures.sets c.mark_in_upper.ensures.nameless
+      over-directory l l1 l2 l.upper p q r c.in_ok-released.released marked c.args.top c.args.marks move folder c.lawful.ensures.together low (λ h. c.mark_in_upper.ensures.keeps (c.move_in_upper.ensures.keeps h)) ready c.args.top.key own.attributes own.opaque own.redirect own.directory e m c.mark_in_upper.ensures.sets c.mark_in_upper.ensures.nameless
           (λ k is off z. off (ap directory_number own.directory ∙ ap Some (sym z))),
-      replaces-directory l l1 l2 l.upper p q r c.in_ok-released.released c.args.top c.args.marks move folder c.lawful.ensures.together low (λ h. c.mark_in_upper.ensures.keeps (c.move_in_upper.ensures.keeps h)) ready c.args.top.key own.attributes own.opaque own.redirect own.directory e m c.mark_in_upper.ensures.sets c.mark_in_upper.ensures.nameless,
+      replaces-directory l l1 l2 l.upper p q r c.in_ok-released.released marked c.args.top c.args.marks move folder c.lawful.ensures.together low (λ h. c.mark_in_upper.ensures.keeps (c.move_in_upper.ensures.keeps h)) ready c.args.top.key own.attributes own.opaque own.redirect own.directory e m c.mark_in_upper.ensures.sets c.mark_in_upper.ensures.nameless,
     )
 
 pub returns-then-top-eq0-clause-thin : goal.returns-then-top-eq0-clause-thin
@@ -77,11 +77,11 @@ returns-then-top-eq0-clause-thin c =
     let move = c.requires.goes.2 in
     let folder = c.requires.goes.3 in
     let own = folder.own c.if-top-eq0.true in
-    let ready = prepared-own l.upper (lowers_of l) (r.name.now ∷ p) in
+    let ready = prepared-own l.upper (lowers_of l) false (r.name.now ∷ p) in
     let e = c.in_ok-released.ensures.moved p q move.route in
     let at = key-of l1.upper (r.further.now ∷ q) c.args.top.key own.attributes own.opaque own.redirect (e.path.inside [] ∙ own.directory) in
     let m = c.mark_in_upper.ensures.directory (r.further.now ∷ q) at in
-    thin-directory l l1 l2 l.upper p q r c.in_ok-released.released c.args.top c.args.marks move folder c.lawful.ensures.together (c.mark_in_upper.ensures.lowers ∙ c.move_in_upper.ensures.lowers) (λ h. c.mark_in_upper.ensures.keeps (c.move_in_upper.ensures.keeps h)) ready c.args.top.key own.attributes own.opaque own.redirect own.directory e m c.mark_in_upper.ensures.sets c.mark_in_upper.ensures.nameless
+    thin-directory l l1 l2 l.upper p q r c.in_ok-released.released false c.args.top c.args.marks move folder c.lawful.ensures.together (c.mark_in_upper.ensures.lowers ∙ c.move_in_upper.ensures.lowers) (λ h. c.mark_in_upper.ensures.keeps (c.move_in_upper.ensures.keeps h)) ready c.args.top.key own.attributes own.opaque own.redirect own.directory e m c.mark_in_upper.ensures.sets c.mark_in_upper.ensures.nameless
 
 -- nothing is held where a lower layer's directory is shown
 lacks : (l : Layers) (p q : Path) (r : Route) (top : Place) (marks : Marks) → top.layer ≢ 0 → IsFolderMove l p q r top marks → held (layer_of l.upper) (r.name.now ∷ p) ≡ None
@@ -98,7 +98,7 @@ insert_and_move-requires-clause-free c =
 record Placed (l : Layers) (new : Tree) (p q : Path) (r : Route) (key : ℕ) (released : Option ℕ) : Type 0 where
   pub object : Object
   pub m : MovesNew l.upper new (r.name.now ∷ p) (r.further.now ∷ q) object (left_object r.covered) key released
-  pub ready : Prepared l.upper m.mid (lowers_of l) (r.name.now ∷ p)
+  pub ready : (marked : Bool) → Prepared l.upper m.mid (lowers_of l) marked (r.name.now ∷ p)
   pub attributes : Attributes
   pub there : held (layer_of m.mid) (r.name.now ∷ p) ≡ Some (Directory key attributes false None)
 
@@ -139,7 +139,7 @@ pub returns-clause-keeps : goal.returns-clause-keeps
 returns-clause-keeps c = λ h. c.mark_in_upper-2.ensures.keeps (c.insert_and_move.ensures.keeps h)
 
 pub returns-clause-moved : goal.returns-clause-moved
-returns-clause-moved c = λ p q move folder.
+returns-clause-moved c = λ p q marked move folder.
     let x = placed-as c.args.layers.now c.insert_and_move.new.layers.upper p q c.args.route.now c.in_ok-key.key c.in_ok-key.released c.args.top c.args.marks c.if-top-eq0.false folder c.in_ok-attributes.attributes
     (c.in_ok-attributes.ensures.cases ∙ c.attributes_at.ensures (c.args.route.now.name.now ∷ p) folder.attributes folder.shown) (c.in_ok-key.ensures.moved p q move.route) in
     let l = c.args.layers.now in
@@ -150,9 +150,9 @@ returns-clause-moved c = λ p q move folder.
     let at = key-of l1.upper (r.further.now ∷ q) c.in_ok-key.key x.attributes false None (e.path.inside [] ∙ x.there) in
     let m = c.mark_in_upper-2.ensures.directory (r.further.now ∷ q) at in
     let low = c.mark_in_upper-2.ensures.lowers ∙ c.insert_and_move.ensures.lowers in (
-      over-directory l l1 l2 x.m.mid p q r c.in_ok-key.released c.args.top c.args.marks move folder c.lawful.ensures.together low (λ h. c.mark_in_upper-2.ensures.keeps (c.insert_and_move.ensures.keeps h)) x.ready c.in_ok-key.key x.attributes false None x.there e m c.mark_in_upper-2.ensures.sets c.mark_in_upper-2.ensures.nameless
+      over-directory l l1 l2 x.m.mid p q r c.in_ok-key.released marked c.args.top c.args.marks move folder c.lawful.ensures.together low (λ h. c.mark_in_upper-2.ensures.keeps (c.insert_and_move.ensures.keeps h)) (x.ready marked) c.in_ok-key.key x.attributes false None x.there e m c.mark_in_upper-2.ensures.sets c.mark_in_upper-2.ensures.nameless
           (λ k is off z. false≢true (sym (ap is_some (ap (get l.upper) z ∙ x.m.vacant)) ∙ is)),
-      replaces-directory l l1 l2 x.m.mid p q r c.in_ok-key.released c.args.top c.args.marks move folder c.lawful.ensures.together low (λ h. c.mark_in_upper-2.ensures.keeps (c.insert_and_move.ensures.keeps h)) x.ready c.in_ok-key.key x.attributes false None x.there e m c.mark_in_upper-2.ensures.sets c.mark_in_upper-2.ensures.nameless,
+      replaces-directory l l1 l2 x.m.mid p q r c.in_ok-key.released marked c.args.top c.args.marks move folder c.lawful.ensures.together low (λ h. c.mark_in_upper-2.ensures.keeps (c.insert_and_move.ensures.keeps h)) (x.ready marked) c.in_ok-key.key x.attributes false None x.there e m c.mark_in_upper-2.ensures.sets c.mark_in_upper-2.ensures.nameless,
     )
 
 pub returns-clause-thin : goal.returns-clause-thin
@@ -170,4 +170,4 @@ returns-clause-thin c =
     let at = key-of l1.upper (r.further.now ∷ q) c.in_ok-key.key x.attributes false None (e.path.inside [] ∙ x.there) in
     let m = c.mark_in_upper-2.ensures.directory (r.further.now ∷ q) at in
     let low = c.mark_in_upper-2.ensures.lowers ∙ c.insert_and_move.ensures.lowers in
-    thin-directory l l1 l2 x.m.mid p q r c.in_ok-key.released c.args.top c.args.marks c.requires.goes.2 folder c.lawful.ensures.together low (λ h. c.mark_in_upper-2.ensures.keeps (c.insert_and_move.ensures.keeps h)) x.ready c.in_ok-key.key x.attributes false None x.there e m c.mark_in_upper-2.ensures.sets c.mark_in_upper-2.ensures.nameless
+    thin-directory l l1 l2 x.m.mid p q r c.in_ok-key.released false c.args.top c.args.marks c.requires.goes.2 folder c.lawful.ensures.together low (λ h. c.mark_in_upper-2.ensures.keeps (c.insert_and_move.ensures.keeps h)) (x.ready false) c.in_ok-key.key x.attributes false None x.there e m c.mark_in_upper-2.ensures.sets c.mark_in_upper-2.ensures.nameless

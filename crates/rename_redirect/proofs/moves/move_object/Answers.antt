@@ -32,4 +32,4 @@ pub returns-clause-thin : goal.returns-clause-thin
 returns-clause-thin c = λ h t. c.in_ok-renamed.ensures.thin (c.place_ways.ensures.stays.sound.layers h) (c.place_ways.ensures.stays.sound.thin t)
 
 pub returns-clause-does : goal.returns-clause-does
-returns-clause-does c = does-since c.args.layers.now c.place_ways.new.layers c.args.old.now c.args.new.now c.place_ways.ensures.same c.place_ways.ensures.stays c.place_ways.ensures.gains c.requires.out c.requires.within c.move_placed.new.layers c.in_ok-renamed.renamed c.requires.apart c.in_ok-renamed.ensures.does
+returns-clause-does c = does-since c.args.layers.now c.place_ways.new.layers c.args.old.now c.args.new.now c.place_ways.ensures.same c.place_ways.ensures.stays c.place_ways.ensures.gains c.requires.out c.requires.within c.move_placed.new.layers c.args.metacopy c.in_ok-renamed.renamed c.requires.apart c.in_ok-renamed.ensures.does

@@ -1,8 +1,9 @@
-use Rattle.std.proofs.Common.{◌∙◌, None, ap, refl}
+use Rattle.std.proofs.Common.{◌∙◌, ap, is_some}
 use Rattle.std.specs.Option.{option_and_then}
 use Rattle.layer_tree.specs.Table.{object_key}
 use Rattle.layer_tree.proofs.Roots.{key_at-bound}
 use Rattle.merged_lookup.proofs.Descending.{key-of}
+use Rattle.copy_up.proofs.Copying.{leaf-leads, leaf-object}
 use Rattle.copy_up.proofs.Keeping.{on-err}
 use Rattle.layer_tree.proofs.Nameless.{keeps_same}
 use Rattle.copy_up.proofs.Nodes.{place-directory, place-free}
@@ -25,21 +26,24 @@ insert_reserved-key-requires-clause-no_object c =
     (ap (option_and_then object_key) (r.same.entries c.args.from c.in_ok-name.name)
     ∙ rw c.in_ok-name.ensures.cases (place-free c.args.layers.now.upper c.lawful.ensures.tree c.args.from c.args.name.now c.requires.places.0 c.requires.places.2))
 
+pub insert_reserved-key-requires-clause-redirect : goal.insert_reserved-key-requires-clause-redirect
+insert_reserved-key-requires-clause-redirect c = leaf-leads c.args.object (ap is_some c.requires.leaf.1)
+
 pub link-requires-clause-no_object : goal.link-requires-clause-no_object
 link-requires-clause-no_object c =
     let r = rw c.upper_mut.ensures.value at c.room_for_both.ensures in
     let w = rw (c.upper_mut-2.ensures.value, c.in_ok-name.ensures.cases) at c.insert_reserved-key.ensures in
     rw (c.upper_mut-3.ensures.value, c.in_ok-further.ensures.cases)
     (place-free c.insert_reserved-key.new.self c.lawful-2.ensures.tree c.args.to c.args.further.now c.requires.places.1
-    (second-place c.args.layers.now.upper c.room_for_both.new.upper c.insert_reserved-key.new.self r.same r.objects_held c.args.from c.args.name.now c.args.object.0 c.args.object.1 c.insert_reserved-key.result
+    (second-place c.args.layers.now.upper c.room_for_both.new.upper c.insert_reserved-key.new.self r.same r.objects_held c.args.from c.args.name.now c.args.object c.requires.leaf.0 c.requires.leaf.1 c.insert_reserved-key.result
     w.inserts w.sets c.requires.places.0 c.requires.places.2 c.args.to c.args.further.now c.requires.places.1 c.requires.places.3 c.requires.places.4))
 
 pub returns-clause-copied : goal.returns-clause-copied
-returns-clause-copied c = λ p q f g off.
+returns-clause-copied c = λ p q i f g off is.
     let r = rw c.upper_mut.ensures.value at c.room_for_both.ensures in
     let w = rw (c.upper_mut-2.ensures.value, c.in_ok-name.ensures.cases) at c.insert_reserved-key.ensures in
     let k = rw (c.upper_mut-3.ensures.value, c.in_ok-further.ensures.cases) at c.in_ok-link.ensures in
-    copies-name c.args.layers.now.upper c.room_for_both.new.upper c.insert_reserved-key.new.self r.same r.objects_held c.args.from c.args.name.now c.args.object.0 c.args.object.1 c.insert_reserved-key.result
+    copies-name c.args.layers.now.upper c.room_for_both.new.upper c.insert_reserved-key.new.self r.same r.objects_held c.args.from c.args.name.now c.args.object i is c.insert_reserved-key.result
     w.inserts w.sets p f c.args.to c.args.further.now q g off
     c.link.new.self k.links k.sets c.lawful-2.ensures.together
     (λ h. w.keeps p (key_at-bound c.args.layers.now.upper c.room_for_both.new.upper r.same.entries p ∙ key-of c.args.layers.now.upper p c.args.from f.attributes f.opaque f.redirect f.directory) (r.keeps h))
@@ -49,7 +53,7 @@ returns-clause-directories c =
     let r = rw c.upper_mut.ensures.value at c.room_for_both.ensures in
     let w = rw (c.upper_mut-2.ensures.value, c.in_ok-name.ensures.cases) at c.insert_reserved-key.ensures in
     let k = rw (c.upper_mut-3.ensures.value, c.in_ok-further.ensures.cases) at c.in_ok-link.ensures in
-    copies-directories c.args.layers.now.upper c.room_for_both.new.upper c.insert_reserved-key.new.self r.same r.objects_held c.args.from c.args.name.now c.args.object.0 c.args.object.1 c.insert_reserved-key.result
+    copies-directories c.args.layers.now.upper c.room_for_both.new.upper c.insert_reserved-key.new.self r.same r.objects_held c.args.from c.args.name.now c.args.object c.requires.leaf.0 c.requires.leaf.1 c.insert_reserved-key.result
     w.inserts w.sets c.requires.places.0 c.requires.places.2 c.args.to c.args.further.now c.requires.places.1 c.requires.places.3 c.requires.places.4
     c.link.new.self k.links k.sets
 
@@ -59,7 +63,7 @@ returns-clause-objects c =
     let w = rw (c.upper_mut-2.ensures.value, c.in_ok-name.ensures.cases) at c.insert_reserved-key.ensures in
     let k = rw (c.upper_mut-3.ensures.value, c.in_ok-further.ensures.cases) at c.in_ok-link.ensures in (
       c.insert_reserved-key.result,
-      copies-kept c.args.layers.now.upper c.room_for_both.new.upper c.insert_reserved-key.new.self r.same r.objects_held c.args.from c.args.name.now c.args.object.0 c.args.object.1 c.insert_reserved-key.result
+      copies-kept c.args.layers.now.upper c.room_for_both.new.upper c.insert_reserved-key.new.self r.same r.objects_held c.args.from c.args.name.now c.args.object c.requires.leaf.0 c.requires.leaf.1 c.insert_reserved-key.result
           w.inserts w.sets c.requires.places.0 c.requires.places.2 c.args.to c.args.further.now c.requires.places.1 c.requires.places.3 c.requires.places.4
           c.link.new.self k.links k.sets,
     )
@@ -69,7 +73,7 @@ returns-clause-key c = λ p q f g off.
     let r = rw c.upper_mut.ensures.value at c.room_for_both.ensures in
     let w = rw (c.upper_mut-2.ensures.value, c.in_ok-name.ensures.cases) at c.insert_reserved-key.ensures in
     let k = rw (c.upper_mut-3.ensures.value, c.in_ok-further.ensures.cases) at c.in_ok-link.ensures in
-    keeps-first c.args.layers.now.upper c.room_for_both.new.upper c.insert_reserved-key.new.self r.same r.objects_held c.args.from c.args.name.now c.args.object.0 c.args.object.1 c.insert_reserved-key.result
+    keeps-first c.args.layers.now.upper c.room_for_both.new.upper c.insert_reserved-key.new.self r.same r.objects_held c.args.from c.args.name.now c.args.object c.requires.leaf.0 c.requires.leaf.1 c.insert_reserved-key.result
     w.inserts w.sets p f c.args.to c.args.further.now q g off
     c.link.new.self k.links k.sets
 
@@ -79,7 +83,7 @@ returns-in_err-link-clause-same c =
     let e = rw c.upper_mut-3.ensures.value at c.in_err-link.ensures in
     let ok = e.succeeds
     (room-left c.room_for_both.new.upper c.insert_reserved-key.new.self c.args.from c.args.to c.in_ok-room_for_both.ensures.second w.names w.other_names)
-    (new-room c.insert_reserved-key.new.self c.insert_reserved-key.result (record { content = c.args.object.0; attributes = c.args.object.1; links = 1; mark = None }) w.inserts.inode refl) in
+    (new-room c.insert_reserved-key.new.self c.insert_reserved-key.result c.requires.leaf.0 (w.inserts.inode ∙ c.requires.leaf.1) (leaf-object c.args.object c.requires.leaf.0 c.requires.leaf.1).one) in
     absurd (cc)
 
 pub returns-in_err-link-clause-unchanged : goal.returns-in_err-link-clause-unchanged
@@ -88,7 +92,7 @@ returns-in_err-link-clause-unchanged c =
     let e = rw c.upper_mut-3.ensures.value at c.in_err-link.ensures in
     let ok = e.succeeds
     (room-left c.room_for_both.new.upper c.insert_reserved-key.new.self c.args.from c.args.to c.in_ok-room_for_both.ensures.second w.names w.other_names)
-    (new-room c.insert_reserved-key.new.self c.insert_reserved-key.result (record { content = c.args.object.0; attributes = c.args.object.1; links = 1; mark = None }) w.inserts.inode refl) in
+    (new-room c.insert_reserved-key.new.self c.insert_reserved-key.result c.requires.leaf.0 (w.inserts.inode ∙ c.requires.leaf.1) (leaf-object c.args.object c.requires.leaf.0 c.requires.leaf.1).one) in
     absurd (cc)
 
 pub returns-in_err-link-clause-keeps : goal.returns-in_err-link-clause-keeps
@@ -97,7 +101,7 @@ returns-in_err-link-clause-keeps c =
     let e = rw c.upper_mut-3.ensures.value at c.in_err-link.ensures in
     let ok = e.succeeds
     (room-left c.room_for_both.new.upper c.insert_reserved-key.new.self c.args.from c.args.to c.in_ok-room_for_both.ensures.second w.names w.other_names)
-    (new-room c.insert_reserved-key.new.self c.insert_reserved-key.result (record { content = c.args.object.0; attributes = c.args.object.1; links = 1; mark = None }) w.inserts.inode refl) in
+    (new-room c.insert_reserved-key.new.self c.insert_reserved-key.result c.requires.leaf.0 (w.inserts.inode ∙ c.requires.leaf.1) (leaf-object c.args.object c.requires.leaf.0 c.requires.leaf.1).one) in
     absurd (cc)
 
 pub returns-clause-keeps : goal.returns-clause-keeps
@@ -107,7 +111,7 @@ returns-clause-keeps c = λ h.
     let k = rw c.upper_mut-3.ensures.value at c.link.ensures in
     let f = c.requires.places.2 in
     let q = c.requires.places.1 in
-    let at = second-place c.args.layers.now.upper c.room_for_both.new.upper c.insert_reserved-key.new.self r.same r.objects_held c.args.from c.args.name.now c.args.object.0 c.args.object.1 c.insert_reserved-key.result
+    let at = second-place c.args.layers.now.upper c.room_for_both.new.upper c.insert_reserved-key.new.self r.same r.objects_held c.args.from c.args.name.now c.args.object c.requires.leaf.0 c.requires.leaf.1 c.insert_reserved-key.result
     w.inserts w.sets c.requires.places.0 f c.args.to c.args.further.now q c.requires.places.3 c.requires.places.4 in
     k.keeps q (key-of c.insert_reserved-key.new.self q c.args.to at.attributes at.opaque at.redirect at.directory)
     (w.keeps c.requires.places.0 (key_at-bound c.args.layers.now.upper c.room_for_both.new.upper r.same.entries c.requires.places.0 ∙ key-of c.args.layers.now.upper c.requires.places.0 c.args.from f.attributes f.opaque f.redirect f.directory) (r.keeps h))

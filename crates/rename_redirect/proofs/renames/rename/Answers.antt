@@ -16,5 +16,5 @@ pub returns-clause-steps : goal.returns-clause-steps
 returns-clause-steps c = λ apart.
     let l = c.args.layers.now in
     let may = subst (λ o. IfSome o (λ w. MayMove l c.args.redirects c.args.old.now c.args.new.now w.0.now w.1 w.2.now)) c.in-Ok-Some.field-0-is c.in-Ok-Some.ensures.moves in
-    rename-steps l c.move_object.new.layers c.args.redirects c.args.old.now c.args.new.now may.fine may.empty apart
-    (renamed-over l c.move_object.new.layers c.args.old.now c.args.new.now c.in_ok-renamed.renamed apart c.in_ok-renamed.ensures.does)
+    rename-steps l c.move_object.new.layers c.args.redirects c.args.metacopy c.args.old.now c.args.new.now may.fine may.empty apart
+    (renamed-over l c.move_object.new.layers c.args.metacopy c.args.old.now c.args.new.now c.in_ok-renamed.renamed apart c.in_ok-renamed.ensures.does)

@@ -25,7 +25,7 @@ invariant_of-self c =
     let x = becomes (goal.at.invariant_of-self c).After-open_reserved in
     let here = room c.requires.room.descriptors c.unwrap.result.now c.args.descriptor _ c.requires.room.attached x.was c.requires.room.place in
     counts-opens-file _ _ _ _ _ x c.args.descriptor here.lowest.free c.args.file c.hold_file.new.files c.open_reserved.ensures
-    (held-now c.args.self.now.files c.hold_file.new.files c.args.file.source c.hold_file.result (c.hold_file.ensures.succeeds c.requires.room.spare c.requires.fresh) c.hold_file.ensures.ok)
+    (held-now c.args.self.now.files c.hold_file.new.files c.args.file.source c.hold_file.result (c.hold_file.ensures.succeeds c.requires.room.spare c.requires.countable) c.hold_file.ensures.ok)
 
 pub returns : goal.returns
 returns c =

@@ -30,11 +30,11 @@ returns-in-Ok-clause-makes c = λ client.
     let allowed = rw c.in-Ok.is at c.in_ok-key.ensures.allowed in
     let linked = rw c.in-Ok.is at c.in_ok-key.ensures.linked in
     let steps = rw c.in-Ok.is at c.in_ok-key.ensures.steps in
-    let live = link-live m.layers new p q c.link.ensures.lowers linked steps in
+    let live = link-live m.layers new m.metacopy p q c.link.ensures.lowers linked steps in
     makes-done client (call.Hardlink p q) m new
     (λ s st. link-done m s st new client p q allowed c.link.ensures.lowers (steps s st.layers st.metacopy client) live (link-leaves p q))
-    (λ s st fine. keeps-named m.layers new (call.Hardlink p q) live s st.layers st.metacopy client)
-    (but-given m.layers new p q linked) c.link.ensures.lowers c.link.ensures.sound.thin
+    (λ s st fine. keeps-named m.layers new m.metacopy (call.Hardlink p q) live s st.layers st.metacopy client)
+    (but-given m.layers new m.metacopy p q linked) c.link.ensures.lowers c.link.ensures.sound.thin
 
 pub returns-in-Err-clause-makes : goal.returns-in-Err-clause-makes
 returns-in-Err-clause-makes c = λ client.

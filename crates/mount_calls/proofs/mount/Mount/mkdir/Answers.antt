@@ -31,10 +31,10 @@ returns-in-Ok-2-clause-makes c = λ client.
     let allowed = rw (c.in-Ok-2.is, same) at c.in_ok-mkdir.ensures.allowed in
     let made = rw (c.in-Ok-2.is, same) at c.in_ok-mkdir.ensures.made in
     let steps = rw (c.in-Ok-2.is, same) at c.in_ok-mkdir.ensures.steps in
-    let live = mkdir-live m.layers new p c.args.mode c.mkdir.ensures.sound.layers made steps in
+    let live = mkdir-live m.layers new m.metacopy p c.args.mode c.mkdir.ensures.sound.layers made steps in
     makes-done client (call.Mkdir p c.args.mode) m new
     (λ s st. mkdir-done m s st new client p c.args.mode allowed made.lowers (steps s st.layers client) live (mkdir-leaves p c.args.mode))
-    (λ s st fine. keeps-named m.layers new (call.Mkdir p c.args.mode) live s st.layers st.metacopy client)
+    (λ s st fine. keeps-named m.layers new m.metacopy (call.Mkdir p c.args.mode) live s st.layers st.metacopy client)
     (around-others m.layers new p made.others) made.lowers c.mkdir.ensures.sound.thin
 
 pub returns-in-Err-2-clause-makes : goal.returns-in-Err-2-clause-makes

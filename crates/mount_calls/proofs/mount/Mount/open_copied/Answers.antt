@@ -1,10 +1,10 @@
-use Rattle.std.proofs.Common.{rules, Ok, refl, ap, sym, ◌∙◌, subst, is_some}
+use Rattle.std.proofs.Common.{None, rules, Ok, refl, ap, sym, ◌∙◌, subst, is_some}
 use Rattle.open_handles.specs.declared.open_file.OpenFile.{OpenFile}
 use Rattle.mount_calls.specs.declared.mount.Mount.{Mount}
 use Rattle.mount_calls.specs.Files.{HasFileRoom, file_at}
 use Rattle.mount_calls.specs.Opening.{OpensFile}
 use Rattle.mount_calls.proofs.Answering.{on-err}
-use Rattle.mount_calls.proofs.Makings.{none-holds, reserved-state, wanted-state}
+use Rattle.mount_calls.proofs.Makings.{none-countable, reserved-state, wanted-state}
 use Rattle.mount_calls.proofs.CopiedOpens.{vacant, copied-files, copied-kept, copied-emptied}
 use Rattle.ov_base.specs.declared.call.Call.TheVariants as call
 use Rattle.ov_base.specs.declared.reply.Reply.TheVariants as reply
@@ -29,9 +29,9 @@ open_reserved-requires-clause-room c =
       | else-flags w ↦ rw w.self-is room
     ]
 
-pub open_reserved-requires-clause-fresh : goal.open_reserved-requires-clause-fresh
-open_reserved-requires-clause-fresh c = λ k of.
-    let none = none-holds c.args.self.now c.args.client c.reserve_file.new.self c.reserve_file.ensures.same c.requires.state c.lawful.ensures.files c.in_ok-key.key
+pub open_reserved-requires-clause-countable : goal.open_reserved-requires-clause-countable
+open_reserved-requires-clause-countable c = λ k of.
+    let none = none-countable c.args.self.now c.args.client c.reserve_file.new.self c.reserve_file.ensures.same c.requires.state c.lawful.ensures.files c.in_ok-key.key
     (λ s st. vacant c.args.self.now s st c.args.client c.reserve_file.new.self c.reserve_file.ensures.same c.args.path.now c.args.flags c.args.mode c.requires.allowed c.requires.writes c.args.place c.requires.shown c.requires.lower c.bring_up.new.layers c.in_ok-key.key c.in_ok-key.ensures.copied)
     k (ap (λ (x : OpenFile). x.source) (sym c.file_at-file.ensures) ∙ of) in
     elim c.if-flags.branch [
@@ -73,17 +73,17 @@ returns-clause-answers c =
     let m = c.args.self.now in
     let now = record c.if-flags.self { clients = c.open_reserved.new.self } in
     let asked = call.Open c.args.path.now c.args.flags c.args.mode in
-    let opens : OpensFile c.if-flags.self.clients c.open_reserved.new.self c.args.client c.args.descriptor (file_at (record { layer = 0; key = c.in_ok-key.key }) c.args.flags) (Ok tt) = rw c.file_at-file.ensures at c.open_reserved.ensures in
+    let opens : OpensFile c.if-flags.self.clients c.open_reserved.new.self c.args.client c.args.descriptor (file_at (record { layer = 0; key = c.in_ok-key.key }) c.args.flags None) (Ok tt) = rw c.file_at-file.ensures at c.open_reserved.ensures in
     let served : ServesEach c.args.client asked m now (reply.Descriptor c.args.descriptor) = λ s st. elim c.if-flags.branch [
       | then-flags+in_ok-resize_file w ↦
           rw w.self-is
           (copied-emptied c.args.self.now s st c.args.client c.reserve_file.new.self c.reserve_file.ensures.same c.args.path.now c.args.flags c.args.mode c.requires.allowed c.requires.writes c.args.place c.requires.shown c.requires.lower c.bring_up.new.layers c.in_ok-key.key c.in_ok-key.ensures.copied
-          c.args.descriptor c.open_reserved.new.self (subst (λ (x : Mount). OpensFile x.clients c.open_reserved.new.self c.args.client c.args.descriptor (file_at (record { layer = 0; key = c.in_ok-key.key }) c.args.flags) (Ok tt)) w.self-is opens)
+          c.args.descriptor c.open_reserved.new.self (subst (λ (x : Mount). OpensFile x.clients c.open_reserved.new.self c.args.client c.args.descriptor (file_at (record { layer = 0; key = c.in_ok-key.key }) c.args.flags None) (Ok tt)) w.self-is opens)
           w.if-flags.true w.resize_file.new.layers w.resize_file.ensures.sound.layers (λ k old is. w.in_ok-resize_file.ensures.sets k old (ap (λ (x : OpenFile). x.source) c.file_at-file.ensures ∙ is)))
       | else-flags w ↦
           rw w.self-is
           (copied-kept c.args.self.now s st c.args.client c.reserve_file.new.self c.reserve_file.ensures.same c.args.path.now c.args.flags c.args.mode c.requires.allowed c.requires.writes c.args.place c.requires.shown c.requires.lower c.bring_up.new.layers c.in_ok-key.key c.in_ok-key.ensures.copied
-          c.args.descriptor c.open_reserved.new.self (subst (λ (x : Mount). OpensFile x.clients c.open_reserved.new.self c.args.client c.args.descriptor (file_at (record { layer = 0; key = c.in_ok-key.key }) c.args.flags) (Ok tt)) w.self-is opens)
+          c.args.descriptor c.open_reserved.new.self (subst (λ (x : Mount). OpensFile x.clients c.open_reserved.new.self c.args.client c.args.descriptor (file_at (record { layer = 0; key = c.in_ok-key.key }) c.args.flags None) (Ok tt)) w.self-is opens)
           w.if-flags.false)
     ] in
     answers-open c.args.client asked m now c.args.descriptor served (λ s st fine.

@@ -1,10 +1,10 @@
-use Rattle.std.proofs.Common.{Ok, refl, ap, sym, ◌∙◌}
+use Rattle.std.proofs.Common.{None, Ok, refl, ap, sym, ◌∙◌}
 use Rattle.slab.specs.Slab.{get}
 use Rattle.open_handles.specs.declared.open_file.OpenFile.{OpenFile}
 use Rattle.mount_calls.specs.Files.{file_at}
 use Rattle.mount_calls.specs.Opening.{OpensFile}
 use Rattle.mount_calls.proofs.Answering.{on-err}
-use Rattle.mount_calls.proofs.Makings.{none-holds, reserved-state, wanted-state, open-made}
+use Rattle.mount_calls.proofs.Makings.{none-countable, reserved-state, wanted-state, open-made}
 use Rattle.ov_base.specs.declared.call.Call.TheVariants as call
 use Rattle.mount_calls.proofs.Lasting.{create-live, parents-live}
 use Rattle.mount_calls.proofs.Named.{keeps-named}
@@ -15,10 +15,10 @@ use Rattle.mount_calls.proofs.mount.Mount.open_made.Goals as goal
 pub returns-in_err-reserve_file-clause-no_memory : goal.returns-in_err-reserve_file-clause-no_memory
 returns-in_err-reserve_file-clause-no_memory c = on-err c.from_residual.result _ (record { states = λ s st. reserved-state c.args.self.now s st c.args.client c.reserve_file.new.self c.reserve_file.ensures.same; live = λ t d j live. live })
 
-pub open_reserved-requires-clause-fresh : goal.open_reserved-requires-clause-fresh
-open_reserved-requires-clause-fresh c = λ k of.
+pub open_reserved-requires-clause-countable : goal.open_reserved-requires-clause-countable
+open_reserved-requires-clause-countable c = λ k of.
     let made = c.in_ok-key.ensures.made in
-    none-holds c.args.self.now c.args.client c.reserve_file.new.self c.reserve_file.ensures.same c.requires.state c.lawful.ensures.files c.in_ok-key.key (λ s st. ap (get c.args.self.now.layers.upper) (sym made.1) ∙ made.0.vacant) k (ap (λ (x : OpenFile). x.source) (sym c.file_at-file.ensures) ∙ of)
+    none-countable c.args.self.now c.args.client c.reserve_file.new.self c.reserve_file.ensures.same c.requires.state c.lawful.ensures.files c.in_ok-key.key (λ s st. ap (get c.args.self.now.layers.upper) (sym made.1) ∙ made.0.vacant) k (ap (λ (x : OpenFile). x.source) (sym c.file_at-file.ensures) ∙ of)
 
 pub returns-in_err-reserve_file-clause-around : goal.returns-in_err-reserve_file-clause-around
 returns-in_err-reserve_file-clause-around c = none-same c.args.self.now.layers c.args.self.now.layers c.args.path.now refl
@@ -49,8 +49,8 @@ returns-clause-answers c =
     let new = c.create.new.layers in
     let asked = call.Open c.args.path.now c.args.flags c.args.mode in
     let made = c.in_ok-key.ensures.made in
-    let opens : OpensFile c.reserve_file.new.self c.open_reserved.new.self c.args.client c.args.descriptor (file_at (record { layer = 0; key = c.in_ok-key.key }) c.args.flags) (Ok tt) = rw c.file_at-file.ensures at c.open_reserved.ensures in
+    let opens : OpensFile c.reserve_file.new.self c.open_reserved.new.self c.args.client c.args.descriptor (file_at (record { layer = 0; key = c.in_ok-key.key }) c.args.flags None) (Ok tt) = rw c.file_at-file.ensures at c.open_reserved.ensures in
     answers-open client asked m (record m { layers = new; clients = c.open_reserved.new.self }) c.args.descriptor
     (λ s st. open-made m s st client c.reserve_file.new.self c.reserve_file.ensures.same c.args.path.now c.args.flags c.args.mode c.requires.allowed c.requires.absent new c.in_ok-key.key made.0 made.1 c.in_ok-key.ensures.steps c.args.descriptor c.open_reserved.new.self opens)
-    (λ s st fine. keeps-named m.layers new asked
-    (create-live m.layers new c.args.path.now c.args.mode made.0 c.in_ok-key.ensures.steps c.args.flags) s st.layers st.metacopy client)
+    (λ s st fine. keeps-named m.layers new m.metacopy asked
+    (create-live m.layers new m.metacopy c.args.path.now c.args.mode made.0 c.in_ok-key.ensures.steps c.args.flags) s st.layers st.metacopy client)

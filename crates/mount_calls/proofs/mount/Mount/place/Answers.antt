@@ -16,7 +16,7 @@ returns-clause-layers c =
     let k = c.args.call.now in
     let path = rw c.in-Some.is at c.path_of_call.ensures in
     let can = can-here m k c.args.second c.args.count c.in-Some.path.now path c.requires.can in
-    place-keeps m.layers c.place_dir.new.layers k c.args.second c.args.count c.in-Some.path.now c.requires.lacks can.0 can.1 c.place_dir.ensures.gains
+    place-keeps m.layers c.place_dir.new.layers m.metacopy k c.args.second c.args.count c.in-Some.path.now c.requires.lacks can.0 can.1 c.place_dir.ensures.gains
 
 pub returns-clause-live : goal.returns-clause-live
 returns-clause-live c = parents-live c.args.self.now.layers c.place_dir.new.layers c.in-Some.path.now c.place_dir.ensures.gains

@@ -2,10 +2,8 @@ use Rattle.std.proofs.Common.{◌≡◌, refl, ap, ◌∙◌, rules}
 use Rattle.std.specs.Option.{option_and_then}
 use Rattle.ov_base.specs.declared.errno.Errno.TheVariants.{EINVAL}
 use Rattle.ov_base.specs.declared.reply.Reply.TheVariants as reply
-use Rattle.layer_tree.specs.Tree.{inode_of}
-use Rattle.mount_laws.specs.Leaves.{inode_target}
 use Rattle.merged_lookup.specs.Merged.{layers_of}
-use Rattle.mount_calls.specs.Status.{target_reply}
+use Rattle.mount_calls.specs.Status.{content_target, target_reply}
 use Rattle.mount_calls.proofs.Linking.{link-inode, answers-as, serves-as, readlink-serves, readlink_reply}
 use Rattle.mount_calls.proofs.mount.Mount.readlink.Goals as goal
 
@@ -13,7 +11,7 @@ pub returns-in-Ok-Inode : goal.returns-in-Ok-Inode
 returns-in-Ok-Inode c =
     serves-as c.read_link.result (readlink_reply (layers_of c.args.self.now.layers) c.args.path.now) _ (λ r e client s st. readlink-serves c.args.self.now s st client c.args.path.now r e)
     (answers-as c.read_link.result _ (readlink_reply (layers_of c.args.self.now.layers) c.args.path.now)
-    (ap (λ o. target_reply (inode_target (option_and_then inode_of o))) c.node.ensures
+    (ap (λ o. target_reply (option_and_then content_target o)) c.content_at.ensures
     ∙ link-inode c.args.self.now.layers c.args.path.now c.in-Ok-Inode.place (c.in-Ok-Inode.ensures.answers.0 refl) (rw c.in-Ok-Inode.field-0-is at c.in-Ok-Inode.ensures.found))
     c.read_link.ensures)
 

@@ -5,9 +5,9 @@ use Rattle.ov_base.specs.declared.call.Call.TheVariants as call
 use Rattle.plain_model.specs.Layers.{shows}
 use Rattle.mount_laws.specs.Renaming.{is_one}
 use Rattle.rename_redirect.specs.Judging.{MayMove}
-use Rattle.mount_calls.specs.Lacks.{lack_among, low_file}
+use Rattle.mount_calls.specs.Lacks.{copied_file, lack_among}
 use Rattle.mount_calls.proofs.Judging.{allows-rename, allows-same, refuses-rename, tells-both, tells-nothing, tells-refusal}
-use Rattle.mount_calls.proofs.Having.{shown-bytes}
+use Rattle.mount_calls.proofs.Having.{copied-bytes}
 use Rattle.mount_calls.proofs.Keys.{look-seen}
 use Rattle.mount_calls.proofs.Lacking.{rename-apart, rename-one}
 use Rattle.mount_calls.proofs.Stating.{the_layers, the_upper}
@@ -33,7 +33,7 @@ returns-in-Ok-None c = λ client.
     let q = c.args.new.now in
     let one = c.in-Ok-None.ensures.one c.in-Ok-None.field-0-is in
     tells-nothing m client (call.Rename p q) (allows-same m client p q c.in-Ok-None.ensures.fine one)
-    (rename-one (the_upper m) p q (is_one (the_upper m) p q) (low_file (shows 0 (the_layers m) p)) one)
+    (rename-one (the_upper m) p q (is_one (the_upper m) p q) (copied_file m.metacopy (shows 0 (the_layers m) p)) one)
 
 pub found_file-file-requires : goal.found_file-file-requires
 found_file-file-requires c =
@@ -49,10 +49,10 @@ returns c = λ client.
     let p = c.args.old.now in
     let q = c.args.new.now in
     let may = subst (λ o. IfSome o (λ w. MayMove m.layers m.redirects p q w.0.now w.1 w.2.now)) c.in-Ok-Some.field-0-is c.in-Ok-Some.ensures.moves in
-    tells-both m client (call.Rename p q) p q (low_file (shows 0 (the_layers m) p)) c.lack_on_both.result (allows-rename m client p q may.fine may.empty)
+    tells-both m client (call.Rename p q) p q (copied_file m.metacopy (shows 0 (the_layers m) p)) c.lack_on_both.result (allows-rename m client p q may.fine may.empty)
     (c.lack_on_both.ensures ∙ ap (λ d. lack_among (the_upper m) false (p ∷ (q ∷ [])) d) (c.found_file-file.ensures p may.shown))
-    (rename-apart (the_upper m) p q (is_one (the_upper m) p q) (low_file (shows 0 (the_layers m) p)) may.apart)
-    (record { path = refl; way = may.way; opens = tt }) (record { path = refl; way = may.parents; opens = tt }) (shown-bytes m p)
+    (rename-apart (the_upper m) p q (is_one (the_upper m) p q) (copied_file m.metacopy (shows 0 (the_layers m) p)) may.apart)
+    (record { path = refl; way = may.way; opens = tt }) (record { path = refl; way = may.parents; opens = tt }) (copied-bytes m p)
 
 pub both-requires : goal.both-requires
 both-requires c = (c.args.self.now.layers, c.args.old.now, c.args.new.now, c.requires)

@@ -37,10 +37,10 @@ returns-in-Ok-2-clause-makes c = λ client.
     let allowed = rw (c.in-Ok-2.is, same) at c.in_ok-symlink.ensures.allowed in
     let made = rw (c.in-Ok-2.is, same) at c.in_ok-symlink.ensures.made in
     let steps = rw (c.in-Ok-2.is, same) at c.in_ok-symlink.ensures.steps in
-    let live = symlink-live m.layers new target p made steps in
+    let live = symlink-live m.layers new m.metacopy target p made steps in
     makes-done client (call.Symlink target p) m new
     (λ s st. symlink-done m s st new client target p allowed made.lowers (steps s st.layers client) live (symlink-leaves target p))
-    (λ s st fine. keeps-named m.layers new (call.Symlink target p) live s st.layers st.metacopy client)
+    (λ s st fine. keeps-named m.layers new m.metacopy (call.Symlink target p) live s st.layers st.metacopy client)
     (none-named m.layers new p made.number made.held_there made.others) made.lowers c.symlink.ensures.sound.thin
 
 pub returns-in-Err-2-clause-makes : goal.returns-in-Err-2-clause-makes

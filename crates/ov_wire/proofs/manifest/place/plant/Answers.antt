@@ -2,6 +2,7 @@ use Rattle.std.proofs.Common.{◌∷◌, Ok, refl, sym, subst}
 use Rattle.layer_tree.specs.Tree.{layer_of}
 use Rattle.ov_wire.specs.Drafts.{Plants}
 use Rattle.ov_wire.proofs.Planting.{no-objects, puts-whiteout}
+use Rattle.ov_wire.proofs.Unmarked.{unmarked-linked}
 use Rattle.ov_wire.proofs.manifest.place.plant.Goals as goal
 
 pub returns-in_ok-insert_whiteout-in-Whiteout-clause-keeps : goal.returns-in_ok-insert_whiteout-in-Whiteout-clause-keeps
@@ -15,3 +16,6 @@ returns-in_ok-insert_whiteout-in-Whiteout-clause-plants c = λ path at layer.
       puts-whiteout c.args.layer.now c.insert_whiteout.new.self c.args.parent c.args.name path layer at c.requires.free
           (c.in_ok-insert_whiteout-in-Whiteout.ensures.covers path at) c.in_ok-insert_whiteout-in-Whiteout.ensures.unbinds,
     )
+
+pub returns-in_ok-link-in-Link-clause-unmarked : goal.returns-in_ok-link-in-Link-clause-unmarked
+returns-in_ok-link-in-Link-clause-unmarked c = unmarked-linked c.args.layer.now c.link.new.self c.args.parent c.args.name c.in-Some.key c.in_ok-link-in-Link.ensures.links

@@ -1,7 +1,7 @@
 use Rattle.std.proofs.Common.{◌≡◌, List, drop}
 use Rattle.toml.specs.View.{items_view}
 use Rattle.layer_tree.specs.Tree.{layer_of}
-use Rattle.ov_wire.specs.ManifestLayers.{Entry, entries_of, entries_from}
+use Rattle.ov_wire.specs.ManifestLayers.{Entry, HasNoMark, entries_of, entries_from}
 use Rattle.ov_wire.specs.Drafts.{IsDraft, Lists, first_root}
 use Rattle.ov_wire.proofs.manifest.place.read_layer.Given as goal
 
@@ -11,3 +11,4 @@ invariant-loop-number l =
     × (entries_of (items_view l.entries) ≡ entries_from l.number before (items_view (drop l.number l.entries)))
     × IsDraft (layer_of l.layer) (first_root (items_view l.entries)) l.root_is_set before
     × Lists l.links before
+    × HasNoMark (layer_of l.layer)

@@ -1,0 +1,87 @@
+-- The layers of a manifest are a mount.
+use Rattle.std.proofs.Common.{◌≡◌, ◌⊎◌, inl, inr, ℕ, suc, ◌<◌, ◌≤◌, ◌&&◌, ◌||◌, not, nat_le, nat_lt, cond, ℤ, pos, negsuc, codes, Bool, true, false, List, [], ◌∷◌, All, Option, None, Some, option_map, Result, Ok, Err, is_some, length, get_or, arith, refl, sym, ap, subst, ◌∙◌}
+use Rattle.std.specs.Option.{option_and_then, unwrap_or}
+use Rattle.std.proofs.lemmas.Bool.{false≢true}
+use Rattle.std.proofs.lemmas.Bool.Decides.{nat_tests}
+use Rattle.toml.specs.Data.{Members, as_integer, get_member}
+use Rattle.ov_base.specs.declared.options.Options.{Options}
+use Rattle.plain_model.specs.Layers.{Layer}
+use Rattle.layer_tree.specs.Tree.{HasMark}
+use Rattle.ov_wire.specs.ManifestEntries.{and_then}
+use Rattle.ov_wire.specs.Manifests.{checked, history_of, history_within, metacopy_of, options_of, redirects_of, whole_of}
+use Rattle.ov_wire.specs.ManifestLayers.{layer_items, layers_fault, manifest_of, unless_fault, HasNoMark}
+use Rattle.ov_wire.specs.declared.manifest.fault.ManifestFault.{ManifestFault}
+use Rattle.ov_wire.specs.declared.manifest.fault.ManifestFault.TheVariants as fault
+use Rattle.overlay_core.specs.Mounting.{IsBadMetacopy, IsFault, mount_fault}
+use Rattle.overlay_core.specs.declared.mount_faults.MountFault.{MountFault}
+
+-- marks that are made where redirects are aren't made without them
+redirected-too : (metacopy redirects : Bool) → (metacopy ≡ true → redirects ≡ true) → (metacopy && not redirects) ≡ true → ⊥
+redirected-too false redirects h e = false≢true e
+redirected-too true true h e = false≢true e
+redirected-too true false h e = false≢true (h refl)
+
+-- layers without marks have none where none may stand
+no-bad : (o : Options) (U : Layer) (lowers : List Layer) → (o.metacopy ≡ true → o.redirects ≡ true) → All HasNoMark (U ∷ lowers) → IsBadMetacopy o U lowers → ⊥
+no-bad o U lowers redirected all (inl h) = redirected-too o.metacopy o.redirects redirected h
+no-bad o U lowers redirected all (inr (inl h)) = at lowers h.0 h.1 h.2 h.3 h.4 all
+  where
+    at : (Ls : List Layer) (k : ℕ) (L : Layer) → k < length Ls → get_or Ls k L ≡ L → HasMark L → All HasNoMark (U ∷ Ls) → ⊥
+    at Ls k L within is mark all = all (suc k) L (omega (arith, within)) (subst HasMark (sym is) mark)
+no-bad o U lowers redirected all (inr (inr h)) = all 0 U (omega arith) (h.0, h.1, h.3, ap (λ o. is_some o) h.4)
+
+-- what goes on to a value comes of one
+then-ok : {A B E : Type 0} (x : Result A E) (f : A → Result B E) (b : B) → and_then x f ≡ Ok b → (a : A) × (x ≡ Ok a) × (f a ≡ Ok b)
+then-ok (Ok a) f b h = (a, refl, h)
+then-ok (Err e) f b h = absurd (cc)
+
+-- a length of the history that is taken is one that a mount takes
+taken-length : (b : Bool) (k n : ℕ) → (nat_le 2 k && nat_le k 1000000) ≡ b → cond b (Ok k) (Err fault.History) ≡ Ok n → (2 ≤ n) × (n ≤ 1000000)
+taken-length true k n e is = let same : k ≡ n = cc in (grind (arith, nat_tests), grind (arith, nat_tests))
+taken-length false k n e is = absurd (cc)
+
+within-length : (z : ℤ) (n : ℕ) → history_within z ≡ Ok n → (2 ≤ n) × (n ≤ 1000000)
+within-length (pos k) n h = taken-length (nat_le 2 k && nat_le k 1000000) k n refl h
+within-length (negsuc k) n h = absurd (cc)
+
+-- so are the options of a manifest, whatever its layers
+unless-ok : (f : Option ManifestFault) (o x : Options) → unless_fault f o ≡ Ok x → o ≡ x
+unless-ok None o x h = cc
+unless-ok (Some f) o x h = absurd (cc)
+
+either-ok : (b : Bool) (o x : Options) (f : ManifestFault) → cond b (Ok o) (Err f) ≡ Ok x → o ≡ x
+either-ok true o x f h = cc
+either-ok false o x f h = absurd (cc)
+
+options-length : (m : Members) (o : Options) → options_of m ≡ Ok o → (2 ≤ o.history) × (o.history ≤ 1000000)
+options-length m o h =
+    let a = then-ok (checked m) _ o h in
+    let b = then-ok (redirects_of m) _ o a.2 in
+    let c = then-ok (metacopy_of b.0 m) _ o b.2 in
+    let d = then-ok (history_of m) _ o c.2 in
+    let same : d.0 ≡ o.history = cc in
+    subst (λ n. (2 ≤ n) × (n ≤ 1000000)) same (within-length (unwrap_or (option_and_then as_integer (get_member (codes "history") m)) (pos 100000)) d.0 d.1)
+
+manifest-length : (m : Members) (o : Options) → manifest_of m ≡ Ok o → (2 ≤ o.history) × (o.history ≤ 1000000)
+manifest-length m o h =
+    let a = then-ok (whole_of m) _ o h in
+    let b = then-ok (options_of m) _ a.0 a.1 in
+    let whole : a.0 ≡ o = unless-ok (layers_fault 0 (layer_items m)) a.0 o a.2 in
+    let same : b.0 ≡ a.0 = either-ok _ b.0 a.0 fault.Layers b.2 in
+    subst (λ (x : Options). (2 ≤ x.history) × (x.history ≤ 1000000)) (same ∙ whole) (options-length m b.0 b.1)
+
+told-length : (o : Option Members) (x : Options) → option_map manifest_of o ≡ Some (Ok x) → (2 ≤ x.history) × (x.history ≤ 1000000)
+told-length None x h = absurd (cc)
+told-length (Some m) x h = manifest-length m x (let e : Some (manifest_of m) ≡ Some (Ok x) = h in cc)
+
+-- and so many layers with such options are no fault
+pub sound-number : (n : ℕ) (o : Option Members) (x : Options) (f : MountFault) → 0 < n → n ≤ 16 → option_map manifest_of o ≡ Some (Ok x) → mount_fault n x ≡ Some f → ⊥
+sound-number n o x f some few told h =
+    let length = told-length o x told in
+    let none : mount_fault n x ≡ None = grind (arith, nat_tests, length.0, length.1) in
+    cc
+
+-- so they are a mount, where their number and the options are no fault
+pub no-fault : (n : ℕ) (o : Options) (U : Layer) (lowers : List Layer) (f : MountFault) → (mount_fault n o ≡ Some f → ⊥) → (o.metacopy ≡ true → o.redirects ≡ true) → All HasNoMark (U ∷ lowers) → IsFault n o U lowers f → ⊥
+no-fault n o U lowers f sound redirected all (inl h) = sound h
+no-fault n o U lowers f sound redirected all (inr h) = no-bad o U lowers redirected all h.2
