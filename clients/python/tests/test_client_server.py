@@ -70,6 +70,27 @@ class OneSession(unittest.TestCase):
             self.assertEqual(c.last_place, 2)
 
 
+class WithoutAnUpper(unittest.TestCase):
+    def test_what_would_change_is_refused(self):
+        with Server("upper = false\n" + ONE_OF_EACH) as server, server.client() as c:
+            for call in (
+                    lambda: c.chmod("/f", 0o600), lambda: c.chown("/f", 1, 2),
+                    lambda: c.setxattr("/f", "user.b", b""),
+                    lambda: c.removexattr("/f", "user.a"), lambda: c.mkdir("/n"),
+                    lambda: c.symlink("to", "/n"), lambda: c.link("/f", "/n"),
+                    lambda: c.rename("/f", "/n"), lambda: c.unlink("/f"), lambda: c.rmdir("/e"),
+                    lambda: c.open("/f", os.O_RDWR), lambda: c.open("/n", os.O_CREAT)):
+                with self.assertRaises(OSError) as refused:
+                    call()
+                self.assertEqual(refused.exception.errno, errno.EROFS)
+            with self.assertRaises(FileExistsError):
+                c.mkdir("/d")
+            c.rename("/f", "/f")
+            self.assertEqual(c.listdir("/"), ["d", "e", "f", "s"])
+            with c.open("/f", os.O_CREAT) as file:
+                self.assertEqual(file.read(), b"old")
+
+
 class Operations(unittest.TestCase):
     def setUp(self):
         self.server = Server(ONE_OF_EACH)

@@ -149,6 +149,27 @@ class LowerTest(unittest.TestCase):
         self.assertEqual(entry, Entry("/f", "file", 0o644, 10, size=3))
         self.assertEqual(tree.read(entry), b"a\nb")
 
+    def test_without_an_upper(self) -> None:
+        """All layers are lower ones, and the tree says that there is no upper."""
+        text = '[[layer]]\n[[layer.entry]]\npath = "/%s"\nkind = "dir"\n'
+        for head, shown in (("", ["/", "/low"]), ("upper = true\n", ["/", "/low"]),
+                            ("upper = false\n", ["/", "/high", "/low"])):
+            with self.subTest(head=head):
+                tree = self.tree(head + text % "high" + text % "low")
+                self.assertEqual([entry.path for entry in tree.entries()], shown)
+                self.assertEqual(tree.has_upper, head != "upper = false\n")
+
+    def test_another_form_without_an_upper(self) -> None:
+        """The same where the manifest is read whole."""
+        if sys.version_info < (3, 11):
+            tools.skip(self.id(), "this Python has no tomllib")
+        for head, has_upper in (("", True), ("upper = true\n", True), ("upper = false\n", False)):
+            with self.subTest(head=head):
+                tree = self.tree(head + "layer = [{entry = [{path = '/h', kind = 'dir'}]}, {}]\n")
+                self.assertEqual([entry.path for entry in tree.entries()],
+                                 ["/"] if has_upper else ["/", "/h"])
+                self.assertEqual(tree.has_upper, has_upper)
+
     def test_no_manifest(self) -> None:
         """What is no manifest is refused in one line."""
         for text in ("[[layer]]\n", "", "[[layer]]\n[[layer]]\n[[layer.entry]]\n"
@@ -304,6 +325,19 @@ class MountTest(unittest.TestCase):
             "overlayd-export: 2 objects, 1 whiteouts"])
         with tarfile.open(layer) as tar:
             self.assertEqual(tar.getnames(), [".wh.gone", "more", "new"])
+
+    def test_nothing_to_export(self) -> None:
+        """A mount without an upper is refused, before the server is asked and anything written."""
+        manifest = self.root.parent / "m.toml"
+        tools.import_to(manifest, [str(self.root), "--read-only"])
+        for form in ("--layer", "--upper"):
+            errors, target = io.StringIO(), self.root.parent / "target"
+            with contextlib.redirect_stderr(errors):
+                status = main([str(manifest), "/nonexistent/socket", form, str(target)])
+            self.assertEqual((status, errors.getvalue()), (
+                1, f"overlayd-export: {manifest}: nothing to export: upper = false, so nothing can "
+                "be changed\n"))
+            self.assertFalse(target.exists())
 
     def test_failures(self) -> None:
         """One line, and status 1; wrong usage is status 2."""

@@ -49,7 +49,8 @@ attrs = [["user.a", "1"], ["trusted.b", "2"]]
 """
 TOLD = """\
 m:1: redirect_dir: "on" or "off", and not "yes"
-m:2: colour: no such key; at the top there are layer, redirect_dir, metacopy and history
+m:2: colour: no such key; at the top there are layer, upper, redirect_dir, metacopy and \
+history
 m:9: layer 1 entry 0: /etc/motd: path: /etc is not described before; an earlier entry of kind dir \
 has to be
 m:11: layer 1 entry 0: /etc/motd: mode: from 0 to 0o7777, and not 4096
@@ -85,6 +86,36 @@ METACOPY = [
       (3, '"on" or "off", and not "yes"')], "redirect_dir"),
     ('history = 1\nredirect_dir = "on"\nmetacopy = ""',
      [(1, "from 2 to 1000000, and not 1"), (3, '"on" or "off", and not ""')], "metacopy"),
+]
+# The same of the key `upper`, with how many layers there are; they stand in the line behind it.
+UPPER = [
+    ("upper = true", 2, [], None),
+    ("upper = true", 17, [], None),
+    ("upper = true", 1, [(2, "2 to 17 layers, the upper and then 1 to 16 lower ones from the top, "
+                             "and not 1")], "layers"),
+    ("upper = true", 18, [(2, "2 to 17 layers, the upper and then 1 to 16 lower ones from the top, "
+                              "and not 18")], "layers"),
+    ("upper = false", 2, [], None),
+    ("upper = false", 16, [], None),
+    ("upper = false", 0, [(2, "2 to 16 layers, all lower ones, from the top, and not 0")],
+     "layers"),
+    ("upper = false", 1, [(2, "2 to 16 layers, all lower ones, from the top, and not 1")],
+     "layers"),
+    ("upper = false", 17, [(2, "2 to 16 layers, all lower ones, from the top, and not 17")],
+     "layers"),
+    ('upper = "no"', 2, [(1, "true or false; it is a text")], "key"),
+    ("upper = 0", 17, [(1, "true or false; it is a whole number")], "key"),
+    ('redirect_dir = "yes"\nupper = "no"', 2,
+     [(1, '"on" or "off", and not "yes"'), (2, "true or false; it is a text")], "key"),
+    ('upper = false\nmetacopy = "on"', 2, [], None),
+    ('metacopy = "on"\nredirect_dir = "off"\nupper = false', 2, [], None),
+    ('upper = true\nmetacopy = "on"', 2,
+     [(2, '"off", where redirect_dir isn\'t "on", and not "on"')], "metacopy"),
+    ('upper = false\nmetacopy = "maybe"', 2, [(2, '"on" or "off", and not "maybe"')], "metacopy"),
+    ('upper = false\nmetacopy = "on"\nredirect_dir = "yes"', 2,
+     [(3, '"on" or "off", and not "yes"')], "redirect_dir"),
+    ("upper = false\nmetacopy = true", 2, [(2, 'a text, "on" or "off"; it is true or false')],
+     "key"),
 ]
 # What is no TOML, the line, and the end of what is told.
 NO_TOML = [
@@ -165,19 +196,37 @@ class Checks(unittest.TestCase):
                 self.assertEqual([(fault.line, fault.what) for fault in checked.faults], told)
                 self.assertEqual(checked.first, word and f"manifest: {word}")
 
-    def test_metacopy_in_the_program(self) -> None:
+    def test_upper(self) -> None:
+        """It is true or false, and says how many layers there may be and what metacopy needs."""
+        for head, count, told, word in UPPER:
+            with self.subTest(head, count=count):
+                checked = check(f"{head}\nlayer = [{', '.join(['{}'] * count)}]\n".encode())
+                self.assertEqual([(fault.line, fault.what) for fault in checked.faults], told)
+                self.assertEqual(checked.first, word and f"manifest: {word}")
+
+    def test_layers_without_an_upper(self) -> None:
+        """They count from 0 as well."""
+        checked = check(b"upper = false\nlayer = [{entry = [{path = '/f', kind = 'x'}]}, "
+                        b"{entry = [{path = '/a/b', kind = 'dir'}]}]\n")
+        self.assertEqual([fault.place for fault in checked.faults],
+                         ["layer 0 entry 0: /f: kind", "layer 1 entry 0: /a/b: path"])
+        self.assertEqual(checked.first, "layer 0 entry 0: kind")
+
+    def test_options_in_the_program(self) -> None:
         """It says the same."""
         program = tools.overlayd()
         if program is None:
             tools.skip(self.id(), "no overlayd was built (environment variable OVERLAYD)")
         with tempfile.TemporaryDirectory() as folder:
             path = Path(folder, "m")
-            for head, _, word in METACOPY:
-                path.write_text(f"{head}\nlayer = [{{}}, {{}}]\n", "utf-8")
+            for head, count, word in [(head, 2, word) for head, _, word in METACOPY] + [
+                    (head, count, word) for head, count, _, word in UPPER]:
+                path.write_text(f"{head}\nlayer = [{', '.join(['{}'] * count)}]\n", "utf-8")
                 done = subprocess.run([program, "show", str(path)], capture_output=True,
                                       check=False)
-                self.assertEqual(done.stderr.decode(),
-                                 f"overlayd: manifest: {word}\n" if word else "")
+                with self.subTest(head, count=count):
+                    self.assertEqual(done.stderr.decode(),
+                                     f"overlayd: manifest: {word}\n" if word else "")
 
     def test_what_is_no_toml(self) -> None:
         """The first place at which it is none."""
@@ -194,10 +243,13 @@ class Checks(unittest.TestCase):
         with tempfile.TemporaryDirectory() as folder:
             source, path = Path(folder, "layer.tar"), Path(folder, "m.toml")
             source.write_bytes(tar_of(members))
-            tools.import_to(path, [str(source), "--redirect-dir", "on", "--history", "2"])
-            status, lines, error = run("--check", str(path))
-        self.assertEqual((status, lines), (0, []))
-        self.assertEqual(error, f"overlayd-import: {path}: no fault; layers: 2, entries: 3\n")
+            for words in (["--redirect-dir", "on", "--history", "2"],
+                          ["--read-only", "--metacopy", "on"]):
+                tools.import_to(path, [str(source), *words])
+                status, lines, error = run("--check", str(path))
+                self.assertEqual((status, lines), (0, []))
+                self.assertEqual(error, f"overlayd-import: {path}: no fault; layers: 2, "
+                                 "entries: 3\n")
 
     def test_usage(self) -> None:
         """Either sources or a manifest; and one that isn't there."""

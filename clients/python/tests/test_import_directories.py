@@ -125,6 +125,41 @@ target = "b/x"
         run = tools.run_import(str(self.upper), str(self.lower), "--empty-upper")
         self.assertEqual(len(self.layers(run)), 3)
 
+    def test_read_only(self) -> None:
+        """Each directory is a lower layer, and the manifest says so before its options."""
+        (self.upper / "u").touch()
+        (self.lower / "l").touch()
+        run = tools.run_import(str(self.upper), str(self.lower), "--read-only", "--metacopy", "on")
+        self.assertTrue(run.manifest.startswith('upper = false\nmetacopy = "on"\n\n[[layer]]'))
+        self.assertEqual(self.layers(run), ['[[layer.entry]]\npath = "/u"\nkind = "file"',
+                                            '[[layer.entry]]\npath = "/l"\nkind = "file"'])
+
+    def test_read_only_alone(self) -> None:
+        """One directory alone gets an empty layer below it, so that there are two."""
+        self.lower.chmod(0o700)
+        run = tools.run_import(str(self.lower), "--read-only")
+        first, second = self.layers(run)
+        self.assertIn("mode = 0o700", first)
+        self.assertEqual(second, "")
+
+    def test_read_only_many(self) -> None:
+        """16 directories are 16 layers; of 17 the lowest two are made one."""
+        folders = []
+        for number in range(17):
+            folder = self.folder / str(number)
+            folder.mkdir()
+            (folder / f"f{number}").touch()
+            folders.append(str(folder))
+        run = tools.run_import(*folders[:16], "--read-only")
+        self.assertEqual((len(self.layers(run)), len(run.errors)), (16, 1))
+        run = tools.run_import(*folders, "--read-only")
+        self.assertEqual(run.errors[0], "overlayd-import: 17 lower layers, of which 16 fit: the "
+                                        "lowest 2 are made one")
+        self.assertEqual(self.layers(run)[14:], [
+            '[[layer.entry]]\npath = "/f14"\nkind = "file"',
+            '[[layer.entry]]\npath = "/f15"\nkind = "file"\n\n'
+            '[[layer.entry]]\npath = "/f16"\nkind = "file"'])
+
     def test_user_attributes(self) -> None:
         """They are kept by their names; others are told."""
         path = self.lower / "f"

@@ -366,6 +366,16 @@ text = "zzz"
                       tools.run_import(upper, str(self.folder / "plain")).manifest.split(
                           "[[layer]]\n")[1])
 
+    def test_read_only(self) -> None:
+        """The layers of an image alone; an empty one is below where it has one."""
+        low, high = tar_of([file("low")]), tar_of([file("high")])
+        wanted = ['\n[[layer.entry]]\npath = "/high"\nkind = "file"\n\n',
+                  '\n[[layer.entry]]\npath = "/low"\nkind = "file"\n']
+        run = tools.run_import(self.put("two.tar", saved_image([low, high])), "--read-only")
+        self.assertEqual(run.manifest.split("[[layer]]\n"), ["upper = false\n\n", *wanted])
+        run = tools.run_import(self.put("one.tar", saved_image([high])), "--read-only")
+        self.assertEqual(run.manifest.split("[[layer]]\n"), ["upper = false\n\n", wanted[0], ""])
+
     def test_zstd(self) -> None:
         """A form that Python can't read is refused by its name."""
         if sys.version_info >= (3, 14):

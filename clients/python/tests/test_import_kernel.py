@@ -212,10 +212,10 @@ class KernelCase(unittest.TestCase):
             layers.insert(0, upper)
         return layers
 
-    def compare(self, folder: Path, layers: List[str], kept: str = OPTIONS) -> None:
+    def compare(self, folder: Path, layers: List[str], kept: str = OPTIONS, *words: str) -> None:
         """Imports the layers, and compares what the program shows with what the kernel shows."""
         manifest = folder / "manifest.toml"
-        tools.import_to(manifest, [str(folder / layer) for layer in layers])
+        tools.import_to(manifest, [*(str(folder / layer) for layer in layers), *words])
         root = str(folder / "m")
         self.assertEqual(mount(folder, f"lowerdir={':'.join(layers)},{kept}"), 0)
         try:
@@ -236,6 +236,13 @@ class KernelTest(KernelCase):
         for seed in range(SEEDS):
             with self.subTest(seed=seed), tempfile.TemporaryDirectory() as name:
                 self.compare(Path(name), self.stack(Path(name), seed, 1, 60))
+
+    def test_without_an_upper(self) -> None:
+        """The same layers, all of them lower ones."""
+        for seed in range(10):
+            with self.subTest(seed=seed), tempfile.TemporaryDirectory() as name:
+                layers = self.stack(Path(name), seed, 1 + seed % 3, 40)
+                self.compare(Path(name), layers, OPTIONS, "--read-only")
 
     def test_marks_of_users(self) -> None:
         """An upper whose marks are `user.` attributes."""

@@ -176,17 +176,20 @@ class CommandTest(unittest.TestCase):
     def test_usage(self) -> None:
         """Wrong usage is status 2; help is status 0 and names every option."""
         for words in ([], ["layer.tar", "--history", "1"], ["layer.tar", "--redirect-dir", "x"],
-                      ["layer.tar", "--metacopy", "x"], ["layer.tar", "--unknown"]):
+                      ["layer.tar", "--metacopy", "x"], ["layer.tar", "--unknown"],
+                      ["layer.tar", "--read-only", "--empty-upper"]):
             self.assertEqual(self.run_command(*words).returncode, 2, words)
         for words in ([], ["--redirect-dir", "off"]):
             done = self.run_command("layer.tar", "--metacopy", "on", *words)
             self.assertEqual(done.returncode, 2, words)
             self.assertTrue(done.stderr.endswith(
-                b"overlayd-import: error: --metacopy on needs --redirect-dir on\n"), done.stderr)
+                b"overlayd-import: error: --metacopy on needs --redirect-dir on, or "
+                b"--read-only\n"), done.stderr)
         helped = self.run_command("--help")
         self.assertEqual(helped.returncode, 0)
-        for word in ("--strict", "--quiet", "--empty-upper", "--image", "--platform", "--history",
-                     "--redirect-dir", "--metacopy", "--output", "exit status"):
+        for word in ("--strict", "--quiet", "--empty-upper", "--read-only", "--image",
+                     "--platform", "--history", "--redirect-dir", "--metacopy", "--output",
+                     "exit status"):
             self.assertIn(word, helped.stdout.decode())
 
     def test_failures(self) -> None:

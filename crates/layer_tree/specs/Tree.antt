@@ -1,5 +1,5 @@
 -- What a contract sees of a layer: the objects under their keys, and from these what the layer holds at each path.
-use Rattle.std.specs.Prelude.{◌≡◌, ◌≢◌, ℕ, ◌+◌, ◌-◌, ◌≤◌, Bool, true, false, List, [], ◌∷◌, ◌++◌, Option, Some, None, IsSome, is_some, IsTrue, option_map, length, take, drop, replicate}
+use Rattle.std.specs.Prelude.{◌≡◌, ◌≢◌, ℕ, ◌+◌, ◌-◌, ◌≤◌, Bool, true, false, List, [], ◌∷◌, ◌++◌, Option, Some, None, IsSome, is_some, IsTrue, option_map, length, map, take, drop, replicate}
 use Rattle.std.specs.Option.{option_and_then, option_map_or}
 use Rattle.slab.specs.Slab.{Slab, get, slab_len}
 use Rattle.ov_base.specs.declared.attributes.Attributes.{Attributes}
@@ -127,6 +127,11 @@ layer_of t =
       objects = object_at t;
       inodes = inode_at t;
     }
+
+-- the layers that a mount is given, the upper first, if there is one
+abbrev pub layers_given : Option Tree → List Tree → List Layer
+layers_given None lowers = map layer_of lowers
+layers_given (Some upper) lowers = layer_of upper ∷ map layer_of lowers
 
 abbrev pub IsDirectory : Tree → ℕ → Type 0
 IsDirectory t key = IsSome (option_and_then table_of (get t key))

@@ -5,7 +5,7 @@ use base.Stored.{Coded-set, coded_ℕ}
 use Rattle.std.specs.Prelude.{count_by, slice_index}
 use Rattle.std.proofs.lemmas.List.{map-append, take_more}
 use Rattle.std.proofs.lemmas.List.Sums.{length-filter}
-use Rattle.plain_model.specs.Machine.{opening}
+use Rattle.plain_model.specs.Machine.{State, opening}
 use Rattle.plain_model.specs.Runs.{Attached, Deed, Entry, IsNext, is_attach, is_of}
 use Rattle.plain_model.proofs.Histories.{legal-push}
 use Rattle.merged_lookup.specs.declared.layers.Layers.{Layers}
@@ -14,8 +14,8 @@ use Rattle.mount_calls.specs.declared.clients.Clients.{Clients}
 use Rattle.mount_calls.specs.Attaching.{KeepsAttached, is_attached}
 use Rattle.mount_calls.specs.declared.mount.Mount.{Mount}
 use Rattle.notice_laws.specs.Notified.{Notified}
-use Rattle.overlay_core.specs.Watching.{Stays}
-use Rattle.overlay_core.specs.Views.{CoreGoes, CoreSame, CoreStays, core_clients, core_layers, core_mount, core_watches, has_client, next_client}
+use Rattle.overlay_core.specs.Watching.{AgreesAs}
+use Rattle.overlay_core.specs.Views.{CoreGoes, CoreSame, CoreStays, core_clients, core_layers, core_mount, core_read_only, core_watches, has_client, next_client}
 use Rattle.overlay_core.specs.declared.mounted.Core.{Core}
 use Rattle.watch_table.specs.declared.hook.Callback.{Ghosts as Callback}
 use Rattle.watch_table.specs.declared.hook.Rule.{Ghosts as Rule}
@@ -110,13 +110,13 @@ appends old {new} made entry place is longer last goes = subst (λ (c : Claim). 
 
 -- ---- a job that is dropped
 
-stays_same : (m n : Mount) (k l : Notified) → n ≡ m → l ≡ k → Stays m k n l
-stays_same m n k l p q s a = rw (p, q) a
+stays_same : (m n : Mount) (k l : Notified) (a b : Bool) → n ≡ m → l ≡ k → b ≡ a → (s : State) → AgreesAs a m k s → AgreesAs b n l s
+stays_same m n k l a b p q r s h = rw (p, q, r) h
 
 module _ {F G : Type 0} {asks : Callback F} {rule : Rule G} (old new : Core F G asks rule) (same : CoreSame old new) where
   -- each state that agreed agrees still
   pub same_stays : CoreStays old new
-  same_stays = stays_same (core_mount old) (core_mount new) (core_watches old) (core_watches new) same.mount same.watches
+  same_stays = stays_same (core_mount old) (core_mount new) (core_watches old) (core_watches new) (core_read_only old) (core_read_only new) same.mount same.watches same.read_only
 
   -- the same clients are attached
   pub same_clients : KeepsAttached (core_clients old) (core_clients new)

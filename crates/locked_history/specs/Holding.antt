@@ -9,7 +9,7 @@ use Rattle.merged_lookup.specs.Merged.{upper_of, lowers_of}
 use Rattle.mount_calls.specs.declared.clients.Clients.{Clients}
 use Rattle.mount_calls.specs.Attaching.{is_attached}
 use Rattle.overlay_core.specs.Mounting.{machine_options}
-use Rattle.overlay_core.specs.Views.{CoreAgrees, core_layers, core_options}
+use Rattle.overlay_core.specs.Views.{CoreAgrees, core_layers, core_options, core_read_only}
 use Rattle.overlay_core.specs.declared.mounted.Core.{Core}
 use Rattle.watch_table.specs.declared.hook.Callback.{Ghosts as Callback}
 use Rattle.watch_table.specs.declared.hook.Rule.{Ghosts as Rule}
@@ -23,7 +23,7 @@ pub record Opening : Type 0 where
 module _ {F G : Type 0} {asks : Callback F} {rule : Rule G} where
   -- what was mounted, of a core on which nothing was done yet
   abbrev pub opening_of : Core F G asks rule → Opening
-  opening_of core = record { upper = upper_of (core_layers core); lowers = lowers_of (core_layers core); options = machine_options (core_options core) }
+  opening_of core = record { upper = upper_of (core_layers core); lowers = lowers_of (core_layers core); options = machine_options (core_read_only core) (core_options core) }
 
 -- THE HISTORY: these entries are a legal history of the plain machine, which begins with the merge of
 -- what was mounted and ends in a state that agrees with the core. Where the upper had no whiteout

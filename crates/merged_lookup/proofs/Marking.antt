@@ -11,7 +11,7 @@ use Rattle.merged_lookup.specs.declared.layers.Layers.{Layers}
 use Rattle.merged_lookup.specs.declared.stack.Place.{Place}
 use Rattle.merged_lookup.specs.Kept.{ShowsTopmost}
 use Rattle.merged_lookup.specs.Merged.{trees, node_in, lowers_of}
-use Rattle.merged_lookup.specs.Marking.{file_content, place_if, file_place}
+use Rattle.merged_lookup.specs.Marking.{file_content, place_if, file_place, topmost_file}
 use Rattle.merged_lookup.specs.Descent.{places_from, descend, first, place_shown, leads}
 use Rattle.merged_lookup.proofs.Keeping.{lower-topmost}
 use Rattle.merged_lookup.proofs.Looking.{inode_in, inode-shown}
@@ -22,11 +22,6 @@ root-none [] = refl
 root-none (L ∷ Ls) = refl
 
 -- the file that is shown, if one is: what stands at the topmost place
-abbrev pub topmost_file : List Tree → Option Topmost → Option Place
-topmost_file ts None = None
-topmost_file ts (Some (shown.Directory d)) = None
-topmost_file ts (Some (shown.Inode d)) = place_if d (file_content (option_and_then inode_of (node_in ts d)))
-
 pub topmost-file : (t : Tree) (us : List Tree) (q : Path) (o : Option Topmost) → ShowsTopmost (map layer_of us) q o → topmost_file (t ∷ us) o ≡ file_place (shows 1 (map layer_of us) q)
 topmost-file t us q None h = sym (ap file_place h)
 topmost-file t us q (Some (shown.Directory d)) h = sym (ap file_place h.1)

@@ -8,6 +8,7 @@ mod candidate;
 mod crossing;
 mod cursor;
 mod descent;
+mod faults;
 mod found;
 mod kept;
 mod layers;

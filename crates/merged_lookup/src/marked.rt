@@ -8,7 +8,6 @@ ghost use Rattle.merged_lookup.specs.Marking.{file_place, file_content, content_
 
 use crate::crossing::cross_from;
 use crate::descent::topmost_at;
-use crate::found::Topmost;
 use crate::layers::Layers;
 use crate::numbered::Numbered;
 use crate::stack::Place;
@@ -20,7 +19,10 @@ impl Layers {
     pub fn low_file(&self, path: &Path) -> Option<Place>
         ensures { result ≡ file_place (shows 1 (lowers_of self.now) path.now) }
     {
-        low_file_in(self.stacked.lowers.as_slice(), path)
+        match self.kept_at(path.names()) {
+            Some(kept) => self.numbered().place_of_file(kept.shown?),
+            None => low_file_in(self.stacked.lowers.as_slice(), path),
+        }
     }
 
     /// What the file or symbolic link at a place holds, as it shows: of the upper's marked files what the lower file has that their
@@ -72,11 +74,5 @@ pub fn low_file_in(lowers: &[Layer], path: &Path) -> Option<Place>
         lowers,
     };
     let directories = cross_from(layers, 1, parents);
-    match topmost_at(layers, directories.as_slice(), name)? {
-        Topmost::Directory(_) => None,
-        Topmost::Inode(place) => {
-            layers.file_at(place)?;
-            Some(place)
-        }
-    }
+    layers.place_of_file(topmost_at(layers, directories.as_slice(), name)?)
 }

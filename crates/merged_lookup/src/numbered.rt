@@ -1,11 +1,12 @@
 // Layers by their numbers, without what a mount keeps of them.
-ghost use Rattle.std.specs.Prelude.{◌≡◌, ◌+◌, ◌≤◌, length, slice_get};
+ghost use Rattle.std.specs.Prelude.{◌≡◌, ◌+◌, ◌≤◌, Some, length, slice_get};
 ghost use Rattle.std.specs.Option.{option_copied, option_and_then};
 ghost use Rattle.layer_tree.specs.Tree.{inode_of};
 ghost use Rattle.merged_lookup.specs.Merged.{node_in};
-ghost use Rattle.merged_lookup.specs.Marking.{file_content};
+ghost use Rattle.merged_lookup.specs.Marking.{file_content, topmost_file};
 ghost use Rattle.merged_lookup.specs.Numbered.{row};
 
+use crate::found::Topmost;
 use crate::stack::Place;
 use layer_tree::{Layer, Node};
 use ov_base::Content;
@@ -47,6 +48,19 @@ impl<'a> Numbered<'a> {
         match &inode.content {
             Content::File(_) => Some(&inode.content),
             Content::SymbolicLink(_) => None,
+        }
+    }
+
+    // The place of what is shown, where that is a file.
+    pub(crate) fn place_of_file(self, shown: Topmost) -> Option<Place>
+        ensures { result ≡ topmost_file (row self.entry) (Some shown) }
+    {
+        match shown {
+            Topmost::Directory(_) => None,
+            Topmost::Inode(place) => {
+                self.file_at(place)?;
+                Some(place)
+            }
         }
     }
 }

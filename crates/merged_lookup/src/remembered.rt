@@ -97,7 +97,7 @@ impl Layers {
 
     // What is kept for these names, where they are among the two that were used last: a call has
     // two paths at most.
-    fn kept_at(&self, names: &[Name]) -> Option<&Kept>
+    pub(crate) fn kept_at(&self, names: &[Name]) -> Option<&Kept>
         ensures { IfSome result (λ kept. IsKept (lowers_of self.now) (reverse names.now) kept.now) }
     {
         if !self.has_kept {

@@ -12,6 +12,7 @@ pub mod Stating
 pub mod Slots
 pub mod Rewritten
 pub mod Writings
+pub mod WriteAccess
 pub mod FileSight
 pub mod Leaves
 pub mod Raising

@@ -23,6 +23,7 @@ mod rename_calls;
 mod status;
 mod steps;
 mod user_attributes;
+mod write_access;
 mod write_calls;
 
 pub use attribute_changes::AttributeCall;

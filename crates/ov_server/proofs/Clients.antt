@@ -1,18 +1,17 @@
 -- What commands leave of who is attached and of whose calls are on their way.
-use Rattle.std.proofs.Common.{◌≡◌, ◌≢◌, ◌∙◌, ℕ, ◌+◌, Bool, true, false, ◌&&◌, ◌||◌, not, List, ◌∷◌, Option, Some, None, MatchOption, IsSomeAnd, Result, Ok, Err, refl, sym, ap, subst, cond, nat_eq, is_some, length, ◌⊎◌, inl, inr}
-use Rattle.std.specs.List.{list_any}
+use Rattle.std.proofs.Common.{◌≡◌, ◌≢◌, ◌∙◌, ℕ, ◌+◌, Bool, true, false, ◌&&◌, ◌||◌, not, List, ◌∷◌, Option, Some, None, MatchOption, IsSomeAnd, Result, Ok, Err, refl, sym, ap, ap₂, subst, cond, nat_eq, is_some, length, ◌⊎◌, inl, inr}
+use Rattle.std.specs.Global.{Vec}
 use Rattle.std.proofs.lemmas.Bool.{cases_Bool, cases_eq, eqb-false, eqb-true, ne_eqb}
 use Rattle.std.proofs.lemmas.Map.Views.{any-filter_same}
-use Rattle.merged_lookup.specs.declared.layers.Layers.{Layers}
-use Rattle.merged_lookup.specs.Merged.{trees}
 use Rattle.ov_base.specs.declared.call.Call.{Call}
 use Rattle.ov_base.specs.declared.errno.Errno.{Errno}
 use Rattle.ov_script.specs.Commands.{call_of, command_of}
 use Rattle.ov_script.specs.declared.script.Command.{Command}
 use Rattle.ov_script.specs.declared.script.Command.TheVariants as command
 use Rattle.ov_script.specs.declared.script.CallText.{CallText}
+use Rattle.layer_tree.specs.Tree.{Tree}
 use Rattle.mount_calls.specs.Attaching.{Attaches, Detaches, KeepsAttached}
-use Rattle.overlay_core.specs.Views.{core_clients, core_layers, has_client}
+use Rattle.overlay_core.specs.Views.{CoreKeeps, core_clients, core_layers, core_read_only, has_client}
 use Rattle.overlay_core.specs.declared.job.Job.{Job}
 use Rattle.overlay_core.specs.declared.mounted.Core.{Core}
 use Rattle.watch_table.specs.declared.hook.Callback.{Ghosts as Callback}
@@ -22,7 +21,7 @@ use Rattle.ov_server.specs.declared.answers.Answer.TheVariants as answer
 use Rattle.ov_server.specs.declared.stage.Stage.{Stage}
 use Rattle.ov_server.specs.Deeds.{StartGoes, StepGoes}
 use Rattle.ov_server.specs.Plays.{CannotPlay, IsBadOn, IsRosterOf, KeepsClients, PlaysCommand, PlaysLine, layers_in}
-use Rattle.ov_server.specs.Rosters.{CommandLeaves, LineLeaves, Roster, StartLeaves, command_in, has, is_attached, is_calling, is_skipped, may_call, others, with_call, with_next, without, without_call}
+use Rattle.ov_server.specs.Rosters.{CommandLeaves, LineLeaves, Roster, StartLeaves, command_in, has, is_calling, is_skipped, may_call, others, with_call, with_next, without, without_call}
 use Rattle.ov_server.specs.Stages as stages
 use Rattle.ov_server.specs.Stages.{KeepsCalls, KeepsOtherCalls, open_call}
 
@@ -30,13 +29,9 @@ use Rattle.ov_server.specs.Stages.{KeepsCalls, KeepsOtherCalls, open_call}
 abbrev there : {A : Type 0} → Option A → Bool
 there o = is_some o
 
--- the same layers are as many
-same_count : {F G : Type 0} {asks : Callback F} {rule : Rule G} (old new : Core F G asks rule) → core_layers new ≡ core_layers old → layers_in new ≡ layers_in old
-same_count old new e = ap (λ (l : Layers). length (trees l)) e
-
--- the same lower layers are as many
-lowers_count : {F G : Type 0} {asks : Callback F} {rule : Rule G} (old new : Core F G asks rule) → (core_layers new).lowers ≡ (core_layers old).lowers → layers_in new ≡ layers_in old
-lowers_count old new e = rw e refl
+-- the same lower layers, with an upper or without as before, are numbered as they were
+pub same_layers : {F G : Type 0} {asks : Callback F} {rule : Rule G} (old new : Core F G asks rule) → core_read_only new ≡ core_read_only old → (core_layers new).lowers ≡ (core_layers old).lowers → layers_in new ≡ layers_in old
+same_layers old new same e = ap₂ (λ b n. (not b, n)) same (ap (λ (ls : Vec Tree). length ls.items) e)
 
 -- a number is itself
 eq_self : (n : ℕ) → nat_eq n n ≡ true
@@ -100,8 +95,8 @@ may_same m r n st = rw (st.attached n, st.calling n) refl
 -- ---- attach
 
 -- an attach gives the next number
-pub attach_plays : {F G : Type 0} {asks : Callback F} {rule : Rule G} (old new : Stage F G asks rule) (n : ℕ) → Attaches (core_clients old.core) (core_clients new.core) n → core_layers new.core ≡ core_layers old.core → KeepsCalls old new → PlaysCommand old command.Attach new
-attach_plays old new n a layers kept = record {
+pub attach_plays : {F G : Type 0} {asks : Callback F} {rule : Rule G} (old new : Stage F G asks rule) (n : ℕ) → Attaches (core_clients old.core) (core_clients new.core) n → CoreKeeps old.core new.core → KeepsCalls old new → PlaysCommand old command.Attach new
+attach_plays old new n a keeps kept = record {
   good = λ r st. refl;
   leaves = λ r st. let next : n ≡ r.next = a.next ∙ st.next in (
     with_next r,
@@ -114,21 +109,21 @@ attach_plays old new n a layers kept = record {
       },
     ),
   );
-  layers = same_count old.core new.core layers;
+  layers = same_layers old.core new.core keeps.read_only keeps.lowers;
 }
 
 -- an attach that is refused leaves who is attached
-pub attach_refused : {F G : Type 0} {asks : Callback F} {rule : Rule G} (old new : Stage F G asks rule) → KeepsAttached (core_clients old.core) (core_clients new.core) → core_layers new.core ≡ core_layers old.core → KeepsCalls old new → PlaysCommand old command.Attach new
-attach_refused old new h layers kept = record {
+pub attach_refused : {F G : Type 0} {asks : Callback F} {rule : Rule G} (old new : Stage F G asks rule) → KeepsAttached (core_clients old.core) (core_clients new.core) → CoreKeeps old.core new.core → KeepsCalls old new → PlaysCommand old command.Attach new
+attach_refused old new h keeps kept = record {
   good = λ r st. refl;
   leaves = λ r st. (r, (inl refl, record { attached = λ client. st.attached client ∙ sym (h.attached client); calling = calls_kept old new r st kept; next = h.next ∙ st.next }));
-  layers = same_count old.core new.core layers;
+  layers = same_layers old.core new.core keeps.read_only keeps.lowers;
 }
 
 -- ---- detach
 
 -- a client that is attached is detached, and its call goes
-pub detach_plays : {F G : Type 0} {asks : Callback F} {rule : Rule G} (old new : Stage F G asks rule) (n : ℕ) → has_client old.core n ≡ true → Detaches (core_clients old.core) (core_clients new.core) n → (core_layers new.core).lowers ≡ (core_layers old.core).lowers → KeepsOtherCalls old new n → open_call new n ≡ None → PlaysCommand old (command.Detach n) new
+pub detach_plays : {F G : Type 0} {asks : Callback F} {rule : Rule G} (old new : Stage F G asks rule) (n : ℕ) → has_client old.core n ≡ true → Detaches (core_clients old.core) (core_clients new.core) n → layers_in new.core ≡ layers_in old.core → KeepsOtherCalls old new n → open_call new n ≡ None → PlaysCommand old (command.Detach n) new
 detach_plays old new n is d layers kept gone = record {
   good = λ r st. st.attached n ∙ is;
   leaves = λ r st. (
@@ -142,14 +137,14 @@ detach_plays old new n is d layers kept gone = record {
       },
     ),
   );
-  layers = lowers_count old.core new.core layers;
+  layers = layers;
 }
 
 -- ---- calls
 
--- steps of a job keep who is attached, and how many layers there are
-pub step_keeps : {F G : Type 0} {asks : Callback F} {rule : Rule G} (old new : Core F G asks rule) → KeepsAttached (core_clients old) (core_clients new) → (core_layers new).lowers ≡ (core_layers old).lowers → KeepsClients old new
-step_keeps old new h lowers = record { attached = h.attached; next = h.next; layers = lowers_count old new lowers }
+-- steps of a job keep who is attached, and which layers there are
+pub step_keeps : {F G : Type 0} {asks : Callback F} {rule : Rule G} (old new : Core F G asks rule) → KeepsAttached (core_clients old) (core_clients new) → core_read_only new ≡ core_read_only old → (core_layers new).lowers ≡ (core_layers old).lowers → KeepsClients old new
+step_keeps old new h same lowers = record { attached = h.attached; next = h.next; layers = same_layers old new same lowers }
 
 -- what keeps who is attached plays a call of a client that may call
 pub call_plays : {F G : Type 0} {asks : Callback F} {rule : Rule G} (old new : Stage F G asks rule) (n : ℕ) (text : CallText) → stages.may_call old n ≡ true → KeepsClients old.core new.core → KeepsCalls old new → PlaysCommand old (command.Call n text) new

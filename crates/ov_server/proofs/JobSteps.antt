@@ -46,6 +46,7 @@ module _ {F G : Type 0} {asks : Callback F} {rule : Rule G} where
           finished = finished ∙ ap (finished_after turn) so_far.finished;
           clients = record { attached = λ m. attached.attached m ∙ so_far.clients.attached m; next = attached.next ∙ so_far.clients.next };
           options = kept.options ∙ so_far.options;
+          read_only = kept.read_only ∙ so_far.read_only;
           lowers = kept.lowers ∙ so_far.lowers;
         }
 
@@ -60,16 +61,17 @@ module _ {F G : Type 0} {asks : Callback F} {rule : Rule G} where
     finished = h.finished;
     clients = h.clients;
     options = h.options;
+    read_only = h.read_only;
     lowers = h.lowers;
   }
 
   -- ---- on a stage
 
-  -- steps keep who is attached, and how many layers there are
+  -- steps keep who is attached, and which layers there are
   pub job_keeps : (old new : Core F G asks rule) (j k : Job) (n : ℕ) (turn : Turn) → StepsJob old j n new k turn → KeepsClients old new
-  job_keeps old new j k n turn h = step_keeps old new h.clients h.lowers
+  job_keeps old new j k n turn h = step_keeps old new h.clients h.read_only h.lowers
 
-  -- who is attached, and how many layers there are, is kept twice
+  -- who is attached, and which layers there are, is kept twice
   pub keeps_on : (a b c : Core F G asks rule) → KeepsClients a b → KeepsClients b c → KeepsClients a c
   keeps_on a b c h g = record { attached = λ n. g.attached n ∙ h.attached n; next = g.next ∙ h.next; layers = g.layers ∙ h.layers }
 

@@ -1,5 +1,5 @@
 -- What the reading of a manifest answers.
-use Rattle.std.proofs.Common.{◌≡◌, ◌∙◌, ℕ, suc, true, false, List, [], ◌∷◌, Option, Some, None, Result, Ok, Err, IfSome, refl, sym, ap, subst, map, length, option_map, ◌⊎◌, inl, inr}
+use Rattle.std.proofs.Common.{◌≡◌, ◌∙◌, ℕ, suc, pred, Bool, true, false, not, List, [], ◌∷◌, Option, Some, None, Result, Ok, Err, IfSome, refl, sym, ap, subst, map, length, is_none, is_some, option_map, ◌⊎◌, inl, inr}
 use Rattle.std.specs.Prelude.{IsUtf8}
 use Rattle.std.specs.Option.{option_map_or}
 use Rattle.std.specs.Str.{is_utf8}
@@ -10,13 +10,14 @@ use Rattle.toml.specs.Data.{Items, no_items, item, Members}
 use Rattle.toml.specs.Parse.{parse_document}
 use Rattle.ov_base.specs.declared.options.Options.{Options}
 use Rattle.plain_model.specs.Layers.{Layer}
-use Rattle.layer_tree.specs.Tree.{Tree, layer_of}
-use Rattle.ov_wire.specs.Manifests.{Refuses, items_len, layer_count}
+use Rattle.layer_tree.specs.Tree.{Tree, layer_of, layers_given}
+use Rattle.ov_wire.specs.Manifests.{Refuses, has_upper, items_len, layer_count}
 use Rattle.ov_wire.specs.ManifestLayers.{AreSpelled, IsTold, fault_of, layer_items, manifest_of}
 use Rattle.ov_wire.specs.declared.manifest.fault.ManifestFault.{ManifestFault}
 use Rattle.ov_wire.specs.declared.manifest.fault.ManifestFault.TheVariants as manifest
 use Rattle.ov_server.specs.declared.fault.Fault.TheVariants.{Manifest, Memory}
-use Rattle.ov_server.specs.Faults.{AnswersManifest, IsFaultOf, layers_told, manifest_fault}
+use Rattle.ov_server.specs.Rosters.{Layering}
+use Rattle.ov_server.specs.Faults.{AnswersManifest, IsFaultOf, layering_of, layers_told, manifest_fault}
 
 -- what holds of bytes that are text and of those that are none holds
 either_text : (bytes : List ℕ) (P : Type 0) → (IsUtf8 bytes → P) → ((IsUtf8 bytes → ⊥) → P) → P
@@ -87,5 +88,20 @@ told_count : (parsed : Option Members) (Ls : List Layer) (o : Options) → optio
 told_count None Ls o good p = cc
 told_count (Some m) Ls o good p = spelled_count Ls (layer_items m) p
 
-pub counted : (bytes : List ℕ) (upper : Tree) (lowers : List Tree) (o : Options) → option_map manifest_of (parse_document bytes) ≡ Some (Ok o) → IfSome (parse_document bytes) (λ m. AreSpelled (layer_of upper ∷ map layer_of lowers) (layer_items m)) → length (upper ∷ lowers) ≡ layers_told bytes
-counted bytes upper lowers o good p = ap suc (sym (length-map lowers layer_of)) ∙ told_count (parse_document bytes) (layer_of upper ∷ map layer_of lowers) o good p
+-- and with the upper told, they are those of the manifest
+pub counted : (bytes : List ℕ) (upper : Option Tree) (lowers : List Tree) (o : Options) → option_map manifest_of (parse_document bytes) ≡ Some (Ok o) → option_map has_upper (parse_document bytes) ≡ Some (is_some upper) → IfSome (parse_document bytes) (λ m. AreSpelled (layers_given upper lowers) (layer_items m)) → layers_told bytes ≡ (is_some upper, length lowers)
+counted bytes upper lowers o good there p = by (parse_document bytes) upper there (told_count (parse_document bytes) (layers_given upper lowers) o good p)
+  where
+    by : (parsed : Option Members) (upper : Option Tree) → option_map has_upper parsed ≡ Some (is_some upper) → length (layers_given upper lowers) ≡ option_map_or layer_count parsed 0 → option_map_or layering_of parsed (false, 0) ≡ (is_some upper, length lowers)
+    by None upper there n = cc
+    by (Some m) None there n =
+        let none : has_upper m ≡ false = cc in
+        rw none (ap (λ (k : ℕ). (false, k)) (sym n ∙ length-map lowers layer_of))
+    by (Some m) (Some U) there n =
+        let some : has_upper m ≡ true = cc in
+        rw some (ap (λ (k : ℕ). (true, pred k)) (sym n) ∙ ap (λ (k : ℕ). (true, k)) (length-map lowers layer_of))
+
+-- a mount is read-only where it is given no upper
+pub given_upper : (upper : Option Tree) (read_only : Bool) → read_only ≡ is_none upper → not read_only ≡ is_some upper
+given_upper None read_only e = ap not e
+given_upper (Some U) read_only e = ap not e

@@ -1,14 +1,14 @@
 -- The layers of a manifest are a mount.
-use Rattle.std.proofs.Common.{◌≡◌, ◌⊎◌, inl, inr, ℕ, suc, ◌<◌, ◌≤◌, ◌&&◌, ◌||◌, not, nat_le, nat_lt, cond, ℤ, pos, negsuc, codes, Bool, true, false, List, [], ◌∷◌, All, Option, None, Some, option_map, Result, Ok, Err, is_some, length, get_or, arith, refl, sym, ap, subst, ◌∙◌}
+use Rattle.std.proofs.Common.{◌≡◌, ◌⊎◌, inl, inr, ℕ, suc, ◌<◌, ◌≤◌, ◌&&◌, ◌||◌, not, nat_le, nat_lt, cond, ℤ, pos, negsuc, codes, Bool, true, false, List, [], ◌∷◌, All, Any, map, Option, None, Some, option_map, Result, Ok, Err, is_some, length, get_or, arith, refl, sym, ap, subst, ◌∙◌}
 use Rattle.std.specs.Option.{option_and_then, unwrap_or}
 use Rattle.std.proofs.lemmas.Bool.{false≢true}
 use Rattle.std.proofs.lemmas.Bool.Decides.{nat_tests}
 use Rattle.toml.specs.Data.{Members, as_integer, get_member}
 use Rattle.ov_base.specs.declared.options.Options.{Options}
 use Rattle.plain_model.specs.Layers.{Layer}
-use Rattle.layer_tree.specs.Tree.{HasMark}
+use Rattle.layer_tree.specs.Tree.{HasMark, Tree, layer_of, layers_given}
 use Rattle.ov_wire.specs.ManifestEntries.{and_then}
-use Rattle.ov_wire.specs.Manifests.{checked, history_of, history_within, metacopy_of, options_of, redirects_of, whole_of}
+use Rattle.ov_wire.specs.Manifests.{checked, history_of, history_within, may_metacopy, metacopy_of, options_of, redirects_of, whole_of}
 use Rattle.ov_wire.specs.ManifestLayers.{layer_items, layers_fault, manifest_of, unless_fault, HasNoMark}
 use Rattle.ov_wire.specs.declared.manifest.fault.ManifestFault.{ManifestFault}
 use Rattle.ov_wire.specs.declared.manifest.fault.ManifestFault.TheVariants as fault
@@ -21,14 +21,19 @@ redirected-too false redirects h e = false≢true e
 redirected-too true true h e = false≢true e
 redirected-too true false h e = false≢true (h refl)
 
+-- no layer has a mark where none has
+none-marked : (Ls : List Layer) → All HasNoMark Ls → Any HasMark Ls → ⊥
+none-marked Ls all h = all h.0 h.1 h.2 (subst HasMark (sym h.3) h.4)
+
 -- layers without marks have none where none may stand
-no-bad : (o : Options) (U : Layer) (lowers : List Layer) → (o.metacopy ≡ true → o.redirects ≡ true) → All HasNoMark (U ∷ lowers) → IsBadMetacopy o U lowers → ⊥
-no-bad o U lowers redirected all (inl h) = redirected-too o.metacopy o.redirects redirected h
-no-bad o U lowers redirected all (inr (inl h)) = at lowers h.0 h.1 h.2 h.3 h.4 all
+no-bad : (o : Options) (upper : Option Tree) (lowers : List Tree) → (is_some upper ≡ true → o.metacopy ≡ true → o.redirects ≡ true) → All HasNoMark (layers_given upper lowers) → IsBadMetacopy o (option_map layer_of upper) (map layer_of lowers) → ⊥
+no-bad o None lowers redirected all h = none-marked (map layer_of lowers) all h
+no-bad o (Some U) lowers redirected all (inl h) = redirected-too o.metacopy o.redirects (redirected refl) h
+no-bad o (Some U) lowers redirected all (inr (inl h)) = none-marked (map layer_of lowers) (below (layer_of U) (map layer_of lowers) all) h
   where
-    at : (Ls : List Layer) (k : ℕ) (L : Layer) → k < length Ls → get_or Ls k L ≡ L → HasMark L → All HasNoMark (U ∷ Ls) → ⊥
-    at Ls k L within is mark all = all (suc k) L (omega (arith, within)) (subst HasMark (sym is) mark)
-no-bad o U lowers redirected all (inr (inr h)) = all 0 U (omega arith) (h.0, h.1, h.3, ap (λ o. is_some o) h.4)
+    below : (L : Layer) (Ls : List Layer) → All HasNoMark (L ∷ Ls) → All HasNoMark Ls
+    below L Ls all k d within = all (suc k) d (omega (arith, within))
+no-bad o (Some U) lowers redirected all (inr (inr h)) = all 0 (layer_of U) (omega arith) (h.0, h.1, h.3, ap (λ o. is_some o) h.4)
 
 -- what goes on to a value comes of one
 then-ok : {A B E : Type 0} (x : Result A E) (f : A → Result B E) (b : B) → and_then x f ≡ Ok b → (a : A) × (x ≡ Ok a) × (f a ≡ Ok b)
@@ -57,7 +62,7 @@ options-length : (m : Members) (o : Options) → options_of m ≡ Ok o → (2 �
 options-length m o h =
     let a = then-ok (checked m) _ o h in
     let b = then-ok (redirects_of m) _ o a.2 in
-    let c = then-ok (metacopy_of b.0 m) _ o b.2 in
+    let c = then-ok (metacopy_of (may_metacopy b.0 m) m) _ o b.2 in
     let d = then-ok (history_of m) _ o c.2 in
     let same : d.0 ≡ o.history = cc in
     subst (λ n. (2 ≤ n) × (n ≤ 1000000)) same (within-length (unwrap_or (option_and_then as_integer (get_member (codes "history") m)) (pos 100000)) d.0 d.1)
@@ -75,13 +80,18 @@ told-length None x h = absurd (cc)
 told-length (Some m) x h = manifest-length m x (let e : Some (manifest_of m) ≡ Some (Ok x) = h in cc)
 
 -- and so many layers with such options are no fault
-pub sound-number : (n : ℕ) (o : Option Members) (x : Options) (f : MountFault) → 0 < n → n ≤ 16 → option_map manifest_of o ≡ Some (Ok x) → mount_fault n x ≡ Some f → ⊥
-sound-number n o x f some few told h =
-    let length = told-length o x told in
-    let none : mount_fault n x ≡ None = grind (arith, nat_tests, length.0, length.1) in
-    cc
+pub sound-number : (has : Bool) (n : ℕ) (o : Option Members) (x : Options) (f : MountFault) → 0 < n → (has ≡ false → 2 ≤ n) → n ≤ 16 → option_map manifest_of o ≡ Some (Ok x) → mount_fault has n x ≡ Some f → ⊥
+sound-number has n o x f some two few told h = by has two h
+  where
+    length : (2 ≤ x.history) × (x.history ≤ 1000000)
+    length = told-length o x told
+
+    by : (has : Bool) → (has ≡ false → 2 ≤ n) → mount_fault has n x ≡ Some f → ⊥
+    by true two h = let none : mount_fault true n x ≡ None = grind (arith, nat_tests, length.0, length.1) in cc
+    by false two h = let least : 2 ≤ n = two refl in let none : mount_fault false n x ≡ None = grind (arith, nat_tests, length.0, length.1) in cc
 
 -- so they are a mount, where their number and the options are no fault
-pub no-fault : (n : ℕ) (o : Options) (U : Layer) (lowers : List Layer) (f : MountFault) → (mount_fault n o ≡ Some f → ⊥) → (o.metacopy ≡ true → o.redirects ≡ true) → All HasNoMark (U ∷ lowers) → IsFault n o U lowers f → ⊥
-no-fault n o U lowers f sound redirected all (inl h) = sound h
-no-fault n o U lowers f sound redirected all (inr h) = no-bad o U lowers redirected all h.2
+pub no-fault : (n : ℕ) (o : Options) (upper : Option Tree) (lowers : List Tree) (f : MountFault) → (mount_fault (is_some upper) n o ≡ Some f → ⊥) → (is_some upper ≡ true → o.metacopy ≡ true → o.redirects ≡ true) → All HasNoMark (layers_given upper lowers) → IsFault n o (option_map layer_of upper) (map layer_of lowers) f → ⊥
+no-fault n o None lowers f sound redirected all (inl h) = sound h
+no-fault n o (Some U) lowers f sound redirected all (inl h) = sound h
+no-fault n o upper lowers f sound redirected all (inr h) = no-bad o upper lowers redirected all h.2

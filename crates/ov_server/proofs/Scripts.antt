@@ -18,7 +18,7 @@ use Rattle.ov_server.specs.declared.play.PlayFault.TheVariants.{BadLine, Device}
 use Rattle.ov_server.specs.declared.stage.Stage.{Stage}
 use Rattle.ov_server.specs.Devices.{IsInputFault, IsToldBy, Notes, Reads}
 use Rattle.ov_server.specs.Plays.{EndsBy, GoesOn, IsBadOn, IsLineFault, IsPlayFault, IsPlayed, IsRosterOf, IsStreamFault, PlaysLine, TellsPlay, layers_in}
-use Rattle.ov_server.specs.Rosters.{ArePlayed, LineLeaves, Roster, is_good, nobody}
+use Rattle.ov_server.specs.Rosters.{ArePlayed, Layering, LineLeaves, Roster, is_good, nobody}
 use Rattle.ov_server.specs.Scripts.{IsBadLine, IsGoodScript, script_lines}
 
 -- no byte of a list is a line break
@@ -69,8 +69,12 @@ line_cut begun front after more b unbroken front_unbroken is =
 last_cut : (begun : List ℕ) → NoBreak begun → script_lines (begun ++ []) ≡ begun ∷ []
 last_cut begun unbroken = rw append-nil (slice_split_none _ begun unbroken)
 
+-- whether a line is good, by the layers of the mount
+good_on : {F G : Type 0} {asks : Callback F} {rule : Rule G} (m : Stage F G asks rule) (layers : Layering) (r : Roster) (line : List ℕ) (b : Bool) → layers_in m.core ≡ layers → is_good (layers_in m.core) r line ≡ b → is_good layers r line ≡ b
+good_on m layers r line b same good = subst (λ (l : Layering). is_good l r line ≡ b) same good
+
 -- one more line was played
-more_played : (layers : ℕ) (lines : List (List ℕ)) (line : List ℕ) (r s t : Roster) → ArePlayed layers r lines s → is_good layers s line ≡ true → LineLeaves s line t → ArePlayed layers r (lines ++ line ∷ []) t
+more_played : (layers : Layering) (lines : List (List ℕ)) (line : List ℕ) (r s t : Roster) → ArePlayed layers r lines s → is_good layers s line ≡ true → LineLeaves s line t → ArePlayed layers r (lines ++ line ∷ []) t
 more_played layers [] line r s t p good leaves = rw (← p) (good, (t, (leaves, refl)))
 more_played layers (first ∷ lines) line r s t p good leaves = (p.0, (p.1.0, (p.1.1.0, more_played layers lines line p.1.0 s t p.1.1.1 good leaves)))
 
@@ -86,14 +90,14 @@ line_played text front after begun count m n at plays layers script more p =
           ∙ sym (append_assoc p.ended ((begun ++ front) ∷ []) (script_lines (after ++ more)));
       counted = length-append p.ended ((begun ++ front) ∷ []) ∙ ap (λ n. n + 1) p.counted;
       roster = went.0;
-      played = more_played layers p.ended (begun ++ front) nobody p.roster went.0 p.played (rw p.layered at (plays.good p.roster p.stands)) went.1.0;
+      played = more_played layers p.ended (begun ++ front) nobody p.roster went.0 p.played (good_on m layers p.roster (begun ++ front) true p.layered (plays.good p.roster p.stands)) went.1.0;
       stands = went.1.1;
       layered = plays.layers ∙ p.layered;
       unbroken = All-nil _;
     }
 
 -- the line that ends at a line break is bad
-pub line_bad : {F G : Type 0} {asks : Callback F} {rule : Rule G} (text front after begun : List ℕ) (count : ℕ) (m : Stage F G asks rule) → AtBreak text front after → IsBadOn m (begun ++ front) → (layers : ℕ) (script more : List ℕ) → IsPlayed layers script (text ++ more) begun count m → IsBadLine layers script (count + 1)
+pub line_bad : {F G : Type 0} {asks : Callback F} {rule : Rule G} (text front after begun : List ℕ) (count : ℕ) (m : Stage F G asks rule) → AtBreak text front after → IsBadOn m (begun ++ front) → (layers : Layering) (script more : List ℕ) → IsPlayed layers script (text ++ more) begun count m → IsBadLine layers script (count + 1)
 line_bad text front after begun count m at bad layers script more p = record {
   before = p.ended;
   line = begun ++ front;
@@ -105,7 +109,7 @@ line_bad text front after begun count m at bad layers script more p = record {
   count = ap (λ n. n + 1) (sym p.counted);
   roster = p.roster;
   played = p.played;
-  bad = rw p.layered at (bad p.roster p.stands);
+  bad = good_on m layers p.roster (begun ++ front) false p.layered (bad p.roster p.stands);
 }
 
 -- the play ends by the fault of a line
@@ -142,7 +146,7 @@ rest_begun from begun_from text begun begun_then count_from count m_from m so_fa
     rw is (line_begun text begun count m (no_break text none) layers script more (so_far layers script more p))
 
 -- of a script that is known, what was read is played as far as its lines have ended
-abbrev pub Plays : {F G : Type 0} {asks : Callback F} {rule : Rule G} → ℕ → Option (List ℕ) → Option (List ℕ) → List ℕ → ℕ → Stage F G asks rule → Type 0
+abbrev pub Plays : {F G : Type 0} {asks : Callback F} {rule : Rule G} → Layering → Option (List ℕ) → Option (List ℕ) → List ℕ → ℕ → Stage F G asks rule → Type 0
 Plays layers None left begun count m = Unit {0}
 Plays layers (Some script) None begun count m = ⊥
 Plays layers (Some script) (Some left) begun count m = IsPlayed layers script left begun count m
@@ -161,7 +165,7 @@ plays_none (Some script) begun count m none zero begins = record {
   unbroken = rw none (All-nil _);
 }
 
-module _ (layers : ℕ) where
+module _ (layers : Layering) where
   -- a read that fails leaves all as it was
   plays_kept : {F G : Type 0} {asks : Callback F} {rule : Rule G} (script before after : Option (List ℕ)) (begun : List ℕ) (count : ℕ) (m : Stage F G asks rule) → Keeps before after → Plays layers script before begun count m → Plays layers script after begun count m
   plays_kept None before after begun count m kept p = tt
@@ -196,7 +200,7 @@ module _ (layers : ℕ) where
   plays_whole (Some script) begun count m n plays p =
       let went = plays.leaves p.roster p.stands in
       let lines : script_lines script ≡ p.ended ++ begun ∷ [] = p.lines ∙ ap (λ (ls : List (List ℕ)). p.ended ++ ls) (last_cut begun p.unbroken) in
-      (went.0, rw lines (more_played layers p.ended begun nobody p.roster went.0 p.played (rw p.layered at (plays.good p.roster p.stands)) went.1.0))
+      (went.0, rw lines (more_played layers p.ended begun nobody p.roster went.0 p.played (good_on m layers p.roster begun true p.layered (plays.good p.roster p.stands)) went.1.0))
 
   -- the last line ended the play
   pub plays_until_end : {F G : Type 0} {asks : Callback F} {rule : Rule G} (script : Option (List ℕ)) (begun : List ℕ) (count : ℕ) (m : Stage F G asks rule) (fault : PlayFault) → IsLineFault m begun (count + 1) fault → Plays layers script (Some []) begun count m → IfSome script (λ s. IsPlayFault layers s fault)
@@ -210,7 +214,7 @@ module _ (layers : ℕ) where
     count = h.0 ∙ ap (λ n. n + 1) (sym p.counted);
     roster = p.roster;
     played = p.played;
-    bad = rw p.layered at (h.1 p.roster p.stands);
+    bad = good_on m layers p.roster begun false p.layered (h.1 p.roster p.stands);
   }
 
   -- a device that fails ends the play of any script

@@ -1,7 +1,8 @@
 -- What keeps a stage in order.
-use Rattle.std.proofs.Common.{◌≡◌, ◌≢◌, ◌∙◌, ℕ, true, false, Bool, Option, Some, None, refl, sym, ap, subst, is_some, ◌⊎◌, inl, inr}
+use Rattle.std.proofs.Common.{◌≡◌, ◌≢◌, ◌∙◌, ℕ, true, false, Bool, Option, Some, None, sym, ap, subst, is_some, ◌⊎◌, inl, inr}
 use Rattle.std.proofs.lemmas.Bool.{cases_eq, false≢true}
 use Rattle.std.proofs.lemmas.Option.{cond_some}
+use Rattle.plain_model.specs.Machine.{writable}
 use Rattle.plain_model.specs.Runs.{Deed}
 use Rattle.mount_calls.specs.Attaching.{Attaches, Detaches, KeepsAttached, is_attached}
 use Rattle.mount_calls.specs.declared.mount.Mount.{Mount}
@@ -38,9 +39,9 @@ module _ {F G : Type 0} {asks : Callback F} {rule : Rule G} where
     next = ap (λ (m : Mount). m.clients.next) same.mount;
   }
 
-  -- and there are as many layers
+  -- and the layers are the same
   pub same_keeps : (old new : Core F G asks rule) → CoreSame old new → KeepsClients old new
-  same_keeps old new same = step_keeps old new (same_attached old new same) (ap (λ (m : Mount). m.layers.lowers) same.mount)
+  same_keeps old new same = step_keeps old new (same_attached old new same) same.read_only (ap (λ (m : Mount). m.layers.lowers) same.mount)
 
   -- the history has a place for each detach still
   pub same_places : (old new : Core F G asks rule) → CoreSame old new → HasPlaces old → HasPlaces new
@@ -49,8 +50,8 @@ module _ {F G : Type 0} {asks : Callback F} {rule : Rule G} where
   -- each state that agreed agrees still
   pub same_stays : (old new : Core F G asks rule) → CoreSame old new → CoreStays old new
   same_stays old new same s agrees =
-      let on_mount = subst (λ (m : Mount). Agrees m (core_watches old) s) (sym same.mount) agrees in
-      subst (λ (k : Notified). Agrees (core_mount new) k s) (sym same.watches) on_mount
+      let on_mount = subst (λ (m : Mount). Agrees m (core_watches old) (writable s)) (sym same.mount) agrees.0 in
+      (subst (λ (k : Notified). Agrees (core_mount new) k (writable s)) (sym same.watches) on_mount, agrees.1 ∙ sym same.read_only)
 
   -- and goes on, before and after
   pub same_goes : (old mid new : Core F G asks rule) (client : ℕ) (deed : Deed) → CoreSame old mid → CoreGoes mid client deed new → CoreGoes old client deed new

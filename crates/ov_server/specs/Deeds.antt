@@ -7,9 +7,8 @@ use Rattle.ov_base.specs.declared.reply.Reply.{Reply}
 use Rattle.mount_calls.specs.Attaching.{KeepsAttached}
 use Rattle.plain_model.specs.Runs as runs
 use Rattle.overlay_core.specs.Jobs.{TurnsTo, finished_after}
-use Rattle.overlay_core.specs.Views.{CoreGoes, CoreStays, core_clients, core_finished, core_layers, core_options}
+use Rattle.overlay_core.specs.Views.{CoreGoes, CoreStays, core_clients, core_finished, core_layers, core_options, core_read_only}
 use Rattle.overlay_core.specs.declared.job.Job.{Job}
-use Rattle.overlay_core.specs.declared.job.Standing.TheVariants as standing
 use Rattle.overlay_core.specs.declared.mounted.Core.{Core}
 use Rattle.overlay_core.specs.declared.turn.Turn.{Turn}
 use Rattle.overlay_core.specs.declared.turn.Turn.TheVariants as turns
@@ -59,6 +58,7 @@ pub record StepsJob {F G : Type 0} {asks : Callback F} {rule : Rule G}
   pub finished : core_finished new ≡ finished_after turn (core_finished old)
   pub clients : KeepsAttached (core_clients old) (core_clients new)
   pub options : core_options new ≡ core_options old
+  pub read_only : core_read_only new ≡ core_read_only old
   pub lowers : (core_layers new).lowers ≡ (core_layers old).lowers
 
 -- the same of a client's call that is on its way

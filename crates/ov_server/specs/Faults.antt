@@ -1,9 +1,9 @@
 -- The faults of the program.
-use Rattle.std.specs.Prelude.{◌≡◌, ℕ, Bool, true, List, Some, None, Result, Ok, Err, IsUtf8}
+use Rattle.std.specs.Prelude.{◌≡◌, ℕ, pred, Bool, true, false, cond, List, Some, None, Result, Ok, Err, IsUtf8}
 use Rattle.std.specs.Option.{option_map_or}
 use Rattle.toml.specs.Data.{Members}
 use Rattle.toml.specs.Parse.{parse_document}
-use Rattle.ov_wire.specs.Manifests.{layer_count}
+use Rattle.ov_wire.specs.Manifests.{has_upper, layer_count}
 use Rattle.ov_wire.specs.ManifestLayers.{manifest_of}
 use Rattle.clap.specs.Values.{kind_of}
 use Rattle.clap.specs.declared.error.kind.ErrorKind.{ErrorKind as LineErrorKind}
@@ -11,6 +11,7 @@ use Rattle.clap.specs.declared.error.kind.ErrorKind.TheVariants as kind
 use Rattle.clap.specs.declared.error.Error.{Error}
 use Rattle.ov_wire.specs.declared.manifest.fault.ManifestFault.{ManifestFault}
 use Rattle.ov_wire.specs.declared.manifest.fault.ManifestFault.TheVariants as manifest
+use Rattle.ov_server.specs.Rosters.{Layering}
 use Rattle.ov_server.specs.declared.fault.DeviceFault.{DeviceFault}
 use Rattle.ov_server.specs.declared.fault.DeviceFault.TheVariants as device
 use Rattle.ov_server.specs.declared.fault.Fault.{Fault}
@@ -55,9 +56,13 @@ memory = Memory
 abbrev pub no_memory : DeviceFault
 no_memory = device.Memory
 
--- how many layers the bytes of a manifest have, none where they are no TOML
-abbrev pub layers_told : List ℕ → ℕ
-layers_told bytes = option_map_or layer_count (parse_document bytes) 0
+-- the layers of a manifest
+abbrev pub layering_of : Members → Layering
+layering_of m = (has_upper m, cond (has_upper m) (pred (layer_count m)) (layer_count m))
+
+-- those of the bytes of a manifest, none where they are no TOML
+abbrev pub layers_told : List ℕ → Layering
+layers_told bytes = option_map_or layering_of (parse_document bytes) (false, 0)
 
 -- THE FIRST FAULT of the bytes of a manifest: that they are no text or no TOML, or else that of the document
 pub record IsFaultOf (bytes : List ℕ) (f : ManifestFault) : Type 0 where

@@ -1,9 +1,8 @@
 -- The place that a play of a script has come to.
-use Rattle.std.specs.Prelude.{◌≡◌, ◌≢◌, ℕ, Bool, true, false, List, ◌++◌, length, nat_eq, Result, Ok, Err, ◌⊎◌}
+use Rattle.std.specs.Prelude.{◌≡◌, ◌≢◌, ℕ, Bool, true, false, not, List, ◌++◌, length, nat_eq, Result, Ok, Err, ◌⊎◌}
 use Rattle.std.specs.List.{All}
-use Rattle.merged_lookup.specs.Merged.{trees}
 use Rattle.ov_script.specs.declared.script.Command.{Command}
-use Rattle.overlay_core.specs.Views.{core_layers, has_client, next_client}
+use Rattle.overlay_core.specs.Views.{core_layers, core_read_only, has_client, next_client}
 use Rattle.overlay_core.specs.declared.mounted.Core.{Core}
 use Rattle.watch_table.specs.declared.hook.Callback.{Ghosts as Callback}
 use Rattle.watch_table.specs.declared.hook.Rule.{Ghosts as Rule}
@@ -18,13 +17,13 @@ use Rattle.ov_server.specs.declared.fault.Fault.TheVariants as fault
 use Rattle.ov_server.specs.declared.play.PlayFault.{PlayFault}
 use Rattle.ov_server.specs.declared.play.PlayFault.TheVariants as play
 use Rattle.ov_server.specs.declared.stage.Stage.{Stage}
-use Rattle.ov_server.specs.Rosters.{ArePlayed, CommandLeaves, LineLeaves, Roster, is_attached, is_calling, is_good, is_good_command, nobody}
+use Rattle.ov_server.specs.Rosters.{ArePlayed, CommandLeaves, Layering, LineLeaves, Roster, is_attached, is_calling, is_good, is_good_command, nobody}
 use Rattle.ov_server.specs.Scripts.{IsBadLine, script_lines}
 use Rattle.ov_server.specs.Stages as stages
 
--- how many layers a mount has
-abbrev pub layers_in : {F G : Type 0} {asks : Callback F} {rule : Rule G} → Core F G asks rule → ℕ
-layers_in m = length (trees (core_layers m))
+-- the layers of a mount
+abbrev pub layers_in : {F G : Type 0} {asks : Callback F} {rule : Rule G} → Core F G asks rule → Layering
+layers_in m = (not (core_read_only m), length (core_layers m).lowers.items)
 
 -- at the beginning nobody is attached, and no number was given
 pub record BeginsOn {F G : Type 0} {asks : Callback F} {rule : Rule G} (m : Core F G asks rule) : Type 0 where
@@ -37,7 +36,7 @@ pub record IsRosterOf {F G : Type 0} {asks : Callback F} {rule : Rule G} (m : St
   pub calling : (client : ℕ) → is_calling r client ≡ stages.is_calling m client
   pub next : next_client m.core ≡ r.next
 
--- a call leaves who is attached, and how many layers there are
+-- a call leaves who is attached, and which layers there are
 pub record KeepsClients {F G : Type 0} {asks : Callback F} {rule : Rule G} (old new : Core F G asks rule) : Type 0 where
   pub attached : (client : ℕ) → has_client new client ≡ has_client old client
   pub next : next_client new ≡ next_client old
@@ -76,7 +75,7 @@ IsLineFault m text number (play.BadLine told) = (told ≡ number) × IsBadOn m t
 IsLineFault m text number (play.Device fault) = Unit {0}
 
 -- how the play of a script ends early
-abbrev pub IsPlayFault : ℕ → List ℕ → PlayFault → Type 0
+abbrev pub IsPlayFault : Layering → List ℕ → PlayFault → Type 0
 IsPlayFault layers script (play.BadLine number) = IsBadLine layers script number
 IsPlayFault layers script (play.Device fault) = Unit {0}
 
@@ -121,7 +120,7 @@ IsStreamFault input_failed reads_left output_failed (play.Device Stream) = (inpu
 IsStreamFault input_failed reads_left output_failed _ = Unit {0}
 
 -- The lines of a script that have ended were played, and left this mount. `begun` is what there is of the next one, and `rest` follows.
-pub record IsPlayed {F G : Type 0} {asks : Callback F} {rule : Rule G} (layers : ℕ) (script rest begun : List ℕ) (count : ℕ) (m : Stage F G asks rule) : Type 0 where
+pub record IsPlayed {F G : Type 0} {asks : Callback F} {rule : Rule G} (layers : Layering) (script rest begun : List ℕ) (count : ℕ) (m : Stage F G asks rule) : Type 0 where
   pub ended : List (List ℕ)
   pub lines : script_lines script ≡ ended ++ script_lines (begun ++ rest)
   pub counted : length ended ≡ count
@@ -134,9 +133,9 @@ pub record IsPlayed {F G : Type 0} {asks : Callback F} {rule : Rule G} (layers :
 -- From one place in a script, told by what is begun, the lines before, the mount and what follows, the play goes on to another.
 abbrev pub GoesOn : {F G : Type 0} {asks : Callback F} {rule : Rule G} → List ℕ → List ℕ → ℕ → Stage F G asks rule → List ℕ → List ℕ → ℕ → Stage F G asks rule → Type 0
 GoesOn from begun count m to begun_then count_then m_then =
-    (layers : ℕ) (script more : List ℕ) → IsPlayed layers script (from ++ more) begun count m → IsPlayed layers script (to ++ more) begun_then count_then m_then
+    (layers : Layering) (script more : List ℕ) → IsPlayed layers script (from ++ more) begun count m → IsPlayed layers script (to ++ more) begun_then count_then m_then
 
 -- from a place in a script the play ends by a fault
 abbrev pub EndsBy : {F G : Type 0} {asks : Callback F} {rule : Rule G} → List ℕ → List ℕ → ℕ → Stage F G asks rule → PlayFault → Type 0
 EndsBy from begun count m fault =
-    (layers : ℕ) (script more : List ℕ) → IsPlayed layers script (from ++ more) begun count m → IsPlayFault layers script fault
+    (layers : Layering) (script more : List ℕ) → IsPlayed layers script (from ++ more) begun count m → IsPlayFault layers script fault

@@ -1,5 +1,5 @@
 -- Who is attached and who makes a call in steps, as the lines of a script tell.
-use Rattle.std.specs.Prelude.{◌≡◌, ℕ, ◌+◌, Bool, true, false, not, ◌&&◌, ◌||◌, List, [], ◌∷◌, Option, None, MatchOption, Result, Ok, Err, ◌⊎◌, cond, nat_eq, nat_lt}
+use Rattle.std.specs.Prelude.{◌≡◌, ℕ, ◌+◌, Bool, true, false, not, ◌&&◌, ◌||◌, List, [], ◌∷◌, Option, None, MatchOption, Result, Ok, Err, ◌⊎◌, cond, nat_eq, nat_le}
 use Rattle.std.specs.List.{list_any, filter}
 use Rattle.std.specs.Option.{option_map_or}
 use Rattle.ov_base.specs.declared.call.Call.{Call}
@@ -59,21 +59,29 @@ is_skipped (b ∷ line) = nat_eq b 35
 abbrev pub command_in : List ℕ → Option Command
 command_in line = cond (is_skipped line) None (command_of line)
 
+-- the layers of a mount: whether there is an upper, and how many lower ones there are
+abbrev pub Layering : Type 0
+Layering = Bool × ℕ
+
+-- whether a layer has this number: the upper has 0, and the lower ones count from 1
+abbrev pub is_layer : Layering → ℕ → Bool
+is_layer layers index = cond (nat_eq index 0) layers.0 (nat_le index layers.1)
+
 -- whether a command can be played: the client that it names is attached, and has a call on its way
--- where one is stepped or dropped, and none where one is made; or the layer is one of so many
-abbrev pub is_good_command : ℕ → Roster → Command → Bool
+-- where one is stepped or dropped, and none where one is made; or the layer is one of these
+abbrev pub is_good_command : Layering → Roster → Command → Bool
 is_good_command layers r command.Attach = true
 is_good_command layers r (command.Detach client) = is_attached r client
 is_good_command layers r (command.Call client text) = may_call r client
 is_good_command layers r (command.Start client text) = may_call r client
 is_good_command layers r (command.Step client steps) = is_calling r client
 is_good_command layers r (command.Drop client) = is_calling r client
-is_good_command layers r (command.Layer index) = nat_lt index layers
+is_good_command layers r (command.Layer index) = is_layer layers index
 is_good_command layers r command.Merge = true
 is_good_command layers r command.Work = true
 
 -- whether a line can be played: it does nothing, or is such a command
-abbrev pub is_good : ℕ → Roster → List ℕ → Bool
+abbrev pub is_good : Layering → Roster → List ℕ → Bool
 is_good layers r line = is_skipped line || option_map_or (is_good_command layers r) (command_of line) false
 
 -- what a start leaves: no call where the text is refused, else one, unless memory runs out
@@ -94,7 +102,7 @@ CommandLeaves r _ s = s ≡ r
 abbrev pub LineLeaves : Roster → List ℕ → Roster → Type 0
 LineLeaves r line s = MatchOption (command_in line) (s ≡ r) (λ command. CommandLeaves r command s)
 
--- lines are played on so many layers, one after the other, each of which is good, from one roster to another
-abbrev pub ArePlayed : ℕ → Roster → List (List ℕ) → Roster → Type 0
+-- lines are played on these layers, one after the other, each of which is good, from one roster to another
+abbrev pub ArePlayed : Layering → Roster → List (List ℕ) → Roster → Type 0
 ArePlayed layers r [] s = s ≡ r
 ArePlayed layers r (line ∷ lines) s = (is_good layers r line ≡ true) × ((t : Roster) × (LineLeaves r line t × ArePlayed layers t lines s))

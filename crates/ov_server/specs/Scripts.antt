@@ -1,7 +1,7 @@
 -- The lines of a script, and how a play of them ends.
 use Rattle.std.specs.Prelude.{◌≡◌, ℕ, ◌+◌, Bool, true, false, List, ◌∷◌, ◌++◌, length, nat_eq, Option, IfSome, ◌⊎◌}
 use Rattle.std.specs.List.{slice_split}
-use Rattle.ov_server.specs.Rosters.{ArePlayed, Roster, is_good, nobody}
+use Rattle.ov_server.specs.Rosters.{ArePlayed, Layering, Roster, is_good, nobody}
 use Rattle.ov_server.specs.declared.fault.Fault.{Fault}
 use Rattle.ov_server.specs.declared.fault.Fault.TheVariants.{Stream, Memory, BadCommand, Manifest}
 
@@ -9,12 +9,12 @@ use Rattle.ov_server.specs.declared.fault.Fault.TheVariants.{Stream, Memory, Bad
 abbrev pub script_lines : List ℕ → List (List ℕ)
 script_lines script = slice_split (λ b. nat_eq b 10) script
 
--- every line of a script is good where it stands, on so many layers
-abbrev pub IsGoodScript : ℕ → List ℕ → Type 0
+-- every line of a script is good where it stands, on these layers
+abbrev pub IsGoodScript : Layering → List ℕ → Type 0
 IsGoodScript layers script = (r : Roster) × ArePlayed layers nobody (script_lines script) r
 
 -- the line of this number, counted from 1, is the first that isn't good where it stands
-pub record IsBadLine (layers : ℕ) (script : List ℕ) (number : ℕ) : Type 0 where
+pub record IsBadLine (layers : Layering) (script : List ℕ) (number : ℕ) : Type 0 where
   pub before : List (List ℕ)
   pub line : List ℕ
   pub after : List (List ℕ)
@@ -26,7 +26,7 @@ pub record IsBadLine (layers : ℕ) (script : List ℕ) (number : ℕ) : Type 0 
 
 -- how a run ends early: by its manifest, by the first bad line of its script, where that is known,
 -- by a stream or because memory ran out
-abbrev pub IsRunFault : Option (List ℕ) → ℕ → Fault → Type 0
+abbrev pub IsRunFault : Option (List ℕ) → Layering → Fault → Type 0
 IsRunFault script layers (BadCommand number) = IfSome script (λ s. IsBadLine layers s number)
 IsRunFault script layers (Manifest fault) = Unit {0}
 IsRunFault script layers Stream = Unit {0}

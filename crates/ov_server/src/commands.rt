@@ -131,12 +131,22 @@ fn put_layer<W: Write, F: Callback, H: Rule>(
     ensures err { IfErr result (plays.IsCommandRefusal stage.now (asked.Layer index)) }
     ensures stream { TellsLine output.old.failed output.new.failed result }
 {
-    let layers = stage.core.layers();
-    let Some(_) = layers.layer(index as usize) else {
+    if !has_layer(&stage.core, index) {
         return Err(LineFault::BadCommand);
-    };
-    write_layer(alloc, layers, index as usize, output)?;
+    }
+    write_layer(alloc, stage.core.layers(), index as usize, output)?;
     Ok(())
+}
+
+// Whether a mount has a layer of this number: the upper, where there is one, has 0.
+fn has_layer<F: Callback, H: Rule>(core: &Core<F, H>, index: u32) -> bool
+    ensures { result ≡ rosters.is_layer (plays.layers_in core.now) index }
+{
+    if index == 0 {
+        core.has_upper()
+    } else {
+        core.layers().layer(index as usize).is_some()
+    }
 }
 
 fn put_merge<W: Write, F: Callback, H: Rule>(

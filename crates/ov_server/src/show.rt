@@ -1,6 +1,5 @@
 // `show`: the merged tree of a manifest.
 ghost use Rattle.std.specs.Prelude.{◌≡◌, length, IfErr, IfOk, OnOk};
-ghost use Rattle.merged_lookup.specs.Merged.{trees};
 ghost use Rattle.ov_server.specs.Faults.{AnswersManifest, IsManifestFault, IsShowFault, layers_told};
 
 use crate::devices::Output;
@@ -8,6 +7,7 @@ use crate::fault::Fault;
 use crate::print_tree::write_merge;
 use merged_lookup::Layers;
 use ov_wire::manifest_of;
+use overlay_core::upper_over;
 use std::alloc::Global;
 use std::hash::RandomState;
 use std::io::Write;
@@ -30,12 +30,13 @@ pub fn show_run<W: Write>(
     Ok(())
 }
 
-/// The layers that the bytes of a manifest spell.
+/// The layers that the bytes of a manifest spell; where they have no upper, with one that holds nothing.
 pub fn layers_in(alloc: Global, keys: RandomState, manifest: &[u8]) -> Result<Layers, Fault>
     ensures manifest { AnswersManifest manifest.now result }
-    ensures count { IfOk result (λ layers. length (trees layers) ≡ layers_told manifest.now) }
+    ensures count { IfOk result (λ layers. length layers.lowers.items ≡ (layers_told manifest.now).1) }
     ensures err { IfErr result IsManifestFault }
 {
     let (upper, lowers, _) = manifest_of(alloc, keys, manifest)?;
+    let upper = upper_over(alloc, keys, upper, lowers.as_slice())?;
     Ok(Layers::new(alloc, keys, upper, lowers, 1)?)
 }

@@ -8,7 +8,7 @@ use Rattle.plain_model.specs.Layers.{Layer, IsLayer, AreLayers}
 use Rattle.std.specs.Option.{option_and_then, option_map_or, unwrap_or}
 use Rattle.std.specs.Str.{bytes_eq}
 use Rattle.ov_wire.specs.ManifestEntries.{and_then, members_all, text_at}
-use Rattle.ov_wire.specs.Manifests.{checked, entries_in, history_of, history_within, is_top_key, metacopy_named, metacopy_of, options_of, redirects_named, redirects_of, whole_of, Refuses}
+use Rattle.ov_wire.specs.Manifests.{checked, entries_in, history_of, history_within, is_top_key, may_metacopy, metacopy_named, metacopy_of, options_of, redirects_named, redirects_of, whole_of, Refuses}
 use Rattle.ov_base.specs.declared.attributes.Attributes.{Attributes}
 use Rattle.ov_base.specs.declared.options.Options.{Options}
 use Rattle.layer_tree.specs.Tree.{Tree, layer_of}
@@ -101,10 +101,6 @@ first-told i items later whole.Metacopy h = absurd h
 first-told i items later whole.History h = absurd h
 first-told i items later whole.Layers h = absurd h
 
--- after a layer without a fault the first one is that of the others
-pub later-told : (i : ℕ) (L : Layer) (items : Items) (later : Option ManifestFault) (e : ManifestFault) → IsSpelled L items → IsTold later e → IsTold (fault_or i (entries_of items) later) e
-later-told i L items later e s h = subst (λ w. IsTold w e) (sym (ap (λ r. fault_or i r later) s.1)) h
-
 -- layers that are as they are spelled have no fault
 pub spelled-faultless : (i : ℕ) (Ls : List Layer) (items : Items) → AreSpelled Ls items → layers_fault i items ≡ None
 spelled-faultless i [] no_items h = refl
@@ -177,10 +173,10 @@ word-toml word =
     either-toml (bytes_eq word (codes "on")) (Ok true) _ (value-toml true (Ok true) refl)
     (either-toml (bytes_eq word (codes "off")) (Ok false) (Err whole.RedirectDir) (value-toml false (Ok false) refl) (redirect-toml (Err whole.RedirectDir) refl))
 
-copies-toml : (redirects : Bool) (word : List ℕ) → metacopy_named redirects word ≡ Err whole.NotToml → ⊥
-copies-toml redirects word =
+copies-toml : (may : Bool) (word : List ℕ) → metacopy_named may word ≡ Err whole.NotToml → ⊥
+copies-toml may word =
     either-toml (bytes_eq word (codes "on")) _ _
-    (either-toml redirects (Ok true) (Err whole.Metacopy) (value-toml true (Ok true) refl) (metacopy-toml (Err whole.Metacopy) refl))
+    (either-toml may (Ok true) (Err whole.Metacopy) (value-toml true (Ok true) refl) (metacopy-toml (Err whole.Metacopy) refl))
     (either-toml (bytes_eq word (codes "off")) (Ok false) (Err whole.Metacopy) (value-toml false (Ok false) refl) (metacopy-toml (Err whole.Metacopy) refl))
 
 -- THE OPTIONS OF A TEXT THAT IS TOML ARE NEVER REFUSED FOR NOT BEING SO
@@ -189,6 +185,6 @@ options-toml m =
     then-toml (checked m) _ (either-toml (members_all is_top_key m) (Ok tt) (Err whole.Key) (value-toml tt (Ok tt) refl) (key-toml (Err whole.Key) refl))
     (λ unit. then-toml (redirects_of m) _
     (said-toml (text_at (codes "redirect_dir") m) redirects_named (Ok false) word-toml (value-toml false (Ok false) refl))
-    (λ redirects. then-toml (metacopy_of redirects m) _
-    (said-toml (text_at (codes "metacopy") m) (metacopy_named redirects) (Ok false) (copies-toml redirects) (value-toml false (Ok false) refl))
+    (λ redirects. then-toml (metacopy_of (may_metacopy redirects m) m) _
+    (said-toml (text_at (codes "metacopy") m) (metacopy_named (may_metacopy redirects m)) (Ok false) (copies-toml (may_metacopy redirects m)) (value-toml false (Ok false) refl))
     (λ metacopy. then-toml (history_of m) _ (length-toml (unwrap_or (option_and_then as_integer (get_member (codes "history") m)) (pos 100000))) (λ history. let options : Options = record { redirects = redirects; metacopy = metacopy; history = history } in value-toml options (Ok options) refl))))

@@ -1,8 +1,8 @@
 -- What a manifest says as a whole: its options and how many layers it has, or the first of its faults that are of no entry.
-use Rattle.std.specs.Prelude.{◌≡◌, codes, ℕ, ℤ, pos, negsuc, List, Bool, true, false, ◌&&◌, nat_le, suc, is_some, Result, Ok, Err, if◌then◌else◌}
+use Rattle.std.specs.Prelude.{◌≡◌, codes, ℕ, ℤ, pos, negsuc, List, Bool, true, false, not, ◌&&◌, ◌||◌, nat_le, suc, is_some, Result, Ok, Err, if◌then◌else◌}
 use Rattle.std.specs.Option.{option_and_then, option_map_or, unwrap_or}
 use Rattle.std.specs.Str.{bytes_eq}
-use Rattle.toml.specs.Data.{Data, Items, no_items, item, Members, get_member, as_str, as_integer, as_table}
+use Rattle.toml.specs.Data.{Data, Items, no_items, item, Members, get_member, as_bool, as_str, as_integer, as_table}
 use Rattle.ov_base.specs.declared.options.Options.{Options}
 use Rattle.ov_wire.specs.ManifestEntries.{and_then, members_all, is_array_of, items_at, text_at}
 use Rattle.ov_wire.specs.declared.manifest.fault.ManifestFault.{ManifestFault}
@@ -30,8 +30,13 @@ is_top_key key value =
     if bytes_eq key (codes "redirect_dir") then is_some (as_str value)
     else (if bytes_eq key (codes "metacopy") then is_some (as_str value)
     else (if bytes_eq key (codes "history") then is_some (as_integer value)
+    else (if bytes_eq key (codes "upper") then is_some (as_bool value)
     else (if bytes_eq key (codes "layer") then is_array_of is_layer value
-    else false)))
+    else false))))
+
+-- whether there is an upper layer; without the key there is
+abbrev pub has_upper : Members → Bool
+has_upper manifest = unwrap_or (option_and_then as_bool (get_member (codes "upper") manifest)) true
 
 -- whether redirects are made, by the word for it
 abbrev pub redirects_named : List ℕ → Result Bool ManifestFault
@@ -44,16 +49,20 @@ redirects_named word =
 abbrev pub redirects_of : Members → Result Bool ManifestFault
 redirects_of manifest = option_map_or redirects_named (text_at (codes "redirect_dir") manifest) (Ok false)
 
--- whether files are copied up without their bytes, by the word for it, which is none where no redirects are made
+-- whether files may be copied up without their bytes: where redirects are made, or nothing is copied up
+abbrev pub may_metacopy : Bool → Members → Bool
+may_metacopy redirects manifest = redirects || not (has_upper manifest)
+
+-- whether files are copied up without their bytes, by the word for it, which is none where they may not be
 abbrev pub metacopy_named : Bool → List ℕ → Result Bool ManifestFault
-metacopy_named redirects word =
-    if bytes_eq word (codes "on") then (if redirects then Ok true else Err fault.Metacopy)
+metacopy_named may word =
+    if bytes_eq word (codes "on") then (if may then Ok true else Err fault.Metacopy)
     else (if bytes_eq word (codes "off") then Ok false
     else Err fault.Metacopy)
 
 -- whether files are copied up without their bytes; without the key they are not
 abbrev pub metacopy_of : Bool → Members → Result Bool ManifestFault
-metacopy_of redirects manifest = option_map_or (metacopy_named redirects) (text_at (codes "metacopy") manifest) (Ok false)
+metacopy_of may manifest = option_map_or (metacopy_named may) (text_at (codes "metacopy") manifest) (Ok false)
 
 -- a length of 2 to 1,000,000
 abbrev pub history_within : ℤ → Result ℕ ManifestFault
@@ -68,6 +77,14 @@ history_of manifest = history_within (unwrap_or (option_and_then as_integer (get
 abbrev pub layer_count : Members → ℕ
 layer_count manifest = items_len (items_at (codes "layer") manifest)
 
+-- the most layers that there may be: 16 lower ones, and the upper where there is one
+abbrev pub layers_most : Bool → ℕ
+layers_most has_upper = if has_upper then 17 else 16
+
+-- whether there may be so many layers
+abbrev pub is_layer_count : Bool → ℕ → Bool
+is_layer_count has_upper count = nat_le 2 count && nat_le count (layers_most has_upper)
+
 -- the entries of a layer, none without the key
 abbrev pub entries_in : Data → Items
 entries_in layer = option_map_or (items_at (codes "entry")) (as_table layer) no_items
@@ -81,12 +98,13 @@ abbrev pub options_of : Members → Result Options ManifestFault
 options_of manifest =
     and_then (checked manifest) (λ _.
     and_then (redirects_of manifest) (λ redirects.
-    and_then (metacopy_of redirects manifest) (λ metacopy.
+    and_then (metacopy_of (may_metacopy redirects manifest) manifest) (λ metacopy.
     and_then (history_of manifest) (λ history. Ok (record { redirects = redirects; metacopy = metacopy; history = history })))))
 
--- the options of a manifest of 2 to 17 layers, or THE FIRST FAULT OF THE WHOLE: `key`, `redirect_dir`, `metacopy`, `history`, `layers`
+-- the options of a manifest of 2 to 17 layers, without an upper 2 to 16, or THE FIRST FAULT OF THE WHOLE: `key`, `redirect_dir`, `metacopy`,
+-- `history`, `layers`
 abbrev pub whole_of : Members → Result Options ManifestFault
-whole_of manifest = and_then (options_of manifest) (λ options. if nat_le 2 (layer_count manifest) && nat_le (layer_count manifest) 17 then Ok options else Err fault.Layers)
+whole_of manifest = and_then (options_of manifest) (λ options. if is_layer_count (has_upper manifest) (layer_count manifest) then Ok options else Err fault.Layers)
 
 -- a fault of an entry, or an allocation failure
 abbrev pub IsOfEntry : ManifestFault → Type 0

@@ -1,13 +1,13 @@
 // Manifests: the layers and options of a mount, as TOML.
-ghost use Rattle.std.specs.Prelude.{◌≡◌, true, ◌≢◌, ◌<◌, ◌≤◌, Ok, Err, IsOk, IsSome, ◌∷◌, map, length, IfOk, IfErr, IfSome, Some, None, option_map, string_bytes, IsUtf8, All};
+ghost use Rattle.std.specs.Prelude.{◌≡◌, true, false, ◌≢◌, ◌+◌, ◌<◌, ◌≤◌, Ok, Err, IsOk, IsSome, map, length, is_some, IfOk, IfErr, IfSome, Some, None, option_map, string_bytes, IsUtf8, All, if◌then◌else◌};
 ghost use Rattle.std.specs.List.{list_all};
 ghost use Rattle.std.specs.Vec.{vec_len};
-ghost use Rattle.toml.specs.Data.{Members, item};
+ghost use Rattle.toml.specs.Data.{Members};
 ghost use Rattle.toml.specs.Parse.{parse_document};
 ghost use Rattle.toml.specs.View.{view, table_view, items_view};
 ghost use Rattle.plain_model.specs.Layers.{AreLayers};
 ghost use Rattle.plain_model.specs.Limits.{IsWithinLimits, HasShortPaths};
-ghost use Rattle.layer_tree.specs.Tree.{layer_of};
+ghost use Rattle.layer_tree.specs.Tree.{layer_of, layers_given};
 ghost use Rattle.ov_wire.specs.Manifests.{IsOfEntry, Refuses};
 ghost use Rattle.ov_wire.specs.ManifestEntries.{is_array_of};
 ghost use Rattle.ov_wire.specs.ManifestLayers as layers;
@@ -33,6 +33,9 @@ use toml::{Table, Value};
 /// The most lower layers of a mount.
 const LOWERS_MOST: usize = 16;
 
+/// The fewest layers: two lower ones, or an upper and a lower one.
+const LAYERS_LEAST: usize = 2;
+
 /// The least and the greatest length of the history, and the length where none is given.
 const HISTORY_LEAST: i64 = 2;
 
@@ -40,13 +43,13 @@ const HISTORY_MOST: i64 = 1_000_000;
 
 const HISTORY_DEFAULT: i64 = 100_000;
 
-/// The layers and options that the bytes of a manifest spell: the upper, then the lowers from the top. The layers hash names with
-/// `keys`.
+/// The layers and options that the bytes of a manifest spell: the upper, where there is one, then the lowers from the top. The layers
+/// hash names with `keys`.
 pub fn manifest_of(
     alloc: Global,
     keys: RandomState,
     bytes: &[u8],
-) -> Result<(Layer, Vec<Layer>, Options), ManifestFault>
+) -> Result<(Option<Layer>, Vec<Layer>, Options), ManifestFault>
     ensures not_utf8 { (IsUtf8 bytes.now → ⊥) → Refuses result ManifestFault.NotToml }
     ensures not_toml { parse_document bytes.now ≡ None → Refuses result ManifestFault.NotToml }
     ensures toml { IsUtf8 bytes.now → IsSome (parse_document bytes.now) → result ≢ Err ManifestFault.NotToml }
@@ -54,13 +57,15 @@ pub fn manifest_of(
     ensures faults { (m : Members) → IsUtf8 bytes.now → parse_document bytes.now ≡ Some m → IfErr (layers.manifest_of m) (Refuses result) }
     ensures told { (m : Members) → IsUtf8 bytes.now → parse_document bytes.now ≡ Some m → IfErr result (IsTold (layers.fault_of (layers.manifest_of m))) }
     ensures options { IfOk result (λ r. option_map layers.manifest_of (parse_document bytes.now) ≡ Some (Ok r.2)) }
-    ensures redirected { IfOk result (λ r. r.2.metacopy ≡ true → r.2.redirects ≡ true) }
-    ensures spelled { IfOk result (λ r. IfSome (parse_document bytes.now) (λ m. AreSpelled (layer_of r.0 ∷ map layer_of r.1.items) (layer_items m))) }
-    ensures layers { IfOk result (λ r. AreLayers (layer_of r.0 ∷ map layer_of r.1.items)) }
-    ensures unmarked { IfOk result (λ r. All HasNoMark (layer_of r.0 ∷ map layer_of r.1.items)) }
-    ensures limits { IfOk result (λ r. All IsWithinLimits (layer_of r.0 ∷ map layer_of r.1.items)) }
-    ensures short_paths { IfOk result (λ r. All HasShortPaths (layer_of r.0 ∷ map layer_of r.1.items)) }
+    ensures upper { IfOk result (λ r. option_map spec.has_upper (parse_document bytes.now) ≡ Some (is_some r.0)) }
+    ensures redirected { IfOk result (λ r. is_some r.0 ≡ true → r.2.metacopy ≡ true → r.2.redirects ≡ true) }
+    ensures spelled { IfOk result (λ r. IfSome (parse_document bytes.now) (λ m. AreSpelled (layers_given r.0 r.1.items) (layer_items m))) }
+    ensures layers { IfOk result (λ r. AreLayers (layers_given r.0 r.1.items)) }
+    ensures unmarked { IfOk result (λ r. All HasNoMark (layers_given r.0 r.1.items)) }
+    ensures limits { IfOk result (λ r. All IsWithinLimits (layers_given r.0 r.1.items)) }
+    ensures short_paths { IfOk result (λ r. All HasShortPaths (layers_given r.0 r.1.items)) }
     ensures some_lower { IfOk result (λ r. 0 < vec_len r.1) }
+    ensures two_lowers { IfOk result (λ r. is_some r.0 ≡ false → 2 ≤ vec_len r.1) }
     ensures few_lowers { IfOk result (λ r. vec_len r.1 ≤ 16) }
 {
     match toml::table_from_slice(alloc, bytes) {
@@ -75,87 +80,110 @@ pub fn manifest_of(
     }
 }
 
-/// The layers and options of a manifest: the upper, then the lowers from the top. The faults of the whole come first, then
-/// those of the layers and of their entries in their order.
+/// The layers and options of a manifest: the upper, where there is one, then the lowers from the top. The faults of the whole come
+/// first, then those of the layers and of their entries in their order.
 pub fn layers_of(
     alloc: Global,
     keys: RandomState,
     manifest: &Table,
-) -> Result<(Layer, Vec<Layer>, Options), ManifestFault>
+) -> Result<(Option<Layer>, Vec<Layer>, Options), ManifestFault>
     ensures told { IfErr result (IsTold (layers.fault_of (layers.manifest_of (table_view manifest.now)))) }
     ensures whole { IfErr (spec.whole_of (table_view manifest.now)) (λ fault. result ≡ Err fault) }
     ensures toml { result ≢ Err ManifestFault.NotToml }
     ensures entries { IsOk (spec.whole_of (table_view manifest.now)) → IfErr result IsOfEntry }
     ensures options { IfOk result (λ r. layers.manifest_of (table_view manifest.now) ≡ Ok r.2) }
-    ensures redirected { IfOk result (λ r. r.2.metacopy ≡ true → r.2.redirects ≡ true) }
-    ensures spelled { IfOk result (λ r. AreSpelled (layer_of r.0 ∷ map layer_of r.1.items) (layer_items (table_view manifest.now))) }
-    ensures layers { IfOk result (λ r. AreLayers (layer_of r.0 ∷ map layer_of r.1.items)) }
-    ensures unmarked { IfOk result (λ r. All HasNoMark (layer_of r.0 ∷ map layer_of r.1.items)) }
-    ensures limits { IfOk result (λ r. All IsWithinLimits (layer_of r.0 ∷ map layer_of r.1.items)) }
-    ensures short_paths { IfOk result (λ r. All HasShortPaths (layer_of r.0 ∷ map layer_of r.1.items)) }
+    ensures upper { IfOk result (λ r. is_some r.0 ≡ spec.has_upper (table_view manifest.now)) }
+    ensures redirected { IfOk result (λ r. is_some r.0 ≡ true → r.2.metacopy ≡ true → r.2.redirects ≡ true) }
+    ensures spelled { IfOk result (λ r. AreSpelled (layers_given r.0 r.1.items) (layer_items (table_view manifest.now))) }
+    ensures layers { IfOk result (λ r. AreLayers (layers_given r.0 r.1.items)) }
+    ensures unmarked { IfOk result (λ r. All HasNoMark (layers_given r.0 r.1.items)) }
+    ensures limits { IfOk result (λ r. All IsWithinLimits (layers_given r.0 r.1.items)) }
+    ensures short_paths { IfOk result (λ r. All HasShortPaths (layers_given r.0 r.1.items)) }
     ensures some_lower { IfOk result (λ r. 0 < vec_len r.1) }
+    ensures two_lowers { IfOk result (λ r. is_some r.0 ≡ false → 2 ≤ vec_len r.1) }
     ensures few_lowers { IfOk result (λ r. vec_len r.1 ≤ 16) }
 {
     let options = options_of(manifest)?;
-    let Some((upper, lowers)) = layers_in(manifest).split_first() else {
-        return Err(ManifestFault::Layers);
-    };
-    if lowers.is_empty() || lowers.len() > LOWERS_MOST {
+    let has_upper = has_upper(manifest);
+    let tables = layers_in(manifest);
+    if !is_layer_count(has_upper, tables.len()) {
         return Err(ManifestFault::Layers);
     }
-    let (upper, lowers) = read_layers(alloc, keys, upper, lowers)?;
+    let layers = read_layers(alloc, keys, tables)?;
+    let (upper, lowers) = parted(has_upper, layers);
     Ok((upper, lowers, options))
 }
 
-// The layers in their order, each from its entries.
+// The layers from the top, which are numbered from 0, each from its entries.
 fn read_layers(
     alloc: Global,
     keys: RandomState,
-    upper: &Value,
-    lowers: &[Value],
-) -> Result<(Layer, Vec<Layer>), ManifestFault>
-    requires { length lowers.now ≤ 16 }
-    ensures count { IfOk result (λ r. vec_len r.1 ≡ length lowers.now) }
+    tables: &[Value],
+) -> Result<Vec<Layer>, ManifestFault>
+    requires { length tables.now ≤ 17 }
+    ensures count { IfOk result (λ layers. vec_len layers ≡ length tables.now) }
     ensures err { IfErr result IsOfEntry }
-    ensures told { IfErr result (IsTold (layers_fault 0 (item (view upper.now) (items_view lowers.now)))) }
-    ensures spelled { IfOk result (λ r. AreSpelled (layer_of r.0 ∷ map layer_of r.1.items) (item (view upper.now) (items_view lowers.now))) }
-    ensures layers { IfOk result (λ r. AreLayers (layer_of r.0 ∷ map layer_of r.1.items)) }
-    ensures unmarked { IfOk result (λ r. All HasNoMark (layer_of r.0 ∷ map layer_of r.1.items)) }
+    ensures told { IfErr result (IsTold (layers_fault 0 (items_view tables.now))) }
+    ensures spelled { IfOk result (λ layers. AreSpelled (map layer_of layers.items) (items_view tables.now)) }
+    ensures layers { IfOk result (λ layers. AreLayers (map layer_of layers.items)) }
+    ensures unmarked { IfOk result (λ layers. All HasNoMark (map layer_of layers.items)) }
 {
-    let upper = read_layer(alloc, keys, 0, entries_in(upper))?;
-    let lowers = read_lowers(alloc, keys, lowers)?;
-    Ok((upper, lowers))
+    let mut layers = Vec::with_capacity(alloc, tables.len())?;
+    for (index, table) in tables.iter().enumerate() {
+        layers.push(read_layer(alloc, keys, index, entries_in(table))?)?;
+    }
+    Ok(layers)
 }
 
-// The lower layers from the top, which are numbered from 1.
-fn read_lowers(
-    alloc: Global,
-    keys: RandomState,
-    layers: &[Value],
-) -> Result<Vec<Layer>, ManifestFault>
-    requires { length layers.now ≤ 16 }
-    ensures count { IfOk result (λ lowers. vec_len lowers ≡ length layers.now) }
-    ensures err { IfErr result IsOfEntry }
-    ensures told { IfErr result (IsTold (layers_fault 1 (items_view layers.now))) }
-    ensures spelled { IfOk result (λ lowers. AreSpelled (map layer_of lowers.items) (items_view layers.now)) }
-    ensures layers { IfOk result (λ lowers. AreLayers (map layer_of lowers.items)) }
-    ensures unmarked { IfOk result (λ lowers. All HasNoMark (map layer_of lowers.items)) }
+// The upper, where there is one, and the lowers.
+fn parted(has_upper: bool, mut layers: Vec<Layer>) -> (Option<Layer>, Vec<Layer>)
+    requires { 0 < vec_len layers }
+    ensures given { layers_given result.0 result.1.items ≡ map layer_of layers.items }
+    ensures upper { is_some result.0 ≡ has_upper }
+    ensures lowers { vec_len layers ≡ (if has_upper then vec_len result.1 + 1 else vec_len result.1) }
 {
-    let mut lowers = Vec::with_capacity(alloc, layers.len())?;
-    for (index, layer) in layers.iter().enumerate() {
-        lowers.push(read_layer(alloc, keys, index + 1, entries_in(layer))?)?;
+    if has_upper {
+        let upper = layers.remove(0);
+        (Some(upper), layers)
+    } else {
+        (None, layers)
     }
-    Ok(lowers)
+}
+
+// Whether there is an upper layer; without the key there is.
+fn has_upper(manifest: &Table) -> bool
+    ensures { result ≡ spec.has_upper (table_view manifest.now) }
+{
+    value_at(manifest, "upper")
+        .and_then(Value::as_bool)
+        .unwrap_or(true)
+}
+
+// Whether there may be so many layers, with an upper or without.
+fn is_layer_count(has_upper: bool, count: usize) -> bool
+    ensures { result ≡ spec.is_layer_count has_upper count }
+{
+    count >= LAYERS_LEAST && count <= layers_most(has_upper)
+}
+
+fn layers_most(has_upper: bool) -> usize
+    ensures { result ≡ spec.layers_most has_upper }
+{
+    if has_upper {
+        LOWERS_MOST + 1
+    } else {
+        LOWERS_MOST
+    }
 }
 
 // The options, where no key of the whole is at fault.
 fn options_of(manifest: &Table) -> Result<Options, ManifestFault>
     ensures said { result ≡ spec.options_of (table_view manifest.now) }
-    ensures redirected { IfOk result (λ options. options.metacopy ≡ true → options.redirects ≡ true) }
+    ensures redirected { IfOk result (λ options. spec.has_upper (table_view manifest.now) ≡ true → options.metacopy ≡ true → options.redirects ≡ true) }
 {
     check_keys(manifest)?;
     let redirects = redirects_of(manifest)?;
-    let metacopy = metacopy_of(manifest, redirects)?;
+    let metacopy = metacopy_of(manifest, redirects || !has_upper(manifest))?;
     let history = history_of(manifest)?;
     Ok(Options {
         redirects,
@@ -190,6 +218,7 @@ fn is_top_key(key: &str, value: &Value) -> bool
         "redirect_dir" => value.is_str(),
         "metacopy" => value.is_str(),
         "history" => value.is_integer(),
+        "upper" => value.is_bool(),
         "layer" => is_array_of_layers(value),
         _ => false,
     }
@@ -269,24 +298,24 @@ fn redirects_named(word: &str) -> Result<bool, ManifestFault>
     }
 }
 
-// Whether files are copied up without their bytes, which is a fault where no redirects are made;
-// without the key they aren't.
-fn metacopy_of(manifest: &Table, redirects: bool) -> Result<bool, ManifestFault>
-    ensures said { result ≡ spec.metacopy_of redirects (table_view manifest.now) }
-    ensures redirected { IfOk result (λ metacopy. metacopy ≡ true → redirects ≡ true) }
+// Whether files are copied up without their bytes, which is a fault where they may not be; without
+// the key they aren't.
+fn metacopy_of(manifest: &Table, may: bool) -> Result<bool, ManifestFault>
+    ensures said { result ≡ spec.metacopy_of may (table_view manifest.now) }
+    ensures may { IfOk result (λ metacopy. metacopy ≡ true → may ≡ true) }
 {
     match text_at(manifest, "metacopy") {
-        Some(word) => metacopy_named(word, redirects),
+        Some(word) => metacopy_named(word, may),
         None => Ok(false),
     }
 }
 
-fn metacopy_named(word: &str, redirects: bool) -> Result<bool, ManifestFault>
-    ensures said { result ≡ spec.metacopy_named redirects word.now }
-    ensures redirected { IfOk result (λ metacopy. metacopy ≡ true → redirects ≡ true) }
+fn metacopy_named(word: &str, may: bool) -> Result<bool, ManifestFault>
+    ensures said { result ≡ spec.metacopy_named may word.now }
+    ensures may { IfOk result (λ metacopy. metacopy ≡ true → may ≡ true) }
 {
     match word {
-        "on" if redirects => Ok(true),
+        "on" if may => Ok(true),
         "off" => Ok(false),
         _ => Err(ManifestFault::Metacopy),
     }
@@ -311,7 +340,7 @@ fn history_within(history: i64) -> Result<u32, ManifestFault>
     }
 }
 
-// The layers, the upper first; none where there is no such key.
+// The layers as tables, the upper first; none where there is no such key.
 fn layers_in(manifest: &Table) -> &[Value]
     ensures count { length result.now ≡ spec.layer_count (table_view manifest.now) }
     ensures items { items_view result.now ≡ layer_items (table_view manifest.now) }

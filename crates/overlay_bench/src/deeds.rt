@@ -1,7 +1,4 @@
 // What a client does again and again, by the words of the command line.
-use crate::colliding::Names;
-use crate::redirects::Shape;
-
 /// What a client does with what stands at depth 4, where nothing else is said, by one or more calls.
 #[derive(Clone, Copy)]
 pub enum Deed {
@@ -9,32 +6,20 @@ pub enum Deed {
     Stat,
     /// `stat` of 256 files in turn.
     StatMany,
-    /// `stat` of so many files in turn, more than 256.
-    StatAmong(u32),
     /// `stat` of one name that isn't there.
     Absent,
     /// `stat` of names that aren't there, each another one.
     AbsentNew,
-    /// `stat` below nested directories with redirects, of the file there or of a name that isn't.
-    Redirected(Shape, bool),
-    /// Opening, listing and closing a directory of 256 names, part of them from each lower layer.
-    List,
-    /// The same of 10,000 names of the lowest layer.
-    ListWide,
     /// A symbolic link made and removed.
     Symlink,
     /// A directory made and removed, where each layer has about 10,000 names.
     Mkdir,
-    /// A directory made in the root, each time another one.
-    MakeNames(Names),
     /// A name of the lowest layer removed in a directory of 10,000, each time another one, so that a whiteout is left.
     Whiteout,
     /// Opening a file of the lowest layer, reading its 4,096 bytes and closing it, 256 files in turn.
     Read,
     /// Making a file by opening it, closing it and removing it.
     Create,
-    /// The same, while 63 other clients have 16 watches each on other files.
-    CreateWatched,
     /// Opening a file of so many bytes for writing, for which it is copied up, and closing it, each time another one.
     Copy(u32),
     /// The same by another name of one lower file each time, and removing it, so that a copy takes the memory of the one before.
@@ -43,12 +28,8 @@ pub enum Deed {
     Link,
     /// Renaming a file of the upper, to and fro.
     Rename,
-    /// Renaming a directory of the lowest layer with 10,000 files, for which it is copied up without them, each time another one.
-    RenameDirectory,
     /// Setting a user attribute that is there, on a file of the upper.
     SetAttribute,
-    /// Seeking to the start of an open file of the upper and writing 4,096 bytes.
-    Write,
     /// Changing the mode of a lower file of so many bytes, each time another one, on a mount that copies them or doesn't.
     Chmod { size: u32, metacopy: bool },
     /// `stat` of a file whose mode was changed, for which its bytes were copied or weren't.
@@ -63,10 +44,7 @@ impl Deed {
         match (asking(word), changing(word)) {
             (Some(deed), _) => Some(deed),
             (None, Some(deed)) => Some(deed),
-            (None, None) => match changed(word) {
-                Some(deed) => Some(deed),
-                None => redirected(word),
-            },
+            (None, None) => changed(word),
         }
     }
 
@@ -82,10 +60,7 @@ impl Deed {
 
     /// Whether its calls are for names that aren't there.
     pub fn is_for_absent_names(self) -> bool {
-        matches!(
-            self,
-            Deed::Absent | Deed::AbsentNew | Deed::Redirected(_, false)
-        )
+        matches!(self, Deed::Absent | Deed::AbsentNew)
     }
 }
 
@@ -94,12 +69,8 @@ fn asking(word: &str) -> Option<Deed> {
     match word {
         "stat" => Some(Deed::Stat),
         "stat_many" => Some(Deed::StatMany),
-        "stat_many_1k" => Some(Deed::StatAmong(1_000)),
-        "stat_many_10k" => Some(Deed::StatAmong(10_000)),
         "absent" => Some(Deed::Absent),
         "absent_new" => Some(Deed::AbsentNew),
-        "list" => Some(Deed::List),
-        "list_10k" => Some(Deed::ListWide),
         "open_read" => Some(Deed::Read),
         _ => None,
     }
@@ -110,20 +81,15 @@ fn changing(word: &str) -> Option<Deed> {
     match word {
         "symlink" => Some(Deed::Symlink),
         "mkdir" => Some(Deed::Mkdir),
-        "collide" => Some(Deed::MakeNames(Names::Colliding)),
-        "others" => Some(Deed::MakeNames(Names::Others)),
         "whiteout" => Some(Deed::Whiteout),
         "create" => Some(Deed::Create),
-        "create_watched" => Some(Deed::CreateWatched),
         "copy_64k" => Some(Deed::Copy(65_536)),
         "copy_1m" => Some(Deed::Copy(1_048_576)),
         "copy_64k_again" => Some(Deed::CopyAgain(65_536)),
         "copy_1m_again" => Some(Deed::CopyAgain(1_048_576)),
         "link" => Some(Deed::Link),
         "rename" => Some(Deed::Rename),
-        "rename_directory" => Some(Deed::RenameDirectory),
         "setattr" => Some(Deed::SetAttribute),
-        "write_4k" => Some(Deed::Write),
         _ => None,
     }
 }
@@ -147,19 +113,6 @@ fn changed(word: &str) -> Option<Deed> {
         "stat_copied" => Some(Deed::StatChanged { metacopy: false }),
         "open_read_marked" => Some(Deed::ReadChanged { metacopy: true }),
         "open_read_copied" => Some(Deed::ReadChanged { metacopy: false }),
-        _ => None,
-    }
-}
-
-// `stat` below directories with redirects.
-fn redirected(word: &str) -> Option<Deed> {
-    match word {
-        "chains" => Some(Deed::Redirected(Shape::Through, true)),
-        "chains_absent" => Some(Deed::Redirected(Shape::Through, false)),
-        "chains_past" => Some(Deed::Redirected(Shape::Past, true)),
-        "chains_past_named" => Some(Deed::Redirected(Shape::PastNamed, true)),
-        "chains_single" => Some(Deed::Redirected(Shape::Single, true)),
-        "chains_longer" => Some(Deed::Redirected(Shape::Longer, true)),
         _ => None,
     }
 }

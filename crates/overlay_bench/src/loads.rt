@@ -3,10 +3,7 @@ use crate::deeds::Deed;
 use crate::manifests::ManifestText;
 use crate::mounts::{Pace, attached, made, mounted_alone, unmount};
 use crate::operations::{before, operations};
-use crate::redirects::redirected;
-use crate::sessions::{Asking, copy, serve};
-use crate::trees::{BLOCK, OBJECTS, bare, copied, copied_again, deep, served, wide};
-use crate::watchers::{tell_on, watch_elsewhere};
+use crate::trees::{BLOCK, OBJECTS, copied, copied_again, deep, served};
 use ov_base::{Call, Errno, Reply};
 use overlay_core::Core;
 use std::alloc::{AllocError, Global};
@@ -14,44 +11,27 @@ use std::hash::RandomState;
 use std::io;
 use std::rt::Clock;
 use std::time::Instant;
-use watch_table::{Callback, Hook, Rule};
+use watch_table::{Callback, Rule};
 
 /// How many operations are made ready at a time.
 const BATCH: u32 = 64;
 
-/// What is measured.
+/// What is measured: what a client does, and how its calls are made.
 #[derive(Clone, Copy)]
-pub enum Load {
-    /// What a client does.
-    Deed(Deed, Pace),
-    /// What so many clients that watch a directory are told.
-    Notices(u32),
-    /// What a client asks in a session.
-    Session(Asking),
-    /// Copies of 64 KiB.
-    PlainCopy,
+pub struct Load {
+    deed: Deed,
+    pace: Pace,
 }
 
 impl Load {
-    /// The load of a word of the command line.
+    /// The load of a word of the command line, behind which `_steps` says that each call is made step by step.
     pub fn named(word: &str) -> Option<Load> {
-        match word {
-            "notify_1" => Some(Load::Notices(1)),
-            "notify_64" => Some(Load::Notices(64)),
-            "session_stat" => Some(Load::Session(Asking::Stat)),
-            "session_stat_bytes" => Some(Load::Session(Asking::StatBytes)),
-            "session_write_64k" => Some(Load::Session(Asking::Write)),
-            "plain_copy_64k" => Some(Load::PlainCopy),
-            _ => deed_named(word),
-        }
-    }
-}
-
-// The load of a deed's word, behind which `_steps` says that each call is made step by step.
-fn deed_named(word: &str) -> Option<Load> {
-    match word.strip_suffix("_steps") {
-        Some(word) => Some(Load::Deed(Deed::named(word)?, Pace::InSteps)),
-        None => Some(Load::Deed(Deed::named(word)?, Pace::AtOnce)),
+        let (word, pace) = match word.strip_suffix("_steps") {
+            Some(word) => (word, Pace::InSteps),
+            None => (word, Pace::AtOnce),
+        };
+        let deed = Deed::named(word)?;
+        Some(Load { deed, pace })
     }
 }
 
@@ -60,47 +40,24 @@ pub fn measure<C: Clock, F: Callback + Copy, R: Rule>(
     clock: &C,
     alloc: Global,
     keys: RandomState,
-    hook: &Hook<F, R>,
     load: Load,
     lowers: u32,
     count: u32,
 ) -> io::Result<(u64, u32)> {
-    let manifest = layers_for(alloc, load, lowers, count)?;
-    let mut core = mounted_alone(alloc, keys, &manifest)?;
-    if let Load::Session(asking) = load {
-        return serve(clock, alloc, core, hook, asking, count);
-    }
-    let measured = measure_on(clock, alloc, &mut core, hook, load, count);
+    let manifest = layers_for(alloc, load.deed, lowers, count)?;
+    let mut core: Core<F, R> = mounted_alone(alloc, keys, &manifest)?;
+    let measured = do_on(clock, alloc, &mut core, load, count);
     unmount(core);
     measured
 }
 
-// The same on a mount, of what isn't a session.
-fn measure_on<C: Clock, F: Callback + Copy, R: Rule>(
-    clock: &C,
-    alloc: Global,
-    core: &mut Core<F, R>,
-    hook: &Hook<F, R>,
-    load: Load,
-    count: u32,
-) -> io::Result<(u64, u32)> {
-    match load {
-        Load::Deed(deed, pace) => do_on(clock, alloc, core, hook, deed, pace, count),
-        Load::Notices(watchers) => tell_on(clock, alloc, core, hook, watchers, count),
-        Load::PlainCopy | Load::Session(_) => copy(clock, alloc, count),
-    }
-}
-
-// The layers. For each copy there is a file, or a name of one file, and for each rename of a directory there is one.
+// The layers. For each copy there is a file, or a name of one file.
 fn layers_for(
     alloc: Global,
-    load: Load,
+    deed: Deed,
     lowers: u32,
     count: u32,
 ) -> Result<ManifestText, AllocError> {
-    let Load::Deed(deed, _) = load else {
-        return served(alloc, lowers);
-    };
     let manifest = layers_of(alloc, deed, lowers, count)?;
     if deed.is_with_metacopy() {
         manifest.with_metacopy(alloc)
@@ -118,12 +75,8 @@ fn layers_of(
     match deed {
         Deed::Chmod { size, .. } => copied(alloc, lowers, count, size),
         Deed::Copy(size) => copied(alloc, lowers, count, size),
-        Deed::StatAmong(files) => copied(alloc, lowers, files, 0),
         Deed::CopyAgain(size) => copied_again(alloc, lowers, count, size),
-        Deed::RenameDirectory => wide(alloc, lowers, count),
         Deed::Mkdir => deep(alloc, lowers.saturating_add(1)),
-        Deed::MakeNames(_) => bare(alloc),
-        Deed::Redirected(shape, _) => redirected(alloc, shape),
         _ => served(alloc, lowers),
     }
 }
@@ -133,15 +86,11 @@ fn do_on<C: Clock, F: Callback + Copy, R: Rule>(
     clock: &C,
     alloc: Global,
     core: &mut Core<F, R>,
-    hook: &Hook<F, R>,
-    deed: Deed,
-    pace: Pace,
+    load: Load,
     count: u32,
 ) -> io::Result<(u64, u32)> {
-    let client = attached(alloc, core, hook, 0)?;
-    if matches!(&deed, Deed::CreateWatched) {
-        watch_elsewhere(alloc, core, hook)?;
-    }
+    let Load { deed, pace } = load;
+    let client = attached(alloc, core)?;
     let _ = do_all(core, client, deed, pace, before(alloc, deed)?)?;
     let count = match deed {
         Deed::Whiteout => count.min(OBJECTS),
@@ -164,8 +113,8 @@ fn do_on<C: Clock, F: Callback + Copy, R: Rule>(
     Ok((nanos, done))
 }
 
-/// How many calls were answered as they should be.
-pub fn do_all<F: Callback + Copy, R: Rule>(
+// How many calls were answered as they should be.
+fn do_all<F: Callback + Copy, R: Rule>(
     core: &mut Core<F, R>,
     client: u64,
     deed: Deed,
@@ -181,18 +130,17 @@ pub fn do_all<F: Callback + Copy, R: Rule>(
     Ok(fine)
 }
 
-// Whether a call neither was refused, but for names that aren't there, nor read or wrote fewer bytes than it was to.
+// Whether a call neither was refused, but for names that aren't there, nor read fewer bytes than it was to.
 fn is_fine(deed: Deed, reply: &Reply) -> bool {
     match reply {
         Reply::Refused(Errno::ENOENT) => deed.is_for_absent_names(),
         Reply::Refused(_) => false,
         Reply::Read(bytes) => bytes.as_slice().len() == BLOCK as usize,
-        Reply::Written(count) => *count == BLOCK,
         _ => true,
     }
 }
 
-/// The nanoseconds since a moment.
-pub fn since<C: Clock>(clock: &C, start: Instant) -> io::Result<u64> {
+// The nanoseconds since a moment.
+fn since<C: Clock>(clock: &C, start: Instant) -> io::Result<u64> {
     Ok(u64::try_from(start.elapsed(clock)?.as_nanos()).unwrap_or(u64::MAX))
 }

@@ -1,23 +1,17 @@
 //! Measures whole calls, in nanoseconds an operation.
 #![tactic(auto)]
 
-mod colliding;
 mod deeds;
 mod echo;
 mod loads;
-mod locks;
 mod manifests;
 mod mounts;
 mod operations;
-mod redirects;
-mod sessions;
 mod trees;
-mod watchers;
 
 use crate::echo::echo_on;
 use crate::loads::{Load, measure};
-use crate::locks::{measure_lock, threads_of};
-use crate::mounts::echoing_hook;
+use crate::mounts::Silent;
 use std::alloc::Global;
 use std::fs::Files;
 use std::hash::RandomState;
@@ -26,40 +20,20 @@ use std::rt::{Clock, Env};
 use std::sync::Wait;
 use std::thread::Threads;
 use std::{env, io};
+use watch_table::AnyAnswer;
 
 const USAGE: &str = "usage: overlay_bench LOAD COUNT [LOWERS]
-calls of a client over LOWERS lower layers, 16 if not given: stat stat_many stat_many_1k stat_many_10k absent absent_new list list_10k symlink mkdir whiteout rename rename_directory setattr
-several calls an operation, over as many: open_read (open, read, close) create (open, close, unlink) copy_64k copy_1m (open, close) copy_64k_again copy_1m_again (open, close, unlink) link (link, unlink) write_4k (seek, write)
+calls of a client over LOWERS lower layers, 16 if not given: stat stat_many absent absent_new symlink mkdir whiteout rename setattr
+several calls an operation, over as many: open_read (open, read, close) create (open, close, unlink) copy_64k copy_1m (open, close) copy_64k_again copy_1m_again (open, close, unlink) link (link, unlink)
 each of these with _steps behind its word: every call is made step by step, not at once
 a mode changed of a lower file, for which no bytes are copied or all are: chmod_empty chmod_1m chmod_1m_copied; what is done with a file whose mode was changed so: stat_marked open_read_marked, stat_copied open_read_copied
-create_watched (create, with 1,008 watches of 63 clients elsewhere) notify_1 notify_64 (COUNT files made and removed in a directory that so many clients watch; a notice read is an operation)
-sessions over memory, 64 KiB a piece or a byte: session_stat session_stat_bytes session_write_64k (seek, write), beside plain_copy_64k
-directories made in one, by names that collide under fixed keys and by others: collide others
-stat below redirects in 17 layers: chains chains_absent chains_past chains_past_named chains_single chains_longer
-COUNT stats of each of so many threads on one mount, and of the core alone: lock_1 lock_2 lock_4 lock_8 lock_0
 usage: overlay_bench echo WORKERS SOCKET, a bare echo that serve is compared with";
 
 /// The most lower layers of a mount, and as many as a call has where the command line says nothing of them.
 const LOWERS: u32 = 16;
 
-// What is measured: so many threads on one mount, or another load.
-#[derive(Clone, Copy)]
-enum Measured {
-    Lock(u32),
-    Other(Load),
-}
-
-impl Measured {
-    fn named(word: &str) -> Option<Measured> {
-        match threads_of(word) {
-            Some(threads) => Some(Measured::Lock(threads)),
-            None => Load::named(word).map(Measured::Other),
-        }
-    }
-}
-
 // What the command line asks for.
-fn asked<R: Env + AllocGlobal>(rt: &R) -> io::Result<Option<(Measured, u32, u32)>> {
+fn asked<R: Env + AllocGlobal>(rt: &R) -> io::Result<Option<(Load, u32, u32)>> {
     let mut words = env::args(rt)?;
     let _program = words.next();
     let Some(load) = words.next() else {
@@ -76,9 +50,7 @@ fn asked<R: Env + AllocGlobal>(rt: &R) -> io::Result<Option<(Measured, u32, u32)
         return Ok(None);
     }
     match count.as_str().parse::<u32>() {
-        Ok(count) if count > 0 => Ok(Measured::named(load.as_str()).map(|load| (
-            load, lowers, count,
-        ))),
+        Ok(count) if count > 0 => Ok(Load::named(load.as_str()).map(|load| (load, lowers, count))),
         _ => Ok(None),
     }
 }
@@ -114,11 +86,9 @@ where
         return println!(rt; "{USAGE}");
     };
     let alloc: Global = rt.alloc();
-    let hook = echoing_hook();
-    let (nanos, operations) = match load {
-        Measured::Lock(threads) => { measure_lock(rt, alloc, keys, &hook, threads, lowers, count)? }
-        Measured::Other(load) => measure(rt, alloc, keys, &hook, load, lowers, count)?,
-    };
+    let (nanos, operations) = measure::<R, Silent, AnyAnswer>(
+        rt, alloc, keys, load, lowers, count,
+    )?;
     let each = nanos / u64::from(operations.max(1));
     println!(rt; "{each} ns an operation, {operations} operations")
 }

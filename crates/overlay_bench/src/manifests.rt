@@ -15,13 +15,7 @@ impl ManifestText {
         }
     }
 
-    /// No layer yet, on a mount that makes redirects.
-    pub fn with_redirects(alloc: Global) -> Result<ManifestText, AllocError> {
-        let text = String::from_str(alloc, "redirect_dir = \"on\"\n")?;
-        Ok(ManifestText { text })
-    }
-
-    /// The same, on a mount that copies files up without their bytes.
+    /// The same text, on a mount that copies files up without their bytes.
     pub fn with_metacopy(&self, alloc: Global) -> Result<ManifestText, AllocError> {
         let mut text = String::from_str(alloc, "redirect_dir = \"on\"\nmetacopy = \"on\"\n")?;
         text.push_str(self.text.as_str())?;
@@ -58,12 +52,6 @@ impl ManifestText {
     /// A directory without marks.
     pub fn directory(&mut self, path: &str) -> Result<(), AllocError> {
         self.entry("dir", path)
-    }
-
-    /// A directory with a redirect.
-    pub fn redirected(&mut self, path: &str, redirect: &str) -> Result<(), AllocError> {
-        self.entry("dir", path)?;
-        self.key("redirect", redirect)
     }
 
     fn entry(&mut self, kind: &str, path: &str) -> Result<(), AllocError> {

@@ -1,25 +1,18 @@
 // The calls of operations.
-use crate::colliding::path_with;
 use crate::deeds::Deed;
 use crate::manifests::nested;
-use crate::mounts::{path_of, path_to};
-use crate::redirects::DEPTH;
-use crate::trees::{BLOCK, DIRECTORIES, FILES, MERGED, OBJECTS, WIDE};
+use crate::mounts::path_to;
+use crate::trees::{BLOCK, DIRECTORIES, FILES, WIDE};
 use ov_base::{Bytes, Call, OpenFlags, Path};
 use std::alloc::{AllocError, Global};
 
 /// The lowest descriptor, which all that is opened has, as nothing else is open.
 const DESCRIPTOR: u32 = 0;
 
-/// The most names that one call lists.
-const PAGE: u32 = 256;
-
-/// The calls that come first and aren't measured: they bring into the upper what is written, and leave it open, or what gets an attribute or
-/// another name.
+/// The calls that come first and aren't measured: they bring into the upper what gets an attribute, another mode or another name.
 pub fn before(alloc: Global, deed: Deed) -> Result<Vec<Call>, AllocError> {
     let mut calls = Vec::new(alloc);
     match deed {
-        Deed::Write => calls.push(opening(alloc, deed, 0)?)?,
         Deed::Link | Deed::Rename => opened_in(alloc, &mut calls, deed, 0)?,
         Deed::SetAttribute => calls.push(setting(alloc, path_for(alloc, deed, 0)?)?)?,
         Deed::StatChanged { .. } | Deed::ReadChanged { .. } => {
@@ -52,30 +45,14 @@ fn operation_in(
     number: u32,
 ) -> Result<(), AllocError> {
     match deed {
-        Deed::Stat
-        | Deed::StatMany
-        | Deed::StatAmong(_)
-        | Deed::Absent
-        | Deed::AbsentNew
-        | Deed::StatChanged { .. }
-        | Deed::Redirected(_, _) => {
+        Deed::Stat | Deed::StatMany | Deed::Absent | Deed::AbsentNew | Deed::StatChanged { .. } => {
             let path = path_for(alloc, deed, number)?;
             calls.push(Call::Stat { path })?;
         }
-        Deed::List => listed_in(alloc, calls, MERGED, FILES)?,
-        Deed::ListWide => listed_in(alloc, calls, WIDE, OBJECTS)?,
-        Deed::Read
-        | Deed::ReadChanged { .. }
-        | Deed::Create
-        | Deed::CreateWatched
-        | Deed::Copy(_)
-        | Deed::CopyAgain(_) => {
-            opened_in(alloc, calls, deed, number)?;
-        }
-        Deed::Write => {
-            calls.push(seeking())?;
-            calls.push(writing(alloc)?)?;
-        }
+        Deed::Read | Deed::ReadChanged { .. } | Deed::Create | Deed::Copy(_) | Deed::CopyAgain(_) =>
+            {
+                opened_in(alloc, calls, deed, number)?;
+            }
         _ => named_in(alloc, calls, deed, number)?,
     }
     Ok(())
@@ -100,10 +77,8 @@ fn named_in(
             let path = path_for(alloc, deed, number)?;
             calls.push(Call::Rmdir { path })?;
         }
-        Deed::MakeNames(_) => calls.push(Call::Mkdir { path, mode: 0o755 })?,
         Deed::Link => linked_in(alloc, calls, path)?,
         Deed::Rename => calls.push(renaming_back(alloc, path, number)?)?,
-        Deed::RenameDirectory => calls.push(renaming(alloc, path, number)?)?,
         Deed::SetAttribute => calls.push(setting(alloc, path)?)?,
         Deed::Chmod { .. } => calls.push(changing(path))?,
         _ => calls.push(Call::Unlink { path })?,
@@ -125,10 +100,7 @@ fn opened_in(
         calls.push(Call::Read { descriptor, count })?;
     }
     calls.push(Call::Close { descriptor })?;
-    if matches!(
-        deed,
-        Deed::Create | Deed::CreateWatched | Deed::CopyAgain(_)
-    ) {
+    if matches!(deed, Deed::Create | Deed::CopyAgain(_)) {
         unlinked_in(alloc, calls, deed, number)?;
     }
     Ok(())
@@ -148,39 +120,15 @@ fn unlinked_in(
 
 // The calls that give a file another name and remove that.
 fn linked_in(alloc: Global, calls: &mut Vec<Call>, old: Path) -> Result<(), AllocError> {
-    let new = further_path(alloc, 0)?;
+    let new = further_path(alloc)?;
     calls.push(Call::Hardlink { old, new })?;
-    let path = further_path(alloc, 0)?;
+    let path = further_path(alloc)?;
     calls.push(Call::Unlink { path })?;
-    Ok(())
-}
-
-// The calls that open a directory of so many names, list them to the end and close it.
-fn listed_in(
-    alloc: Global,
-    calls: &mut Vec<Call>,
-    directory: &str,
-    names: u32,
-) -> Result<(), AllocError> {
-    let descriptor = DESCRIPTOR;
-    calls.push(Call::Open {
-        path: path_of(alloc, directory)?,
-        flags: flags_of(true, false, true),
-        mode: 0,
-    })?;
-    for _ in 0..=names.div_ceil(PAGE) {
-        let count = PAGE;
-        calls.push(Call::ListNames { descriptor, count })?;
-    }
-    calls.push(Call::Close { descriptor })?;
     Ok(())
 }
 
 // The file or directory of an operation.
 fn path_for(alloc: Global, deed: Deed, number: u32) -> Result<Path, AllocError> {
-    if let Deed::MakeNames(names) = deed {
-        return path_with(alloc, names, number);
-    }
     let (first, number) = name_for(deed, number);
     let parent = parent_for(alloc, deed)?;
     path_to(alloc, parent.as_str(), first, number)
@@ -190,13 +138,11 @@ fn path_for(alloc: Global, deed: Deed, number: u32) -> Result<Path, AllocError> 
 fn name_for(deed: Deed, number: u32) -> (&'static str, u32) {
     match deed {
         Deed::Read | Deed::StatMany => ("name-", number % FILES),
-        Deed::StatAmong(files) => ("copy-", number.checked_rem(files).unwrap_or(0)),
         Deed::Whiteout => ("name-", number),
-        Deed::Absent | Deed::Redirected(_, false) => ("none-", 0),
+        Deed::Absent => ("none-", 0),
         Deed::AbsentNew => ("none-", number),
-        Deed::Create | Deed::CreateWatched | Deed::Link | Deed::Rename => ("made-", 0),
+        Deed::Create | Deed::Link | Deed::Rename => ("made-", 0),
         Deed::Symlink | Deed::Mkdir => ("made-", 0),
-        Deed::RenameDirectory => ("wide-", number),
         Deed::Copy(_) | Deed::CopyAgain(_) | Deed::Chmod { .. } => ("copy-", number),
         _ => ("name-", 0),
     }
@@ -206,26 +152,19 @@ fn name_for(deed: Deed, number: u32) -> (&'static str, u32) {
 fn parent_for(alloc: Global, deed: Deed) -> Result<String, AllocError> {
     match deed {
         Deed::Whiteout => String::from_str(alloc, WIDE),
-        Deed::Redirected(_, _) => nested(alloc, DEPTH),
         _ => nested(alloc, DIRECTORIES),
     }
 }
 
 // Another path at depth 4, where nothing is.
-fn further_path(alloc: Global, number: u32) -> Result<Path, AllocError> {
+fn further_path(alloc: Global) -> Result<Path, AllocError> {
     let parent = nested(alloc, DIRECTORIES)?;
-    path_to(alloc, parent.as_str(), "more-", number)
-}
-
-// The call that renames a directory.
-fn renaming(alloc: Global, old: Path, number: u32) -> Result<Call, AllocError> {
-    let new = further_path(alloc, number)?;
-    Ok(Call::Rename { old, new })
+    path_to(alloc, parent.as_str(), "more-", 0)
 }
 
 // The call that renames the file, and the one after it that renames it back.
 fn renaming_back(alloc: Global, path: Path, number: u32) -> Result<Call, AllocError> {
-    let further = further_path(alloc, 0)?;
+    let further = further_path(alloc)?;
     let (old, new) = if number & 1 == 0 {
         (path, further)
     } else {
@@ -237,19 +176,16 @@ fn renaming_back(alloc: Global, path: Path, number: u32) -> Result<Call, AllocEr
 // The call that opens the file.
 fn opening(alloc: Global, deed: Deed, number: u32) -> Result<Call, AllocError> {
     let reads = matches!(&deed, Deed::Read | Deed::ReadChanged { .. });
-    let creates = matches!(
-        &deed,
-        Deed::Create | Deed::CreateWatched | Deed::Link | Deed::Rename
-    );
+    let creates = matches!(&deed, Deed::Create | Deed::Link | Deed::Rename);
     Ok(Call::Open {
         path: path_for(alloc, deed, number)?,
-        flags: flags_of(reads, creates, false),
+        flags: flags_of(reads, creates),
         mode: 0o644,
     })
 }
 
-// The flags to open for reading, or else for writing, a file that is made or not, or a directory.
-fn flags_of(reads: bool, creates: bool, directory: bool) -> OpenFlags {
+// The flags to open for reading, or else for writing, a file that is made or not.
+fn flags_of(reads: bool, creates: bool) -> OpenFlags {
     OpenFlags {
         reads,
         writes: !reads,
@@ -257,7 +193,7 @@ fn flags_of(reads: bool, creates: bool, directory: bool) -> OpenFlags {
         exclusive: creates,
         truncate: false,
         append: false,
-        directory,
+        directory: false,
         unknown: false,
     }
 }
@@ -274,23 +210,4 @@ fn setting(alloc: Global, path: Path) -> Result<Call, AllocError> {
 // The call that changes the mode of a file.
 fn changing(path: Path) -> Call {
     Call::Chmod { path, mode: 0o600 }
-}
-
-// The call that seeks to the start of what is open.
-fn seeking() -> Call {
-    Call::Seek {
-        descriptor: DESCRIPTOR,
-        offset: 0,
-        whence: 0,
-    }
-}
-
-// The call that writes.
-fn writing(alloc: Global) -> Result<Call, AllocError> {
-    let mut bytes = Vec::new(alloc);
-    bytes.resize(BLOCK as usize, b'w')?;
-    Ok(Call::Write {
-        descriptor: DESCRIPTOR,
-        bytes: Bytes::from_vec(bytes),
-    })
 }

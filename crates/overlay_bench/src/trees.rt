@@ -8,25 +8,14 @@ pub const OBJECTS: u32 = 10_000;
 /// How deep the file stands that is looked up: three directories are above it.
 pub const DIRECTORIES: u32 = 3;
 
-/// How many files are looked up one after the other, and how many names the directory of all lower layers has.
+/// How many files are looked up one after the other.
 pub const FILES: u32 = 256;
 
-/// How many bytes each file has that is looked up, and how many are read or written at a time.
+/// How many bytes each file has that is looked up, and how many are read at a time.
 pub const BLOCK: u32 = 4096;
-
-/// The directory that has `FILES` names, of all lower layers.
-pub const MERGED: &str = "/list-256-all";
 
 /// The directory that has `OBJECTS` names, of the lowest layer.
 pub const WIDE: &str = "/list-10k-all";
-
-/// An upper layer and a lower one without entries.
-pub fn bare(alloc: Global) -> Result<ManifestText, AllocError> {
-    let mut manifest = ManifestText::new(alloc);
-    manifest.layer()?;
-    manifest.layer()?;
-    Ok(manifest)
-}
 
 /// So many layers, each of `OBJECTS` objects: three directories, and the files in the last.
 pub fn deep(alloc: Global, layers: u32) -> Result<ManifestText, AllocError> {
@@ -40,16 +29,14 @@ pub fn deep(alloc: Global, layers: u32) -> Result<ManifestText, AllocError> {
     Ok(manifest)
 }
 
-/// An empty upper over so many lower layers, for whole calls: all have the directories and part of the names of `MERGED`, the lowest has
-/// the files that are looked up, of `BLOCK` zero bytes each, and those of `WIDE`.
+/// An empty upper over so many lower layers, for whole calls: all have the directories, the lowest has the files that are looked up, of
+/// `BLOCK` zero bytes each, and those of `WIDE`.
 pub fn served(alloc: Global, lowers: u32) -> Result<ManifestText, AllocError> {
     let mut manifest = ManifestText::new(alloc);
     manifest.layer()?;
-    for lower in 0..lowers {
+    for _ in 0..lowers {
         manifest.layer()?;
         nested_in(alloc, &mut manifest, DIRECTORIES)?;
-        manifest.directory(MERGED)?;
-        share_in(alloc, &mut manifest, lower, lowers)?;
     }
     let last = nested(alloc, DIRECTORIES)?;
     zeros_in(alloc, &mut manifest, last.as_str(), "name-", FILES, BLOCK)?;
@@ -88,41 +75,8 @@ pub fn copied_again(
     Ok(manifest)
 }
 
-/// An empty upper over so many lower layers, which makes redirects: the lowest has so many directories, each of `OBJECTS` files, beside one
-/// another at depth 4.
-pub fn wide(alloc: Global, lowers: u32, directories: u32) -> Result<ManifestText, AllocError> {
-    let mut manifest = ManifestText::with_redirects(alloc)?;
-    manifest.layer()?;
-    for _ in 0..lowers {
-        manifest.layer()?;
-        nested_in(alloc, &mut manifest, DIRECTORIES)?;
-    }
-    let last = nested(alloc, DIRECTORIES)?;
-    for number in 0..directories {
-        let path = child(alloc, last.as_str(), "wide-", number)?;
-        manifest.directory(path.as_str())?;
-        files_in(alloc, &mut manifest, path.as_str(), OBJECTS)?;
-    }
-    Ok(manifest)
-}
-
-// The names of `MERGED` that one of so many lower layers has: every so many.
-fn share_in(
-    alloc: Global,
-    manifest: &mut ManifestText,
-    lower: u32,
-    lowers: u32,
-) -> Result<(), AllocError> {
-    for number in 0..FILES {
-        if number.checked_rem(lowers) == Some(lower) {
-            manifest.file(child(alloc, MERGED, "name-", number)?.as_str())?;
-        }
-    }
-    Ok(())
-}
-
-/// So many empty files in a directory.
-pub fn files_in(
+// So many empty files in a directory.
+fn files_in(
     alloc: Global,
     manifest: &mut ManifestText,
     parent: &str,

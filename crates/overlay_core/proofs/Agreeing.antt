@@ -89,8 +89,8 @@ not-long false false false true e = cc
 not-long false false false false e = refl
 
 -- so it is at most a million long
-pub bounded : (lowers : ℕ) (o : Options) → mount_fault lowers o ≡ None → o.history ≤ 1000000
-bounded lowers o e = ltb-false 1000000 o.history (not-long (nat_eq lowers 0) (nat_lt 16 lowers) (nat_lt o.history 2) (nat_lt 1000000 o.history) e)
+pub bounded : (has_upper : Bool) (lowers : ℕ) (o : Options) → mount_fault has_upper lowers o ≡ None → o.history ≤ 1000000
+bounded has_upper lowers o e = ltb-false 1000000 o.history (not-long (nat_lt lowers (cond has_upper 1 2)) (nat_lt 16 lowers) (nat_lt o.history 2) (nat_lt 1000000 o.history) e)
 
 -- temps stay beginnings of their files, and lower layers within limits, where the lower layers stay
 pub temps-on : (work : List (Option OpenJob)) (old new : Layers) → new.lowers ≡ old.lowers → AreTemps (lowers_of old) work → AreTemps (lowers_of new) work

@@ -55,11 +55,12 @@ module _ {F G : Type 0} {asks : Callback F} {rule : Rule G} (calls : List (ℕ �
 module _ {F G : Type 0} {asks : Callback F} {rule : Rule G} where
   -- a core keeps what it has, and what is kept twice is kept
   pub kept-same : (m : Core F G asks rule) → CoreKeeps m m
-  kept-same m = record { options = refl; lowers = refl; thin = λ thin. thin }
+  kept-same m = record { options = refl; read_only = refl; lowers = refl; thin = λ thin. thin }
 
   pub kept-on : (l m n : Core F G asks rule) → CoreKeeps l m → CoreKeeps m n → CoreKeeps l n
   kept-on l m n h g = record {
     options = g.options ∙ h.options;
+    read_only = g.read_only ∙ h.read_only;
     lowers = g.lowers ∙ h.lowers;
     thin = λ thin. g.thin (h.thin thin);
   }

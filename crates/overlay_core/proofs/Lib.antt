@@ -28,4 +28,7 @@ pub mod StepsMade
 pub mod KeptTemps
 pub mod Histories
 pub mod Waited
+pub mod ReadRefusals
+pub mod ReadOnly
+pub mod ReadSteps
 pub mod Marks

@@ -1,12 +1,14 @@
 -- Which objects bear a mark that leads to no file, which layers have one, and which layers are a mount.
-use Rattle.std.proofs.Common.{◌≡◌, ◌<◌, ℕ, zero, suc, List, [], ◌∷◌, true, false, Option, None, Some, Any, arith, refl, sym, ap, ◌∙◌, subst, length, map, get_or}
+use Rattle.std.proofs.Common.{◌≡◌, ◌<◌, ℕ, zero, suc, List, [], ◌∷◌, true, false, Option, None, Some, All, Any, arith, refl, sym, ap, ◌∙◌, subst, length, map, get_or}
 use Rattle.std.proofs.lemmas.Bool.{false≢true, not-true}
 use Rattle.std.specs.Option.{option_and_then}
 use Rattle.slab.specs.Slab.{get}
 use Rattle.ov_base.specs.declared.options.Options.{Options}
 use Rattle.plain_model.specs.Layers.{Inode, Layer, Path, shows}
-use Rattle.layer_tree.specs.Tree.{Tree, inode_of, layer_of}
+use Rattle.plain_model.specs.Limits.{IsWithinLimits}
+use Rattle.layer_tree.specs.Tree.{Tree, inode_of, layer_of, layers_given}
 use Rattle.layer_tree.specs.declared.node.Node.{Node}
+use Rattle.overlay_core.proofs.Agreeing.{all-below}
 use Rattle.overlay_core.specs.Marks.{astray, goes_astray}
 use Rattle.overlay_core.specs.Mounting.{IsAstray, IsFault, IsMountable, shows_file}
 use Rattle.overlay_core.specs.declared.mount_faults.MountFault.{MountFault}
@@ -43,11 +45,16 @@ any-layer P (s ∷ ts) zero t within is p = (0, layer_of s, omega arith, refl, s
 any-layer P (s ∷ ts) (suc k) t within is p = let m = any-layer P ts k t (omega (arith, within)) is p in (suc m.0, m.1, omega (arith, m.2), m.3, m.4)
 
 -- the trees of a slice are a mount where those that it is taken of are
-pub mountable-in : (n : ℕ) (o : Options) (U : Layer) (ts items : List Tree) → ts ≡ items → length ts ≡ n → IsMountable (length ts) o U (map layer_of ts) → IsMountable n o U (map layer_of items)
+pub mountable-in : (n : ℕ) (o : Options) (U : Option Layer) (ts items : List Tree) → ts ≡ items → length ts ≡ n → IsMountable (length ts) o U (map layer_of ts) → IsMountable n o U (map layer_of items)
 mountable-in n o U ts items same len is =
     subst (λ k. IsMountable k o U (map layer_of items)) len (subst (λ x. IsMountable (length ts) o U (map layer_of x)) same is)
 
 -- and why they are none is so why those are none
-pub fault-in : (n : ℕ) (o : Options) (U : Layer) (ts items : List Tree) (f : MountFault) → ts ≡ items → length ts ≡ n → IsFault (length ts) o U (map layer_of ts) f → IsFault n o U (map layer_of items) f
+pub fault-in : (n : ℕ) (o : Options) (U : Option Layer) (ts items : List Tree) (f : MountFault) → ts ≡ items → length ts ≡ n → IsFault (length ts) o U (map layer_of ts) f → IsFault n o U (map layer_of items) f
 fault-in n o U ts items f same len is =
     subst (λ k. IsFault k o U (map layer_of items) f) len (subst (λ x. IsFault (length ts) o U (map layer_of x) f) same is)
+
+-- the lower layers are within limits where all that are given are
+pub given-below : (u : Option Tree) (ts : List Tree) → All IsWithinLimits (layers_given u ts) → All IsWithinLimits (map layer_of ts)
+given-below None ts all = all
+given-below (Some t) ts all = all-below (layer_of t) (map layer_of ts) all

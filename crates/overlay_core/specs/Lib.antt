@@ -13,3 +13,4 @@ pub mod Temps
 pub mod Steps
 pub mod Placing
 pub mod Waits
+pub mod Reading

@@ -2,9 +2,14 @@
 use Rattle.std.specs.Prelude.{◌≡◌, ℕ, Bool, List, Option}
 use Rattle.std.specs.BTreeMap.{btree_map_len}
 use Rattle.ov_base.specs.declared.options.Options.{Options}
-use Rattle.plain_model.specs.Machine.{State}
-use Rattle.plain_model.specs.Runs.{Deed}
+use Rattle.plain_model.specs.Blank.{IsBlank}
+use Rattle.plain_model.specs.Machine.{State, opening}
+use Rattle.plain_model.specs.Merging.{IsMerge}
+use Rattle.plain_model.specs.Runs.{Deed, Does}
+use Rattle.plain_model.specs.Tree.{Tree}
+use Rattle.layer_tree.specs.Tree.{layer_of}
 use Rattle.merged_lookup.specs.declared.layers.Layers.{Layers}
+use Rattle.merged_lookup.specs.Merged.{upper_of, lowers_of}
 use Rattle.notice_laws.specs.Notified.{Notified}
 use Rattle.copy_up.specs.Showing.{StaysThin}
 use Rattle.mount_calls.specs.declared.clients.Clients.{Clients}
@@ -12,7 +17,7 @@ use Rattle.mount_calls.specs.declared.mount.Mount.{Mount}
 use Rattle.mount_calls.specs.Attaching.{is_attached}
 use Rattle.work_dir.specs.declared.table.OpenJob.{OpenJob}
 use Rattle.overlay_core.specs.Mounting.{machine_options, places_left}
-use Rattle.overlay_core.specs.Watching.{Agrees, BeginsWith, Goes, Stays}
+use Rattle.overlay_core.specs.Watching.{AgreesAs}
 use Rattle.overlay_core.specs.declared.mounted.Core.{Core}
 use Rattle.watch_table.specs.declared.hook.Callback.{Ghosts as Callback}
 use Rattle.watch_table.specs.declared.hook.Rule.{Ghosts as Rule}
@@ -58,32 +63,42 @@ module _ {F G : Type 0} {asks : Callback F} {rule : Rule G} where
   abbrev pub core_room : Core F G asks rule → ℕ
   core_room core = places_left (core_options core) (core_finished core) (client_count core)
 
-  -- a state of the plain machine agrees with the mount and with what is kept for its watches
+  -- whether nothing may be written, since there is no upper
+  abbrev pub core_read_only : Core F G asks rule → Bool
+  core_read_only core = core.read_only
+
+  -- a state of the plain machine agrees with the mount and with what is kept for its watches, and is
+  -- read-only where there is no upper
   abbrev pub CoreAgrees : Core F G asks rule → State → Type 0
-  CoreAgrees core s = Agrees (core_mount core) (core_watches core) s
+  CoreAgrees core s = AgreesAs (core_read_only core) (core_mount core) (core_watches core) s
 
   -- every merge of the layers is a tree with which a mount of these options begins
   abbrev pub CoreBegins : Core F G asks rule → Options → Type 0
   CoreBegins core options =
-      BeginsWith (core_layers core) (machine_options options) (core_mount core)
-      (core_watches core)
+      (t : Tree) → IsMerge (upper_of (core_layers core)) (lowers_of (core_layers core)) t →
+      CoreAgrees core (opening t (machine_options (core_read_only core) options))
 
   -- each state that agreed agrees still
   abbrev pub CoreStays : Core F G asks rule → Core F G asks rule → Type 0
-  CoreStays old new =
-      Stays (core_mount old) (core_watches old) (core_mount new) (core_watches new)
+  CoreStays old new = (s : State) → CoreAgrees old s → CoreAgrees new s
 
   -- from each state that agreed, what the client does leads to one that agrees
   abbrev pub CoreGoes : Core F G asks rule → ℕ → Deed → Core F G asks rule → Type 0
   CoreGoes old client deed new =
-      Goes rule.shows (core_mount old) (core_watches old) client deed (core_mount new)
-      (core_watches new)
+      (s : State) → CoreAgrees old s →
+      (t : State) × Does rule.shows s client deed t × CoreAgrees new t
 
--- What each deed leaves of a core: its options, its lower layers, and an upper without needless
+  -- without an upper the layers have one that holds nothing, so each path shows what the lower layers
+  -- show there alone
+  abbrev pub CoreIsBlank : Core F G asks rule → Type 0
+  CoreIsBlank core = IsBlank (layer_of (core_layers core).upper) (lowers_of (core_layers core))
+
+-- What each deed leaves of a core: its options, whether it has an upper, its lower layers, and an upper without needless
 -- whiteouts.
 pub record CoreKeeps {F G : Type 0} {asks : Callback F} {rule : Rule G}
     (old new : Core F G asks rule) : Type 0 where
   pub options : core_options new ≡ core_options old
+  pub read_only : core_read_only new ≡ core_read_only old
   pub lowers : (core_layers new).lowers ≡ (core_layers old).lowers
   pub thin : StaysThin (core_layers old) (core_layers new)
 
@@ -93,4 +108,5 @@ pub record CoreSame {F G : Type 0} {asks : Callback F} {rule : Rule G}
   pub mount : core_mount new ≡ core_mount old
   pub watches : core_watches new ≡ core_watches old
   pub options : core_options new ≡ core_options old
+  pub read_only : core_read_only new ≡ core_read_only old
   pub finished : core_finished new ≡ core_finished old

@@ -1,10 +1,10 @@
 -- How a state of the plain machine agrees with a mount and what is kept for its watches, and what a client does to all of them.
-use Rattle.std.specs.Prelude.{◌≡◌, ℕ}
+use Rattle.std.specs.Prelude.{◌≡◌, ℕ, Bool}
 use Rattle.ov_base.specs.declared.call.Call.{Call}
 use Rattle.plain_model.specs.Tree.{Tree}
 use Rattle.plain_model.specs.Merging.{IsMerge}
 use Rattle.plain_model.specs.Watching.{Rule}
-use Rattle.plain_model.specs.Machine.{MountOptions, State, opening}
+use Rattle.plain_model.specs.Machine.{MountOptions, State, opening, writable}
 use Rattle.plain_model.specs.Settling.{IsSettled}
 use Rattle.plain_model.specs.Runs.{Deed, Does}
 use Rattle.merged_lookup.specs.declared.layers.Layers.{Layers}
@@ -45,6 +45,20 @@ HasState m k = (s : State) × Agrees m k s
 -- as long as nothing was finished, the mount begins with every merge of its layers
 abbrev pub BeginsUntil : ℕ → MountOptions → Mount → Notified → Type 0
 BeginsUntil finished options m k = finished ≡ 0 → BeginsWith m.layers options m k
+
+-- A state agrees, and it is told whether it is read-only: as if all might be written, since a mount
+-- without an upper has one that holds nothing.
+abbrev pub AgreesAs : Bool → Mount → Notified → State → Type 0
+AgreesAs read_only m k s = Agrees m k (writable s) × (s.options.read_only ≡ read_only)
+
+-- each state that agreed so agrees still
+abbrev pub StaysAs : Bool → Mount → Notified → Mount → Notified → Type 0
+StaysAs read_only old k new l = (s : State) → AgreesAs read_only old k s → AgreesAs read_only new l s
+
+-- from each state that agreed so, what the client does leads to one that does
+abbrev pub GoesAs : Bool → Rule → Mount → Notified → ℕ → Deed → Mount → Notified → Type 0
+GoesAs read_only shows old k client deed new l =
+    (s : State) → AgreesAs read_only old k s → (t : State) × Does shows s client deed t × AgreesAs read_only new l t
 
 -- what a call leaves alone of a mount: the lower layers, who is attached, and what it keeps of the upper
 pub record Keeps (call : Call) (old new : Mount) : Type 0 where

@@ -3,6 +3,7 @@
 
 mod arm_calls;
 mod attribute_notices;
+mod blank_upper;
 mod client_notices;
 mod finishing;
 mod job;
@@ -12,6 +13,7 @@ mod move_notices;
 mod name_notices;
 mod open_notices;
 mod perform;
+mod reading;
 mod schedule;
 mod stepping;
 mod turn;
@@ -20,6 +22,7 @@ mod waiting;
 mod watch_calls;
 mod watched;
 
+pub use blank_upper::upper_over;
 pub use job::{Job, Standing};
 pub use mount_faults::MountFault;
 pub use mounted::{Core, LOOK_UPS_KEPT, Unmounted};

@@ -1,11 +1,12 @@
 // The core of a mount: what is done to it, each deed one of the plain machine.
-ghost use Rattle.std.specs.Prelude.{◌≡◌, ◌≢◌, ◌+◌, ◌-◌, ◌<◌, ◌≤◌, ◌^◌, ℕ, true, false, [], ◌∷◌, map, count_by, is_some, Some, None, All, IfOk, IfErr, IfSome, OnOk, OnErr, length, nat_lt, unwrap_or, vec_len};
+ghost use Rattle.std.specs.Prelude.{◌≡◌, ◌≢◌, ◌+◌, ◌-◌, ◌<◌, ◌≤◌, ◌^◌, ℕ, true, false, not, [], ◌∷◌, map, count_by, is_none, is_some, Some, None, All, IfOk, IfErr, IfSome, OnOk, OnErr, length, nat_lt, option_map, unwrap_or, vec_len};
+ghost use Rattle.plain_model.specs.Blank.{IsBlank};
 ghost use Rattle.plain_model.specs.Layers.{AreLayers};
 ghost use Rattle.plain_model.specs.Limits.{IsWithinLimits};
 ghost use Rattle.plain_model.specs.Runs.{Attached, Detached};
 ghost use Rattle.plain_model.specs.Machine.{State, instance_of};
 ghost use Rattle.plain_model.specs.Refusals.{refusal};
-ghost use Rattle.layer_tree.specs.Tree.{layer_of};
+ghost use Rattle.layer_tree.specs.Tree.{layer_of, layers_given};
 ghost use Rattle.overlay_core.specs.Watching.{BeginsUntil, HasState};
 ghost use Rattle.mount_calls.specs.Attaching.{attach_refusal, Attaches, Detaches, KeepsAttached};
 ghost use Rattle.mount_calls.specs.ComingUp.{BringsUp};
@@ -19,8 +20,10 @@ ghost use Rattle.overlay_core.specs.Temps.{AreTemps};
 ghost use Rattle.overlay_core.specs.Waits.{WaitsForAny};
 ghost use Rattle.ov_base.specs.declared.reply.Reply.TheVariants as Reply;
 
+use crate::blank_upper::upper_over;
 use crate::job::{Job, Standing};
 use crate::mount_faults::{MountFault, fault_of};
+use crate::reading::answer;
 use crate::stepping::{make, step};
 use crate::turn::Turn;
 use crate::waiting::Waiting;
@@ -41,29 +44,34 @@ pub const LOOK_UPS_KEPT: usize = 1_024;
 #[derive(Drop)]
 pub struct Unmounted {
     pub fault: MountFault,
-    pub upper: Layer,
+    pub upper: Option<Layer>,
     pub lowers: Vec<Layer>,
 }
 
 /// A mount, its clients, what is kept for their watches, and the work directory, which has the open
 /// jobs with their temps. Its type keeps that some state of the plain machine agrees with the mount,
 /// that one that begins with the merge of its layers does as long as nothing was done, and that each
-/// temp is a beginning of a lower file.
+/// temp is a beginning of a lower file. Without an upper it has one that holds nothing, for ever, and
+/// no open job.
 #[derive(Drop)]
 pub struct Core<F: Callback, R: Rule> {
     watched: Watched<F, R>,
     options: Options,
+    // Whether nothing may be written, since there is no upper.
+    read_only: bool,
     finished: u64,
     work: WorkDir,
     // The open whose file is copied, at most one, as long as nothing else is done.
     waiting: Vec<Waiting>,
     ghost agrees: { ∥ HasState watched.mount watched.notifier ∥₁ },
-    ghost begins: { ∥ BeginsUntil finished (machine_options options) watched.mount watched.notifier ∥₁ },
+    ghost begins: { ∥ BeginsUntil finished (machine_options false options) watched.mount watched.notifier ∥₁ },
     ghost given: { watched.mount.clients.next ≤ finished },
     ghost short: { options.history ≤ 1000000 },
     ghost temps: { AreTemps (lowers_of watched.mount.layers) work },
     ghost waits: { WaitsForAny watched.mount waiting.items },
     ghost limits: { ∥ All IsWithinLimits (lowers_of watched.mount.layers) ∥₁ },
+    ghost blank: { read_only ≡ true → IsBlank (layer_of watched.mount.layers.upper) (lowers_of watched.mount.layers) },
+    ghost idle: { read_only ≡ true → work ≡ [] },
 }
 
 impl<F: Callback, R: Rule> Core<F, R> {
@@ -71,32 +79,39 @@ impl<F: Callback, R: Rule> Core<F, R> {
     ghost use Rattle.overlay_core.specs.Views.{core_finished, core_layers, core_options, core_room};
     ghost use Rattle.overlay_core.specs.Views.{client_count, core_clients, has_client, next_client};
     ghost use Rattle.overlay_core.specs.Views.{core_watches};
-    ghost use Rattle.overlay_core.specs.Views.{core_mount, core_work, CoreSame};
+    ghost use Rattle.overlay_core.specs.Views.{core_mount, core_read_only, core_work, CoreIsBlank, CoreSame};
     ghost use Rattle.overlay_core.specs.Jobs.{TurnsTo, CoreSteps, finished_after};
     ghost use Rattle.overlay_core.specs.Steps.{held_by, next_by, without};
 
-    /// Mounts lower layers, the nearest first, under an upper. The names of open directories and the
-    /// numbers of watched objects are hashed with these keys. A fault needs no memory and hands the
-    /// layers back.
+    /// Mounts lower layers, the nearest first, under an upper, or alone: then nothing may be written,
+    /// and a call that would is refused with EROFS (overlayfs.rst, "Multiple lower layers"). The names
+    /// of open directories and the numbers of watched objects are hashed with these keys. A fault
+    /// needs no memory and hands the layers back.
     pub fn mount(
         alloc: Global,
         keys: RandomState,
-        upper: Layer,
+        upper: Option<Layer>,
         lowers: Vec<Layer>,
         options: Options,
     ) -> Result<Result<Core<F, R>, Unmounted>, AllocError>
-        requires layers { AreLayers (layer_of upper ∷ map layer_of lowers.items) }
-        requires limits { All IsWithinLimits (layer_of upper ∷ map layer_of lowers.items) }
+        requires layers { AreLayers (layers_given upper lowers.items) }
+        requires limits { All IsWithinLimits (layers_given upper lowers.items) }
         ensures fault { IfOk result (λ mounting. IfErr mounting (λ unmounted.
-            IsFault (vec_len lowers) options (layer_of upper) (map layer_of lowers.items) unmounted.fault)) }
+            IsFault (vec_len lowers) options (option_map layer_of upper) (map layer_of lowers.items) unmounted.fault)) }
         ensures handed_back { IfOk result (λ mounting. IfErr mounting (λ unmounted.
             (unmounted.upper ≡ upper) × (unmounted.lowers ≡ lowers))) }
         ensures mounted { IfOk result (λ mounting. OnOk mounting (
-            IsMountable (vec_len lowers) options (layer_of upper) (map layer_of lowers.items))) }
+            IsMountable (vec_len lowers) options (option_map layer_of upper) (map layer_of lowers.items))) }
         ensures no_memory { OnErr result (
-            IsMountable (vec_len lowers) options (layer_of upper) (map layer_of lowers.items)) }
-        ensures layers { IfOk result (λ mounting. IfOk mounting (λ core.
-            ((core_layers core).upper ≡ upper) × ((core_layers core).lowers ≡ lowers))) }
+            IsMountable (vec_len lowers) options (option_map layer_of upper) (map layer_of lowers.items)) }
+        ensures upper { IfOk result (λ mounting. IfOk mounting (λ core.
+            IfSome upper (λ given. (core_layers core).upper ≡ given))) }
+        ensures blank { IfOk result (λ mounting. IfOk mounting (λ core.
+            upper ≡ None → CoreIsBlank core)) }
+        ensures read_only { IfOk result (λ mounting. IfOk mounting (λ core.
+            core_read_only core ≡ is_none upper)) }
+        ensures lowers { IfOk result (λ mounting. IfOk mounting (λ core.
+            (core_layers core).lowers ≡ lowers)) }
         ensures options { IfOk result (λ mounting. IfOk mounting (λ core.
             core_options core ≡ options)) }
         ensures finished { IfOk result (λ mounting. IfOk mounting (λ core.
@@ -117,24 +132,30 @@ impl<F: Callback, R: Rule> Core<F, R> {
     pub fn mount_keeping(
         alloc: Global,
         keys: RandomState,
-        upper: Layer,
+        upper: Option<Layer>,
         lowers: Vec<Layer>,
         options: Options,
         look_ups: usize,
     ) -> Result<Result<Core<F, R>, Unmounted>, AllocError>
-        requires layers { AreLayers (layer_of upper ∷ map layer_of lowers.items) }
-        requires limits { All IsWithinLimits (layer_of upper ∷ map layer_of lowers.items) }
+        requires layers { AreLayers (layers_given upper lowers.items) }
+        requires limits { All IsWithinLimits (layers_given upper lowers.items) }
         requires look_ups { look_ups ≤ 65536 }
         ensures fault { IfOk result (λ mounting. IfErr mounting (λ unmounted.
-            IsFault (vec_len lowers) options (layer_of upper) (map layer_of lowers.items) unmounted.fault)) }
+            IsFault (vec_len lowers) options (option_map layer_of upper) (map layer_of lowers.items) unmounted.fault)) }
         ensures handed_back { IfOk result (λ mounting. IfErr mounting (λ unmounted.
             (unmounted.upper ≡ upper) × (unmounted.lowers ≡ lowers))) }
         ensures mounted { IfOk result (λ mounting. OnOk mounting (
-            IsMountable (vec_len lowers) options (layer_of upper) (map layer_of lowers.items))) }
+            IsMountable (vec_len lowers) options (option_map layer_of upper) (map layer_of lowers.items))) }
         ensures no_memory { OnErr result (
-            IsMountable (vec_len lowers) options (layer_of upper) (map layer_of lowers.items)) }
-        ensures layers { IfOk result (λ mounting. IfOk mounting (λ core.
-            ((core_layers core).upper ≡ upper) × ((core_layers core).lowers ≡ lowers))) }
+            IsMountable (vec_len lowers) options (option_map layer_of upper) (map layer_of lowers.items)) }
+        ensures upper { IfOk result (λ mounting. IfOk mounting (λ core.
+            IfSome upper (λ given. (core_layers core).upper ≡ given))) }
+        ensures blank { IfOk result (λ mounting. IfOk mounting (λ core.
+            upper ≡ None → CoreIsBlank core)) }
+        ensures read_only { IfOk result (λ mounting. IfOk mounting (λ core.
+            core_read_only core ≡ is_none upper)) }
+        ensures lowers { IfOk result (λ mounting. IfOk mounting (λ core.
+            (core_layers core).lowers ≡ lowers)) }
         ensures options { IfOk result (λ mounting. IfOk mounting (λ core.
             core_options core ≡ options)) }
         ensures finished { IfOk result (λ mounting. IfOk mounting (λ core.
@@ -147,24 +168,52 @@ impl<F: Callback, R: Rule> Core<F, R> {
             CoreBegins core options)) }
         ensures idle { IfOk result (λ mounting. IfOk mounting (λ core. core_work core ≡ [])) }
     {
-        if let Some(fault) = fault_of(&upper, lowers.as_slice(), options) {
+        if let Some(fault) = fault_of(upper.as_ref(), lowers.as_slice(), options) {
             return Ok(Err(Unmounted {
                 fault,
                 upper,
                 lowers,
             }));
         }
+        let read_only = upper.is_none();
+        let upper = upper_over(alloc, keys, upper, lowers.as_slice())?;
         let mut layers = Layers::new(alloc, keys, upper, lowers, look_ups.max(1))?;
         layers.keep_look_ups(alloc, look_ups);
+        let core = Core::over(alloc, keys, layers, options, read_only)?;
+        Ok(Ok(core))
+    }
+
+    // A mount of these layers, without a client.
+    fn over(
+        alloc: Global,
+        keys: RandomState,
+        layers: Layers,
+        options: Options,
+        read_only: bool,
+    ) -> Result<Core<F, R>, AllocError>
+        requires layers { AreLayers (layer_of layers.upper ∷ lowers_of layers) }
+        requires limits { All IsWithinLimits (lowers_of layers) }
+        requires short { options.history ≤ 1000000 }
+        requires blank { read_only ≡ true → IsBlank (layer_of layers.upper) (lowers_of layers) }
+        ensures layers { IfOk result (λ core. core_layers core ≡ layers) }
+        ensures options { IfOk result (λ core. core_options core ≡ options) }
+        ensures read_only { IfOk result (λ core. core_read_only core ≡ read_only) }
+        ensures finished { IfOk result (λ core. core_finished core ≡ 0) }
+        ensures nobody { IfOk result (λ core. (n : ℕ) → has_client core n ≢ true) }
+        ensures first { IfOk result (λ core. next_client core ≡ 0) }
+        ensures begins { IfOk result (λ core. CoreBegins core options) }
+        ensures idle { IfOk result (λ core. core_work core ≡ []) }
+    {
         let watched = Watched::new(alloc, keys, layers, options.redirects, options.metacopy)?;
         let work = WorkDir::new(alloc);
-        Ok(Ok(Core {
+        Ok(Core {
             watched,
             options,
+            read_only,
             finished: 0,
             work,
             waiting: Vec::new(alloc),
-        }))
+        })
     }
 
     /// Attaches a client with its hooks, which has all descriptors free, and gives its number: they
@@ -247,6 +296,7 @@ impl<F: Callback, R: Rule> Core<F, R> {
             self.new job.new result (next_by (core_mount self.old) job.old
             (held_by (core_work self.old) job.old) (refusal s job.old.client job.old.call)) }
         ensures at_once { may_lack job.old.call ≡ false → result ≢ Turn.More }
+        ensures read_only { core_read_only self.old ≡ true → result ≢ Turn.More }
         ensures memory { takes_no_memory job.old.call ≡ true → result ≢ Turn.NoMemory }
         ensures finished { core_finished self.new ≡ finished_after result (core_finished self.old) }
         ensures clients { KeepsAttached (core_clients self.old) (core_clients self.new) }
@@ -256,6 +306,9 @@ impl<F: Callback, R: Rule> Core<F, R> {
             core_layers self.new ≡ core_layers self.old }
         ensures kept { CoreKeeps self.old self.new }
     {
+        if self.read_only {
+            return self.answer(job);
+        }
         match step(&mut self.watched, &mut self.work, &mut self.waiting, job) {
             Turn::Done(reply) => {
                 self.finished += 1;
@@ -287,8 +340,45 @@ impl<F: Callback, R: Rule> Core<F, R> {
         ensures work { core_work self.new ≡ without (core_work self.old) job.old }
         ensures kept { CoreKeeps self.old self.new }
     {
+        if self.read_only {
+            return self.answer(job);
+        }
         self.waiting.clear();
         match make(&mut self.watched, &mut self.work, job) {
+            Turn::Done(reply) => {
+                self.finished += 1;
+                Turn::Done(reply)
+            }
+            Turn::NoMemory => Turn::NoMemory,
+            Turn::More => unreachable!(),
+        }
+    }
+
+    // The one step of a job where nothing may be written.
+    fn answer(&mut self, job: &mut Job) -> Turn
+        requires read_only { core_read_only self.old ≡ true }
+        requires open { job.old.standing ≡ Standing.Open }
+        requires attached { has_client self.old job.old.client ≡ true }
+        requires bound { core_finished self.old + 1 < 2 ^ 63 }
+        ensures job { (job.new.client ≡ job.old.client) × (job.new.call ≡ job.old.call) }
+        ensures turn { TurnsTo self.old job.old self.new job.new result }
+        ensures steps { job.new.steps ≡ job.old.steps + 1 }
+        ensures step { (s : State) → CoreAgrees self.old s → CoreSteps self.old job.old
+            self.new job.new result (next_by (core_mount self.old) job.old
+            (held_by (core_work self.old) job.old) (refusal s job.old.client job.old.call)) }
+        ensures over { result ≢ Turn.More }
+        ensures memory { takes_no_memory job.old.call ≡ true → result ≢ Turn.NoMemory }
+        ensures finished { core_finished self.new ≡ finished_after result (core_finished self.old) }
+        ensures clients { KeepsAttached (core_clients self.old) (core_clients self.new) }
+        ensures layers { KeepsLayers job.old.call (core_layers self.old) (core_layers self.new) }
+        ensures brings { BringsUp job.old.call (core_layers self.old) (core_layers self.new) }
+        ensures refused { (errno : Errno) → result ≡ Turn.Done (Reply.Refused errno) →
+            core_layers self.new ≡ core_layers self.old }
+        ensures work { core_work self.new ≡ without (core_work self.old) job.old }
+        ensures kept { CoreKeeps self.old self.new }
+    {
+        self.waiting.clear();
+        match answer(&mut self.watched, job) {
             Turn::Done(reply) => {
                 self.finished += 1;
                 Turn::Done(reply)
@@ -350,7 +440,15 @@ impl<F: Callback, R: Rule> Core<F, R> {
         self.options.history
     }
 
-    /// The layers as they are now.
+    /// Whether there is an upper; without one nothing may be written.
+    pub fn has_upper(&self) -> bool
+        ensures upper { result ≡ not (core_read_only self.now) }
+        ensures blank { result ≡ false → CoreIsBlank self.now }
+    {
+        !self.read_only
+    }
+
+    /// The layers as they are now; without an upper the first of them holds nothing.
     pub fn layers(&self) -> &Layers
         ensures { result.now ≡ core_layers self.now }
     {

@@ -7,17 +7,13 @@ use Rattle.ov_base.specs.declared.errno.Errno.{Errno}
 use Rattle.ov_base.specs.declared.reply.Reply.{Reply}
 use Rattle.plain_model.specs.Tree.{Tree, node_at}
 use Rattle.plain_model.specs.Watching.{Rule, Subject, AllHear}
-use Rattle.plain_model.specs.Machine.{State, look, same_found}
+use Rattle.plain_model.specs.Machine.{State, look, same_found, writable}
 use Rattle.plain_model.specs.Refusals.{writes, writable_refusal, refusal}
 use Rattle.plain_model.specs.Changes.{way_of, settled, renamed, re_ways, tree_after, tables_after, makes, moves, next_if, after}
 use Rattle.plain_model.specs.Replies.{reply_of}
 use Rattle.plain_model.specs.Subjects.{subjects, rename_subjects}
 use Rattle.plain_model.specs.Runs.{Taken, Answered, Step}
 use Rattle.plain_model.proofs.Looking.{refusal-writable, refusal-reading}
-
--- the state as it is where all may be written
-abbrev pub writable : State → State
-writable s = record s { options = record s.options { read_only = false } }
 
 same-refusal : (s : State) (c : ℕ) (call : Call) → writable_refusal (writable s) c call ≡ writable_refusal s c call
 same-refusal s c (Stat p) = refl

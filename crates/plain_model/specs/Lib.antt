@@ -8,6 +8,7 @@ pub mod Machine
 pub mod Refusals
 pub mod Limits
 pub mod Changes
+pub mod Blank
 pub mod Replies
 pub mod Subjects
 pub mod Runs

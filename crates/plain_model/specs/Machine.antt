@@ -62,6 +62,10 @@ pub record State : Type 0 where
   pub tables : List Table
   pub instances : List Instance
 
+-- the state as it is where all may be written
+abbrev pub writable : State → State
+writable s = record s { options = record s.options { read_only = false } }
+
 -- the state of a mount as it begins
 abbrev pub opening : Tree → MountOptions → State
 opening t options = record { tree = t; serial = 0; renames = 0; arrived = 0; options = options; tables = []; instances = [] }

@@ -1,4 +1,5 @@
 // The laws of the definitions, each as the contract of a function that does nothing.
+ghost use Rattle.plain_model.specs.Blank.{LawOfBlank};
 ghost use Rattle.plain_model.specs.Bounds.{LawOfBounds};
 ghost use Rattle.plain_model.specs.Merging.{LawOfPaths, LawOfMerge, LawOfMount};
 ghost use Rattle.plain_model.specs.Runs.{LawOfNames};
@@ -40,6 +41,12 @@ pub fn law_of_merge()
 /// Layers show their merge: a mount begins with the tree that its layers show.
 pub fn law_of_mount()
     ensures { LawOfMount }
+{}
+
+/// Under an upper that holds nothing each path shows what the lower layers show there alone: so a mount without an upper is one with such an
+/// upper (overlayfs.rst, "Multiple lower layers").
+pub fn law_of_blank()
+    ensures { LawOfBlank }
 {}
 
 /// A call whose placings, begun copies and copied pieces stay within their bounds takes at most 66,049 steps.

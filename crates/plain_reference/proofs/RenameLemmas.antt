@@ -46,14 +46,14 @@ abbrev pub moved : Bool → List Table → Tree → Path → Path → Option Nod
 moved metacopy ks t p q d = settled ks (lead_way (lead_way (change (copied_up metacopy) (change one_fewer t (node_at t q)) d) (way_of t q) d) (way_of t p) None) (node_at t q)
 
 -- a node that is moved
-pub moved_step : (old mid : Unwatched) (c : ℕ) (p q : Path) (d : NodeId) → None ≡ refusal (unwatched_of old) c (Rename p q) → same_found (look (unwatched_of old).tree p) (look (unwatched_of old).tree q) ≡ false → node_at (unwatched_of old).tree p ≡ Some d → tree_of mid.tree.slots.items ≡ moved old.metacopy old.clients.list.items (unwatched_of old).tree p q (Some d) → mid.clients.list.items ≡ re_ways old.clients.list.items (Some d) (way_of (unwatched_of old).tree p) (way_of (unwatched_of old).tree q) → mid.clients.arrived ≡ old.clients.arrived → mid ≡ record old { tree = mid.tree; clients = mid.clients } → Step Mute (unwatched_of old) c (Rename p q) Done (unwatched_of (record mid { renames = mid.renames + 1 }))
+pub moved_step : (old mid : Unwatched) (c : ℕ) (p q : Path) (d : NodeId) → None ≡ refusal (unwatched_of old) c (Rename p q) → same_found (look (unwatched_of old).tree p) (look (unwatched_of old).tree q) ≡ false → node_at (unwatched_of old).tree p ≡ Some d → tree_of mid.tree.slots.items ≡ moved old.options.metacopy old.clients.list.items (unwatched_of old).tree p q (Some d) → mid.clients.list.items ≡ re_ways old.clients.list.items (Some d) (way_of (unwatched_of old).tree p) (way_of (unwatched_of old).tree q) → mid.clients.arrived ≡ old.clients.arrived → mid ≡ record old { tree = mid.tree; clients = mid.clients } → Step Mute (unwatched_of old) c (Rename p q) Done (unwatched_of (record mid { renames = mid.renames + 1 }))
 moved_step old mid c p q d none apart at tree list arrived rest =
     let s = unwatched_of old in
     let t = s.tree in
     let ks = old.clients.list.items in
     let to : State = record (rename_at s p q false) { instances = silent_all ks } in
     let next : old.renames + 1 ≡ suc old.renames = omega arith in
-    let tree-is : tree_of mid.tree.slots.items ≡ settled ks (renamed s.options t p q) (node_at t q) = tree ∙ ap (moved old.metacopy ks t p q) (sym at) in
+    let tree-is : tree_of mid.tree.slots.items ≡ settled ks (renamed s.options t p q) (node_at t q) = tree ∙ ap (moved old.options.metacopy ks t p q) (sym at) in
     let list-is : mid.clients.list.items ≡ re_ways ks (node_at t p) (way_of t p) (way_of t q) = list ∙ ap (λ (o : Option NodeId). re_ways ks o (way_of t p) (way_of t q)) (sym at) in
     let is_to : unwatched_of (record mid { renames = mid.renames + 1 }) ≡ to =
     ap (λ (x : Unwatched). unwatched_of (record x { renames = x.renames + 1 })) rest

@@ -1,13 +1,19 @@
 -- The states of the plain machine that the reference stands for: without its watches, where clients never hear anything, and with them.
-use Rattle.std.specs.Prelude.{false, List, [], map}
+use Rattle.std.specs.Prelude.{List, [], map}
 use Rattle.plain_model.specs.Watching.{Instance, Rule, silent}
+use Rattle.plain_model.specs.Machine as machine
 use Rattle.plain_model.specs.Machine.{Table, State}
 use Rattle.plain_reference.specs.Slots.{tree_of}
+use Rattle.plain_reference.specs.declared.options.MountOptions.{MountOptions}
 use Rattle.plain_reference.specs.declared.unwatched.Unwatched.{Unwatched}
 use Rattle.plain_reference.specs.declared.reference.Reference.{Reference}
 
 abbrev pub silent_all : List Table → List Instance
 silent_all tables = map (λ table. silent table.client []) tables
+
+-- what a mount was told
+abbrev pub options_of : MountOptions → machine.MountOptions
+options_of o = record { redirects = o.redirects; metacopy = o.metacopy; read_only = o.read_only }
 
 -- the state without watches: no client has a hook
 abbrev pub unwatched_of : Unwatched → State
@@ -16,7 +22,7 @@ unwatched_of r = record {
   serial = r.serial;
   renames = r.renames;
   arrived = r.clients.arrived;
-  options = record { redirects = r.redirects; metacopy = r.metacopy; read_only = false };
+  options = options_of r.options;
   tables = r.clients.list.items;
   instances = silent_all r.clients.list.items;
 }

@@ -27,12 +27,12 @@ impl Unwatched {
 
     // Gives the node at a path other attributes.
     fn give(&mut self, path: &Path, attributes: Attributes) -> Result<(), AllocError>
-        ensures ok { OnOk result (tree_of self.new.tree.slots.items ≡ change (given self.old.metacopy attributes) (tree_of self.old.tree.slots.items) (node_at (tree_of self.old.tree.slots.items) path.now)) }
+        ensures ok { OnOk result (tree_of self.new.tree.slots.items ≡ change (given self.old.options.metacopy attributes) (tree_of self.old.tree.slots.items) (node_at (tree_of self.old.tree.slots.items) path.now)) }
         ensures err { OnErr result (tree_of self.new.tree.slots.items ≡ tree_of self.old.tree.slots.items) }
         ensures rest { self.new ≡ record self.old { tree = self.new.tree } }
     {
         if let Some(id) = self.tree.node_at(self.alloc, path.names())? {
-            self.tree.give(self.metacopy, &id, attributes);
+            self.tree.give(self.options.metacopy, &id, attributes);
         }
         Ok(())
     }

@@ -1,18 +1,19 @@
 // The opening tree, put together by hand.
-ghost use Rattle.std.specs.Prelude.{false, ◌≡◌, IfOk, OnOk, OnErr};
+ghost use Rattle.std.specs.Prelude.{◌≡◌, IfOk, OnOk, OnErr};
 ghost use Rattle.std.specs.FinMap as map;
 ghost use Rattle.plain_model.specs.Tree as plain;
 ghost use Rattle.plain_model.specs.Machine.{opening};
 ghost use Rattle.plain_reference.specs.Nodes.{plain as node_of, origin_of};
 ghost use Rattle.plain_reference.specs.Slots.{tree_of};
 ghost use Rattle.plain_reference.specs.Planted.{root_alone, planted, named};
-ghost use Rattle.plain_reference.specs.States.{state_of};
+ghost use Rattle.plain_reference.specs.States.{options_of, state_of};
 
 use crate::clients::Clients;
 use crate::id::Id;
 use crate::instances::Instances;
 use crate::names::Names;
 use crate::node::{Node, Origin};
+use crate::options::MountOptions;
 use crate::reference::Reference;
 use crate::tree::Tree;
 use crate::unwatched::Unwatched;
@@ -23,22 +24,19 @@ use std::alloc::{AllocError, Global};
 #[derive(Drop)]
 pub struct Builder {
     tree: Tree,
-    redirects: bool,
-    metacopy: bool,
+    options: MountOptions,
     alloc: Global,
 }
 
 impl Builder {
-    /// A tree of the root alone.
+    /// A tree of the root alone, of a mount that is told this.
     pub fn new(
         alloc: Global,
         root: Attributes,
-        redirects: bool,
-        metacopy: bool,
+        options: MountOptions,
     ) -> Result<Builder, AllocError>
         ensures tree { IfOk result (λ builder. tree_of builder.tree.slots.items ≡ root_alone root) }
-        ensures redirects { IfOk result (λ builder. builder.redirects ≡ redirects) }
-        ensures metacopy { IfOk result (λ builder. builder.metacopy ≡ metacopy) }
+        ensures options { IfOk result (λ builder. builder.options ≡ options) }
     {
         let mut tree = Tree::new(alloc);
         tree.put(
@@ -52,8 +50,7 @@ impl Builder {
         )?;
         Ok(Builder {
             tree,
-            redirects,
-            metacopy,
+            options,
             alloc,
         })
     }
@@ -62,8 +59,7 @@ impl Builder {
     fn put(&mut self, path: &Path, node: Node) -> Result<(), AllocError>
         ensures ok { OnOk result (tree_of self.new.tree.slots.items ≡ planted (tree_of self.old.tree.slots.items) path.now (node_of node)) }
         ensures err { OnErr result (tree_of self.new.tree.slots.items ≡ tree_of self.old.tree.slots.items) }
-        ensures redirects { self.new.redirects ≡ self.old.redirects }
-        ensures metacopy { self.new.metacopy ≡ self.old.metacopy }
+        ensures options { self.new.options ≡ self.old.options }
     {
         if let Some((directory, name)) = self.tree.way_of(self.alloc, path.names())? {
             let id = Id::at(self.alloc, path)?;
@@ -82,8 +78,7 @@ impl Builder {
     ) -> Result<(), AllocError>
         ensures ok { OnOk result (tree_of self.new.tree.slots.items ≡ planted (tree_of self.old.tree.slots.items) path.now (plain.Branch attributes is_base map.empty 1)) }
         ensures err { OnErr result (tree_of self.new.tree.slots.items ≡ tree_of self.old.tree.slots.items) }
-        ensures redirects { self.new.redirects ≡ self.old.redirects }
-        ensures metacopy { self.new.metacopy ≡ self.old.metacopy }
+        ensures options { self.new.options ≡ self.old.options }
     {
         let names = Names::new(self.alloc);
         self.put(
@@ -109,8 +104,7 @@ impl Builder {
     ) -> Result<(), AllocError>
         ensures ok { OnOk result (tree_of self.new.tree.slots.items ≡ planted (tree_of self.old.tree.slots.items) path.now (plain.Leaf content attributes (origin_of origin) count)) }
         ensures err { OnErr result (tree_of self.new.tree.slots.items ≡ tree_of self.old.tree.slots.items) }
-        ensures redirects { self.new.redirects ≡ self.old.redirects }
-        ensures metacopy { self.new.metacopy ≡ self.old.metacopy }
+        ensures options { self.new.options ≡ self.old.options }
     {
         self.put(
             path,
@@ -128,8 +122,7 @@ impl Builder {
     pub fn name(&mut self, path: &Path, of: &Path) -> Result<(), AllocError>
         ensures ok { OnOk result (tree_of self.new.tree.slots.items ≡ named (tree_of self.old.tree.slots.items) path.now of.now) }
         ensures err { OnErr result (tree_of self.new.tree.slots.items ≡ tree_of self.old.tree.slots.items) }
-        ensures redirects { self.new.redirects ≡ self.old.redirects }
-        ensures metacopy { self.new.metacopy ≡ self.old.metacopy }
+        ensures options { self.new.options ≡ self.old.options }
     {
         let way = self.tree.way_of(self.alloc, path.names())?;
         let node = self.tree.node_at(self.alloc, of.names())?;
@@ -141,12 +134,11 @@ impl Builder {
 
     /// The plain machine at the tree, with no client.
     pub fn finish(self) -> Reference
-        ensures { state_of result ≡ opening (tree_of self.tree.slots.items) (record { redirects = self.redirects; metacopy = self.metacopy; read_only = false }) }
+        ensures { state_of result ≡ opening (tree_of self.tree.slots.items) (options_of self.options) }
     {
         let Builder {
             tree,
-            redirects,
-            metacopy,
+            options,
             alloc,
         } = self;
         let unwatched = Unwatched {
@@ -154,8 +146,7 @@ impl Builder {
             clients: Clients::new(alloc),
             serial: 0,
             renames: 0,
-            redirects,
-            metacopy,
+            options,
             alloc,
         };
         Reference {

@@ -118,13 +118,13 @@ impl Unwatched {
 
     // Gives a node a further name, the last one of a path. The name is there before it is counted.
     fn add_name(&mut self, path: &Path, id: &Id) -> Result<(), AllocError>
-        ensures ok { OnOk result (tree_of self.new.tree.slots.items ≡ lead_way (change (gained self.old.metacopy) (tree_of self.old.tree.slots.items) (Some id.now)) (way_of (tree_of self.old.tree.slots.items) path.now) (Some id.now)) }
+        ensures ok { OnOk result (tree_of self.new.tree.slots.items ≡ lead_way (change (gained self.old.options.metacopy) (tree_of self.old.tree.slots.items) (Some id.now)) (way_of (tree_of self.old.tree.slots.items) path.now) (Some id.now)) }
         ensures err { OnErr result (tree_of self.new.tree.slots.items ≡ tree_of self.old.tree.slots.items) }
         ensures rest { self.new ≡ record self.old { tree = self.new.tree } }
     {
         let way = self.tree.way_of(self.alloc, path.names())?;
         self.tree.lead_way(&way, id)?;
-        self.tree.gain_name(self.metacopy, id);
+        self.tree.gain_name(self.options.metacopy, id);
         Ok(())
     }
 

@@ -18,7 +18,9 @@ mod instance;
 mod instances;
 mod names;
 mod node;
+mod open_refusals;
 mod opens;
+mod options;
 mod queue;
 mod reference;
 mod refusals;
@@ -40,4 +42,5 @@ mod ways;
 
 pub use builder::Builder;
 pub use node::Origin;
+pub use options::MountOptions;
 pub use reference::Reference;

@@ -1,5 +1,5 @@
 // Which calls are refused, and by which number: for each call the first line that applies.
-ghost use Rattle.std.specs.Prelude.{◌≡◌, nat_eq, nat_lt, not, ◌&&◌, ◌||◌, is_none, length, IfOk};
+ghost use Rattle.std.specs.Prelude.{◌≡◌, nat_eq, nat_lt, not, ◌&&◌, is_none, length, IfOk};
 ghost use Rattle.std.specs.Option.{option_copied};
 ghost use Rattle.ov_base.specs.declared.call.Call.TheVariants as call;
 ghost use Rattle.plain_model.specs.Tree as plain;
@@ -12,11 +12,10 @@ ghost use Rattle.plain_reference.specs.Slots.{tree_of};
 ghost use Rattle.plain_reference.specs.Looks.{look_of};
 ghost use Rattle.plain_reference.specs.States.{unwatched_of};
 
-use crate::clients::lowest_free;
 use crate::node::{Node, has_names, is_folder, is_link, user_count, value_of};
 use crate::unwatched::Unwatched;
 use crate::walk::Look;
-use ov_base::{AttributeName, Bytes, Errno, OpenFlags, Path};
+use ov_base::{AttributeName, Bytes, Errno, Path};
 use std::alloc::AllocError;
 
 /// A refusal, where its line applies.
@@ -61,20 +60,11 @@ pub fn is_root(path: &Path) -> bool
     path.names().is_empty()
 }
 
-fn bad_mode(mode: u32) -> Option<Errno>
+/// A mode past 7777.
+pub fn bad_mode(mode: u32) -> Option<Errno>
     ensures { result ≡ rule.bad_mode mode }
 {
     when(mode > 0o7777, Errno::EINVAL)
-}
-
-fn bad_flags(flags: OpenFlags) -> bool
-    ensures { result ≡ rule.bad_flags flags }
-{
-    (!flags.reads && !flags.writes)
-        || flags.unknown
-        || (flags.exclusive && !flags.create)
-        || (flags.truncate && !flags.writes)
-        || (flags.directory && flags.create)
 }
 
 fn has_nul(bytes: &[u8]) -> bool
@@ -244,60 +234,22 @@ fn link_line(look: &Look, node: Option<&Node>, new: &Look) -> Option<Errno>
     when(is_folder(node), Errno::EPERM)
 }
 
-fn open_line(
-    flags: OpenFlags,
-    mode: u32,
-    look: &Look,
-    node: Option<&Node>,
-    free: Option<usize>,
-) -> Option<Errno>
-    ensures { result ≡ rule.open_refusal flags mode (look_of look.now) (shown (option_copied node.entry)) free }
-{
-    if bad_flags(flags) {
-        return Some(Errno::EINVAL);
-    }
-    if let Some(errno) = bad_mode(mode) {
-        return Some(errno);
-    }
-    if let Some(errno) = walked(look) {
-        return Some(errno);
-    }
-    if !is_found(look) && !flags.create {
-        return Some(Errno::ENOENT);
-    }
-    open_there(flags, look, node, free)
-}
-
-// The lines of an open whose path is walked and has what it needs.
-fn open_there(
-    flags: OpenFlags,
-    look: &Look,
-    node: Option<&Node>,
-    free: Option<usize>,
-) -> Option<Errno>
-    ensures { result ≡ (rule.when (machine.is_found (look_of look.now) && flags.create && flags.exclusive) Errno.EEXIST or_else rule.when (machine.is_link (shown (option_copied node.entry))) Errno.ELOOP or_else rule.when (machine.is_found (look_of look.now) && flags.directory && not (plain.is_folder (shown (option_copied node.entry)))) Errno.ENOTDIR or_else rule.when (plain.is_folder (shown (option_copied node.entry)) && (flags.writes || flags.create)) Errno.EISDIR or_else rule.when (is_none free) Errno.EMFILE) }
-{
-    if is_found(look) && flags.create && flags.exclusive {
-        return Some(Errno::EEXIST);
-    }
-    if is_link(node) {
-        return Some(Errno::ELOOP);
-    }
-    if is_found(look) && flags.directory && !is_folder(node) {
-        return Some(Errno::ENOTDIR);
-    }
-    if is_folder(node) && (flags.writes || flags.create) {
-        return Some(Errno::EISDIR);
-    }
-    when(free.is_none(), Errno::EMFILE)
-}
-
 impl Unwatched {
     /// The walk of a path.
     pub(crate) fn look(&self, path: &Path) -> Result<Look, AllocError>
         ensures { IfOk result (λ found. look_of found ≡ machine.look (tree_of self.now.tree.slots.items) path.now) }
     {
         self.tree.look(self.alloc, path.names())
+    }
+
+    /// The refusal of a call with these lines. Where nothing may be written, a call that writes is refused last.
+    pub(crate) fn or_read_only(&self, lines: Option<Errno>, writes: bool) -> Option<Errno>
+        ensures { result ≡ (lines or_else rule.when (writes && self.now.options.read_only) Errno.EROFS) }
+    {
+        if let Some(errno) = lines {
+            return Some(errno);
+        }
+        when(writes && self.options.read_only, Errno::EROFS)
     }
 
     pub(crate) fn stat_refusal(&self, client: u32, path: &Path) -> Result<Option<Errno>, AllocError>
@@ -329,7 +281,7 @@ impl Unwatched {
     {
         let look = self.look(path)?;
         let node = self.tree.node_found(&look);
-        Ok(chmod_line(mode, &look, node))
+        Ok(self.or_read_only(chmod_line(mode, &look, node), true))
     }
 
     pub(crate) fn chown_refusal(
@@ -343,7 +295,7 @@ impl Unwatched {
     {
         let look = self.look(path)?;
         let node = self.tree.node_found(&look);
-        Ok(solid_line(&look, node))
+        Ok(self.or_read_only(solid_line(&look, node), true))
     }
 
     pub(crate) fn list_attributes_refusal(
@@ -370,7 +322,8 @@ impl Unwatched {
         let fault = bad_attribute(name)?;
         let look = self.look(path)?;
         let node = self.tree.node_found(&look);
-        Ok(set_attribute_line(fault, name, value, &look, node))
+        let lines = set_attribute_line(fault, name, value, &look, node);
+        Ok(self.or_read_only(lines, true))
     }
 
     pub(crate) fn get_attribute_refusal(
@@ -398,7 +351,7 @@ impl Unwatched {
         let fault = bad_attribute(name)?;
         let look = self.look(path)?;
         let node = self.tree.node_found(&look);
-        Ok(held_attribute_line(fault, name, &look, node))
+        Ok(self.or_read_only(held_attribute_line(fault, name, &look, node), true))
     }
 
     pub(crate) fn mkdir_refusal(
@@ -410,7 +363,7 @@ impl Unwatched {
         ensures { IfOk result (λ errno. errno ≡ refusal (unwatched_of self.now) client (call.Mkdir path.now mode)) }
     {
         let look = self.look(path)?;
-        Ok(mkdir_line(mode, &look))
+        Ok(self.or_read_only(mkdir_line(mode, &look), true))
     }
 
     pub(crate) fn symlink_refusal(
@@ -422,7 +375,7 @@ impl Unwatched {
         ensures { IfOk result (λ errno. errno ≡ refusal (unwatched_of self.now) client (call.Symlink target.now path.now)) }
     {
         let look = self.look(path)?;
-        Ok(symlink_line(target, &look))
+        Ok(self.or_read_only(symlink_line(target, &look), true))
     }
 
     pub(crate) fn unlink_refusal(
@@ -434,7 +387,7 @@ impl Unwatched {
     {
         let look = self.look(path)?;
         let node = self.tree.node_found(&look);
-        Ok(unlink_line(path, &look, node))
+        Ok(self.or_read_only(unlink_line(path, &look, node), true))
     }
 
     pub(crate) fn rmdir_refusal(
@@ -446,7 +399,7 @@ impl Unwatched {
     {
         let look = self.look(path)?;
         let node = self.tree.node_found(&look);
-        Ok(rmdir_line(path, &look, node))
+        Ok(self.or_read_only(rmdir_line(path, &look, node), true))
     }
 
     pub(crate) fn link_refusal(
@@ -460,21 +413,6 @@ impl Unwatched {
         let look = self.look(old)?;
         let node = self.tree.node_found(&look);
         let further = self.look(new)?;
-        Ok(link_line(&look, node, &further))
-    }
-
-    pub(crate) fn open_refusal(
-        &self,
-        client: u32,
-        path: &Path,
-        flags: OpenFlags,
-        mode: u32,
-    ) -> Result<Option<Errno>, AllocError>
-        ensures { IfOk result (λ errno. errno ≡ refusal (unwatched_of self.now) client (call.Open path.now flags mode)) }
-    {
-        let look = self.look(path)?;
-        let node = self.tree.node_found(&look);
-        let free = lowest_free(self.clients.as_slice(), client);
-        Ok(open_line(flags, mode, &look, node, free))
+        Ok(self.or_read_only(link_line(&look, node, &further), true))
     }
 }

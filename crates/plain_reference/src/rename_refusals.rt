@@ -92,9 +92,9 @@ impl Unwatched {
     {
         let look = self.look(old)?;
         let target = self.look(new)?;
-        Ok(
-            self.tree
-                .rename_line(self.redirects, old, new, &look, &target),
-        )
+        let lines = self
+            .tree
+            .rename_line(self.options.redirects, old, new, &look, &target);
+        Ok(self.or_read_only(lines, !same_found(&look, &target)))
     }
 }

@@ -41,7 +41,7 @@ impl Tree {
 impl Unwatched {
     // Moves a node from one path to another. What is there loses the name, and the handles that were opened by the old way in follow.
     fn move_node(&mut self, node: &Id, old: &Path, new: &Path) -> Result<(), AllocError>
-        ensures tree { OnOk result (tree_of self.new.tree.slots.items ≡ (let t = tree_of self.old.tree.slots.items in settled self.old.clients.list.items (lead_way (lead_way (change (copied_up self.old.metacopy) (change one_fewer t (node_at t new.now)) (Some node.now)) (way_of t new.now) (Some node.now)) (way_of t old.now) None) (node_at t new.now))) }
+        ensures tree { OnOk result (tree_of self.new.tree.slots.items ≡ (let t = tree_of self.old.tree.slots.items in settled self.old.clients.list.items (lead_way (lead_way (change (copied_up self.old.options.metacopy) (change one_fewer t (node_at t new.now)) (Some node.now)) (way_of t new.now) (Some node.now)) (way_of t old.now) None) (node_at t new.now))) }
         ensures list { OnOk result (self.new.clients.list.items ≡ (let t = tree_of self.old.tree.slots.items in re_ways self.old.clients.list.items (Some node.now) (way_of t old.now) (way_of t new.now))) }
         ensures arrived { self.new.clients.arrived ≡ self.old.clients.arrived }
         ensures rest { self.new ≡ record self.old { tree = self.new.tree; clients = self.new.clients } }
@@ -52,7 +52,7 @@ impl Unwatched {
         let to = self.tree.way_of(self.alloc, new.names())?;
         let copies = self.clients.copies(self.alloc, node, &from, &to)?;
         self.tree
-            .rename(self.metacopy, node, &from, &to, &replaced)?;
+            .rename(self.options.metacopy, node, &from, &to, &replaced)?;
         self.settle_any(&replaced);
         self.clients.re_way(node, &from, copies);
         Ok(())

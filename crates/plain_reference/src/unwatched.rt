@@ -4,21 +4,20 @@ ghost use Rattle.plain_reference.specs.States.{unwatched_of, Mute};
 ghost use Rattle.plain_reference.specs.Offers.{AnswersBy, is_made_alone};
 
 use crate::clients::Clients;
+use crate::options::MountOptions;
 use crate::tree::Tree;
 use ov_base::{Call, Reply};
 use std::alloc::{AllocError, Global};
 
 /// The plain machine without its watches: the tree, the attached clients' descriptors, the next serial, how many renames moved
-/// something, whether renames of base directories make redirects, and whether files are copied up without their bytes where these
-/// don't change.
+/// something, and what the mount was told as it began.
 #[derive(Drop)]
 pub struct Unwatched {
     pub(crate) tree: Tree,
     pub(crate) clients: Clients,
     pub(crate) serial: u64,
     pub(crate) renames: u64,
-    pub(crate) redirects: bool,
-    pub(crate) metacopy: bool,
+    pub(crate) options: MountOptions,
     pub(crate) alloc: Global,
 }
 

@@ -43,7 +43,8 @@ pub struct Entry<'a> {
     pub metacopy: Option<&'a [u8]>,
 }
 
-/// The layers of a manifest, the upper first. None where the manifest isn't of that form.
+/// The layers of a manifest, the upper first; without one, an upper that holds nothing, with the root of the first layer. None where the
+/// manifest isn't of that form.
 pub fn layers_of<'a>(
     alloc: Global,
     manifest: &'a Table,
@@ -59,7 +60,28 @@ pub fn layers_of<'a>(
         let entries = with_links(alloc, entries.as_slice())?;
         layers.push(PlainLayer { entries })?;
     }
+    if !has_upper(manifest) {
+        put_bare(alloc, &mut layers)?;
+    }
     Ok(Some(layers))
+}
+
+/// Whether the first layer of a manifest is an upper.
+pub fn has_upper(manifest: &Table) -> bool {
+    manifest
+        .get("upper")
+        .and_then(Value::as_bool)
+        .unwrap_or(true)
+}
+
+// Puts an upper that holds nothing above layers, with the root of the first.
+fn put_bare(alloc: Global, layers: &mut Vec<PlainLayer<'_>>) -> Result<(), AllocError> {
+    let Some(first) = layers.first() else {
+        return Ok(());
+    };
+    let upper = first.bare(alloc)?;
+    layers.insert(0, upper)?;
+    Ok(())
 }
 
 fn items(value: Option<&Value>) -> &[Value] {

@@ -1,11 +1,13 @@
 // Scripts made by a seeded generator, on the engine and on the slow reference.
 use crate::dice::Dice;
 use crate::engine::{look_ups_difference, run_of};
+use crate::manifests::Manifests;
 use crate::playing::reference_difference;
 use crate::random_calls::{push_call, push_open_of};
 use crate::random_watches::{push_arm_of, push_watch_call};
 use std::alloc::{AllocError, Global};
 use std::hash::RandomState;
+use std::ops::Range;
 use std::rt::Files;
 use std::{fs, io};
 
@@ -21,13 +23,8 @@ const LINES: u32 = 40;
 
 const LINES_MORE: u32 = 20;
 
-// What makes a manifest one whose mount makes redirects, and one whose mount copies files up without their bytes, too.
-const REDIRECTS: &[u8] = b"redirect_dir = \"on\"\n";
-
-const METACOPY: &[u8] = b"redirect_dir = \"on\"\nmetacopy = \"on\"\n";
-
-/// Plays generated scripts over the manifest of a file, half of them on a mount that makes redirects and half of these on one that copies files
-/// up without their bytes, and tells how many get the same lines from the engine and from the reference.
+/// Plays generated scripts over the manifest of a file, a quarter of them on a mount that makes redirects, a quarter on one that copies files up
+/// without their bytes, too, and a sixth on one without an upper, and tells how many get the same lines from the engine and from the reference.
 pub fn play_generated<R: Files + AllocGlobal + Print>(
     rt: &R,
     keys: RandomState,
@@ -37,49 +34,13 @@ pub fn play_generated<R: Files + AllocGlobal + Print>(
     let mut count = 0u64;
     for seed in 0..SCRIPTS {
         let manifest = manifests.with_seed(seed);
-        let script = script_of(rt.alloc(), seed, layers)?;
-        match script_difference(rt.alloc(), keys, manifest, script.as_bytes())? {
+        let script = script_of(rt.alloc(), seed, manifest.numbers(layers))?;
+        match script_difference(rt.alloc(), keys, manifest.text, script.as_bytes())? {
             None => count = count.saturating_add(1),
             Some(found) => println!(rt; "script {seed} over {file} differs: {found}")?,
         }
     }
     println!(rt; "{count} generated scripts over {file} agree")
-}
-
-/// One manifest as that of three mounts.
-#[derive(Drop)]
-pub struct Manifests {
-    follows: Vec<u8>,
-    redirects: Vec<u8>,
-    metacopy: Vec<u8>,
-}
-
-impl Manifests {
-    /// The manifest of a mount that makes neither, and with either option on top.
-    pub fn of(alloc: Global, follows: Vec<u8>) -> Result<Manifests, AllocError> {
-        let redirects = with_options(alloc, REDIRECTS, follows.as_slice())?;
-        let metacopy = with_options(alloc, METACOPY, follows.as_slice())?;
-        Ok(Manifests {
-            follows,
-            redirects,
-            metacopy,
-        })
-    }
-
-    /// The one that goes with a seed.
-    pub fn with_seed(&self, seed: u64) -> &[u8] {
-        match seed & 3 {
-            1 => self.redirects.as_slice(),
-            3 => self.metacopy.as_slice(),
-            _ => self.follows.as_slice(),
-        }
-    }
-}
-
-fn with_options(alloc: Global, options: &[u8], manifest: &[u8]) -> Result<Vec<u8>, AllocError> {
-    let mut text = Vec::from_slice(alloc, options)?;
-    text.extend_from_slice(manifest)?;
-    Ok(text)
 }
 
 fn script_difference(
@@ -99,7 +60,7 @@ fn script_difference(
 
 // Three clients come, watch, open files and make calls, one goes with what it has open, another comes, and there are more calls. Then what
 // stands at some paths is read, and the layers and the whole tree are printed.
-fn script_of(alloc: Global, seed: u64, layers: u32) -> Result<String, AllocError> {
+fn script_of(alloc: Global, seed: u64, layers: Range<u32>) -> Result<String, AllocError> {
     let mut dice = Dice::new(seed);
     let mut script = String::from_str(alloc, "attach\nattach\nattach\n")?;
     push_arms(&mut dice, &["0", "1", "2"], &mut script)?;
@@ -113,7 +74,7 @@ fn script_of(alloc: Global, seed: u64, layers: u32) -> Result<String, AllocError
     push_unread(&["0", "2", "3"], &mut script)?;
     push_readings(alloc, &mut script)?;
     push_unread(&["0", "2", "3"], &mut script)?;
-    for layer in 0..layers {
+    for layer in layers {
         script.push_str(format!(in alloc; "layer {layer}\n")?.as_str())?;
     }
     script.push_str("merge\n")?;

@@ -2,7 +2,7 @@
 use crate::dice::Dice;
 use crate::engine::{look_ups_difference_in_turn, run_of};
 use crate::expanded::push_line;
-use crate::generated::Manifests;
+use crate::manifests::{Manifest, Manifests};
 use crate::playing::reference_difference;
 use crate::random_calls::push_open_of;
 use crate::random_steps::{FILES, PLACES, push_turn};
@@ -33,9 +33,9 @@ const LINES: u32 = 60;
 
 const LINES_MORE: u32 = 40;
 
-/// Plays generated scripts, half of them on a mount that makes redirects and half of these on one
-/// that copies files up without their bytes, and tells how many get the same lines from the engine
-/// and from the reference.
+/// Plays generated scripts, a quarter of them on a mount that makes redirects, a quarter on one that
+/// copies files up without their bytes, too, and a sixth on one without an upper, and tells how many
+/// get the same lines from the engine and from the reference.
 pub fn play_generated_steps<R: Files + AllocGlobal + Print>(
     rt: &R,
     keys: RandomState,
@@ -64,12 +64,12 @@ fn expanded(alloc: Global, text: &str) -> Result<Vec<u8>, AllocError> {
 fn step_difference(
     alloc: Global,
     keys: RandomState,
-    manifest: &[u8],
+    manifest: Manifest<'_>,
     seed: u64,
 ) -> io::Result<Option<String>> {
     let hooks = hooks_by_slot(alloc)?;
     match drafted(alloc, keys, manifest, hooks.as_slice(), seed)? {
-        Some(script) => script_difference(alloc, keys, seed, (manifest, script.as_bytes())),
+        Some(script) => script_difference(alloc, keys, seed, (manifest.text, script.as_bytes())),
         None => Ok(Some(String::from_str(alloc, "there is no mount")?)),
     }
 }
@@ -95,14 +95,15 @@ fn script_difference(
 fn drafted<F: Callback + Copy, R: Rule>(
     alloc: Global,
     keys: RandomState,
-    manifest: &[u8],
+    manifest: Manifest<'_>,
     hooks: &[Hook<F, R>],
     seed: u64,
 ) -> Result<Option<String>, AllocError> {
-    let Ok(core) = core_of::<F, R>(alloc, keys, manifest) else {
+    let Ok(core) = core_of::<F, R>(alloc, keys, manifest.text) else {
         return Ok(None);
     };
     let mut draft = Draft {
+        manifest,
         dice: Dice::new(seed),
         text: String::new(alloc),
         stepper: Stepper::new(alloc, core),
@@ -115,13 +116,14 @@ fn drafted<F: Callback + Copy, R: Rule>(
 
 // A script on its way, and the mount on which its lines were played, which tells whose call goes
 // on.
-struct Draft<F: Callback, R: Rule> {
+struct Draft<'a, F: Callback, R: Rule> {
+    manifest: Manifest<'a>,
     dice: Dice,
     text: String,
     stepper: Stepper<F, R>,
 }
 
-impl<F: Callback + Copy, R: Rule> Draft<F, R> {
+impl<F: Callback + Copy, R: Rule> Draft<'_, F, R> {
     // Three clients come, and some watch and open files. Then they make calls in steps, one goes,
     // another comes, and there are more. What stands at some paths is read, while calls may go on.
     fn fill(&mut self, alloc: Global, hooks: &[Hook<F, R>]) -> Result<(), AllocError> {
@@ -135,7 +137,7 @@ impl<F: Callback + Copy, R: Rule> Draft<F, R> {
         push_readings(alloc, &mut lines)?;
         self.add(alloc, hooks, &mut lines)?;
         self.add_ends(alloc, hooks, &["0", "2", "3"])?;
-        push_sights(alloc, &mut lines)?;
+        push_sights(alloc, self.manifest, &mut lines)?;
         self.add(alloc, hooks, &mut lines)
     }
 
@@ -148,10 +150,11 @@ impl<F: Callback + Copy, R: Rule> Draft<F, R> {
         clients: &[&'static str],
     ) -> Result<(), AllocError> {
         let mut line = String::new(alloc);
+        let sight = self.manifest.first_layer();
         for _ in 0..count {
             let client = self.dice.pick(clients);
             let is_calling = self.stepper.is_calling(number_of(client));
-            push_turn(&mut self.dice, client, is_calling, &mut line)?;
+            push_turn(&mut self.dice, client, is_calling, sight, &mut line)?;
             self.add(alloc, hooks, &mut line)?;
         }
         Ok(())
@@ -188,6 +191,7 @@ impl<F: Callback + Copy, R: Rule> Draft<F, R> {
     // The script.
     fn end(self) -> String {
         let Draft {
+            manifest: _,
             dice: _,
             text,
             stepper,
@@ -242,10 +246,15 @@ fn push_reading(alloc: Global, path: &str, lines: &mut String) -> Result<(), All
 }
 
 // The layers and the tree. In the end no client is there, and no temp.
-fn push_sights(alloc: Global, lines: &mut String) -> Result<(), AllocError> {
+fn push_sights(
+    alloc: Global,
+    manifest: Manifest<'_>,
+    lines: &mut String,
+) -> Result<(), AllocError> {
     lines.push_str("work\n")?;
-    for layer in 0..LAYERS {
+    for layer in manifest.numbers(LAYERS) {
         lines.push_str(format!(in alloc; "layer {layer}\n")?.as_str())?;
     }
-    lines.push_str("merge\n0 detach\n2 detach\n3 detach\n4 detach\nwork\nlayer 0\n")
+    lines.push_str("merge\n0 detach\n2 detach\n3 detach\n4 detach\nwork\n")?;
+    lines.push_str(manifest.first_layer())
 }

@@ -14,6 +14,7 @@ mod generated_steps;
 mod history;
 mod kept_trees;
 mod layer_lines;
+mod manifests;
 mod merged;
 mod mount;
 mod opening;
@@ -42,7 +43,7 @@ use std::sync::Wait;
 use std::{fs, io};
 
 /// The files of the rows, each on one subject.
-const FILES: [&str; 20] = [
+const FILES: [&str; 21] = [
     "look_up.rows",
     "kept.rows",
     "redirects.rows",
@@ -54,6 +55,7 @@ const FILES: [&str; 20] = [
     "refusals.rows",
     "attributes.rows",
     "metacopy.rows",
+    "read_only.rows",
     "descriptors_and_clients.rows",
     "script_forms.rows",
     "manifest_faults.rows",

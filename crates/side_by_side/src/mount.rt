@@ -1,6 +1,6 @@
 // The mount of a manifest, by the slow reference.
 use crate::answers::{not_taken_line, reply_line};
-use crate::entries::layers_of;
+use crate::entries::{has_upper, layers_of};
 use crate::history::History;
 use crate::layer_lines::push_layer;
 use crate::opening::reference_of;
@@ -8,7 +8,7 @@ use crate::pending::Begun;
 use crate::plain_layer::PlainLayer;
 use crate::tree_lines::push_tree;
 use ov_base::{Call, Errno};
-use plain_reference::Reference;
+use plain_reference::{MountOptions, Reference};
 use std::alloc::{AllocError, Global};
 use std::collections::BTreeMap;
 use toml::{Table, Value};
@@ -18,7 +18,8 @@ use toml::{Table, Value};
 pub struct PlainMount {
     pub reference: Reference,
     manifest: Table,
-    pub layers: usize,
+    // How many layers there are, with the upper that holds nothing where the manifest has none.
+    layers: usize,
     pub history: History,
     /// The call of each client that has begun one and to which no answer came.
     pub begun: BTreeMap<u32, Begun>,
@@ -47,12 +48,12 @@ fn opened(alloc: Global, manifest: &Table) -> Result<Option<(Reference, usize)>,
     let Some(layers) = layers_of(alloc, manifest)? else {
         return Ok(None);
     };
-    match reference_of(
-        alloc,
-        layers.as_slice(),
-        is_on(manifest, "redirect_dir"),
-        is_on(manifest, "metacopy"),
-    )? {
+    let options = MountOptions {
+        redirects: is_on(manifest, "redirect_dir"),
+        metacopy: is_on(manifest, "metacopy"),
+        read_only: !has_upper(manifest),
+    };
+    match reference_of(alloc, layers.as_slice(), options)? {
         Some(reference) => Ok(Some((reference, layers.len()))),
         None => Ok(None),
     }
@@ -64,6 +65,16 @@ fn is_on(manifest: &Table, option: &str) -> bool {
 }
 
 impl PlainMount {
+    /// Whether the mount has an upper.
+    pub fn has_upper(&self) -> bool {
+        has_upper(&self.manifest)
+    }
+
+    /// Whether there is a layer of a number; without an upper there is none of 0.
+    pub fn has_layer(&self, index: usize) -> bool {
+        index < self.layers && (index > 0 || self.has_upper())
+    }
+
     /// Whether a client is attached and has begun no call.
     pub fn may_call(&self, client: u32) -> bool {
         self.reference.is_attached(client) && !self.begun.contains_key(&client)
@@ -124,7 +135,12 @@ impl PlainMount {
 /// The lines of the tree that layers show; none where the root of the upper has no mode.
 pub fn lines_of(alloc: Global, layers: &[PlainLayer<'_>]) -> Result<String, AllocError> {
     let mut lines = String::new(alloc);
-    if let Some(reference) = reference_of(alloc, layers, false, false)? {
+    let options = MountOptions {
+        redirects: false,
+        metacopy: false,
+        read_only: false,
+    };
+    if let Some(reference) = reference_of(alloc, layers, options)? {
         push_tree(alloc, &reference, &mut lines)?;
     }
     Ok(lines)

@@ -4,16 +4,15 @@ use crate::entries::Kind;
 use crate::merged::{Shown, shown_below};
 use crate::plain_layer::PlainLayer;
 use ov_base::Path;
-use plain_reference::{Builder, Origin, Reference};
+use plain_reference::{Builder, MountOptions, Origin, Reference};
 use std::alloc::{AllocError, Global};
 
-/// The reference at the tree that layers show, which makes redirects and files without bytes of their own or not. None where there is no layer, or the root of the upper has no
+/// The reference at the tree that layers show, of a mount that is told this. None where there is no layer, or the root of the upper has no
 /// mode.
 pub fn reference_of(
     alloc: Global,
     layers: &[PlainLayer<'_>],
-    redirects: bool,
-    metacopy: bool,
+    options: MountOptions,
 ) -> Result<Option<Reference>, AllocError> {
     let Some(upper) = layers.first() else {
         return Ok(None);
@@ -21,7 +20,7 @@ pub fn reference_of(
     let Some(root) = attributes_of(alloc, &upper.root())? else {
         return Ok(None);
     };
-    let mut builder = Builder::new(alloc, root, redirects, metacopy)?;
+    let mut builder = Builder::new(alloc, root, options)?;
     let objects = shown_below(alloc, layers)?;
     for shown in objects.as_slice() {
         put(alloc, &mut builder, objects.as_slice(), shown)?;

@@ -1,5 +1,6 @@
 // Calls in steps on the reference, which has none: it keeps a call that was begun, and makes it at
-// once where its last step is wanted, or where no call has as many steps.
+// once where its last step is wanted, or where no call has as many steps. Without an upper each
+// call has one.
 use crate::answers::{dropped_line, more_line, not_taken_line, work_line};
 use crate::mount::PlainMount;
 use ov_base::Call;
@@ -66,13 +67,18 @@ pub fn stepped(
         return Ok(None);
     };
     let steps = before.saturating_add(steps);
-    let may_go_on = steps < STEPS_MOST && may_copy_up(&call) && mount.history.room() > 0;
+    let may_go_on = steps < steps_most(mount) && may_copy_up(&call) && mount.history.room() > 0;
     let more = more_line(alloc, client)?;
     if may_go_on && wanted.starts_with(more.as_bytes()) {
         mount.begun.insert(client, Begun { call, steps })?;
         return Ok(Some(more));
     }
     Ok(Some(mount.make(alloc, client, &call)?))
+}
+
+// The most steps that a call takes on a mount.
+fn steps_most(mount: &PlainMount) -> u64 {
+    if mount.has_upper() { STEPS_MOST } else { 1 }
 }
 
 // Whether a call may want something in the upper layer that isn't there. One on a descriptor
@@ -106,13 +112,18 @@ pub fn dropped(
     }
 }
 
-/// The line of how many temps there are, which is wanted: at most one for each call that was begun.
+/// The line of how many temps there are, which is wanted: at most one for each call that was begun, and none without an upper.
 pub fn counted(alloc: Global, mount: &PlainMount, wanted: &[u8]) -> Result<String, AllocError> {
-    for temps in 0..mount.begun.len() {
+    let most = if mount.has_upper() {
+        mount.begun.len()
+    } else {
+        0
+    };
+    for temps in 0..most {
         let line = work_line(alloc, temps)?;
         if wanted.starts_with(line.as_bytes()) {
             return Ok(line);
         }
     }
-    work_line(alloc, mount.begun.len())
+    work_line(alloc, most)
 }

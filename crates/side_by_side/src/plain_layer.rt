@@ -38,6 +38,13 @@ impl<'a> PlainLayer<'a> {
         }
     }
 
+    /// A layer that holds nothing, with the root of this one.
+    pub fn bare(&self, alloc: Global) -> Result<PlainLayer<'a>, AllocError> {
+        let mut entries = Vec::new(alloc);
+        entries.push(self.root())?;
+        Ok(PlainLayer { entries })
+    }
+
     /// What it holds in a directory, the last name first.
     pub fn inside(&self, alloc: Global, directory: &[u8]) -> Result<Vec<Entry<'a>>, AllocError> {
         let mut inside = Vec::new(alloc);

@@ -217,7 +217,7 @@ fn answer_of(
         Command::Start { client, call } => started(alloc, mount, client, &call)?,
         Command::Step { client, steps } => stepped(alloc, mount, client, steps, wanted)?,
         Command::Drop { client } => dropped(alloc, mount, client)?,
-        Command::Layer { index } => return Ok(layer_answer(index as usize, mount.layers)),
+        Command::Layer { index } => return Ok(layer_answer(mount, index as usize)),
         Command::Merge => Some(mount.merge_lines(alloc)?),
         Command::Work => Some(counted(alloc, mount, wanted)?),
     };
@@ -227,8 +227,8 @@ fn answer_of(
     }
 }
 
-fn layer_answer(index: usize, layers: usize) -> Answer {
-    if index < layers {
+fn layer_answer(mount: &PlainMount, index: usize) -> Answer {
+    if mount.has_layer(index) {
         Answer::Layer(index)
     } else {
         Answer::BadCommand

@@ -37,15 +37,16 @@ const FLAGS: [&str; 12] = [
     "w", "w", "w", "wa", "wa", "wc", "b", "b", "ba", "bc", "wt", "r",
 ];
 
-/// Appends the line of a client, of which a call goes on or not, or one that shows something.
+/// Appends the line of a client, of which a call goes on or not, or one that shows something, as `sight`, the line of a layer.
 pub fn push_turn(
     dice: &mut Dice,
     client: &'static str,
     is_calling: bool,
+    sight: &'static str,
     line: &mut String,
 ) -> Result<(), AllocError> {
     match dice.roll(32) {
-        0 => line.push_str("layer 0\n"),
+        0 => line.push_str(sight),
         1 => line.push_str("merge\n"),
         2 | 3 => line.push_str("work\n"),
         _ if is_calling => {

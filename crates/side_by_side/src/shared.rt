@@ -5,7 +5,6 @@ ghost use Rattle.locked_history.specs.Names.{IsNamed};
 use crate::shared_clients::{Answer, Clients};
 use crate::sights::Sight;
 use locked_history::{Blank, Mount, MountName, Receipt};
-use merged_lookup::Layers;
 use ov_base::Options;
 use ov_server::hooks_by_slot;
 use ov_wire::manifest_of;
@@ -131,7 +130,7 @@ fn plays<N: MountName, F: Callback + Copy, R: Rule, H: Wait>(
     let deeds = receipts.len();
     let (past, left) = mount.finish(receipts);
     let is_whole = past.len() == deeds && left.is_empty();
-    told.end(alloc, past.core().layers(), stop, is_whole)
+    told.end(alloc, past.core(), stop, is_whole)
 }
 
 impl Told {
@@ -177,10 +176,10 @@ impl Told {
     }
 
     // Tells what the mount showed where it ended; false where the script doesn't go on.
-    fn end(
+    fn end<F: Callback, R: Rule>(
         &mut self,
         alloc: Global,
-        layers: &Layers,
+        core: &Core<F, R>,
         stop: Stop,
         is_whole: bool,
     ) -> Result<bool, AllocError> {
@@ -191,7 +190,7 @@ impl Told {
         let good = match stop {
             Stop::End => return Ok(false),
             Stop::BadCommand => false,
-            Stop::Asks(sight) => sight.push_lines(alloc, layers, &mut self.text)?,
+            Stop::Asks(sight) => sight.push_lines(alloc, core, &mut self.text)?,
         };
         if !good {
             let line = self.lines;

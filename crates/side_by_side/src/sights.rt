@@ -1,8 +1,9 @@
 // What a script asks of a mount beside calls, and where its text ends.
 use crate::kept_trees::KeptLayer;
 use crate::tree_lines::push_tree;
-use merged_lookup::Layers;
+use overlay_core::Core;
 use std::alloc::{AllocError, Global};
+use watch_table::{Callback, Rule};
 
 /// What is seen of a mount: the layer of a number, or the merged tree.
 #[derive(Clone, Copy)]
@@ -12,14 +13,16 @@ pub enum Sight {
 }
 
 impl Sight {
-    /// Appends its lines; false where there is no layer of that number.
-    pub fn push_lines(
+    /// Appends its lines; false where there is no layer of that number. Without an upper there is none of 0.
+    pub fn push_lines<F: Callback, R: Rule>(
         self,
         alloc: Global,
-        layers: &Layers,
+        core: &Core<F, R>,
         lines: &mut String,
     ) -> Result<bool, AllocError> {
+        let layers = core.layers();
         match self {
+            Sight::Layer(0) if !core.has_upper() => return Ok(false),
             Sight::Tree => push_tree(alloc, layers, lines)?,
             Sight::Layer(index) => match layers.layer(index) {
                 Some(layer) => {

@@ -1,8 +1,14 @@
-// Mounts of manifests, their clients, and the replies to their calls.
-use ov_base::{Call, Reply};
-use ov_wire::manifest_of;
-use overlay_core::{Core, Job, Turn};
-use std::alloc::Global;
+// Mounts, their clients, and the replies to their calls.
+ghost use Rattle.std.specs.Prelude.{◌∷◌, All, map};
+ghost use Rattle.plain_model.specs.Layers.{AreLayers};
+ghost use Rattle.plain_model.specs.Limits.{IsWithinLimits};
+ghost use Rattle.layer_tree.specs.Tree.{layer_of};
+
+use crate::fixtures::read;
+use layer_tree::Layer;
+use ov_base::{Call, Options, Reply};
+use overlay_core::{Core, Job, Turn, Unmounted};
+use std::alloc::{AllocError, Global};
 use std::hash::RandomState;
 use std::test::Fail;
 use watch_table::{Callback, Hook, Rule};
@@ -10,16 +16,61 @@ use watch_table::{Callback, Hook, Rule};
 /// More attaches, calls and detaches than a test makes.
 pub const DEEDS_MAX: u64 = 1 << 32;
 
+// What comes of mounting these layers.
+fn mounting<F: Callback + Copy, H: Rule>(
+    alloc: Global,
+    keys: RandomState,
+    upper: Layer,
+    lowers: Vec<Layer>,
+    options: Options,
+) -> Result<Result<Core<F, H>, Unmounted>, AllocError>
+    requires layers { AreLayers (layer_of upper ∷ map layer_of lowers.items) }
+    requires limits { All IsWithinLimits (layer_of upper ∷ map layer_of lowers.items) }
+{
+    Core::mount(alloc, keys, Some(upper), lowers, options)
+}
+
+// A mount of these layers.
+pub fn mounted_on<F: Callback + Copy, H: Rule>(
+    alloc: Global,
+    keys: RandomState,
+    upper: Layer,
+    lowers: Vec<Layer>,
+    options: Options,
+) -> Result<Core<F, H>, Fail>
+    requires layers { AreLayers (layer_of upper ∷ map layer_of lowers.items) }
+    requires limits { All IsWithinLimits (layer_of upper ∷ map layer_of lowers.items) }
+{
+    match mounting(alloc, keys, upper, lowers, options)? {
+        Ok(core) => Ok(core),
+        Err(_) => Err(Fail::from("no mount")),
+    }
+}
+
 // A mount of a manifest.
 pub fn mounted<F: Callback + Copy, H: Rule>(
     alloc: Global,
     keys: RandomState,
     manifest: &str,
 ) -> Result<Core<F, H>, Fail> {
-    let (upper, lowers, options) = manifest_of(alloc, keys, manifest.as_bytes())?;
-    match Core::mount(alloc, keys, upper, lowers, options)? {
-        Ok(core) => Ok(core),
-        Err(_) => Err(Fail::from("no mount")),
+    let (upper, lowers, options) = read(alloc, keys, manifest)?;
+    mounted_on(alloc, keys, upper, lowers, options)
+}
+
+// Why these layers are no mount, and the layers, handed back.
+pub fn refused<F: Callback + Copy, H: Rule>(
+    alloc: Global,
+    keys: RandomState,
+    upper: Layer,
+    lowers: Vec<Layer>,
+    options: Options,
+) -> Result<Unmounted, Fail>
+    requires layers { AreLayers (layer_of upper ∷ map layer_of lowers.items) }
+    requires limits { All IsWithinLimits (layer_of upper ∷ map layer_of lowers.items) }
+{
+    match mounting::<F, H>(alloc, keys, upper, lowers, options)? {
+        Ok(_) => Err(Fail::from("a mount")),
+        Err(unmounted) => Ok(unmounted),
     }
 }
 

@@ -1,26 +1,39 @@
 // Layers that manifests spell, and paths.
-ghost use Rattle.std.specs.Prelude.{◌<◌, ◌≤◌, IfOk};
+ghost use Rattle.std.specs.Prelude.{◌<◌, ◌≤◌, ◌∷◌, All, IfOk, map};
 ghost use Rattle.std.specs.Vec.{vec_len};
+ghost use Rattle.plain_model.specs.Layers.{AreLayers};
+ghost use Rattle.plain_model.specs.Limits.{IsWithinLimits};
+ghost use Rattle.layer_tree.specs.Tree.{layer_of};
 
 use layer_tree::{Layer, Node};
 use merged_lookup::{Found, Layers};
-use ov_base::{Errno, Options, Path};
-use ov_wire::{ManifestFault, manifest_of};
+use ov_base::{Errno, OpenFlags, Options, Path};
+use ov_wire::manifest_of;
 use std::alloc::Global;
 use std::hash::RandomState;
 use std::process::Abort;
 use std::test::Fail;
 
-// The layers and options of a manifest.
+/// An empty upper over an empty lower layer.
+pub const EMPTY: &str = "layer = [{}, {}]";
+
+// The layers and options of a manifest that has an upper.
 pub fn read(
     alloc: Global,
     keys: RandomState,
     manifest: &str,
-) -> Result<(Layer, Vec<Layer>, Options), ManifestFault>
+) -> Result<(Layer, Vec<Layer>, Options), Fail>
     ensures some_lower { IfOk result (λ r. 0 < vec_len r.1) }
     ensures few_lowers { IfOk result (λ r. vec_len r.1 ≤ 16) }
+    ensures layers { IfOk result (λ r. AreLayers (layer_of r.0 ∷ map layer_of r.1.items)) }
+    ensures limits { IfOk result (λ r.
+        All IsWithinLimits (layer_of r.0 ∷ map layer_of r.1.items)) }
 {
-    manifest_of(alloc, keys, manifest.as_bytes())
+    let (upper, lowers, options) = manifest_of(alloc, keys, manifest.as_bytes())?;
+    match upper {
+        Some(upper) => Ok((upper, lowers, options)),
+        None => Err(Fail::from("no upper")),
+    }
 }
 
 // The layers of a manifest as a mount has them.
@@ -32,6 +45,20 @@ pub fn mount(alloc: Global, keys: RandomState, manifest: &str) -> Result<Layers,
 pub fn path(rt: &impl Abort, alloc: Global, text: &str) -> Path {
     let parsed = Path::parse(alloc, text.as_bytes()).expect(rt, "memory");
     parsed.expect(rt, "a path")
+}
+
+// The flags that open what is there for reading, or else for writing.
+pub fn flags(writes: bool) -> OpenFlags {
+    OpenFlags {
+        reads: !writes,
+        writes,
+        create: false,
+        exclusive: false,
+        truncate: false,
+        append: false,
+        directory: false,
+        unknown: false,
+    }
 }
 
 // The layer of what a path shows, of how many layers a directory is made, 0 for a file or a link, and the mode.

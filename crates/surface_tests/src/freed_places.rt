@@ -1,6 +1,6 @@
 // Files that lose their name while they are open leave their places in the upper to others.
 use crate::cores::{attached, detach, mounted, reply};
-use crate::fixtures::path;
+use crate::fixtures::{flags, path};
 use merged_lookup::Topmost;
 use ov_base::{Call, OpenFlags, Path, Reply};
 use ov_server::{ByTag, ProgramRule, hooks_by_slot};
@@ -35,19 +35,13 @@ fn open_nameless<F: Callback + Copy, H: Rule>(
 
 // The call that makes a file and opens it for writing.
 fn making(path: Path) -> Call {
-    let flags = OpenFlags {
-        reads: false,
-        writes: true,
-        create: true,
-        exclusive: true,
-        truncate: false,
-        append: false,
-        directory: false,
-        unknown: false,
-    };
     Call::Open {
         path,
-        flags,
+        flags: OpenFlags {
+            create: true,
+            exclusive: true,
+            ..flags(true)
+        },
         mode: 0o600,
     }
 }

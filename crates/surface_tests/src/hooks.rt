@@ -4,7 +4,7 @@ ghost use Rattle.ov_base.specs.declared.notice.Event.{Event};
 ghost use Rattle.plain_model.specs.Watching.{IsEvent};
 
 use crate::cores::{DEEDS_MAX, attached, mounted, reply};
-use crate::fixtures::path;
+use crate::fixtures::{EMPTY, path};
 use ov_base::{Call, Errno, Event, Notice, Reply, cookie_of};
 use overlay_core::Core;
 use std::alloc::Global;
@@ -13,8 +13,6 @@ use std::hash::RandomState;
 use std::process::Abort;
 use std::test::Fail;
 use watch_table::{AnyAnswer, Asked, Callback, Hook};
-
-const EMPTY: &str = "layer = [{}, {}]";
 
 /// The bit that asks for names that come.
 const CREATE: u32 = 0x100;

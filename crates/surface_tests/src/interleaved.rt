@@ -1,8 +1,8 @@
 // Jobs of many clients whose steps come between one another's, and jobs that are begun and dropped.
 use crate::cores::{DEEDS_MAX, attached, mounted, reply};
-use crate::fixtures::path;
+use crate::fixtures::{flags, path};
 use crate::schedules::drop_all;
-use ov_base::{Call, OpenFlags, Path, Reply};
+use ov_base::{Call, Path, Reply};
 use ov_server::{ByTag, ProgramRule};
 use overlay_core::{Core, Job, Turn, drive};
 use std::alloc::{AllocError, Global};
@@ -41,19 +41,9 @@ fn files(alloc: Global) -> Result<String, AllocError> {
 
 // Opens for writing.
 fn opening(path: Path) -> Call {
-    let flags = OpenFlags {
-        reads: false,
-        writes: true,
-        create: false,
-        exclusive: false,
-        truncate: false,
-        append: false,
-        directory: false,
-        unknown: false,
-    };
     Call::Open {
         path,
-        flags,
+        flags: flags(true),
         mode: 0,
     }
 }

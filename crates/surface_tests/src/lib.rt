@@ -1,6 +1,6 @@
-//! Tests of what no script reaches: streams that fail, command lines, options, schedules of jobs, callbacks that are asked, hooks that are
-//! too many, places that are freed, and public functions that no command calls. Scripts and manifests with what they come to are rows of
-//! `side_by_side`.
+//! Tests of what no script reaches: sessions on a core, streams that fail, command lines, options, schedules of jobs, callbacks that are
+//! asked, hooks that are too many, marks that no manifest makes, places that are freed, and public functions that no command calls. Scripts
+//! and manifests with what they come to are rows of `side_by_side`.
 #![tactic(auto)]
 
 #[cfg(test)]
@@ -20,10 +20,16 @@ mod look_ups;
 #[cfg(test)]
 mod manifests;
 #[cfg(test)]
+mod marked_files;
+#[cfg(test)]
 mod marks;
 #[cfg(test)]
 mod parents;
 #[cfg(test)]
+mod refused_mounts;
+#[cfg(test)]
 mod schedules;
+#[cfg(test)]
+mod sessions;
 #[cfg(test)]
 mod streams;

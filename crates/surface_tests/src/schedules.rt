@@ -1,10 +1,9 @@
-// Jobs that are stepped by a schedule, and a mount that is refused.
+// Jobs that are stepped by a schedule.
 use crate::cores::{DEEDS_MAX, attached, mounted};
 use crate::fixtures::path;
-use ov_base::{Call, Errno, Options, Reply};
-use ov_server::{ByTag, ProgramRule, hooks_by_slot};
-use ov_wire::manifest_of;
-use overlay_core::{Core, Job, MountFault, drive};
+use ov_base::{Call, Errno, Reply};
+use ov_server::hooks_by_slot;
+use overlay_core::{Core, Job, drive};
 use std::alloc::Global;
 use std::hash::RandomState;
 use std::process::Abort;
@@ -70,54 +69,4 @@ fn answers_on<F: Callback + Copy, H: Rule>(
     assert_eq!(rt; replies.len(), 2);
     assert_eq!(rt; indexes, [1, 0]);
     Ok(())
-}
-
-#[test]
-fn refuses_a_history_of_one(rt: HostRuntime) -> Result<(), Fail> {
-    refuses_histories::<_, ByTag, ProgramRule>(&rt, rt.alloc(), RandomState::new(&rt)?)
-}
-
-fn refuses_histories<A: Abort, F: Callback + Copy, H: Rule>(
-    rt: &A,
-    alloc: Global,
-    keys: RandomState,
-) -> Result<(), Fail> {
-    let (upper, lowers, options) = manifest_of(alloc, keys, DIRECTORY.as_bytes())?;
-    let options = Options {
-        history: 1,
-        ..options
-    };
-    match Core::<F, H>::mount(alloc, keys, upper, lowers, options)? {
-        Ok(_) => Err(Fail::from("a mount")),
-        Err(unmounted) => {
-            assert!(rt; unmounted.fault == MountFault::BadHistory);
-            assert_eq!(rt; unmounted.lowers.len(), 1);
-            Ok(())
-        }
-    }
-}
-
-#[test]
-fn refuses_metacopy_without_redirects(rt: HostRuntime) -> Result<(), Fail> {
-    refuses_metacopy::<_, ByTag, ProgramRule>(&rt, rt.alloc(), RandomState::new(&rt)?)
-}
-
-fn refuses_metacopy<A: Abort, F: Callback + Copy, H: Rule>(
-    rt: &A,
-    alloc: Global,
-    keys: RandomState,
-) -> Result<(), Fail> {
-    let (upper, lowers, options) = manifest_of(alloc, keys, DIRECTORY.as_bytes())?;
-    let options = Options {
-        metacopy: true,
-        ..options
-    };
-    match Core::<F, H>::mount(alloc, keys, upper, lowers, options)? {
-        Ok(_) => Err(Fail::from("a mount")),
-        Err(unmounted) => {
-            assert!(rt; unmounted.fault == MountFault::BadMetacopy);
-            assert_eq!(rt; unmounted.lowers.len(), 1);
-            Ok(())
-        }
-    }
 }

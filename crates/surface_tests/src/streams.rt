@@ -1,4 +1,5 @@
 // Streams that fail, in the middle too, or are interrupted.
+use crate::fixtures::EMPTY;
 use ov_server::{Fault, Input, Output, hooks_by_slot, play_run, show_run};
 use std::alloc::Global;
 use std::hash::RandomState;
@@ -6,8 +7,6 @@ use std::io;
 use std::io::{Read, Write};
 use std::process::Abort;
 use std::test::Fail;
-
-const EMPTY: &str = "layer = [{}, {}]";
 
 const SCRIPT: &str = "attach\n0 stat /\n0 detach";
 

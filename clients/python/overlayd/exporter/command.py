@@ -32,6 +32,9 @@ which takes a place of the mount's history.
   --layer FILE   the layer of an OCI image, a tar: .wh.NAME, .wh..wh..opq. The same changes are the
                  same bytes: all times are 0
 
+A mount without an upper layer (upper = false) can't be changed: there is nothing to export of it,
+which is refused.
+
 A directory that was moved is written whole, and so is a file that was copied up without its bytes
 (metacopy). Several names of one file are written as files of their own, because the server doesn't
 tell which they are; that is told. Refused are attributes that begin with user.overlay., as they
@@ -67,6 +70,9 @@ def main(arguments: Optional[List[str]] = None) -> int:
     try:
         _ask_target(words)
         lower = LowerTree(words.manifest)
+        if not lower.has_upper:
+            raise Unsayable(f"{shown(words.manifest)}: nothing to export: upper = false, so "
+                            "nothing can be changed")
         with Client(words.socket) as client:
             mounted = MountTree(client)
             found = changes(lower, mounted)

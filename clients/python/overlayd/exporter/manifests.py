@@ -19,7 +19,8 @@ class OtherForm(Exception):
 
 
 class LowerTree(Tree):
-    """What the lower layers of a manifest show together.
+    """What the lower layers of a manifest show together; `has_upper` says whether it has an upper
+    layer, without which nothing can be changed.
 
     A manifest of lines, as `overlayd-import` writes it, is read as a stream, and the bytes of a
     file when they are asked for; any other one is read whole, from Python 3.11 on.
@@ -34,9 +35,11 @@ class LowerTree(Tree):
             self._source = _Whole(path, str(fault))
             self._links.clear()
             layers = self._layers(self._source)
+        self.has_upper = self._source.has_upper
         # kept, because links are counted by the identity of what stands in them
         self._layered = layers
-        self._root = flatten([TreeLayer(layer) for layer in layers[1:]])
+        lowers = layers[1:] if self.has_upper else layers
+        self._root = flatten([TreeLayer(layer) for layer in lowers])
 
     def entries(self) -> Iterator[Entry]:
         for path, node in objects.walk(self._root):
@@ -68,7 +71,7 @@ class LowerTree(Tree):
             else:
                 raise OtherForm("an entry before the first layer")
         if len(layers) < 2:
-            raise Unsayable(f"{source.path}: a manifest has an upper layer and a lower one")
+            raise Unsayable(f"{source.path}: a manifest has two layers or more")
         return layers
 
     def _place(self, root: objects.Directory, entry: Dict[str, Any]) -> None:
@@ -119,9 +122,10 @@ def _node(entry: Dict[str, Any]) -> Optional[objects.Object]:
 
 class _Source:
     """Where entries come from: None begins a layer. A file's entry has its `size`, and the `place`
-    of its bytes."""
+    of its bytes. `has_upper` is right when the first of them came."""
 
     path = ""
+    has_upper = True
 
     def entries(self) -> Iterable[Optional[Dict[str, Any]]]:
         """Layers and entries in their order."""
@@ -160,7 +164,7 @@ class _Lines(_Source):
             elif words and not words.startswith(b"#"):
                 key, value = _key_and_value(words)
                 if entry is None:
-                    _check_option(key)
+                    self._option(key, value)
                 elif key in _BYTES:
                     entry["size"] = _size(key, value)
                     entry["place"] = (begin, len(line))
@@ -168,6 +172,13 @@ class _Lines(_Source):
                     entry[key] = _value(value)
         if entry is not None:
             yield _checked(entry)
+
+    def _option(self, key: str, value: bytes) -> None:
+        """A line before the first entry of a layer."""
+        if key == "upper" and value in (b"true", b"false"):
+            self.has_upper = value == b"true"
+        elif key not in ("redirect_dir", "metacopy", "history"):
+            raise OtherForm(f"the key {key} before the first entry")
 
     def data(self, file: objects.File) -> bytes:
         if file.place is None:
@@ -183,11 +194,6 @@ def _checked(entry: Dict[str, Any]) -> Dict[str, Any]:
     if not isinstance(entry.get("path"), str) or not isinstance(entry.get("kind"), str):
         raise OtherForm("an entry without path or kind")
     return entry
-
-
-def _check_option(key: str) -> None:
-    if key not in ("redirect_dir", "metacopy", "history"):
-        raise OtherForm(f"the key {key} before the first entry")
 
 
 def _key_and_value(words: bytes) -> Tuple[str, bytes]:
@@ -240,6 +246,7 @@ class _Whole(_Source):
                 self._manifest = tomllib.load(stream)
             except tomllib.TOMLDecodeError as fault:
                 raise Unsayable(f"{path}: no TOML: {fault}") from None
+        self.has_upper = self._manifest.get("upper") is not False
 
     def entries(self) -> Iterator[Optional[Dict[str, Any]]]:
         for layer in self._manifest.get("layer", []):

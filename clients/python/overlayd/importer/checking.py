@@ -19,7 +19,7 @@ _TYPES = {str: "a text", int: "a whole number", bool: "true or false", list: "an
           "of two texts", Table: "a table"}
 _ORDER = ("kind", "path", "key", "value", "parent", "exists", "link")
 _TOP = ("key", "redirect_dir", "metacopy", "history", "layers")
-_OPTIONS = ("layer", "redirect_dir", "metacopy", "history")
+_OPTIONS = ("layer", "upper", "redirect_dir", "metacopy", "history")
 _BYTES = ("text", "hex", "zeros")
 _UNKNOWN = "of a kind that is none"
 _REDIRECT = "a redirect is one name, or a path from / with a name"
@@ -81,15 +81,19 @@ class _Check:
             if key not in _OPTIONS:
                 self.tell(found.line, key, "key", "no such key; at the top there are "
                           f"{', '.join(_OPTIONS[:-1])} and {_OPTIONS[-1]}")
+        has_upper = self.upper(top)
         self.option(top, "redirect_dir", str, _is_switch, '"on" or "off"')
-        self.metacopy(top)
+        self.metacopy(top, has_upper)
         self.option(top, "history", int, _is_history,
                     f"from {limits.HISTORY_LEAST} to {limits.HISTORY_MOST}")
         given, before = top.members.get("layer"), len(self.faults)
         layers = self.tables(given, "layer")
-        if len(self.faults) == before and not 2 <= len(layers) <= 1 + limits.LOWERS_MOST:
-            self.tell(given.line if given else 1, "layer", "layers", "2 to 17 layers, the upper "
-                      f"and then 1 to 16 lower ones from the top, and not {len(layers)}")
+        most = limits.LOWERS_MOST + has_upper
+        if len(self.faults) == before and not limits.LAYERS_LEAST <= len(layers) <= most:
+            wanted = ("2 to 17 layers, the upper and then 1 to 16 lower ones from the top"
+                      if has_upper else "2 to 16 layers, all lower ones, from the top")
+            self.tell(given.line if given else 1, "layer", "layers",
+                      f"{wanted}, and not {len(layers)}")
         whole = sorted(self.faults, key=lambda fault: _TOP.index(fault.word))
         firsts = [f"manifest: {fault.word}" for fault in whole]
         for number, layer in enumerate(layers):
@@ -115,10 +119,19 @@ class _Check:
         elif not allowed(found.value):
             self.tell(found.line, key, key, f"{words}, and not {_short(found.value)}")
 
-    def metacopy(self, top: Table) -> None:
-        """Whether files are copied up without their bytes, which needs redirects."""
+    def upper(self, top: Table) -> bool:
+        """Whether the first layer is the upper one, as it is where nothing else is said."""
+        found = top.members.get("upper")
+        if found is None or _is(found.value, bool):
+            return found is None or bool(found.value)
+        self.tell(found.line, "upper", "key", f"{_TYPES[bool]}; {_named(found.value)}")
+        return True
+
+    def metacopy(self, top: Table, has_upper: bool) -> None:
+        """Whether files are copied up without their bytes, which needs redirects where anything is
+        copied up."""
         redirects = top.members.get("redirect_dir")
-        if redirects is not None and redirects.value == "on":
+        if not has_upper or redirects is not None and redirects.value == "on":
             self.option(top, "metacopy", str, _is_switch, '"on" or "off"')
         else:
             self.option(top, "metacopy", str, lambda word: word == "off",

@@ -34,8 +34,9 @@ sources, the highest layer first:
 What a source is is guessed from it; dir:SOURCE, tar:SOURCE or image:SOURCE says it.
 
 layers: the first source is the upper layer. An empty upper is put above it where it is an image,
-where it is the only layer, and with --empty-upper. Of more than 16 lower layers the lowest are
-made one. A directory that a tar leaves out has the attributes that the layers below give it, or
+where it is the only layer, and with --empty-upper. With --read-only there is no upper: each source
+is a lower layer, and an empty one is put below one alone. Of more than 16 lower layers the lowest
+are made one. A directory that a tar leaves out has the attributes that the layers below give it, or
 else mode 0755 and owner 0:0. A hard link to a file of a lower layer makes a copy of that file. A
 file whose bytes are in a lower layer (metacopy) is written with its own attributes and these bytes.
 
@@ -77,8 +78,12 @@ def parser() -> argparse.ArgumentParser:
                        help="refuse what a manifest can't carry, and write nothing then")
     words.add_argument("-q", "--quiet", action="store_true",
                        help="no line for each thing that is left out, the sum alone")
-    words.add_argument("--empty-upper", action="store_true",
+    upper = words.add_mutually_exclusive_group()
+    upper.add_argument("--empty-upper", action="store_true",
                        help="put an empty upper layer above the sources")
+    upper.add_argument("--read-only", action="store_true",
+                       help="no upper layer: each source is a lower one, and nothing can be "
+                            "changed")
     words.add_argument("--image", metavar="NAME", help="the image of an archive that has several")
     words.add_argument("--platform", metavar="OS/ARCH",
                        help="the platform of an OCI image that has several")
@@ -86,7 +91,7 @@ def parser() -> argparse.ArgumentParser:
                        help="the manifest's redirect_dir (off where it isn't said)")
     words.add_argument("--metacopy", choices=("on", "off"),
                        help="the manifest's metacopy (off where it isn't said); on needs "
-                            "--redirect-dir on")
+                            "--redirect-dir on, or --read-only")
     words.add_argument("--history", type=_history, metavar="N",
                        help="the manifest's history, 2 to 1000000 (100000 where it isn't said)")
     return words
@@ -180,11 +185,12 @@ class Output:
 def run(words: argparse.Namespace, report: Report) -> None:
     """Imports what the command line says."""
     wish = Wish(words.sources, Choice(words.image, words.platform), words.empty_upper,
-                words.redirect_dir, words.metacopy, words.history)
+                words.redirect_dir, words.metacopy, words.history, words.read_only)
     output = Output(words.output, waits=words.strict)
     try:
         layers = plan(wish, report, output.identities())
-        writer = ManifestWriter(output.stream, wish.redirect_dir, wish.metacopy, wish.history)
+        writer = ManifestWriter(output.stream, wish.redirect_dir, wish.metacopy, wish.history,
+                                upper=not wish.read_only)
         write(layers, writer, report)
         output.keep()
     except BaseException:
@@ -212,8 +218,8 @@ def main(arguments: Optional[List[str]] = None) -> int:
     words = command.parse_args(arguments)
     if bool(words.sources) == (words.check is not None):
         command.error("either SOURCE, one or more, or --check FILE")
-    if words.metacopy == "on" and words.redirect_dir != "on":
-        command.error("--metacopy on needs --redirect-dir on")
+    if words.metacopy == "on" and words.redirect_dir != "on" and not words.read_only:
+        command.error("--metacopy on needs --redirect-dir on, or --read-only")
     report = Report(sys.stderr, words.strict, words.quiet)
     try:
         if words.check is not None:

@@ -19,7 +19,8 @@ Source = Union[str, Blob]
 
 
 class Wish(NamedTuple):
-    """What is asked for: sources from the top, and how to read them."""
+    """What is asked for: sources from the top, and how to read them. What is `read_only` has no
+    upper."""
 
     sources: List[str]
     choice: Choice = Choice()
@@ -27,6 +28,7 @@ class Wish(NamedTuple):
     redirect_dir: Optional[str] = None
     metacopy: Optional[str] = None
     history: Optional[int] = None
+    read_only: bool = False
 
 
 def _sources(text: str, choice: Choice) -> Tuple[List[Source], bool]:
@@ -54,7 +56,7 @@ def _sources(text: str, choice: Choice) -> Tuple[List[Source], bool]:
 
 
 def plan(wish: Wish, report: Report, skip: Set[Identity]) -> List[Writable]:
-    """The layers of the manifest: an upper and 1 to 16 lower ones."""
+    """The layers of the manifest: an upper and 1 to 16 lower ones, or 2 to 16 lower ones alone."""
     found: List[Source] = []
     needs_upper = wish.empty_upper
     for number, text in enumerate(wish.sources):
@@ -62,14 +64,15 @@ def plan(wish: Wish, report: Report, skip: Set[Identity]) -> List[Writable]:
         found += sources
         needs_upper = needs_upper or (number == 0 and is_image)
     layers = _layers(found, report, skip)
-    lowers = len(layers) - (0 if needs_upper or len(layers) == 1 else 1)
+    needs_upper = not wish.read_only and (needs_upper or len(layers) == 1)
+    lowers = len(layers) - (0 if needs_upper or wish.read_only else 1)
     if lowers > limits.LOWERS_MOST:
         count = lowers - limits.LOWERS_MOST + 1
         report.note(f"{lowers} lower layers, of which 16 fit: the lowest {count} are made one")
         layers[-count:] = [TreeLayer(flatten(layers[-count:]))]
-    if needs_upper or len(layers) == 1:
+    if needs_upper:
         layers.insert(0, TreeLayer(_empty_over(layers[:1])))
-    if len(layers) == 1:
+    while len(layers) < limits.LAYERS_LEAST:
         layers.append(TreeLayer(Directory(0o755, 0, 0)))
     return layers
 

@@ -43,12 +43,15 @@ class ManifestWriter:
     """Writes a manifest to a binary stream: options first, then layers and their entries."""
 
     def __init__(self, out: BinaryIO, redirect_dir: Optional[str] = None,
-                 metacopy: Optional[str] = None, history: Optional[int] = None) -> None:
+                 metacopy: Optional[str] = None, history: Optional[int] = None,
+                 upper: bool = True) -> None:
         self._out = out
         self._began = False
         self.layers = 0
         self.objects = 0
         self.bytes = 0
+        if not upper:
+            self._line("upper = false")
         if redirect_dir is not None:
             self._line(f"redirect_dir = {quoted(redirect_dir)}")
         if metacopy is not None:

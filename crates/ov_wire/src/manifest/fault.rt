@@ -45,7 +45,7 @@ pub enum ManifestFault {
     /// `redirect_dir` is neither `on` nor `off`.
     #[error("manifest: redirect_dir")]
     RedirectDir,
-    /// `metacopy` is neither `on` nor `off`, or is `on` where `redirect_dir` isn't.
+    /// `metacopy` is neither `on` nor `off`, or is `on` where `redirect_dir` isn't and there is an upper.
     #[error("manifest: metacopy")]
     Metacopy,
     /// `history` is outside 2 to 1,000,000.

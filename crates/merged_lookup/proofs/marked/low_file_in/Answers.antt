@@ -1,9 +1,8 @@
-use Rattle.std.proofs.Common.{◌∷◌, ap, sym, ◌∙◌, map, reverse, Some}
-use Rattle.std.specs.Option.{option_copied}
+use Rattle.std.proofs.Common.{◌∷◌, ap, sym, ◌∙◌, map, reverse}
 use Rattle.plain_model.specs.Layers.{shows}
 use Rattle.layer_tree.specs.Tree.{layer_of}
-use Rattle.merged_lookup.specs.Marking.{file_place, place_if}
-use Rattle.merged_lookup.proofs.Marking.{root-none, topmost_file, file-shown}
+use Rattle.merged_lookup.specs.Marking.{file_place, topmost_file}
+use Rattle.merged_lookup.proofs.Marking.{root-none, file-shown}
 use Rattle.merged_lookup.proofs.marked.low_file_in.Goals as goal
 
 pub returns-in_err-name : goal.returns-in_err-name
@@ -16,20 +15,8 @@ returns-in_err-topmost_at c =
     ∙ sym (ap (topmost_file (c.in_ok-first.field-0.now ∷ c.args.lowers.now)) c.in_err-topmost_at.was)
     ∙ file-shown c.in_ok-first.field-0.now c.args.lowers.now c.args.path.now (reverse c.in_ok-name.parents.now) c.in_ok-name.name.now c.cross_from-directories.result.items c.as_slice.result.now c.topmost_at.result c.in_ok-name.ensures c.cross_from-directories.ensures c.as_slice.ensures.value c.topmost_at.ensures.place c.topmost_at.ensures.directory
 
-pub returns-in_err-file_at-in-Inode : goal.returns-in_err-file_at-in-Inode
-returns-in_err-file_at-in-Inode c =
-    c.from_residual-in_err-file_at-in-Inode.ensures
-    ∙ sym (ap (place_if c.in-Inode.place) (sym c.file_at.ensures ∙ ap option_copied c.in_err-file_at-in-Inode.was))
-    ∙ sym (ap (topmost_file (c.in_ok-first.field-0.now ∷ c.args.lowers.now)) (c.in_ok-topmost_at.was ∙ ap Some c.in-Inode.is))
-    ∙ file-shown c.in_ok-first.field-0.now c.args.lowers.now c.args.path.now (reverse c.in_ok-name.parents.now) c.in_ok-name.name.now c.cross_from-directories.result.items c.as_slice.result.now c.topmost_at.result c.in_ok-name.ensures c.cross_from-directories.ensures c.as_slice.ensures.value c.topmost_at.ensures.place c.topmost_at.ensures.directory
-
-pub returns-in-Directory : goal.returns-in-Directory
-returns-in-Directory c =
-    sym (ap (topmost_file (c.in_ok-first.field-0.now ∷ c.args.lowers.now)) (c.in_ok-topmost_at.was ∙ ap Some c.in-Directory.is))
-    ∙ file-shown c.in_ok-first.field-0.now c.args.lowers.now c.args.path.now (reverse c.in_ok-name.parents.now) c.in_ok-name.name.now c.cross_from-directories.result.items c.as_slice.result.now c.topmost_at.result c.in_ok-name.ensures c.cross_from-directories.ensures c.as_slice.ensures.value c.topmost_at.ensures.place c.topmost_at.ensures.directory
-
-pub returns-in_ok-file_at-in-Inode : goal.returns-in_ok-file_at-in-Inode
-returns-in_ok-file_at-in-Inode c =
-    sym (ap (place_if c.in-Inode.place) (sym c.file_at.ensures ∙ ap option_copied c.in_ok-file_at-in-Inode.was))
-    ∙ sym (ap (topmost_file (c.in_ok-first.field-0.now ∷ c.args.lowers.now)) (c.in_ok-topmost_at.was ∙ ap Some c.in-Inode.is))
+pub returns : goal.returns
+returns c =
+    c.place_of_file.ensures
+    ∙ sym (ap (topmost_file (c.in_ok-first.field-0.now ∷ c.args.lowers.now)) c.in_ok-topmost_at.was)
     ∙ file-shown c.in_ok-first.field-0.now c.args.lowers.now c.args.path.now (reverse c.in_ok-name.parents.now) c.in_ok-name.name.now c.cross_from-directories.result.items c.as_slice.result.now c.topmost_at.result c.in_ok-name.ensures c.cross_from-directories.ensures c.as_slice.ensures.value c.topmost_at.ensures.place c.topmost_at.ensures.directory

@@ -1,4 +1,7 @@
-use Rattle.std.proofs.Common.{◌∙◌, length, refl}
+use Rattle.std.proofs.Common.{◌∙◌, ap, length, map, refl, subst, sym}
+use Rattle.plain_model.specs.Runs.{Attached}
+use Rattle.overlay_core.specs.Views.{CoreGoes}
+use Rattle.ov_server.specs.Deeds.{AttachGoes}
 use Rattle.ov_server.proofs.Clients.{attach_plays, attach_refused}
 use Rattle.overlay_core.proofs.Histories.{attach_places, few, kept_places, two_places}
 use Rattle.ov_server.proofs.Stages.{attached_still, order_kept, with_core}
@@ -24,8 +27,18 @@ pub returns-clause-plays : goal.returns-clause-plays
 returns-clause-plays g c =
     let old = c.args.stage.now in
     let new = with_core old c.attach.new.self in
-    let layers = c.attach.ensures.layers in
+    let keeps = c.attach.ensures.kept in
     elim c.match-attach.branch [
-      | in-Ok-attach w ↦ attach_plays old new w.in-Ok-attach.client w.in-Ok-attach.ensures.clients layers (λ n. refl)
-      | in-Err w ↦ attach_refused old new w.in-Err.ensures.stays.1 layers (λ n. refl)
+      | in-Ok-attach w ↦ attach_plays old new w.in-Ok-attach.client w.in-Ok-attach.ensures.clients keeps (λ n. refl)
+      | in-Err w ↦ attach_refused old new w.in-Err.ensures.stays.1 keeps (λ n. refl)
+    ]
+
+pub returns-clause-goes : goal.returns-clause-goes
+returns-clause-goes g c =
+    let old = c.args.stage.now.core in
+    let new = c.attach.new.self in
+    let tags = map (λ h. h.tag) c.args.hooks.now in
+    elim c.match-attach.branch [
+      | in-Ok-attach w ↦ subst (AttachGoes old tags new) (sym w.result-is) (subst (λ ts. CoreGoes old w.in-Ok-attach.client (Attached ts) new) (ap (map (λ h. h.tag)) c.in-Ok.ensures) w.in-Ok-attach.ensures.attached)
+      | in-Err w ↦ subst (AttachGoes old tags new) (sym w.result-is) w.in-Err.ensures.stays.0
     ]

@@ -2,7 +2,7 @@ use Rattle.std.proofs.Common.{◌∙◌, ◌≡◌, true, sym, ap, refl}
 use Rattle.mount_calls.specs.declared.mount.Mount.{Mount}
 use Rattle.plain_model.specs.Runs.{Detached}
 use Rattle.overlay_core.specs.Views.{has_client}
-use Rattle.ov_server.proofs.Clients.{detach_plays}
+use Rattle.ov_server.proofs.Clients.{detach_plays, same_layers}
 use Rattle.overlay_core.proofs.Histories.{detach_places, few}
 use Rattle.ov_server.proofs.Stages.{detached_others, order_gone, same_attached, same_detaches, same_goes, same_places, with_core}
 use Rattle.ov_server.proofs.commands.detached.Goals as goal
@@ -31,7 +31,8 @@ returns-clause-ok g c =
     let core = c.detach.new.self in
     let same = c.drop_call.ensures.core in
     let lowers = c.detach.ensures.kept.lowers ∙ ap (λ (m : Mount). m.layers.lowers) same.mount in
-    detach_plays old (with_core mid core) c.args.client (sym c.is_attached.ensures ∙ c.if-not-is_attached.false) (same_detaches old.core mid.core core c.args.client same c.detach.ensures.clients) lowers c.drop_call.ensures.others c.drop_call.ensures.gone
+    let layers = same_layers old.core core (c.detach.ensures.kept.read_only ∙ same.read_only) lowers in
+    detach_plays old (with_core mid core) c.args.client (sym c.is_attached.ensures ∙ c.if-not-is_attached.false) (same_detaches old.core mid.core core c.args.client same c.detach.ensures.clients) layers c.drop_call.ensures.others c.drop_call.ensures.gone
 
 pub returns-clause-goes : goal.returns-clause-goes
 returns-clause-goes g c = same_goes c.args.stage.now.core c.drop_call.new.self.core c.detach.new.self c.args.client Detached c.drop_call.ensures.core c.detach.ensures.detached

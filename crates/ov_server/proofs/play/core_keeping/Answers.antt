@@ -1,12 +1,13 @@
-use Rattle.std.proofs.Common.{◌≡◌, map}
+use Rattle.std.proofs.Common.{◌≡◌, is_some, sym}
+use Rattle.std.specs.Prelude.{option_map}
 use Rattle.std.specs.Vec.{vec_len}
 use Rattle.std.proofs.lemmas.Result.{err_from_is_err_and}
-use Rattle.layer_tree.specs.Tree.{layer_of}
 use Rattle.toml.specs.Parse.{parse_document}
-use Rattle.overlay_core.specs.Views.{core_finished, core_options}
+use Rattle.layer_tree.specs.Tree.{layer_of}
+use Rattle.overlay_core.specs.Views.{core_finished, core_options, core_read_only}
 use Rattle.overlay_core.proofs.Agreeing.{bounded}
 use Rattle.overlay_core.proofs.Histories.{first_places}
-use Rattle.ov_server.proofs.Manifests.{counted, refuses_none, refuses_told}
+use Rattle.ov_server.proofs.Manifests.{counted, given_upper, refuses_none, refuses_told}
 use Rattle.ov_server.proofs.Mountable.{no-fault, sound-number}
 use Rattle.ov_server.proofs.play.core_keeping.Goals as goal
 
@@ -19,15 +20,16 @@ returns-in_err-upper-clause-manifest g c =
 pub unreachable-requires : goal.unreachable-requires
 unreachable-requires g c =
     let told = c.in_ok-upper.ensures in
-    no-fault (vec_len c.in_ok-upper.lowers) c.in_ok-upper.options (layer_of c.in_ok-upper.upper) (map layer_of c.in_ok-upper.lowers.items) c.in-Err.field-0.fault
-    (sound-number (vec_len c.in_ok-upper.lowers) (parse_document c.args.manifest.now) c.in_ok-upper.options c.in-Err.field-0.fault told.some_lower told.few_lowers told.options)
+    no-fault (vec_len c.in_ok-upper.lowers) c.in_ok-upper.options c.in_ok-upper.upper c.in_ok-upper.lowers.items c.in-Err.field-0.fault
+    (sound-number (is_some c.in_ok-upper.upper) (vec_len c.in_ok-upper.lowers) (parse_document c.args.manifest.now) c.in_ok-upper.options c.in-Err.field-0.fault told.some_lower told.two_lowers told.few_lowers told.options)
     told.redirected told.unmarked (rw c.in-Err.is at c.in_ok-core.ensures.fault)
 
 pub returns-clause-count : goal.returns-clause-count
 returns-clause-count g c =
     let told = c.in_ok-upper.ensures in
-    let mounted = rw c.in-Ok.is at c.in_ok-core.ensures.layers in
-    rw mounted.1 (counted c.args.manifest.now c.in_ok-upper.upper c.in_ok-upper.lowers.items c.in_ok-upper.options told.options told.spelled)
+    let lowers = rw c.in-Ok.is at c.in_ok-core.ensures.lowers in
+    let read_only = given_upper c.in_ok-upper.upper (core_read_only c.in-Ok.core) (rw c.in-Ok.is at c.in_ok-core.ensures.read_only) in
+    rw (lowers, read_only) (sym (counted c.args.manifest.now c.in_ok-upper.upper c.in_ok-upper.lowers.items c.in_ok-upper.options told.options told.upper told.spelled))
 
 pub returns-clause-manifest : goal.returns-clause-manifest
 returns-clause-manifest g c =
@@ -38,7 +40,7 @@ pub returns-clause-places : goal.returns-clause-places
 returns-clause-places g c =
     let options : core_options c.in-Ok.core ≡ c.in_ok-upper.options = rw c.in-Ok.is at c.in_ok-core.ensures.options in
     let finished : core_finished c.in-Ok.core ≡ 0 = rw c.in-Ok.is at c.in_ok-core.ensures.finished in
-    first_places c.in-Ok.core (rw options (bounded (vec_len c.in_ok-upper.lowers) c.in_ok-upper.options ((rw c.in-Ok.is at c.in_ok-core.ensures.mounted).0))) finished (rw c.in-Ok.is at c.in_ok-core.ensures.nobody)
+    first_places c.in-Ok.core (rw options (bounded (is_some (option_map layer_of c.in_ok-upper.upper)) (vec_len c.in_ok-upper.lowers) c.in_ok-upper.options ((rw c.in-Ok.is at c.in_ok-core.ensures.mounted).0))) finished (rw c.in-Ok.is at c.in_ok-core.ensures.nobody)
 
 pub returns-clause-begins : goal.returns-clause-begins
 returns-clause-begins g c = record {

@@ -1,4 +1,6 @@
+use Rattle.std.proofs.Common.{ap, sym}
 use Rattle.std.proofs.lemmas.Result.{err_from_is_err_and}
+use Rattle.ov_server.specs.Rosters.{Layering}
 use Rattle.ov_server.proofs.Manifests.{counted, refuses_none, refuses_told}
 use Rattle.ov_server.proofs.show.layers_in.Goals as goal
 
@@ -11,7 +13,7 @@ returns-in_err-upper-clause-manifest c =
 pub returns-clause-count : goal.returns-clause-count
 returns-clause-count c =
     let told = c.in_ok-upper.ensures in
-    rw (c.in_ok-new.ensures.lowers) (counted c.args.manifest.now c.in_ok-upper.upper c.in_ok-upper.lowers.items c.in_ok-upper.field-0-2 told.options told.spelled)
+    rw (c.in_ok-new.ensures.lowers) (ap (λ (l : Layering). l.1) (sym (counted c.args.manifest.now c.in_ok-upper.upper c.in_ok-upper.lowers.items c.in_ok-upper.field-0-2 told.options told.upper told.spelled)))
 
 pub returns-clause-manifest : goal.returns-clause-manifest
 returns-clause-manifest c =

@@ -1,7 +1,9 @@
-use Rattle.std.proofs.Common.{◌+◌, refl}
+use Rattle.std.proofs.Common.{false, ◌+◌, refl, sym, ◌∙◌}
+use Rattle.std.proofs.lemmas.Bool.{false≢true}
 use Rattle.plain_model.specs.Runs.{Called}
 use Rattle.overlay_core.specs.Mounting.{machine_options}
 use Rattle.overlay_core.proofs.Agreeing.{given-more, given-same, goes-on, has-begun, limits-on, some-finished, some-more, stays-on}
+use Rattle.overlay_core.proofs.ReadOnly.{agrees-plain, goes-as, stays-as}
 use Rattle.overlay_core.proofs.StepsMade.{brings-made}
 use Rattle.overlay_core.proofs.mounted.Core.advance.Goals as goal
 
@@ -13,24 +15,33 @@ invariant_of-self g c =
     let made = c.in-Done.ensures.makes.2 in
     record {
       agrees = goes-on g.R.Rule.shows old.mount new.mount old.notifier new.notifier job.client (Called job.call c.in-Done.reply) c.args.self.now.agrees made.turns.0;
-      begins = has-begun (c.args.self.now.finished + 1) (machine_options c.args.self.now.options) new.mount new.notifier (some-more c.args.self.now.finished);
+      begins = has-begun (c.args.self.now.finished + 1) (machine_options false c.args.self.now.options) new.mount new.notifier (some-more c.args.self.now.finished);
       given = given-more old.mount.clients.next new.mount.clients.next c.args.self.now.finished c.args.self.now.given made.clients.next;
       short = c.args.self.now.short;
       waits = c.in-Done.ensures.waits;
       temps = made.temps;
       limits = limits-on old.mount.layers new.mount.layers made.lowers c.args.self.now.limits;
+      blank = λ only. absurd (false≢true (sym c.if-self.false ∙ only));
+      idle = λ only. absurd (false≢true (sym c.if-self.false ∙ only));
     }
 
 pub returns-in-Done-clause-turn : goal.returns-in-Done-clause-turn
-returns-in-Done-clause-turn g c = c.in-Done.ensures.makes.2.turns
+returns-in-Done-clause-turn g c =
+    let old = c.args.self.now.watched in
+    let new = c.step.new.watched in
+    let job = c.args.job.now in
+    let turns = c.in-Done.ensures.makes.2.turns in
+    (goes-as old.mount new.mount old.notifier new.notifier g.R.Rule.shows job.client (Called job.call c.in-Done.reply) c.args.self.now.read_only c.if-self.false turns.0, turns.1)
 
 pub returns-in-Done-clause-step : goal.returns-in-Done-clause-step
-returns-in-Done-clause-step g c = λ s a. rw (c.in-Done.ensures.makes.1 s a) c.in-Done.ensures.makes.2.steps
+returns-in-Done-clause-step g c = λ s a.
+    let old = c.args.self.now.watched in
+    rw (c.in-Done.ensures.makes.1 s (agrees-plain c.args.self.now.read_only old.mount old.notifier s c.if-self.false a)) c.in-Done.ensures.makes.2.steps
 
 pub returns-in-Done-clause-kept : goal.returns-in-Done-clause-kept
 returns-in-Done-clause-kept g c =
     let made = c.in-Done.ensures.makes.2 in
-    record { options = refl; lowers = made.lowers; thin = made.thin }
+    record { options = refl; read_only = refl; lowers = made.lowers; thin = made.thin }
 
 pub returns-in-Done-clause-layers : goal.returns-in-Done-clause-layers
 returns-in-Done-clause-layers g c = c.in-Done.ensures.makes.2.layers
@@ -55,24 +66,32 @@ invariant_of-self-in-More g c =
     let there = old.mount.clients.rising c.args.job.now.client c.requires.attached in
     record {
       agrees = stays-on old.mount new.mount old.notifier new.notifier c.args.self.now.agrees made.turns.0;
-      begins = has-begun c.args.self.now.finished (machine_options c.args.self.now.options) new.mount new.notifier (some-finished c.args.job.now.client old.mount.clients.next c.args.self.now.finished there before);
+      begins = has-begun c.args.self.now.finished (machine_options false c.args.self.now.options) new.mount new.notifier (some-finished c.args.job.now.client old.mount.clients.next c.args.self.now.finished there before);
       given = given-same old.mount.clients.next new.mount.clients.next c.args.self.now.finished before made.clients.next;
       short = c.args.self.now.short;
       waits = c.in-More.ensures.waits;
       temps = made.temps;
       limits = limits-on old.mount.layers new.mount.layers made.lowers c.args.self.now.limits;
+      blank = λ only. absurd (false≢true (sym c.if-self.false ∙ only));
+      idle = λ only. absurd (false≢true (sym c.if-self.false ∙ only));
     }
 
 pub returns-in-More-clause-turn : goal.returns-in-More-clause-turn
-returns-in-More-clause-turn g c = c.in-More.ensures.makes.2.turns
+returns-in-More-clause-turn g c =
+    let old = c.args.self.now.watched in
+    let new = c.step.new.watched in
+    let turns = c.in-More.ensures.makes.2.turns in
+    (stays-as old.mount new.mount old.notifier new.notifier c.args.self.now.read_only turns.0, turns.1)
 
 pub returns-in-More-clause-step : goal.returns-in-More-clause-step
-returns-in-More-clause-step g c = λ s a. rw (c.in-More.ensures.makes.1 s a) c.in-More.ensures.makes.2.steps
+returns-in-More-clause-step g c = λ s a.
+    let old = c.args.self.now.watched in
+    rw (c.in-More.ensures.makes.1 s (agrees-plain c.args.self.now.read_only old.mount old.notifier s c.if-self.false a)) c.in-More.ensures.makes.2.steps
 
 pub returns-in-More-clause-kept : goal.returns-in-More-clause-kept
 returns-in-More-clause-kept g c =
     let made = c.in-More.ensures.makes.2 in
-    record { options = refl; lowers = made.lowers; thin = made.thin }
+    record { options = refl; read_only = refl; lowers = made.lowers; thin = made.thin }
 
 pub returns-in-More-clause-layers : goal.returns-in-More-clause-layers
 returns-in-More-clause-layers g c = c.in-More.ensures.makes.2.layers
@@ -94,16 +113,22 @@ invariant_of-self-in-NoMemory g c =
     let there = old.mount.clients.rising c.args.job.now.client c.requires.attached in
     record {
       agrees = stays-on old.mount new.mount old.notifier new.notifier c.args.self.now.agrees made.turns.0;
-      begins = has-begun c.args.self.now.finished (machine_options c.args.self.now.options) new.mount new.notifier (some-finished c.args.job.now.client old.mount.clients.next c.args.self.now.finished there before);
+      begins = has-begun c.args.self.now.finished (machine_options false c.args.self.now.options) new.mount new.notifier (some-finished c.args.job.now.client old.mount.clients.next c.args.self.now.finished there before);
       given = given-same old.mount.clients.next new.mount.clients.next c.args.self.now.finished before made.clients.next;
       short = c.args.self.now.short;
       waits = c.in-NoMemory.ensures.waits;
       temps = made.temps;
       limits = limits-on old.mount.layers new.mount.layers made.lowers c.args.self.now.limits;
+      blank = λ only. absurd (false≢true (sym c.if-self.false ∙ only));
+      idle = λ only. absurd (false≢true (sym c.if-self.false ∙ only));
     }
 
 pub returns-in-NoMemory-clause-turn : goal.returns-in-NoMemory-clause-turn
-returns-in-NoMemory-clause-turn g c = c.in-NoMemory.ensures.makes.2.turns
+returns-in-NoMemory-clause-turn g c =
+    let old = c.args.self.now.watched in
+    let new = c.step.new.watched in
+    let turns = c.in-NoMemory.ensures.makes.2.turns in
+    (stays-as old.mount new.mount old.notifier new.notifier c.args.self.now.read_only turns.0, turns.1)
 
 pub returns-in-NoMemory-clause-step : goal.returns-in-NoMemory-clause-step
 returns-in-NoMemory-clause-step g c = λ s a. c.in-NoMemory.ensures.makes.2.steps
@@ -111,7 +136,7 @@ returns-in-NoMemory-clause-step g c = λ s a. c.in-NoMemory.ensures.makes.2.step
 pub returns-in-NoMemory-clause-kept : goal.returns-in-NoMemory-clause-kept
 returns-in-NoMemory-clause-kept g c =
     let made = c.in-NoMemory.ensures.makes.2 in
-    record { options = refl; lowers = made.lowers; thin = made.thin }
+    record { options = refl; read_only = refl; lowers = made.lowers; thin = made.thin }
 
 pub returns-in-NoMemory-clause-layers : goal.returns-in-NoMemory-clause-layers
 returns-in-NoMemory-clause-layers g c = c.in-NoMemory.ensures.makes.2.layers

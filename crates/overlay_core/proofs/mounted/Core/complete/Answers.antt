@@ -1,7 +1,9 @@
-use Rattle.std.proofs.Common.{◌+◌, refl}
+use Rattle.std.proofs.Common.{false, ◌+◌, refl, sym, ◌∙◌}
+use Rattle.std.proofs.lemmas.Bool.{false≢true}
 use Rattle.plain_model.specs.Runs.{Called}
 use Rattle.overlay_core.specs.Mounting.{machine_options}
 use Rattle.overlay_core.proofs.Agreeing.{given-more, given-same, goes-on, has-begun, limits-on, some-finished, some-more, stays-on}
+use Rattle.overlay_core.proofs.ReadOnly.{goes-as, stays-as}
 use Rattle.overlay_core.proofs.StepsMade.{brings-made}
 use Rattle.overlay_core.proofs.Waited.{none-waits}
 use Rattle.overlay_core.proofs.mounted.Core.complete.Goals as goal
@@ -14,21 +16,28 @@ invariant_of-self g c =
     let made = c.in-Done.ensures.makes in
     record {
       agrees = goes-on g.R.Rule.shows old.mount new.mount old.notifier new.notifier job.client (Called job.call c.in-Done.reply) c.args.self.now.agrees made.turns.0;
-      begins = has-begun (c.args.self.now.finished + 1) (machine_options c.args.self.now.options) new.mount new.notifier (some-more c.args.self.now.finished);
+      begins = has-begun (c.args.self.now.finished + 1) (machine_options false c.args.self.now.options) new.mount new.notifier (some-more c.args.self.now.finished);
       given = given-more old.mount.clients.next new.mount.clients.next c.args.self.now.finished c.args.self.now.given made.clients.next;
       short = c.args.self.now.short;
       waits = none-waits new.mount c.clear.new.self.items c.clear.ensures.items;
       temps = made.temps;
       limits = limits-on old.mount.layers new.mount.layers made.lowers c.args.self.now.limits;
+      blank = λ only. absurd (false≢true (sym c.if-self.false ∙ only));
+      idle = λ only. absurd (false≢true (sym c.if-self.false ∙ only));
     }
 
 pub returns-in-Done-clause-turn : goal.returns-in-Done-clause-turn
-returns-in-Done-clause-turn g c = c.in-Done.ensures.makes.turns
+returns-in-Done-clause-turn g c =
+    let old = c.args.self.now.watched in
+    let new = c.make.new.watched in
+    let job = c.args.job.now in
+    let turns = c.in-Done.ensures.makes.turns in
+    (goes-as old.mount new.mount old.notifier new.notifier g.R.Rule.shows job.client (Called job.call c.in-Done.reply) c.args.self.now.read_only c.if-self.false turns.0, turns.1)
 
 pub returns-in-Done-clause-kept : goal.returns-in-Done-clause-kept
 returns-in-Done-clause-kept g c =
     let made = c.in-Done.ensures.makes in
-    record { options = refl; lowers = made.lowers; thin = made.thin }
+    record { options = refl; read_only = refl; lowers = made.lowers; thin = made.thin }
 
 pub returns-in-Done-clause-layers : goal.returns-in-Done-clause-layers
 returns-in-Done-clause-layers g c = c.in-Done.ensures.makes.layers
@@ -48,21 +57,27 @@ invariant_of-self-in-NoMemory g c =
     let there = old.mount.clients.rising c.args.job.now.client c.requires.attached in
     record {
       agrees = stays-on old.mount new.mount old.notifier new.notifier c.args.self.now.agrees made.turns.0;
-      begins = has-begun c.args.self.now.finished (machine_options c.args.self.now.options) new.mount new.notifier (some-finished c.args.job.now.client old.mount.clients.next c.args.self.now.finished there before);
+      begins = has-begun c.args.self.now.finished (machine_options false c.args.self.now.options) new.mount new.notifier (some-finished c.args.job.now.client old.mount.clients.next c.args.self.now.finished there before);
       given = given-same old.mount.clients.next new.mount.clients.next c.args.self.now.finished before made.clients.next;
       short = c.args.self.now.short;
       waits = none-waits new.mount c.clear.new.self.items c.clear.ensures.items;
       temps = made.temps;
       limits = limits-on old.mount.layers new.mount.layers made.lowers c.args.self.now.limits;
+      blank = λ only. absurd (false≢true (sym c.if-self.false ∙ only));
+      idle = λ only. absurd (false≢true (sym c.if-self.false ∙ only));
     }
 
 pub returns-in-NoMemory-clause-turn : goal.returns-in-NoMemory-clause-turn
-returns-in-NoMemory-clause-turn g c = c.in-NoMemory.ensures.makes.turns
+returns-in-NoMemory-clause-turn g c =
+    let old = c.args.self.now.watched in
+    let new = c.make.new.watched in
+    let turns = c.in-NoMemory.ensures.makes.turns in
+    (stays-as old.mount new.mount old.notifier new.notifier c.args.self.now.read_only turns.0, turns.1)
 
 pub returns-in-NoMemory-clause-kept : goal.returns-in-NoMemory-clause-kept
 returns-in-NoMemory-clause-kept g c =
     let made = c.in-NoMemory.ensures.makes in
-    record { options = refl; lowers = made.lowers; thin = made.thin }
+    record { options = refl; read_only = refl; lowers = made.lowers; thin = made.thin }
 
 pub returns-in-NoMemory-clause-layers : goal.returns-in-NoMemory-clause-layers
 returns-in-NoMemory-clause-layers g c = c.in-NoMemory.ensures.makes.layers

@@ -16,6 +16,6 @@ returns-clause-ok c =
     let d = Some c.args.id.now in
     let way : c.in_ok-way.way ≡ way_of t c.args.path.now = c.in_ok-way.ensures ∙ ap (way_of t) (ap reverse c.names.ensures ∙ reverse-reverse c.args.path.now) in
     c.gain_name.ensures
-    ∙ ap (λ (u : Tree). change (gained c.args.self.now.metacopy) u d) c.in_ok-lead_way.ensures.ok
-    ∙ changed_last (gained c.args.self.now.metacopy) (gained-named c.args.self.now.metacopy) t c.in_ok-way.way d d
-    ∙ ap (λ (o : Option (NodeId × Name)). lead_way (change (gained c.args.self.now.metacopy) t d) o d) way
+    ∙ ap (λ (u : Tree). change (gained c.args.self.now.options.metacopy) u d) c.in_ok-lead_way.ensures.ok
+    ∙ changed_last (gained c.args.self.now.options.metacopy) (gained-named c.args.self.now.options.metacopy) t c.in_ok-way.way d d
+    ∙ ap (λ (o : Option (NodeId × Name)). lead_way (change (gained c.args.self.now.options.metacopy) t d) o d) way

@@ -23,6 +23,6 @@ returns-clause-step c =
     let f : Attributes → Attributes = with_mode c.args.mode in
     changed_step c.args.self.now c.give.new.self c.args.client (Chmod c.args.path.now c.args.mode) _ (sym c.in_default.is ∙ c.in_ok-errno.ensures) refl c.in_ok-give.ensures.rest
     (c.in_ok-give.ensures.ok
-    ∙ ap (λ (a : Attributes). change (given c.args.self.now.metacopy a) t (node_at t c.args.path.now)) (ap (λ (m : ℕ). with_mode m c.in-Some-2.attributes) (rw c.in-Ok.is at c.parse.ensures.same))
+    ∙ ap (λ (a : Attributes). change (given c.args.self.now.options.metacopy a) t (node_at t c.args.path.now)) (ap (λ (m : ℕ). with_mode m c.in-Some-2.attributes) (rw c.in-Ok.is at c.parse.ensures.same))
     ∙ given-changed (unwatched_of c.args.self.now).options f t (node_at t c.args.path.now) c.in-Some-2.attributes (sym c.in-Some-2.is ∙ c.in_ok-attributes.ensures))
     refl

@@ -15,4 +15,4 @@ returns-clause-tree c =
     let to : c.in_ok-to.to ≡ way_of t c.args.new.now = c.in_ok-to.ensures ∙ ap (way_of t) (ap reverse c.names-3.ensures ∙ reverse-reverse c.args.new.now) in
     c.settle_any.ensures.tree
     ∙ (λ i. settled c.args.self.now.clients.list.items (c.in_ok-rename.ensures.ok i) c.in_ok-replaced.replaced)
-    ∙ (λ i. settled c.args.self.now.clients.list.items (lead_way (lead_way (change (copied_up c.args.self.now.metacopy) (change one_fewer t (replaced i)) node) (to i) node) (from i) None) (replaced i))
+    ∙ (λ i. settled c.args.self.now.clients.list.items (lead_way (lead_way (change (copied_up c.args.self.now.options.metacopy) (change one_fewer t (replaced i)) node) (to i) node) (from i) None) (replaced i))

@@ -23,6 +23,6 @@ returns-clause-step c =
     let f : Attributes → Attributes = λ (a : Attributes). record a { user = set_value a.user c.args.name.now c.args.value.now } in
     changed_step c.args.self.now c.give.new.self c.args.client (SetAttribute c.args.path.now c.args.name.now c.args.value.now) _ (sym c.in_default.is ∙ c.in_ok-errno.ensures) refl c.in_ok-give.ensures.rest
     (c.in_ok-give.ensures.ok
-    ∙ ap (λ (a : Attributes). change (given c.args.self.now.metacopy a) t (node_at t c.args.path.now)) (λ i. record c.in-Some-2.attributes { user = (c.in_ok-set.ensures.ok ∙ (λ j. set_value c.in-Some-2.attributes.user (c.in_ok-clone.ensures.cases j) (c.in_ok-clone-2.ensures.cases j))) i })
+    ∙ ap (λ (a : Attributes). change (given c.args.self.now.options.metacopy a) t (node_at t c.args.path.now)) (λ i. record c.in-Some-2.attributes { user = (c.in_ok-set.ensures.ok ∙ (λ j. set_value c.in-Some-2.attributes.user (c.in_ok-clone.ensures.cases j) (c.in_ok-clone-2.ensures.cases j))) i })
     ∙ given-changed (unwatched_of c.args.self.now).options f t (node_at t c.args.path.now) c.in-Some-2.attributes (sym c.in-Some-2.is ∙ c.in_ok-attributes.ensures))
     refl

@@ -1,0 +1,96 @@
+// The one step of a job on a mount without an upper, where nothing may be written (overlayfs.rst,
+// "Multiple lower layers"): EROFS is the last reason of all.
+ghost use Rattle.std.specs.Prelude.{◌≡◌, ◌≢◌, [], true, false, IfSome, None, Some};
+ghost use Rattle.plain_model.specs.Machine.{State, writable};
+ghost use Rattle.plain_model.specs.Refusals.{refusal, writes};
+ghost use Rattle.merged_lookup.specs.Merged.{upper_of, lowers_of};
+ghost use Rattle.mount_calls.specs.Attaching.{is_attached};
+ghost use Rattle.mount_calls.specs.Keeping.{takes_no_memory};
+ghost use Rattle.mount_calls.specs.Lacks as lacks;
+ghost use Rattle.mount_calls.specs.Lacks.{changed_paths};
+ghost use Rattle.mount_calls.specs.Looking.{AreLooks};
+ghost use Rattle.mount_calls.specs.States.{IsStateOf};
+ghost use Rattle.overlay_core.specs.Reading.{Reads};
+ghost use Rattle.overlay_core.specs.Steps.{IsStepped};
+ghost use Rattle.overlay_core.specs.Watching.{HasState};
+
+use crate::finishing::{finish_seen, plain};
+use crate::job::{Job, Standing};
+use crate::turn::Turn;
+use crate::watched::Watched;
+use mount_calls::{LookedPaths, Looks, Mount, looked_paths, may_lack};
+use ov_base::{Errno, Reply};
+use watch_table::{Callback, Rule};
+
+// Makes the call of a job, or refuses it where it would write.
+pub(crate) fn answer<F: Callback, R: Rule>(watched: &mut Watched<F, R>, job: &mut Job) -> Turn
+    requires open { job.old.standing ≡ Standing.Open }
+    requires attached { is_attached watched.old.mount.clients job.old.client ≡ true }
+    requires state { ∥ HasState watched.old.mount watched.old.notifier ∥₁ }
+    ensures reads { Reads watched.old watched.new job.old job.new R.shows result }
+    ensures stepped { IsStepped job.old job.new }
+    ensures memory { takes_no_memory job.old.call ≡ true → result ≢ Turn.NoMemory }
+{
+    watched.mount.remember(job.call());
+    if !may_lack(job.call()) {
+        return plain(watched, job);
+    }
+    match looked_paths(job.call()) {
+        LookedPaths::None => unreachable!(),
+        LookedPaths::One(path) => {
+            let look = watched.mount.look(path);
+            answer_seen(watched, job, Looks::One(&look))
+        }
+        LookedPaths::Both(old, new) => {
+            let from = watched.mount.look(old);
+            let onto = watched.mount.look(new);
+            answer_seen(watched, job, Looks::Both(&from, &onto))
+        }
+    }
+}
+
+// `answer` of a call that may lack something, by what its paths show.
+fn answer_seen<F: Callback, R: Rule>(
+    watched: &mut Watched<F, R>,
+    job: &mut Job,
+    looks: Looks<'_>,
+) -> Turn
+    requires open { job.old.standing ≡ Standing.Open }
+    requires attached { is_attached watched.old.mount.clients job.old.client ≡ true }
+    requires state { ∥ HasState watched.old.mount watched.old.notifier ∥₁ }
+    requires may { lacks.may_lack job.old.call ≡ true }
+    requires looks { AreLooks watched.old.mount.layers job.old.call looks }
+    ensures reads { Reads watched.old watched.new job.old job.new R.shows result }
+    ensures stepped { IsStepped job.old job.new }
+{
+    match refused(&watched.mount, job, looks) {
+        Some(errno) => {
+            job.end(Standing::Answered);
+            Turn::Done(Reply::Refused(errno))
+        }
+        None => finish_seen(watched, job, looks, None),
+    }
+}
+
+// Why the call of a job is refused where nothing may be written, as its looks saw it.
+fn refused(mount: &Mount, job: &Job, looks: Looks<'_>) -> Option<Errno>
+    requires attached { is_attached mount.now.clients job.now.client ≡ true }
+    requires may { lacks.may_lack job.now.call ≡ true }
+    requires looks { AreLooks mount.now.layers job.now.call looks }
+    ensures refused { IfSome result (λ e. (s : State) → IsStateOf mount.now (writable s) →
+        s.options.read_only ≡ true → refusal s job.now.client job.now.call ≡ Some e) }
+    ensures allowed { result ≡ None → changed_paths (upper_of mount.now.layers)
+        (lowers_of mount.now.layers) job.now.call ≡ [] }
+    ensures reads { result ≡ None → (s : State) → IsStateOf mount.now (writable s) →
+        (refusal s job.now.client job.now.call ≡ None) × (writes s job.now.call ≡ false) }
+{
+    match mount.lack(job.client(), job.call(), looks) {
+        Err(errno) => Some(errno),
+        Ok(_) => {
+            if mount.writes(job.call(), looks) {
+                return Some(Errno::EROFS);
+            }
+            None
+        }
+    }
+}

@@ -1,0 +1,100 @@
+// Sessions ask their door for what the slow reference reads of their streams.
+use super::devices::{Pieces, Taker};
+use super::dice::Dice;
+use super::frame_reference::{Asked, Stream, StreamEnd, read_stream};
+use super::generated::stream_of;
+use super::served;
+use super::told_calls::asked_of;
+use ov_base::Path;
+use ov_frames::FrameFault;
+use ov_session::{Ending, Exchange};
+use std::alloc::{AllocError, Global};
+use std::hash::RandomState;
+use std::test::Fail;
+
+/// How many streams are served.
+const STREAMS: u64 = 2_000;
+
+/// The most bytes of the pieces of a stream, by turns.
+const PIECES: [usize; 4] = [1, 7, 300, 70_000];
+
+/// The op of a detach.
+const DETACH: u8 = 26;
+
+// The texts of a request that are paths.
+fn paths_of(asked: &Asked) -> &[Vec<u8>] {
+    let texts = asked.texts.as_slice();
+    match asked.op {
+        5 | 6 | 7 => &texts[..texts.len().min(1)],
+        10 => &texts[texts.len().min(1)..],
+        17 => &[],
+        _ => texts,
+    }
+}
+
+// Whether a call is made for a request: no path text is refused.
+fn is_called(alloc: Global, asked: &Asked) -> Result<bool, AllocError> {
+    for text in paths_of(asked) {
+        if Path::parse(alloc, text.as_slice())?.is_err() {
+            return Ok(false);
+        }
+    }
+    Ok(true)
+}
+
+// The requests before a detach that are calls.
+fn calls_of(alloc: Global, all: Vec<Asked>) -> Result<Vec<Asked>, AllocError> {
+    let mut calls = Vec::new(alloc);
+    for asked in all {
+        if asked.op == DETACH {
+            return Ok(calls);
+        }
+        if is_called(alloc, &asked)? {
+            calls.push(asked)?;
+        }
+    }
+    Ok(calls)
+}
+
+// The calls that were answered.
+fn answered(alloc: Global, exchanges: &[Exchange]) -> Result<Vec<Asked>, AllocError> {
+    let mut calls = Vec::new(alloc);
+    for exchange in exchanges {
+        if let Exchange::Called(call, _) = exchange {
+            calls.push(asked_of(alloc, call)?)?;
+        }
+    }
+    Ok(calls)
+}
+
+// How a session ends whose client asks this.
+fn ending_of(stream: &Stream) -> Ending {
+    if stream.asked.iter().any(|asked| asked.op == DETACH) {
+        return Ending::Detached;
+    }
+    match stream.end {
+        StreamEnd::Whole => Ending::Ended,
+        StreamEnd::Cut => Ending::Cut,
+        StreamEnd::BadLength => Ending::Frame(FrameFault::BadLength),
+        StreamEnd::BadOp => Ending::Frame(FrameFault::BadOp),
+        StreamEnd::BadFields => Ending::Frame(FrameFault::BadFields),
+    }
+}
+
+#[test]
+fn random_streams_are_served_as_the_reference_reads_them(rt: HostRuntime) -> Result<(), Fail> {
+    let alloc = rt.alloc();
+    let keys = RandomState::new(&rt)?;
+    for seed in 0..STREAMS {
+        let bytes = stream_of(alloc, &mut Dice::new(seed))?;
+        let wanted = read_stream(alloc, bytes.as_slice())?;
+        let mut reader = Pieces::most(bytes.as_slice(), PIECES[(seed % 4) as usize]);
+        let mut writer = Taker::new(alloc);
+        let (end, session) = served(alloc, keys, &mut reader, &mut writer)?;
+        assert_eq!(rt; end, ending_of(&wanted), "stream {seed}");
+        let calls = calls_of(alloc, wanted.asked)?;
+        let seen = answered(alloc, session.exchanges())?;
+        assert_eq!(rt; seen.as_slice(), calls.as_slice(), "stream {seed}");
+    }
+    Ok(())
+}
