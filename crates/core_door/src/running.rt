@@ -1,48 +1,51 @@
 // A whole session of a core's client.
-ghost use Rattle.std.specs.Prelude.{◌≡◌, ◌+◌, ◌<◌, ◌^◌, [], false, true, vec_len};
+ghost use Rattle.std.specs.Prelude.{◌≡◌, ◌+◌, ◌<◌, ◌≤◌, ◌^◌, [], false, true, vec_len};
 ghost use Rattle.std.specs.Vec.{vec_capacity};
 ghost use Rattle.overlay_core.specs.Views.{core_finished, has_client};
-ghost use Rattle.ov_session.specs.Devices.{InputAt, is_write};
+ghost use Rattle.ov_session.specs.Devices.{InputAt, OutputAt};
 ghost use Rattle.ov_session.specs.Sessions.{IsSession};
 ghost use Rattle.core_door.specs.Rooms.{IsServed};
 
 use crate::door::CoreDoor;
 use crate::session::CoreSession;
-use ov_session::{Ending, SessionInput, SessionOutput, session_run};
+use ov_devices::{Sink, Source};
+use ov_session::{Ending, SessionOutput, session_run};
 use overlay_core::Core;
 use std::alloc::Global;
-use std::io::{Read, Write};
 use watch_table::{Callback, Rule};
 
 /// Runs a session of a client of a core, and hands the core back, from which the client is detached
 /// then. What it wrote is the frames of the answers to what it read, and what was asked and
 /// answered, told behind what the session told, is a run of the client.
-pub fn run_session<F, R, I, O>(
+pub fn run_session<F, R, S, K>(
     alloc: Global,
     core: Core<F, R>,
     client: u64,
     session: CoreSession,
-    input: &mut SessionInput<I>,
-    output: &mut SessionOutput<O>,
+    input: &mut S,
+    output: &mut SessionOutput<K>,
 ) -> (Ending, CoreSession, Core<F, R>)
 where
     F: Callback + Drop,
     R: Rule,
-    I: Read,
-    O: Write,
+    S: Source,
+    K: Sink,
     requires attached { has_client core client ≡ true }
     requires bound { core_finished core + 1 < 2 ^ 63 }
     requires room { vec_len session.exchanges < vec_capacity session.exchanges }
-    requires input { input.old.failed ≡ false }
-    requires output { output.old.failed ≡ false }
+    requires few { K.failures output.old.sink < 4294967295 }
     requires held { output.old.held.items ≡ [] }
     ensures session { IsSession (IsServed client)
-        (I.remaining input.old.reader) (I.remaining input.new.reader)
-        (O.contents output.old.writer) (O.contents output.new.writer)
+        (S.remaining input.old) (S.remaining input.new)
+        (K.contents output.old.sink) (K.contents output.new.sink)
         session.exchanges.items result.1.exchanges.items core result.2 result.0 }
     ensures detached { has_client result.2 client ≡ false }
-    ensures input { InputAt input.new.failed input.new.reads_left result.0 }
-    ensures output { output.new.failed ≡ is_write result.0 }
+    ensures input { InputAt (S.failures input.old) (S.failures input.new) (S.reads input.new)
+        result.0 }
+    ensures reads { (S.reads input.old ≤ S.reads input.new)
+        × (S.reads input.new ≤ S.reads input.old + 4294967295) }
+    ensures output { OutputAt (K.failures output.old.sink) (K.failures output.new.sink)
+        result.0 }
 {
     let mut told = session;
     let mut door = CoreDoor::new(core, client);

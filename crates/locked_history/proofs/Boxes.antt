@@ -5,7 +5,7 @@ use Rattle.std.proofs.lemmas.Bool.{cases_eq}
 use Rattle.mount_calls.specs.declared.clients.Clients.{Clients}
 use Rattle.mount_calls.specs.Attaching.{Attaches, Detaches, KeepsAttached, is_attached}
 use Rattle.locked_history.specs.Holding.{HasBoxes, has_box}
-use Rattle.locked_history.proofs.Numbering.{gone_is_other, others_attached}
+use Rattle.overlay_core.proofs.Numbering.{gone_is_other, others_attached}
 
 not_true : false ≡ true → ⊥
 not_true q = cc

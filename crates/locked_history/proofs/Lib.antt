@@ -1,6 +1,6 @@
 pub mod Beginning
-pub mod Numbering
 pub mod Boxes
 pub mod Growing
+pub mod Guarding
 pub mod Standing
 pub mod Waiting

@@ -1,9 +1,9 @@
 -- What a blank mount has that a name of it names.
 use Rattle.std.specs.Prelude.{◌≡◌, ℕ, List, map}
 use Rattle.once_cell.specs.Once.{cell_name}
+use Rattle.overlay_core.specs.LegalHistories.{Opening, opening_of}
 use Rattle.overlay_core.specs.declared.mounted.Core.{Core}
 use Rattle.locked_history.specs.declared.blank.Blank.{Blank}
-use Rattle.locked_history.specs.Holding.{Opening, opening_of}
 use Rattle.watch_table.specs.declared.hook.Callback.{Ghosts as Callback}
 use Rattle.watch_table.specs.declared.hook.Rule.{Ghosts as Rule}
 

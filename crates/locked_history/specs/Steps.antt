@@ -1,18 +1,25 @@
 -- When a guarded step is made, and why it is not.
-use Rattle.std.specs.Prelude.{◌≡◌, ℕ, suc, ◌<◌, true, List, count_by}
+use Rattle.std.specs.Prelude.{◌≡◌, ◌⊎◌, ℕ, suc, ◌<◌, true, List, count_by, Option, None, Result, Ok, Err}
 use Rattle.plain_model.specs.Runs.{is_of}
 use Rattle.ov_base.specs.declared.call.Call.{Call}
+use Rattle.ov_base.specs.declared.reply.Reply.{Reply}
 use Rattle.work_dir.specs.OpenJobs as jobs
-use Rattle.overlay_core.specs.Views.{core_room, core_work, has_client}
+use Rattle.overlay_core.specs.Jobs.{Advances}
+use Rattle.overlay_core.specs.Steps.{without}
+use Rattle.overlay_core.specs.Views.{CoreSame, core_room, core_work, has_client}
+use Rattle.overlay_core.specs.declared.job.Job.{Job}
 use Rattle.overlay_core.specs.declared.job.Standing.TheVariants.{Open}
 use Rattle.overlay_core.specs.declared.mounted.Core.{Core}
+use Rattle.overlay_core.specs.declared.turn.Turn.TheVariants as turns
 use Rattle.watch_table.specs.declared.hook.Callback.{Ghosts as Callback}
 use Rattle.watch_table.specs.declared.hook.Rule.{Ghosts as Rule}
 use Rattle.locked_history.specs.declared.entry.Entry.{Entry}
+use Rattle.locked_history.specs.declared.entry.Deed.TheVariants.{Called}
 use Rattle.locked_history.specs.declared.locked.Pending.{Pending}
 use Rattle.locked_history.specs.declared.locked.Pending.TheVariants.{More, Refused}
 use Rattle.locked_history.specs.declared.session.Refused.{Refused as Why}
 use Rattle.locked_history.specs.declared.session.Refused.TheVariants.{Memory, Full, Session, Stopped}
+use Rattle.locked_history.specs.Claims.{Claim}
 use Rattle.locked_history.specs.Entries.{history_of}
 
 -- a call that goes on is the same call of the same client, and still open
@@ -45,3 +52,26 @@ module _ {F G : Type 0} {asks : Callback F} {rule : Rule G} (es : List Entry) (c
   abbrev pub IsPendingWhere : Pending → ℕ → ℕ → Type 0
   IsPendingWhere (More job room) c n = IsDue c n × HasPlace
   IsPendingWhere (Refused why) c n = IsCause why c n
+
+-- the job is given up, with its temp, and nothing that is shown changes
+pub record GivesUp {F G : Type 0} {asks : Callback F} {rule : Rule G}
+    (old : Core F G asks rule) (job : Job) (new : Core F G asks rule) : Type 0 where
+  pub same : CoreSame old new
+  pub work : core_work new ≡ without (core_work old) job
+
+module _ {F G A : Type 0} {asks : Callback F} {rule : Rule G} (old : Core F G asks rule) (job : Job) (room : Option A) (new : Core F G asks rule) where
+  -- a step that is refused gives the job up, but for one that ran out of memory
+  abbrev pub Refuses : Why → Type 0
+  Refuses Session = GivesUp old job new
+  Refuses Full = GivesUp old job new
+  Refuses Memory = ((room ≡ None) × GivesUp old job new) ⊎ ((after : Job) × Advances old job new after turns.NoMemory)
+  Refuses Stopped = ⊥
+
+  -- A GUARDED STEP is one step of the job on the core, and answers a receipt with the call's reply, or
+  -- the job as it is then; or it is refused
+  abbrev pub Guards : Result Claim Pending → Type 0
+  Guards (Ok receipt) =
+      (reply : Reply) × (receipt.entry.deed ≡ Called job.call reply)
+      × ((after : Job) × Advances old job new after (turns.Done reply))
+  Guards (Err (More after still)) = Advances old job new after turns.More
+  Guards (Err (Refused why)) = Refuses why

@@ -3,9 +3,11 @@ ghost use Rattle.std.specs.Prelude.{◌≡◌, ◌+◌, ◌<◌, ◌≤◌, ◌+
 ghost use Rattle.once_cell.specs.Once.{cell_name};
 ghost use Rattle.mount_calls.specs.Keeping.{takes_no_memory};
 ghost use Rattle.overlay_core.specs.Histories.{HasPlaces};
-ghost use Rattle.overlay_core.specs.Views.{core_clients, core_finished, core_options, next_client};
+ghost use Rattle.plain_model.specs.Machine.{instance_of};
+ghost use Rattle.overlay_core.specs.Views.{core_clients, core_finished, core_options, core_watches, next_client};
 ghost use Rattle.locked_history.specs.Entries.{entry_in, history_of};
-ghost use Rattle.locked_history.specs.Holding.{HasBoxes, Legally, Numbers};
+ghost use Rattle.overlay_core.specs.LegalHistories.{Legally, Numbers};
+ghost use Rattle.locked_history.specs.Holding.{HasBoxes};
 
 use crate::entry::{Deed, Entry};
 use crate::mount_name::MountName;
@@ -123,7 +125,7 @@ impl<N: MountName, F: Callback, R: Rule> Locked<N, F, R> {
     ghost use Rattle.overlay_core.specs.Histories.{attach_refusal};
     ghost use Rattle.locked_history.specs.Claims.{IsAttachOf, IsCallOf, IsDetachOf};
     ghost use Rattle.locked_history.specs.Steps.{HasPlace, IsCause, IsDue, IsIdle};
-    ghost use Rattle.locked_history.specs.Steps.{IsPendingWhere, IsStill};
+    ghost use Rattle.locked_history.specs.Steps.{GivesUp, Guards, IsPendingWhere, IsStill};
     ghost use Rattle.locked_history.specs.Views.{Appends, LeavesAlone, core_in, entries_in};
 
     // Whether the session's number is that of its client's next entry.
@@ -162,9 +164,10 @@ impl<N: MountName, F: Callback, R: Rule> Locked<N, F, R> {
         room.ok_or(Refused::Memory)
     }
 
-    /// Gives up a call that is on its way.
+    /// Gives up a call that is on its way, with its temp.
     pub fn give_up(&mut self, job: Job)
-        ensures { LeavesAlone self.old self.new }
+        ensures stays { LeavesAlone self.old self.new }
+        ensures gives_up { GivesUp (core_in self.old) job (core_in self.new) }
     {
         let _ = self.core.drop_job(job);
     }
@@ -197,6 +200,7 @@ impl<N: MountName, F: Callback, R: Rule> Locked<N, F, R> {
             session.client session.number) }
         ensures memory { IfErr result (λ pending. pending ≡ Pending.Refused Refused.Memory →
             takes_no_memory job.call ≡ true → room ≡ None) }
+        ensures guarded { Guards (core_in self.old) job room (core_in self.new) result }
     {
         let room = match self.judge(session, room) {
             Ok(room) => room,
@@ -316,6 +320,9 @@ impl<N: MountName, F: Callback, R: Rule> Locked<N, F, R> {
         ensures refused { IfErr result (λ why. (why ≡ Refused.Session)
             × (IsDue (entries_in self.old) (core_in self.old) session.client session.number
             → IsIdle (core_in self.old) session.client → ⊥)) }
+        ensures hooks { IfOk result (λ r.
+            IfSome (instance_of (core_watches (core_in self.old)).instances session.client)
+            (λ e. map (λ h. h.tag) r.0.items ≡ e.tags)) }
     {
         if !self.may_leave(session) {
             return Err(Refused::Session);

@@ -3,7 +3,7 @@ ghost use Rattle.std.specs.Prelude.{◌≡◌, ◌+◌, ◌<◌, ◌≤◌, ◌�
 ghost use Rattle.once_cell.specs.Once.{cell_name};
 ghost use Rattle.locked_history.specs.Claims.{StandsIn, is_past_end, uncounted};
 ghost use Rattle.locked_history.specs.Entries.{history_of};
-ghost use Rattle.locked_history.specs.Holding.{Legally};
+ghost use Rattle.overlay_core.specs.LegalHistories.{Legally};
 
 use crate::blank::Blank;
 use crate::entry::{Deed, Entry};
@@ -19,6 +19,7 @@ use overlay_core::Job;
 use std::alloc::{AllocError, Global};
 use std::sync::{Mutex, Wait};
 use watch_table::{Callback, Hook, NotAttached, Rule};
+use work_dir::STEPS_MAX;
 
 /// A mount that many threads share: the lock round its core and history, and the row of cells.
 /// The calls of all threads are those of one history.
@@ -102,9 +103,9 @@ impl<N: MountName, F: Callback, R: Rule> Mount<N, F, R> {
             .detach(rt, self.row.as_slice(), session)
     }
 
-    /// Makes a session's call, with the lock taken once for each of its steps. Before each step the
-    /// lock is free, and the gate is asked. What is refused is no entry, and leaves the session's
-    /// number.
+    /// Makes a session's call, with the lock taken once for each of its steps, at most 66,049. Before
+    /// each step the lock is free, and the gate is asked. What is refused is no entry, and leaves the
+    /// session's number.
     pub fn call<H: Wait, G: Gate>(
         &self,
         rt: &H,
@@ -123,9 +124,7 @@ impl<N: MountName, F: Callback, R: Rule> Mount<N, F, R> {
         let client = session.client;
         let mut job = Job::new(client, call);
         let mut room = Box::new(self.alloc, blank_entry()).ok();
-        let mut step = 0u64;
-        for _ in rt.forever() {
-            step = step.saturating_add(1);
+        for step in 1..=STEPS_MAX as u64 {
             if gate.pass(client, step) == Pass::Stop {
                 self.shared.lock(rt).give_up(job);
                 return Err(Refused::Stopped);

@@ -7,7 +7,7 @@ use std::sync::ledger::Ledger;
 /// Names a mount, for contracts alone: the cells of its row, its ledger, and what was mounted.
 pub trait MountName: Ledger {
     ghost use Rattle.std.specs.Prelude.{List, ℕ};
-    ghost use Rattle.locked_history.specs.Holding.{Opening};
+    ghost use Rattle.overlay_core.specs.LegalHistories.{Opening};
 
     ghost cells: { List ℕ };
 

@@ -3,7 +3,7 @@ ghost use Rattle.std.specs.Prelude.{◌≡◌, ◌<◌, ◌≤◌, All, Some, co
 ghost use Rattle.once_cell.specs.Once.{cell_name};
 ghost use Rattle.locked_history.specs.Claims.{StandsIn, is_past_end, uncounted};
 ghost use Rattle.locked_history.specs.Entries.{entry_in, history_of};
-ghost use Rattle.locked_history.specs.Holding.{Legally};
+ghost use Rattle.overlay_core.specs.LegalHistories.{Legally};
 
 use crate::entry::Entry;
 use crate::mount_name::MountName;

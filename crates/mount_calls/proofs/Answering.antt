@@ -1,6 +1,6 @@
 -- The mount answers each call as the machine does.
 use Rattle.std.proofs.Common.{arith, ◌≡◌, ℕ, ◌+◌, true, min, List, Option, None, Some, Result, Ok, Err, refl, sym, ap, ◌∙◌, subst, is_some, length, take, drop}
-use Rattle.mount_calls.proofs.Words.{after, AllocError, At, Call, directory_in, Errno, GivesNames, Handle, handle_of, is_directory, Layer, Location, Name, OnErr, OpenDirectory, option_and_then, or_else, parents_fault, Path, refusal, Removed, Reply, reply_of, Shown, shows, Stat, State}
+use Rattle.mount_calls.proofs.Words.{after, AllocError, Apart, At, Call, directory_in, Errno, GivesNames, Handle, handle_of, is_directory, Layer, Location, Name, OnErr, OpenDirectory, option_and_then, or_else, parents_fault, Path, refusal, Reply, reply_of, Shown, shows, Stat, State}
 use Rattle.std.specs.Option.{unwrap_or}
 use Rattle.std.proofs.lemmas.List.{drop_min, drop-drop}
 use Rattle.ov_base.specs.declared.call.Call.TheVariants as call
@@ -13,7 +13,8 @@ use Rattle.mount_laws.specs.Removed.{ListsRemoved}
 use Rattle.mount_laws.proofs.Looks.{is_present, present, law_of_walks, law_of_stat}
 use Rattle.mount_laws.proofs.Lists.{law_of_list}
 use Rattle.mount_laws.proofs.Removed.{law_of_list_removed}
-use Rattle.open_handles.specs.Opened.{path_in}
+use Rattle.object_table.specs.declared.dentry.Unlisted.TheVariants as unlisted
+use Rattle.object_table.specs.Opened.{path_in}
 use Rattle.open_handles.specs.declared.handle.Handle as handles
 use Rattle.mount_calls.specs.declared.clients.Clients.{Clients}
 use Rattle.mount_calls.specs.declared.mount.Mount.{Mount}
@@ -146,7 +147,9 @@ module _ (m : Mount) (s : State) (st : IsStateOf m s) (c : ℕ) where
           let dir = shown-directory (the_upper m) (the_lowers m) s st.layers p h.node at x.2.directory in
           let lists : Lists (the_layers m) s c d p h = law_of_list (the_upper m) (the_lowers m) s st.layers c d p dir h (record { handle = x.1; at = at }) in
           lists.alone none names (are dir (walk-none p dir))
-      alone (Removed a) gone none names are =
+      alone (Apart (unlisted.Upper key)) gone none names are = absurd gone
+      alone (Apart unlisted.Nowhere) gone none names are = absurd gone
+      alone (Apart (unlisted.Removed a)) gone none names are =
           let lists : ListsRemoved s c d h = law_of_list_removed s c d h x.1 x.2.directory gone.empty in
           are ∙ sym (lists.empty none)
 

@@ -1,7 +1,7 @@
 -- Open files through changes of the layers and of the tree.
 use Rattle.std.proofs.Common.{◌≡◌, ◌↔◌, ℕ, ◌<◌, Bool, true, false, List, Option, None, Some, refl, sym, ap, ◌∙◌, subst}
 use Rattle.merged_lookup.specs.Merged.{upper_of}
-use Rattle.mount_calls.proofs.Words.{after, Call, Dentries, Directory, File, file_holders, Handle, handle_of, IsLive, IsMountOf, Layer, layer_of, Layers, lowers_of, NodeId, OpenDirectory, OpenFile, State, Table, Tree, Upper}
+use Rattle.mount_calls.proofs.Words.{after, Call, Dentries, Directory, File, file_holders, Handle, handle_of, IsLive, IsMountOf, Layer, Layers, lowers_of, NodeId, OpenDirectory, OpenFile, State, Table, Tree, Upper}
 use Rattle.plain_model.specs.Tree.{IsKept, is_data_low}
 use Rattle.plain_model.specs.Changes.{is_held}
 use Rattle.plain_model.proofs.OwnBytes.{OwnsAlso, law_of_own}

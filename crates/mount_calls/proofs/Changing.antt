@@ -1,7 +1,7 @@
 -- The calls that change the layers: what becomes of open directories, and the machine's steps.
 use Rattle.std.proofs.Common.{arith, ◌≡◌, ◌≢◌, ℕ, ◌<◌, Bool, true, false, cond, List, [], ◌∷◌, ◌++◌, Option, None, Some, Result, Ok, IsSome, refl, sym, ap, ◌∙◌, subst}
 use Rattle.merged_lookup.specs.Merged.{upper_of}
-use Rattle.mount_calls.proofs.Words.{after, AllocError, At, Attributes, base, Call, change, Dentries, Descriptors, Directory, Errno, false≢true, folder_attributes, Handle, handle_of, is_directory, is_folder, IsMountOf, Layer, layer_of, Layers, Location, lowers_of, made_way, MountOptions, Name, nat_cmp, New, Node, node_at, NodeId, OnErr, OpenDirectory, option_and_then, option_map, or_else, over_node, Path, put, refusal, Removed, Removes, reply_of, shows, State, StaysMount, Table, Tree, way_of, when}
+use Rattle.mount_calls.proofs.Words.{after, AllocError, Apart, At, Attributes, base, Call, change, Dentries, Descriptors, Directory, Errno, false≢true, folder_attributes, Handle, handle_of, is_directory, is_folder, IsMountOf, Layer, Layers, Location, lowers_of, made_way, MountOptions, Name, nat_cmp, New, Node, node_at, NodeId, OnErr, OpenDirectory, option_and_then, option_map, or_else, over_node, Path, put, refusal, Removes, reply_of, shows, State, StaysMount, Table, Tree, way_of, when}
 use Rattle.std.specs.BTreeMap.{get}
 use Rattle.ov_base.specs.declared.call.Call.TheVariants as call
 use Rattle.ov_base.specs.declared.errno.Errno.TheVariants.{EBUSY, EISDIR}
@@ -20,8 +20,9 @@ use Rattle.mount_laws.proofs.Looks.{law_of_mkdir}
 use Rattle.mount_laws.proofs.Refusing.{law_of_symlink, law_of_unlink, law_of_rmdir}
 use Rattle.mount_calls.specs.declared.clients.Clients.{Clients}
 use Rattle.open_handles.specs.Descriptors.{opened}
-use Rattle.open_handles.specs.Opened as places
-use Rattle.open_handles.specs.Opened.{NoneBelow, after_removal}
+use Rattle.object_table.specs.declared.dentry.Unlisted.TheVariants as unlisted
+use Rattle.object_table.specs.Opened as places
+use Rattle.object_table.specs.Opened.{NoneBelow, after_removal}
 use Rattle.open_handles.specs.declared.handle.Handle as handles
 use Rattle.mount_calls.specs.declared.mount.Mount.{Mount}
 use Rattle.mount_calls.specs.declared.attribute_changes.AttributeCall.{AttributeCall}
@@ -66,7 +67,10 @@ linked-folder m t o w d f = grind (arith, way-folder, put-folder, more-folder)
 
 -- a directory stands where it stood if its path leads there still, or it was removed
 pub stands-on : (t u : Tree) → KeepsHidden t u → (l : Location) (d : NodeId) → is_folder (t d) ≡ true → ((q : Path) → l ≡ At q → node_at t q ≡ Some d → node_at u q ≡ Some d) → Stands t l d → Stands u l d
-stands-on t u hidden l d f stays at = grind arith
+stands-on t u hidden (At q) d f stays at = stays q refl at
+stands-on t u hidden (Apart (unlisted.Removed a)) d f stays gone = grind arith
+stands-on t u hidden (Apart (unlisted.Upper key)) d f stays gone = gone
+stands-on t u hidden (Apart unlisted.Nowhere) d f stays gone = gone
 
 -- open directories where nothing is removed
 module _ (t u : Tree) (stays : (q : Path) (d : NodeId) → node_at t q ≡ Some d → node_at u q ≡ Some d) (hidden : KeepsHidden t u) (folders : (d : NodeId) → is_folder (t d) ≡ true → is_folder (u d) ≡ true) where
@@ -94,21 +98,21 @@ module _ (s : State) (c : ℕ) (p : Path) (k : Call) (V : Layer) (lowers : List 
       (still-folder (s.tree h.node) (t h.node) (x.held b fd h on) is.directory)
 
   -- the one itself, which has these attributes, and others
-  stands-marked : (a : Attributes) (l : Location) (d : NodeId) → ((e : NodeId) → node_at s.tree p ≡ Some e → folder_attributes (s.tree e) ≡ Some a) → folder_attributes (t d) ≡ folder_attributes (s.tree d) → is_folder (s.tree d) ≡ true → Stands s.tree l d → Stands t (after_removal p a l) d
+  stands-marked : (a : Attributes) (l : Location) (d : NodeId) → ((e : NodeId) → node_at s.tree p ≡ Some e → folder_attributes (s.tree e) ≡ Some a) → folder_attributes (t d) ≡ folder_attributes (s.tree d) → is_folder (s.tree d) ≡ true → Stands s.tree l d → Stands t (after_removal p (unlisted.Removed a) l) d
   stands-marked a (At q) d has same f at = by (same_path p q) refl
     where
-      by : (b : Bool) → same_path p q ≡ b → Stands t (cond b (Removed a) (At q)) d
+      by : (b : Bool) → same_path p q ≡ b → Stands t (cond b (Apart (unlisted.Removed a)) (At q)) d
       by true here =
           let there = ap (node_at s.tree) ((paths_tell p q).0 here) ∙ at in
           let none = x.empty d there f in
           record { hidden = none.1; empty = none.0; attributes = same ∙ has d there }
       by false away = x.stays q (λ e. false≢true (sym away ∙ (paths_tell p q).1 (sym e))) ∙ at
-  stands-marked a (Removed b) d has same f gone = stands-on s.tree t x.hidden (Removed b) d f (λ q e at. cc) gone
+  stands-marked a (Apart b) d has same f gone = stands-on s.tree t x.hidden (Apart b) d f (λ q e at. cc) gone
 
-  pub handle-marked : (a : Attributes) (ds es : Dentries) → ((e : NodeId) → node_at s.tree p ≡ Some e → folder_attributes (s.tree e) ≡ Some a) → places.Removes ds es p a → (b fd : ℕ) (o : OpenDirectory) (h : Handle) → handle_of s.tables b fd ≡ Some h → IsHandle s.tree ds o h → IsHandle t es o h
+  pub handle-marked : (a : Attributes) (ds es : Dentries) → ((e : NodeId) → node_at s.tree p ≡ Some e → folder_attributes (s.tree e) ≡ Some a) → places.Removes ds es p (unlisted.Removed a) → (b fd : ℕ) (o : OpenDirectory) (h : Handle) → handle_of s.tables b fd ≡ Some h → IsHandle s.tree ds o h → IsHandle t es o h
   handle-marked a ds es has removes b fd o h on is =
-      handle-now s.tree t ds es o h is (after_removal p a is.location)
-      (removes.located o.directory ∙ ap (option_map (after_removal p a)) is.located)
+      handle-now s.tree t ds es o h is (after_removal p (unlisted.Removed a) is.location)
+      (removes.located o.directory ∙ ap (option_map (after_removal p (unlisted.Removed a))) is.located)
       (stands-marked a is.location h.node has (x.held b fd h on) is.directory is.stands)
       (still-folder (s.tree h.node) (t h.node) (x.held b fd h on) is.directory)
 

@@ -1,7 +1,7 @@
 -- Clients come on both sides.
 use Rattle.std.proofs.Common.{◌≡◌, ◌≢◌, ℕ, zero, suc, Bool, false, cond, ◌||◌, List, [], ◌∷◌, ◌++◌, Option, None, Some, Result, Ok, Err, refl, sym, ap, ◌∙◌, subst, is_some, length, replicate, slice_get, nat_eq, add-one, arith, ◌⊎◌, inl, inr}
 use Rattle.merged_lookup.specs.Merged.{upper_of}
-use Rattle.mount_calls.proofs.Words.{AllocError, AreLayers, cases_eq, Descriptors, DESCRIPTORS_MAX, eq-eqb, Errno, File, Handle, handle_of, handles_of, held_in, IfOk, Layer, layer_of, layers_of, list_any, lowers_of, nat_cmp, ne_eqb, OnErr, OpenFile, option_and_then, State, Table, Tree}
+use Rattle.mount_calls.proofs.Words.{AllocError, AreLayers, cases_eq, Descriptors, DESCRIPTORS_MAX, eq-eqb, Errno, File, Handle, handle_of, handles_of, held_in, IfOk, Layer, layers_of, list_any, lowers_of, nat_cmp, ne_eqb, OnErr, OpenFile, option_and_then, State, Table, Tree}
 use Rattle.std.proofs.Math.Bool.{or-false, or-true}
 use Rattle.std.proofs.lemmas.Bool.{or_parts}
 use Rattle.std.proofs.lemmas.List.Folds.{list_any-append}
@@ -9,7 +9,6 @@ use Rattle.std.proofs.lemmas.List.{length-replicate}
 use Rattle.std.specs.BTreeMap.{get}
 use Rattle.plain_model.specs.Machine.{free_table, opening}
 use Rattle.plain_model.specs.Merging.{IsMerge}
-use Rattle.plain_model.specs.Watching.{Instance, silent}
 use Rattle.plain_model.specs.Runs.{joined, is_attached}
 use Rattle.mount_laws.proofs.Looks.{law_of_beginning}
 use Rattle.mount_calls.specs.declared.clients.Clients.{Clients}

@@ -1,7 +1,7 @@
 -- Opens that copy a file up: the states that the mount stands for on the way.
-use Rattle.std.proofs.Common.{◌≡◌, ◌≢◌, ◌↔◌, ℕ, zero, suc, ◌<◌, ◌&&◌, true, false, cond, List, [], Option, None, Some, Result, Ok, Err, IfOk, OnErr, refl, sym, ap, ◌∙◌, subst, inl, inr, is_some, arith}
+use Rattle.std.proofs.Common.{◌≡◌, ◌≢◌, ◌↔◌, ℕ, zero, suc, ◌<◌, true, false, cond, List, [], Option, None, Some, Result, Ok, Err, IfOk, OnErr, refl, sym, ap, ◌∙◌, subst, inl, inr, is_some, arith}
 use Rattle.merged_lookup.specs.Merged.{upper_of}
-use Rattle.mount_calls.proofs.Words.{after, AllocError, Attributes, bad_flags, base, Call, change, Contents, EINVAL, false≢true, File, file_bytes, Handle, Inode, inode_of, IsLive, IsMountOf, Layer, layer_of, Layers, layers_of, Leaf, live_handle, lowers_of, lowest_free, MountOptions, Node, node_at, NodeId, OpenFile, OpenFlags, opening_fault, option_and_then, option_map, or_else, over_node, Own, parents_fault, Path, Place, put, refusal, rewritten, see, shows, shows_link, ShowsInode, sized, State, StaysLayers, Tree, Upper, way_of, when, with_bytes, with_handle}
+use Rattle.mount_calls.proofs.Words.{after, AllocError, Attributes, bad_flags, base, Call, change, Contents, EINVAL, false≢true, File, Handle, Inode, inode_of, IsLive, IsMountOf, Layer, Layers, layers_of, Leaf, live_handle, lowers_of, lowest_free, MountOptions, Node, node_at, NodeId, OpenFile, OpenFlags, opening_fault, option_and_then, option_map, or_else, over_node, Own, parents_fault, Path, Place, put, refusal, rewritten, see, shows, shows_link, ShowsInode, sized, State, StaysLayers, Tree, Upper, way_of, when, with_bytes, with_handle}
 use Rattle.layer_tree.specs.Tree.{own_at}
 use Rattle.slab.specs.Slab.{get}
 use Rattle.ov_base.specs.declared.bytes.Content.TheVariants as content
@@ -18,7 +18,7 @@ use Rattle.plain_model.proofs.Paths.{ids_tell, one_or_not, paths_tell}
 use Rattle.layer_tree.specs.declared.node.Inode.{Inode as StoredInode}
 use Rattle.mount_laws.specs.Looks.{absent, is_link_inode}
 use Rattle.mount_laws.specs.Attributes.{shown_attributes, chown_fault}
-use Rattle.mount_laws.specs.Altered.{Alters, AltersState}
+use Rattle.mount_laws.specs.Altered.{AltersState}
 use Rattle.mount_laws.specs.StayOpen.{AltersNamed}
 use Rattle.mount_laws.specs.Opening.{OpensWriting}
 use Rattle.mount_laws.proofs.Altered.{law_of_owner_changed}

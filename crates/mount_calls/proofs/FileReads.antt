@@ -1,7 +1,7 @@
 -- Reads of open files, and what fstat shows of what is open.
 use Rattle.std.proofs.Common.{◌≡◌, ℕ, ◌+◌, true, not, List, Option, None, Some, Result, Ok, Err, refl, sym, ap, ◌∙◌, subst, is_some, length, take, drop, nat_lt}
 use Rattle.std.proofs.Common.{arith}
-use Rattle.mount_calls.proofs.Words.{At, Attributes, base, ChangesSlot, Directory, directory_in, Errno, Folder, folder_attributes, Handle, handle_of, Inode, is_directory, Layer, Location, Node, OpenDirectory, OpenFile, option_and_then, or_else, Path, refusal, Removed, Reply, Shown, shows, Stat, State, when, with_handle, with_place}
+use Rattle.mount_calls.proofs.Words.{Apart, At, Attributes, base, ChangesSlot, Directory, directory_in, Errno, Folder, folder_attributes, Handle, handle_of, Inode, is_directory, Layer, Location, Node, NodeId, OpenDirectory, OpenFile, option_and_then, or_else, Path, refusal, Reply, Shown, shows, Stat, State, Tree, when, with_handle, with_place}
 use Rattle.ov_base.specs.declared.call.Call.TheVariants as call
 use Rattle.ov_base.specs.declared.errno.Errno.TheVariants as errno
 use Rattle.ov_base.specs.declared.reply.ObjectKind.TheVariants as kind
@@ -13,7 +13,8 @@ use Rattle.mount_laws.specs.Descriptors.{ReadsFile, next_bytes}
 use Rattle.mount_laws.specs.Descriptors as laws
 use Rattle.mount_laws.proofs.Descriptors.{law_of_read, law_of_directory_handle, law_of_unopened}
 use Rattle.open_handles.specs.declared.handle.Handle as handles
-use Rattle.open_handles.specs.Opened.{path_in, attributes_in}
+use Rattle.object_table.specs.declared.dentry.Unlisted.TheVariants as unlisted
+use Rattle.object_table.specs.Opened.{path_in, attributes_in}
 use Rattle.mount_calls.specs.declared.clients.Clients.{Clients}
 use Rattle.mount_calls.specs.declared.mount.Mount.{Mount}
 use Rattle.mount_calls.specs.Attaching.{opened_by, directory_by, file_by, located, path_of, ChangesClient}
@@ -44,11 +45,22 @@ shown-folder x h = grind arith
 -- what stat shows of an open directory: at its path, or by the attributes that it had when it was removed
 abbrev status_standing : List Layer → Location → Result Stat Errno
 status_standing Ls (At p) = stat_at Ls p
-status_standing Ls (Removed a) = Ok (stat_with kind.Directory a 0 1)
+status_standing Ls (Apart (unlisted.Removed a)) = Ok (stat_with kind.Directory a 0 1)
+status_standing Ls (Apart (unlisted.Upper key)) = Err errno.ENOENT
+status_standing Ls (Apart unlisted.Nowhere) = Err errno.ENOENT
 
 -- what stands at a path shows what is there
 status-named : (Ls : List Layer) (p : Path) (r : Result Stat Errno) → r ≡ stat_at Ls p → (l : Location) → Some p ≡ path_in l → r ≡ status_standing Ls l
 status-named Ls p r is l h = grind arith
+
+-- and what was removed the attributes that it had
+status-removed :
+    (Ls : List Layer) (t : Tree) (d : NodeId) (r : Result Stat Errno) (l : Location) → Stands t l d → None ≡ path_in l →
+    ((a : Attributes) → attributes_in l ≡ Some a → r ≡ Ok (stat_with kind.Directory a 0 1)) → r ≡ status_standing Ls l
+status-removed Ls t d r (At p) at none tells = absurd (cc)
+status-removed Ls t d r (Apart (unlisted.Removed a)) gone none tells = tells a refl
+status-removed Ls t d r (Apart (unlisted.Upper key)) gone none tells = absurd gone
+status-removed Ls t d r (Apart unlisted.Nowhere) gone none tells = absurd gone
 
 -- the directory that is open under a descriptor
 directory-open : (x : Option handles.Handle) → is_some (directory_in x) ≡ true → (o : OpenDirectory) × (x ≡ Some (Directory o))
@@ -103,11 +115,11 @@ module _ (m : Mount) (s : State) (st : IsStateOf m s) (c d : ℕ) where
       status-shown x.0 x.1 (status_reply r) (ap status_reply (tells _ sees.inode) ∙ sym sees.status)
 
   -- of a directory, what stands where it does
-  directory-status : (o : OpenDirectory) → opened_by m.clients c d ≡ Some (Directory o) → (r : Result Stat Errno) → ((l : Location) → located m.clients o ≡ Some l → r ≡ status_standing (the_layers m) l) → Shows (status_reply r)
+  directory-status : (o : OpenDirectory) → opened_by m.clients c d ≡ Some (Directory o) → (r : Result Stat Errno) → ((l : Location) (n : NodeId) → located m.clients o ≡ Some l → Stands s.tree l n → r ≡ status_standing (the_layers m) l) → Shows (status_reply r)
   directory-status o is r tells =
       let a = attributes x.2.location x.2.stands in
       status-shown h x.1 (status_reply r)
-      (ap status_reply (tells x.2.location x.2.located ∙ a.1)
+      (ap status_reply (tells x.2.location h.node x.2.located x.2.stands ∙ a.1)
       ∙ sym (ap (λ v. stat_seen v (s.tree h.node)) (ap (λ (z : Handle). z.view) x.2.access) ∙ folder-status (s.tree h.node) a.0 a.2))
     where
       x : (h : Handle) × (handle_of s.tables c d ≡ Some h) × IsHandle s.tree m.clients.directories o h
@@ -126,7 +138,9 @@ module _ (m : Mount) (s : State) (st : IsStateOf m s) (c d : ℕ) where
             (λ i. unless_refused (none i) (stat_shown (shown.3 i))),
             shown-attributes (s.tree h.node) (base (the_upper m) (the_lowers m) p) (shows 0 (the_layers m) p) shown.0 (shown.1, shown.2, shown.3) (seen (the_upper m) (the_lowers m) s st.layers p h.node at),
           )
-      attributes (Removed a) gone = (a, refl, gone.attributes)
+      attributes (Apart (unlisted.Removed a)) gone = (a, refl, gone.attributes)
+      attributes (Apart (unlisted.Upper key)) gone = absurd gone
+      attributes (Apart unlisted.Nowhere) gone = absurd gone
 
   module _ (there : is_some (directory_by m.clients c d) ≡ true) (r : Result Stat Errno) where
     -- the directory
@@ -135,8 +149,12 @@ module _ (m : Mount) (s : State) (st : IsStateOf m s) (c d : ℕ) where
 
     -- of one that has a path, what is there
     pub named-status : (p : Path) → Some p ≡ option_and_then (path_of m.clients) (directory_by m.clients c d) → r ≡ stat_at (the_layers m) p → Shows (status_reply r)
-    named-status p path is = directory-status standing.0 standing.1 r (λ l at. status-named (the_layers m) p r is l (path ∙ ap (λ z. option_and_then (path_of m.clients) (directory_in z)) standing.1 ∙ ap (option_and_then path_in) at))
+    named-status p path is = directory-status standing.0 standing.1 r (λ l n at stands. status-named (the_layers m) p r is l (path ∙ ap (λ z. option_and_then (path_of m.clients) (directory_in z)) standing.1 ∙ ap (option_and_then path_in) at))
 
     -- of one that was removed, the attributes that it had
     pub removed-status : None ≡ option_and_then (path_of m.clients) (directory_by m.clients c d) → ((a : Attributes) → option_and_then attributes_in (option_and_then (located m.clients) (directory_by m.clients c d)) ≡ Some a → r ≡ Ok (stat_with kind.Directory a 0 1)) → Shows (status_reply r)
-    removed-status path tells = grind arith
+    removed-status path tells =
+        directory-status standing.0 standing.1 r
+        (λ l n at stands. status-removed (the_layers m) s.tree n r l stands
+        (path ∙ ap (λ z. option_and_then (path_of m.clients) (directory_in z)) standing.1 ∙ ap (option_and_then path_in) at)
+        (λ a e. tells a (ap (λ z. option_and_then attributes_in (option_and_then (located m.clients) (directory_in z))) standing.1 ∙ ap (option_and_then attributes_in) at ∙ e)))

@@ -9,8 +9,8 @@ use Rattle.open_handles.specs.Listings.{after_names}
 use Rattle.mount_calls.specs.Attaching.{opened_by, KeepsPlaces, ChangesClient}
 use Rattle.open_handles.specs.Holding.{holds, handles_on, is_upper, holds_file, files_on}
 use Rattle.open_handles.specs.FileHolders.{HeldFiles, SameCounts}
-use Rattle.open_handles.specs.Opened as places
-use Rattle.open_handles.specs.Opened.{holders, SameHandles}
+use Rattle.object_table.specs.Opened as places
+use Rattle.object_table.specs.Opened.{holders, SameHandles}
 use Rattle.open_handles.proofs.Holding.{handles_on-alike, handles_on-sets, handles_on-closes, files_on-alike, files_on-sets, files_on-closes}
 use Rattle.mount_calls.specs.declared.clients.Clients.{Clients}
 use Rattle.mount_calls.specs.Held.{handles_by, handles_below, files_by, files_below, ClosesAll, ReleasesAll}

@@ -1,7 +1,7 @@
 -- A client that has nothing open goes on both sides: its table goes.
-use Rattle.std.proofs.Common.{arith, ◌≡◌, ◌≢◌, ℕ, Bool, false, not, List, [], ◌∷◌, refl, ap, filter, nat_eq}
+use Rattle.std.proofs.Common.{arith, ◌≡◌, ◌≢◌, ℕ, false, not, List, [], ◌∷◌, refl, ap, filter, nat_eq}
 use Rattle.merged_lookup.specs.Merged.{upper_of}
-use Rattle.mount_calls.proofs.Words.{handles_of, Layer, layer_of, list_any, lowers_of, State, Table, Tree}
+use Rattle.mount_calls.proofs.Words.{handles_of, Layer, list_any, lowers_of, State, Table, Tree}
 use Rattle.plain_model.specs.Runs.{without_table}
 use Rattle.mount_calls.specs.declared.clients.Clients.{Clients}
 use Rattle.mount_calls.specs.declared.mount.Mount.{Mount}

@@ -1,5 +1,5 @@
 -- Opens: what they are refused for, and that what is opened for reading is as the machine opens it.
-use Rattle.std.proofs.Common.{arith, ◌≡◌, ◌↔◌, ℕ, zero, suc, ◌<◌, Bool, true, false, not, cond, ◌&&◌, ◌||◌, List, [], ◌∷◌, Option, None, Some, Ok, Err, map, refl, sym, ap, ◌∙◌, subst, ◌⊎◌, inl, inr, is_none, is_some, nat_lt}
+use Rattle.std.proofs.Common.{arith, ◌≡◌, ◌↔◌, ℕ, zero, suc, ◌<◌, Bool, true, false, not, cond, ◌&&◌, ◌||◌, List, Option, None, Some, Ok, Err, map, refl, sym, ap, ◌∙◌, subst, ◌⊎◌, inl, inr, is_none, is_some, nat_lt}
 use Rattle.std.proofs.Common.{rules}
 use Rattle.mount_calls.proofs.Words.{after, AllocError, At, Attributes, bad_flags, base, Call, Content, Contents, DESCRIPTORS_MAX, Directory, EINVAL, Errno, face, false≢true, File, Folder, Handle, Inode, inode_of, is_directory, Layer, layer_of, Layers, layers_of, Leaf, Lower, lowers_of, lowest_free, ne_eqb, Node, node_at, node_in, node_of, NodeId, OpenFile, OpenFlags, opening_fault, option_and_then, or_else, Own, parents_fault, Path, Place, refusal, reply_of, see, SetsSlot, Shown, shows, shows_link, ShowsInode, State, Table, trees, Upper, way_of, when, with_handle}
 use Rattle.ov_base.specs.declared.bytes.Content.TheVariants as content
@@ -11,7 +11,7 @@ use Rattle.plain_model.specs.Machine.{Live}
 use Rattle.plain_model.specs.Refusals.{bad_mode}
 use Rattle.plain_model.specs.Changes.{new_handle, view_by, view_of}
 use Rattle.plain_model.proofs.Looking.{when-not}
-use Rattle.layer_tree.specs.Tree.{mark_at, Tree}
+use Rattle.layer_tree.specs.Tree.{mark_at}
 use Rattle.merged_lookup.specs.Merged.{upper_of}
 use Rattle.ov_base.specs.declared.source.Source.{Source}
 use Rattle.std.proofs.lemmas.Bool.{lt-ltb}
@@ -32,7 +32,7 @@ use Rattle.std.specs.Ordering.{nat_cmp}
 use Rattle.notice_laws.proofs.Numbers.{some-is}
 use Rattle.mount_calls.specs.Attaching.{ChangesClient}
 use Rattle.mount_calls.specs.FreeDescriptors.{IsFull, IsLowestFree}
-use Rattle.mount_calls.specs.Files.{lower_inode, is_leaf, low_place, read_mark, IsFrozen, IsKept, KeepsBytes, IsOf, IsOpenOn, AreOne, SeesFile, source_at, file_at}
+use Rattle.mount_calls.specs.Files.{is_leaf, low_place, read_mark, IsFrozen, IsKept, KeepsBytes, IsOf, IsOpenOn, AreOne, SeesFile, source_at, file_at}
 use Rattle.mount_calls.specs.Opening.{inode_refusal, OpensAt, OpensFile}
 use Rattle.mount_calls.specs.States.{IsLeft, AreTables, IsStateOf, Serves}
 use Rattle.mount_calls.proofs.Answering.{serve-done}

@@ -1,7 +1,7 @@
 -- What the calls that read user attributes answer.
-use Rattle.std.proofs.Common.{◌≡◌, ℕ, true, List, None, Some, Result, IfOk, sym, ap, ◌∙◌, map, arith}
+use Rattle.std.proofs.Common.{◌≡◌, ℕ, List, None, Some, sym, ap, ◌∙◌, map}
 use Rattle.merged_lookup.specs.Merged.{upper_of}
-use Rattle.mount_calls.proofs.Words.{AllocError, Call, Errno, layer_of, lowers_of, Path, refusal, Reply, shows, State}
+use Rattle.mount_calls.proofs.Words.{Errno, lowers_of, Path, refusal, shows, State}
 use Rattle.ov_base.specs.declared.call.Call.TheVariants as call
 use Rattle.ov_base.specs.declared.reply.Reply.TheVariants as reply
 use Rattle.plain_model.specs.Machine.{value_of}

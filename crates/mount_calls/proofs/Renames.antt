@@ -2,16 +2,17 @@
 use Rattle.std.proofs.Common.{◌≡◌, ℕ, true, ◌||◌, List, [], ◌∷◌, ◌++◌, Option, None, Some, IsSome, refl, sym, ap, ◌∙◌, inl, inr, is_some, length, nat_eq, arith}
 use Rattle.std.proofs.lemmas.List.{length-map}
 use Rattle.std.specs.BTreeMap.{get}
-use Rattle.mount_calls.proofs.Words.{after, At, Attributes, Dentries, Descriptors, false≢true, folder_attributes, Handle, handle_of, handles_of, is_folder, Layer, list_any, Location, Name, nat_cmp, node_at, NodeId, OpenDirectory, option_and_then, Path, Removed, State, Table, Tree}
+use Rattle.mount_calls.proofs.Words.{after, Apart, At, Attributes, Dentries, Descriptors, false≢true, folder_attributes, Handle, handle_of, handles_of, is_folder, Layer, list_any, Location, Name, nat_cmp, node_at, NodeId, OpenDirectory, option_and_then, option_map, Path, State, Table, Tree}
 use Rattle.ov_base.specs.declared.call.Call.TheVariants as call
 use Rattle.plain_model.specs.Changes.{re_ways, way_of}
 use Rattle.plain_model.proofs.Paths.{place}
 use Rattle.mount_laws.specs.Moving.{Goes, Stays}
 use Rattle.mount_laws.specs.Renaming.{KeepsHandle, Renames}
 use Rattle.open_handles.specs.Descriptors.{opened}
-use Rattle.open_handles.specs.Opened as places
-use Rattle.open_handles.specs.Opened.{NoneBelow}
-use Rattle.open_handles.specs.Renames.{Moves}
+use Rattle.object_table.specs.declared.dentry.Unlisted.TheVariants as unlisted
+use Rattle.object_table.specs.Opened as places
+use Rattle.object_table.specs.Opened.{NoneBelow}
+use Rattle.object_table.specs.Renames.{Moves}
 use Rattle.open_handles.specs.declared.handle.Handle as handles
 use Rattle.mount_calls.specs.declared.clients.Clients.{Clients}
 use Rattle.mount_calls.specs.Attaching.{opened_by}
@@ -101,7 +102,7 @@ module _
     pub located : places.opened es k ≡ Some location
     pub stands : Stands u location d
 
-  module _ (ds es : Dentries) (replaced : Option Attributes) (moves : Moves ds es p q replaced) (below : NoneBelow ds q)
+  module _ (ds es : Dentries) (replaced : Option Attributes) (moves : Moves ds es p q (option_map unlisted.Removed replaced)) (below : NoneBelow ds q)
       (copied : (k : ℕ) → places.opened ds k ≡ Some (At q) → IsSome replaced)
       (has : (a : Attributes) → replaced ≡ Some a → (e : NodeId) → node_at s.tree q ≡ Some e → folder_attributes (s.tree e) ≡ Some a) where
     -- the directory that was replaced
@@ -112,8 +113,8 @@ module _
     stands-replaced (Some a) e k d on at f still =
         let gone = x.empty d at f in
         record {
-          location = Removed a;
-          located = moves.removed k a e on;
+          location = Apart (unlisted.Removed a);
+          located = moves.removed k (unlisted.Removed a) (ap (option_map unlisted.Removed) e) on;
           stands = record { hidden = gone.1; empty = gone.0; attributes = still ∙ has a e d at };
         }
 
@@ -121,14 +122,14 @@ module _
     stands-then :
         (l : Location) (k : ℕ) (d : NodeId) → places.opened ds k ≡ Some l → Stands s.tree l d → is_folder (s.tree d) ≡ true →
         folder_attributes (u d) ≡ folder_attributes (s.tree d) → StandsThen es k d
-    stands-then (Removed a) k d on gone f still = record {
-      location = Removed a;
+    stands-then (Apart a) k d on gone f still = record {
+      location = Apart a;
       located = moves.outside k (λ r e. elsewhere e) (λ e. elsewhere e) ∙ on;
-      stands = stands-on s.tree u x.hidden (Removed a) d f (λ y e at. cc) gone;
+      stands = stands-on s.tree u x.hidden (Apart a) d f (λ y e at. cc) gone;
     }
       where
         elsewhere : {y : Path} → places.opened ds k ≡ Some (At y) → ⊥
-        elsewhere {y} e = let two : Some (Removed a) ≡ Some (At y) = sym on ∙ e in cc
+        elsewhere {y} e = let two : Some (Apart a) ≡ Some (At y) = sym on ∙ e in cc
     stands-then (At y) k d on at f still = elim (place p y) [
       | inl b ↦ record {
         location = At (b.0 ++ q);

@@ -19,8 +19,8 @@ use Rattle.mount_laws.specs.Removals.{rmdir_fault, ShowsNoName}
 use Rattle.mount_laws.specs.Renaming.{CanMove, is_one, move_fault, rename_fault, Renames, RenamesSame}
 use Rattle.mount_laws.proofs.CanMove.{law_of_can_move}
 use Rattle.mount_laws.proofs.Renaming.{law_of_rename, law_of_same_rename, told}
-use Rattle.open_handles.specs.Opened as places
-use Rattle.open_handles.specs.Opened.{NoneBelow}
+use Rattle.object_table.specs.Opened as places
+use Rattle.object_table.specs.Opened.{NoneBelow}
 use Rattle.mount_calls.specs.declared.clients.Clients.{Clients}
 use Rattle.mount_calls.specs.declared.mount.Mount.{Mount}
 use Rattle.mount_calls.specs.Living.{KeepsNamed, StaysLive}

@@ -1,7 +1,7 @@
 -- A mount stands for the state still where an open file gets other bytes.
 use Rattle.std.proofs.Common.{◌≡◌, ◌↔◌, ℕ, Bool, true, false, cond, List, ◌∷◌, Option, None, Some, refl, sym, subst, ◌⊎◌, arith}
 use Rattle.merged_lookup.specs.Merged.{upper_of}
-use Rattle.mount_calls.proofs.Words.{AreLayers, Branch, cases_eq, Dentries, false≢true, Handle, IsLive, IsMountOf, Layer, layer_of, Layers, Leaf, lowers_of, Node, NodeId, OpenDirectory, over_node, Own, rewritten, same_id, State, StaysLayers, Tree, with_bytes}
+use Rattle.mount_calls.proofs.Words.{AreLayers, Branch, cases_eq, Dentries, false≢true, Handle, IsLive, IsMountOf, Layer, Layers, Leaf, lowers_of, Node, NodeId, OpenDirectory, over_node, Own, rewritten, same_id, State, StaysLayers, Tree, with_bytes}
 use Rattle.ov_base.specs.declared.bytes.Content.TheVariants as content
 use Rattle.plain_model.proofs.Paths.{ids_tell}
 use Rattle.plain_model.specs.Tree.{Untouched, is_data_low}

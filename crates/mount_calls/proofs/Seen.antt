@@ -17,7 +17,7 @@ use Rattle.copy_up.proofs.Keeping.{held-on-top}
 use Rattle.work_dir.specs.declared.next.Lack.TheVariants as lack
 use Rattle.mount_calls.specs.declared.look.Look.{Look}
 use Rattle.mount_calls.specs.declared.looks.Looks.{Looks}
-use Rattle.mount_calls.specs.Lacks.{copied_file, data_at, lack_among, lack_of, lacking, low_file, marked_file, HasAllAt, HasAllOf}
+use Rattle.mount_calls.specs.Lacks.{copied_file, data_at, lack_among, lack_of, lacking, marked_file, HasAllAt, HasAllOf}
 use Rattle.mount_calls.specs.Looking.{looked_paths, AreLooks, IsLook, SawEach}
 use Rattle.mount_calls.proofs.Lacking.{copied-none, low-none}
 use Rattle.mount_calls.proofs.Marks.{data-own, none-mark}

@@ -6,7 +6,7 @@ use Rattle.std.proofs.lemmas.Option.{slice_get_within}
 use Rattle.std.specs.List.{position, position_or_len}
 use Rattle.std.specs.BTreeMap.{get}
 use Rattle.mount_calls.specs.declared.clients.Clients.{Clients}
-use Rattle.open_handles.specs.Opened as places
+use Rattle.object_table.specs.Opened as places
 use Rattle.open_handles.specs.declared.handle.Handle as handles
 use Rattle.mount_calls.specs.Attaching.{KeepsAttached, KeepsPlaces, opened_by, ChangesClient}
 use Rattle.open_handles.specs.Descriptors.{opened, IsFull, IsLowestFree}

@@ -1,7 +1,7 @@
 -- A mount stands for a state still when its clients, or its layers, change so.
 use Rattle.std.proofs.Common.{◌≡◌, ℕ, List, Some, refl, ap, ◌∙◌, arith}
 use Rattle.merged_lookup.specs.Merged.{upper_of}
-use Rattle.mount_calls.proofs.Words.{Handle, Layer, layer_of, Layers, layers_of, lowers_of, State, Table}
+use Rattle.mount_calls.proofs.Words.{Handle, Layer, Layers, layers_of, lowers_of, State, Table}
 use Rattle.open_handles.specs.declared.handle.Handle as handles
 use Rattle.mount_calls.specs.declared.clients.Clients.{Clients}
 use Rattle.mount_calls.specs.declared.mount.Mount.{Mount}

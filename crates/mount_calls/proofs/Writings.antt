@@ -1,7 +1,7 @@
 -- Writes and truncations of open files.
 use Rattle.std.proofs.Common.{arith, ◌≡◌, ◌≢◌, ℕ, ◌+◌, ◌-◌, Bool, true, false, cond, min, not, ◌&&◌, List, [], ◌∷◌, Option, None, Some, Result, Ok, Err, refl, sym, ap, ◌∙◌, subst, is_none, is_some, length, nat_eq, nat_lt}
 use Rattle.merged_lookup.specs.Merged.{upper_of}
-use Rattle.mount_calls.proofs.Words.{AllocError, change, ChangesSlot, eqb-true, Errno, false≢true, File, file_bytes, FileSource, Handle, handle_of, Inode, IsLive, Layer, layer_of, Layers, Leaf, Lower, lowers_of, Node, NodeId, OnErr, OpenFile, option_and_then, or_else, over_node, Own, put, refusal, Reply, rewritten, sized, State, StaysLayers, StaysMount, Tree, Upper, when, with_bytes, with_handle, with_place}
+use Rattle.mount_calls.proofs.Words.{AllocError, change, ChangesSlot, eqb-true, Errno, false≢true, File, FileSource, Handle, handle_of, Inode, IsLive, Layer, layer_of, Layers, Leaf, Lower, lowers_of, Node, NodeId, OnErr, OpenFile, or_else, over_node, Own, put, refusal, Reply, rewritten, sized, State, StaysLayers, StaysMount, Tree, Upper, when, with_bytes, with_handle, with_place}
 use Rattle.std.proofs.lemmas.List.{length-take, nil_from_length}
 use Rattle.ov_base.specs.declared.bytes.Content.TheVariants as content
 use Rattle.ov_base.specs.declared.call.Call.TheVariants as call

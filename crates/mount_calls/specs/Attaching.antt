@@ -14,7 +14,7 @@ use Rattle.open_handles.specs.declared.handle.OpenDirectory.{OpenDirectory}
 use Rattle.open_handles.specs.declared.open_file.OpenFile.{OpenFile}
 use Rattle.open_handles.specs.Descriptors as slots
 use Rattle.open_handles.specs.Listings.{directory_in, file_in}
-use Rattle.open_handles.specs.Opened.{Location, opened, path_in}
+use Rattle.object_table.specs.Opened.{Location, opened, path_in}
 
 -- what a client has open under a descriptor
 abbrev pub opened_by : Clients → ℕ → ℕ → Option handles.Handle

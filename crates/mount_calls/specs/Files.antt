@@ -15,7 +15,6 @@ use Rattle.merged_lookup.specs.declared.stack.Place.{Place}
 pub use Rattle.merged_lookup.specs.Lower.{lower_inode}
 use Rattle.merged_lookup.specs.Lower.{lower_bytes}
 use Rattle.merged_lookup.specs.Marking.{file_place}
-use Rattle.merged_lookup.specs.Merged.{lowers_of}
 use Rattle.mount_laws.specs.OpenFiles.{IsLive}
 use Rattle.open_handles.specs.declared.handle.Handle.TheVariants.{File}
 use Rattle.open_handles.specs.declared.open_file.FileSource.{FileSource}

@@ -3,10 +3,10 @@ use Rattle.std.specs.Prelude.{◌≡◌, ℕ, zero, suc, ◌+◌, List, Option, 
 use Rattle.std.specs.Option.{option_map_or}
 use Rattle.open_handles.specs.declared.descriptors.Descriptors.{Descriptors}
 use Rattle.open_handles.specs.declared.handle.Handle.{Handle}
-use Rattle.open_handles.specs.Dentries.{Dentries}
+use Rattle.object_table.specs.Dentries.{Dentries}
 use Rattle.open_handles.specs.FileHolders.{HeldFiles, file_holders}
 use Rattle.open_handles.specs.Holding.{handles_on, files_on}
-use Rattle.open_handles.specs.Opened.{opened, holders}
+use Rattle.object_table.specs.Opened.{opened, holders}
 
 -- the sum of a count over all clients with a number below this one
 abbrev pub sum_below : (Option Descriptors → ℕ) → (ℕ → Option Descriptors) → ℕ → ℕ

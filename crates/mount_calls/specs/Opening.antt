@@ -8,7 +8,7 @@ use Rattle.open_handles.specs.declared.handle.Handle as handles
 use Rattle.open_handles.specs.declared.handle.Handle.TheVariants.{Directory, File}
 use Rattle.open_handles.specs.declared.handle.OpenDirectory.{OpenDirectory}
 use Rattle.open_handles.specs.Listings.{Opens}
-use Rattle.open_handles.specs.Opened.{At}
+use Rattle.object_table.specs.Opened.{At}
 use Rattle.plain_model.specs.Layers.{Path, Shown}
 use Rattle.mount_calls.specs.declared.clients.Clients.{Clients}
 use Rattle.mount_calls.specs.Attaching.{ChangesClient, located}

@@ -2,7 +2,8 @@
 use Rattle.std.specs.Prelude.{◌≡◌, ◌≢◌, ℕ, List, Some}
 use Rattle.ov_base.specs.declared.attributes.Attributes.{Attributes}
 use Rattle.plain_model.specs.Layers.{Path, Layer, Folder, shows}
-use Rattle.open_handles.specs.Opened.{At, opened, Removes}
+use Rattle.object_table.specs.declared.dentry.Unlisted.TheVariants as unlisted
+use Rattle.object_table.specs.Opened.{At, opened, Removes}
 use Rattle.mount_calls.specs.declared.clients.Clients.{Clients}
 
 -- no client has the directory at a path open
@@ -20,5 +21,5 @@ HasAttributes Ls p a = (i k : ℕ) × (shows 0 Ls p ≡ Some (Folder i k a))
 -- the directory that is open at a path is a removed one now, and nothing else changes
 pub record RemovesOpen (old new : Clients) (p : Path) (a : Attributes) : Type 0 where
   pub attached : new.attached ≡ old.attached
-  pub places : Removes old.directories new.directories p a
+  pub places : Removes old.directories new.directories p (unlisted.Removed a)
   pub next : new.next ≡ old.next

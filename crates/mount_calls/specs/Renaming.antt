@@ -1,5 +1,5 @@
 -- What renames leave of what is open (POSIX.1-2017, rename(): a directory or file that is open stays so, also where it is replaced).
-use Rattle.std.specs.Prelude.{◌≡◌, ℕ, Bool, true, false, Option, Some}
+use Rattle.std.specs.Prelude.{◌≡◌, ℕ, Bool, true, false, Option, Some, option_map}
 use Rattle.ov_base.specs.declared.attributes.Attributes.{Attributes}
 use Rattle.ov_base.specs.declared.call.Call.TheVariants as call
 use Rattle.ov_base.specs.declared.errno.Errno.{Errno}
@@ -13,8 +13,9 @@ use Rattle.mount_laws.specs.Looks.{IsMountOf}
 use Rattle.mount_laws.specs.Removals.{ShowsNoName}
 use Rattle.mount_laws.specs.Renaming.{is_one}
 use Rattle.rename_redirect.specs.Renaming.{RenameSteps}
-use Rattle.open_handles.specs.Opened.{SameHandles}
-use Rattle.open_handles.specs.Renames.{Moves}
+use Rattle.object_table.specs.declared.dentry.Unlisted.TheVariants as unlisted
+use Rattle.object_table.specs.Opened.{SameHandles}
+use Rattle.object_table.specs.Renames.{Moves}
 use Rattle.mount_calls.specs.declared.clients.Clients.{Clients}
 use Rattle.mount_calls.specs.Living.{KeepsHeldFrom, KeepsNamed}
 
@@ -28,7 +29,7 @@ pub record SamePlaces (old new : Clients) : Type 0 where
 -- with the attributes of the one that was replaced. Nothing else changes.
 pub record RenamesOpen (old new : Clients) (p q : Path) (replaced : Option Attributes) : Type 0 where
   pub attached : new.attached ≡ old.attached
-  pub places : Moves old.directories new.directories p q replaced
+  pub places : Moves old.directories new.directories p q (option_map unlisted.Removed replaced)
   pub next : new.next ≡ old.next
 
 -- rename is refused so in every state with this option whose mount has these layers

@@ -1,5 +1,5 @@
 -- The state of the plain machine that a mount stands for: the tree that its layers show, and for each client its descriptors, some of them on files.
-use Rattle.std.specs.Prelude.{◌≡◌, ℕ, true, false, cond, List, [], Option, None, Some, is_some, length, take, drop, nat_eq}
+use Rattle.std.specs.Prelude.{◌≡◌, ℕ, true, cond, List, [], Option, None, Some, is_some, length, take, drop, nat_eq}
 use Rattle.std.specs.List.{list_any}
 use Rattle.std.specs.BTreeMap.{get}
 use Rattle.std.specs.Ordering.{nat_cmp}
@@ -20,9 +20,10 @@ use Rattle.mount_laws.specs.Removals.{folder_attributes}
 use Rattle.open_handles.specs.declared.handle.Handle as handles
 use Rattle.open_handles.specs.declared.handle.Handle.TheVariants.{Directory, File}
 use Rattle.open_handles.specs.declared.handle.OpenDirectory.{OpenDirectory}
-use Rattle.open_handles.specs.Dentries.{Dentries}
+use Rattle.object_table.specs.Dentries.{Dentries}
 use Rattle.open_handles.specs.Descriptors.{SetsSlot}
-use Rattle.open_handles.specs.Opened.{Location, At, Removed, opened}
+use Rattle.object_table.specs.declared.dentry.Unlisted.TheVariants as unlisted
+use Rattle.object_table.specs.Opened.{Location, At, Apart, opened}
 use Rattle.mount_calls.specs.declared.clients.Clients.{Clients}
 use Rattle.mount_calls.specs.declared.mount.Mount.{Mount}
 use Rattle.mount_calls.specs.Attaching.{opened_by, path_of, ChangesClient}
@@ -44,7 +45,9 @@ pub record IsRemoved (t : Tree) (a : Attributes) (d : NodeId) : Type 0 where
 -- a directory is where it is said to be
 abbrev pub Stands : Tree → Location → NodeId → Type 0
 Stands t (At p) d = node_at t p ≡ Some d
-Stands t (Removed a) d = IsRemoved t a d
+Stands t (Apart (unlisted.Removed a)) d = IsRemoved t a d
+Stands t (Apart (unlisted.Upper key)) d = ⊥
+Stands t (Apart unlisted.Nowhere) d = ⊥
 
 -- a handle for reading on the directory of its number, whose listing is as far on; whether it appends is of no effect
 pub record IsHandle (t : Tree) (directories : Dentries) (o : OpenDirectory) (h : Handle) : Type 0 where

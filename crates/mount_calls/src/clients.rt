@@ -3,15 +3,16 @@ ghost use Rattle.std.specs.Prelude.{◌≡◌, ◌≢◌, ◌+◌, ◌<◌, ◌^
 ghost use Rattle.std.specs.Option.{option_and_then};
 ghost use Rattle.std.specs.BTreeMap.{get, btree_map_len};
 ghost use Rattle.std.specs.Ordering.{nat_cmp};
-ghost use Rattle.open_handles.specs.Opened.{At, opened, holders, attributes_in, NoneBelow};
-ghost use Rattle.open_handles.specs.Renames.{IsReady, IsSettled};
+ghost use Rattle.object_table.specs.Opened.{At, opened, holders, attributes_in, NoneBelow};
+ghost use Rattle.object_table.specs.Renames.{IsReady, IsSettled};
 ghost use Rattle.plain_model.specs.Laws.{IsOutside};
 ghost use Rattle.open_handles.specs.FileHolders.{file_holders, HOLDERS_MAX};
 ghost use Rattle.mount_calls.specs.Held.{handles_below, files_below};
 
 use crate::closing::{close_file, close_handle, hold_file};
 use dir_listing::Cursor;
-use open_handles::{Descriptors, Handle, OpenDirectories, OpenDirectory, OpenFile, OpenFiles};
+use object_table::{ObjectTree, Unlisted};
+use open_handles::{Descriptors, Handle, OpenDirectory, OpenFile, OpenFiles};
 use ov_base::{Attributes, Errno, NameList, Path};
 use std::alloc::{AllocError, Global};
 use std::collections::BTreeMap;
@@ -26,7 +27,7 @@ pub const CLIENTS_MAX: usize = 64;
 pub struct Clients {
     attached: BTreeMap<u64, Descriptors>,
     next: u64,
-    directories: OpenDirectories,
+    directories: ObjectTree,
     files: OpenFiles,
     ghost rising: { (n : ℕ) → is_some (get nat_cmp attached n) ≡ true → n < next },
     ghost held: { (k : ℕ) → holders directories k ≡ handles_below (get nat_cmp attached) next k },
@@ -48,7 +49,7 @@ impl Clients {
         ensures none { IfOk result (λ clients. (n : ℕ) → get nat_cmp clients.attached n ≡ None) }
         ensures first { IfOk result (λ clients. clients.next ≡ 0) }
     {
-        let directories = OpenDirectories::new(alloc, keys)?;
+        let directories = ObjectTree::new(alloc, keys)?;
         directories.lawful();
         Ok(Clients {
             attached: BTreeMap::new(alloc),
@@ -300,7 +301,7 @@ impl Clients {
         requires below { NoneBelow self.old.directories path.now }
         ensures { RemovesOpen self.old self.new path.now attributes }
     {
-        self.directories.remove(path, attributes);
+        self.directories.remove(path, Unlisted::Removed(attributes));
     }
 
     /// Takes the memory that `rename` needs to lead what is open at a path or below it to another
@@ -328,7 +329,8 @@ impl Clients {
         ensures renames { RenamesOpen self.old self.new old.now new.now replaced }
         ensures settled { IsSettled self.new.directories }
     {
-        self.directories.rename(old, new, replaced);
+        self.directories
+            .rename(old, new, replaced.map(Unlisted::Removed));
     }
 
     /// Gives up a rename that was prepared, and lets go the memory that it took.

@@ -3,18 +3,15 @@ ghost use Rattle.std.specs.Prelude.{◌≡◌, ◌+◌, ℕ, ◌≤◌, ◌∷�
 ghost use Rattle.open_handles.specs.FileHolders.{file_holders, room, HOLDERS_MAX};
 ghost use Rattle.open_handles.specs.declared.open_file.FileSource.TheVariants as sources;
 ghost use Rattle.open_handles.specs.Holding.{handles_on, files_on, is_upper};
-ghost use Rattle.open_handles.specs.Opened.{holders};
+ghost use Rattle.object_table.specs.Opened.{holders};
 ghost use Rattle.mount_calls.specs.Held.{ClosesAll, ReleasesAll};
 
-use open_handles::{FileSource, Handle, OpenDirectories, OpenFiles};
+use object_table::ObjectTree;
+use open_handles::{FileSource, Handle, OpenFiles};
 use std::alloc::AllocError;
 
 /// Closes one handle: on a directory, on a file of the upper, or on a file of a lower layer, of which nobody counts the handles.
-pub(crate) fn close_handle(
-    directories: &mut OpenDirectories,
-    files: &mut OpenFiles,
-    handle: &Handle,
-)
+pub(crate) fn close_handle(directories: &mut ObjectTree, files: &mut OpenFiles, handle: &Handle)
     requires directories { (k : ℕ) → handles_on (Some handle.now ∷ []) k ≤ holders directories.old k }
     requires files { (k : ℕ) → files_on (Some handle.now ∷ []) k ≤ file_holders files.old k }
     ensures directories { ClosesAll directories.old directories.new (Some handle.now ∷ []) }

@@ -4,7 +4,7 @@ ghost use Rattle.layer_tree.specs.Tree.{layer_of};
 ghost use Rattle.mount_laws.specs.Removals.{rmdir_fault};
 ghost use Rattle.mount_laws.specs.Renaming.{is_one};
 ghost use Rattle.merged_lookup.specs.Merged.{layers_of};
-ghost use Rattle.open_handles.specs.Renames.{IsSettled};
+ghost use Rattle.object_table.specs.Renames.{IsSettled};
 ghost use Rattle.mount_calls.specs.Looking.{IsKeyAt, IsLook};
 ghost use Rattle.mount_calls.specs.Making.{MakesEach};
 ghost use Rattle.mount_calls.specs.Removing.{HasAttributes, IsOpenNowhere};

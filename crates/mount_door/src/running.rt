@@ -1,7 +1,7 @@
 // A whole session of a mount's client.
-ghost use Rattle.std.specs.Prelude.{◌≡◌, ◌<◌, List, [], false};
+ghost use Rattle.std.specs.Prelude.{◌≡◌, ◌+◌, ◌<◌, ◌≤◌, List, [], false};
 ghost use Rattle.std.specs.Vec.{vec_capacity, vec_len};
-ghost use Rattle.ov_session.specs.Devices.{InputAt, is_write};
+ghost use Rattle.ov_session.specs.Devices.{InputAt, OutputAt};
 ghost use Rattle.ov_session.specs.Sessions.{IsSession};
 ghost use Rattle.ov_session.specs.declared.exchange.Exchange.{Exchange};
 ghost use Rattle.mount_door.specs.Advancing.{Advances, standing};
@@ -9,9 +9,9 @@ ghost use Rattle.mount_door.specs.Advancing.{Advances, standing};
 use crate::door::MountDoor;
 use crate::session::MountSession;
 use locked_history::{Gate, Mount, MountName, Receipt, Session};
-use ov_session::{Ending, SessionInput, SessionOutput, session_run};
+use ov_devices::{Sink, Source};
+use ov_session::{Ending, SessionOutput, session_run};
 use std::alloc::Global;
-use std::io::{Read, Write};
 use std::sync::Wait;
 use watch_table::{Callback, Hook, Rule};
 
@@ -31,15 +31,15 @@ pub struct Departure<N: MountName, F: Callback, R: Rule> {
 /// Runs the session of a client that was just attached, whose receipts go behind these. What it
 /// wrote is the frames of the answers to what it read, and a receipt claims that each reply among
 /// them stands in the history of the mount.
-pub fn run_session<N, F, R, G, H, I, O>(
+pub fn run_session<N, F, R, G, H, S, K>(
     rt: &H,
     alloc: Global,
     mount: &Mount<N, F, R>,
     gate: &G,
     session: Session,
     receipts: Vec<Receipt<N>>,
-    input: &mut SessionInput<I>,
-    output: &mut SessionOutput<O>,
+    input: &mut S,
+    output: &mut SessionOutput<K>,
 ) -> Departure<N, F, R>
 where
     N: MountName,
@@ -47,19 +47,22 @@ where
     R: Rule,
     G: Gate,
     H: Wait,
-    I: Read,
-    O: Write,
-    requires input { input.old.failed ≡ false }
-    requires output { output.old.failed ≡ false }
+    S: Source,
+    K: Sink,
+    requires few { K.failures output.old.sink < 4294967295 }
     requires held { output.old.held.items ≡ [] }
     requires room { vec_len receipts < vec_capacity receipts }
     ensures session { (told : List Exchange) × IsSession Advances
-        (I.remaining input.old.reader) (I.remaining input.new.reader)
-        (O.contents output.old.writer) (O.contents output.new.writer)
+        (S.remaining input.old) (S.remaining input.new)
+        (K.contents output.old.sink) (K.contents output.new.sink)
         [] told (standing session receipts.items false)
         (standing result.session result.receipts.items result.lost) result.ending }
-    ensures input { InputAt input.new.failed input.new.reads_left result.ending }
-    ensures output { output.new.failed ≡ is_write result.ending }
+    ensures input { InputAt (S.failures input.old) (S.failures input.new) (S.reads input.new)
+        result.ending }
+    ensures reads { (S.reads input.old ≤ S.reads input.new)
+        × (S.reads input.new ≤ S.reads input.old + 4294967295) }
+    ensures output { OutputAt (K.failures output.old.sink) (K.failures output.new.sink)
+        result.ending }
 {
     let mut told = MountSession::new();
     let mut door = MountDoor::new(rt, alloc, mount, gate, session, receipts);

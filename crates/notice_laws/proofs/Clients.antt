@@ -8,7 +8,7 @@ use Rattle.plain_model.specs.Runs.{joined, without_instance, without_table}
 use Rattle.plain_model.specs.Alike.{AreAllAlike}
 use Rattle.plain_model.proofs.Clients.{filter-map}
 use Rattle.open_handles.specs.declared.tracked_client.TrackedHandle.{TrackedHandle}
-use Rattle.open_handles.specs.Tracked.{Tracked}
+use Rattle.object_table.specs.Objects.{Objects}
 use Rattle.open_handles.specs.TrackedHandles.{clients_of, tracked_by}
 use Rattle.notice_laws.specs.Notified.{Bearers, IsSlotOn, stands_for}
 use Rattle.notice_laws.specs.Clients.{LawOfBegun, LawOfJoined, LawOfMuted, LawOfDeparted, LawOfAsked}
@@ -58,7 +58,7 @@ law_of_muted U s c old new k known mutes =
     (mutes.renames ∙ k.renames)
 
 -- a descriptor that is free for watches is free in the state
-bare-slot : (objects : Tracked) (bearers : Bearers) (r : Option TrackedHandle) (g : Option Handle) → IsSlotOn objects bearers r g →
+bare-slot : (objects : Objects) (bearers : Bearers) (r : Option TrackedHandle) (g : Option Handle) → IsSlotOn objects bearers r g →
     r ≡ None → g ≡ None
 bare-slot objects bearers None None h free = refl
 bare-slot objects bearers None (Some g) h free = absurd h

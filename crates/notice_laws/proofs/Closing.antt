@@ -22,7 +22,7 @@ use Rattle.mount_laws.proofs.Gone.{law_of_gone}
 use Rattle.mount_laws.proofs.Leading.{law_of_paths}
 use Rattle.mount_laws.proofs.OnePath.{law_of_one_path}
 use Rattle.open_handles.specs.declared.tracked_client.TrackedHandle.{TrackedHandle}
-use Rattle.open_handles.specs.Tracked.{Tracked, Spot, At, Upper, Nowhere, spot_of}
+use Rattle.object_table.specs.Objects.{Objects, Spot, At, Upper, Nowhere, spot_of}
 use Rattle.open_handles.specs.TrackedHandles.{TrackedTables, IsOn, SetsTracked, tracked_by}
 use Rattle.notice_laws.specs.Notified.{Notified, Bearers, IsAt, IsSlotOn, Tracks, Passes, stands_for}
 use Rattle.notice_laws.specs.Objects.{Means, MeansWay}
@@ -43,12 +43,12 @@ open-below ks c fd g = by (slice_get (handles_of ks c) fd) refl
     by (Some h) at is = slice_get_within (handles_of ks c) fd h at
 
 -- a descriptor is on the same on both sides
-abbrev IsOnAt : Tracked → Bearers → TrackedTables → List Table → ℕ → ℕ → Type 0
+abbrev IsOnAt : Objects → Bearers → TrackedTables → List Table → ℕ → ℕ → Type 0
 IsOnAt objects bearers handles ks k i = IsSlotOn objects bearers (tracked_by handles k i) (handle_of ks k i)
 
 -- descriptors are on the same where one is set on both sides to the same, and the others were
 pub sets-slots :
-    (objects : Tracked) (bearers : Bearers) (old new : TrackedTables) (ks : List Table) (c fd : ℕ) (r : Option TrackedHandle)
+    (objects : Objects) (bearers : Bearers) (old new : TrackedTables) (ks : List Table) (c fd : ℕ) (r : Option TrackedHandle)
     (h : Option Handle) → SetsTracked old new c fd r → handle_of (with_handle ks c fd h) c fd ≡ h → IsSlotOn objects bearers r h →
     ((k i : ℕ) → ((k ≡ c) → (i ≡ fd) → ⊥) → IsSlotOn objects bearers (tracked_by old k i) (handle_of ks k i)) →
     (k i : ℕ) → IsSlotOn objects bearers (tracked_by new k i) (handle_of (with_handle ks c fd h) k i)
@@ -74,19 +74,19 @@ sets-slots objects bearers old new ks c fd r h sets is on slots k i = by (cases_
     by (inr n) z = other (λ e f. both_ways (nat_eq k c) n (eq-eqb k c e))
 
 -- what an open descriptor is on means the machine's node
-pub slot-means : (objects : Tracked) (bearers : Bearers) (h : TrackedHandle) (g : Option Handle) → IsSlotOn objects bearers (Some h) g →
+pub slot-means : (objects : Objects) (bearers : Bearers) (h : TrackedHandle) (g : Option Handle) → IsSlotOn objects bearers (Some h) g →
     Means objects bearers (Some h.object) (node_of_handle g)
 slot-means objects bearers h None on = absurd on
 slot-means objects bearers h (Some g) on = (on.known, on.node)
 
 -- and its way in means the machine's
-pub slot-way : (objects : Tracked) (bearers : Bearers) (h : TrackedHandle) (g : Option Handle) → IsSlotOn objects bearers (Some h) g →
+pub slot-way : (objects : Objects) (bearers : Bearers) (h : TrackedHandle) (g : Option Handle) → IsSlotOn objects bearers (Some h) g →
     MeansWay objects bearers h.way (told.way_in g)
 slot-way objects bearers h None on = absurd on
 slot-way objects bearers h (Some g) on = way-means objects bearers h.way g.way on.way
 
 -- a number means its bearer
-pub means-bearer : (objects : Tracked) (bearers : Bearers) (n : ℕ) (o : Option NodeId) → Means objects bearers (Some n) o →
+pub means-bearer : (objects : Objects) (bearers : Bearers) (n : ℕ) (o : Option NodeId) → Means objects bearers (Some n) o →
     o ≡ Some (bearers n)
 means-bearer objects bearers n None means = absurd means
 means-bearer objects bearers n (Some d) means = ap Some (sym means.1)

@@ -10,7 +10,7 @@ use Rattle.plain_model.specs.Settling as settling
 use Rattle.plain_model.specs.Alike.{IsOneToOne, AreAllAlike, KeepAlike, is_watched}
 use Rattle.plain_model.proofs.AlikeKept.{alike-kept, alike-now}
 use Rattle.mount_laws.specs.OpenFiles.{IsLive}
-use Rattle.open_handles.specs.Tracked.{Tracked, Spot, At, Upper, Nowhere, spot_of}
+use Rattle.object_table.specs.Objects.{Objects, Spot, At, Upper, Nowhere, spot_of}
 use Rattle.open_handles.specs.TrackedHandles.{clients_of, tracked_by}
 use Rattle.notice_laws.specs.Notified.{Notified, AreKnown, Bearers, IsAt, AreBorne, stands_for, IsSlotOn, Tracks}
 use Rattle.notice_laws.specs.Opens.{AreFewer, LawOfFewerNumbers}
@@ -28,11 +28,11 @@ at-still U V t lives (Upper key) d h = (lives d key h.1 h.0 h.2, h.1, h.2)
 at-still U V t lives Nowhere d h = h
 
 -- what is tracked still was tracked
-pub was-some : (old new : Tracked) → AreFewer old new → (n : ℕ) → IsSome (spot_of new n) → IsSome (spot_of old n)
+pub was-some : (old new : Objects) → AreFewer old new → (n : ℕ) → IsSome (spot_of new n) → IsSome (spot_of old n)
 was-some old new fewer n there = let spot = some-is (spot_of new n) there in ap is_some (fewer n spot.0 spot.1)
 
 -- fewer tracked objects are the same nodes, in an upper that keeps live files
-pub fewer-borne : (U V : Layer) (t : Tree) (i : ℕ) (old new : Tracked) (bearers : Bearers) → KeepsLive U V t → AreFewer old new →
+pub fewer-borne : (U V : Layer) (t : Tree) (i : ℕ) (old new : Objects) (bearers : Bearers) → KeepsLive U V t → AreFewer old new →
     AreBorne U t i old bearers → AreBorne V t i new bearers
 fewer-borne U V t i old new bearers lives fewer borne = record {
   places = λ n spot is. at-still U V t lives spot (bearers n) (borne.places n spot (fewer n spot is));
@@ -41,12 +41,12 @@ fewer-borne U V t i old new bearers lives fewer borne = record {
 }
 
 -- a number that stands for a node stands for it by other bearers, where these know it and give it the same node
-pub stands-now : (old new : Tracked) (bearers now : Bearers) → ((n : ℕ) → IsSome (spot_of old n) → now n ≡ bearers n) → (a d : NodeId) →
+pub stands-now : (old new : Objects) (bearers now : Bearers) → ((n : ℕ) → IsSome (spot_of old n) → now n ≡ bearers n) → (a d : NodeId) →
     ((n : ℕ) → a ≡ New n → IsSome (spot_of old n) → IsSome (spot_of new n)) → stands_for old bearers a d → stands_for new now a d
 stands-now old new bearers now same a d known (n, is, there, on) = (n, is, known n is there, same n there ∙ on)
 
 -- so instances that are alike stay so, where each number that is watched is known
-pub alike-known : (old new : Tracked) (bearers now : Bearers) → ((n : ℕ) → IsSome (spot_of old n) → now n ≡ bearers n) →
+pub alike-known : (old new : Objects) (bearers now : Bearers) → ((n : ℕ) → IsSome (spot_of old n) → now n ≡ bearers n) →
     (es fs : List Instance) → ((n : ℕ) → is_watched es (On (New n)) ≡ true → IsSome (spot_of old n) → IsSome (spot_of new n)) →
     AreAllAlike (stands_for old bearers) es fs → AreAllAlike (stands_for new now) es fs
 alike-known old new bearers now same es fs known alike =
@@ -55,7 +55,7 @@ alike-known old new bearers now same es fs known alike =
     (λ n is there. known n (ap (λ x. is_watched es (On x)) (sym is) ∙ watched) there) stands) alike
 
 -- numbers stand for nodes one to one
-pub one-to-one : (objects : Tracked) (bearers : Bearers) →
+pub one-to-one : (objects : Objects) (bearers : Bearers) →
     ((m n : ℕ) → IsSome (spot_of objects m) → IsSome (spot_of objects n) → bearers m ≡ bearers n → m ≡ n) →
     IsOneToOne (stands_for objects bearers)
 one-to-one objects bearers one a b d e (m, is, there, on) (n, by, known, at) = (

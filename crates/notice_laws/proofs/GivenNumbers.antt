@@ -1,5 +1,5 @@
 -- A number that no tracked object has is given to a node: what its bearers are then, and that one more may be held so.
-use Rattle.std.proofs.Common.{◌≡◌, ◌≢◌, ℕ, ◌+◌, ◌<◌, ◌≤◌, true, false, cond, List, ◌∷◌, Option, None, Some, refl, sym, ap, subst, ◌∙◌, ◌⊎◌, inl, inr, nat_eq, arith}
+use Rattle.std.proofs.Common.{◌≡◌, ◌≢◌, ℕ, ◌<◌, ◌≤◌, true, false, cond, List, ◌∷◌, Option, None, Some, refl, sym, ap, subst, ◌∙◌, ◌⊎◌, inl, inr, nat_eq, arith}
 use Rattle.std.specs.Option.{IsSome, is_some}
 use Rattle.std.proofs.lemmas.Bool.{cases_Bool, false≢true, both_ways, eqb-true, eq-eqb}
 use Rattle.ov_base.specs.declared.node_id.NodeId.{NodeId}
@@ -11,7 +11,7 @@ use Rattle.plain_model.proofs.Kept.{at-path}
 use Rattle.mount_laws.specs.Looks.{IsMountOf, shows_link}
 use Rattle.mount_laws.proofs.Looks.{at-some}
 use Rattle.mount_laws.proofs.OpenFiles.{law_of_live_shown}
-use Rattle.open_handles.specs.Tracked.{Tracked, Spot, spot_of, next_of, IsVacant}
+use Rattle.object_table.specs.Objects.{Objects, Spot, spot_of, IsVacant}
 use Rattle.notice_laws.specs.declared.object.Object.{Object}
 use Rattle.notice_laws.specs.declared.object.Object.TheVariants as object
 use Rattle.notice_laws.specs.Notified.{Notified, Bearers, IsAt, AreBorne, Tracks}
@@ -40,17 +40,17 @@ with-other bearers number d n other = by (cases_Bool (nat_eq n number))
     by (inr f) = ap (λ b. cond b d (bearers n)) f
 
 -- a number that is unknown is no tracked object's
-pub unknown-other : (objects : Tracked) (number : ℕ) → spot_of objects number ≡ None → (n : ℕ) → IsSome (spot_of objects n) → n ≢ number
+pub unknown-other : (objects : Objects) (number : ℕ) → spot_of objects number ≡ None → (n : ℕ) → IsSome (spot_of objects n) → n ≢ number
 unknown-other objects number unknown n there same =
     false≢true (sym (ap is_some unknown) ∙ ap (λ m. is_some (spot_of objects m)) (sym same) ∙ there)
 
 -- so these have the nodes that they had
-pub with-same : (objects : Tracked) (bearers : Bearers) (number : ℕ) (d : NodeId) → spot_of objects number ≡ None →
+pub with-same : (objects : Objects) (bearers : Bearers) (number : ℕ) (d : NodeId) → spot_of objects number ≡ None →
     AreSameBearers objects bearers (with_bearer bearers number d)
 with-same objects bearers number d unknown n there = with-other bearers number d n (unknown-other objects number unknown n there)
 
 -- A number that was none's is that of a node which no tracked object was; every other was tracked.
-pub record GivesNumber (old new : Tracked) (bearers : Bearers) (next number : ℕ) (d : NodeId) : Type 0 where
+pub record GivesNumber (old new : Objects) (bearers : Bearers) (next number : ℕ) (d : NodeId) : Type 0 where
   pub were : (n : ℕ) → n ≢ number → IsSome (spot_of new n) → IsSome (spot_of old n)
   pub one : (m n : ℕ) → IsSome (spot_of old m) → IsSome (spot_of old n) → bearers m ≡ bearers n → m ≡ n
   pub fresh : (m : ℕ) → IsSome (spot_of old m) → bearers m ≢ d
@@ -58,7 +58,7 @@ pub record GivesNumber (old new : Tracked) (bearers : Bearers) (next number : �
   pub given : (i : ℕ) → d ≡ New i → i < next
 
 -- then tracked objects are nodes, where each is where it is
-pub given-borne : (V : Layer) (u : Tree) (old new : Tracked) (bearers : Bearers) (next number : ℕ) (d : NodeId) →
+pub given-borne : (V : Layer) (u : Tree) (old new : Objects) (bearers : Bearers) (next number : ℕ) (d : NodeId) →
     GivesNumber old new bearers next number d → ((spot : Spot) → spot_of new number ≡ Some spot → IsAt V u spot d) →
     ((n : ℕ) (spot : Spot) → n ≢ number → spot_of new n ≡ Some spot → IsAt V u spot (bearers n)) →
     AreBorne V u next new (with_bearer bearers number d)
@@ -129,7 +129,7 @@ module _ (U : Layer) (lowers : List Layer) (s : State) (m : IsMountOf U lowers s
   object-at object.Other spot is file e d at = absurd e
 
   -- and no tracked object's where its spot is vacant
-  object-fresh : (objects : Tracked) (bearers : Bearers) → AreBorne U s.tree s.serial objects bearers →
+  object-fresh : (objects : Objects) (bearers : Bearers) → AreBorne U s.tree s.serial objects bearers →
       (o : Object) (spot : Spot) → IsObject U lowers p o → IsSpotOf p o spot → IsVacant objects spot →
       (d : NodeId) → node_at s.tree p ≡ Some d → (n : ℕ) → IsSome (spot_of objects n) → bearers n ≢ d
   object-fresh objects bearers borne o spot is e vacant d at =
@@ -142,7 +142,7 @@ module _ (U : Layer) (lowers : List Layer) (s : State) (m : IsMountOf U lowers s
       by object.Other e = absurd e
 
 -- what is kept for watches, where all that was tracked is where it was
-same-spots : (U : Layer) (s : State) (k : Notified) → Tracks U s k → (objects : Tracked) →
+same-spots : (U : Layer) (s : State) (k : Notified) → Tracks U s k → (objects : Objects) →
     ((n : ℕ) → spot_of objects n ≡ spot_of k.objects n) → Tracks U s (record k { objects = objects })
 same-spots U s k t objects same = record {
   bearers = t.bearers;
@@ -164,7 +164,7 @@ same-spots U s k t objects same = record {
     was n there = ap is_some (sym (same n)) ∙ there
 
 -- what is kept for watches, where a number that was none's is given to a node that no tracked object was
-given-spot : (U : Layer) (s : State) (k : Notified) → (t : Tracks U s k) → (objects : Tracked) (n : ℕ) (spot : Spot) (d : NodeId) →
+given-spot : (U : Layer) (s : State) (k : Notified) → (t : Tracks U s k) → (objects : Objects) (n : ℕ) (spot : Spot) (d : NodeId) →
     spot_of k.objects n ≡ None → spot_of objects n ≡ Some spot → ((x : ℕ) → x ≢ n → spot_of objects x ≡ spot_of k.objects x) →
     IsAt U s.tree spot d → ((i : ℕ) → d ≡ New i → i < s.serial) → ((x : ℕ) → IsSome (spot_of k.objects x) → t.bearers x ≢ d) →
     Tracks U s (record k { objects = objects })
@@ -195,17 +195,12 @@ given-spot U s k t objects n spot d unknown here others at given fresh = record 
     more : (x : ℕ) → IsSome (spot_of k.objects x) → IsSome (spot_of objects x)
     more x there = ap is_some (others x (unknown-other k.objects n unknown x there)) ∙ there
 
--- the next number is none's
-next-unknown : (objects : Tracked) → ((m : ℕ) → IsSome (spot_of objects m) → m < next_of objects) → spot_of objects (next_of objects) ≡ None
-next-unknown objects below = by (spot_of objects (next_of objects)) refl
-  where
-    by : (o : Option Spot) → spot_of objects (next_of objects) ≡ o → o ≡ None
-    by None is = refl
-    by (Some x) is = let past = below (next_of objects) (ap is_some is) in absurd (omega arith)
-
 -- one more may hold what stands at a path, a directory or a file, under its number or under a new one
 pub law_of_held_number : LawOfHeldNumber
-law_of_held_number U lowers s m k t below p o spot is file e objects n holds = by holds.was
+law_of_held_number U lowers s m k t p o spot is file e objects n holds = elim holds.was [
+  | inl was ↦ known was
+  | inr new ↦ given new.0 new.1
+]
   where
     known : spot_of k.objects n ≡ Some spot → Tracks U s (record k { objects = objects })
     known was = same-spots U s k t objects (λ x. elim (cases_Bool (nat_eq x n)) [
@@ -213,15 +208,8 @@ law_of_held_number U lowers s m k t below p o spot is file e objects n holds = b
       | inr f ↦ holds.sets.other_spots x (λ same. both_ways (nat_eq x n) f (eq-eqb x n same))
     ])
 
-    given : IsVacant k.objects spot → n ≡ next_of k.objects → Tracks U s (record k { objects = objects })
-    given vacant next =
+    given : IsVacant k.objects spot → spot_of k.objects n ≡ None → Tracks U s (record k { objects = objects })
+    given vacant unknown =
         let d = object-node U lowers s m p o spot is e in
-        given-spot U s k t objects n spot d.0 (ap (spot_of k.objects) next ∙ next-unknown k.objects below) holds.sets.here
-        holds.sets.other_spots (object-at U lowers s m p o spot is file e d.0 d.1) (serial-before s.tree s.serial m.kept p d.0 d.1)
-        (object-fresh U lowers s m p k.objects t.bearers t.borne o spot is e vacant d.0 d.1)
-
-    by : ((spot_of k.objects n ≡ Some spot) × (next_of objects ≡ next_of k.objects))
-        ⊎ (IsVacant k.objects spot × (n ≡ next_of k.objects) × (next_of objects ≡ next_of k.objects + 1)) →
-        Tracks U s (record k { objects = objects })
-    by (inl was) = known was.0
-    by (inr new) = given new.0 new.1
+        given-spot U s k t objects n spot d.0 unknown holds.sets.here holds.sets.other_spots (object-at U lowers s m p o spot is file e d.0 d.1)
+        (serial-before s.tree s.serial m.kept p d.0 d.1) (object-fresh U lowers s m p k.objects t.bearers t.borne o spot is e vacant d.0 d.1)

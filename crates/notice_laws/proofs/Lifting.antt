@@ -21,7 +21,7 @@ use Rattle.mount_laws.specs.Paths.{LeadsSame}
 use Rattle.mount_laws.proofs.Looks.{at-some}
 use Rattle.mount_laws.proofs.Opens.{folder-at}
 use Rattle.mount_laws.proofs.OpenFiles.{law_of_live_shown}
-use Rattle.open_handles.specs.Tracked.{Spot, At, Upper, spot_of}
+use Rattle.object_table.specs.Objects.{Spot, At, Upper, spot_of}
 use Rattle.notice_laws.specs.declared.object.Object.{Object}
 use Rattle.notice_laws.specs.declared.object.Object.TheVariants as object
 use Rattle.notice_laws.specs.Notified.{Notified, AreKnown, stands_alone, IsAt, stands_for, Tracks, Passes, Resumes}

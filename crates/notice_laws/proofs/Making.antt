@@ -21,7 +21,7 @@ use Rattle.mount_laws.specs.Paths.{LeadsAlso}
 use Rattle.mount_laws.proofs.Leading.{symlink-walk}
 use Rattle.open_handles.specs.declared.tracked_client.TrackedHandle.{TrackedHandle}
 use Rattle.open_handles.specs.declared.tracked_client.Way.{Way}
-use Rattle.open_handles.specs.Tracked.{Tracked}
+use Rattle.object_table.specs.Objects.{Objects}
 use Rattle.notice_laws.specs.Notified.{Notified, AreKnown, Bearers, IsAt, stands_for, IsWay, IsSlotOn, Tracks, Passes, Resumes}
 use Rattle.notice_laws.specs.Objects.{IsShownIn, MeansWay}
 use Rattle.notice_laws.specs.Telling.{of_number, in_way, of_both, TellAlike, Tells, Stays}
@@ -36,7 +36,7 @@ pub tells-of : (U : Layer) (s : State) (k : Notified) → (t : Tracks U s k) →
 tells-of U s k t = law_of_told U s k.objects t.bearers k.instances s.instances t.borne t.heard
 
 -- a way that is a handle's means the machine's
-pub way-means : (objects : Tracked) (bearers : Bearers) (v : Option Way) (w : Option (NodeId × Name)) → IsWay objects bearers v w →
+pub way-means : (objects : Objects) (bearers : Bearers) (v : Option Way) (w : Option (NodeId × Name)) → IsWay objects bearers v w →
     MeansWay objects bearers v w
 way-means objects bearers None None h = tt
 way-means objects bearers None (Some w) h = absurd h
@@ -44,7 +44,7 @@ way-means objects bearers (Some v) None h = absurd h
 way-means objects bearers (Some v) (Some w) h = h
 
 -- what is told of a tracked handle is what is told of the machine's, where that is on no directory
-pub handle-alike : (objects : Tracked) (bearers : Bearers) (s : State) (old : Notified) →
+pub handle-alike : (objects : Objects) (bearers : Bearers) (s : State) (old : Notified) →
     TellAlike objects bearers old.instances s.instances →
     (h : TrackedHandle) (g : Option Handle) (bits : ℕ) → is_folder (handle_node s.tree g) ≡ false → IsSlotOn objects bearers (Some h) g →
     AreToldAlike (stands_for objects bearers) old.instances s.instances (of_both h.way (Some h.object) bits) (by_handle s.tree g bits)

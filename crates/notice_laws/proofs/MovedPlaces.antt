@@ -18,7 +18,7 @@ use Rattle.mount_laws.proofs.Leading.{law_of_paths}
 use Rattle.mount_laws.proofs.OnePath.{law_of_one_path}
 use Rattle.mount_laws.proofs.Removes.{named-folder}
 use Rattle.mount_laws.proofs.RenamedTree.{came-from}
-use Rattle.open_handles.specs.Tracked.{Spot, At, Upper, Nowhere, spot_of}
+use Rattle.object_table.specs.Objects.{Spot, At, Upper, Nowhere, spot_of}
 use Rattle.notice_laws.specs.declared.object.Object.{Object}
 use Rattle.notice_laws.specs.declared.object.Object.TheVariants as object
 use Rattle.notice_laws.specs.Notified.{Notified, stands_alone, IsAt, Tracks, Passes}

@@ -9,7 +9,7 @@ use Rattle.plain_model.specs.Changes.{same_way, re_way}
 use Rattle.plain_model.proofs.Paths.{ids_tell}
 use Rattle.open_handles.specs.declared.tracked_client.TrackedHandle.{TrackedHandle}
 use Rattle.open_handles.specs.declared.tracked_client.Way.{Way}
-use Rattle.open_handles.specs.Tracked.{Tracked, spot_of}
+use Rattle.object_table.specs.Objects.{Objects, spot_of}
 use Rattle.open_handles.specs.TrackedHandles.{TrackedTables, tracked_by, is_way, came_by, re_way_of}
 use Rattle.notice_laws.specs.Notified.{Bearers, AreBorne, IsWay, IsOnNode, IsSlotOn}
 use Rattle.notice_laws.specs.Objects.{Means, MeansWay}
@@ -20,7 +20,7 @@ agree : (a b : Bool) → (a ≡ true → b ≡ true) → (b ≡ true → a ≡ t
 agree true b to from = sym (to refl)
 agree false b to from = sym (false_from_ne_true b (λ h. let z : false ≡ true = from h in cc))
 
-module _ (U : Layer) (t : Tree) (i : ℕ) (objects : Tracked) (bearers : Bearers) (borne : AreBorne U t i objects bearers) where
+module _ (U : Layer) (t : Tree) (i : ℕ) (objects : Objects) (bearers : Bearers) (borne : AreBorne U t i objects bearers) where
   -- two tracked objects have one number where they are one node
   same-object :
       (m n : ℕ) (d e : NodeId) → IsSome (spot_of objects m) → IsSome (spot_of objects n) → bearers m ≡ d → bearers n ≡ e →

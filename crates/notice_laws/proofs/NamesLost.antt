@@ -21,7 +21,7 @@ use Rattle.mount_laws.proofs.OpenFiles.{law_of_live_shown, law_of_live_one}
 use Rattle.mount_laws.proofs.Opens.{link-at}
 use Rattle.mount_laws.proofs.Looks.{at-some}
 use Rattle.mount_laws.proofs.Removes.{counted-some}
-use Rattle.open_handles.specs.Tracked.{Tracked, Spot, At, Upper, Nowhere, spot_of}
+use Rattle.object_table.specs.Objects.{Objects, Spot, At, Upper, Nowhere, spot_of}
 use Rattle.open_handles.specs.TrackedHandles.{TrackedTables, IsOn}
 use Rattle.notice_laws.specs.declared.object.Object.{Object}
 use Rattle.notice_laws.specs.declared.object.Object.TheVariants as object
@@ -108,7 +108,7 @@ other-path U lowers s m one p o is Nowhere rests d here = tt
 
 -- a number at the spot of what stands at p is found by it
 spot-number :
-    (objects : Tracked) (p : Path) (o : Object) (n : ℕ) (was : Spot) → IsSpotOf p o was → spot_of objects n ≡ Some was →
+    (objects : Objects) (p : Path) (o : Object) (n : ℕ) (was : Spot) → IsSpotOf p o was → spot_of objects n ≡ Some was →
     IsNumberOf objects p o (Some n)
 spot-number objects p object.Directory n was spot is = is ∙ ap Some spot
 spot-number objects p object.Lower n was spot is = is ∙ ap Some spot
@@ -168,7 +168,7 @@ gone-with U s k t apart p o n known names u loser ks goes same loses = record {
         ∙ and_right (not (nat_lt 1 count)) (not held) (ap not (same (t.bearers n) ∙ holds.1 on))
 
 -- the end of what loses a name is told alike
-module _ (objects : Tracked) (bearers : Bearers) (es fs : List Instance) (tell : TellAlike objects bearers es fs) where
+module _ (objects : Objects) (bearers : Bearers) (es fs : List Instance) (tell : TellAlike objects bearers es fs) where
   -- by what is said of a node's end, where it is gone or not
   abbrev TellsEnd : Option ℕ → NodeId → Bool → Type 0
   TellsEnd ended d is_gone =
@@ -213,12 +213,12 @@ module _ (objects : Tracked) (bearers : Bearers) (es fs : List Instance) (tell :
       (subst (λ x. IsGoneWith handles lost n (is_none (u x))) means.1 (gone n refl (ap Some (sym means.1))))
 
 -- what has a number is something
-number-something : (objects : Tracked) (p : Path) (o : Object) (n : ℕ) → IsNumberOf objects p o (Some n) → o ≢ object.Other
+number-something : (objects : Objects) (p : Path) (o : Object) (n : ℕ) → IsNumberOf objects p o (Some n) → o ≢ object.Other
 number-something objects p o n found other = let z : Some n ≡ None = subst (λ o. IsNumberOf objects p o (Some n)) other found in cc
 
 -- a number that means a node is a tracked object's
 means-known :
-    (objects : Tracked) (bearers : Bearers) (n : ℕ) (d : Option NodeId) → Means objects bearers (Some n) d → IsSome (spot_of objects n)
+    (objects : Objects) (bearers : Bearers) (n : ℕ) (d : Option NodeId) → Means objects bearers (Some n) d → IsSome (spot_of objects n)
 means-known objects bearers n None h = absurd h
 means-known objects bearers n (Some d) h = h.0
 

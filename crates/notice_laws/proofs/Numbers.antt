@@ -13,7 +13,7 @@ use Rattle.mount_laws.proofs.Looks.{at-some}
 use Rattle.mount_laws.proofs.OnePath.{law_of_one_path}
 use Rattle.mount_laws.proofs.OpenFiles.{law_of_live_one, law_of_live_shown}
 use Rattle.open_handles.specs.declared.tracked_client.Way.{Way}
-use Rattle.open_handles.specs.Tracked.{Tracked, Spot, At, Upper, Nowhere, spot_of, IsVacant}
+use Rattle.object_table.specs.Objects.{Objects, Spot, At, Upper, Nowhere, spot_of, IsVacant}
 use Rattle.notice_laws.specs.declared.object.Object.{Object}
 use Rattle.notice_laws.specs.declared.object.Object.TheVariants as object
 use Rattle.notice_laws.specs.Notified.{Bearers, stands_alone, IsAt, AreBorne}
@@ -26,7 +26,7 @@ some-is None h = absurd (false≢true h)
 some-is (Some x) h = (x, refl)
 
 -- the number of what is tracked at its spot
-pub number-at : (objects : Tracked) (p : Path) (o : Object) (spot : Spot) (n : ℕ) → IsSpotOf p o spot → spot_of objects n ≡ Some spot →
+pub number-at : (objects : Objects) (p : Path) (o : Object) (spot : Spot) (n : ℕ) → IsSpotOf p o spot → spot_of objects n ≡ Some spot →
     IsNumberOf objects p o (Some n)
 number-at objects p object.Directory spot n is at = at ∙ ap Some is
 number-at objects p object.Lower spot n is at = at ∙ ap Some is
@@ -87,7 +87,7 @@ module _ (U : Layer) (lowers : List Layer) (s : State) (m : IsMountOf U lowers s
   pub live-face : (d : NodeId) (k : ℕ) → (live : IsLive U s.tree d k) → face (s.tree d) ≡ Some (SeenLeaf (File live.bytes) live.attributes (Own (is_some live.mark)) live.links)
   live-face d k live = ap face live.node
 
-  module _ (objects : Tracked) (bearers : Bearers) (borne : AreBorne U s.tree s.serial objects bearers) where
+  module _ (objects : Objects) (bearers : Bearers) (borne : AreBorne U s.tree s.serial objects bearers) where
     -- a node at a path is none's where nothing is tracked there, nor as a live file
     unknown-at :
         (p : Path) (d : NodeId) → node_at s.tree p ≡ Some d → (stands_alone (s.tree d) ≡ true → IsVacant objects (At p)) →
@@ -204,7 +204,7 @@ law_of_numbers U lowers s m objects bearers borne p object.Other r is found =
     subst (λ r. Means objects bearers r (node_at s.tree p)) (sym found) (other-numbers U lowers s m objects bearers borne p is)
 
 -- a way by the number of its directory
-means-way : (objects : Tracked) (bearers : Bearers) (p : Path) (n : List ℕ) (o : Option NodeId) (r : Option Way) → IsWayTo objects (n ∷ p) r →
+means-way : (objects : Objects) (bearers : Bearers) (p : Path) (n : List ℕ) (o : Option NodeId) (r : Option Way) → IsWayTo objects (n ∷ p) r →
     ((v : Option ℕ) → IsNumberOf objects p object.Directory v → Means objects bearers v o) → MeansWay objects bearers r (on_way o n)
 means-way objects bearers p n None None h means = tt
 means-way objects bearers p n (Some d) None h means = means None h

@@ -16,7 +16,7 @@ use Rattle.mount_laws.specs.Looks.{IsMountOf, is_link_inode, shows_link}
 use Rattle.mount_laws.proofs.Looks.{at-some}
 use Rattle.mount_laws.proofs.Opens.{folder-at}
 use Rattle.open_handles.specs.declared.tracked_client.Way.{Way}
-use Rattle.open_handles.specs.Tracked.{Tracked}
+use Rattle.object_table.specs.Objects.{Objects}
 use Rattle.notice_laws.specs.declared.object.Object.{Object}
 use Rattle.notice_laws.specs.declared.object.Object.TheVariants as object
 use Rattle.notice_laws.specs.Notified.{Bearers, IsWay, stands_alone}
@@ -105,13 +105,13 @@ shown-in U lowers s m (n ∷ p) d at =
     parent-shown 0 (U ∷ lowers) m.layers n p (sym (at-some U lowers s m (n ∷ p)) ∙ ap is_some at)
 
 -- the way in by a tracked directory is the way in
-pub held-way : (objects : Tracked) (p : Path) (r : Option Way) → IsHeldWay objects p r → IsWayTo objects p r
+pub held-way : (objects : Objects) (p : Path) (r : Option Way) → IsHeldWay objects p r → IsWayTo objects p r
 held-way objects [] r held = held
 held-way objects (n ∷ p) None held = absurd held
 held-way objects (n ∷ p) (Some w) held = held
 
 -- and it is the machine's
-pub held-on-way : (objects : Tracked) (bearers : Bearers) (s : State) (p : Path) (r : Option Way) → IsHeldWay objects p r →
+pub held-on-way : (objects : Objects) (bearers : Bearers) (s : State) (p : Path) (r : Option Way) → IsHeldWay objects p r →
     MeansWay objects bearers r (way_of s.tree p) → IsWay objects bearers r (way_of s.tree p)
 held-on-way objects bearers s [] None held means = tt
 held-on-way objects bearers s [] (Some w) held means = absurd means

@@ -22,7 +22,7 @@ use Rattle.mount_laws.proofs.Leading.{law_of_paths}
 use Rattle.mount_laws.proofs.OnePath.{law_of_one_path}
 use Rattle.open_handles.specs.declared.tracked_client.TrackedHandle.{TrackedHandle}
 use Rattle.open_handles.specs.declared.tracked_client.Way.{Way}
-use Rattle.open_handles.specs.Tracked.{Tracked, Spot, At, Upper, spot_of}
+use Rattle.object_table.specs.Objects.{Objects, Spot, At, Upper, spot_of}
 use Rattle.open_handles.specs.TrackedHandles.{TrackedTables, SetsTracked, tracked_by}
 use Rattle.notice_laws.specs.declared.object.Object.{Object}
 use Rattle.notice_laws.specs.declared.object.Object.TheVariants as object
@@ -41,7 +41,7 @@ use Rattle.notice_laws.proofs.LastNames.{law_of_upper}
 
 -- descriptors are on the same after an open, where the new one is on what the machine's is, and the others were on the same
 pub open-slots :
-    (objects : Tracked) (bearers : Bearers) (old new : TrackedTables) (s : State) (c fd : ℕ) (p : Path) (flags : OpenFlags) (mode : ℕ) →
+    (objects : Objects) (bearers : Bearers) (old new : TrackedTables) (s : State) (c fd : ℕ) (p : Path) (flags : OpenFlags) (mode : ℕ) →
     lowest_free s.tables c ≡ Some fd → (r : TrackedHandle) → SetsTracked old new c fd (Some r) →
     IsOnNode objects bearers r
     (new_handle flags (opens (node_at s.tree p) s.serial) (way_of s.tree p) (node_of s.tree (node_at s.tree p))) →

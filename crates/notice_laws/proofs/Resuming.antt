@@ -14,7 +14,7 @@ use Rattle.mount_laws.specs.Nodes.{touched_by}
 use Rattle.mount_laws.specs.Paths.{LeadsBy, LeadsAlso}
 use Rattle.mount_laws.proofs.Leading.{law_of_paths}
 use Rattle.mount_laws.proofs.OnePath.{law_of_one_path}
-use Rattle.open_handles.specs.Tracked.{Spot, At, Upper, Nowhere, spot_of}
+use Rattle.object_table.specs.Objects.{Spot, At, Upper, Nowhere, spot_of}
 use Rattle.open_handles.specs.TrackedHandles.{clients_of, tracked_by}
 use Rattle.notice_laws.specs.Notified.{Notified, AreKnown, IsAt, stands_for, IsSlotOn, Tracks, Passes, Resumes}
 use Rattle.notice_laws.specs.Telling.{Tells}

@@ -16,7 +16,7 @@ use Rattle.plain_model.proofs.Held.{fixed-with, with-handles}
 use Rattle.mount_laws.proofs.Handling.{law_of_held, law_of_set_handle}
 use Rattle.open_handles.specs.declared.tracked_client.TrackedHandle.{TrackedHandle}
 use Rattle.open_handles.specs.declared.tracked_client.Way.{Way}
-use Rattle.open_handles.specs.Tracked.{Tracked, spot_of}
+use Rattle.object_table.specs.Objects.{Objects, spot_of}
 use Rattle.open_handles.specs.TrackedHandles.{TrackedTables, IsOn, tracked_by}
 use Rattle.notice_laws.specs.Notified.{Bearers, IsWay, IsSlotOn, IsOnNode}
 use Rattle.notice_laws.specs.Places.{KeepsSlots, LawOfSameHandles, LawOfKnownSlots, LawOfHeldObjects}
@@ -34,7 +34,7 @@ also-same None = tt
 also-same (Some h) = (refl, refl)
 
 -- what is on the one is on the other
-slot-also : (objects : Tracked) (bearers : Bearers) (r : Option TrackedHandle) (g h : Option Handle) → IsAlsoOn g h →
+slot-also : (objects : Objects) (bearers : Bearers) (r : Option TrackedHandle) (g h : Option Handle) → IsAlsoOn g h →
     IsSlotOn objects bearers r h → IsSlotOn objects bearers r g
 slot-also objects bearers None None None also on = tt
 slot-also objects bearers (Some r) (Some g) (Some h) also on = record {
@@ -80,7 +80,7 @@ with-also ks c fd h also k i = by (cases_Bool (nat_eq k c)) (cases_Bool (nat_eq 
     by (inr n) z = other (λ e. both_ways (nat_eq k c) n (eq-eqb k c e.0))
 
 -- a descriptor that is set so keeps all descriptors on what they were, and the clients
-with-keeps : (s : State) (c fd : ℕ) (h : Option Handle) → IsAlsoOn h (handle_of s.tables c fd) → (objects : Tracked) (bearers : Bearers)
+with-keeps : (s : State) (c fd : ℕ) (h : Option Handle) → IsAlsoOn h (handle_of s.tables c fd) → (objects : Objects) (bearers : Bearers)
     (r : Option TrackedHandle) (k i : ℕ) → IsSlotOn objects bearers r (handle_of s.tables k i) →
     IsSlotOn objects bearers r (handle_of (with_handle s.tables c fd h) k i)
 with-keeps s c fd h also objects bearers r k i on =
@@ -138,16 +138,16 @@ law_of_same_handles s c (ListNames fd n) keeps =
 law_of_same_handles s c call keeps = record { slots = λ objects bearers r k i on. on; clients = refl }
 
 -- the numbers that a handle has are those of tracked objects
-pub record IsKnown (objects : Tracked) (h : TrackedHandle) : Type 0 where
+pub record IsKnown (objects : Objects) (h : TrackedHandle) : Type 0 where
   pub object : IsSome (spot_of objects h.object)
   pub directory : (w : Way) → h.way ≡ Some w → IsSome (spot_of objects w.directory)
 
 -- other bearers give what is tracked the same nodes
-abbrev pub AreSameBearers : Tracked → Bearers → Bearers → Type 0
+abbrev pub AreSameBearers : Objects → Bearers → Bearers → Type 0
 AreSameBearers objects bearers now = (n : ℕ) → IsSome (spot_of objects n) → now n ≡ bearers n
 
 -- a way in is the machine's by other bearers and other tracked objects too, where these know its directory
-pub way-now : (old new : Tracked) (bearers now : Bearers) → AreSameBearers old bearers now → (v : Option Way) (w : Option (NodeId × Name)) →
+pub way-now : (old new : Objects) (bearers now : Bearers) → AreSameBearers old bearers now → (v : Option Way) (w : Option (NodeId × Name)) →
     ((x : Way) → v ≡ Some x → IsSome (spot_of new x.directory)) → IsWay old bearers v w → IsWay new now v w
 way-now old new bearers now same None None there is = tt
 way-now old new bearers now same None (Some w) there is = absurd is
@@ -155,7 +155,7 @@ way-now old new bearers now same (Some v) None there is = absurd is
 way-now old new bearers now same (Some v) (Some w) there is = (there v refl, same v.directory is.0 ∙ is.1, is.2)
 
 -- and so is what descriptors are on, where these know the numbers
-pub slot-now : (old new : Tracked) (bearers now : Bearers) → AreSameBearers old bearers now →
+pub slot-now : (old new : Objects) (bearers now : Bearers) → AreSameBearers old bearers now →
     (r : Option TrackedHandle) (g : Option Handle) → ((h : TrackedHandle) → r ≡ Some h → IsKnown new h) →
     IsSlotOn old bearers r g → IsSlotOn new now r g
 slot-now old new bearers now same None None known on = tt
@@ -168,7 +168,7 @@ slot-now old new bearers now same (Some h) (Some g) known on = record {
 }
 
 -- what descriptors are on is tracked
-slot-known : (objects : Tracked) (bearers : Bearers) (r : Option TrackedHandle) (g : Option Handle) → IsSlotOn objects bearers r g →
+slot-known : (objects : Objects) (bearers : Bearers) (r : Option TrackedHandle) (g : Option Handle) → IsSlotOn objects bearers r g →
     (h : TrackedHandle) → r ≡ Some h → IsKnown objects h
 slot-known objects bearers None g on h is = cc
 slot-known objects bearers (Some r) None on h is = absurd on
@@ -183,7 +183,7 @@ slot-known objects bearers (Some r) (Some g) on h is =
     by (Some v) (Some w) way x is = let same : v ≡ x = cc in subst (λ (y : Way). IsSome (spot_of objects y.directory)) same way.0
 
 -- so they stay on what they are on where all that was tracked is so still
-pub slot-more : (old new : Tracked) (bearers now : Bearers) → AreSameBearers old bearers now →
+pub slot-more : (old new : Objects) (bearers now : Bearers) → AreSameBearers old bearers now →
     ((n : ℕ) → IsSome (spot_of old n) → IsSome (spot_of new n)) → (r : Option TrackedHandle) (g : Option Handle) →
     IsSlotOn old bearers r g → IsSlotOn new now r g
 slot-more old new bearers now same more r g on =
@@ -198,19 +198,19 @@ law_of_known_slots old new bearers known k i g on =
     (λ h is. record { object = known.opened k i h is; directory = λ w by. known.ways k i h w is by }) on
 
 -- what a descriptor that is open on one side is on, on the other side
-pub tracked-open : (objects : Tracked) (bearers : Bearers) (r : Option TrackedHandle) (g : Handle) → IsSlotOn objects bearers r (Some g) →
+pub tracked-open : (objects : Objects) (bearers : Bearers) (r : Option TrackedHandle) (g : Handle) → IsSlotOn objects bearers r (Some g) →
     (h : TrackedHandle) × (r ≡ Some h) × IsOnNode objects bearers h g
 tracked-open objects bearers None g on = absurd on
 tracked-open objects bearers (Some h) g on = (h, refl, on)
 
 -- and what one that is tracked as open is on, on the machine's
-pub open-tracked : (objects : Tracked) (bearers : Bearers) (h : TrackedHandle) (r : Option Handle) → IsSlotOn objects bearers (Some h) r →
+pub open-tracked : (objects : Objects) (bearers : Bearers) (h : TrackedHandle) (r : Option Handle) → IsSlotOn objects bearers (Some h) r →
     (g : Handle) × (r ≡ Some g) × IsOnNode objects bearers h g
 open-tracked objects bearers h None on = absurd on
 open-tracked objects bearers h (Some g) on = (g, refl, on)
 
 -- where no two tracked objects are one node and descriptors are on the same, a tracked object's node is held exactly where one is on it
-pub held-on : (objects : Tracked) (bearers : Bearers) (handles : TrackedTables) (ks : List Table) →
+pub held-on : (objects : Objects) (bearers : Bearers) (handles : TrackedTables) (ks : List Table) →
     IsDistinct nat_eq (settling.clients_of ks) → ((k i : ℕ) → IsSlotOn objects bearers (tracked_by handles k i) (handle_of ks k i)) →
     ((m n : ℕ) → IsSome (spot_of objects m) → IsSome (spot_of objects n) → bearers m ≡ bearers n → m ≡ n) →
     (n : ℕ) → IsSome (spot_of objects n) → (is_held ks (bearers n) ≡ true) ↔ IsOn handles n

@@ -13,7 +13,7 @@ use Rattle.plain_model.specs.Settling as settling
 use Rattle.plain_model.specs.Subjects.{subjects, rename_subjects}
 use Rattle.plain_model.proofs.Watching.{AllHear-none}
 use Rattle.mount_laws.specs.OpenFiles.{IsLive}
-use Rattle.open_handles.specs.Tracked.{Spot, At, Upper, Nowhere}
+use Rattle.object_table.specs.Objects.{Spot, At, Upper, Nowhere}
 use Rattle.notice_laws.specs.Notified.{Notified, IsAt, IsSlotOn, Tracks, Passes, Resumes}
 use Rattle.notice_laws.specs.Places.{KeepsSlots}
 use Rattle.notice_laws.specs.Steps.{keeps_handles, LawOfStaying, LawOfSilent}

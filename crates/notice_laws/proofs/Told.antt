@@ -17,7 +17,7 @@ use Rattle.plain_model.proofs.Alike.{alike-hearing}
 use Rattle.plain_model.proofs.AlikeKept.{alike-kept}
 use Rattle.plain_model.proofs.Paths.{ids_tell}
 use Rattle.open_handles.specs.declared.tracked_client.Way.{Way}
-use Rattle.open_handles.specs.Tracked.{Tracked, Spot, spot_of}
+use Rattle.object_table.specs.Objects.{Objects, Spot, spot_of}
 use Rattle.notice_laws.specs.Notified.{Notified, AreKnown, Bearers, AreBorne, stands_for, Tracks, Passes, Resumes}
 use Rattle.notice_laws.specs.Objects.{Means, MeansWay}
 use Rattle.notice_laws.specs.Telling.{of_number, in_way, LawOfTold, Tells, Follows}
@@ -26,11 +26,11 @@ use Rattle.notice_laws.proofs.FewerObjects.{one-to-one, alike-known}
 use Rattle.notice_laws.proofs.Staying.{still-given}
 
 -- no number stands for the node
-abbrev pub IsUnknown : Tracked → Bearers → NodeId → Type 0
+abbrev pub IsUnknown : Objects → Bearers → NodeId → Type 0
 IsUnknown objects bearers d = (n : ℕ) → IsSome (spot_of objects n) → bearers n ≢ d
 
 -- watches that are alike are on nodes that have numbers
-unwatched : (objects : Tracked) (bearers : Bearers) (d : NodeId) → IsUnknown objects bearers d → (vs ws : List Watch) →
+unwatched : (objects : Objects) (bearers : Bearers) (d : NodeId) → IsUnknown objects bearers d → (vs ws : List Watch) →
     AllZip (AreAlikeWatches (stands_for objects bearers)) vs ws → list_any (λ w. same_id d w.node) ws ≡ false
 unwatched objects bearers d unknown [] [] alike = refl
 unwatched objects bearers d unknown [] (w ∷ ws) alike = absurd alike
@@ -42,7 +42,7 @@ unwatched objects bearers d unknown (v ∷ vs) (w ∷ ws) alike = elim (cases_Bo
 ]
 
 -- so nobody watches a node that has none
-pub unheard : (objects : Tracked) (bearers : Bearers) (d : NodeId) → IsUnknown objects bearers d → (es fs : List Instance) →
+pub unheard : (objects : Objects) (bearers : Bearers) (d : NodeId) → IsUnknown objects bearers d → (es fs : List Instance) →
     AreAllAlike (stands_for objects bearers) es fs → is_watched fs (On d) ≡ false
 unheard objects bearers d unknown [] [] alike = refl
 unheard objects bearers d unknown [] (f ∷ fs) alike = absurd alike
@@ -55,7 +55,7 @@ unheard objects bearers d unknown (e ∷ es) (f ∷ fs) alike =
 abbrev telling : NodeId → ℕ → ℕ → Option Name → Subject
 telling d bits cookie name = record { aim = On d; bits = bits; cookie = cookie; name = name }
 
-module _ (objects : Tracked) (bearers : Bearers) (es fs : List Instance) (alike : AreAllAlike (stands_for objects bearers) es fs)
+module _ (objects : Objects) (bearers : Bearers) (es fs : List Instance) (alike : AreAllAlike (stands_for objects bearers) es fs)
     (tells : TellsAlike (stands_for objects bearers) es fs) where
   -- a node that no number means is told to nobody
   untold-alike : (d : Option NodeId) (bits : ℕ) → Means objects bearers None d →

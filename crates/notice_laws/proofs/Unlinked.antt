@@ -19,7 +19,7 @@ use Rattle.mount_laws.specs.Paths.{LeadsNoMore}
 use Rattle.mount_laws.proofs.Gone.{law_of_gone}
 use Rattle.mount_laws.proofs.Leading.{law_of_paths}
 use Rattle.mount_laws.proofs.OnePath.{law_of_one_path}
-use Rattle.open_handles.specs.Tracked.{Spot, At, Upper, Nowhere, spot_of}
+use Rattle.object_table.specs.Objects.{Spot, At, Upper, Nowhere, spot_of}
 use Rattle.open_handles.specs.TrackedHandles.{clients_of, tracked_by}
 use Rattle.notice_laws.specs.declared.object.Object.{Object}
 use Rattle.notice_laws.specs.declared.object.Object.TheVariants as object

@@ -10,7 +10,7 @@ use Rattle.plain_model.specs.Machine.{MountOptions, State, opening, instance_of}
 use Rattle.plain_model.specs.Changes.{armed_on, at_client}
 use Rattle.plain_model.specs.Runs.{joined, without_instance, without_table}
 use Rattle.plain_model.specs.Alike.{AnswersAlike}
-use Rattle.open_handles.specs.Tracked.{spot_of}
+use Rattle.object_table.specs.Objects.{spot_of}
 use Rattle.open_handles.specs.TrackedHandles.{clients_of, tracked_by}
 use Rattle.notice_laws.specs.declared.object.Object.{Object}
 use Rattle.notice_laws.specs.Notified.{Notified, AreKnown, stands_for, Tracks, Passes, Resumes}

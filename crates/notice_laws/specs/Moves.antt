@@ -8,7 +8,7 @@ use Rattle.plain_model.specs.Watching.{ATTRIB, MOVED_FROM, MOVED_TO, MOVE_SELF, 
 use Rattle.plain_model.specs.Machine.{State, look, same_found}
 use Rattle.open_handles.specs.declared.tracked_client.TrackedHandle.{TrackedHandle}
 use Rattle.open_handles.specs.declared.tracked_client.Way.{Way}
-use Rattle.open_handles.specs.Tracked.{Spot, At, Upper, Nowhere, spot_of}
+use Rattle.object_table.specs.Objects.{Spot, At, Upper, Nowhere, spot_of}
 use Rattle.open_handles.specs.TrackedHandles.{TrackedTables, clients_of, tracked_by, came_by, re_way_of}
 use Rattle.notice_laws.specs.declared.object.Object.{Object}
 use Rattle.notice_laws.specs.declared.object.Object.TheVariants as object

@@ -21,13 +21,13 @@ use Rattle.mount_laws.specs.OpenFiles.{IsLive}
 use Rattle.open_handles.specs.declared.tracked_client.TrackedHandle.{TrackedHandle}
 use Rattle.open_handles.specs.declared.tracked_client.Way.{Way}
 use Rattle.notice_laws.specs.declared.pin.Pin.{Pin}
-use Rattle.open_handles.specs.Tracked.{Tracked, Spot, At, Upper, Nowhere, spot_of}
+use Rattle.object_table.specs.Objects.{Objects, Spot, At, Upper, Nowhere, spot_of}
 use Rattle.open_handles.specs.TrackedHandles.{TrackedTables, clients_of, tracked_by}
 
 -- What is kept for watches: the tracked objects, what each handle is on, the instances of the clients, whose watches are on the objects of
 -- numbers, how many renames moved something, and what a rename that is under way holds.
 pub record Notified : Type 0 where
-  pub objects : Tracked
+  pub objects : Objects
   pub handles : TrackedTables
   pub instances : List Instance
   pub renames : ℕ
@@ -57,30 +57,30 @@ IsAt U t (Upper key) d = IsLive U t d key × (p : Path) × (node_at t p ≡ Some
 IsAt U t Nowhere d = IsHidden t d × (count_of (t d) ≡ 0)
 
 -- Each tracked object is a node that was there before the next serial, is where the node is, and no two are one.
-pub record AreBorne (U : Layer) (t : Tree) (serial : ℕ) (objects : Tracked) (bearers : Bearers) : Type 0 where
+pub record AreBorne (U : Layer) (t : Tree) (serial : ℕ) (objects : Objects) (bearers : Bearers) : Type 0 where
   pub places : (n : ℕ) (spot : Spot) → spot_of objects n ≡ Some spot → IsAt U t spot (bearers n)
   pub given : (n i : ℕ) → IsSome (spot_of objects n) → bearers n ≡ New i → i < serial
   pub one : (m n : ℕ) → IsSome (spot_of objects m) → IsSome (spot_of objects n) → bearers m ≡ bearers n → m ≡ n
 
 -- the number of a tracked object, as watches have it, stands for its node
-abbrev pub stands_for : Tracked → Bearers → Identities
+abbrev pub stands_for : Objects → Bearers → Identities
 stands_for objects bearers a d = (n : ℕ) × (a ≡ New n) × IsSome (spot_of objects n) × (bearers n ≡ d)
 
 -- a way in is the machine's: the number of its directory stands for the machine's node, and the name is the same
-abbrev pub IsWay : Tracked → Bearers → Option Way → Option (NodeId × Name) → Type 0
+abbrev pub IsWay : Objects → Bearers → Option Way → Option (NodeId × Name) → Type 0
 IsWay objects bearers None None = Unit {0}
 IsWay objects bearers (Some v) (Some w) = IsSome (spot_of objects v.directory) × (bearers v.directory ≡ w.0) × (v.name ≡ w.1)
 IsWay objects bearers None (Some w) = ⊥
 IsWay objects bearers (Some v) None = ⊥
 
 -- what a handle is on is the node of the machine's handle, and so is its way in
-pub record IsOnNode (objects : Tracked) (bearers : Bearers) (h : TrackedHandle) (g : Handle) : Type 0 where
+pub record IsOnNode (objects : Objects) (bearers : Bearers) (h : TrackedHandle) (g : Handle) : Type 0 where
   pub known : IsSome (spot_of objects h.object)
   pub node : bearers h.object ≡ g.node
   pub way : IsWay objects bearers h.way g.way
 
 -- a descriptor is free on both sides, or open on both, and on the same
-abbrev pub IsSlotOn : Tracked → Bearers → Option TrackedHandle → Option Handle → Type 0
+abbrev pub IsSlotOn : Objects → Bearers → Option TrackedHandle → Option Handle → Type 0
 IsSlotOn objects bearers None None = Unit {0}
 IsSlotOn objects bearers (Some h) (Some g) = IsOnNode objects bearers h g
 IsSlotOn objects bearers None (Some g) = ⊥

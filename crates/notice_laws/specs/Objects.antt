@@ -8,7 +8,7 @@ use Rattle.plain_model.specs.Machine.{State}
 use Rattle.plain_model.specs.Changes.{way_of}
 use Rattle.mount_laws.specs.Looks.{IsMountOf, shows_link}
 use Rattle.open_handles.specs.declared.tracked_client.Way.{Way}
-use Rattle.open_handles.specs.Tracked.{Tracked, Spot, At, Upper, spot_of, IsVacant}
+use Rattle.object_table.specs.Objects.{Objects, Spot, At, Upper, spot_of, IsVacant}
 use Rattle.notice_laws.specs.declared.object.Object.{Object}
 use Rattle.notice_laws.specs.declared.object.Object.TheVariants as object
 use Rattle.notice_laws.specs.Notified.{Bearers, AreBorne}
@@ -36,32 +36,32 @@ IsObject U lowers p object.Directory = is_directory (shows 0 (U ∷ lowers) p) �
 IsObject U lowers p object.Other = (is_none (shows 0 (U ∷ lowers) p) ≡ true) ⊎ (shows_link (shows 0 (U ∷ lowers) p) ≡ true)
 
 -- the number of what is tracked at a spot, where something is
-abbrev pub IsNumberAt : Tracked → Spot → Option ℕ → Type 0
+abbrev pub IsNumberAt : Objects → Spot → Option ℕ → Type 0
 IsNumberAt objects spot (Some n) = spot_of objects n ≡ Some spot
 IsNumberAt objects spot None = IsVacant objects spot
 
 -- the number of what is tracked at a path: of a file of the upper by its key, of what is neither none
-abbrev pub IsNumberOf : Tracked → Path → Object → Option ℕ → Type 0
+abbrev pub IsNumberOf : Objects → Path → Object → Option ℕ → Type 0
 IsNumberOf objects p (object.Upper key last) r = IsNumberAt objects (Upper key) r
 IsNumberOf objects p object.Lower r = IsNumberAt objects (At p) r
 IsNumberOf objects p object.Directory r = IsNumberAt objects (At p) r
 IsNumberOf objects p object.Other r = r ≡ None
 
 -- the way in to a path, where its directory is tracked; the root has none
-abbrev pub IsWayTo : Tracked → Path → Option Way → Type 0
+abbrev pub IsWayTo : Objects → Path → Option Way → Type 0
 IsWayTo objects [] r = r ≡ None
 IsWayTo objects (n ∷ p) None = IsVacant objects (At p)
 IsWayTo objects (n ∷ p) (Some w) = (spot_of objects w.directory ≡ Some (At p)) × (w.name ≡ n)
 
 -- a number stands for a node, and where there is none, no tracked object is the node
-abbrev pub Means : Tracked → Bearers → Option ℕ → Option NodeId → Type 0
+abbrev pub Means : Objects → Bearers → Option ℕ → Option NodeId → Type 0
 Means objects bearers (Some n) (Some d) = IsSome (spot_of objects n) × (bearers n ≡ d)
 Means objects bearers None (Some d) = (n : ℕ) → IsSome (spot_of objects n) → bearers n ≢ d
 Means objects bearers None None = Unit {0}
 Means objects bearers (Some n) None = ⊥
 
 -- a way stands for the machine's, and where there is none, no tracked object is its directory
-abbrev pub MeansWay : Tracked → Bearers → Option Way → Option (NodeId × Name) → Type 0
+abbrev pub MeansWay : Objects → Bearers → Option Way → Option (NodeId × Name) → Type 0
 MeansWay objects bearers (Some v) (Some w) = IsSome (spot_of objects v.directory) × (bearers v.directory ≡ w.0) × (v.name ≡ w.1)
 MeansWay objects bearers None (Some w) = (n : ℕ) → IsSome (spot_of objects n) → bearers n ≢ w.0
 MeansWay objects bearers None None = Unit {0}
@@ -76,12 +76,12 @@ IsShownIn U lowers (n ∷ p) = is_directory (shows 0 (U ∷ lowers) p) ≡ true
 abbrev pub LawOfNumbers : Type 0
 LawOfNumbers =
     (U : Layer) (lowers : List Layer) (s : State) → IsMountOf U lowers s →
-    (objects : Tracked) (bearers : Bearers) → AreBorne U s.tree s.serial objects bearers →
+    (objects : Objects) (bearers : Bearers) → AreBorne U s.tree s.serial objects bearers →
     (p : Path) (o : Object) (r : Option ℕ) → IsObject U lowers p o → IsNumberOf objects p o r → Means objects bearers r (node_at s.tree p)
 
 -- and so is the way in to a path whose directory is shown
 abbrev pub LawOfWayNumbers : Type 0
 LawOfWayNumbers =
     (U : Layer) (lowers : List Layer) (s : State) → IsMountOf U lowers s →
-    (objects : Tracked) (bearers : Bearers) → AreBorne U s.tree s.serial objects bearers →
+    (objects : Objects) (bearers : Bearers) → AreBorne U s.tree s.serial objects bearers →
     (p : Path) (r : Option Way) → IsShownIn U lowers p → IsWayTo objects p r → MeansWay objects bearers r (way_of s.tree p)

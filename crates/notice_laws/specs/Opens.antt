@@ -1,5 +1,5 @@
 -- What an open tells by numbers, and how numbers come to be held and are let go (inotify(7), `IN_OPEN` and `IN_CREATE`).
-use Rattle.std.specs.Prelude.{◌≡◌, ◌≢◌, ℕ, Bool, true, false, cond, List, [], ◌∷◌, ◌++◌, Option, None, Some, IsSome, ◌<◌}
+use Rattle.std.specs.Prelude.{◌≡◌, ◌≢◌, ℕ, Bool, true, false, cond, List, [], ◌∷◌, ◌++◌, Option, None, Some}
 use Rattle.ov_base.specs.declared.call.Call.TheVariants.{Open}
 use Rattle.ov_base.specs.declared.call.OpenFlags.{OpenFlags}
 use Rattle.plain_model.specs.Layers.{Path, Layer, shows}
@@ -8,7 +8,7 @@ use Rattle.plain_model.specs.Watching.{MODIFY, OPEN, CREATE, Rule, AllHear}
 use Rattle.plain_model.specs.Machine.{State, lowest_free}
 use Rattle.mount_laws.specs.Looks.{IsMountOf, shows_link}
 use Rattle.open_handles.specs.declared.tracked_client.Way.{Way}
-use Rattle.open_handles.specs.Tracked.{Tracked, Spot, At, Upper, spot_of, next_of, Holds}
+use Rattle.object_table.specs.Objects.{Objects, Spot, At, Upper, spot_of, Holds}
 use Rattle.open_handles.specs.TrackedHandles.{SetsTracked}
 use Rattle.notice_laws.specs.declared.object.Object.{Object}
 use Rattle.notice_laws.specs.declared.object.Object.TheVariants as object
@@ -21,22 +21,21 @@ use Rattle.notice_laws.specs.Steps.{Lifts, IsLifted, IsSpotOf}
 abbrev pub LawOfHeldNumber : Type 0
 LawOfHeldNumber =
     (U : Layer) (lowers : List Layer) (s : State) → IsMountOf U lowers s → (k : Notified) → Tracks U s k →
-    ((m : ℕ) → IsSome (spot_of k.objects m) → m < next_of k.objects) →
     (p : Path) (o : Object) (spot : Spot) → IsObject U lowers p o → shows_link (shows 0 (U ∷ lowers) p) ≡ false → IsSpotOf p o spot →
-    (objects : Tracked) (n : ℕ) → Holds k.objects objects spot n → Tracks U s (record k { objects = objects })
+    (objects : Objects) (n : ℕ) → Holds k.objects objects spot n → Tracks U s (record k { objects = objects })
 
 -- each object that is tracked still is where it was
-abbrev pub AreFewer : Tracked → Tracked → Type 0
+abbrev pub AreFewer : Objects → Objects → Type 0
 AreFewer old new = (n : ℕ) (spot : Spot) → spot_of new n ≡ Some spot → spot_of old n ≡ Some spot
 
 -- objects that no watch and no handle needs may be let go
 abbrev pub LawOfFewerNumbers : Type 0
 LawOfFewerNumbers =
-    (U : Layer) (s : State) (k : Notified) → Tracks U s k → (objects : Tracked) → AreFewer k.objects objects →
+    (U : Layer) (s : State) (k : Notified) → Tracks U s k → (objects : Objects) → AreFewer k.objects objects →
     AreKnown (record k { objects = objects }) → Tracks U s (record k { objects = objects })
 
 -- the way in to a path, by the number of its directory, which is tracked; the root has none
-abbrev pub IsHeldWay : Tracked → Path → Option Way → Type 0
+abbrev pub IsHeldWay : Objects → Path → Option Way → Type 0
 IsHeldWay objects [] r = r ≡ None
 IsHeldWay objects (n ∷ p) None = ⊥
 IsHeldWay objects (n ∷ p) (Some w) = (spot_of objects w.directory ≡ Some (At p)) × (w.name ≡ n)

@@ -12,7 +12,7 @@ use Rattle.plain_model.specs.Settling as settling
 use Rattle.mount_laws.specs.Looks.{IsMountOf, IsHidden}
 use Rattle.mount_laws.specs.Nodes.{HaveOneName, touched_by, loses, names_lost}
 use Rattle.open_handles.specs.declared.tracked_client.TrackedHandle.{TrackedHandle}
-use Rattle.open_handles.specs.Tracked.{Tracked, At, Upper, Nowhere, spot_of}
+use Rattle.object_table.specs.Objects.{Objects, At, Upper, Nowhere, spot_of}
 use Rattle.open_handles.specs.TrackedHandles.{IsOn, tracked_by}
 use Rattle.notice_laws.specs.declared.object.Object.{Object}
 use Rattle.notice_laws.specs.declared.object.Object.TheVariants as object
@@ -61,7 +61,7 @@ LawOfLastName =
 -- a call that opens, closes and moves nothing leaves descriptors on what they were
 pub record KeepsSlots (s : State) (c : ℕ) (call : Call) : Type 0 where
   pub slots :
-      (objects : Tracked) (bearers : Bearers) (r : Option TrackedHandle) (k i : ℕ) →
+      (objects : Objects) (bearers : Bearers) (r : Option TrackedHandle) (k i : ℕ) →
       IsSlotOn objects bearers r (handle_of s.tables k i) → IsSlotOn objects bearers r (handle_of (tables_after s c call) k i)
   pub clients : settling.clients_of (tables_after s c call) ≡ settling.clients_of s.tables
 

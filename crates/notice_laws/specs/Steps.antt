@@ -12,7 +12,7 @@ use Rattle.mount_laws.specs.OpenFiles.{IsLive}
 use Rattle.ov_base.specs.declared.node_id.NodeId.{NodeId}
 use Rattle.open_handles.specs.declared.tracked_client.TrackedHandle.{TrackedHandle}
 use Rattle.open_handles.specs.declared.tracked_client.Way.{Way}
-use Rattle.open_handles.specs.Tracked.{Tracked, Spot, At, Upper, Nowhere, spot_of}
+use Rattle.object_table.specs.Objects.{Objects, Spot, At, Upper, Nowhere, spot_of}
 use Rattle.open_handles.specs.TrackedHandles.{TrackedTables, SetsTracked, tracked_by}
 use Rattle.notice_laws.specs.declared.object.Object.{Object}
 use Rattle.notice_laws.specs.declared.object.Object.TheVariants as object
@@ -55,7 +55,7 @@ Lifts p (object.Upper k last) key was spot = spot ≡ was
 Lifts p object.Other key was spot = spot ≡ was
 
 -- where a file of a lower layer that is tracked stood at p, the upper V shows it under this key now
-abbrev pub IsLifted : Tracked → Layer → List Layer → Path → Object → ℕ → Type 0
+abbrev pub IsLifted : Objects → Layer → List Layer → Path → Object → ℕ → Type 0
 IsLifted objects V lowers p object.Lower key = (n : ℕ) → spot_of objects n ≡ Some (At p) → (last : Bool) × IsObject V lowers p (object.Upper key last)
 IsLifted objects V lowers p object.Directory key = Unit {0}
 IsLifted objects V lowers p (object.Upper k last) key = Unit {0}

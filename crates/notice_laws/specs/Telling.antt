@@ -12,7 +12,7 @@ use Rattle.plain_model.specs.Subjects as told
 use Rattle.plain_model.specs.Subjects.{subjects}
 use Rattle.plain_model.specs.Alike.{AreAllAlike, AreToldAlike}
 use Rattle.open_handles.specs.declared.tracked_client.Way.{Way}
-use Rattle.open_handles.specs.Tracked.{Tracked, Spot, spot_of}
+use Rattle.object_table.specs.Objects.{Objects, Spot, spot_of}
 use Rattle.open_handles.specs.TrackedHandles.{TrackedTables, IsOn, clients_of, tracked_by}
 use Rattle.notice_laws.specs.declared.object.Object.{Object}
 use Rattle.notice_laws.specs.declared.object.Object.TheVariants as object
@@ -45,7 +45,7 @@ marks (object.Upper key last) bits = bits
 marks object.Other bits = bits
 
 -- What the numbers mean is told alike: objects, and names in directories, are told to the same watches on both sides.
-pub record TellAlike (objects : Tracked) (bearers : Bearers) (es fs : List Instance) : Type 0 where
+pub record TellAlike (objects : Objects) (bearers : Bearers) (es fs : List Instance) : Type 0 where
   pub node :
       (r : Option ℕ) (d : Option NodeId) (bits : ℕ) → Means objects bearers r d →
       AreToldAlike (stands_for objects bearers) es fs (of_number r bits) (told.of_node d bits)
@@ -64,7 +64,7 @@ pub record TellAlike (objects : Tracked) (bearers : Bearers) (es fs : List Insta
 -- so it is where the instances are alike
 abbrev pub LawOfTold : Type 0
 LawOfTold =
-    (U : Layer) (s : State) (objects : Tracked) (bearers : Bearers) (es fs : List Instance) →
+    (U : Layer) (s : State) (objects : Objects) (bearers : Bearers) (es fs : List Instance) →
     AreBorne U s.tree s.serial objects bearers → AreAllAlike (stands_for objects bearers) es fs → TellAlike objects bearers es fs
 
 -- Subjects are told: the watches that they end are gone, and objects that nobody needs any more are tracked no more. An object that is

@@ -1,5 +1,5 @@
 -- How many watch an object that one client armed, and what was held for it.
-use Rattle.std.proofs.Common.{◌≡◌, ◌≢◌, ℕ, ◌+◌, ◌-◌, ◌≤◌, ◌<◌, Bool, true, false, cond, ◌||◌, ◌⊎◌, inl, inr, List, [], ◌∷◌, Option, None, Some, IsSome, Result, Ok, Err, refl, sym, ap, subst, ◌∙◌, arith, nat_eq, eqb-true, eq-eqb}
+use Rattle.std.proofs.Common.{◌≡◌, ◌≢◌, ℕ, ◌+◌, ◌-◌, ◌≤◌, Bool, true, false, cond, ◌||◌, ◌⊎◌, inl, inr, List, [], ◌∷◌, Option, None, Some, Result, Ok, Err, refl, sym, ap, subst, ◌∙◌, arith, nat_eq, eqb-true, eq-eqb}
 use Rattle.std.specs.Prelude.{◌↔◌, IfOk, IfErr, OnOk, OnErr}
 use Rattle.std.proofs.lemmas.Bool.{false≢true, cases_Bool}
 use Rattle.ov_base.specs.declared.node_id.NodeId.TheVariants.{New}
@@ -8,7 +8,7 @@ use Rattle.ov_base.specs.declared.errno.Errno.{Errno}
 use Rattle.plain_model.specs.Layers.{Path}
 use Rattle.plain_model.specs.Watching.{Instance}
 use Rattle.plain_model.specs.Changes.{armed_on, at_client}
-use Rattle.open_handles.specs.Tracked.{Tracked, Spot, spot_of, holders_of, next_of, spot_left, SetsSpot, Holds}
+use Rattle.object_table.specs.Objects.{Objects, Spot, spot_of, holders_of, spot_left, SetsSpot, Holds}
 use Rattle.watch_table.specs.Clients.{AreRising, clients_of}
 use Rattle.watch_table.specs.Listening.{is_on}
 use Rattle.watch_table.proofs.Clients.{IsAbsent, above-absent, absent-at_client, nat_ne}
@@ -104,7 +104,7 @@ ne : (m n : ℕ) → nat_eq m n ≡ false → m ≢ n
 ne m n f same = false≢true (sym f ∙ eq-eqb m n same)
 
 -- what one holder more has of an object of which some let go
-module _ (old held new : Tracked) (spot : Spot) (o less : ℕ) (holds : Holds old held spot o)
+module _ (old held new : Objects) (spot : Spot) (o less : ℕ) (holds : Holds old held spot o)
     (lets : SetsSpot held new o (spot_left (holders_of held o - less) (spot_of held o)) (holders_of held o - less)) where
   -- no more is tracked
   pub lets-fewer : AreFewer held new
@@ -134,9 +134,8 @@ module _ (old held new : Tracked) (spot : Spot) (o less : ℕ) (holds : Holds ol
   ]
 
   -- where just that holder lets go, each object is where it was
-  pub lets-alike : ((n : ℕ) → (spot_of old n ≡ None) ↔ (holders_of old n ≡ 0)) → ((n : ℕ) → IsSome (spot_of old n) → n < next_of old) →
-      less ≡ 1 → (n : ℕ) → spot_of new n ≡ spot_of old n
-  lets-alike counted given one n = elim (cases_Bool (nat_eq n o)) [
+  pub lets-alike : ((n : ℕ) → (spot_of old n ≡ None) ↔ (holders_of old n ≡ 0)) → less ≡ 1 → (n : ℕ) → spot_of new n ≡ spot_of old n
+  lets-alike counted one n = elim (cases_Bool (nat_eq n o)) [
     | inl q ↦ subst (λ k. spot_of new k ≡ spot_of old k) (sym (eqb-true n o q)) (lets.here ∙ here)
     | inr f ↦ lets.other_spots n (ne n o f) ∙ holds.sets.other_spots n (ne n o f)
   ]
@@ -152,12 +151,8 @@ module _ (old held new : Tracked) (spot : Spot) (o less : ℕ) (holds : Holds ol
           some h = cc
       back r is (inr none) = ap (λ b. cond b None (Some spot)) (eq-eqb (holders_of old o) 0 (is.0 none)) ∙ sym none
 
-      unknown : (r : Option Spot) → (IsSome r → o < next_of old) → o ≡ next_of old → r ≡ None
-      unknown None h e = refl
-      unknown (Some at) h e = let below = h refl in absurd (omega arith)
-
       was : (spot_of old o ≡ Some spot) ⊎ (spot_of old o ≡ None)
-      was = elim holds.was [ inl a ↦ inl a.0 | inr b ↦ inr (unknown (spot_of old o) (given o) b.1) ]
+      was = elim holds.was [ inl a ↦ inl a | inr b ↦ inr b.1 ]
 
       here : spot_left (holders_of held o - less) (spot_of held o) ≡ spot_of old o
       here =
@@ -165,7 +160,7 @@ module _ (old held new : Tracked) (spot : Spot) (o less : ℕ) (holds : Holds ol
           ∙ back (spot_of old o) (counted o) was
 
 -- a slot is armed on what is held
-pub arms-at : (old new : Notified) (held : Tracked) (c slot mask number : ℕ) (p : Path) (o : Object) → HoldsObject old.objects held p o number →
+pub arms-at : (old new : Notified) (held : Objects) (c slot mask number : ℕ) (p : Path) (o : Object) → HoldsObject old.objects held p o number →
     AreFewer held new.objects → new.handles ≡ old.handles → new.renames ≡ old.renames → (r : Result (Result ℕ Errno) AllocError) →
     IfOk r (λ outcome. IfOk outcome (λ n. n ≡ watch_of old c number)) →
     IfOk r (λ outcome. OnOk outcome (new.instances ≡ at_client c (armed_on slot (Some (New number)) mask) old.instances)) →
@@ -188,7 +183,7 @@ arms-at old new held c slot mask number p o at fewer handles renames (Ok (Err e)
 arms-at old new held c slot mask number p o at fewer handles renames (Err f) given armed allowed = tt
 
 -- or refused
-pub refused-at : (old : Notified) (held : Tracked) (c slot number : ℕ) (p : Path) (o : Object) → HoldsObject old.objects held p o number →
+pub refused-at : (old : Notified) (held : Objects) (c slot number : ℕ) (p : Path) (o : Object) → HoldsObject old.objects held p o number →
     (r : Result (Result ℕ Errno) AllocError) → IfOk r (λ outcome. IfErr outcome (λ e. refusal_of old c slot number ≡ Some e)) →
     IfOk r (λ outcome. IfErr outcome (IsArmRefused old c slot p o))
 refused-at old held c slot number p o at (Ok (Ok n)) refused = tt

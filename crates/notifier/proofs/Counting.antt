@@ -8,7 +8,7 @@ use Rattle.plain_model.specs.Watching.{Rule, Subject, Instance, On, AllHear}
 use Rattle.plain_model.specs.Alike.{is_watched}
 use Rattle.open_handles.specs.declared.tracked_client.TrackedHandle.{TrackedHandle}
 use Rattle.open_handles.specs.declared.tracked_client.Way.{Way}
-use Rattle.open_handles.specs.Tracked.{Tracked, Spot, spot_of, holders_of}
+use Rattle.object_table.specs.Objects.{Objects, Spot, spot_of, holders_of}
 use Rattle.open_handles.specs.TrackedHandles.{handle_uses, tracked_by, uses, way_uses}
 use Rattle.watch_table.specs.Listening.{is_on}
 use Rattle.notice_laws.specs.Notified.{Notified, AreKnown}
@@ -16,7 +16,7 @@ use Rattle.notifier.specs.Notifying.{AreCounted, watchers, pinned_times}
 use Rattle.notifier.proofs.Hearing.{AreSpared, fewer-watch, others-watch}
 
 -- what somebody holds is tracked
-held-some : (t : Tracked) (n : ℕ) → ((spot_of t n ≡ None) ↔ (holders_of t n ≡ 0)) → 0 < holders_of t n → IsSome (spot_of t n)
+held-some : (t : Objects) (n : ℕ) → ((spot_of t n ≡ None) ↔ (holders_of t n ≡ 0)) → 0 < holders_of t n → IsSome (spot_of t n)
 held-some t n counted held = by (spot_of t n) counted
   where
     by : (spot : Option Spot) → (spot ≡ None) ↔ (holders_of t n ≡ 0) → IsSome spot
@@ -73,7 +73,7 @@ ne : (m n : ℕ) → nat_eq m n ≡ false → m ≢ n
 ne m n f same = false≢true (sym f ∙ eq-eqb m n same)
 
 -- the holders are counted still, where those let go whose watches ended
-module _ (shows : Rule) (s : Subject) (o : ℕ) (old : Notified) (fs : List Instance) (t : Tracked) (hears : AllHear shows (s ∷ []) old.instances fs) where
+module _ (shows : Rule) (s : Subject) (o : ℕ) (old : Notified) (fs : List Instance) (t : Objects) (hears : AllHear shows (s ∷ []) old.instances fs) where
   pub counted-told : ((n : ℕ) → n ≢ o → AreSpared s n old.instances) → AreCounted old →
       holders_of t o ≡ holders_of old.objects o - (watchers old.instances o - watchers fs o) →
       ((n : ℕ) → n ≢ o → holders_of t n ≡ holders_of old.objects n) →

@@ -6,7 +6,7 @@ use Rattle.plain_model.specs.Layers.{Name, Path}
 use Rattle.open_handles.specs.declared.tracked_client.TrackedHandle.{TrackedHandle}
 use Rattle.open_handles.specs.declared.tracked_client.Way.{Way}
 use Rattle.open_handles.specs.Descriptors.{opened}
-use Rattle.open_handles.specs.Tracked.{Tracked, Spot, At, Upper, Nowhere, SameSpots, spot_of}
+use Rattle.object_table.specs.Objects.{Objects, Spot, At, Upper, Nowhere, SameSpots, spot_of}
 use Rattle.open_handles.specs.TrackedHandles.{TrackedTable, TrackedTables, came_by, handles_by, re_way_of, slot_came_by, slots_of, tracked_by}
 use Rattle.notice_laws.specs.Moves.{NoneCame, ReWays}
 use Rattle.notice_laws.specs.Notified.{Notified}
@@ -81,7 +81,7 @@ same-way : (v w : Way) → v.directory ≡ w.directory → v.name ≡ w.name →
 same-way v w d n i = record { directory = d i; name = n i }
 
 -- WHAT IS FOUND IS FOUND ONCE: no two numbers are at one spot
-module _ (t : Tracked) (one : (spot : Spot) (m n : ℕ) → spot ≢ Nowhere → spot_of t m ≡ Some spot → spot_of t n ≡ Some spot → m ≡ n) where
+module _ (t : Objects) (one : (spot : Spot) (m n : ℕ) → spot ≢ Nowhere → spot_of t m ≡ Some spot → spot_of t n ≡ Some spot → m ≡ n) where
   at-one : (spot : Spot) → spot ≢ Nowhere → (a b : Option ℕ) → IsNumberAt t spot a → IsNumberAt t spot b → a ≡ b
   at-one spot there None None x y = refl
   at-one spot there None (Some n) x y = absurd (x n y)
@@ -122,7 +122,7 @@ pin-for k p q o one pinned number from to found left entered =
     (way-one k.objects one p pinned.from from pinned.left left) (pinned.pin to entered)
 
 -- what was tracked is at its spot still
-module _ (old new : Tracked) (kept : (n : ℕ) (spot : Spot) → spot_of old n ≡ Some spot → spot_of new n ≡ Some spot) where
+module _ (old new : Objects) (kept : (n : ℕ) (spot : Spot) → spot_of old n ≡ Some spot → spot_of new n ≡ Some spot) where
   number-kept : (p : Path) (o : Object) (n : ℕ) → IsNumberOf old p o (Some n) → IsNumberOf new p o (Some n)
   number-kept p object.Directory n x = kept n (At p) x
   number-kept p object.Lower n x = kept n (At p) x
@@ -134,7 +134,7 @@ module _ (old new : Tracked) (kept : (n : ℕ) (spot : Spot) → spot_of old n �
   way-kept (n ∷ p) w x = (kept w.directory (At p) x.0, x.1)
 
 -- so is what some handle came by
-pub led-kept : (old new : Tracked) → ((n : ℕ) (spot : Spot) → spot_of old n ≡ Some spot → spot_of new n ≡ Some spot) → (p : Path) (o : Object)
+pub led-kept : (old new : Objects) → ((n : ℕ) (spot : Spot) → spot_of old n ≡ Some spot → spot_of new n ≡ Some spot) → (p : Path) (o : Object)
     (number : Option ℕ) (ks : TrackedTables) (from : Option Way) → 0 < led_by ks number from → IsNumberOf old p o number → IsNumberOf new p o number
 led-kept old new kept p o None ks from some found = absurd (omega arith)
 led-kept old new kept p o (Some n) ks from some found = number-kept old new kept p o n found
@@ -166,7 +166,7 @@ some-pinned old new p q o (Some n) (Some v) kept found left some same pin = reco
 }
 
 -- WHERE SPOTS STAY so does what is found, and what is held is right still
-module _ (old new : Tracked) (same : SameSpots old new) where
+module _ (old new : Objects) (same : SameSpots old new) where
   at-same : (spot : Spot) (r : Option ℕ) → IsNumberAt old spot r → IsNumberAt new spot r
   at-same spot None x = λ n is. x n (sym (same.spots n) ∙ is)
   at-same spot (Some n) x = same.spots n ∙ x
@@ -187,7 +187,7 @@ module _ (old new : Tracked) (same : SameSpots old new) where
   way-back (n ∷ p) None x = λ m is. x m (same.spots m ∙ is)
   way-back (n ∷ p) (Some w) x = (sym (same.spots w.directory) ∙ x.0, x.1)
 
-pub same-pinned : (old : Notified) (t : Tracked) (p q : Path) (o : Object) → SameSpots old.objects t → IsPinned old p q o →
+pub same-pinned : (old : Notified) (t : Objects) (p q : Path) (o : Object) → SameSpots old.objects t → IsPinned old p q o →
     IsPinned (record old { objects = t }) p q o
 same-pinned old t p q o same pinned = record {
   number = pinned.number;

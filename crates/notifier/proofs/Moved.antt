@@ -5,24 +5,43 @@ use Rattle.std.proofs.lemmas.Bool.{cases_eq}
 use Rattle.plain_model.specs.Layers.{Path}
 use Rattle.plain_model.specs.Laws.{IsOutside}
 use Rattle.plain_model.proofs.Paths.{place}
-use Rattle.open_handles.specs.Tracked.{Tracked, Spot, At, Upper, Nowhere, IsVacant, MovesSpots, NoneBelow, SameSpots, SetsSpot, holders_of, spot_of}
+use Rattle.object_table.specs.Objects.{Objects, Spot, At, Upper, Nowhere, IsBare, IsVacant, MovesSpots, NoneBelow, SameSpots, SetsSpot, holders_of, spot_of}
 use Rattle.notice_laws.specs.declared.object.Object.{Object}
 use Rattle.notice_laws.specs.declared.object.Object.TheVariants as object
 use Rattle.notice_laws.specs.Moves.{Moves, Goes, Rises, Lost, Rests}
 use Rattle.notice_laws.specs.Objects.{IsNumberAt, IsNumberOf}
 use Rattle.notice_laws.specs.Steps.{IsSpotOf, Lifts, Loses, is_last_name}
-use Rattle.notifier.specs.Notifying.{Becomes}
+use Rattle.notifier.specs.Notifying.{Becomes, IsBareAt}
 use Rattle.notifier.specs.Moving.{IsFreeFor, MayHold}
 
 -- what has a number is tracked
-pub number-there : (t : Tracked) (p : Path) (o : Object) (r : Option ℕ) (n : ℕ) → r ≡ Some n → IsNumberOf t p o r → IsSome (spot_of t n)
+pub number-there : (t : Objects) (p : Path) (o : Object) (r : Option ℕ) (n : ℕ) → r ≡ Some n → IsNumberOf t p o r → IsSome (spot_of t n)
 number-there t p object.Directory r n is h = ap is_some (subst (IsNumberAt t (At p)) is h)
 number-there t p object.Lower r n is h = ap is_some (subst (IsNumberAt t (At p)) is h)
 number-there t p (object.Upper key last) r n is h = ap is_some (subst (IsNumberAt t (Upper key)) is h)
 number-there t p object.Other r n is h = absurd (let z : Some n ≡ None = sym is ∙ h in cc)
 
+-- what is at a bare path may leave it
+pub spot-bare : (t : Objects) (p : Path) (n : ℕ) → IsBareAt t p → spot_of t n ≡ Some (At p) → IsBare t n
+spot-bare t p n bare here q at =
+    let is : Some (At p) ≡ Some (At q) = sym here ∙ at in
+    let same : p ≡ q = cc in
+    subst (IsBareAt t) same bare
+
+-- so may what has the number that is found there
+pub number-bare : (t : Objects) (p : Path) (o : Object) (r : Option ℕ) (n : ℕ) → IsBareAt t p → r ≡ Some n → IsNumberOf t p o r → IsBare t n
+number-bare t p object.Directory r n bare is h = spot-bare t p n bare (subst (IsNumberAt t (At p)) is h)
+number-bare t p object.Lower r n bare is h = spot-bare t p n bare (subst (IsNumberAt t (At p)) is h)
+number-bare t p (object.Upper key last) r n bare is h = λ q at.
+    absurd (let z : Some (Upper key) ≡ Some (At q) = sym (subst (IsNumberAt t (Upper key)) is h) ∙ at in cc)
+number-bare t p object.Other r n bare is h = absurd (let z : Some n ≡ None = sym is ∙ h in cc)
+
+-- what is at a path is no file of the upper
+pub path-low : (t : Objects) (p : Path) (n key : ℕ) → spot_of t n ≡ Some (At p) → spot_of t n ≢ Some (Upper key)
+path-low t p n key here up = let z : Some (At p) ≡ Some (Upper key) = sym here ∙ up in cc
+
 -- what loses a name was where it is, or is nowhere
-lost-there : (q : Path) (e : Object) (old mid : Tracked) → Becomes (Loses q e) old mid → (n : ℕ) (spot : Spot) → spot ≢ Nowhere →
+lost-there : (q : Path) (e : Object) (old mid : Objects) → Becomes (Loses q e) old mid → (n : ℕ) (spot : Spot) → spot ≢ Nowhere →
     spot_of mid n ≡ Some spot → spot_of old n ≡ Some spot
 lost-there q e old mid lost n spot there is =
     let was = lost n spot is in
@@ -46,7 +65,7 @@ file-spot p q object.Other e key was mid spot file (inl gone) same = Lost gone.0
 file-spot p q object.Other e key was mid spot file (inr there) same = Rests (λ x. cc) (λ x. cc) there.0 (same ∙ there.1)
 
 -- what moves has the number that was found
-module _ (p q : Path) (e : Object) (key : ℕ) (old mid : Tracked) (lost : Becomes (Loses q e) old mid) where
+module _ (p q : Path) (e : Object) (key : ℕ) (old mid : Objects) (lost : Becomes (Loses q e) old mid) where
   -- a file that isn't copied up, or isn't tracked, stays where it is
   pub left-spots : (o : Object) → o ≢ object.Directory → (o ≡ object.Lower → IsVacant old (At p)) → Becomes (Moves p q o e key) old mid
   left-spots o file none n spot is =
@@ -59,6 +78,18 @@ module _ (p q : Path) (e : Object) (key : ℕ) (old mid : Tracked) (lost : Becom
       by (object.Upper k last) free = refl
       by object.Other free = refl
 
+  -- what was at a bare path may leave it still
+  pub bare-risen : IsBareAt old p → (n : ℕ) → spot_of old n ≡ Some (At p) → IsBare mid n
+  bare-risen bare n at = λ x there.
+      let is : Some (At p) ≡ Some (At x) = sym at ∙ lost-there q e old mid lost n (At x) (λ z. cc) there in
+      let same : p ≡ x = cc in
+      subst (IsBareAt mid) same
+      (bare.0, λ m name r below. bare.1 m name r (lost-there q e old mid lost m (At (name ∷ (r ++ p))) (λ z. cc) below))
+
+  -- and it is no file of the upper
+  pub low-risen : (n k : ℕ) → spot_of old n ≡ Some (At p) → spot_of mid n ≢ Some (Upper k)
+  low-risen n k at up = path-low old p n k at (lost-there q e old mid lost n (Upper k) (λ z. cc) up)
+
   -- its key is free then
   pub free-risen : IsFreeFor old p q object.Lower e key → (n : ℕ) → spot_of old n ≡ Some (At p) → IsVacant mid (Upper key)
   free-risen free n at m up =
@@ -66,13 +97,13 @@ module _ (p q : Path) (e : Object) (key : ℕ) (old mid : Tracked) (lost : Becom
       elim was.2 [
         | inl gone ↦ (let z : Upper key ≡ Nowhere = gone.2 in cc)
         | inr same ↦
-            (let here = free n at m (was.1 ∙ ap Some (sym same.1)) in
+            (let here = (free n at).0 m (was.1 ∙ ap Some (sym same.1)) in
             same.0 here.0 (subst (IsSpotOf q e) same.1 here.1))
       ]
 
   -- one of a lower layer is in the upper
   pub risen-spots :
-      (m : ℕ) → spot_of old m ≡ Some (At p) → ((n : ℕ) → spot_of old n ≡ Some (At p) → n ≡ m) → (new : Tracked) (count : ℕ) →
+      (m : ℕ) → spot_of old m ≡ Some (At p) → ((n : ℕ) → spot_of old n ≡ Some (At p) → n ≡ m) → (new : Objects) (count : ℕ) →
       SetsSpot mid new m (Some (Upper key)) count → Becomes (Moves p q object.Lower e key) old new
   risen-spots m at one new count sets n spot is = elim (cases_eq n m) [
     | inl same ↦
@@ -90,7 +121,7 @@ module _ (p q : Path) (e : Object) (key : ℕ) (old mid : Tracked) (lost : Becom
 
 -- one of a lower layer moved, tracked or not
 pub lifted :
-    (p q : Path) (e : Object) (key : ℕ) (old mid new : Tracked) → Becomes (Loses q e) old mid →
+    (p q : Path) (e : Object) (key : ℕ) (old mid new : Objects) → Becomes (Loses q e) old mid →
     ((spot : Spot) (m n : ℕ) → spot ≢ Nowhere → spot_of old m ≡ Some spot → spot_of old n ≡ Some spot → m ≡ n) →
     (number : Option ℕ) → IsNumberOf old p object.Lower number →
     IfSome number (λ m. SetsSpot mid new m (Some (Upper key)) (holders_of mid m)) → (number ≡ None → new ≡ mid) →
@@ -102,7 +133,7 @@ lifted p q e key old mid new lost one (Some m) found rises none =
     risen-spots p q e key old mid lost m found (λ n at. one (At p) n m (λ x. cc) at found) new (holders_of mid m) rises
 
 -- A DIRECTORY MOVES with what is below it, and a directory is replaced, or nothing
-module _ (old new : Tracked) (p q : Path) (e : Object) (key : ℕ) (moves : MovesSpots old new p q) (below : NoneBelow old q)
+module _ (old new : Objects) (p q : Path) (e : Object) (key : ℕ) (moves : MovesSpots old new p q) (below : NoneBelow old q)
     (replaced : (e ≡ object.Directory) ⊎ ((e ≡ object.Other) × IsVacant old (At q))) where
   abbrev To : Spot → Spot → Type 0
   To = Moves p q object.Directory e key
@@ -167,7 +198,7 @@ module _ (old new : Tracked) (p q : Path) (e : Object) (key : ℕ) (moves : Move
           cc
 
 -- WHERE SPOTS STAY what may be held is held still
-pub held-same : (a b c : Tracked) (q : Path) → MayHold a b q → SameSpots b c → MayHold a c q
+pub held-same : (a b c : Objects) (q : Path) → MayHold a b q → SameSpots b c → MayHold a c q
 held-same a b c [] few same = λ n spot is. few n spot (sym (same.spots n) ∙ is)
 held-same a b c (k ∷ q) (inl few) same = inl (λ n spot is. few n spot (sym (same.spots n) ∙ is))
 held-same a b c (k ∷ q) (inr more) same = inr (record {

@@ -10,7 +10,7 @@ use Rattle.plain_model.specs.Tree.{same_id}
 use Rattle.plain_model.specs.Watching.{Instance, Watch}
 use Rattle.plain_model.specs.Machine.{instance_of, watches_of}
 use Rattle.plain_model.proofs.Paths.{ids_tell}
-use Rattle.open_handles.specs.Tracked.{Tracked, SetsSpot, holders_of, spot_left, spot_of}
+use Rattle.object_table.specs.Objects.{Objects, SetsSpot, holders_of, spot_left, spot_of}
 use Rattle.watch_table.specs.Clients.{AreRising, clients_of}
 use Rattle.watch_table.specs.Listening.{is_on}
 use Rattle.watch_table.proofs.Clients.{above-absent, absent-instance_of}
@@ -82,7 +82,7 @@ watchers-apart n c (e ∷ es) h = by (nat_eq e.client c) refl (watchers-apart n 
         omega arith
 
 -- what nobody holds any more is where it was no more; all else is where it was
-pub fewer-left : (old new : Tracked) (o count : ℕ) → SetsSpot old new o (spot_left count (spot_of old o)) count → AreFewer old new
+pub fewer-left : (old new : Objects) (o count : ℕ) → SetsSpot old new o (spot_left count (spot_of old o)) count → AreFewer old new
 fewer-left old new o count sets n spot at = elim (cases_Bool (nat_eq n o)) [
   | inl q ↦ subst (λ x. spot_of old x ≡ Some spot) (sym (eqb-true n o q))
       (by (nat_eq count 0) (sym sets.here ∙ subst (λ x. spot_of new x ≡ Some spot) (eqb-true n o q) at))
@@ -97,7 +97,7 @@ fewer-left old new o count sets n spot at = elim (cases_Bool (nat_eq n o)) [
     by false is = is
 
 -- the object of one watch more is held by one less
-pub one-less : (first old new : Tracked) (ws : List Watch) (w : Watch) (o : ℕ) → w.node ≡ New o → is_on o ws ≡ false → 0 < holders_of old o →
+pub one-less : (first old new : Objects) (ws : List Watch) (w : Watch) (o : ℕ) → w.node ≡ New o → is_on o ws ≡ false → 0 < holders_of old o →
     ((n : ℕ) → holders_of old n + cond (is_on n ws) 1 0 ≡ holders_of first n) →
     SetsSpot old new o (spot_left (holders_of old o - 1) (spot_of old o)) (holders_of old o - 1) →
     (n : ℕ) → holders_of new n + cond (is_on n (ws ++ w ∷ [])) 1 0 ≡ holders_of first n

@@ -5,7 +5,7 @@ use Rattle.std.proofs.lemmas.Bool.{false≢true}
 use Rattle.ov_base.specs.Cookies.{cookie_of}
 use Rattle.plain_model.specs.Watching.{ATTRIB, MOVED_FROM, MOVED_TO, MOVE_SELF, Rule, Subject, AllHear}
 use Rattle.plain_model.proofs.Watching.{AllHear-none}
-use Rattle.open_handles.specs.Tracked.{Spot, Nowhere, spot_of}
+use Rattle.object_table.specs.Objects.{Spot, Nowhere, spot_of}
 use Rattle.open_handles.specs.declared.tracked_client.Way.{Way}
 use Rattle.notice_laws.specs.Moves.{of_move, of_replaced}
 use Rattle.notice_laws.specs.Notified.{Notified}

@@ -5,7 +5,7 @@ use Rattle.ov_base.specs.declared.node_id.NodeId.TheVariants.{New}
 use Rattle.plain_model.specs.Layers.{Path}
 use Rattle.plain_model.specs.Machine.{instance_of, watches_of, armed_of, watch_on}
 use Rattle.plain_model.specs.Replies.{number_of, next_number}
-use Rattle.open_handles.specs.Tracked.{Tracked, spot_of}
+use Rattle.object_table.specs.Objects.{Objects, spot_of}
 use Rattle.watch_table.specs.Listening.{arm_refusal}
 use Rattle.notice_laws.specs.declared.object.Object.{Object}
 use Rattle.notice_laws.specs.Clients.{Armed}
@@ -23,7 +23,7 @@ watch_of k c number = number_of (watch_on (watches_of (instance_of k.instances c
 
 -- A client's slot is armed on what stands at p, which is held for it first, and n is the watch's number.
 pub record ArmsAt (old new : Notified) (c slot mask : ℕ) (p : Path) (o : Object) (n : ℕ) : Type 0 where
-  pub held : Tracked
+  pub held : Objects
   pub arms : Armed (record old { objects = held }) new c slot mask p o
   pub holds : HoldsObject old.objects held p o arms.number
   pub allowed : refusal_of old c slot arms.number ≡ None
@@ -31,12 +31,12 @@ pub record ArmsAt (old new : Notified) (c slot mask : ℕ) (p : Path) (o : Objec
 
 -- an arm of what stands at p through a client's slot is refused, by the number under which it would be held
 pub record IsArmRefused (old : Notified) (c slot : ℕ) (p : Path) (o : Object) (e : Errno) : Type 0 where
-  pub held : Tracked
+  pub held : Objects
   pub number : ℕ
   pub holds : HoldsObject old.objects held p o number
   pub refused : refusal_of old c slot number ≡ Some e
 
--- each object is where it was; a number may have been given and let go again
+-- each object is where it was
 pub record IsLeft (old new : Notified) : Type 0 where
   pub spots : (n : ℕ) → spot_of new.objects n ≡ spot_of old.objects n
   pub rest : new ≡ record old { objects = new.objects }

@@ -1,9 +1,9 @@
 -- What a rename holds beforehand, and when it takes no memory.
-use Rattle.std.specs.Prelude.{◌≡◌, ◌≢◌, ◌⊎◌, ℕ, suc, zero, ◌+◌, ◌<◌, ◌^◌, true, [], ◌∷◌, Option, None, Some}
+use Rattle.std.specs.Prelude.{◌≡◌, ◌⊎◌, ℕ, suc, zero, ◌+◌, ◌<◌, ◌^◌, true, [], ◌∷◌, Option, None, Some}
 use Rattle.plain_model.specs.Layers.{Path}
 use Rattle.plain_model.specs.Laws.{IsOutside}
 use Rattle.open_handles.specs.declared.tracked_client.Way.{Way}
-use Rattle.open_handles.specs.Tracked.{Tracked, At, Holds, IsPrepared, IsVacant, NoneBelow, Upper, spot_of}
+use Rattle.object_table.specs.Objects.{Objects, At, Holds, IsPrepared, IsVacant, Upper, spot_of}
 use Rattle.open_handles.specs.TrackedHandles.{TrackedTables, handles_by}
 use Rattle.notice_laws.specs.declared.object.Object.{Object}
 use Rattle.notice_laws.specs.declared.object.Object.TheVariants as object
@@ -12,7 +12,7 @@ use Rattle.notice_laws.specs.Notified.{Notified}
 use Rattle.notice_laws.specs.Objects.{IsNumberOf, IsWayTo}
 use Rattle.notice_laws.specs.Opens.{AreFewer}
 use Rattle.notice_laws.specs.Steps.{IsSpotOf, is_last_name}
-use Rattle.notifier.specs.Notifying.{HasRoom}
+use Rattle.notifier.specs.Notifying.{HasRoom, IsBareAt}
 
 -- how many handles are on the object of a number by exactly this way
 abbrev pub led_by : TrackedTables → Option ℕ → Option Way → ℕ
@@ -41,36 +41,34 @@ pub record IsReady (k : Notified) (p q : Path) (o : Object) : Type 0 where
   pub room : HasRoom k.objects p o
   pub prepared : o ≡ object.Directory → IsPrepared k.objects p q
 
--- A directory may take the place q from p, where e stands: not the root's, none below itself, and nothing is tracked below it. A directory
--- is replaced, or nothing.
+-- A directory may take the place q from p, where e stands: it is none below itself, and a directory is replaced, or nothing.
 pub record IsPlaceFor (k : Notified) (p q : Path) (e : Object) : Type 0 where
-  pub not_root : q ≢ []
   pub apart : IsOutside p q
-  pub below : NoneBelow k.objects q
   pub replaced : (e ≡ object.Directory) ⊎ ((e ≡ object.Other) × IsVacant k.objects (At q))
 
--- Nothing is tracked under the key by which a file of a lower layer comes from p to q, but what is replaced there and has no other name.
-abbrev pub IsFreeFor : Tracked → Path → Path → Object → Object → ℕ → Type 0
+-- Nothing is tracked below a file of a lower layer that comes from p to q, nor under the key by which it comes there, but what is replaced
+-- and has no other name.
+abbrev pub IsFreeFor : Objects → Path → Path → Object → Object → ℕ → Type 0
 IsFreeFor objects p q object.Lower e key =
-    (n : ℕ) → spot_of objects n ≡ Some (At p) → (m : ℕ) → spot_of objects m ≡ Some (Upper key) →
-    (is_last_name e ≡ true) × IsSpotOf q e (Upper key)
+    (n : ℕ) → spot_of objects n ≡ Some (At p) →
+    ((m : ℕ) → spot_of objects m ≡ Some (Upper key) → (is_last_name e ≡ true) × IsSpotOf q e (Upper key)) × IsBareAt objects p
 IsFreeFor objects p q object.Directory e key = Unit {0}
 IsFreeFor objects p q (object.Upper k last) e key = Unit {0}
 IsFreeFor objects p q object.Other e key = Unit {0}
 
 -- one may hold what is at a path, and nothing else is tracked that wasn't
-pub record HoldsMore (old new : Tracked) (p : Path) : Type 0 where
-  pub held : Tracked
+pub record HoldsMore (old new : Objects) (p : Path) : Type 0 where
+  pub held : Objects
   pub number : ℕ
   pub holds : Holds old held (At p) number
   pub fewer : AreFewer held new
 
 -- more may hold what is at a path, and nothing else is tracked that wasn't
-abbrev pub MayHoldAt : Tracked → Tracked → Path → Type 0
+abbrev pub MayHoldAt : Objects → Objects → Path → Type 0
 MayHoldAt old new p = AreFewer old new ⊎ HoldsMore old new p
 
 -- so it is with the directory of a path
-abbrev pub MayHold : Tracked → Tracked → Path → Type 0
+abbrev pub MayHold : Objects → Objects → Path → Type 0
 MayHold old new [] = AreFewer old new
 MayHold old new (n ∷ p) = MayHoldAt old new p
 

@@ -1,8 +1,8 @@
 -- What is counted of what a mount keeps for watches, and what its steps make of it.
-use Rattle.std.specs.Prelude.{◌≡◌, ℕ, ◌+◌, ◌<◌, true, false, cond, List, Option, None, Some, count_by, nat_eq}
+use Rattle.std.specs.Prelude.{◌≡◌, ◌≢◌, ℕ, ◌+◌, ◌<◌, true, false, cond, List, [], Option, None, Some, count_by, nat_eq}
 use Rattle.plain_model.specs.Layers.{Path}
 use Rattle.plain_model.specs.Watching.{MOVES, OTHERS, Instance, Rule, Subject, AllHear, is_one_of}
-use Rattle.open_handles.specs.Tracked.{Tracked, Spot, At, Upper, spot_of, holders_of, room, IsVacant}
+use Rattle.object_table.specs.Objects.{Objects, Spot, At, Upper, spot_of, holders_of, room, IsVacant, NoneBelow}
 use Rattle.open_handles.specs.TrackedHandles.{clients_of, tracked_by, uses}
 use Rattle.watch_table.specs.Listening.{is_on}
 use Rattle.notice_laws.specs.declared.object.Object.{Object}
@@ -37,25 +37,29 @@ pub record IsTold (shows : Rule) (old new : Notified) (ss : List Subject) : Type
   pub renames : new.renames ≡ old.renames
 
 -- there is room for a file of a lower layer that is tracked at a path to come into the upper
-abbrev pub HasRoom : Tracked → Path → Object → Type 0
+abbrev pub HasRoom : Objects → Path → Object → Type 0
 HasRoom objects p object.Lower = (n : ℕ) → spot_of objects n ≡ Some (At p) → 0 < room objects
 HasRoom objects p object.Directory = Unit {0}
 HasRoom objects p (object.Upper key last) = Unit {0}
 HasRoom objects p object.Other = Unit {0}
 
--- nothing is tracked under the key by which such a file comes there
-abbrev pub IsFree : Tracked → Path → Object → ℕ → Type 0
-IsFree objects p object.Lower key = (n : ℕ) → spot_of objects n ≡ Some (At p) → IsVacant objects (Upper key)
+-- a path isn't the root's, and nothing is tracked below it, as below a file or a directory without names
+abbrev pub IsBareAt : Objects → Path → Type 0
+IsBareAt objects p = (p ≢ []) × NoneBelow objects p
+
+-- nothing is tracked under the key by which such a file comes there, nor below the file
+abbrev pub IsFree : Objects → Path → Object → ℕ → Type 0
+IsFree objects p object.Lower key = (n : ℕ) → spot_of objects n ≡ Some (At p) → IsVacant objects (Upper key) × IsBareAt objects p
 IsFree objects p object.Directory key = Unit {0}
 IsFree objects p (object.Upper k last) key = Unit {0}
 IsFree objects p object.Other key = Unit {0}
 
 -- a file of a lower layer that is tracked at a path may come into the upper under a key
-abbrev pub MayLift : Tracked → Path → Object → ℕ → Type 0
+abbrev pub MayLift : Objects → Path → Object → ℕ → Type 0
 MayLift objects p o key = HasRoom objects p o × IsFree objects p o key
 
 -- each object that is tracked still was tracked, and its spot became what a change makes of it
-abbrev pub Becomes : (Spot → Spot → Type 0) → Tracked → Tracked → Type 0
+abbrev pub Becomes : (Spot → Spot → Type 0) → Objects → Objects → Type 0
 Becomes becomes old new = (n : ℕ) (spot : Spot) → spot_of new n ≡ Some spot → (was : Spot) × (spot_of old n ≡ Some was) × becomes was spot
 
 -- all is as before: what is tracked, what descriptors are on, and what clients watch

@@ -1,7 +1,7 @@
 // What changes of attributes and further names tell.
 ghost use Rattle.std.specs.Prelude.{◌≡◌, OnOk, Some};
 ghost use Rattle.plain_model.specs.Layers.{Path as Names};
-ghost use Rattle.open_handles.specs.Tracked.{SameSpots};
+ghost use Rattle.object_table.specs.Objects.{SameSpots};
 ghost use Rattle.notice_laws.specs.Objects.{IsNumberOf};
 ghost use Rattle.notice_laws.specs.Steps.{Altered, Lifts, Linked};
 ghost use Rattle.notifier.specs.Notifying.{Becomes, HasRoom, IsFree, MayLift};

@@ -4,7 +4,7 @@ ghost use Rattle.std.specs.List.{IsDistinct};
 ghost use Rattle.plain_model.specs.Tree.{same_id};
 ghost use Rattle.plain_model.specs.Machine.{instance_of};
 ghost use Rattle.plain_model.specs.Replies.{queue_of};
-ghost use Rattle.open_handles.specs.Tracked.{holders_of};
+ghost use Rattle.object_table.specs.Objects.{holders_of};
 ghost use Rattle.open_handles.specs.TrackedHandles.{is_tracked, tracked_by};
 ghost use Rattle.watch_table.specs.Listening.{is_on};
 ghost use Rattle.notice_laws.specs.Clients.{Departs, Joins, Mutes, Takes};
@@ -12,13 +12,13 @@ ghost use Rattle.notice_laws.specs.Opens.{AreFewer};
 ghost use Rattle.notifier.specs.Notifying.{IsAsBefore};
 
 use crate::kept::Notifier;
-use open_handles::TrackedObjects;
+use object_table::ObjectTable;
 use ov_base::{Errno, Notices};
 use std::alloc::{AllocError, Global};
 use watch_table::{Callback, HOOKS_MAX, Hook, NotAttached, Rule, Watch};
 
 // Lets go what watches held that ended: each one its object.
-fn release_each(objects: &mut TrackedObjects, ended: &[Watch])
+fn release_each(objects: &mut ObjectTable, ended: &[Watch])
     requires apart { IsDistinct same_id (map (λ w. w.node) ended.now) }
     requires held { (n : ℕ) → is_on n ended.now ≡ true → 0 < holders_of objects.old n }
     ensures held { (n : ℕ) → holders_of objects.new n + cond (is_on n ended.now) 1 0 ≡ holders_of objects.old n }

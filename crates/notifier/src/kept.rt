@@ -3,7 +3,7 @@ ghost use Rattle.std.specs.Prelude.{◌≡◌, ℕ, ◌+◌, [], ◌∷◌, ◌�
 ghost use Rattle.ov_base.specs.declared.node_id.NodeId.TheVariants.{New};
 ghost use Rattle.plain_model.specs.Watching.{IsSubject};
 ghost use Rattle.plain_model.specs.Watching as plain;
-ghost use Rattle.open_handles.specs.Tracked.{Nowhere, Upper, Spot, spot_of, holders_of, next_of, room, IsVacant, SameSpots, SetsSpot};
+ghost use Rattle.object_table.specs.Objects.{Nowhere, Upper, Spot, spot_of, holders_of, room, IsBare, IsVacant, SameSpots, SetsSpot};
 ghost use Rattle.open_handles.specs.TrackedHandles.{IsOn, SetsTracked, slot_uses, tracked_by, uses};
 ghost use Rattle.notice_laws.specs.Notified.{AreKnown};
 ghost use Rattle.notice_laws.specs.Objects.{IsNumberOf, IsWayTo};
@@ -13,7 +13,8 @@ ghost use Rattle.notifier.specs.Notifying.{AreCounted, IsTold};
 ghost use Rattle.notifier.specs.Opening.{AreHeld};
 
 use notice_laws::{Object, Pin};
-use open_handles::{TrackedHandle, TrackedHandles, TrackedObjects, Way};
+use object_table::ObjectTable;
+use open_handles::{TrackedHandle, TrackedHandles, Way};
 use ov_base::{EventName, Path};
 use std::alloc::{AllocError, Global};
 use std::hash::RandomState;
@@ -25,7 +26,7 @@ use watch_table::{Aim, Callback, Rule, Subject, WatchTable};
 /// handle on it, and for each handle that was opened by a way in it; and beforehand for each that a rename leads to a way in it.
 #[derive(Drop)]
 pub struct Notifier<F: Callback, R: Rule> {
-    pub(crate) objects: TrackedObjects,
+    pub(crate) objects: ObjectTable,
     pub(crate) handles: TrackedHandles,
     pub(crate) watches: WatchTable<F, R>,
     pub(crate) renames: u64,
@@ -39,9 +40,9 @@ impl<F: Callback, R: Rule> Model for Notifier<F, R> {
     ghost Value = { Notified };
 
     ghost use Rattle.std.specs.Coded.{codes};
-    ghost use Rattle.open_handles.specs.Tracked.{tracked_code};
+    ghost use Rattle.object_table.specs.Objects.{objects_code};
 
-    ghost coded = { Prim.hlevel (codes, tracked_code) };
+    ghost coded = { Prim.hlevel (codes, objects_code) };
 
     ghost view = { λ k. record { objects = k.objects; handles = k.handles; instances = k.watches; renames = k.renames; pinned = k.pinned } };
 
@@ -57,7 +58,7 @@ impl<F: Callback, R: Rule> Notifier<F, R> {
         ensures renames { IfOk result (λ k. k.renames ≡ 0) }
         ensures unpinned { IfOk result (λ k. k.pinned ≡ None) }
     {
-        let objects = TrackedObjects::new(alloc, keys)?;
+        let objects = ObjectTable::new(alloc, keys)?;
         objects.lawful();
         Ok(Notifier {
             objects,
@@ -73,7 +74,6 @@ impl<F: Callback, R: Rule> Notifier<F, R> {
         ensures known { AreKnown self.now }
         ensures counts { AreCounted self.now }
         ensures held { AreHeld self.now.objects }
-        ensures given { (n : ℕ) → IsSome (spot_of self.now.objects n) → n < next_of self.now.objects }
         ensures one_there { (spot : Spot) (m n : ℕ) → spot ≢ Nowhere → spot_of self.now.objects m ≡ Some spot → spot_of self.now.objects n ≡ Some spot → m ≡ n }
     {
         self.objects.lawful();
@@ -158,9 +158,7 @@ impl<F: Callback, R: Rule> Notifier<F, R> {
             name,
         };
         let ended = self.watches.tell_watchers(object, &subject);
-        if ended > 0 {
-            self.objects.release(object, ended);
-        }
+        self.objects.release(object, ended);
     }
 
     // Closes a client's descriptor, and lets go what it held.
@@ -182,7 +180,8 @@ impl<F: Callback, R: Rule> Notifier<F, R> {
 
     // Tells that the object of a number is under no path any more.
     pub(crate) fn lose(&mut self, number: u64)
-        requires { IsSome (spot_of self.old.objects number) }
+        requires there { IsSome (spot_of self.old.objects number) }
+        requires bare { IsBare self.old.objects number }
         ensures loses { SetsSpot self.old.objects self.new.objects number (Some Nowhere) (holders_of self.old.objects number) }
         ensures room { room self.old.objects ≤ room self.new.objects }
         ensures rest { self.new ≡ record self.old { objects = self.new.objects } }
@@ -193,6 +192,8 @@ impl<F: Callback, R: Rule> Notifier<F, R> {
     // Tells that the object of a number was copied up: it is in the upper under a key now.
     pub(crate) fn rise(&mut self, number: u64, key: usize)
         requires there { IsSome (spot_of self.old.objects number) }
+        requires low { (k : ℕ) → spot_of self.old.objects number ≢ Some (Upper k) }
+        requires bare { IsBare self.old.objects number }
         requires vacant { IsVacant self.old.objects (Upper key) }
         requires room { 0 < room self.old.objects }
         ensures rises { SetsSpot self.old.objects self.new.objects number (Some (Upper key)) (holders_of self.old.objects number) }

@@ -2,14 +2,14 @@
 ghost use Rattle.std.specs.Prelude.{◌≡◌, ◌≢◌, ℕ, suc, ◌+◌, ◌*◌, ◌<◌, ◌^◌, [], None, Some, IsSome, IfSome, OnOk, length, reverse, true};
 ghost use Rattle.ov_base.specs.Cookies as cookies;
 ghost use Rattle.plain_model.specs.Watching.{MOVES, is_one_of};
-ghost use Rattle.open_handles.specs.Tracked.{IsPrepared, IsVacant, SameSpots, SetsSpot, Spot, Upper, holders_of, room, spot_of};
+ghost use Rattle.object_table.specs.Objects.{IsBare, IsPrepared, IsVacant, SameSpots, SetsSpot, Spot, Upper, holders_of, room, spot_of};
 ghost use Rattle.open_handles.specs.TrackedHandles.{clients_of};
 ghost use Rattle.notice_laws.specs.declared.object.Object.TheVariants as objects;
 ghost use Rattle.notice_laws.specs.Moves.{Moved, Moves, ReWays, of_replaced};
 ghost use Rattle.notice_laws.specs.Objects.{IsNumberOf};
 ghost use Rattle.notice_laws.specs.Opens.{AreFewer};
 ghost use Rattle.notice_laws.specs.Telling.{in_way};
-ghost use Rattle.notifier.specs.Notifying.{Becomes, HasRoom, IsTold};
+ghost use Rattle.notifier.specs.Notifying.{Becomes, HasRoom, IsBareAt, IsTold};
 ghost use Rattle.notifier.specs.Moving.{IsFreeFor, IsPin, IsPinOf, IsPinned, IsPlaceFor, IsReady, MayHold, MayHoldAt, led_by};
 
 use crate::bits::{ATTRIB, MOVE_SELF, MOVED_FROM, MOVED_TO};
@@ -151,6 +151,7 @@ impl<F: Callback, R: Rule> Notifier<F, R> {
         requires found { IsNumberOf self.old.objects old.now object course.now.number }
         requires present { IsNumberOf self.old.objects new.now replaced course.now.replaced }
         requires ready { IsReady self.old old.now new.now object }
+        requires bare { IsBareAt self.old.objects new.now }
         requires free { IsFreeFor self.old.objects old.now new.now object replaced key }
         requires place { object ≡ objects.Directory → IsPlaceFor self.old old.now new.now replaced }
         ensures moves { Becomes (Moves old.now new.now object replaced key) self.old.objects self.new.objects }
@@ -170,6 +171,8 @@ impl<F: Callback, R: Rule> Notifier<F, R> {
     // Tells that a file of a lower layer, by its number, was copied up: it is in the upper under a key now.
     fn rise_number(&mut self, number: Option<u64>, key: usize)
         requires there { (n : ℕ) → number ≡ Some n → IsSome (spot_of self.old.objects n) }
+        requires low { (n k : ℕ) → number ≡ Some n → spot_of self.old.objects n ≢ Some (Upper k) }
+        requires bare { (n : ℕ) → number ≡ Some n → IsBare self.old.objects n }
         requires vacant { (n : ℕ) → number ≡ Some n → IsVacant self.old.objects (Upper key) }
         requires room { (n : ℕ) → number ≡ Some n → 0 < room self.old.objects }
         ensures rises { IfSome number (λ n. SetsSpot self.old.objects self.new.objects n (Some (Upper key)) (holders_of self.old.objects n)) }
@@ -244,6 +247,7 @@ impl<F: Callback, R: Rule> Notifier<F, R> {
     /// no memory, which `prepare_move` took.
     pub fn moved(&mut self, old: &Path, new: &Path, object: Object, replaced: Object, key: usize)
         requires ready { IsReady self.old old.now new.now object }
+        requires bare { IsBareAt self.old.objects new.now }
         requires free { IsFreeFor self.old.objects old.now new.now object replaced key }
         requires place { object ≡ objects.Directory → IsPlaceFor self.old old.now new.now replaced }
         ensures { Moved R.shows self.old self.new old.now new.now object replaced key }

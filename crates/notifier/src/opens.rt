@@ -1,14 +1,14 @@
 // What opens take before a mount changes, and what they tell after it.
 ghost use Rattle.std.specs.Prelude.{◌≡◌, ◌≢◌, ◌<◌, ◌≤◌, ◌+◌, ℕ, [], None, Some, IfOk, OnErr, OnOk, IsSome, cond, nat_eq, true};
 ghost use Rattle.open_handles.specs.declared.tracked_client.TrackedHandle.{TrackedHandle};
-ghost use Rattle.open_handles.specs.Tracked.{Upper, IsVacant, SameSpots, holders_of, room};
+ghost use Rattle.object_table.specs.Objects.{At, Holds, Upper, IsVacant, SameSpots, holders_of, room};
 ghost use Rattle.open_handles.specs.TrackedHandles.{handle_uses, is_tracked, tracked_by, way_uses};
 ghost use Rattle.notice_laws.specs.declared.object.Object.TheVariants as stands;
-ghost use Rattle.notifier.specs.Opening.{AreHeld, AreNoMore, HoldsBoth, HoldsFor, HoldsNew, HoldsObject, HoldsWay, IsBack, IsOpenAt, IsReady, IsReadyNew, Readies};
+ghost use Rattle.notifier.specs.Opening.{AreHeld, AreNoMore, HoldsBoth, HoldsFor, HoldsNew, HoldsObject, HoldsWay, IsBack, IsOpenAt, IsOpenNowhere, IsReady, IsReadyNew, Readies};
 ghost use Rattle.plain_model.specs.Layers.{Path as Names};
 ghost use Rattle.notice_laws.specs.Notified.{Notified};
 ghost use Rattle.notice_laws.specs.Objects.{IsNumberOf};
-ghost use Rattle.notice_laws.specs.Opens.{AreFewer, Opened, OpenedNew, opens_to};
+ghost use Rattle.notice_laws.specs.Opens.{AreFewer, IsHeldWay, Opened, OpenedNew, opens_to};
 ghost use Rattle.notice_laws.specs.Telling.{of_both};
 ghost use Rattle.plain_model.specs.Watching.{MODIFY};
 ghost use Rattle.notifier.specs.Notifying.{Becomes, HasRoom, IsTold, MayLift};
@@ -17,16 +17,17 @@ use crate::bits::{self, CREATE, OPEN};
 use crate::kept::Notifier;
 use crate::telling::marks;
 use notice_laws::Object;
-use open_handles::{TrackedHandle, TrackedObjects, Way};
+use object_table::ObjectTable;
+use open_handles::{TrackedHandle, Way};
 use ov_base::{EventName, OpenFlags, Path};
 use std::alloc::AllocError;
 use watch_table::{Callback, Rule};
 
 // Holds the directory of a path, and gives the way in to the path; the root has none.
-fn hold_way(objects: &mut TrackedObjects, path: &Path) -> Result<Option<Way>, AllocError>
+fn hold_way(objects: &mut ObjectTable, path: &Path) -> Result<Option<Way>, AllocError>
     ensures holds { IfOk result (λ way. HoldsWay objects.old objects.new path.now way) }
     ensures held { IfOk result (λ way. HoldsFor objects.old objects.new (λ n. way_uses n way)) }
-    ensures room { 0 < room objects.old → 0 < room objects.new }
+    ensures room { room objects.new ≡ room objects.old }
     ensures err { OnErr result (SameSpots objects.old objects.new) }
 {
     objects.lawful();
@@ -40,17 +41,16 @@ fn hold_way(objects: &mut TrackedObjects, path: &Path) -> Result<Option<Way>, Al
     }))
 }
 
-// Holds what stands at a path for one holder more, and gives its number. It fails only when memory
-// or numbers run out, or where as many hold it as can be counted, and changes nothing then.
+// Holds what stands at a path for one holder more, and gives its number. It fails only when out of
+// memory, or where as many hold it as can be counted, and changes nothing then.
 pub(crate) fn hold_object(
-    objects: &mut TrackedObjects,
+    objects: &mut ObjectTable,
     path: &Path,
     object: Object,
 ) -> Result<u64, AllocError>
     requires { object ≢ stands.Other }
     ensures holds { IfOk result (λ n. HoldsObject objects.old objects.new path.now object n) }
     ensures held { IfOk result (λ n. HoldsFor objects.old objects.new (λ m. cond (nat_eq n m) 1 0)) }
-    ensures room { 0 < room objects.old → 0 < room objects.new }
     ensures err { OnErr result (SameSpots objects.old objects.new) }
 {
     objects.lawful();
@@ -62,8 +62,48 @@ pub(crate) fn hold_object(
     }
 }
 
+// Holds what is at a path whose way in is held: by one step from its directory, and the root, which
+// has no way, by its path.
+fn hold_step(objects: &mut ObjectTable, path: &Path, way: &Option<Way>) -> Result<u64, AllocError>
+    requires { IsHeldWay objects.old path.now way.now }
+    ensures holds { IfOk result (λ n. Holds objects.old objects.new (At path.now) n) }
+    ensures room { room objects.new ≡ room objects.old }
+    ensures err { OnErr result (SameSpots objects.old objects.new) }
+{
+    let Some(way) = way else {
+        return objects.hold_at(path);
+    };
+    match path.split_last() {
+        Some((name, _)) => objects.hold_below(way.directory, name),
+        None => objects.hold_at(path),
+    }
+}
+
+// Holds what stands at a path whose way in is held, as `hold_object` does, without a second walk.
+fn hold_by_way(
+    objects: &mut ObjectTable,
+    path: &Path,
+    way: &Option<Way>,
+    object: Object,
+) -> Result<u64, AllocError>
+    requires stands { object ≢ stands.Other }
+    requires entered { IsHeldWay objects.old path.now way.now }
+    ensures holds { IfOk result (λ n. HoldsObject objects.old objects.new path.now object n) }
+    ensures held { IfOk result (λ n. HoldsFor objects.old objects.new (λ m. cond (nat_eq n m) 1 0)) }
+    ensures room { object ≡ stands.Lower → room objects.new ≡ room objects.old }
+    ensures err { OnErr result (SameSpots objects.old objects.new) }
+{
+    objects.lawful();
+    match object {
+        Object::Upper { key, last: _ } => objects.hold_key(key),
+        Object::Directory => hold_step(objects, path, way),
+        Object::Lower => hold_step(objects, path, way),
+        Object::Other => unreachable!(),
+    }
+}
+
 // Lets the directory of a way go.
-fn release_way(objects: &mut TrackedObjects, way: Option<Way>)
+fn release_way(objects: &mut ObjectTable, way: Option<Way>)
     requires { (n : ℕ) → way_uses n way ≤ holders_of objects.old n }
     ensures fewer { AreFewer objects.old objects.new }
     ensures left { (n : ℕ) → holders_of objects.new n + way_uses n way ≡ holders_of objects.old n }
@@ -75,9 +115,10 @@ fn release_way(objects: &mut TrackedObjects, way: Option<Way>)
     objects.lawful();
 }
 
-// Holds what a handle on what stands at a path uses: the way in, and the object. There is room for this to come into the upper then.
+// Holds what a handle on what stands at a path uses, by one walk: the way in, and the object. There
+// is room for this to come into the upper then.
 fn hold_both(
-    objects: &mut TrackedObjects,
+    objects: &mut ObjectTable,
     path: &Path,
     object: Object,
 ) -> Result<TrackedHandle, AllocError>
@@ -93,7 +134,7 @@ fn hold_both(
     }
     let way = hold_way(objects, path)?;
     objects.lawful();
-    match hold_object(objects, path, object) {
+    match hold_by_way(objects, path, &way, object) {
         Ok(number) => Ok(TrackedHandle {
             object: number,
             way,
@@ -105,14 +146,16 @@ fn hold_both(
     }
 }
 
-// Holds what a handle on a file that is to be made at a path uses: the way in, and a new number. There is room for it in the upper then.
-fn hold_new(objects: &mut TrackedObjects, path: &Path) -> Result<TrackedHandle, AllocError>
+// Holds what a handle on a file that is to be made at a path uses: the way in, and a number that was
+// nobody's. There is room for it in the upper then.
+fn hold_new(objects: &mut ObjectTable, path: &Path) -> Result<TrackedHandle, AllocError>
     ensures holds { IfOk result (λ h. HoldsNew objects.old objects.new path.now h) }
     ensures held { IfOk result (λ h. HoldsFor objects.old objects.new (λ n. handle_uses n h)) }
     ensures room { OnOk result (0 < room objects.new) }
     ensures err { OnErr result (AreNoMore objects.old objects.new) }
 {
     objects.lawful();
+    objects.reserve()?;
     let way = hold_way(objects, path)?;
     objects.lawful();
     match objects.hold_new() {
@@ -222,7 +265,7 @@ impl<F: Callback, R: Rule> Notifier<F, R> {
     /// Notifies that a client opened a file that was made for it, which was prepared; the file is in
     /// the upper under a key. It takes no memory.
     pub fn opened_new(&mut self, client: u64, descriptor: u32, key: usize)
-        requires open { IsSome (tracked_by self.old.handles client descriptor) }
+        requires open { IsOpenNowhere self.old client descriptor }
         requires room { 0 < room self.old.objects }
         requires vacant { IsVacant self.old.objects (Upper key) }
         ensures { (before : Notified) (p : Names) → (ready : IsReadyNew before self.old client descriptor p) → OpenedNew R.shows (record before { objects = ready.holds.mid }) self.new client descriptor p key }

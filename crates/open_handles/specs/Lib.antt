@@ -1,13 +1,6 @@
-pub mod Children
-pub mod Dentries
-pub mod Steps
-pub mod Opened
-pub mod Renames
 pub mod Descriptors
 pub mod Listings
 pub mod Holding
 pub mod FileHolders
 pub mod Places
-pub mod Numbers
 pub mod TrackedHandles
-pub mod Tracked

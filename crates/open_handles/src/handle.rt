@@ -7,7 +7,8 @@ use dir_listing::Cursor;
 use ov_base::NameList;
 use std::alloc::{AllocError, Global};
 
-/// A directory that is open for reading, by its number among the open directories of the mount, and how far it was listed.
+/// A directory that is open for reading, by its number among the open directories of the mount, and
+/// how far it was listed.
 #[derive(Drop)]
 pub struct OpenDirectory {
     pub directory: usize,

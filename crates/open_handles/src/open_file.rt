@@ -10,16 +10,16 @@ pub const FILE_MAX: u64 = 1_048_576;
 /// The greatest place in a file, in bytes: 2^63 - 1, as `off_t` has it.
 pub const PLACE_MAX: u64 = 0x7fff_ffff_ffff_ffff;
 
-/// Where an open file's bytes are: in the upper under a key, or in a lower layer, which never changes (overlayfs.rst, "Non-standard
-/// behavior").
+/// Where an open file's bytes are: in the upper under a key, or in a lower layer, which never
+/// changes (overlayfs.rst, "Non-standard behavior").
 #[derive(Clone, Copy)]
 pub enum FileSource {
     Upper(usize),
     Lower { layer: usize, key: usize },
 }
 
-/// A file that is open, the lower file whose bytes it keeps if it keeps any, its access, and its place
-/// in bytes (POSIX.1-2017, "Open File Description"; overlayfs.rst, "Non-standard behavior").
+/// A file that is open, the lower file whose bytes it keeps if it keeps any, its access, and its
+/// place in bytes (POSIX.1-2017, "Open File Description"; overlayfs.rst, "Non-standard behavior").
 #[derive(Clone, Copy)]
 pub struct OpenFile {
     pub source: FileSource,
@@ -31,7 +31,8 @@ pub struct OpenFile {
 }
 
 impl OpenFile {
-    /// From where a seek counts in a file of so many bytes: its start, its place, or its end. Another whence is EINVAL (lseek(2)).
+    /// From where a seek counts in a file of so many bytes: its start, its place, or its end.
+    /// Another whence is EINVAL (lseek(2)).
     pub fn seek_base(&self, whence: u8, size: usize) -> Result<u64, Errno>
         ensures base { result ≡ base_of self.now.place size whence }
         ensures machine { IfOk result (IsSeekBase self.now.place size whence) }
@@ -44,7 +45,8 @@ impl OpenFile {
         }
     }
 
-    /// Where a write to a file of so many bytes begins: at its end with O_APPEND, else at the place (open(2)).
+    /// Where a write to a file of so many bytes begins: at its end with O_APPEND, else at the place
+    /// (open(2)).
     pub fn write_place(&self, size: usize) -> u64
         ensures place { result ≡ write_begin self.now size }
         ensures machine { IsWritePlace self.now size result }
@@ -66,8 +68,8 @@ pub fn sought(base: u64, offset: i64) -> Result<u64, Errno>
     }
 }
 
-/// How many of so many bytes fit into a file from a place on. EFBIG where there are any and the place is at its most bytes or over
-/// (write(2)).
+/// How many of so many bytes fit into a file from a place on. EFBIG where there are any and the
+/// place is at its most bytes or over (write(2)).
 pub fn fitting(at: u64, count: usize) -> Result<usize, Errno>
     ensures count { result ≡ count_fitting at count }
     ensures within { IfOk result (λ n. n ≤ count) }

@@ -7,8 +7,8 @@ use std::alloc::{AllocError, Global};
 use std::hash::RandomState;
 use std::marker::Model;
 
-/// How many handles hold each file of the upper, by its key. A file that loses its last name is kept as long as a handle holds it
-/// (unlink(2)). Each call takes constant time.
+/// How many handles hold each file of the upper, by its key. A file that loses its last name is
+/// kept as long as a handle holds it (unlink(2)). Each call takes constant time.
 #[derive(Drop)]
 pub struct OpenFiles {
     table: IndexMap<usize, usize, RandomState>,
@@ -52,11 +52,11 @@ impl OpenFiles {
         }
     }
 
-    /// Whether a handle holds a file.
+    /// Whether a handle holds a file. Where none holds any, no key is hashed.
     pub fn is_held(&self, key: usize) -> bool
         ensures { result ≡ nat_lt 0 (file_holders self.now key) }
     {
-        self.holders(key) > 0
+        !self.table.is_empty() && self.holders(key) > 0
     }
 
     /// Whether one handle more on a file can be counted.

@@ -8,8 +8,8 @@ use crate::tracked_client::{TrackedClient, TrackedHandle, Way};
 use std::alloc::{AllocError, Global};
 use std::marker::Model;
 
-/// What the handles of the attached clients are on, and the ways by which they were opened, by the numbers of objects. The clients stand
-/// in the order of their numbers.
+/// What the handles of the attached clients are on, and the ways by which they were opened, by the
+/// numbers of objects. The clients stand in the order of their numbers.
 #[derive(Drop)]
 pub struct TrackedHandles {
     clients: Vec<TrackedClient>,
@@ -130,7 +130,8 @@ impl TrackedHandles {
         any_on(self.clients.as_slice(), object)
     }
 
-    /// How many handles are on an object by exactly this way, at most 64 of each client. It goes through all handles.
+    /// How many handles are on an object by exactly this way, at most 64 of each client. It goes
+    /// through all handles.
     pub fn count_by(&self, object: u64, way: &Way) -> usize
         requires { 64 * length (clients_of self.now) < 2 ^ 64 }
         ensures count { result ≡ handles_by self.now object way.now }

@@ -16,6 +16,8 @@ use Rattle.ov_wire.specs.ManifestLayers.{AreSpelled, IsTold, fault_of, layer_ite
 use Rattle.ov_wire.specs.declared.manifest.fault.ManifestFault.{ManifestFault}
 use Rattle.ov_wire.specs.declared.manifest.fault.ManifestFault.TheVariants as manifest
 use Rattle.ov_server.specs.declared.fault.Fault.TheVariants.{Manifest, Memory}
+use Rattle.merged_lookup.specs.declared.layers.Layers.{Layers}
+use Rattle.ov_server.specs.Mounts.{HoldManifest, told_layers}
 use Rattle.ov_server.specs.Rosters.{Layering}
 use Rattle.ov_server.specs.Faults.{AnswersManifest, IsFaultOf, layering_of, layers_told, manifest_fault}
 
@@ -105,3 +107,28 @@ counted bytes upper lowers o good there p = by (parse_document bytes) upper ther
 pub given_upper : (upper : Option Tree) (read_only : Bool) → read_only ≡ is_none upper → not read_only ≡ is_some upper
 given_upper None read_only e = ap not e
 given_upper (Some U) read_only e = ap not e
+
+-- layers that were made of what a manifest gave hold what its entries say
+told_by : (upper : Option Tree) (lowers : List Tree) (l : Layers) (b : Bool) (items : Items) →
+    IfSome upper (λ given. l.upper ≡ given) → l.lowers.items ≡ lowers → b ≡ is_some upper →
+    AreSpelled (layers_given upper lowers) items → AreSpelled (told_layers b l) items
+told_by None lowers l b items above below has spelled =
+    subst (λ x. AreSpelled (told_layers x l) items) (sym has)
+    (subst (λ (xs : List Tree). AreSpelled (map layer_of xs) items) (sym below) spelled)
+told_by (Some u) lowers l b items above below has spelled =
+    subst (λ x. AreSpelled (told_layers x l) items) (sym has)
+    (subst (λ (x : Tree). AreSpelled (layer_of x ∷ map layer_of l.lowers.items) items) (sym above)
+    (subst (λ (xs : List Tree). AreSpelled (layer_of u ∷ map layer_of xs) items) (sym below) spelled))
+
+pub holds_manifest : (bytes : List ℕ) (upper : Option Tree) (lowers : List Tree) (l : Layers) →
+    IfSome upper (λ given. l.upper ≡ given) → l.lowers.items ≡ lowers →
+    option_map has_upper (parse_document bytes) ≡ Some (is_some upper) →
+    IfSome (parse_document bytes) (λ m. AreSpelled (layers_given upper lowers) (layer_items m)) →
+    HoldManifest bytes l
+holds_manifest bytes upper lowers l above below has spelled = by (parse_document bytes) has spelled
+  where
+    by : (o : Option Members) → option_map has_upper o ≡ Some (is_some upper) →
+        IfSome o (λ m. AreSpelled (layers_given upper lowers) (layer_items m)) →
+        IfSome o (λ m. AreSpelled (told_layers (has_upper m) l) (layer_items m))
+    by None has spelled = tt
+    by (Some m) has spelled = told_by upper lowers l (has_upper m) (layer_items m) above below (cc) spelled

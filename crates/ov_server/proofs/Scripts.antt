@@ -16,7 +16,8 @@ use Rattle.ov_server.specs.declared.fault.DeviceFault.TheVariants.{Stream, Memor
 use Rattle.ov_server.specs.declared.play.PlayFault.{PlayFault}
 use Rattle.ov_server.specs.declared.play.PlayFault.TheVariants.{BadLine, Device}
 use Rattle.ov_server.specs.declared.stage.Stage.{Stage}
-use Rattle.ov_server.specs.Devices.{IsInputFault, IsToldBy, Notes, Reads}
+use Rattle.ov_devices.specs.Devices.{Reads}
+use Rattle.ov_server.specs.Devices.{IsInputFault, IsToldBy, Notes}
 use Rattle.ov_server.specs.Plays.{EndsBy, GoesOn, IsBadOn, IsLineFault, IsPlayFault, IsPlayed, IsRosterOf, IsStreamFault, PlaysLine, TellsPlay, layers_in}
 use Rattle.ov_server.specs.Rosters.{ArePlayed, Layering, LineLeaves, Roster, is_good, nobody}
 use Rattle.ov_server.specs.Scripts.{IsBadLine, IsGoodScript, script_lines}
@@ -240,34 +241,34 @@ module _ (layers : Layering) where
   read_kept None script before after piece begun count m kept never p = plays_kept script before after begun count m kept p
   read_kept (Some n) script before after piece begun count m kept never p = absurd (never n refl)
 
--- ---- the marks of failures
+-- ---- how often devices failed
 
 -- an input that fails
-pub input_stream : (failed output : Bool) (left : ℕ) (fault : DeviceFault) → IsInputFault failed left fault → IsStreamFault failed left output (Device fault)
-input_stream failed output left fault = elim fault as (λ x. IsInputFault failed left x → IsStreamFault failed left output (Device x)) [
+pub input_stream : (failed output reads : ℕ) (fault : DeviceFault) → IsInputFault failed reads fault → IsStreamFault failed reads output (Device fault)
+input_stream failed output reads fault = elim fault as (λ x. IsInputFault failed reads x → IsStreamFault failed reads output (Device x)) [
   | Stream ↦ λ h. elim h [ inl e ↦ inl e | inr e ↦ inr (inl e) ]
   | Memory ↦ λ h. tt
 ]
 
 -- an output that fails
-device_stream : (failed output : Bool) (left : ℕ) (fault : DeviceFault) → IsToldBy output fault → IsStreamFault failed left output (Device fault)
-device_stream failed output left fault = elim fault as (λ x. IsToldBy output x → IsStreamFault failed left output (Device x)) [ Stream ↦ λ h. inr (inr h) | Memory ↦ λ h. tt ]
+device_stream : (failed output reads : ℕ) (fault : DeviceFault) → IsToldBy output fault → IsStreamFault failed reads output (Device fault)
+device_stream failed output reads fault = elim fault as (λ x. IsToldBy output x → IsStreamFault failed reads output (Device x)) [ Stream ↦ λ h. inr (inr h) | Memory ↦ λ h. tt ]
 
-pub output_stream : {T : Type 0} (failed before after : Bool) (left : ℕ) (r : Result T PlayFault) → TellsPlay before after r → IfErr r (IsStreamFault failed left after)
-output_stream failed before after left (Ok x) h = tt
-output_stream failed before after left (Err (BadLine n)) h = tt
-output_stream failed before after left (Err (Device f)) h = device_stream failed after left f h
+pub output_stream : {T : Type 0} (failed before after reads : ℕ) (r : Result T PlayFault) → TellsPlay before after r → IfErr r (IsStreamFault failed reads after)
+output_stream failed before after reads (Ok x) h = tt
+output_stream failed before after reads (Err (BadLine n)) h = tt
+output_stream failed before after reads (Err (Device f)) h = device_stream failed after reads f h
 
-pub error_stream : (T : Type 0) (failed before after : Bool) (left : ℕ) (fault : PlayFault) → TellsPlay {T = T} before after (Err fault) → IsStreamFault failed left after fault
-error_stream T failed before after left (BadLine n) h = tt
-error_stream T failed before after left (Device f) h = device_stream failed after left f h
+pub error_stream : (T : Type 0) (failed before after reads : ℕ) (fault : PlayFault) → TellsPlay {T = T} before after (Err fault) → IsStreamFault failed reads after fault
+error_stream T failed before after reads (BadLine n) h = tt
+error_stream T failed before after reads (Device f) h = device_stream failed after reads f h
 
 -- an output that fails as it hands on
-pub mark_stream : (failed before after : Bool) (left : ℕ) (fault : DeviceFault) → Notes before after fault → IsStreamFault failed left after (Device fault)
-mark_stream failed before after left fault = elim fault as (λ x. Notes before after x → IsStreamFault failed left after (Device x)) [ Stream ↦ λ h. inr (inr h) | Memory ↦ λ h. tt ]
+pub mark_stream : (failed before after reads : ℕ) (fault : DeviceFault) → Notes before after fault → IsStreamFault failed reads after (Device fault)
+mark_stream failed before after reads fault = elim fault as (λ x. Notes before after x → IsStreamFault failed reads after (Device x)) [ Stream ↦ λ h. inr (inr h) | Memory ↦ λ h. tt ]
 
 -- an output that goes well
-pub output_well : {T : Type 0} (first before after : Bool) (P : Type 0) (r : Result T PlayFault) → P → before ≡ first → TellsPlay before after r → OnOk r (P × (after ≡ first))
+pub output_well : {T : Type 0} (first before after : ℕ) (P : Type 0) (r : Result T PlayFault) → P → before ≡ first → TellsPlay before after r → OnOk r (P × (after ≡ first))
 output_well first before after P (Ok x) p same h = (p, h ∙ same)
 output_well first before after P (Err (BadLine n)) p same h = tt
 output_well first before after P (Err (Device f)) p same h = tt

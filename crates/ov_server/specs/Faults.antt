@@ -1,5 +1,5 @@
 -- The faults of the program.
-use Rattle.std.specs.Prelude.{◌≡◌, ℕ, pred, Bool, true, false, cond, List, Some, None, Result, Ok, Err, IsUtf8}
+use Rattle.std.specs.Prelude.{◌≡◌, ℕ, ◌<◌, pred, false, cond, List, Some, None, Result, Ok, Err, IsUtf8}
 use Rattle.std.specs.Option.{option_map_or}
 use Rattle.toml.specs.Data.{Members}
 use Rattle.toml.specs.Parse.{parse_document}
@@ -87,7 +87,7 @@ IsManifestFault (Manifest fault) = Unit {0}
 IsManifestFault Memory = Unit {0}
 IsManifestFault _ = ⊥
 
--- how `show` ends early: also by its output, where that failed
-abbrev pub IsShowFault : Bool → Fault → Type 0
-IsShowFault failed Stream = failed ≡ true
-IsShowFault failed fault = IsManifestFault fault
+-- how `show` ends early: also by its output, where that has failed
+abbrev pub IsShowFault : ℕ → Fault → Type 0
+IsShowFault failures Stream = 0 < failures
+IsShowFault failures fault = IsManifestFault fault

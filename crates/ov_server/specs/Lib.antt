@@ -4,6 +4,7 @@ pub mod Devices
 pub mod Faults
 pub mod Histories
 pub mod Deeds
+pub mod Mounts
 pub mod Objects
 pub mod Plays
 pub mod ProgramHooks

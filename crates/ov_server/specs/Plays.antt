@@ -1,5 +1,5 @@
 -- The place that a play of a script has come to.
-use Rattle.std.specs.Prelude.{◌≡◌, ◌≢◌, ℕ, Bool, true, false, not, List, ◌++◌, length, nat_eq, Result, Ok, Err, ◌⊎◌}
+use Rattle.std.specs.Prelude.{◌≡◌, ◌≢◌, ℕ, ◌<◌, true, false, not, List, ◌++◌, length, nat_eq, Result, Ok, Err, ◌⊎◌}
 use Rattle.std.specs.List.{All}
 use Rattle.ov_script.specs.declared.script.Command.{Command}
 use Rattle.overlay_core.specs.Views.{core_layers, core_read_only, has_client, next_client}
@@ -103,21 +103,21 @@ abbrev pub play_fault : PlayFault → Fault
 play_fault (play.BadLine number) = fault.BadCommand number
 play_fault (play.Device f) = device_fault f
 
--- the mark of the output after a line, and after lines: as it was where all went well, and set where a stream is told at fault
-abbrev pub TellsLine : {T : Type 0} → Bool → Bool → Result T LineFault → Type 0
+-- how often the output has failed before and after a line, and after lines: as often where all went well, and it has where a stream is told at fault
+abbrev pub TellsLine : {T : Type 0} → ℕ → ℕ → Result T LineFault → Type 0
 TellsLine before after (Ok x) = after ≡ before
 TellsLine before after (Err line.BadCommand) = Unit {0}
 TellsLine before after (Err (line.Device f)) = IsToldBy after f
 
-abbrev pub TellsPlay : {T : Type 0} → Bool → Bool → Result T PlayFault → Type 0
+abbrev pub TellsPlay : {T : Type 0} → ℕ → ℕ → Result T PlayFault → Type 0
 TellsPlay before after (Ok x) = after ≡ before
 TellsPlay before after (Err (play.BadLine number)) = Unit {0}
 TellsPlay before after (Err (play.Device f)) = IsToldBy after f
 
--- the play tells a stream at fault only where a mark is set, or no read is left
-abbrev pub IsStreamFault : Bool → ℕ → Bool → PlayFault → Type 0
-IsStreamFault input_failed reads_left output_failed (play.Device Stream) = (input_failed ≡ true) ⊎ ((reads_left ≡ 0) ⊎ (output_failed ≡ true))
-IsStreamFault input_failed reads_left output_failed _ = Unit {0}
+-- the play tells a stream at fault only where a device has failed, or no read is left
+abbrev pub IsStreamFault : ℕ → ℕ → ℕ → PlayFault → Type 0
+IsStreamFault input_failures reads output_failures (play.Device Stream) = (0 < input_failures) ⊎ ((reads ≡ 4294967295) ⊎ (0 < output_failures))
+IsStreamFault input_failures reads output_failures _ = Unit {0}
 
 -- The lines of a script that have ended were played, and left this mount. `begun` is what there is of the next one, and `rest` follows.
 pub record IsPlayed {F G : Type 0} {asks : Callback F} {rule : Rule G} (layers : Layering) (script rest begun : List ℕ) (count : ℕ) (m : Stage F G asks rule) : Type 0 where

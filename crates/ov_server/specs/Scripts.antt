@@ -1,5 +1,5 @@
 -- The lines of a script, and how a play of them ends.
-use Rattle.std.specs.Prelude.{◌≡◌, ℕ, ◌+◌, Bool, true, false, List, ◌∷◌, ◌++◌, length, nat_eq, Option, IfSome, ◌⊎◌}
+use Rattle.std.specs.Prelude.{◌≡◌, ℕ, ◌+◌, ◌<◌, false, List, ◌∷◌, ◌++◌, length, nat_eq, Option, IfSome, ◌⊎◌}
 use Rattle.std.specs.List.{slice_split}
 use Rattle.ov_server.specs.Rosters.{ArePlayed, Layering, Roster, is_good, nobody}
 use Rattle.ov_server.specs.declared.fault.Fault.{Fault}
@@ -33,7 +33,7 @@ IsRunFault script layers Stream = Unit {0}
 IsRunFault script layers Memory = Unit {0}
 IsRunFault script layers _ = ⊥
 
--- a stream is told at fault only where the input or the output failed, or no read is left
-abbrev pub IsStreamFault : Bool → ℕ → Bool → Fault → Type 0
-IsStreamFault input_failed reads_left output_failed Stream = (input_failed ≡ true) ⊎ ((reads_left ≡ 0) ⊎ (output_failed ≡ true))
-IsStreamFault input_failed reads_left output_failed _ = Unit {0}
+-- a stream is told at fault only where the input or the output has failed, or no read is left
+abbrev pub IsStreamFault : ℕ → ℕ → ℕ → Fault → Type 0
+IsStreamFault input_failures reads output_failures Stream = (0 < input_failures) ⊎ ((reads ≡ 4294967295) ⊎ (0 < output_failures))
+IsStreamFault input_failures reads output_failures _ = Unit {0}

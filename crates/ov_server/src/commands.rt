@@ -21,10 +21,10 @@ use crate::print_tree::{write_layer, write_merge};
 use crate::stage::Stage;
 use crate::stepping::{answer_of, dropped, started, stepped, temps_of};
 use ov_base::{Call, Errno};
+use ov_devices::Sink;
 use ov_script::{BadCommand, CallText, Command, command_of};
 use overlay_core::{Core, Job};
 use std::alloc::{AllocError, Global};
-use std::io::Write;
 use watch_table::{Callback, HOOKS_MAX, Hook, Rule};
 
 /// Why a line could not be played.
@@ -35,19 +35,19 @@ pub enum LineFault {
 }
 
 /// Plays a line on a mount, where each client comes with copies of these hooks, and puts its answer out.
-pub fn play_line<W: Write, F: Callback + Copy, H: Rule>(
+pub fn play_line<K: Sink, F: Callback + Copy, H: Rule>(
     alloc: Global,
     stage: &mut Stage<F, H>,
     hooks: &[Hook<F, H>],
     line: &[u8],
-    output: &mut Output<W>,
+    output: &mut Output<K>,
 ) -> Result<(), LineFault>
     requires { IsInOrder stage.old }
     ensures order { IsInOrder stage.new }
     ensures counted { core_finished stage.new.core ≤ core_finished stage.old.core + 1 }
     ensures ok { OnOk result (PlaysLine stage.old line.now stage.new) }
     ensures err { IfErr result (IsRefusal stage.old line.now) }
-    ensures stream { TellsLine output.old.failed output.new.failed result }
+    ensures stream { TellsLine (K.failures output.old.sink) (K.failures output.new.sink) result }
 {
     if is_skipped(line) {
         Ok(())
@@ -67,19 +67,19 @@ fn is_skipped(line: &[u8]) -> bool
 }
 
 // Plays a command and puts its answer out.
-fn play_command<W: Write, F: Callback + Copy, H: Rule>(
+fn play_command<K: Sink, F: Callback + Copy, H: Rule>(
     alloc: Global,
     stage: &mut Stage<F, H>,
     hooks: &[Hook<F, H>],
     command: Command<'_>,
-    output: &mut Output<W>,
+    output: &mut Output<K>,
 ) -> Result<(), LineFault>
     requires { IsInOrder stage.old }
     ensures order { IsInOrder stage.new }
     ensures counted { core_finished stage.new.core ≤ core_finished stage.old.core + 1 }
     ensures ok { OnOk result (PlaysCommand stage.old command.entry stage.new) }
     ensures err { IfErr result (plays.IsCommandRefusal stage.old command.entry) }
-    ensures stream { TellsLine output.old.failed output.new.failed result }
+    ensures stream { TellsLine (K.failures output.old.sink) (K.failures output.new.sink) result }
 {
     match command {
         Command::Attach => put_answer(&attached(alloc, stage, hooks), output),
@@ -99,12 +99,12 @@ fn play_command<W: Write, F: Callback + Copy, H: Rule>(
 }
 
 // Puts an answer out, where there is one.
-fn put_answer_if_any<W: Write>(
+fn put_answer_if_any<K: Sink>(
     answer: Option<Answer>,
-    output: &mut Output<W>,
+    output: &mut Output<K>,
 ) -> Result<(), LineFault>
     ensures err { IfErr result plays.IsOfDevice }
-    ensures stream { TellsLine output.old.failed output.new.failed result }
+    ensures stream { TellsLine (K.failures output.old.sink) (K.failures output.new.sink) result }
 {
     match answer {
         Some(answer) => put_answer(&answer, output),
@@ -112,24 +112,24 @@ fn put_answer_if_any<W: Write>(
     }
 }
 
-fn put_answer<W: Write>(answer: &Answer, output: &mut Output<W>) -> Result<(), LineFault>
+fn put_answer<K: Sink>(answer: &Answer, output: &mut Output<K>) -> Result<(), LineFault>
     ensures err { IfErr result plays.IsOfDevice }
-    ensures stream { TellsLine output.old.failed output.new.failed result }
+    ensures stream { TellsLine (K.failures output.old.sink) (K.failures output.new.sink) result }
 {
     write_answer(answer, &mut output.text)?;
     output.relieve()?;
     Ok(())
 }
 
-fn put_layer<W: Write, F: Callback, H: Rule>(
+fn put_layer<K: Sink, F: Callback, H: Rule>(
     alloc: Global,
     stage: &Stage<F, H>,
     index: u32,
-    output: &mut Output<W>,
+    output: &mut Output<K>,
 ) -> Result<(), LineFault>
     ensures ok { OnOk result (PlaysCommand stage.now (asked.Layer index) stage.now) }
     ensures err { IfErr result (plays.IsCommandRefusal stage.now (asked.Layer index)) }
-    ensures stream { TellsLine output.old.failed output.new.failed result }
+    ensures stream { TellsLine (K.failures output.old.sink) (K.failures output.new.sink) result }
 {
     if !has_layer(&stage.core, index) {
         return Err(LineFault::BadCommand);
@@ -149,13 +149,13 @@ fn has_layer<F: Callback, H: Rule>(core: &Core<F, H>, index: u32) -> bool
     }
 }
 
-fn put_merge<W: Write, F: Callback, H: Rule>(
+fn put_merge<K: Sink, F: Callback, H: Rule>(
     alloc: Global,
     stage: &Stage<F, H>,
-    output: &mut Output<W>,
+    output: &mut Output<K>,
 ) -> Result<(), LineFault>
     ensures err { IfErr result plays.IsOfDevice }
-    ensures stream { TellsLine output.old.failed output.new.failed result }
+    ensures stream { TellsLine (K.failures output.old.sink) (K.failures output.new.sink) result }
 {
     write_merge(alloc, stage.core.layers(), output)?;
     Ok(())

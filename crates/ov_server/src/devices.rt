@@ -1,95 +1,61 @@
-// The input of a script and the output of answers, which note that they failed.
-ghost use Rattle.std.specs.Prelude.{◌≡◌, ◌+◌, ◌<◌, ◌++◌, [], Some, false, true, length, IfErr, IfOk, MatchOption, OnOk, string_bytes};
-ghost use Rattle.std.specs.Io.KnownBytes.{Appends, Keeps};
-ghost use Rattle.ov_server.specs.Devices as devices;
-ghost use Rattle.ov_server.specs.Devices.{Gives, IsInputFault, Marks};
+// The input of a script and the output of answers.
+ghost use Rattle.std.specs.Prelude.{◌≡◌, ◌+◌, ◌<◌, [], length, IfErr, IfOk, OnOk, string_bytes};
+ghost use Rattle.std.specs.Io.KnownBytes.{Appends};
+ghost use Rattle.ov_devices.specs.Devices.{Gives};
+ghost use Rattle.ov_server.specs.Devices.{IsInputFault, Marks};
 
 use crate::fault::DeviceFault;
+use ov_devices::{Fault, Sink, Source, write_all};
 use std::alloc::Global;
-use std::io;
-use std::io::{Read, Write};
 
 /// How many bytes of text are held at most before they are handed on.
 const HELD_MOST: usize = 65_536;
 
-/// A reader that is read at most 4,294,967,295 times, and notes that it failed.
+/// How many bytes one read gives, 0 at the end; none where it was interrupted.
+pub(crate) fn read_some<S: Source>(
+    input: &mut S,
+    piece: &mut [u8],
+) -> Result<Option<usize>, DeviceFault>
+    requires { 0 < length piece.old }
+    ensures ok { IfOk result (λ read. Gives (S.remaining input.old) (S.remaining input.new) read piece.new) }
+    ensures reads { OnOk result (S.reads input.new ≡ S.reads input.old + 1) }
+    ensures well { OnOk result (S.failures input.new ≡ S.failures input.old) }
+    ensures err { IfErr result (IsInputFault (S.failures input.new) (S.reads input.new)) }
+{
+    if input.reads_left() == 0 {
+        return Err(DeviceFault::Stream);
+    }
+    match input.read(piece) {
+        Ok(read) => Ok(read),
+        Err(Fault::Memory) => Err(DeviceFault::Memory),
+        Err(Fault::Failed) => Err(DeviceFault::Stream),
+    }
+}
+
+/// A sink, and the text that it is still to get.
 #[derive(Drop)]
-pub struct Input<R> {
-    reader: R,
-    reads_left: u32,
-    failed: bool,
-}
-
-impl<R> Input<R> {
-    /// A reader that has not failed.
-    pub fn new(reader: R) -> Input<R>
-        ensures reader { result.reader ≡ reader }
-        ensures reads { result.reads_left ≡ 4294967295 }
-        ensures fresh { result.failed ≡ false }
-    {
-        Input {
-            reader,
-            reads_left: u32::MAX,
-            failed: false,
-        }
-    }
-}
-
-impl<R: Read> Input<R> {
-    /// How many reads are left.
-    pub fn reads_left(&self) -> u32
-        ensures { result ≡ self.now.reads_left }
-    {
-        self.reads_left
-    }
-
-    /// How many bytes one read gives, 0 at the end; none where it was interrupted.
-    pub fn read(&mut self, piece: &mut [u8]) -> Result<Option<usize>, DeviceFault>
-        requires { 0 < length piece.old }
-        ensures ok { IfOk result (λ read. Gives (R.remaining self.old.reader) (R.remaining self.new.reader) read piece.new) }
-        ensures reads { OnOk result (self.new.reads_left + 1 ≡ self.old.reads_left) }
-        ensures well { OnOk result (self.new.failed ≡ self.old.failed) }
-        ensures err { IfErr result (IsInputFault self.new.failed self.new.reads_left) }
-    {
-        let Some(left) = self.reads_left.checked_sub(1) else {
-            return Err(DeviceFault::Stream);
-        };
-        self.reads_left = left;
-        match self.reader.read(piece) {
-            Ok(count) => Ok(Some(count)),
-            Err(fault) if fault.kind() == io::ErrorKind::Interrupted => Ok(None),
-            Err(fault) => Err(noted(fault, &mut self.failed)),
-        }
-    }
-}
-
-/// A writer, the text that it is still to get, and a note that it failed.
-#[derive(Drop)]
-pub struct Output<W> {
-    writer: W,
+pub struct Output<K> {
+    sink: K,
     pub(crate) text: String,
-    failed: bool,
 }
 
-impl<W> Output<W> {
-    /// A writer that has not failed.
-    pub fn new(alloc: Global, writer: W) -> Output<W>
-        ensures writer { result.writer ≡ writer }
+impl<K> Output<K> {
+    /// A sink that is to get nothing yet.
+    pub fn new(alloc: Global, sink: K) -> Output<K>
+        ensures sink { result.sink ≡ sink }
         ensures text { string_bytes result.text ≡ [] }
-        ensures fresh { result.failed ≡ false }
     {
         Output {
-            writer,
+            sink,
             text: String::new(alloc),
-            failed: false,
         }
     }
 }
 
-impl<W: Write> Output<W> {
+impl<K: Sink> Output<K> {
     /// Hands the text on where there is much of it.
     pub fn relieve(&mut self) -> Result<(), DeviceFault>
-        ensures mark { Marks self.old.failed self.new.failed result }
+        ensures mark { Marks (K.failures self.old.sink) (K.failures self.new.sink) result }
         ensures little { OnOk result (length (string_bytes self.new.text) < 65536) }
     {
         if self.text.len() < HELD_MOST {
@@ -99,41 +65,30 @@ impl<W: Write> Output<W> {
         }
     }
 
-    /// Hands the text on, and has the writer do so.
+    /// Hands the text on, and has the sink do so.
     pub fn flush(&mut self) -> Result<(), DeviceFault>
-        ensures mark { Marks self.old.failed self.new.failed result }
+        ensures mark { Marks (K.failures self.old.sink) (K.failures self.new.sink) result }
         ensures text { OnOk result (string_bytes self.new.text ≡ []) }
     {
         self.hand_on()?;
-        match self.writer.flush() {
+        match self.sink.flush() {
             Ok(()) => Ok(()),
-            Err(fault) => Err(noted(fault, &mut self.failed)),
+            Err(Fault::Memory) => Err(DeviceFault::Memory),
+            Err(Fault::Failed) => Err(DeviceFault::Stream),
         }
     }
 
     fn hand_on(&mut self) -> Result<(), DeviceFault>
-        ensures mark { Marks self.old.failed self.new.failed result }
-        ensures written { OnOk result (Appends (W.contents self.old.writer) (W.contents self.new.writer) (string_bytes self.old.text)) }
+        ensures mark { Marks (K.failures self.old.sink) (K.failures self.new.sink) result }
+        ensures written { OnOk result (Appends (K.contents self.old.sink) (K.contents self.new.sink) (string_bytes self.old.text)) }
         ensures text { string_bytes self.new.text ≡ [] }
     {
-        let outcome = self.writer.write_all(self.text.as_bytes());
+        let outcome = write_all(&mut self.sink, self.text.as_bytes());
         self.text.clear();
         match outcome {
             Ok(()) => Ok(()),
-            Err(fault) => Err(noted(fault, &mut self.failed)),
-        }
-    }
-}
-
-// The fault of a device, noted unless memory ran out.
-fn noted(fault: io::Error, failed: &mut bool) -> DeviceFault
-    ensures { devices.Notes failed.old failed.new result }
-{
-    match fault.kind() {
-        io::ErrorKind::OutOfMemory => DeviceFault::Memory,
-        _ => {
-            *failed = true;
-            DeviceFault::Stream
+            Err(Fault::Memory) => Err(DeviceFault::Memory),
+            Err(Fault::Failed) => Err(DeviceFault::Stream),
         }
     }
 }

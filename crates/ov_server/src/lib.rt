@@ -15,7 +15,7 @@ mod stage;
 mod stepping;
 
 pub use arguments::{Invocation, command_line};
-pub use devices::{Input, Output};
+pub use devices::Output;
 pub use fault::{DeviceFault, Fault};
 pub use play::{core_of, play_run, play_run_keeping};
 pub use program_hooks::{ByTag, ProgramRule, hooks_by_slot};

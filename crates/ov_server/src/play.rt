@@ -2,6 +2,7 @@
 ghost use Rattle.std.specs.Prelude.{◌≡◌, ℕ, ◌+◌, ◌*◌, ◌<◌, ◌≤◌, ◌^◌, [], length, nat_eq, position, IfErr, IfOk, IfSome, OnOk};
 ghost use Rattle.overlay_core.specs.Views.{core_finished};
 ghost use Rattle.ov_server.specs.Faults.{AnswersManifest, IsManifestFault, layers_told};
+ghost use Rattle.ov_server.specs.Mounts.{IsMountOf};
 ghost use Rattle.overlay_core.specs.Histories.{HasPlaces};
 ghost use Rattle.ov_server.specs.Plays as plays;
 ghost use Rattle.ov_server.specs.Plays.{BeginsOn, EndsBy, GoesOn, IsLineFault, IsPlayFault, IsRosterOf, PlaysLine, TellsPlay, layers_in};
@@ -10,14 +11,14 @@ ghost use Rattle.ov_server.specs.Scripts.{IsGoodScript, IsRunFault, IsStreamFaul
 ghost use Rattle.ov_server.specs.Stages.{IsInOrder};
 
 use crate::commands::{LineFault, play_line};
-use crate::devices::{Input, Output};
+use crate::devices::{Output, read_some};
 use crate::fault::{DeviceFault, Fault};
 use crate::stage::Stage;
+use ov_devices::{Sink, Source};
 use ov_wire::manifest_of;
 use overlay_core::{Core, LOOK_UPS_KEPT};
 use std::alloc::{AllocError, Global};
 use std::hash::RandomState;
-use std::io::{Read, Write};
 use watch_table::{Callback, Hook, Rule};
 
 /// How many bytes one read asks for.
@@ -25,38 +26,38 @@ const PIECE: usize = 65_536;
 
 /// Plays the script that an input gives on the mount of the layers that the bytes of a manifest spell, and puts a line out for each
 /// command. Each client comes with copies of these hooks. The layers hash names with `keys`.
-pub fn play_run<R: Read, W: Write, F: Callback + Copy, H: Rule>(
+pub fn play_run<S: Source, K: Sink, F: Callback + Copy, H: Rule>(
     alloc: Global,
     keys: RandomState,
     manifest: &[u8],
     hooks: &[Hook<F, H>],
-    input: &mut Input<R>,
-    output: &mut Output<W>,
+    input: &mut S,
+    output: &mut Output<K>,
 ) -> Result<(), Fault>
-    ensures ok { OnOk result (IfSome (R.remaining input.old.reader) (IsGoodScript (layers_told manifest.now))) }
-    ensures err { IfErr result (IsRunFault (R.remaining input.old.reader) (layers_told manifest.now)) }
-    ensures stream { IfErr result (IsStreamFault input.new.failed input.new.reads_left output.new.failed) }
-    ensures well { OnOk result ((input.new.failed ≡ input.old.failed) × (output.new.failed ≡ output.old.failed)) }
+    ensures ok { OnOk result (IfSome (S.remaining input.old) (IsGoodScript (layers_told manifest.now))) }
+    ensures err { IfErr result (IsRunFault (S.remaining input.old) (layers_told manifest.now)) }
+    ensures stream { IfErr result (IsStreamFault (S.failures input.new) (S.reads input.new) (K.failures output.new.sink)) }
+    ensures well { OnOk result ((S.failures input.new ≡ S.failures input.old) × (K.failures output.new.sink ≡ K.failures output.old.sink)) }
     ensures manifest { AnswersManifest manifest.now result }
 {
     play_run_keeping(alloc, keys, LOOK_UPS_KEPT, manifest, hooks, input, output)
 }
 
 /// `play_run` on a mount that keeps at most so many look-ups in the lower layers, or with 0 none.
-pub fn play_run_keeping<R: Read, W: Write, F: Callback + Copy, H: Rule>(
+pub fn play_run_keeping<S: Source, K: Sink, F: Callback + Copy, H: Rule>(
     alloc: Global,
     keys: RandomState,
     look_ups: usize,
     manifest: &[u8],
     hooks: &[Hook<F, H>],
-    input: &mut Input<R>,
-    output: &mut Output<W>,
+    input: &mut S,
+    output: &mut Output<K>,
 ) -> Result<(), Fault>
     requires { look_ups ≤ 65536 }
-    ensures ok { OnOk result (IfSome (R.remaining input.old.reader) (IsGoodScript (layers_told manifest.now))) }
-    ensures err { IfErr result (IsRunFault (R.remaining input.old.reader) (layers_told manifest.now)) }
-    ensures stream { IfErr result (IsStreamFault input.new.failed input.new.reads_left output.new.failed) }
-    ensures well { OnOk result ((input.new.failed ≡ input.old.failed) × (output.new.failed ≡ output.old.failed)) }
+    ensures ok { OnOk result (IfSome (S.remaining input.old) (IsGoodScript (layers_told manifest.now))) }
+    ensures err { IfErr result (IsRunFault (S.remaining input.old) (layers_told manifest.now)) }
+    ensures stream { IfErr result (IsStreamFault (S.failures input.new) (S.reads input.new) (K.failures output.new.sink)) }
+    ensures well { OnOk result ((S.failures input.new ≡ S.failures input.old) × (K.failures output.new.sink ≡ K.failures output.old.sink)) }
     ensures manifest { AnswersManifest manifest.now result }
 {
     let core = core_keeping(alloc, keys, look_ups, manifest)?;
@@ -67,19 +68,19 @@ pub fn play_run_keeping<R: Read, W: Write, F: Callback + Copy, H: Rule>(
 }
 
 // Plays the script that an input gives on a mount without a client.
-fn play_on<R: Read, W: Write, F: Callback + Copy, H: Rule>(
+fn play_on<S: Source, K: Sink, F: Callback + Copy, H: Rule>(
     alloc: Global,
     core: Core<F, H>,
     hooks: &[Hook<F, H>],
-    input: &mut Input<R>,
-    output: &mut Output<W>,
+    input: &mut S,
+    output: &mut Output<K>,
 ) -> Result<(), PlayFault>
     requires begins { BeginsOn core }
     requires places { HasPlaces core }
-    ensures ok { OnOk result (IfSome (R.remaining input.old.reader) (IsGoodScript (layers_in core))) }
-    ensures err { IfErr result (λ fault. IfSome (R.remaining input.old.reader) (λ script. IsPlayFault (layers_in core) script fault)) }
-    ensures stream { IfErr result (plays.IsStreamFault input.new.failed input.new.reads_left output.new.failed) }
-    ensures well { OnOk result ((input.new.failed ≡ input.old.failed) × (output.new.failed ≡ output.old.failed)) }
+    ensures ok { OnOk result (IfSome (S.remaining input.old) (IsGoodScript (layers_in core))) }
+    ensures err { IfErr result (λ fault. IfSome (S.remaining input.old) (λ script. IsPlayFault (layers_in core) script fault)) }
+    ensures stream { IfErr result (plays.IsStreamFault (S.failures input.new) (S.reads input.new) (K.failures output.new.sink)) }
+    ensures well { OnOk result ((S.failures input.new ≡ S.failures input.old) × (K.failures output.new.sink ≡ K.failures output.old.sink)) }
 {
     let mut script = Script {
         stage: Stage::new(alloc, core),
@@ -101,6 +102,7 @@ pub fn core_of<F: Callback + Drop, H: Rule>(
 ) -> Result<Core<F, H>, Fault>
     ensures manifest { AnswersManifest manifest.now result }
     ensures err { IfErr result IsManifestFault }
+    ensures mount { IfOk result (IsMountOf manifest.now) }
     ensures count { IfOk result (λ core. layers_in core ≡ layers_told manifest.now) }
     ensures begins { IfOk result BeginsOn }
     ensures finished { IfOk result (λ core. core_finished core ≡ 0) }
@@ -119,6 +121,7 @@ fn core_keeping<F: Callback + Drop, H: Rule>(
     requires { look_ups ≤ 65536 }
     ensures manifest { AnswersManifest manifest.now result }
     ensures err { IfErr result IsManifestFault }
+    ensures mount { IfOk result (IsMountOf manifest.now) }
     ensures count { IfOk result (λ core. layers_in core ≡ layers_told manifest.now) }
     ensures begins { IfOk result BeginsOn }
     ensures finished { IfOk result (λ core. core_finished core ≡ 0) }
@@ -151,23 +154,23 @@ struct Script<'h, F: Callback, H: Rule> {
 }
 
 impl<F: Callback + Copy, H: Rule> Script<'_, F, H> {
-    fn play<R: Read, W: Write>(
+    fn play<S: Source, K: Sink>(
         &mut self,
-        input: &mut Input<R>,
-        output: &mut Output<W>,
+        input: &mut S,
+        output: &mut Output<K>,
     ) -> Result<(), PlayFault>
         requires pending { self.old.pending.items ≡ [] }
         requires lines { self.old.lines ≡ 0 }
         requires begins { IsRosterOf self.old.stage nobody }
-        ensures ok { OnOk result (IfSome (R.remaining input.old.reader) (IsGoodScript (layers_in self.old.stage.core))) }
-        ensures err { IfErr result (λ fault. IfSome (R.remaining input.old.reader) (λ script. IsPlayFault (layers_in self.old.stage.core) script fault)) }
-        ensures stream { IfErr result (plays.IsStreamFault input.new.failed input.new.reads_left output.new.failed) }
-        ensures well { OnOk result ((input.new.failed ≡ input.old.failed) × (output.new.failed ≡ output.old.failed)) }
+        ensures ok { OnOk result (IfSome (S.remaining input.old) (IsGoodScript (layers_in self.old.stage.core))) }
+        ensures err { IfErr result (λ fault. IfSome (S.remaining input.old) (λ script. IsPlayFault (layers_in self.old.stage.core) script fault)) }
+        ensures stream { IfErr result (plays.IsStreamFault (S.failures input.new) (S.reads input.new) (K.failures output.new.sink)) }
+        ensures well { OnOk result ((S.failures input.new ≡ S.failures input.old) × (K.failures output.new.sink ≡ K.failures output.old.sink)) }
     {
         let mut buffer = vec![in self.alloc; 0u8; PIECE]?;
         let piece = buffer.as_mut_slice();
         for _read in 0..input.reads_left() {
-            let Some(count) = input.read(piece)? else {
+            let Some(count) = read_some(input, piece)? else {
                 continue;
             };
             if count == 0 {
@@ -180,12 +183,12 @@ impl<F: Callback + Copy, H: Rule> Script<'_, F, H> {
     }
 
     // Plays the lines that end in a piece and keeps what begins a further one.
-    fn feed<W: Write>(&mut self, piece: &[u8], output: &mut Output<W>) -> Result<(), PlayFault>
+    fn feed<K: Sink>(&mut self, piece: &[u8], output: &mut Output<K>) -> Result<(), PlayFault>
         requires { self.old.lines + length piece.now < 2 ^ 63 }
         ensures ok { OnOk result (GoesOn piece.now self.old.pending.items self.old.lines self.old.stage [] self.new.pending.items self.new.lines self.new.stage) }
         ensures err { IfErr result (EndsBy piece.now self.old.pending.items self.old.lines self.old.stage) }
         ensures lines { self.new.lines ≤ self.old.lines + length piece.now }
-        ensures stream { TellsPlay output.old.failed output.new.failed result }
+        ensures stream { TellsPlay (K.failures output.old.sink) (K.failures output.new.sink) result }
     {
         let mut rest = piece;
         'lines: while let Some(end) = line_break(rest) {
@@ -198,11 +201,11 @@ impl<F: Callback + Copy, H: Rule> Script<'_, F, H> {
     }
 
     // Plays the line that the end of the input ends.
-    fn end<W: Write>(&mut self, output: &mut Output<W>) -> Result<(), PlayFault>
+    fn end<K: Sink>(&mut self, output: &mut Output<K>) -> Result<(), PlayFault>
         requires { self.old.lines + 1 < 2 ^ 63 }
         ensures ok { OnOk result (PlaysLine self.old.stage self.old.pending.items self.new.stage) }
         ensures err { IfErr result (IsLineFault self.old.stage self.old.pending.items (self.old.lines + 1)) }
-        ensures stream { TellsPlay output.old.failed output.new.failed result }
+        ensures stream { TellsPlay (K.failures output.old.sink) (K.failures output.new.sink) result }
     {
         if self.pending.is_empty() {
             Ok(())
@@ -212,11 +215,11 @@ impl<F: Callback + Copy, H: Rule> Script<'_, F, H> {
     }
 
     // Plays the pending line.
-    fn line<W: Write>(&mut self, output: &mut Output<W>) -> Result<(), PlayFault>
+    fn line<K: Sink>(&mut self, output: &mut Output<K>) -> Result<(), PlayFault>
         requires { self.old.lines + 1 < 2 ^ 63 }
         ensures ok { OnOk result (PlaysLine self.old.stage self.old.pending.items self.new.stage) }
         ensures err { IfErr result (IsLineFault self.old.stage self.old.pending.items (self.old.lines + 1)) }
-        ensures stream { TellsPlay output.old.failed output.new.failed result }
+        ensures stream { TellsPlay (K.failures output.old.sink) (K.failures output.new.sink) result }
         ensures pending { self.new.pending.items ≡ [] }
         ensures lines { self.new.lines ≡ self.old.lines + 1 }
     {

@@ -11,8 +11,8 @@ use dir_listing::names;
 use layer_tree::{Entry, Layer, Node, ROOT};
 use merged_lookup::{Found, Layers, Place, Stack};
 use ov_base::{Content, Name};
+use ov_devices::Sink;
 use std::alloc::{AllocError, Global};
-use std::io::Write;
 
 // A tree that can be printed: one layer, or the merge of all.
 trait Tree {
@@ -143,13 +143,13 @@ struct Walk<D> {
 }
 
 /// Puts the tree of the layer of a number out, if there is one: the upper's marked files have the size that they show.
-pub fn write_layer<W: Write>(
+pub fn write_layer<K: Sink>(
     alloc: Global,
     layers: &Layers,
     index: usize,
-    output: &mut Output<W>,
+    output: &mut Output<K>,
 ) -> Result<(), DeviceFault>
-    ensures { Marks output.old.failed output.new.failed result }
+    ensures { Marks (K.failures output.old.sink) (K.failures output.new.sink) result }
 {
     let Some(layer) = layers.layer(index) else {
         return Ok(());
@@ -163,22 +163,22 @@ pub fn write_layer<W: Write>(
 }
 
 /// Puts the merged tree out.
-pub fn write_merge<W: Write>(
+pub fn write_merge<K: Sink>(
     alloc: Global,
     layers: &Layers,
-    output: &mut Output<W>,
+    output: &mut Output<K>,
 ) -> Result<(), DeviceFault>
-    ensures { Marks output.old.failed output.new.failed result }
+    ensures { Marks (K.failures output.old.sink) (K.failures output.new.sink) result }
 {
     write_tree(alloc, &MergedTree(layers), output)
 }
 
-fn write_tree<T: Tree, W: Write>(
+fn write_tree<T: Tree, K: Sink>(
     alloc: Global,
     tree: &T,
-    output: &mut Output<W>,
+    output: &mut Output<K>,
 ) -> Result<(), DeviceFault>
-    ensures { Marks output.old.failed output.new.failed result }
+    ensures { Marks (K.failures output.old.sink) (K.failures output.new.sink) result }
 {
     let mut walk = begun(alloc, tree, &mut output.text)?;
     for _ in 0..u64::MAX {

@@ -1,5 +1,5 @@
 -- A session from piece to piece, and its ends.
-use Rattle.std.proofs.Common.{◌≡◌, ℕ, List, [], ◌∷◌, ◌++◌, Option, Err, Bool, false, refl, sym, ap, subst, ◌∙◌, append_assoc, append-nil, inl, inr}
+use Rattle.std.proofs.Common.{◌≡◌, ℕ, List, [], ◌∷◌, ◌++◌, Option, Err, false, refl, sym, ap, subst, ◌∙◌, append_assoc, append-nil, inl, inr}
 use Rattle.std.specs.Io.KnownBytes.{Appends, Consumes, IsAtEnd, Keeps}
 use Rattle.std.proofs.KnownBytes.{Consumes-nil, Consumes-trans, Consumes-kept}
 use Rattle.ov_frames.specs.Replies.{answer_frame}
@@ -8,7 +8,7 @@ use Rattle.ov_frames.specs.declared.answer.Answer.{Answer}
 use Rattle.ov_frames.specs.declared.request.Request.{Request}
 use Rattle.ov_frames.proofs.Pieces.{goes_on}
 use Rattle.ov_session.specs.Conversing.{Stands, Conversed, IsTurn, is_faulty}
-use Rattle.ov_session.specs.Devices.{Gains, InputAt, IsFrontOf, IsInputEnd, IsSent, is_write}
+use Rattle.ov_session.specs.Devices.{Gains, InputAt, IsFrontOf, IsInputEnd, IsSent, OutputAt}
 use Rattle.ov_session.specs.Doors.{Goes}
 use Rattle.ov_session.specs.Heard.{Heard}
 use Rattle.ov_session.specs.Serving.{frames}
@@ -136,28 +136,34 @@ turn_no_read goes all m n e (inl h) k = let b =
 turn_no_read goes all m n e (inr h) k = absurd cc
 
 -- an input without failure, where a session ends by no failed read
-pub input_well : (failed : Bool) (reads : ℕ) (e : Ending) → failed ≡ false → (e ≡ ending.Read → ⊥)
-    → InputAt failed reads e
-input_well failed reads ending.Read h differs = absurd (differs refl)
-input_well failed reads ending.Detached h differs = h
-input_well failed reads ending.Ended h differs = h
-input_well failed reads ending.Cut h differs = h
-input_well failed reads (ending.Frame f) h differs = h
-input_well failed reads ending.Write h differs = h
-input_well failed reads ending.Memory h differs = h
-input_well failed reads ending.Stopped h differs = h
+pub input_well : (before after reads : ℕ) (e : Ending) → after ≡ before
+    → (e ≡ ending.Read → ⊥) → InputAt before after reads e
+input_well before after reads ending.Read h differs = absurd (differs refl)
+input_well before after reads ending.Detached h differs = h
+input_well before after reads ending.Ended h differs = h
+input_well before after reads ending.Cut h differs = h
+input_well before after reads (ending.Frame f) h differs = h
+input_well before after reads ending.Write h differs = h
+input_well before after reads ending.Memory h differs = h
+input_well before after reads ending.Stopped h differs = h
+
+-- a read that ended a session, after others that failed no more often
+pub input_ended : (before between after reads : ℕ) (e : Ending) → between ≡ before
+    → IsInputEnd between after reads e → IsInputEnd before after reads e
+input_ended before between after reads e same h =
+    subst (λ (n : ℕ). IsInputEnd n after reads e) same h
 
 -- a read that ended a session
-pub input_at : (failed : Bool) (reads : ℕ) (e : Ending) → IsInputEnd failed reads e
-    → InputAt failed reads e
-input_at failed reads ending.Read h = h
-input_at failed reads ending.Memory h = h
-input_at failed reads ending.Detached h = absurd h
-input_at failed reads ending.Ended h = absurd h
-input_at failed reads ending.Cut h = absurd h
-input_at failed reads (ending.Frame f) h = absurd h
-input_at failed reads ending.Write h = absurd h
-input_at failed reads ending.Stopped h = absurd h
+pub input_at : (before after reads : ℕ) (e : Ending) → IsInputEnd before after reads e
+    → InputAt before after reads e
+input_at before after reads ending.Read h = h
+input_at before after reads ending.Memory h = h
+input_at before after reads ending.Detached h = absurd h
+input_at before after reads ending.Ended h = absurd h
+input_at before after reads ending.Cut h = absurd h
+input_at before after reads (ending.Frame f) h = absurd h
+input_at before after reads ending.Write h = absurd h
+input_at before after reads ending.Stopped h = absurd h
 
 -- nothing was read yet
 pub so_far_nothing : {D : Type 0} (goes : Goes D) (i : Option (List ℕ)) (o : Place D) (left : Left)
@@ -190,9 +196,10 @@ so_far_same goes i j k o n left piece s c e = record {
 
 -- a read that failed
 pub read_ended : {D : Type 0} (goes : Goes D) (i j k : Option (List ℕ)) (o n : Place D)
-    (left : Left) (failed : Bool) (reads : ℕ) (e : Ending) → SoFar goes i j o n left
-    → is_faulty left ≡ false → Keeps j k → IsInputEnd failed reads e → Conversed goes i k o n e
-read_ended goes i j k o n left failed reads ending.Read s b c h =
+    (left : Left) (before after reads : ℕ) (e : Ending) → SoFar goes i j o n left
+    → is_faulty left ≡ false → Keeps j k → IsInputEnd before after reads e
+    → Conversed goes i k o n e
+read_ended goes i j k o n left before after reads ending.Read s b c h =
     let s' : SoFar goes i k o n left =
     record {
       taken = s.taken;
@@ -202,7 +209,7 @@ read_ended goes i j k o n left failed reads ending.Read s b c h =
       talked = s.talked;
     } in
     all_served goes i k o n left ending.Read s' ((refl, refl, refl), b)
-read_ended goes i j k o n left failed reads ending.Memory s b c h =
+read_ended goes i j k o n left before after reads ending.Memory s b c h =
     let s' : SoFar goes i k o n left =
     record {
       taken = s.taken;
@@ -212,24 +219,24 @@ read_ended goes i j k o n left failed reads ending.Memory s b c h =
       talked = s.talked;
     } in
     all_served goes i k o n left ending.Memory s' (inl refl, front_of_all (frames s.talked.answers))
-read_ended goes i j k o n left failed reads ending.Detached s b c h = absurd h
-read_ended goes i j k o n left failed reads ending.Ended s b c h = absurd h
-read_ended goes i j k o n left failed reads ending.Cut s b c h = absurd h
-read_ended goes i j k o n left failed reads (ending.Frame f) s b c h = absurd h
-read_ended goes i j k o n left failed reads ending.Write s b c h = absurd h
-read_ended goes i j k o n left failed reads ending.Stopped s b c h = absurd h
+read_ended goes i j k o n left before after reads ending.Detached s b c h = absurd h
+read_ended goes i j k o n left before after reads ending.Ended s b c h = absurd h
+read_ended goes i j k o n left before after reads ending.Cut s b c h = absurd h
+read_ended goes i j k o n left before after reads (ending.Frame f) s b c h = absurd h
+read_ended goes i j k o n left before after reads ending.Write s b c h = absurd h
+read_ended goes i j k o n left before after reads ending.Stopped s b c h = absurd h
 
--- such a read marks no failure of the output
-pub read_unmarked : (failed : Bool) (reads : ℕ) (e : Ending) → IsInputEnd failed reads e →
-    is_write e ≡ false
-read_unmarked failed reads ending.Read h = refl
-read_unmarked failed reads ending.Memory h = refl
-read_unmarked failed reads ending.Detached h = absurd h
-read_unmarked failed reads ending.Ended h = absurd h
-read_unmarked failed reads ending.Cut h = absurd h
-read_unmarked failed reads (ending.Frame f) h = absurd h
-read_unmarked failed reads ending.Write h = absurd h
-read_unmarked failed reads ending.Stopped h = absurd h
+-- such a read leaves the sink as it was
+pub read_unwritten : (before after reads sink_before sink_after : ℕ) (e : Ending)
+    → IsInputEnd before after reads e → sink_after ≡ sink_before → OutputAt sink_before sink_after e
+read_unwritten before after reads a b ending.Read h k = k
+read_unwritten before after reads a b ending.Memory h k = k
+read_unwritten before after reads a b ending.Detached h k = absurd h
+read_unwritten before after reads a b ending.Ended h k = absurd h
+read_unwritten before after reads a b ending.Cut h k = absurd h
+read_unwritten before after reads a b (ending.Frame f) h k = absurd h
+read_unwritten before after reads a b ending.Write h k = absurd h
+read_unwritten before after reads a b ending.Stopped h k = absurd h
 
 -- the input ended between frames
 pub ended_between : {D : Type 0} (goes : Goes D) (i j : Option (List ℕ)) (o n : Place D)

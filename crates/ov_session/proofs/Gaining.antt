@@ -1,5 +1,5 @@
 -- Bytes that an output gained, step by step.
-use Rattle.std.proofs.Common.{◌≡◌, ℕ, List, [], ◌++◌, take, drop, Option, Some, None, Ok, Err, refl, sym, ap, subst, ◌∙◌, append_assoc, append-nil}
+use Rattle.std.proofs.Common.{◌≡◌, ℕ, List, [], ◌++◌, take, drop, Option, Ok, Err, refl, sym, ap, subst, ◌∙◌, append_assoc, append-nil}
 use Rattle.std.proofs.KnownBytes.{Appends-nil, Appends-trans, Appends-kept}
 use Rattle.std.proofs.lemmas.List.{take-append-drop}
 use Rattle.std.specs.Io.KnownBytes.{Appends, Keeps}
@@ -45,7 +45,7 @@ pub gains_last : (o m n : Option (List ℕ)) (p q r a : List ℕ) → Gains o m 
 gains_last o m n p q r a h k = subst (λ (l : List ℕ). Gains o n p r l) (append-nil a)
     (gains_then o m n p q r a [] h k)
 
--- the writer's bytes stayed as they were
+-- the sink's bytes stayed as they were
 pub gains_kept : (o m n : Option (List ℕ)) (p q a : List ℕ) → Gains o m p q a → Keeps m n
     → Gains o n p q a
 gains_kept o m n p q a h k = (h.0, Appends-kept o m n h.0 h.1 k, h.2)
@@ -70,15 +70,6 @@ written_all o n p q a h e k =
     let w = written_of o n p q a h e in
     subst (λ (l : List ℕ). Appends o n l)
     (sym (w.2 ∙ ap (λ (l : List ℕ). w.0 ++ l) k ∙ append-nil w.0)) w.1
-
--- a write of no byte keeps the writer's bytes
-pub keeps_none : (a b c : Option (List ℕ)) (n : ℕ) (bytes : List ℕ) → Keeps a b
-    → Appends b c (take n bytes) → n ≡ 0 → Keeps a c
-keeps_none None b c n bytes h k e = tt
-keeps_none (Some x) None c n bytes h k e = absurd h
-keeps_none (Some x) (Some y) None n bytes h k e = absurd k
-keeps_none (Some x) (Some y) (Some z) n bytes h k e = k ∙ ap (λ (m : ℕ). y ++ take m bytes) e
-    ∙ append-nil y ∙ h
 
 -- an answer was held, and what was held was handed on, or the output failed at that
 pub put_handed : (o n : Option (List ℕ)) (p q r : List ℕ) (a : Answer)

@@ -1,11 +1,11 @@
 -- Requests served one after the other.
-use Rattle.std.proofs.Common.{◌≡◌, ℕ, List, [], ◌∷◌, ◌++◌, Option, Result, Ok, Err, refl, sym, ap, subst, ◌∙◌, append_assoc, append-nil, inl, inr}
+use Rattle.std.proofs.Common.{◌≡◌, ℕ, false, List, [], ◌∷◌, ◌++◌, Option, Result, Ok, Err, refl, sym, ap, subst, ◌∙◌, append_assoc, append-nil, inl, inr}
 use Rattle.std.proofs.lemmas.List.Concat.{flat_map-append}
 use Rattle.ov_frames.specs.Asked.{asked_of}
 use Rattle.ov_frames.specs.Replies.{answer_frame}
 use Rattle.ov_frames.specs.declared.answer.Answer.{Answer}
 use Rattle.ov_frames.specs.declared.request.Request.{Request}
-use Rattle.ov_session.specs.Devices.{Gains, IsFrontOf, IsPut, IsOutputEnd}
+use Rattle.ov_session.specs.Devices.{Gains, IsFrontOf, IsPut, IsOutputEnd, OutputAfter, OutputAt, write_failed}
 use Rattle.ov_session.specs.Doors.{Goes}
 use Rattle.ov_session.specs.Serving.{Answers, Serves, frames, IsHeldBack}
 use Rattle.ov_session.specs.Talks.{Place, Gained, Talked, MayBeHeldBack, Breaks, BrokeOff, HandedOn, IsHandedOn, IsServed}
@@ -382,6 +382,32 @@ served_badly goes o m n rs (Err e) end h by k t d =
             (broken_any e h.1 on.stopped on.given on.answers on.how);
       },
     )
+
+-- ---- how often the sink failed
+
+-- as often as before, and then as an end tells
+pub counted_at : (before between after : ℕ) (e : Ending) → between ≡ before
+    → OutputAt between after e → OutputAt before after e
+counted_at before between after e same h = subst (λ (n : ℕ). OutputAt n after e) same h
+
+-- as a result tells, and then as often
+pub counted_on : {A : Type 0} (before between after : ℕ) (result : Result A Ending)
+    → OutputAfter before between result → after ≡ between → OutputAfter before after result
+counted_on before between after result h same =
+    subst (λ (n : ℕ). OutputAfter before n result) (sym same) h
+
+-- as often as before, where nothing ended by a write
+pub counted_same : {A : Type 0} {before after : ℕ} (result : Result A Ending)
+    → write_failed result ≡ false → OutputAfter before after result → after ≡ before
+counted_same (Ok x) other h = h
+counted_same (Err ending.Write) other h = absurd cc
+counted_same (Err ending.Memory) other h = h
+counted_same (Err ending.Detached) other h = h
+counted_same (Err ending.Ended) other h = h
+counted_same (Err ending.Cut) other h = h
+counted_same (Err (ending.Frame f)) other h = h
+counted_same (Err ending.Read) other h = h
+counted_same (Err ending.Stopped) other h = h
 
 -- ---- what the output holds at an end
 

@@ -4,7 +4,7 @@ use Rattle.std.specs.Io.KnownBytes.{IsAtEnd}
 use Rattle.ov_frames.specs.Streams.{Left, Held, Faulty, Spells}
 use Rattle.ov_frames.specs.declared.fault.FrameFault.{FrameFault}
 use Rattle.ov_frames.specs.declared.request.Request.{Request}
-use Rattle.ov_session.specs.Devices.{InputAt, IsFrontOf, is_write, write_failed}
+use Rattle.ov_session.specs.Devices.{IsFrontOf, OutputAfter, OutputAt}
 use Rattle.ov_session.specs.Doors.{Goes}
 use Rattle.ov_session.specs.Heard.{Heard}
 use Rattle.ov_session.specs.Serving.{IsLeaving, IsHeldBack, frames}
@@ -55,15 +55,14 @@ pub record Conversed {D : Type 0} (goes : Goes D) (in_old in_new : Option (List 
   pub gained : Gained old new given
   pub stands : Stands in_old in_new end heard given
 
--- all that a conversation leaves: the marks of input and output, what the output still holds, and
--- that the door takes calls of the session still
+-- all that a conversation leaves: how often the sink failed, what is still held for it, and that the
+-- door takes calls of the session still
 pub record Converses {D S : Type 0} (goes : Goes D) (admits : D → S → Type 0)
-    (in_old in_new : Option (List ℕ)) (old new : Place D) (session : S)
-    (input_failed : Bool) (reads_left : ℕ) (output_failed : Bool) (end : Ending) : Type 0 where
+    (in_old in_new : Option (List ℕ)) (old new : Place D) (session : S) (end : Ending) :
+    Type 0 where
   pub conversed : Conversed goes in_old in_new old new end
-  pub input : InputAt input_failed reads_left end
   pub handed_on : HandedOn end new.held
-  pub mark : output_failed ≡ is_write end
+  pub output : OutputAt old.failures new.failures end
   pub admitted : admits new.door session
 
 -- what bytes spell was served, and the begun frame behind it stands at a place; or the session ends:
@@ -79,15 +78,13 @@ IsTurn goes bytes o n (Err e) =
 
 -- all that serving bytes leaves
 pub record ServesBytes {D S : Type 0} (goes : Goes D) (admits : D → S → Type 0) (bytes : List ℕ)
-    (old new : Place D) (session : S) (output_failed : Bool) (result : Result ℕ Ending) :
-    Type 0 where
+    (old new : Place D) (session : S) (result : Result ℕ Ending) : Type 0 where
   pub turn : IsTurn goes bytes old new result
-  pub mark : output_failed ≡ write_failed result
+  pub output : OutputAfter old.failures new.failures result
   pub admitted : admits new.door session
 
 -- so where the answers are handed on
 pub record Turns {D S : Type 0} (goes : Goes D) (admits : D → S → Type 0) (bytes : List ℕ)
-    (old new : Place D) (session : S) (output_failed : Bool) (result : Result ℕ Ending) :
-    Type 0 where
-  pub serves : ServesBytes goes admits bytes old new session output_failed result
+    (old new : Place D) (session : S) (result : Result ℕ Ending) : Type 0 where
+  pub serves : ServesBytes goes admits bytes old new session result
   pub handed_on : IsHandedOn result new.held

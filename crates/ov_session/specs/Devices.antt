@@ -1,8 +1,6 @@
 -- What reads and writes leave.
-use Rattle.std.specs.Prelude.{◌≡◌, ◌≢◌, ℕ, ◌≤◌, Bool, true, false, List, [], ◌++◌, length, take, Option, Result, Ok, Err, ◌⊎◌}
-use Rattle.std.specs.Io.KnownBytes.{Appends, Consumes, IsAtEnd}
-use Rattle.std.specs.declared.io.ErrorKind.{ErrorKind}
-use Rattle.std.specs.declared.io.ErrorKind.TheVariants as kinds
+use Rattle.std.specs.Prelude.{◌≡◌, ℕ, ◌+◌, Bool, true, false, List, [], ◌++◌, Option, Result, Ok, Err, ◌⊎◌}
+use Rattle.std.specs.Io.KnownBytes.{Appends}
 use Rattle.ov_frames.specs.Replies.{answer_frame}
 use Rattle.ov_frames.specs.declared.answer.Answer.{Answer}
 use Rattle.ov_session.specs.declared.ending.Ending.{Ending}
@@ -12,30 +10,18 @@ use Rattle.ov_session.specs.declared.ending.Ending.TheVariants as ending
 abbrev pub IsFrontOf : List ℕ → List ℕ → Type 0
 IsFrontOf front all = (rest : List ℕ) × (all ≡ front ++ rest)
 
--- how the fault of a device ends a session: where it is of that kind by `Memory`, which leaves the
--- mark as it was; else by a failure, which sets the mark
-abbrev pub Notes : ErrorKind → Bool → Bool → Ending → Ending → Type 0
-Notes kind before after failure end =
-    ((kind ≡ kinds.OutOfMemory) × (end ≡ ending.Memory) × (after ≡ before))
-    ⊎ ((kind ≢ kinds.OutOfMemory) × (end ≡ failure) × (after ≡ true))
+-- how often the source had failed before and after a session that ends so, and how often it was read
+-- in all: by `Read` only where it failed once more, or no read is left
+abbrev pub InputAt : ℕ → ℕ → ℕ → Ending → Type 0
+InputAt before after reads ending.Read =
+    (after ≡ before + 1) ⊎ ((after ≡ before) × (reads ≡ 4294967295))
+InputAt before after reads _ = after ≡ before
 
--- a read gave so many bytes, which stand first in a piece; none come only at the end
-abbrev pub Reads : Option (List ℕ) → Option (List ℕ) → ℕ → List ℕ → Type 0
-Reads before after count piece =
-    (count ≤ length piece) × Consumes before after (take count piece)
-    × (count ≡ 0 → IsAtEnd after)
-
--- the input's mark of failure and the reads left, where a session ends so: by `Read` only where a
--- read failed or none is left
-abbrev pub InputAt : Bool → ℕ → Ending → Type 0
-InputAt failed left ending.Read = (failed ≡ true) ⊎ (left ≡ 0)
-InputAt failed left _ = failed ≡ false
-
--- how a read may end a session
-abbrev pub IsInputEnd : Bool → ℕ → Ending → Type 0
-IsInputEnd failed left ending.Read = (failed ≡ true) ⊎ (left ≡ 0)
-IsInputEnd failed left ending.Memory = failed ≡ false
-IsInputEnd failed left _ = ⊥
+-- how reads may end a session, with the same numbers
+abbrev pub IsInputEnd : ℕ → ℕ → ℕ → Ending → Type 0
+IsInputEnd before after reads ending.Read = InputAt before after reads ending.Read
+IsInputEnd before after reads ending.Memory = InputAt before after reads ending.Memory
+IsInputEnd before after reads _ = ⊥
 
 -- how a write may end a session
 abbrev pub IsOutputEnd : Ending → Type 0
@@ -43,14 +29,20 @@ IsOutputEnd ending.Write = Unit {0}
 IsOutputEnd ending.Memory = Unit {0}
 IsOutputEnd _ = ⊥
 
--- an output's mark of failure, where a session ends so
-abbrev pub is_write : Ending → Bool
-is_write ending.Write = true
-is_write _ = false
+-- how often the sink had failed before and after a session that ends so: once more where that is by
+-- `Write`, and else as often
+abbrev pub OutputAt : ℕ → ℕ → Ending → Type 0
+OutputAt before after ending.Write = after ≡ before + 1
+OutputAt before after _ = after ≡ before
 
+-- requests were served until a write failed
 abbrev pub write_failed : {A : Type 0} → Result A Ending → Bool
-write_failed (Ok x) = false
-write_failed (Err end) = is_write end
+write_failed (Err ending.Write) = true
+write_failed _ = false
+
+abbrev pub OutputAfter : {A : Type 0} → ℕ → ℕ → Result A Ending → Type 0
+OutputAfter before after (Ok x) = after ≡ before
+OutputAfter before after (Err end) = OutputAt before after end
 
 -- what was held and these bytes were written, as far as they aren't held now
 abbrev pub Gains : Option (List ℕ) → Option (List ℕ) → List ℕ → List ℕ → List ℕ → Type 0

@@ -1,8 +1,8 @@
 -- A session on its way: what it has asked and answered.
-use Rattle.std.specs.Prelude.{◌≡◌, ℕ, Bool, List, [], ◌++◌, Option, Result, Ok, Err, ◌⊎◌}
+use Rattle.std.specs.Prelude.{◌≡◌, ℕ, List, [], ◌++◌, Option, Result, Ok, Err, ◌⊎◌}
 use Rattle.ov_frames.specs.declared.answer.Answer.{Answer}
 use Rattle.ov_frames.specs.declared.request.Request.{Request}
-use Rattle.ov_session.specs.Devices.{Gains, IsFrontOf, write_failed}
+use Rattle.ov_session.specs.Devices.{Gains, IsFrontOf, OutputAfter}
 use Rattle.ov_session.specs.Doors.{Goes}
 use Rattle.ov_session.specs.Serving.{Serves, IsLeaving, IsHeldBack, frames}
 use Rattle.ov_session.specs.declared.ending.Ending.{Ending}
@@ -10,19 +10,21 @@ use Rattle.ov_session.specs.declared.ending.Ending.TheVariants as ending
 use Rattle.ov_session.specs.declared.exchange.Exchange.{Exchange}
 use Rattle.ov_session.specs.declared.output.SessionOutput.{SessionOutput}
 
--- where a session stands: the bytes of its writer and those held for it, what the session tells,
--- and the door
+-- where a session stands: the bytes of its sink, how often that failed, the bytes held for it, what
+-- the session tells, and the door
 pub record Place (D : Type 0) : Type 0 where
   pub contents : Option (List ℕ)
+  pub failures : ℕ
   pub held : List ℕ
   pub told : List Exchange
   pub door : D
 
--- so by what is known of its writer's bytes and of what the session tells
-abbrev pub place : {W S D : Type 0} → (W → Option (List ℕ)) → (S → List Exchange)
-    → SessionOutput W → S → D → Place D
-place contents told output session door = record {
-  contents = contents output.writer;
+-- so by what is known of its sink and of what the session tells
+abbrev pub place : {K S D : Type 0} → (K → Option (List ℕ)) → (K → ℕ) → (S → List Exchange)
+    → SessionOutput K → S → D → Place D
+place contents failures told output session door = record {
+  contents = contents output.sink;
+  failures = failures output.sink;
   held = output.held.items;
   told = told session;
   door = door;
@@ -80,16 +82,15 @@ IsServed goes old new rs (Err e) =
     (front : List Request) × (later : List Request) × (rs ≡ front ++ later)
     × BrokeOff goes old new front later e
 
--- all that serving requests leaves: the mark of the output, and that the door takes calls of the
+-- all that serving requests leaves: how often the sink failed, and that the door takes calls of the
 -- session still
 pub record ServesThem {D S : Type 0} (goes : Goes D) (admits : D → S → Type 0) (old new : Place D)
-    (session : S) (output_failed : Bool) (rs : List Request) (result : Result (Unit {0}) Ending) :
-    Type 0 where
+    (session : S) (rs : List Request) (result : Result (Unit {0}) Ending) : Type 0 where
   pub served : IsServed goes old new rs result
-  pub mark : output_failed ≡ write_failed result
+  pub output : OutputAfter old.failures new.failures result
   pub admitted : admits new.door session
 
--- nothing is held for the writer, unless it failed or memory ran out
+-- nothing is held for the sink, unless that failed or memory ran out
 abbrev pub HandedOn : Ending → List ℕ → Type 0
 HandedOn ending.Write held = Unit {0}
 HandedOn ending.Memory held = Unit {0}

@@ -12,6 +12,5 @@ mod session;
 pub use door::{CallOutcome, Door};
 pub use ending::Ending;
 pub use exchange::Exchange;
-pub use input::SessionInput;
 pub use output::SessionOutput;
 pub use session::session_run;

@@ -1,29 +1,30 @@
 // Serving requests: each is asked of the door, and its answer given to the output.
-ghost use Rattle.std.specs.Prelude.{◌≡◌, ◌∷◌, [], false};
+ghost use Rattle.std.specs.Prelude.{◌≡◌, ◌<◌, ◌∷◌, []};
 ghost use Rattle.ov_session.specs.Conversing.{ServesBytes, Turns};
+ghost use Rattle.ov_session.specs.Devices.{write_failed};
 ghost use Rattle.ov_session.specs.Talks.{ServesThem, place};
 
 use crate::door::{CallOutcome, Door};
 use crate::ending::Ending;
 use crate::output::SessionOutput;
+use ov_devices::Sink;
 use ov_frames::{Answer, Front, Request, front_end, front_of};
 use std::alloc::Global;
-use std::io::Write;
 
 // Serves one request.
-fn serve_one<W: Write, D: Door>(
+fn serve_one<K: Sink, D: Door>(
     alloc: Global,
     request: Request,
-    output: &mut SessionOutput<W>,
+    output: &mut SessionOutput<K>,
     door: &mut D,
     session: &mut D::Session,
 ) -> Result<(), Ending>
-    requires well { output.old.failed ≡ false }
+    requires few { K.failures output.old.sink < 4294967295 }
     requires admitted { D.admits door.old session.old }
     ensures { ServesThem D.goes D.admits
-        (place W.contents D.told output.old session.old door.old)
-        (place W.contents D.told output.new session.new door.new)
-        session.new output.new.failed (request ∷ []) result }
+        (place K.contents K.failures D.told output.old session.old door.old)
+        (place K.contents K.failures D.told output.new session.new door.new)
+        session.new (request ∷ []) result }
 {
     match request.call(alloc) {
         Err(_) => Err(Ending::Memory),
@@ -39,19 +40,19 @@ fn serve_one<W: Write, D: Door>(
 
 // Serves the requests of the whole frames at the front of bytes, in order, and answers where the
 // begun frame behind them stands.
-fn serve_frames<W: Write, D: Door>(
+fn serve_frames<K: Sink, D: Door>(
     alloc: Global,
     bytes: &[u8],
-    output: &mut SessionOutput<W>,
+    output: &mut SessionOutput<K>,
     door: &mut D,
     session: &mut D::Session,
 ) -> Result<usize, Ending>
-    requires well { output.old.failed ≡ false }
+    requires few { K.failures output.old.sink < 4294967295 }
     requires admitted { D.admits door.old session.old }
     ensures { ServesBytes D.goes D.admits bytes.now
-        (place W.contents D.told output.old session.old door.old)
-        (place W.contents D.told output.new session.new door.new)
-        session.new output.new.failed result }
+        (place K.contents K.failures D.told output.old session.old door.old)
+        (place K.contents K.failures D.told output.new session.new door.new)
+        session.new result }
 {
     let mut used = 0;
     'frames: loop {
@@ -72,24 +73,31 @@ fn serve_frames<W: Write, D: Door>(
     }
 }
 
+// Whether requests were served until a write failed.
+fn has_failed(served: &Result<usize, Ending>) -> bool
+    ensures { result ≡ write_failed served.now }
+{
+    matches!(served, Err(Ending::Write))
+}
+
 // Serves the requests of bytes, and hands their answers on, also those before one that ends the
 // session.
-fn serve_piece<W: Write, D: Door>(
+fn serve_piece<K: Sink, D: Door>(
     alloc: Global,
     bytes: &[u8],
-    output: &mut SessionOutput<W>,
+    output: &mut SessionOutput<K>,
     door: &mut D,
     session: &mut D::Session,
 ) -> Result<usize, Ending>
-    requires well { output.old.failed ≡ false }
+    requires few { K.failures output.old.sink < 4294967295 }
     requires admitted { D.admits door.old session.old }
     ensures { Turns D.goes D.admits bytes.now
-        (place W.contents D.told output.old session.old door.old)
-        (place W.contents D.told output.new session.new door.new)
-        session.new output.new.failed result }
+        (place K.contents K.failures D.told output.old session.old door.old)
+        (place K.contents K.failures D.told output.new session.new door.new)
+        session.new result }
 {
     let served = serve_frames(alloc, bytes, output, door, session);
-    if output.has_failed() {
+    if has_failed(&served) {
         return served;
     }
     match output.flush() {
@@ -100,20 +108,20 @@ fn serve_piece<W: Write, D: Door>(
 
 /// Serves the requests of bytes, which begin with a frame, and answers where the begun frame behind
 /// them stands. Until a frame is whole or at fault nothing is done.
-pub(crate) fn take_piece<W: Write, D: Door>(
+pub(crate) fn take_piece<K: Sink, D: Door>(
     alloc: Global,
     bytes: &[u8],
-    output: &mut SessionOutput<W>,
+    output: &mut SessionOutput<K>,
     door: &mut D,
     session: &mut D::Session,
 ) -> Result<usize, Ending>
-    requires well { output.old.failed ≡ false }
+    requires few { K.failures output.old.sink < 4294967295 }
     requires held { output.old.held.items ≡ [] }
     requires admitted { D.admits door.old session.old }
     ensures { Turns D.goes D.admits bytes.now
-        (place W.contents D.told output.old session.old door.old)
-        (place W.contents D.told output.new session.new door.new)
-        session.new output.new.failed result }
+        (place K.contents K.failures D.told output.old session.old door.old)
+        (place K.contents K.failures D.told output.new session.new door.new)
+        session.new result }
 {
     if bytes.len() < front_end(bytes) {
         return Ok(0);

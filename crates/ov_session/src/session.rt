@@ -1,19 +1,19 @@
 // Sessions: a client's stream is read, its requests are served, and in the end the client is
 // detached.
-ghost use Rattle.std.specs.Prelude.{◌≡◌, ◌≤◌, ◌+◌, [], drop, false, length, take, IfOk};
+ghost use Rattle.std.specs.Prelude.{◌≡◌, ◌<◌, ◌≤◌, ◌+◌, [], drop, length, take, IfOk};
 ghost use Rattle.ov_session.specs.Conversing.{Converses};
-ghost use Rattle.ov_session.specs.Devices.{InputAt, IsSent, is_write};
+ghost use Rattle.ov_session.specs.Devices.{InputAt, IsSent, OutputAt};
 ghost use Rattle.ov_session.specs.Sessions.{IsSession};
 ghost use Rattle.ov_session.specs.Talks.{place};
 
 use crate::door::Door;
 use crate::ending::Ending;
-use crate::input::SessionInput;
+use crate::input::read_piece;
 use crate::output::SessionOutput;
 use crate::serving::take_piece;
+use ov_devices::{Sink, Source};
 use ov_frames::Answer;
 use std::alloc::{AllocError, Global};
-use std::io::{Read, Write};
 
 /// How many bytes of a stream there is room for: twice a longest frame.
 const ROOM: usize = 140_008;
@@ -27,22 +27,23 @@ fn buffer_of(alloc: Global) -> Result<Vec<u8>, AllocError>
 }
 
 // Serves the requests of the stream until it ends, the client leaves, or something fails.
-fn converse<R: Read, W: Write, D: Door>(
+fn converse<S: Source, K: Sink, D: Door>(
     alloc: Global,
-    input: &mut SessionInput<R>,
-    output: &mut SessionOutput<W>,
+    input: &mut S,
+    output: &mut SessionOutput<K>,
     door: &mut D,
     session: &mut D::Session,
 ) -> Ending
-    requires input { input.old.failed ≡ false }
-    requires well { output.old.failed ≡ false }
+    requires few { K.failures output.old.sink < 4294967295 }
     requires held { output.old.held.items ≡ [] }
     requires admitted { D.admits door.old session.old }
-    ensures { Converses D.goes D.admits
-        (R.remaining input.old.reader) (R.remaining input.new.reader)
-        (place W.contents D.told output.old session.old door.old)
-        (place W.contents D.told output.new session.new door.new)
-        session.new input.new.failed input.new.reads_left output.new.failed result }
+    ensures talk { Converses D.goes D.admits
+        (S.remaining input.old) (S.remaining input.new)
+        (place K.contents K.failures D.told output.old session.old door.old)
+        (place K.contents K.failures D.told output.new session.new door.new)
+        session.new result }
+    ensures input { InputAt (S.failures input.old) (S.failures input.new) (S.reads input.new) result }
+    ensures reads { S.reads input.old ≤ S.reads input.new }
 {
     let Ok(mut buffer) = buffer_of(alloc) else {
         return Ending::Memory;
@@ -81,29 +82,30 @@ fn settled(bytes: &mut [u8], span: Span) -> Span
 
 // Reads into the room behind the begun frame. That stands no further from the front than it is
 // long, so there is room for the whole of it.
-fn pieces_of<R: Read, W: Write, D: Door>(
+fn pieces_of<S: Source, K: Sink, D: Door>(
     alloc: Global,
     bytes: &mut [u8],
-    input: &mut SessionInput<R>,
-    output: &mut SessionOutput<W>,
+    input: &mut S,
+    output: &mut SessionOutput<K>,
     door: &mut D,
     session: &mut D::Session,
 ) -> Ending
     requires room { length bytes.old ≡ 140008 }
-    requires input { input.old.failed ≡ false }
-    requires well { output.old.failed ≡ false }
+    requires few { K.failures output.old.sink < 4294967295 }
     requires held { output.old.held.items ≡ [] }
     requires admitted { D.admits door.old session.old }
-    ensures { Converses D.goes D.admits
-        (R.remaining input.old.reader) (R.remaining input.new.reader)
-        (place W.contents D.told output.old session.old door.old)
-        (place W.contents D.told output.new session.new door.new)
-        session.new input.new.failed input.new.reads_left output.new.failed result }
+    ensures talk { Converses D.goes D.admits
+        (S.remaining input.old) (S.remaining input.new)
+        (place K.contents K.failures D.told output.old session.old door.old)
+        (place K.contents K.failures D.told output.new session.new door.new)
+        session.new result }
+    ensures input { InputAt (S.failures input.old) (S.failures input.new) (S.reads input.new) result }
+    ensures reads { S.reads input.old ≤ S.reads input.new }
 {
     let mut start = 0;
     let mut end = 0;
     'pieces: loop {
-        let count = match input.read(&mut bytes[end..]) {
+        let count = match read_piece(input, &mut bytes[end..]) {
             Ok(count) => count,
             Err(ending) => return ending,
         };
@@ -131,11 +133,11 @@ fn pieces_of<R: Read, W: Write, D: Door>(
 }
 
 // Sends the answer to a detach that was asked for, and how the session ends.
-fn send_farewell<W: Write>(output: &mut SessionOutput<W>, farewell: &Answer) -> Ending
-    requires well { output.old.failed ≡ false }
-    ensures sent { IsSent (W.contents output.old.writer) (W.contents output.new.writer)
+fn send_farewell<K: Sink>(output: &mut SessionOutput<K>, farewell: &Answer) -> Ending
+    requires few { K.failures output.old.sink < 4294967295 }
+    ensures sent { IsSent (K.contents output.old.sink) (K.contents output.new.sink)
         output.old.held.items output.new.held.items farewell.now result }
-    ensures mark { output.new.failed ≡ is_write result }
+    ensures output { OutputAt (K.failures output.old.sink) (K.failures output.new.sink) result }
 {
     if let Err(end) = output.put(farewell) {
         return end;
@@ -148,22 +150,23 @@ fn send_farewell<W: Write>(output: &mut SessionOutput<W>, farewell: &Answer) -> 
 
 /// Runs a session: serves what its client's bytes ask for, and detaches it once, whatever ends the
 /// session.
-pub fn session_run<R: Read, W: Write, D: Door>(
+pub fn session_run<S: Source, K: Sink, D: Door>(
     alloc: Global,
-    input: &mut SessionInput<R>,
-    output: &mut SessionOutput<W>,
+    input: &mut S,
+    output: &mut SessionOutput<K>,
     door: &mut D,
     session: &mut D::Session,
 ) -> Ending
-    requires input { input.old.failed ≡ false }
-    requires output { output.old.failed ≡ false }
+    requires few { K.failures output.old.sink < 4294967295 }
     requires held { output.old.held.items ≡ [] }
     requires admitted { D.admits door.old session.old }
-    ensures session { IsSession D.goes (R.remaining input.old.reader) (R.remaining input.new.reader)
-        (W.contents output.old.writer) (W.contents output.new.writer)
+    ensures session { IsSession D.goes (S.remaining input.old) (S.remaining input.new)
+        (K.contents output.old.sink) (K.contents output.new.sink)
         (D.told session.old) (D.told session.new) door.old door.new result }
-    ensures input { InputAt input.new.failed input.new.reads_left result }
-    ensures output { output.new.failed ≡ is_write result }
+    ensures input { InputAt (S.failures input.old) (S.failures input.new) (S.reads input.new) result }
+    ensures reads { (S.reads input.old ≤ S.reads input.new)
+        × (S.reads input.new ≤ S.reads input.old + 4294967295) }
+    ensures output { OutputAt (K.failures output.old.sink) (K.failures output.new.sink) result }
 {
     let end = converse(alloc, input, output, door, session);
     let farewell = door.detach(session);

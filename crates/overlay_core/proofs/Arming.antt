@@ -1,5 +1,5 @@
 -- A watch is armed by the number under which what stands at its path is held, or refused.
-use Rattle.std.proofs.Common.{◌≡◌, ◌≢◌, ℕ, ◌<◌, pos, true, false, not, ◌&&◌, inl, inr, List, ◌∷◌, Option, None, Some, IsSome, is_none, nat_lt, refl, sym, ap, ◌∙◌, subst}
+use Rattle.std.proofs.Common.{◌≡◌, ◌≢◌, ℕ, pos, true, false, not, ◌&&◌, inl, inr, List, ◌∷◌, Option, None, Some, is_none, nat_lt, refl, sym, ap, ◌∙◌, subst}
 use Rattle.ov_base.specs.declared.call.Call.TheVariants.{Arm}
 use Rattle.ov_base.specs.declared.errno.Errno.{Errno}
 use Rattle.ov_base.specs.declared.errno.Errno.TheVariants.{EBUSY, ELOOP, ENOENT, ENOSPC}
@@ -21,7 +21,7 @@ use Rattle.mount_laws.specs.Attributes.{chown_fault}
 use Rattle.mount_laws.specs.Looks.{IsMountOf, absent, or_else as first, parents_fault, shows_link, walk_fault}
 use Rattle.mount_laws.proofs.Links.{first-none, second-none}
 use Rattle.mount_laws.proofs.Looks.{found-at}
-use Rattle.open_handles.specs.Tracked.{Tracked, next_of, spot_of}
+use Rattle.object_table.specs.Objects.{Objects}
 use Rattle.notice_laws.specs.declared.object.Object.{Object}
 use Rattle.notice_laws.specs.declared.object.Object.TheVariants as object
 use Rattle.notice_laws.specs.Notified.{AreKnown, Notified, Tracks, stands_for}
@@ -64,12 +64,11 @@ is-tracked U lowers p mask o h is other = elim (subst (IsObject U lowers p) othe
     shown (Some x) h none = let no : false ≡ true = none in cc
 
 module _ (U : Layer) (lowers : List Layer) (s : State) (m : IsMountOf U lowers s) (k : Notified) (t : Tracks U s k)
-    (below : (n : ℕ) → IsSome (spot_of k.objects n) → n < next_of k.objects)
     (p : Path) (o : Object) (is : IsObject U lowers p o) (file : shows_link (shows 0 (U ∷ lowers) p) ≡ false)
-    (held : Tracked) (number : ℕ) (at : HoldsObject k.objects held p o number) where
+    (held : Objects) (number : ℕ) (at : HoldsObject k.objects held p o number) where
   -- what is held is tracked
   pub tracks-held : Tracks U s (record k { objects = held })
-  tracks-held = law_of_held_number U lowers s m k t below p o at.spot is file at.stands held number at.holds
+  tracks-held = law_of_held_number U lowers s m k t p o at.spot is file at.stands held number at.holds
 
   -- its number means the node that stands there
   means-held : Means held tracks-held.bearers (Some number) (node_at s.tree p)
@@ -159,14 +158,13 @@ module _ (shows : Rule) (m : Mount) (old new : Notified) (c slot : ℕ) (p : Pat
     (slots : slot_refusal (hooks_of (instance_of old.instances c)) slot mask ≡ None)
     (fault : arm_fault (layers_of m.layers) p mask ≡ None)
     (is : IsObject (mount_upper m) (lowers_of m.layers) p o)
-    (below : (n : ℕ) → IsSome (spot_of old.objects n) → n < next_of old.objects)
     (known : AreKnown new) where
   -- an arm that passes its path is refused as the object of its number is
-  refusal-held : (s : State) → Agrees m old s → (held : Tracked) (number : ℕ) → HoldsObject old.objects held p o number →
+  refusal-held : (s : State) → Agrees m old s → (held : Objects) (number : ℕ) → HoldsObject old.objects held p o number →
       refusal s c (Arm slot p mask) ≡ refusal_of old c slot number
   refusal-held s a held number at =
       refusal-by m old s a c slot p mask None None (refusal_of old c slot number) slots fault
-      (held-refusal (mount_upper m) (lowers_of m.layers) s a.stands.layers old a.tracks below p o is (no-link (layers_of m.layers) p mask fault) held
+      (held-refusal (mount_upper m) (lowers_of m.layers) s a.stands.layers old a.tracks p o is (no-link (layers_of m.layers) p mask fault) held
       number at c slot)
 
   -- AN ARM IS REFUSED for what stands at its path
@@ -191,14 +189,14 @@ module _ (shows : Rule) (m : Mount) (old new : Notified) (c slot : ℕ) (p : Pat
     where
       tracks : (s : State) → Agrees m old s → Tracks (mount_upper m) s (record old { objects = arms.held })
       tracks s a =
-          tracks-held (mount_upper m) (lowers_of m.layers) s a.stands.layers old a.tracks below p o is (no-link (layers_of m.layers) p mask fault)
+          tracks-held (mount_upper m) (lowers_of m.layers) s a.stands.layers old a.tracks p o is (no-link (layers_of m.layers) p mask fault)
           arms.held arms.arms.number arms.holds
 
       answer : (s : State) → Agrees m old s →
           n ≡ number_of (watch_on (watches_of (instance_of s.instances c)) (node_at s.tree p)) (next_number (instance_of s.instances c))
       answer s a =
           arms.given
-          ∙ held-number (mount_upper m) (lowers_of m.layers) s a.stands.layers old a.tracks below p o is (no-link (layers_of m.layers) p mask fault)
+          ∙ held-number (mount_upper m) (lowers_of m.layers) s a.stands.layers old a.tracks p o is (no-link (layers_of m.layers) p mask fault)
           arms.held arms.arms.number arms.holds c
 
       serves : (s : State) → Agrees m old s → Serves (refusal s c (Arm slot p mask)) s c (Arm slot p mask) (Watch (pos n)) m

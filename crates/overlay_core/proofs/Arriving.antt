@@ -24,7 +24,7 @@ use Rattle.plain_model.proofs.Settled.{does-settles, law_of_settled_opening}
 use Rattle.merged_lookup.specs.declared.layers.Layers.{Layers}
 use Rattle.merged_lookup.specs.Merged.{upper_of, layers_of, lowers_of}
 use Rattle.mount_laws.proofs.OneName.{law_of_one_name_begun}
-use Rattle.open_handles.specs.Tracked.{Tracked, spot_of}
+use Rattle.object_table.specs.Objects.{Objects, spot_of}
 use Rattle.open_handles.specs.TrackedHandles.{is_tracked}
 use Rattle.notice_laws.specs.Clients.{Joins}
 use Rattle.notice_laws.specs.Notified.{AreBorne, AreKnown, IsSlotOn, Notified, Tracks, stands_for}
@@ -100,7 +100,7 @@ goes-attached shows old new from to c tags room short h same joins known s a =
 as-before : (U : Layer) (s : State) (k l : Notified) → IsAsBefore k l → Tracks U s k → Tracks U s l
 as-before U s k l h t = record {
   bearers = t.bearers;
-  borne = subst (λ (o : Tracked). AreBorne U s.tree s.serial o t.bearers) (sym h.objects) t.borne;
+  borne = subst (λ (o : Objects). AreBorne U s.tree s.serial o t.bearers) (sym h.objects) t.borne;
   clients = h.clients ∙ t.clients;
   slots = λ c fd. subst₂ (λ o r. IsSlotOn o t.bearers r (handle_of s.tables c fd)) (sym h.objects) (sym (h.slots c fd)) (t.slots c fd);
   heard = subst₂ (λ o es. AreAllAlike (stands_for o t.bearers) es s.instances) (sym h.objects) (sym h.instances) t.heard;

@@ -1,22 +1,24 @@
 -- Runs grow at their end, and what a change of one job makes of counts.
-use Rattle.std.proofs.Common.{arith, ◌≡◌, ℕ, suc, zero, ◌+◌, ◌<◌, ◌≤◌, Bool, true, false, ◌&&◌, ◌⊎◌, inl, inr, List, [], ◌∷◌, ◌++◌, length, get_or, cond, Option, Some, None, refl, sym, ap, subst, ◌∙◌, slice_get, nat_eq, nat_lt, take, option_map}
+use Rattle.std.proofs.Common.{arith, ◌≡◌, ◌≢◌, ℕ, suc, zero, ◌+◌, ◌<◌, ◌≤◌, Bool, true, false, ◌&&◌, ◌⊎◌, inl, inr, List, [], ◌∷◌, ◌++◌, length, get_or, cond, Option, Some, None, refl, sym, ap, subst, ◌∙◌, slice_get, nat_eq, nat_lt, take, option_map}
 use Rattle.mount_calls.proofs.Words.{Call, cases_eq, eq-eqb, ne_eqb, Reply, State}
 use Rattle.std.proofs.Math.ListN.{set}
 use Rattle.std.proofs.lemmas.Option.{same_Some, slice_get-map, slice_get_within}
-use Rattle.std.proofs.lemmas.List.{take_more}
+use Rattle.std.proofs.lemmas.List.{append_assoc, append-nil, take_more}
 use Rattle.std.proofs.lemmas.Bool.{and_parts, false≢true}
 use Rattle.plain_model.specs.Watching as watching
 use Rattle.plain_model.specs.Runs.{Called, Entry, Does, Run}
 use Rattle.mount_calls.specs.declared.clients.Clients.{Clients}
 use Rattle.overlay_core.specs.declared.job.Job.{Job}
 use Rattle.overlay_core.specs.declared.job.Standing.{Standing}
-use Rattle.overlay_core.specs.declared.job.Standing.TheVariants.{Open, Answered}
+use Rattle.overlay_core.specs.declared.job.Standing.TheVariants.{Open, Answered, GivenUp}
 use Rattle.overlay_core.specs.declared.mounted.Core.{Core}
-use Rattle.overlay_core.specs.Views.{CoreKeeps, CoreStays}
+use Rattle.overlay_core.specs.declared.turn.Turn.{Turn}
+use Rattle.overlay_core.specs.Views.{CoreKeeps, CoreStays, core_clients}
 use Rattle.watch_table.specs.declared.hook.Callback.{Ghosts as Callback}
 use Rattle.watch_table.specs.declared.hook.Rule.{Ghosts as Rule}
 use Rattle.mount_calls.specs.Attaching.{KeepsAttached, is_attached}
-use Rattle.overlay_core.specs.Drives.{call_of, calls_of, AreEntries, Drives, Answers, one_if_open, one_if_answered, open_count, answered, replies_to, times, gets, is_due, is_open, GivesNoStep, OpenMakes, PassesOver}
+use Rattle.overlay_core.specs.Jobs.{Advances, reply_of}
+use Rattle.overlay_core.specs.Drives.{call_of, calls_of, AreEntries, Drives, DriveSteps, OneStep, told, Answers, one_if_open, one_if_answered, open_count, answered, replies_to, times, gets, is_due, is_open, GivesNoStep, OpenMakes, PassesOver}
 use Rattle.mount_calls.proofs.Serving.{get-set, get-others}
 
 -- one more entry, and one more deed of a run
@@ -53,6 +55,39 @@ module _ {F G : Type 0} {asks : Callback F} {rule : Rule G} (calls : List (ℕ �
   drives-stay l m n rs d h s a = let x = d s a in (x.0, x.1, (x.2.0, x.2.1, h x.2.0 x.2.2))
 
 module _ {F G : Type 0} {asks : Callback F} {rule : Rule G} where
+  -- one more index at the end of a schedule
+  steps-last : (a b c : Core F G asks rule) (js bs cs : List Job) (schedule : List ℕ) (i : ℕ)
+      (rs : List (ℕ × Reply)) (r : Option Reply) → DriveSteps a js schedule rs b bs →
+      OneStep b bs i r c cs → DriveSteps a js (schedule ++ i ∷ []) (rs ++ told i r) c cs
+  steps-last a b c js bs cs [] i rs r h one = (
+    c,
+    cs,
+    r,
+    [],
+    subst (λ (x : Core F G asks rule). OneStep x js i r c cs) h.0 (subst (λ (x : List Job). OneStep b x i r c cs) h.1 one),
+    ap (λ (x : List (ℕ × Reply)). x ++ told i r) h.2 ∙ sym (append-nil (told i r)),
+    (refl, refl, refl),
+  )
+  steps-last a b c js bs cs (x ∷ schedule) i rs r h one = (
+    h.0,
+    h.1,
+    h.2,
+    h.3 ++ told i r,
+    h.4,
+    ap (λ (y : List (ℕ × Reply)). y ++ told i r) h.5 ∙ append_assoc (told x h.2) h.3 (told i r),
+    steps-last h.0 b c h.1 bs cs schedule i h.3 r h.6 one,
+  )
+
+  -- a schedule so far and its next index
+  pub steps-more : (a b c : Core F G asks rule) (js bs cs : List Job) (schedule : List ℕ) (at : ℕ)
+      (rs : List (ℕ × Reply)) (r : Option Reply) → at < length schedule →
+      DriveSteps a js (take at schedule) rs b bs → OneStep b bs (get_or schedule at 0) r c cs →
+      DriveSteps a js (take (at + 1) schedule) (rs ++ told (get_or schedule at 0) r) c cs
+  steps-more a b c js bs cs schedule at rs r within h one =
+      subst (λ (x : List ℕ). DriveSteps a js x (rs ++ told (get_or schedule at 0) r) c cs)
+      (sym (take_more schedule at 0 within))
+      (steps-last a b c js bs cs (take at schedule) (get_or schedule at 0) rs r h one)
+
   -- a core keeps what it has, and what is kept twice is kept
   pub kept-same : (m : Core F G asks rule) → CoreKeeps m m
   kept-same m = record { options = refl; read_only = refl; lowers = refl; thin = λ thin. thin }
@@ -304,3 +339,53 @@ module _ (clients between : Clients) (jobs now : List Job) (schedule : List ℕ)
 -- the same clients are attached after two changes
 pub keeps-on : (a b c : Clients) → KeepsAttached a b → KeepsAttached b c → KeepsAttached a c
 keeps-on a b c h g = record { attached = λ n. g.attached n ∙ h.attached n; next = g.next ∙ h.next }
+
+-- the index of a job that gets a step is one step
+pub one-made : {F G : Type 0} {asks : Callback F} {rule : Rule G} (old new : Core F G asks rule)
+    (jobs : List Job) (i : ℕ) (j k : Job) (turn : Turn) (r : Option Reply) →
+    slice_get jobs i ≡ Some j → is_due (core_clients old) (slice_get jobs i) ≡ true →
+    r ≡ reply_of turn → Advances old j new k turn → OneStep old jobs i r new (set jobs i k)
+one-made old new jobs i j k turn r at due same advances = record {
+  skipped = λ idle. absurd (false≢true (sym idle ∙ due));
+  made = λ is. (j, k, turn, at, refl, same, advances);
+}
+
+-- a job that is over gets no step, nor does one whose client has gone
+pub idle-over : (clients : Clients) (o : Option Job) (j : Job) → o ≡ Some j → j.standing ≢ Open →
+    is_due clients o ≡ false
+idle-over clients o j at over = ap (is_due clients) at ∙ by j.standing over
+  where
+    by : (x : Standing) → x ≢ Open → is_open x && is_attached clients j.client ≡ false
+    by Open over = absurd (over refl)
+    by Answered over = refl
+    by GivenUp over = refl
+
+pub idle-gone : (clients : Clients) (o : Option Job) (j : Job) → o ≡ Some j →
+    is_attached clients j.client ≡ false → is_due clients o ≡ false
+idle-gone clients o j at gone = ap (is_due clients) at ∙ by (is_open j.standing) (is_attached clients j.client) gone
+  where
+    by : (a b : Bool) → b ≡ false → a && b ≡ false
+    by a b none = grind arith
+
+-- so its index does nothing
+pub one-skipped : {F G : Type 0} {asks : Callback F} {rule : Rule G} (core : Core F G asks rule)
+    (jobs : List Job) (i : ℕ) → is_due (core_clients core) (slice_get jobs i) ≡ false →
+    OneStep core jobs i None core jobs
+one-skipped core jobs i idle = record {
+  skipped = λ none. (refl, refl, refl);
+  made = λ due. absurd (false≢true (sym idle ∙ due));
+}
+
+pub passes-skip : (clients : Clients) (jobs : List Job) (n i : ℕ) →
+    is_due clients (slice_get jobs n) ≡ false →
+    PassesOver clients (slice_get jobs i) (slice_get jobs i) (cond (nat_eq n i) 1 0)
+passes-skip clients jobs n i idle =
+    passes-same clients (slice_get jobs i) (slice_get jobs i) (cond (nat_eq n i) 1 0) (by (cases_eq n i)) refl
+  where
+    none : (b c : Bool) → c ≡ false → nat_lt 0 (cond b 1 0) && c ≡ false
+    none b c h = grind arith
+
+    by : (n ≡ i) ⊎ (n ≡ i → ⊥) →
+        nat_lt 0 (cond (nat_eq n i) 1 0) && is_due clients (slice_get jobs i) ≡ false
+    by (inl is) = none (nat_eq n i) (is_due clients (slice_get jobs i)) (ap (λ x. is_due clients (slice_get jobs x)) (sym is) ∙ idle)
+    by (inr other) = ap (λ b. nat_lt 0 (cond b 1 0) && is_due clients (slice_get jobs i)) (ne_eqb n i other)

@@ -31,8 +31,8 @@ use Rattle.mount_laws.proofs.OneName.{law_of_one_name_kept}
 use Rattle.open_handles.specs.declared.handle.Handle as handles
 use Rattle.open_handles.specs.declared.handle.Handle.TheVariants.{Directory, File}
 use Rattle.open_handles.specs.declared.tracked_client.TrackedHandle.{TrackedHandle}
-use Rattle.open_handles.specs.Dentries.{Dentries}
-use Rattle.open_handles.specs.Tracked.{Tracked}
+use Rattle.object_table.specs.Dentries.{Dentries}
+use Rattle.object_table.specs.Objects.{Objects}
 use Rattle.open_handles.specs.TrackedHandles.{tracked_by}
 use Rattle.notice_laws.specs.Notified.{AreKnown, Bearers, IsSlotOn, Notified, Passes, Resumes}
 use Rattle.notice_laws.specs.Steps.{Closed, closing_bits}
@@ -98,12 +98,12 @@ free-slot alike (Some a) (Some h) is at = absurd (cc)
 free-slot alike (Some a) None is at = absurd is
 
 -- what is open in the state is open for its watches
-open-tracked : (t : Tracked) (bearers : Bearers) (r : Option TrackedHandle) (h : Handle) → IsSlotOn t bearers r (Some h) → IsSome r
+open-tracked : (t : Objects) (bearers : Bearers) (r : Option TrackedHandle) (h : Handle) → IsSlotOn t bearers r (Some h) → IsSome r
 open-tracked t bearers (Some r) h is = refl
 open-tracked t bearers None h is = absurd is
 
 -- and what is free in the state is free for its watches
-pub free-tracked : (t : Tracked) (bearers : Bearers) (r : Option TrackedHandle) (x : Option Handle) → IsSlotOn t bearers r x → x ≡ None → r ≡ None
+pub free-tracked : (t : Objects) (bearers : Bearers) (r : Option TrackedHandle) (x : Option Handle) → IsSlotOn t bearers r x → x ≡ None → r ≡ None
 free-tracked t bearers None x is at = refl
 free-tracked t bearers (Some r) (Some h) is at = absurd (cc)
 free-tracked t bearers (Some r) None is at = absurd is

@@ -5,6 +5,7 @@ pub mod Instances
 pub mod Arriving
 pub mod Leaving
 pub mod Names
+pub mod Bare
 pub mod Lifted
 pub mod Altering
 pub mod Uses
@@ -32,3 +33,6 @@ pub mod ReadRefusals
 pub mod ReadOnly
 pub mod ReadSteps
 pub mod Marks
+pub mod Numbering
+pub mod LegalHistories
+pub mod WholeRuns

@@ -1,8 +1,8 @@
--- A tracked file of a lower layer that a call makes the upper's own: by which key it is there, and that nothing that is tracked had it.
+-- A tracked file of a lower layer that a call makes the upper's own: by which key it is there, and that nothing that is tracked had it, or is below it.
 use Rattle.std.proofs.Common.{◌≡◌, ◌∷◌, ℕ, zero, suc, Bool, true, false, List, Option, None, Some, nat_eq, refl, sym, ap, subst, ◌∙◌}
 use Rattle.std.proofs.lemmas.Bool.{false≢true}
 use mathlib.Core.Logic.{∥∥₁_elim}
-use mathlib.Core.Bool.{Bool-set}
+use mathlib.Core.HLevel.{⊥_prop}
 use Rattle.ov_base.specs.declared.attributes.Attributes.{Attributes}
 use Rattle.ov_base.specs.declared.bytes.Content.TheVariants.{File, SymbolicLink}
 use Rattle.ov_base.specs.declared.call.Call.{Call}
@@ -17,7 +17,7 @@ use Rattle.mount_laws.specs.Nodes.{touched_by}
 use Rattle.mount_laws.specs.OpenFiles.{IsLive}
 use Rattle.mount_laws.proofs.OpenFiles.{law_of_live_one, law_of_live_shown}
 use Rattle.mount_laws.proofs.Sorts.{change-fact, law_of_sorts, way-fact}
-use Rattle.open_handles.specs.Tracked.{At, IsVacant, Tracked, Upper, spot_of}
+use Rattle.object_table.specs.Objects.{At, IsVacant, Objects, Upper, spot_of}
 use Rattle.notice_laws.specs.declared.object.Object.{Object}
 use Rattle.notice_laws.specs.declared.object.Object.TheVariants as object
 use Rattle.notice_laws.specs.Notified.{Notified, Passes, Tracks, stands_alone}
@@ -26,6 +26,7 @@ use Rattle.notice_laws.specs.Steps.{IsLifted, alters}
 use Rattle.notice_laws.proofs.Numbers.{live-apart, looks-as}
 use Rattle.notice_laws.proofs.Resuming.{also-leads, paths-after}
 use Rattle.notifier.specs.Notifying.{IsFree}
+use Rattle.overlay_core.proofs.Bare.{bare-squashed, lower-bare}
 
 -- whether a node is a file
 abbrev pub is_file : Option Node → Bool
@@ -157,18 +158,19 @@ module _ (U V : Layer) (lowers : List Layer) (s : State) (c : ℕ) (call : Call)
   lifted-key (object.Upper j last) is found = tt
   lifted-key object.Other is found = tt
 
-  -- and nothing was tracked under it
+  -- and nothing was tracked under it, nor below the file
   pub free-key : (o : Object) → IsObject U lowers p o → (o ≡ object.Lower → IsFound) → IsFree k.objects p o key
   free-key object.Lower is found = λ n at.
       let shown = key-shown (found refl) is n at in
-      lifted-free U V lowers s c call passes p touches files leads k t is n at key shown.0 shown.1
+      (lifted-free U V lowers s c call passes p touches files leads k t is n at key shown.0 shown.1, lower-bare U s k t lowers passes.before p is)
   free-key object.Directory is found = tt
   free-key (object.Upper j last) is found = tt
   free-key object.Other is found = tt
 
 -- so it is also where the state isn't told
-pub free-squashed : {A : Type 0} (objects : Tracked) (p : Path) (o : Object) (key : ℕ) → ∥ A ∥₁ → (A → IsFree objects p o key) → IsFree objects p o key
-free-squashed objects p object.Lower key some f = λ n at m up. false≢true (∥∥₁_elim some (Bool-set false true) (λ x. absurd (f x n at m up)))
+pub free-squashed : {A : Type 0} (objects : Objects) (p : Path) (o : Object) (key : ℕ) → ∥ A ∥₁ → (A → IsFree objects p o key) → IsFree objects p o key
+free-squashed objects p object.Lower key some f = λ n at.
+    (λ m up. ∥∥₁_elim some ⊥_prop (λ x. (f x n at).0 m up), bare-squashed objects p some (λ x. (f x n at).1))
 free-squashed objects p object.Directory key some f = tt
 free-squashed objects p (object.Upper j last) key some f = tt
 free-squashed objects p object.Other key some f = tt

@@ -15,15 +15,17 @@ use Rattle.mount_laws.specs.Looks.{IsMountOf, shows_link}
 use Rattle.mount_laws.specs.Renaming.{is_one}
 use Rattle.mount_laws.proofs.Looks.{finds}
 use Rattle.mount_laws.proofs.Renaming.{same-object}
-use Rattle.open_handles.specs.Tracked.{At, IsVacant, NoneBelow, Tracked, Upper, spot_of}
+use Rattle.object_table.specs.Objects.{At, IsVacant, Objects, Upper, spot_of}
 use Rattle.notice_laws.specs.declared.object.Object.{Object}
 use Rattle.notice_laws.specs.declared.object.Object.TheVariants as object
 use Rattle.notice_laws.specs.Notified.{Notified, Passes, Tracks}
 use Rattle.notice_laws.specs.Objects.{IsObject}
 use Rattle.notice_laws.specs.Steps.{IsSpotOf, is_last_name}
 use Rattle.notifier.specs.Moving.{IsFreeFor, IsPlaceFor}
+use Rattle.notifier.specs.Notifying.{IsBareAt}
+use Rattle.overlay_core.proofs.Bare.{bare-squashed, lower-bare}
 use Rattle.overlay_core.proofs.Shown.{none-some}
-use Rattle.overlay_core.proofs.Renamed.{directory-onto, lifted-there, lifted-vacant, loses-spot, moved-apart, nothing-below, nothing-there}
+use Rattle.overlay_core.proofs.Renamed.{directory-onto, lifted-there, lifted-vacant, loses-spot, moved-apart, nothing-there}
 
 -- a rename onto the root is refused in each state
 pub root-refused : (s : State) (c : ℕ) (p : Path) → refusal s c (Rename p []) ≢ None
@@ -58,40 +60,44 @@ module _ (U V : Layer) (lowers : List Layer) (s : State) (c : ℕ) (p q : Path) 
       let shown = lifted-there U V lowers s c p q passes two k tracks (subst (IsObject U lowers p) lower is) n at in
       (shown.1, subst (λ x. IsObject V lowers q (object.Upper x shown.1)) (sym (found lower shown.0 shown.1 shown.2)) shown.2)
 
-  -- under which nothing was tracked but what is replaced
-  pub key-free : (n : ℕ) → o ≡ object.Lower → spot_of k.objects n ≡ Some (At p) → (m : ℕ) → spot_of k.objects m ≡ Some (Upper key) →
-      (is_last_name e ≡ true) × IsSpotOf q e (Upper key)
-  key-free n lower at m up =
+  -- under which nothing was tracked but what is replaced, nor was anything below the file
+  pub key-free : (n : ℕ) → o ≡ object.Lower → spot_of k.objects n ≡ Some (At p) →
+      ((m : ℕ) → spot_of k.objects m ≡ Some (Upper key) → (is_last_name e ≡ true) × IsSpotOf q e (Upper key)) × IsBareAt k.objects p
+  key-free n lower at =
       let shown = lifted-found n lower at in
-      lifted-vacant U V lowers s c p q passes two k tracks (subst (IsObject U lowers p) lower is) n at e was_there key shown.0 shown.1 m up
+      let low = subst (IsObject U lowers p) lower is in (
+        lifted-vacant U V lowers s c p q passes two k tracks low n at e was_there key shown.0 shown.1,
+        lower-bare U s k tracks lowers passes.before p low,
+      )
 
 -- so it is also where the state isn't told
-pub key-squashed : {A : Type 0} (objects : Tracked) (p q : Path) (o e : Object) (key : ℕ) → ∥ A ∥₁ →
-    (A → (n : ℕ) → o ≡ object.Lower → spot_of objects n ≡ Some (At p) → (m : ℕ) → spot_of objects m ≡ Some (Upper key) →
-    (is_last_name e ≡ true) × IsSpotOf q e (Upper key)) →
+pub key-squashed : {A : Type 0} (objects : Objects) (p q : Path) (o e : Object) (key : ℕ) → ∥ A ∥₁ →
+    (A → (n : ℕ) → o ≡ object.Lower → spot_of objects n ≡ Some (At p) →
+    ((m : ℕ) → spot_of objects m ≡ Some (Upper key) → (is_last_name e ≡ true) × IsSpotOf q e (Upper key)) × IsBareAt objects p) →
     IsFreeFor objects p q o e key
-key-squashed objects p q object.Lower e key some f = λ n at m up. elim (loses-spot q e key) [
-  | inl y ↦ y
-  | inr rests ↦ absurd (∥∥₁_elim some ⊥_prop (λ x. let lost = f x n refl at m up in rests lost.0 lost.1))
-]
+key-squashed objects p q object.Lower e key some f = λ n at. (
+  λ m up. elim (loses-spot q e key) [
+    | inl y ↦ y
+    | inr rests ↦ absurd (∥∥₁_elim some ⊥_prop (λ x. let lost = (f x n refl at).0 m up in rests lost.0 lost.1))
+  ],
+  bare-squashed objects p some (λ x. (f x n refl at).1),
+)
 key-squashed objects p q object.Directory e key some f = tt
 key-squashed objects p q (object.Upper j last) e key some f = tt
 key-squashed objects p q object.Other e key some f = tt
 
 -- what the new place is to a directory that moves there
-pub record IsBare (U : Layer) (lowers : List Layer) (k : Notified) (p q : Path) : Type 0 where
+pub record FitsDirectory (U : Layer) (lowers : List Layer) (k : Notified) (p q : Path) : Type 0 where
   pub apart : IsOutside p q
-  pub below : NoneBelow k.objects q
   pub onto : is_some (shows 0 (U ∷ lowers) q) ≡ true → is_directory (shows 0 (U ∷ lowers) q) ≡ true
   pub vacant : is_some (shows 0 (U ∷ lowers) q) ≡ false → IsVacant k.objects (At q)
 
 -- so a rename that is not refused has it
-pub is-bare : (U V : Layer) (lowers : List Layer) (s : State) (c : ℕ) (p q : Path) (passes : Passes U V lowers s c (Rename p q)) →
+pub fits-directory : (U V : Layer) (lowers : List Layer) (s : State) (c : ℕ) (p q : Path) (passes : Passes U V lowers s c (Rename p q)) →
     same_found (look s.tree p) (look s.tree q) ≡ false → (k : Notified) → Tracks U s k → is_directory (shows 0 (U ∷ lowers) p) ≡ true →
-    IsBare U lowers k p q
-is-bare U V lowers s c p q passes two k tracks is = record {
+    FitsDirectory U lowers k p q
+fits-directory U V lowers s c p q passes two k tracks is = record {
   apart = moved-apart U V lowers s c p q passes two;
-  below = nothing-below U V lowers s c p q passes two k tracks;
   onto = directory-onto U V lowers s c p q passes two is;
   vacant = nothing-there U V lowers s c p q passes two k tracks;
 }
@@ -106,12 +112,10 @@ link-only (Some (Folder l j a)) h g = false≢true h
 link-only (Some (Contents l j i)) h g = false≢true (g refl)
 
 -- THE PLACE of a directory that moves, where some state has it
-pub place-squashed : {A : Type 0} (U : Layer) (lowers : List Layer) (k : Notified) (p q : Path) (e : Object) → q ≢ [] → IsObject U lowers q e →
-    ∥ A ∥₁ → (A → IsBare U lowers k p q) → IsPlaceFor k p q e
-place-squashed U lowers k p q e not was_there some f = record {
-  not_root = not;
+pub place-squashed : {A : Type 0} (U : Layer) (lowers : List Layer) (k : Notified) (p q : Path) (e : Object) → IsObject U lowers q e →
+    ∥ A ∥₁ → (A → FitsDirectory U lowers k p q) → IsPlaceFor k p q e
+place-squashed U lowers k p q e was_there some f = record {
   apart = λ r is. ∥∥₁_elim some ⊥_prop (λ x. (f x).apart r is);
-  below = λ n name r at. ∥∥₁_elim some ⊥_prop (λ x. (f x).below n name r at);
   replaced = by e was_there;
 }
   where

@@ -8,7 +8,7 @@ use Rattle.plain_model.specs.Settling as settling
 use Rattle.plain_model.specs.Settling.{IsSettled}
 use Rattle.plain_model.specs.Alike.{AreAllAlike}
 use Rattle.mount_laws.specs.Looks.{IsMountOf}
-use Rattle.open_handles.specs.Tracked.{At, Holds, Spot, Tracked, holders_of, spot_of}
+use Rattle.object_table.specs.Objects.{At, Holds, Spot, Objects, holders_of, spot_of}
 use Rattle.open_handles.specs.TrackedHandles.{clients_of, uses}
 use Rattle.notice_laws.specs.declared.object.Object.TheVariants as object
 use Rattle.notice_laws.specs.declared.pin.Pin.{Pin}
@@ -19,7 +19,7 @@ use Rattle.notice_laws.proofs.FewerObjects.{fewer-borne, kept-slots, known-track
 use Rattle.notice_laws.proofs.GivenNumbers.{law_of_held_number}
 use Rattle.notifier.specs.Moving.{MayHold}
 use Rattle.notifier.specs.Notifying.{AreCounted, pinned_times, watchers}
-use Rattle.notifier.specs.Opening.{AreGiven, AreHeld}
+use Rattle.notifier.specs.Opening.{AreHeld}
 use Rattle.overlay_core.proofs.Shown.{directory-no-link}
 
 -- all is the same, but perhaps for what is tracked and what a rename holds
@@ -48,13 +48,13 @@ fewer-tracks U s old new same few known t =
 
 -- WHAT A RENAME HOLDS BEFOREHAND leaves what is kept for watches right, where the new directory is shown
 pub held-tracks : (U : Layer) (lowers : List Layer) (s : State) → IsMountOf U lowers s → (old new : Notified) → IsSameBut old new →
-    AreGiven old.objects → AreKnown new → (q : Path) → IsShownIn U lowers q → MayHold old.objects new.objects q → Tracks U s old → Tracks U s new
-held-tracks U lowers s m old new same given known [] shown few t = fewer-tracks U s old new same few known t
-held-tracks U lowers s m old new same given known (n ∷ q) shown (inl few) t = fewer-tracks U s old new same few known t
-held-tracks U lowers s m old new same given known (n ∷ q) shown (inr h) t =
+    AreKnown new → (q : Path) → IsShownIn U lowers q → MayHold old.objects new.objects q → Tracks U s old → Tracks U s new
+held-tracks U lowers s m old new same known [] shown few t = fewer-tracks U s old new same few known t
+held-tracks U lowers s m old new same known (n ∷ q) shown (inl few) t = fewer-tracks U s old new same few known t
+held-tracks U lowers s m old new same known (n ∷ q) shown (inr h) t =
     fewer-tracks U s (record old { objects = h.held }) new
     (record { handles = same.handles; instances = same.instances; renames = same.renames }) h.fewer known
-    (law_of_held_number U lowers s m old t given q object.Directory (At q) shown (directory-no-link (shows 0 (U ∷ lowers) q) shown) refl
+    (law_of_held_number U lowers s m old t q object.Directory (At q) shown (directory-no-link (shows 0 (U ∷ lowers) q) shown) refl
     h.held h.number h.holds)
 
 -- WHAT IS LET GO: as many hold each object where no rename holds any
@@ -79,14 +79,14 @@ was-tracked old new same first last was is held holds n there = by (spot_of old.
         absurd (false≢true (sym (ap is_some gone) ∙ there))
 
 -- what was tracked is where it was, where one more holds an object
-held-back : (old held : Tracked) (p : Path) (m : ℕ) → Holds old held (At p) m → AreGiven old → (n : ℕ) (spot : Spot) →
+held-back : (old held : Objects) (p : Path) (m : ℕ) → Holds old held (At p) m → (n : ℕ) (spot : Spot) →
     spot_of held n ≡ Some spot → IsSome (spot_of old n) → spot_of old n ≡ Some spot
-held-back old held p m h given n spot is was = by (cases_Bool (nat_eq n m))
+held-back old held p m h n spot is was = by (cases_Bool (nat_eq n m))
   where
     same : n ≡ m → spot_of old n ≡ Some spot
     same e = elim h.was [
-      | inl known ↦ ap (spot_of old) e ∙ known.0 ∙ sym h.sets.here ∙ ap (spot_of held) (sym e) ∙ is
-      | inr new ↦ (let below = given n was in let next = new.1 in absurd (omega arith))
+      | inl known ↦ ap (spot_of old) e ∙ known ∙ sym h.sets.here ∙ ap (spot_of held) (sym e) ∙ is
+      | inr new ↦ absurd (false≢true (sym (ap is_some (ap (spot_of old) e ∙ new.1)) ∙ was))
     ]
 
     by : (nat_eq n m ≡ true) ⊎ (nat_eq n m ≡ false) → spot_of old n ≡ Some spot
@@ -94,12 +94,12 @@ held-back old held p m h given n spot is was = by (cases_Bool (nat_eq n m))
     by (inr f) = sym (h.sets.other_spots n (λ e. both_ways (nat_eq n m) f (eq-eqb n m e))) ∙ is
 
 -- so given up, a rename leaves what is tracked where it was
-pub taken-back : (old mid new : Tracked) (q : Path) → MayHold old mid q → AreFewer mid new → AreGiven old →
+pub taken-back : (old mid new : Objects) (q : Path) → MayHold old mid q → AreFewer mid new →
     ((n : ℕ) → IsSome (spot_of new n) → IsSome (spot_of old n)) → AreFewer old new
-taken-back old mid new [] few last given was n spot is = few n spot (last n spot is)
-taken-back old mid new (x ∷ q) (inl few) last given was n spot is = few n spot (last n spot is)
-taken-back old mid new (x ∷ q) (inr h) last given was n spot is =
-    held-back old h.held q h.number h.holds given n spot (h.fewer n spot (last n spot is)) (was n (ap is_some is))
+taken-back old mid new [] few last was n spot is = few n spot (last n spot is)
+taken-back old mid new (x ∷ q) (inl few) last was n spot is = few n spot (last n spot is)
+taken-back old mid new (x ∷ q) (inr h) last was n spot is =
+    held-back old h.held q h.number h.holds n spot (h.fewer n spot (last n spot is)) (was n (ap is_some is))
 
 -- A RENAME IS PREPARED: what an earlier one held is let go, and the new directory may be held.
 pub record IsHeldFor (from mid ready : Notified) (q : Path) : Type 0 where
@@ -109,7 +109,6 @@ pub record IsHeldFor (from mid ready : Notified) (q : Path) : Type 0 where
   pub known : AreKnown mid
   pub counted : AreCounted mid
   pub held : AreHeld mid.objects
-  pub given : AreGiven mid.objects
   pub prepared : IsSameBut mid ready
   pub holds : MayHold mid.objects ready.objects q
 
@@ -124,16 +123,15 @@ pub record IsGivenUp (ready to : Notified) : Type 0 where
 
 -- so it is by what a step that gives up says, and then one that prepares
 pub held-for : (from mid ready : Notified) (q : Path) → mid ≡ record from { objects = mid.objects; pinned = None } →
-    AreFewer from.objects mid.objects → mid.pinned ≡ None → AreKnown mid → AreCounted mid → AreHeld mid.objects → AreGiven mid.objects →
+    AreFewer from.objects mid.objects → mid.pinned ≡ None → AreKnown mid → AreCounted mid → AreHeld mid.objects →
     ready ≡ record mid { objects = ready.objects; pinned = ready.pinned } → MayHold mid.objects ready.objects q → IsHeldFor from mid ready q
-held-for from mid ready q first fewer unpinned known counted held given then holds = record {
+held-for from mid ready q first fewer unpinned known counted held then holds = record {
   dropped = rest-same from mid None first;
   fewer = fewer;
   unpinned = unpinned;
   known = known;
   counted = counted;
   held = held;
-  given = given;
   prepared = rest-same mid ready ready.pinned then;
   holds = holds;
 }
@@ -162,14 +160,14 @@ module _ (U : Layer) (s : State) (from mid ready : Notified) (q : Path) (h : IsH
 
   -- prepared, where the new directory is shown
   pub ready-tracks : (lowers : List Layer) → IsMountOf U lowers s → IsShownIn U lowers q → AreKnown ready → Tracks U s ready
-  ready-tracks lowers m shown known = held-tracks U lowers s m mid ready h.prepared h.given known q shown h.holds dropped-tracks
+  ready-tracks lowers m shown known = held-tracks U lowers s m mid ready h.prepared known q shown h.holds dropped-tracks
 
   -- and given up
   pub back-tracks : (to : Notified) → IsGivenUp ready to → Tracks U s to
   back-tracks to g =
       let same = same-then mid ready to h.prepared g.dropped in
       fewer-tracks U s mid to same
-      (taken-back mid.objects ready.objects to.objects q h.holds g.fewer h.given
+      (taken-back mid.objects ready.objects to.objects q h.holds g.fewer
       (was-tracked mid to same h.unpinned g.unpinned h.counted g.counted h.held g.held))
       g.known dropped-tracks
 

@@ -19,7 +19,7 @@ use Rattle.mount_laws.specs.Paths.{LeadsAlso, LeadsIfMade}
 use Rattle.mount_laws.proofs.Gone.{law_of_made_node}
 use Rattle.mount_laws.proofs.OpenFiles.{law_of_live_one, law_of_live_shown}
 use Rattle.mount_laws.proofs.Sorts.{change-fact, way-fact}
-use Rattle.open_handles.specs.Tracked.{IsVacant, Nowhere, SetsSpot, Tracked, Upper, spot_of}
+use Rattle.object_table.specs.Objects.{IsVacant, Nowhere, SetsSpot, Objects, Upper, spot_of}
 use Rattle.notice_laws.specs.declared.object.Object.TheVariants as object
 use Rattle.notice_laws.specs.Notified.{Notified, Passes, Tracks}
 use Rattle.notice_laws.specs.Objects.{IsObject}
@@ -126,7 +126,7 @@ module _ (U V : Layer) (lowers : List Layer) (s : State) (c : ℕ) (p : Path) (f
       absurd (omega arith)
 
 -- nor is it where the number of the new file is held
-pub held-vacant : (mid new : Tracked) (n key : ℕ) → SetsSpot mid new n (Some Nowhere) 1 → IsVacant mid (Upper key) → IsVacant new (Upper key)
+pub held-vacant : (mid new : Objects) (n key : ℕ) → SetsSpot mid new n (Some Nowhere) 1 → IsVacant mid (Upper key) → IsVacant new (Upper key)
 held-vacant mid new n key sets vacant m at = by (cases_eq m n)
   where
     by : (m ≡ n) ⊎ (m ≡ n → ⊥) → ⊥

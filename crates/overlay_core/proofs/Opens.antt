@@ -30,7 +30,7 @@ use Rattle.mount_laws.proofs.Looks.{at-some, to-parents}
 use Rattle.mount_laws.proofs.Opening.{law_of_open_refusal}
 use Rattle.open_handles.specs.declared.tracked_client.TrackedHandle.{TrackedHandle}
 use Rattle.open_handles.specs.declared.tracked_client.Way.{Way}
-use Rattle.open_handles.specs.Tracked.{At, Tracked}
+use Rattle.object_table.specs.Objects.{At, Objects}
 use Rattle.open_handles.specs.TrackedHandles.{is_tracked, tracked_by}
 use Rattle.notice_laws.specs.declared.object.Object.{Object}
 use Rattle.notice_laws.specs.declared.object.Object.TheVariants as object
@@ -39,7 +39,7 @@ use Rattle.notice_laws.specs.Objects.{IsObject, IsShownIn}
 use Rattle.notice_laws.proofs.FewerObjects.{law_of_fewer_numbers}
 use Rattle.notice_laws.proofs.GivenNumbers.{law_of_held_number}
 use Rattle.notice_laws.proofs.ShownParents.{walked-shown}
-use Rattle.notifier.specs.Opening.{AreGiven, HoldsBoth, HoldsWay, IsBack}
+use Rattle.notifier.specs.Opening.{HoldsBoth, HoldsWay, IsBack}
 use Rattle.mount_calls.specs.declared.mount.Mount.{Mount}
 use Rattle.mount_calls.specs.Attaching.{is_attached, opened_by}
 use Rattle.mount_calls.specs.States.{IsStateOf}
@@ -131,22 +131,22 @@ object-some U lowers p object.Other is isnt = absurd (isnt refl)
 
 -- WHAT AN OPEN TAKES BEFOREHAND leaves what is kept for watches right
 module _ (U : Layer) (lowers : List Layer) (s : State) (m : IsMountOf U lowers s) (from : Notified) (t : Tracks U s from)
-    (known : AreKnown from) (given : AreGiven from.objects) where
+    (known : AreKnown from) where
   -- with the way in to a path whose directory is shown
-  pub way-tracks : (p : Path) → IsShownIn U lowers p → (mid : Tracked) (way : Option Way) → HoldsWay from.objects mid p way →
+  pub way-tracks : (p : Path) → IsShownIn U lowers p → (mid : Objects) (way : Option Way) → HoldsWay from.objects mid p way →
       Tracks U s (record from { objects = mid })
   way-tracks [] shown mid way h =
       law_of_fewer_numbers U s from t mid (λ n spot is. sym (h.1.spots n) ∙ is) (known-room from mid h.1 known)
   way-tracks (n ∷ p) shown mid None h = absurd h
   way-tracks (n ∷ p) shown mid (Some w) h =
-      law_of_held_number U lowers s m from t given p object.Directory (At p) shown (directory-no-link (shows 0 (U ∷ lowers) p) shown) refl
+      law_of_held_number U lowers s m from t p object.Directory (At p) shown (directory-no-link (shows 0 (U ∷ lowers) p) shown) refl
       mid w.directory h.0
 
   -- and then with what stands there
   pub ready-tracks : (p : Path) (o : Object) → IsObject U lowers p o → shows_link (shows 0 (U ∷ lowers) p) ≡ false → IsShownIn U lowers p →
-      (new : Tracked) (h : TrackedHandle) → HoldsBoth from.objects new p o h → Tracks U s (record from { objects = new })
+      (new : Objects) (h : TrackedHandle) → HoldsBoth from.objects new p o h → Tracks U s (record from { objects = new })
   ready-tracks p o is file shown new h holds =
-      law_of_held_number U lowers s m (record from { objects = holds.mid }) (way-tracks p shown holds.mid h.way holds.way) holds.given p o
+      law_of_held_number U lowers s m (record from { objects = holds.mid }) (way-tracks p shown holds.mid h.way holds.way) p o
       holds.object.spot is file holds.object.stands new h.object holds.object.holds
 
 -- TAKEN BACK, all is as before

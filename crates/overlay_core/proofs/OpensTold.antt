@@ -19,7 +19,7 @@ use Rattle.plain_model.specs.Changes.{after, opens, view_of}
 use Rattle.plain_model.specs.Runs.{Called}
 use Rattle.layer_tree.specs.Tree.{layer_of}
 use Rattle.merged_lookup.specs.Merged.{lowers_of}
-use Rattle.open_handles.specs.Tracked.{IsVacant, Upper}
+use Rattle.object_table.specs.Objects.{IsVacant, Upper}
 use Rattle.notice_laws.specs.declared.object.Object.{Object}
 use Rattle.notice_laws.specs.declared.object.Object.TheVariants as object
 use Rattle.notice_laws.specs.Notified.{AreKnown, Notified, Passes, Resumes, Tracks}
@@ -29,7 +29,7 @@ use Rattle.notice_laws.proofs.Numbers.{node-shown}
 use Rattle.notice_laws.proofs.OpenNewTold.{law_of_opened_new}
 use Rattle.notice_laws.proofs.OpenTold.{law_of_opened}
 use Rattle.notifier.specs.Notifying.{IsFree}
-use Rattle.notifier.specs.Opening.{AreGiven, IsReady, IsReadyNew}
+use Rattle.notifier.specs.Opening.{IsReady, IsReadyNew}
 use Rattle.mount_calls.specs.declared.mount.Mount.{Mount}
 use Rattle.mount_calls.specs.Attaching.{file_by}
 use Rattle.mount_calls.specs.Files.{key_in_upper as key_of}
@@ -72,7 +72,7 @@ module _ (rule : Rule) (c : ℕ) (p : Path) (f : OpenFlags) (mode : ℕ) (k : Ca
       (subst (λ (x : List Layer). IsObject V x p (object.Upper j last)) (sym (ap (λ x. map layer_of x.items) done.lowers)) at)
 
   -- OF WHAT STANDS THERE
-  module _ (o : Object) (stands : IsObject U L p o) (something : o ≢ object.Other) (known : AreKnown from) (given : AreGiven from.objects)
+  module _ (o : Object) (stands : IsObject U L p o) (something : o ≢ object.Other) (known : AreKnown from)
       (ready : Notified) (fd : ℕ) (is_ready : IsReady from ready c fd p o) (low : IsLowestFree old.clients c fd) (key : ℕ)
       (found : key ≡ unwrap_or (key_of (file_by new.clients c fd)) 0) (isnt : (e : Errno) → r ≢ Refused e) where
     -- what is kept with what the open holds
@@ -84,7 +84,7 @@ module _ (rule : Rule) (c : ℕ) (p : Path) (f : OpenFlags) (mode : ℕ) (k : Ca
     held-tracks s a fine =
         let allowed = subst (λ j. refusal s c j ≡ None) is fine in
         let m = a.stands.layers in
-        ready-tracks U L s m from a.tracks known given p o stands (open-no-link U L s m c p f mode allowed)
+        ready-tracks U L s m from a.tracks known p o stands (open-no-link U L s m c p f mode allowed)
         (open-shown U L s m c p f mode allowed) ready.objects is_ready.handle is_ready.holds
 
     -- the node that is opened
@@ -132,7 +132,7 @@ module _ (rule : Rule) (c : ℕ) (p : Path) (f : OpenFlags) (mode : ℕ) (k : Ca
         t knows told))
 
   -- OF A FILE THAT IT MAKES
-  module _ (nothing : IsObject U L p object.Other) (known : AreKnown from) (given : AreGiven from.objects)
+  module _ (nothing : IsObject U L p object.Other) (known : AreKnown from)
       (ready : Notified) (fd : ℕ) (is_ready : IsReadyNew from ready c fd p) (low : IsLowestFree old.clients c fd) (key : ℕ)
       (found : key ≡ unwrap_or (key_of (file_by new.clients c fd)) 0) (isnt : (e : Errno) → r ≢ Refused e) where
     -- what is kept with the way in that the open holds
@@ -144,7 +144,7 @@ module _ (rule : Rule) (c : ℕ) (p : Path) (f : OpenFlags) (mode : ℕ) (k : Ca
     entered-tracks s a fine =
         let allowed = subst (λ j. refusal s c j ≡ None) is fine in
         let m = a.stands.layers in
-        way-tracks U L s m from a.tracks known given p (open-shown U L s m c p f mode allowed) is_ready.holds.mid is_ready.handle.way
+        way-tracks U L s m from a.tracks known p (open-shown U L s m c p f mode allowed) is_ready.holds.mid is_ready.handle.way
         is_ready.holds.way
 
     -- nothing stands there

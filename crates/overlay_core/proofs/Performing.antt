@@ -15,7 +15,7 @@ use Rattle.plain_model.specs.Runs.{Called}
 use Rattle.merged_lookup.specs.Merged.{lowers_of}
 use Rattle.open_handles.specs.declared.tracked_client.TrackedHandle.{TrackedHandle}
 use Rattle.open_handles.specs.declared.tracked_client.Way.{Way}
-use Rattle.open_handles.specs.Tracked.{SameSpots, Tracked, spot_of}
+use Rattle.object_table.specs.Objects.{SameSpots, Objects, spot_of}
 use Rattle.notice_laws.specs.Notified.{AreKnown, Notified, Passes, Resumes}
 use Rattle.notice_laws.proofs.FewerObjects.{law_of_fewer_numbers}
 use Rattle.mount_calls.specs.declared.mount.Mount.{Mount}
@@ -99,7 +99,7 @@ pub on-err : {A E : Type 0} (r : Result A E) (P : Type 0) → P → OnErr r P
 on-err (Ok a) P p = tt
 on-err (Err e) P p = p
 
-module _ (old : Notified) (objects : Tracked) (same : SameSpots old.objects objects) (known : AreKnown old) where
+module _ (old : Notified) (objects : Objects) (same : SameSpots old.objects objects) (known : AreKnown old) where
   known-spot : (n : ℕ) → IsSome (spot_of old.objects n) → IsSome (spot_of objects n)
   known-spot n h = ap is_some (same.spots n) ∙ h
 

@@ -201,7 +201,7 @@ module _ {F G : Type 0} (shows_by : Rule) (old new : Watched F G) (j k : Job) wh
   }
   reads-made NoMemory over alone none held made = record {
     turns = (stays-as old.mount new.mount old.notifier new.notifier true made.turns.0, made.turns.1);
-    over = made.steps.1;
+    over = made.steps.2;
     finishes = λ s a. nothing-finishes old.mount j (refusal s j.client j.call) none;
     clients = made.clients;
     layers = made.layers;

@@ -1,5 +1,5 @@
 -- What a rename that moves something asks of what is kept for watches: a place for a directory, and a key for a file of a lower layer.
-use Rattle.std.proofs.Common.{◌≡◌, ◌∷◌, ◌++◌, ◌⊎◌, ◌||◌, inl, inr, ℕ, suc, nat_eq, eqb-true, eq-eqb, Bool, true, false, not, ◌&&◌, cond, [], List, Option, None, Some, refl, sym, ap, subst, ◌∙◌, is_some}
+use Rattle.std.proofs.Common.{◌≡◌, ◌∷◌, ◌⊎◌, ◌||◌, inl, inr, ℕ, suc, nat_eq, eqb-true, eq-eqb, Bool, true, false, not, ◌&&◌, cond, [], List, Option, None, Some, refl, sym, ap, subst, ◌∙◌, is_some}
 use Rattle.std.specs.Prelude.{option_and_then}
 use Rattle.std.proofs.lemmas.Bool.{cases_Bool, false≢true}
 use Rattle.ov_base.specs.declared.bytes.Content.TheVariants.{File, SymbolicLink}
@@ -22,7 +22,7 @@ use Rattle.mount_laws.proofs.Looks.{at-some, finds, found-at, node-some}
 use Rattle.mount_laws.proofs.OpenFiles.{law_of_live_one, law_of_live_shown}
 use Rattle.mount_laws.proofs.Opens.{folder-at}
 use Rattle.mount_laws.proofs.Sorts.{change-fact, law_of_sorts, settled-left, way-fact}
-use Rattle.open_handles.specs.Tracked.{At, IsVacant, NoneBelow, Upper, spot_of}
+use Rattle.object_table.specs.Objects.{At, IsVacant, NoneBelow, Upper, spot_of}
 use Rattle.notice_laws.specs.declared.object.Object.{Object}
 use Rattle.notice_laws.specs.declared.object.Object.TheVariants as object
 use Rattle.notice_laws.specs.Notified.{Notified, Passes, Tracks, stands_alone}
@@ -31,6 +31,7 @@ use Rattle.notice_laws.specs.Steps.{IsSpotOf, is_last_name}
 use Rattle.notice_laws.proofs.MovedPlaces.{goes-on, leads-elsewhere}
 use Rattle.notice_laws.proofs.NamesLost.{other-path}
 use Rattle.notice_laws.proofs.Numbers.{live-apart, looks-as}
+use Rattle.overlay_core.proofs.Bare.{none-tracked}
 use Rattle.overlay_core.proofs.Lifted.{alone-file, is_file, named-file, own-shown}
 
 -- a directory goes where something stands only where that is a directory
@@ -99,9 +100,7 @@ module _ (U V : Layer) (lowers : List Layer) (s : State) (c : ℕ) (p q : Path)
   module _ (k : Notified) (tracks : Tracks U s k) where
     -- nothing that is tracked is below the new place
     pub nothing-below : NoneBelow k.objects q
-    nothing-below n name r at =
-        let here = (tracks.borne.places n (At (name ∷ r ++ q)) at).0 in
-        let z : None ≡ Some (tracks.bearers n) = sym (leads.bare name r) ∙ here in cc
+    nothing-below = none-tracked U s k tracks q leads.bare
 
     -- nor at it, where nothing is shown there
     pub nothing-there : is_some (shows 0 (U ∷ lowers) q) ≡ false → IsVacant k.objects (At q)

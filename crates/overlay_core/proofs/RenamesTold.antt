@@ -27,13 +27,16 @@ use Rattle.notice_laws.proofs.Moved.{law_of_moved}
 use Rattle.notice_laws.proofs.ShownParents.{new-shown}
 use Rattle.notice_laws.proofs.Staying.{law_of_unmoved}
 use Rattle.notifier.specs.Moving.{IsFreeFor, IsPlaceFor}
+use Rattle.notifier.specs.Notifying.{IsBareAt}
 use Rattle.mount_calls.specs.declared.mount.Mount.{Mount}
 use Rattle.mount_calls.specs.Living.{StaysLive}
 use Rattle.mount_calls.specs.States.{StaysState}
 use Rattle.overlay_core.specs.Watching.{Agrees, Goes, HasState, Stays}
-use Rattle.overlay_core.proofs.MovesFree.{found-one, is-bare, key-free, key-squashed, lifted-found, place-squashed, root-refused}
+use Rattle.overlay_core.proofs.Bare.{bare-squashed}
+use Rattle.overlay_core.proofs.MovesFree.{found-one, fits-directory, key-free, key-squashed, lifted-found, place-squashed, root-refused}
 use Rattle.overlay_core.proofs.MovesHeld.{IsGivenUp, IsHeldFor, back-tracks, few-clients, ready-tracks}
 use Rattle.overlay_core.proofs.Performing.{Performed, goes-done, goes-refused, passing}
+use Rattle.overlay_core.proofs.Renamed.{nothing-below}
 use Rattle.overlay_core.proofs.Watching.{allowed-by, goes, stays, mount_upper}
 
 -- a call that is a rename goes as that
@@ -145,10 +148,16 @@ module _ (rule : Rule) (c : ℕ) (p q : Path) (r : Reply) (old new : Mount) (fro
         key-squashed ready.objects p q o e key has
         (λ x. key-free U V L x.0 c p q (moving-passes x.0 x.1) (two x.0 x.1) ready (tracked x.0 x.1) o e stands replaced key found-here)
 
-    pub moving-place : ∥ HasState old from ∥₁ → q ≢ [] → o ≡ object.Directory → IsPlaceFor ready p q e
-    moving-place has not folder =
-        place-squashed U L ready p q e not replaced has
-        (λ x. is-bare U V L x.0 c p q (moving-passes x.0 x.1) (two x.0 x.1) ready (tracked x.0 x.1) (subst (IsObject U L p) folder stands))
+    pub moving-place : ∥ HasState old from ∥₁ → o ≡ object.Directory → IsPlaceFor ready p q e
+    moving-place has folder =
+        place-squashed U L ready p q e replaced has
+        (λ x. fits-directory U V L x.0 c p q (moving-passes x.0 x.1) (two x.0 x.1) ready (tracked x.0 x.1) (subst (IsObject U L p) folder stands))
+
+    -- nothing is tracked below the new place
+    pub moving-bare : ∥ HasState old from ∥₁ → q ≢ [] → IsBareAt ready.objects q
+    moving-bare has not =
+        bare-squashed ready.objects q has
+        (λ (x : HasState old from). (not, nothing-below U V L x.0 c p q (moving-passes x.0 x.1) (two x.0 x.1) ready (tracked x.0 x.1)))
 
     -- told, it goes as the machine's
     pub goes-moved : (to : Notified) → AreKnown to → Moved rule ready to p q o e key → Goes rule old from c (Called (Rename p q) r) new to

@@ -13,7 +13,7 @@ use Rattle.merged_lookup.specs.Merged.{lowers_of}
 use Rattle.work_dir.specs.Beginnings.{Beginning}
 use Rattle.work_dir.specs.OpenJobs.{Same}
 use Rattle.work_dir.specs.declared.next.Next.{Next}
-use Rattle.work_dir.specs.declared.next.Next.TheVariants.{Place}
+use Rattle.work_dir.specs.declared.next.Next.TheVariants.{Finish, Place, Begin, Copy, AtOnce}
 use Rattle.work_dir.specs.declared.table.OpenJob.{OpenJob}
 use Rattle.mount_calls.specs.Attaching.{KeepsAttached}
 use Rattle.mount_calls.specs.ComingUp.{BringsUp}
@@ -38,6 +38,14 @@ use Rattle.overlay_core.proofs.Watching.{stays}
 -- the same clients are attached
 attached-same : (a b : Clients) → b ≡ a → KeepsAttached a b
 attached-same a b same = subst (λ z. KeepsAttached a z) (sym same) (record { attached = λ n. refl; next = refl })
+
+-- a step that ends a call copies no chunk
+last-not-copy : (next : Next) → IsLast next → next ≢ Copy
+last-not-copy Finish last is = cc
+last-not-copy AtOnce last is = cc
+last-not-copy (Place second count) last is = cc
+last-not-copy (Begin d) last is = cc
+last-not-copy Copy last is = absurd last
 
 module _ {F G : Type 0} (shows : Rule) where
   -- a step that changes the open jobs alone
@@ -89,7 +97,7 @@ module _ {F G : Type 0} (shows : Rule) where
         made-place IsPlaced p told temps NoMemory
         (subst (λ n. TurnsWatched old (record { mount = new.mount; notifier = n }) e w j k shows NoMemory) (sym told)
         (stays old.mount new.mount old.notifier old.notifier p.stays p.live (λ s h. h), over))
-        (same, number) (λ r is. cc)
+        ((λ is. cc), same, number) (λ r is. cc)
 
   -- a call that was made over a mount that is the same, by the job's client
   pub performs-on : (w0 w2 : Watched F G) (m1 m3 : Mount) (c d : ℕ) (k l : Call) (r : Result Reply AllocError) →
@@ -123,7 +131,7 @@ module _ {F G : Type 0} (shows : Rule) where
         Makes old new work work j k shows NoMemory next t
     made-none a p over = record {
       turns = (p.no_memory, over);
-      steps = ((λ n. refl), number);
+      steps = (last-not-copy next last, (λ n. refl), number);
       clients = p.kept.clients;
       layers = p.kept.layers;
       refused = λ e is. cc;

@@ -108,7 +108,13 @@ module _ (lowers : List Layer) where
   pub begun-fits : (d : Source) (b : List ℕ) → bytes_at lowers d ≡ Some b → length b ≤ FILE_MAX →
       IsTemp lowers (begun lowers d)
   begun-fits d b is few =
-      (ap (option_map (take (CHUNK * 0))) is, λ x e. subst (λ y. length y ≤ FILE_MAX) (same_Some b x (sym is ∙ e)) few)
+      (ap (option_map (take (CHUNK * 0))) is, (λ x e. subst (λ y. length y ≤ FILE_MAX) (same_Some b x (sym is ∙ e)) few), room)
+    where
+      size : lack_size lowers (File d) ≡ length b
+      size = ap (λ o. unwrap_or (option_map length o) 0) is
+
+      room : ForSome (bytes_at lowers d) (λ y. length y ≤ lack_size lowers (File d))
+      room x e = subst (λ n. length x ≤ n) (sym size) (subst (λ y. length y ≤ length b) (same_Some b x (sym is ∙ e)) (omega arith))
 
   module _ (t : Beginning) (b : List ℕ) (fits : IsTemp lowers t) (is : bytes_at lowers t.source ≡ Some b) where
     -- its bytes are the file's first ones
@@ -124,7 +130,7 @@ module _ (lowers : List Layer) where
     pub longer-fits : IsTemp lowers (longer lowers t)
     longer-fits =
         let e : unwrap_or (bytes_at lowers t.source) [] ≡ b = ap (λ o. unwrap_or o []) is in
-        (ap (option_map (take (CHUNK * (t.chunks + 1)))) is ∙ ap (λ y. Some (take (CHUNK * (t.chunks + 1)) y)) (sym e), fits.1)
+        (ap (option_map (take (CHUNK * (t.chunks + 1)))) is ∙ ap (λ y. Some (take (CHUNK * (t.chunks + 1)) y)) (sym e), fits.1, fits.2)
 
     -- one that has as many bytes as its file has them all
     pub temp-whole : length b ≤ length t.bytes → bytes_at lowers t.source ≡ Some t.bytes

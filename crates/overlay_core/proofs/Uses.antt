@@ -22,7 +22,7 @@ use Rattle.merged_lookup.specs.Merged.{upper_of, lowers_of}
 use Rattle.open_handles.specs.declared.handle.Handle as handles
 use Rattle.open_handles.specs.declared.handle.Handle.TheVariants.{Directory, File}
 use Rattle.open_handles.specs.declared.tracked_client.TrackedHandle.{TrackedHandle}
-use Rattle.open_handles.specs.Tracked.{Tracked}
+use Rattle.object_table.specs.Objects.{Objects}
 use Rattle.open_handles.specs.TrackedHandles.{tracked_by}
 use Rattle.notice_laws.specs.Notified.{AreKnown, Bearers, IsSlotOn, Notified, Passes, Resumes, Tracks}
 use Rattle.notice_laws.specs.Steps.{IsSilent, Used, keeps_handles}
@@ -66,7 +66,7 @@ module _ (shows : Rule) (c : ℕ) (k : Call) (r : Reply) (old new : Mount) (from
       ∥∥₁_elim state (Bool-set _ _) (λ x. by (tracked_by from.handles c fd) (handle_of x.0.tables c fd) from.objects x.1.tracks.bearers
       (x.1.tracks.slots c fd) (opened x.0 (allowed-by x.0 c k r new (done.serves x.0 x.1.stands) isnt)))
     where
-      by : (o : Option TrackedHandle) (h : Option Handle) (objects : Tracked) (bearers : Bearers) → IsSlotOn objects bearers o h →
+      by : (o : Option TrackedHandle) (h : Option Handle) (objects : Objects) (bearers : Bearers) → IsSlotOn objects bearers o h →
           is_none h ≡ false → IsSome o
       by None None objects bearers on some = absurd (false≢true (sym some))
       by None (Some h) objects bearers on some = absurd on

@@ -1,5 +1,5 @@
 -- What a schedule of steps leaves.
-use Rattle.std.specs.Prelude.{◌≡◌, ℕ, ◌+◌, ◌&&◌, Bool, true, false, List, [], ◌∷◌, nat_eq, nat_lt, cond, map, Option, Some, None, slice_get}
+use Rattle.std.specs.Prelude.{◌≡◌, ℕ, ◌+◌, ◌&&◌, Bool, true, false, List, [], ◌∷◌, nat_eq, nat_lt, cond, map, set, ◌++◌, Option, Some, None, slice_get}
 use Rattle.ov_base.specs.declared.call.Call.{Call}
 use Rattle.ov_base.specs.declared.reply.Reply.{Reply}
 use Rattle.plain_model.specs.Machine.{State}
@@ -9,7 +9,9 @@ use Rattle.overlay_core.specs.declared.job.Job.{Job}
 use Rattle.overlay_core.specs.declared.job.Standing.{Standing}
 use Rattle.overlay_core.specs.declared.job.Standing.TheVariants.{Open, Answered, GivenUp}
 use Rattle.overlay_core.specs.declared.mounted.Core.{Core}
-use Rattle.overlay_core.specs.Views.{CoreAgrees, CoreGoes}
+use Rattle.overlay_core.specs.Jobs.{Advances, reply_of}
+use Rattle.overlay_core.specs.Views.{CoreAgrees, CoreGoes, core_clients}
+use Rattle.overlay_core.specs.declared.turn.Turn.{Turn}
 use Rattle.mount_calls.specs.Attaching.{is_attached}
 use Rattle.watch_table.specs.declared.hook.Callback.{Ghosts as Callback}
 use Rattle.watch_table.specs.declared.hook.Rule.{Ghosts as Rule}
@@ -120,3 +122,31 @@ pub record PassesOver (clients : Clients) (old new : Option Job) (asked : ℕ) :
 abbrev pub GivesNoStep : Clients → List Job → List ℕ → Type 0
 GivesNoStep clients jobs schedule =
     (i : ℕ) → nat_lt 0 (times i schedule) && is_due clients (slice_get jobs i) ≡ false
+
+-- a reply of the job of this index, where there is one
+abbrev pub told : ℕ → Option Reply → List (ℕ × Reply)
+told i (Some reply) = (i, reply) ∷ []
+told i None = []
+
+module _ {F G : Type 0} {asks : Callback F} {rule : Rule G} where
+  -- ONE INDEX OF A SCHEDULE: the job there makes a step, whole as `advance` tells it, where it is open
+  -- and its client is attached; else nothing is done
+  pub record OneStep (old : Core F G asks rule) (jobs : List Job) (i : ℕ) (reply : Option Reply)
+      (new : Core F G asks rule) (after : List Job) : Type 0 where
+    pub skipped :
+        is_due (core_clients old) (slice_get jobs i) ≡ false →
+        (new ≡ old) × (after ≡ jobs) × (reply ≡ None)
+    pub made :
+        is_due (core_clients old) (slice_get jobs i) ≡ true →
+        (j : Job) × (k : Job) × (turn : Turn) × (slice_get jobs i ≡ Some j) × (after ≡ set jobs i k)
+        × (reply ≡ reply_of turn) × Advances old j new k turn
+
+  -- A SCHEDULE, index for index, with the replies in the order in which they come
+  abbrev pub DriveSteps : Core F G asks rule → List Job → List ℕ → List (ℕ × Reply) →
+      Core F G asks rule → List Job → Type 0
+  DriveSteps old jobs [] replies new after =
+      (new ≡ old) × (after ≡ jobs) × (replies ≡ [])
+  DriveSteps old jobs (i ∷ schedule) replies new after =
+      (mid : Core F G asks rule) × (js : List Job) × (reply : Option Reply) × (rest : List (ℕ × Reply))
+      × OneStep old jobs i reply mid js × (replies ≡ told i reply ++ rest)
+      × DriveSteps mid js schedule rest new after

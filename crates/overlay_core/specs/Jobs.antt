@@ -1,5 +1,10 @@
 -- What one step of a job says.
-use Rattle.std.specs.Prelude.{◌≡◌, ℕ, ◌+◌}
+use Rattle.std.specs.Prelude.{◌≡◌, ◌≢◌, ℕ, ◌+◌, true, false, Option, Some, None}
+use Rattle.ov_base.specs.declared.errno.Errno.{Errno}
+use Rattle.ov_base.specs.declared.reply.Reply.{Reply}
+use Rattle.ov_base.specs.declared.reply.Reply.TheVariants.{Refused}
+use Rattle.plain_model.specs.Machine.{State}
+use Rattle.plain_model.specs.Refusals.{refusal}
 use Rattle.plain_model.specs.Runs.{Called}
 use Rattle.overlay_core.specs.declared.job.Job.{Job}
 use Rattle.overlay_core.specs.declared.job.Standing.TheVariants as standing
@@ -7,8 +12,12 @@ use Rattle.overlay_core.specs.declared.mounted.Core.{Core}
 use Rattle.overlay_core.specs.declared.turn.Turn.{Turn}
 use Rattle.overlay_core.specs.declared.turn.Turn.TheVariants.{More, Done, NoMemory}
 use Rattle.work_dir.specs.declared.next.Next.{Next}
-use Rattle.overlay_core.specs.Steps.{StepsBy, held_by, without}
-use Rattle.overlay_core.specs.Views.{CoreGoes, CoreStays, core_work}
+use Rattle.mount_calls.specs.Attaching.{KeepsAttached}
+use Rattle.mount_calls.specs.ComingUp.{BringsUp}
+use Rattle.mount_calls.specs.Keeping.{KeepsLayers, takes_no_memory}
+use Rattle.mount_calls.specs.Lacks.{may_lack}
+use Rattle.overlay_core.specs.Steps.{StepsBy, held_by, next_by, without}
+use Rattle.overlay_core.specs.Views.{CoreAgrees, CoreGoes, CoreKeeps, CoreStays, core_clients, core_finished, core_layers, core_mount, core_read_only, core_work}
 use Rattle.watch_table.specs.declared.hook.Callback.{Ghosts as Callback}
 use Rattle.watch_table.specs.declared.hook.Rule.{Ghosts as Rule}
 
@@ -33,3 +42,28 @@ abbrev pub CoreSteps : {F G : Type 0} {asks : Callback F} {rule : Rule G} →
 CoreSteps old job new after turn next =
     StepsBy old.watched new.watched (without (core_work old) job) (core_work new) job after turn
     next (held_by (core_work old) job)
+
+-- the reply of a step, where it ends the call
+abbrev pub reply_of : Turn → Option Reply
+reply_of (Done reply) = Some reply
+reply_of _ = None
+
+-- ALL OF A STEP: what `Core::advance` says of the core, of the job and of what it gives
+pub record Advances {F G : Type 0} {asks : Callback F} {rule : Rule G}
+    (old : Core F G asks rule) (job : Job) (new : Core F G asks rule) (after : Job) (turn : Turn) : Type 0 where
+  pub same : (after.client ≡ job.client) × (after.call ≡ job.call)
+  pub turns : TurnsTo old job new after turn
+  pub steps : after.steps ≡ job.steps + 1
+  pub step :
+      (s : State) → CoreAgrees old s →
+      CoreSteps old job new after turn
+      (next_by (core_mount old) job (held_by (core_work old) job) (refusal s job.client job.call))
+  pub at_once : may_lack job.call ≡ false → turn ≢ More
+  pub read_only : core_read_only old ≡ true → turn ≢ More
+  pub memory : takes_no_memory job.call ≡ true → turn ≢ NoMemory
+  pub finished : core_finished new ≡ finished_after turn (core_finished old)
+  pub clients : KeepsAttached (core_clients old) (core_clients new)
+  pub layers : KeepsLayers job.call (core_layers old) (core_layers new)
+  pub brings : BringsUp job.call (core_layers old) (core_layers new)
+  pub refused : (errno : Errno) → turn ≡ Done (Refused errno) → core_layers new ≡ core_layers old
+  pub kept : CoreKeeps old new

@@ -8,6 +8,8 @@ pub mod Views
 pub mod Jobs
 pub mod Drives
 pub mod Histories
+pub mod LegalHistories
+pub mod WholeRuns
 pub mod Standings
 pub mod Temps
 pub mod Steps

@@ -1,5 +1,5 @@
 -- The step that a job makes next, and what it does.
-use Rattle.std.specs.Prelude.{◌≡◌, ℕ, ◌+◌, ◌<◌, cond, nat_lt, length, List, [], Option, None, Some, IsSomeAnd, IfSome, unwrap_or, Result, Ok, Err}
+use Rattle.std.specs.Prelude.{◌≡◌, ◌≢◌, ℕ, ◌+◌, ◌<◌, cond, nat_lt, length, List, [], Option, None, Some, IsSomeAnd, IfSome, unwrap_or, Result, Ok, Err}
 use Rattle.std.specs.declared.alloc.AllocError.{AllocError}
 use Rattle.ov_base.specs.declared.errno.Errno.{Errno}
 use Rattle.ov_base.specs.declared.reply.Reply.{Reply}
@@ -99,11 +99,12 @@ module _ {F G : Type 0} (old new : Watched F G) (e w : List (Option OpenJob)) (j
   MoreBy AtOnce temp = ⊥
 
   -- WHAT THIS STEP DOES, of a job that holds this temp; e are the open jobs without it. One that
-  -- ends the call, or runs out of memory, leaves nothing of the job.
+  -- ends the call, or runs out of memory, leaves nothing of the job; one that copies a chunk never
+  -- runs out of memory.
   abbrev pub StepsBy : Turn → Next → Option Beginning → Type 0
   StepsBy More next temp = MoreBy next temp
   StepsBy (Done reply) next temp = IsLast next × (w ≡ e) × (k.number ≡ None)
-  StepsBy NoMemory next temp = Same e w × (k.number ≡ None)
+  StepsBy NoMemory next temp = (next ≢ Copy) × Same e w × (k.number ≡ None)
 
   -- by what it answers each state that agreed agrees still, or goes on by the machine's call
   abbrev pub TurnsWatched : Rule → Turn → Type 0

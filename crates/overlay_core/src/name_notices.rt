@@ -65,6 +65,7 @@ impl<F: Callback, R: Rule> Watched<F, R> {
         look: &Look,
     ) -> Result<Reply, AllocError>
         requires there { is_attached self.old.mount.clients client ≡ true }
+        requires state { ∥ HasState self.old.mount self.old.notifier ∥₁ }
         requires look { IsLook self.old.mount.layers path.now look.now }
         ensures { Performs R.shows client (Call.Unlink path.now) self.old self.new result }
     {

@@ -2,7 +2,7 @@
 ghost use Rattle.std.specs.Prelude.{◌≡◌, ◌+◌, ◌<◌, ◌≤◌, ◌^◌, ℕ, false, None, IfOk, IfSome, OnErr, OnOk, slice_get, length, nat_eq, cond};
 ghost use Rattle.overlay_core.specs.Views.{CoreKeeps, CoreStays, core_clients, core_finished};
 ghost use Rattle.mount_calls.specs.Attaching.{KeepsAttached};
-ghost use Rattle.overlay_core.specs.Drives.{Answers, Drives, GivesNoStep, PassesOver, answered, calls_of, count_some, is_due, one_if_some, open_count, replies_to, times};
+ghost use Rattle.overlay_core.specs.Drives.{Answers, Drives, DriveSteps, GivesNoStep, OneStep, PassesOver, answered, calls_of, count_some, is_due, one_if_some, open_count, replies_to, times};
 
 use crate::job::{Job, Standing};
 use crate::mounted::Core;
@@ -12,9 +12,10 @@ use std::alloc::{AllocError, Global};
 use watch_table::{Callback, Rule};
 
 /// Gives jobs steps in the order of a schedule, and answers the replies, each with its job's index,
-/// in the order of finishing. A job that the schedule doesn't end stays open. An index past the end, of a job that is over or of a client that
-/// isn't attached is skipped; a job that gets no step is left alone. An allocation failure for the
-/// replies changes nothing.
+/// in the order of finishing. Each index is one `Core::advance` of its job. A job that the schedule
+/// doesn't end stays open. An index past the end, of a job that is over or of a client that isn't
+/// attached is skipped; a job that gets no step is left alone. An allocation failure for the replies
+/// changes nothing.
 pub fn drive<F: Callback, R: Rule>(
     alloc: Global,
     core: &mut Core<F, R>,
@@ -22,6 +23,8 @@ pub fn drive<F: Callback, R: Rule>(
     schedule: &[usize],
 ) -> Result<Vec<(usize, Reply)>, AllocError>
     requires { core_finished core.old + length schedule.now < 2 ^ 63 }
+    ensures chain { IfOk result (λ replies.
+        DriveSteps core.old jobs.old schedule.now replies.items core.new jobs.new) }
     ensures run { IfOk result (λ replies.
         Drives (calls_of jobs.old) core.old replies.items core.new) }
     ensures calls { calls_of jobs.new ≡ calls_of jobs.old }
@@ -51,6 +54,7 @@ pub fn drive<F: Callback, R: Rule>(
 // One step of the job of this index, and the reply where it finishes.
 fn one<F: Callback, R: Rule>(core: &mut Core<F, R>, jobs: &mut [Job], index: usize) -> Option<Reply>
     requires { core_finished core.old + 1 < 2 ^ 63 }
+    ensures chain { OneStep core.old jobs.old index result core.new jobs.new }
     ensures calls { calls_of jobs.new ≡ calls_of jobs.old }
     ensures answers { IfSome result (λ reply.
         Answers (calls_of jobs.old) core.old index reply core.new) }

@@ -364,34 +364,27 @@ fn copy<F: Callback, R: Rule>(watched: &Watched<F, R>, work: &mut WorkDir, job: 
     requires temps { AreTemps (lowers_of watched.now.mount.layers) work.old }
     ensures makes { Makes watched.now watched.now (without work.old job.old) work.new job.old
         job.new R.shows result Next.Copy (held_by work.old job.old) }
+    ensures more { result ≡ Turn.More }
     ensures stepped { IsStepped job.old job.new }
 {
     let Some(number) = job.number() else {
         unreachable!()
     };
-    match lengthen(&watched.mount, work, number) {
-        Ok(()) => {
-            job.copy(number);
-            Turn::More
-        }
-        Err(AllocError) => {
-            let _ = work.take_out(number, job.client());
-            job.end(Standing::GivenUp);
-            Turn::NoMemory
-        }
-    }
+    lengthen(&watched.mount, work, number);
+    job.copy(number);
+    Turn::More
 }
 
-// Copies a chunk of its file into the temp under a number, where it is kept.
-fn lengthen(mount: &Mount, work: &mut WorkDir, number: usize) -> Result<(), AllocError>
+// Copies a chunk of its file into the temp under a number, where it is kept. There is room for it
+// since the temp was begun.
+fn lengthen(mount: &Mount, work: &mut WorkDir, number: usize)
     requires temps { AreTemps (lowers_of mount.now.layers) work.old }
     requires more { IsSomeAnd (temp_at work.old number)
         (λ t. length t.bytes < lack_size (lowers_of mount.now.layers) (Lacking.File t.source)) }
-    ensures ok { OnOk result ((t : Beginning) → temp_at work.old number ≡ Some t →
+    ensures { (t : Beginning) → temp_at work.old number ≡ Some t →
         Changes work.old work.new number
         (with_chunk (unwrap_or (bytes_at (lowers_of mount.now.layers) t.source) [])
-        (job_at work.old number))) }
-    ensures err { OnErr result (work.new ≡ work.old) }
+        (job_at work.old number)) }
 {
     let Some(temp) = work.temp_at(number) else {
         unreachable!()
@@ -399,7 +392,10 @@ fn lengthen(mount: &Mount, work: &mut WorkDir, number: usize) -> Result<(), Allo
     let Some(bytes) = mount.low_bytes(temp.source()) else {
         unreachable!()
     };
-    work.copy_chunk(number, bytes)
+    match work.copy_chunk(number, bytes) {
+        Ok(()) => {}
+        Err(AllocError) => unreachable!(),
+    }
 }
 
 // Keeps an open job with this temp under the number that it gives.

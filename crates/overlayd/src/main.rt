@@ -2,11 +2,13 @@
 #![tactic(auto)]
 
 use locked_history::Blank;
+use ov_devices::{CountedReader, CountedWriter};
 use ov_server::{
-    ByTag, Fault, Input, Invocation, Output, ProgramRule, command_line, core_of, hooks_by_slot,
-    play_run, show_run,
+    ByTag, Fault, Invocation, Output, ProgramRule, command_line, core_of, hooks_by_slot, play_run,
+    show_run,
 };
 use socket_server::{ServeOptions, Served, serve_on};
+use std::alloc::Global;
 use std::env::Env;
 use std::fs::Files;
 use std::hash::RandomState;
@@ -77,15 +79,15 @@ fn words<R: Env + AllocGlobal>(rt: &R) -> Result<Vec<String>, Fault> {
 
 fn show<R: Runtime + AllocGlobal>(rt: &R, keys: RandomState, manifest: &str) -> Result<(), Fault> {
     let manifest = bytes_of(rt, manifest)?;
-    let mut output = Output::new(rt.alloc(), io::writer(rt));
+    let mut output = Output::new(rt.alloc(), CountedWriter::new(io::writer(rt)));
     show_run(rt.alloc(), keys, manifest.as_slice(), &mut output)
 }
 
 fn play<R: Runtime + AllocGlobal>(rt: &R, keys: RandomState, manifest: &str) -> Result<(), Fault> {
     let manifest = bytes_of(rt, manifest)?;
     let hooks = hooks_by_slot(rt.alloc())?;
-    let mut input = Input::new(rt.reader());
-    let mut output = Output::new(rt.alloc(), io::writer(rt));
+    let mut input = CountedReader::new(rt.reader());
+    let mut output = Output::new(rt.alloc(), CountedWriter::new(io::writer(rt)));
     play_run(
         rt.alloc(),
         keys,
@@ -120,7 +122,8 @@ where
     H: Rule + Send + Sync,
     R: Runtime + AllocGlobal + Net + Threads + Wait + Sync,
 {
-    let blank = blank_of(rt, keys, manifest)?;
+    let manifest = bytes_of(rt, manifest)?;
+    let blank = blank_of(rt.alloc(), keys, manifest.as_slice())?;
     let listener = match UnixListener::bind(rt, options.socket) {
         Ok(listener) => listener,
         Err(fault) if fault.kind() == io::ErrorKind::OutOfMemory => return Err(Fault::Memory),
@@ -133,14 +136,13 @@ where
 }
 
 // A mount of a manifest's layers on which nothing was done.
-fn blank_of<F: Callback + Drop, H: Rule, R: Files + AllocGlobal>(
-    rt: &R,
+fn blank_of<F: Callback + Drop, H: Rule>(
+    alloc: Global,
     keys: RandomState,
-    manifest: &str,
+    manifest: &[u8],
 ) -> Result<Blank<F, H>, Fault> {
-    let manifest = bytes_of(rt, manifest)?;
-    let core = core_of(rt.alloc(), keys, manifest.as_slice())?;
-    Blank::new(rt.alloc(), core).map_err(|_| Fault::Memory)
+    let core = core_of(alloc, keys, manifest)?;
+    Blank::new(alloc, core).map_err(|_| Fault::Memory)
 }
 
 fn bytes_of<R: Files + AllocGlobal>(rt: &R, path: &str) -> Result<Vec<u8>, Fault> {

@@ -6,7 +6,8 @@ ghost use Rattle.locked_history.specs.Names.{IsNamed};
 use crate::mounts::{Shut, Silent, blank_of};
 use locked_history::{Blank, Gate, Mount, MountName, Open, Receipt, Session};
 use mount_door::{Departure, run_session};
-use ov_session::{Ending, SessionInput, SessionOutput};
+use ov_devices::{CountedReader, CountedWriter};
+use ov_session::{Ending, SessionOutput};
 use std::alloc::Global;
 use std::hash::RandomState;
 use std::marker::Brand;
@@ -77,8 +78,8 @@ fn session_left<N: MountName, F: Callback + Drop, R: Rule, G: Gate, H: Wait>(
     receipts.reserve(2)?;
     receipts.push_reserved(client.1);
     let mut written = Vec::new(alloc);
-    let mut input = SessionInput::new(bytes);
-    let mut output = SessionOutput::new(alloc, &mut written);
+    let mut input = CountedReader::new(bytes);
+    let mut output = SessionOutput::new(alloc, CountedWriter::new(&mut written));
     let left = run_session(
         rt,
         alloc,

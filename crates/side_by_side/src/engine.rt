@@ -1,7 +1,8 @@
 // Runs of the engine over bytes in memory.
 ghost use Rattle.std.specs.Prelude.{◌≤◌};
 
-use ov_server::{Fault, Input, Output, hooks_by_slot, play_run_keeping, show_run};
+use ov_devices::{CountedReader, CountedWriter};
+use ov_server::{Fault, Output, hooks_by_slot, play_run_keeping, show_run};
 use overlay_core::LOOK_UPS_KEPT;
 use std::alloc::Global;
 use std::hash::RandomState;
@@ -110,8 +111,8 @@ fn play(
     requires { look_ups ≤ 65536 }
 {
     let hooks = hooks_by_slot(alloc)?;
-    let mut input = Input::new(script);
-    let mut output = Output::new(alloc, text);
+    let mut input = CountedReader::new(script);
+    let mut output = Output::new(alloc, CountedWriter::new(text));
     play_run_keeping(
         alloc,
         keys,
@@ -129,6 +130,6 @@ fn show(
     manifest: &[u8],
     text: &mut Vec<u8>,
 ) -> Result<(), Fault> {
-    let mut output = Output::new(alloc, text);
+    let mut output = Output::new(alloc, CountedWriter::new(text));
     show_run(alloc, keys, manifest, &mut output)
 }

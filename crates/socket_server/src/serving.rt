@@ -1,7 +1,7 @@
 // All workers of a server.
 ghost use Rattle.std.specs.Prelude.{◌≤◌, All, IfOk, length};
 ghost use Rattle.locked_history.specs.Entries.{history_of};
-ghost use Rattle.locked_history.specs.Holding.{Legally};
+ghost use Rattle.overlay_core.specs.LegalHistories.{Legally};
 ghost use Rattle.locked_history.specs.Names.{IsNamed};
 ghost use Rattle.locked_history.specs.Views.{core_past, entries_past};
 

@@ -7,8 +7,9 @@ use crate::reports::Reports;
 use locked_history::{Mount, MountName, Open, Receipt, Session};
 use mount_door::{Departure, run_session};
 use ov_base::Errno;
+use ov_devices::{CountedReader, CountedWriter};
 use ov_frames::{Answer, append_reply};
-use ov_session::{SessionInput, SessionOutput};
+use ov_session::SessionOutput;
 use std::alloc::{AllocError, Global};
 use std::io::{Eprint, Write};
 use std::os::unix::net::{UnixListener, UnixStream};
@@ -81,8 +82,8 @@ fn serve<N: MountName, F: Callback + Copy, R: Rule, H: Wait + Eprint>(
     match attach(rt, alloc, mount, hooks) {
         Ok((session, own)) => {
             reports.begins(number, session.client);
-            let mut input = SessionInput::new(stream);
-            let mut output = SessionOutput::new(alloc, stream);
+            let mut input = CountedReader::new(stream);
+            let mut output = SessionOutput::new(alloc, CountedWriter::new(stream));
             let Departure {
                 ending,
                 calls,

@@ -33,3 +33,5 @@ mod schedules;
 mod sessions;
 #[cfg(test)]
 mod streams;
+#[cfg(test)]
+mod whole_runs;

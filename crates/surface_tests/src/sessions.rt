@@ -18,8 +18,9 @@ mod told_calls;
 use crate::cores::{DEEDS_MAX, attached, mounted};
 use crate::fixtures::EMPTY;
 use core_door::{CoreSession, run_session};
+use ov_devices::{CountedReader, CountedWriter};
 use ov_server::{ByTag, ProgramRule};
-use ov_session::{Ending, SessionInput, SessionOutput};
+use ov_session::{Ending, SessionOutput};
 use overlay_core::Core;
 use std::alloc::Global;
 use std::hash::RandomState;
@@ -95,8 +96,8 @@ fn serve<F: Callback + Copy, H: Rule, I: Read, O: Write>(
     let Ok(session) = CoreSession::new(alloc) else {
         return (Err(Fail::from("out of memory")), core);
     };
-    let mut input = SessionInput::new(reader);
-    let mut output = SessionOutput::new(alloc, writer);
+    let mut input = CountedReader::new(reader);
+    let mut output = SessionOutput::new(alloc, CountedWriter::new(writer));
     let (end, session, core) = run_session(alloc, core, client, session, &mut input, &mut output);
     if core.is_attached(client) {
         return (Err(Fail::from("still attached")), core);

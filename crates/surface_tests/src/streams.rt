@@ -1,6 +1,7 @@
 // Streams that fail, in the middle too, or are interrupted.
 use crate::fixtures::EMPTY;
-use ov_server::{Fault, Input, Output, hooks_by_slot, play_run, show_run};
+use ov_devices::{CountedReader, CountedWriter};
+use ov_server::{Fault, Output, hooks_by_slot, play_run, show_run};
 use std::alloc::Global;
 use std::hash::RandomState;
 use std::io;
@@ -19,8 +20,8 @@ fn play<R: Read, W: Write>(
     writer: &mut W,
 ) -> Result<(), Fault> {
     let hooks = hooks_by_slot(alloc)?;
-    let mut input = Input::new(script);
-    let mut output = Output::new(alloc, writer);
+    let mut input = CountedReader::new(script);
+    let mut output = Output::new(alloc, CountedWriter::new(writer));
     play_run(
         alloc,
         keys,
@@ -32,7 +33,7 @@ fn play<R: Read, W: Write>(
 }
 
 fn show<W: Write>(alloc: Global, keys: RandomState, writer: &mut W) -> Result<(), Fault> {
-    let mut output = Output::new(alloc, writer);
+    let mut output = Output::new(alloc, CountedWriter::new(writer));
     show_run(alloc, keys, EMPTY.as_bytes(), &mut output)
 }
 

@@ -95,10 +95,13 @@ impl WatchedObjects {
         }
     }
 
-    // The clients that watch an object.
+    // The clients that watch an object. Where nobody watches any, no number is hashed.
     pub(crate) fn watchers(&self, object: u64) -> &[u64]
         ensures { result.now ≡ watchers_of self.now object }
     {
+        if self.table.is_empty() {
+            return &[];
+        }
         match self.table.get(&object) {
             Some(watchers) => watchers.as_slice(),
             None => &[],

@@ -2,7 +2,7 @@
 ghost use Rattle.std.specs.Prelude.{◌≡◌, ◌↔◌, ℕ, [], ◌∷◌, ◌++◌, map, position, slice_set, count_by, Some, None, is_some, is_none, length, option_map, ◌<◌, IsSomeAnd, IsTrue, IfOk, IsOk, OnOk, OnErr, option_copied};
 ghost use Rattle.std.specs.Option.{ForSome};
 ghost use Rattle.work_dir.specs.Beginnings.{longer_beginning, IsBeginning};
-ghost use Rattle.work_dir.specs.OpenJobs.{job_at, temp_at, has_temp, is_of, of_client, unless_of, held, closed, closed_any, with_chunk, IsFree, IsFull, LacksBytes, Same, Changes};
+ghost use Rattle.work_dir.specs.OpenJobs.{job_at, temp_at, has_temp, is_of, of_client, unless_of, held, temp_of, closed, closed_any, with_chunk, IsFree, IsFull, LacksBytes, Same, Changes};
 
 use crate::temp::Temp;
 use std::alloc::{AllocError, Global};
@@ -173,7 +173,8 @@ impl WorkDir {
     }
 
     /// Copies the next chunk of a file's bytes, or what is left of them, into the temp under a
-    /// number, where it is kept. An allocation failure changes nothing.
+    /// number, where it is kept. It takes memory only where the file has more bytes than there is room
+    /// for. An allocation failure changes nothing.
     pub fn copy_chunk(&mut self, number: usize, whole: &[u8]) -> Result<(), AllocError>
         requires { LacksBytes whole.now (job_at self.old number) }
         ensures ok { OnOk result (self.new ≡ slice_set self.old number
@@ -181,6 +182,8 @@ impl WorkDir {
         ensures numbers { OnOk result (Changes self.old self.new number
             (with_chunk whole.now (job_at self.old number))) }
         ensures err { OnErr result (self.new ≡ self.old) }
+        ensures full { OnErr result (IsSomeAnd (temp_of (job_at self.old number))
+            (λ t. t.room < length whole.now)) }
     {
         copy_into(&mut self.jobs[number], whole)
     }
@@ -231,6 +234,7 @@ fn copy_into(job: &mut Option<OpenJob>, whole: &[u8]) -> Result<(), AllocError>
     requires { LacksBytes whole.now job.old }
     ensures ok { OnOk result (job.new ≡ with_chunk whole.now job.old) }
     ensures err { OnErr result (job.new ≡ job.old) }
+    ensures full { OnErr result (IsSomeAnd (temp_of job.old) (λ t. t.room < length whole.now)) }
 {
     match job {
         Some(open) => lengthen(&mut open.temp, whole),
@@ -243,6 +247,7 @@ fn lengthen(temp: &mut Option<Temp>, whole: &[u8]) -> Result<(), AllocError>
     requires { IsSomeAnd temp.old (λ t. IsBeginning whole.now t × (length t.bytes < length whole.now)) }
     ensures ok { OnOk result (temp.new ≡ option_map (longer_beginning whole.now) temp.old) }
     ensures err { OnErr result (temp.new ≡ temp.old) }
+    ensures full { OnErr result (IsSomeAnd temp.old (λ t. t.room < length whole.now)) }
 {
     match temp {
         Some(temp) => temp.copy_chunk(whole),

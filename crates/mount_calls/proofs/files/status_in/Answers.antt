@@ -1,4 +1,4 @@
-use Rattle.std.proofs.Common.{[], sym, ap, ◌∙◌, subst, unwrap_or}
+use Rattle.std.proofs.Common.{[], sym, ap, ◌∙◌, unwrap_or}
 use Rattle.std.specs.Option.{option_and_then}
 use Rattle.std.specs.Prelude.{option_map}
 use Rattle.layer_tree.specs.Tree.{inode_of}

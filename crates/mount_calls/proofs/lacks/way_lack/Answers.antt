@@ -1,4 +1,3 @@
-use Rattle.layer_tree.specs.Tree.{layer_of}
 use Rattle.copy_up.specs.declared.needs.Need.TheVariants as need
 use Rattle.std.proofs.Common.{sym, ap}
 use Rattle.merged_lookup.specs.Merged.{upper_of}

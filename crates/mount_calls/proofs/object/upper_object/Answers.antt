@@ -1,4 +1,3 @@
-use Rattle.std.proofs.Common.{refl}
 use Rattle.mount_calls.proofs.Marks.{upper-file, upper-link}
 use Rattle.mount_calls.proofs.object.upper_object.Goals as goal
 

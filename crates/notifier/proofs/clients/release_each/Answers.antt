@@ -1,6 +1,6 @@
 use Rattle.std.proofs.Common.{◌≡◌, ◌+◌, ◌-◌, ◌<◌, ℕ, cond, [], ◌∷◌, ◌++◌, take, sym, ap, subst, ◌∙◌, arith}
 use Rattle.std.proofs.lemmas.List.{take_more, take_all}
-use Rattle.open_handles.specs.Tracked.{holders_of}
+use Rattle.object_table.specs.Objects.{holders_of}
 use Rattle.watch_table.specs.Listening.{is_on}
 use Rattle.notifier.proofs.Muting.{fewer-left, none-before, on-own, one-less}
 use Rattle.notifier.proofs.clients.release_each.Goals as goal

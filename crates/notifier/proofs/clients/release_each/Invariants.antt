@@ -1,5 +1,5 @@
 use Rattle.std.proofs.Common.{◌≡◌, ◌+◌, ℕ, cond, take}
-use Rattle.open_handles.specs.Tracked.{holders_of}
+use Rattle.object_table.specs.Objects.{holders_of}
 use Rattle.watch_table.specs.Listening.{is_on}
 use Rattle.notice_laws.specs.Opens.{AreFewer}
 use Rattle.notifier.proofs.clients.release_each.Given as goal

@@ -1,13 +1,13 @@
-use Rattle.std.proofs.Common.{◌≡◌, is_some, sym}
+use Rattle.std.proofs.Common.{◌≡◌, ap, is_some, sym}
 use Rattle.std.specs.Prelude.{option_map}
 use Rattle.std.specs.Vec.{vec_len}
 use Rattle.std.proofs.lemmas.Result.{err_from_is_err_and}
 use Rattle.toml.specs.Parse.{parse_document}
 use Rattle.layer_tree.specs.Tree.{layer_of}
-use Rattle.overlay_core.specs.Views.{core_finished, core_options, core_read_only}
+use Rattle.overlay_core.specs.Views.{core_finished, core_layers, core_options, core_read_only}
 use Rattle.overlay_core.proofs.Agreeing.{bounded}
 use Rattle.overlay_core.proofs.Histories.{first_places}
-use Rattle.ov_server.proofs.Manifests.{counted, given_upper, refuses_none, refuses_told}
+use Rattle.ov_server.proofs.Manifests.{counted, given_upper, holds_manifest, refuses_none, refuses_told}
 use Rattle.ov_server.proofs.Mountable.{no-fault, sound-number}
 use Rattle.ov_server.proofs.play.core_keeping.Goals as goal
 
@@ -47,3 +47,16 @@ returns-clause-begins g c = record {
   nobody = rw c.in-Ok.is at c.in_ok-core.ensures.nobody;
   first = rw c.in-Ok.is at c.in_ok-core.ensures.first;
 }
+
+pub returns-clause-mount : goal.returns-clause-mount
+returns-clause-mount g c =
+    let told = c.in_ok-upper.ensures in
+    let core = c.in-Ok.core in
+    let upper = c.in_ok-upper.upper in
+    let read_only = given_upper upper (core_read_only core) (rw c.in-Ok.is at c.in_ok-core.ensures.read_only) in
+    record {
+      layers = holds_manifest c.args.manifest.now upper c.in_ok-upper.lowers.items (core_layers core)
+          (rw c.in-Ok.is at c.in_ok-core.ensures.upper) (ap (λ v. v.items) (rw c.in-Ok.is at c.in_ok-core.ensures.lowers)) told.upper told.spelled;
+      options = rw (rw c.in-Ok.is at c.in_ok-core.ensures.options) told.options;
+      upper = rw read_only told.upper;
+    }

@@ -3,4 +3,4 @@ use Rattle.ov_server.proofs.print_tree.write_tree.Given as goal
 
 -- no device has failed so far
 abbrev pub invariant-loop : goal.invariant-loop
-invariant-loop g l = l.output.failed ≡ l.initial.output.failed
+invariant-loop g l = g.K.Sink.failures l.output.sink ≡ g.K.Sink.failures l.initial.output.sink

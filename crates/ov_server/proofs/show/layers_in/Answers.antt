@@ -1,7 +1,7 @@
 use Rattle.std.proofs.Common.{ap, sym}
 use Rattle.std.proofs.lemmas.Result.{err_from_is_err_and}
 use Rattle.ov_server.specs.Rosters.{Layering}
-use Rattle.ov_server.proofs.Manifests.{counted, refuses_none, refuses_told}
+use Rattle.ov_server.proofs.Manifests.{counted, holds_manifest, refuses_none, refuses_told}
 use Rattle.ov_server.proofs.show.layers_in.Goals as goal
 
 pub returns-in_err-upper-clause-manifest : goal.returns-in_err-upper-clause-manifest
@@ -19,3 +19,9 @@ pub returns-clause-manifest : goal.returns-clause-manifest
 returns-clause-manifest c =
     let told = c.in_ok-upper.ensures in
     refuses_none c.args.manifest.now c.in_ok-new.field-0 c.in_ok-upper.field-0-2 told.not_utf8 told.not_toml told.options
+
+pub returns-clause-layers : goal.returns-clause-layers
+returns-clause-layers c =
+    let told = c.in_ok-upper.ensures in
+    holds_manifest c.args.manifest.now c.in_ok-upper.upper c.in_ok-upper.lowers.items c.in_ok-new.field-0
+    (rw c.in_ok-new.ensures.upper c.in_ok-over.ensures.given) (ap (λ v. v.items) c.in_ok-new.ensures.lowers) told.upper told.spelled

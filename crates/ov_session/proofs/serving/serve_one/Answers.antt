@@ -14,35 +14,36 @@ use Rattle.ov_session.proofs.serving.serve_one.Goals as goal
 pub returns-in-Err : goal.returns-in-Err
 returns-in-Err g c =
     let told = g.D.Door.told in
-    let o = place g.W.Write.contents told c.args.output.now c.args.session.now c.args.door.now in
+    let o = place g.K.Sink.contents g.K.Sink.failures told c.args.output.now c.args.session.now c.args.door.now in
     record {
       served =
           one_unasked g.D.Door.goes o o c.args.request [] ending.Memory refl refl
           (sym (append-nil o.told)) (g.met.D.Door.stays c.args.door.now) (inl refl, ([], refl));
-      mark = c.requires.well;
+      output = refl;
       admitted = c.requires.admitted;
     }
 
 pub returns-in-Ok-None : goal.returns-in-Ok-None
 returns-in-Ok-None g c =
     let told = g.D.Door.told in
-    let o = place g.W.Write.contents told c.args.output.now c.args.session.now c.args.door.now in
+    let o = place g.K.Sink.contents g.K.Sink.failures told c.args.output.now c.args.session.now c.args.door.now in
     let leaves = sym c.in-Ok-None.ensures ∙ c.in-Ok-None.field-0-is in
     record {
       served =
           one_unasked g.D.Door.goes o o c.args.request [] ending.Detached refl refl
           (sym (append-nil o.told)) (g.met.D.Door.stays c.args.door.now)
           (refl, refl, (c.args.request, [], refl, leaves));
-      mark = c.requires.well;
+      output = refl;
       admitted = c.requires.admitted;
     }
 
 pub returns-in-Ok-Some-Err : goal.returns-in-Ok-Some-Err
 returns-in-Ok-Some-Err g c =
-    let contents = g.W.Write.contents in
+    let contents = g.K.Sink.contents in
+    let failures = g.K.Sink.failures in
     let told = g.D.Door.told in
-    let o = place contents told c.args.output.now c.args.session.now c.args.door.now in
-    let n = place contents told c.put.new.self c.args.session.now c.args.door.now in
+    let o = place contents failures told c.args.output.now c.args.session.now c.args.door.now in
+    let n = place contents failures told c.put.new.self c.args.session.now c.args.door.now in
     let refused = NotTaken c.in-Ok-Some-Err.errno in
     let asked : asked_of c.args.request ≡ Some (Err c.in-Ok-Some-Err.errno)
     = cc (
@@ -57,17 +58,18 @@ returns-in-Ok-Some-Err g c =
           (subst (λ (x : Option (Result Call Errno)). Answers x [] refused) (sym asked)
           (refl, refl))
           c.put.ensures.put;
-      mark = c.put.ensures.mark;
+      output = c.put.ensures.failures;
       admitted = c.requires.admitted;
     }
 
 pub returns-in-Answered : goal.returns-in-Answered
 returns-in-Answered g c =
-    let contents = g.W.Write.contents in
+    let contents = g.K.Sink.contents in
+    let failures = g.K.Sink.failures in
     let told = g.D.Door.told in
     let asks = c.call-in-Ok-Some-Ok.new in
-    let o = place contents told c.args.output.now c.args.session.now c.args.door.now in
-    let n = place contents told c.put-in-Answered.new.self asks.session asks.self in
+    let o = place contents failures told c.args.output.now c.args.session.now c.args.door.now in
+    let n = place contents failures told c.put-in-Answered.new.self asks.session asks.self in
     let call = c.in-Ok-Some-Ok.call in
     let h = c.in-Answered.ensures.told in
     let answer = c.answer.result.now in
@@ -82,17 +84,18 @@ returns-in-Answered g c =
           (subst (λ (x : Option (Result Call Errno)). Answers x (Called call h.0 ∷ []) answer)
           (sym asked) (ap (λ (a : Answer). Called call a ∷ []) (sym last)))
           c.put-in-Answered.ensures.put;
-      mark = c.put-in-Answered.ensures.mark;
+      output = c.put-in-Answered.ensures.failures;
       admitted = c.in-Answered.ensures.admitted;
     }
 
 pub returns-in-HeldBack : goal.returns-in-HeldBack
 returns-in-HeldBack g c =
-    let contents = g.W.Write.contents in
+    let contents = g.K.Sink.contents in
+    let failures = g.K.Sink.failures in
     let told = g.D.Door.told in
     let asks = c.call-in-Ok-Some-Ok.new in
-    let o = place contents told c.args.output.now c.args.session.now c.args.door.now in
-    let n = place contents told c.args.output.now asks.session asks.self in
+    let o = place contents failures told c.args.output.now c.args.session.now c.args.door.now in
+    let n = place contents failures told c.args.output.now asks.session asks.self in
     let call = c.in-Ok-Some-Ok.call in
     let h = c.in-HeldBack.ensures.told in
     let asked : asked_of c.args.request ≡ Some (Ok call)
@@ -102,22 +105,23 @@ returns-in-HeldBack g c =
       served =
           one_unasked g.D.Door.goes o n c.args.request (HeldBack call ∷ []) ending.Stopped
           refl refl h.0 h.1 ((c.args.request, [], call, refl, asked, refl), refl);
-      mark = c.requires.well;
+      output = refl;
       admitted = c.in-HeldBack.ensures.admitted;
     }
 
 pub returns-in-OutOfMemory : goal.returns-in-OutOfMemory
 returns-in-OutOfMemory g c =
-    let contents = g.W.Write.contents in
+    let contents = g.K.Sink.contents in
+    let failures = g.K.Sink.failures in
     let told = g.D.Door.told in
     let asks = c.call-in-Ok-Some-Ok.new in
-    let o = place contents told c.args.output.now c.args.session.now c.args.door.now in
-    let n = place contents told c.args.output.now asks.session asks.self in
+    let o = place contents failures told c.args.output.now c.args.session.now c.args.door.now in
+    let n = place contents failures told c.args.output.now asks.session asks.self in
     let h = c.in-OutOfMemory.ensures.told in
     record {
       served =
           one_unasked g.D.Door.goes o n c.args.request [] ending.Memory refl refl
           (h.0 ∙ sym (append-nil o.told)) h.1 (inl refl, ([], refl));
-      mark = c.requires.well;
+      output = refl;
       admitted = c.in-OutOfMemory.ensures.admitted;
     }

@@ -1,4 +1,4 @@
-use Rattle.std.proofs.Common.{◌≡◌, ◌+◌, ◌≤◌, [], false, length, take, drop}
+use Rattle.std.proofs.Common.{◌≡◌, ◌+◌, ◌≤◌, ◌-◌, [], length, take, drop}
 use Rattle.ov_frames.specs.Streams.{Held}
 use Rattle.ov_session.proofs.SoFar.{SoFar}
 use Rattle.ov_session.specs.Talks.{place}
@@ -6,22 +6,24 @@ use Rattle.ov_session.proofs.session.pieces_of.Given as goal
 
 abbrev pub invariant-pieces : goal.invariant-pieces
 invariant-pieces g l =
-    let remaining = g.R.Read.remaining in
-    let contents = g.W.Write.contents in
+    let remaining = g.S.Source.remaining in
+    let contents = g.K.Sink.contents in
+    let failures = g.K.Sink.failures in
     let told = g.D.Door.told in
     record {
-      so_far : SoFar g.D.Door.goes (remaining l.fn.input.reader) (remaining l.input.reader)
-          (place contents told l.fn.output l.fn.session l.fn.door)
-          (place contents told l.output l.session l.door)
+      so_far : SoFar g.D.Door.goes (remaining l.fn.input) (remaining l.input)
+          (place contents failures told l.fn.output l.fn.session l.fn.door)
+          (place contents failures told l.output l.session l.door)
           (Held (drop l.start (take l.end l.bytes)));
       near : l.start + l.start ≤ l.end;
       within : l.end ≤ length l.bytes;
       room : length l.bytes ≡ 140008;
-      input : l.input.failed ≡ false;
-      well : l.output.failed ≡ false;
+      input : g.S.Source.failures l.input ≡ g.S.Source.failures l.fn.input;
+      reads : g.S.Source.reads l.fn.input ≤ g.S.Source.reads l.input;
+      well : failures l.output.sink ≡ failures l.fn.output.sink;
       held : l.output.held.items ≡ [];
       admitted : g.D.Door.admits l.door l.session;
     }
 
 abbrev pub decreases-pieces : goal.decreases-pieces
-decreases-pieces g l = l.input.reads_left
+decreases-pieces g l = 4294967295 - g.S.Source.reads l.input

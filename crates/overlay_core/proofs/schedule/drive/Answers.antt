@@ -1,11 +1,11 @@
-use Rattle.std.proofs.Common.{arith, ◌≡◌, ◌+◌, ℕ, List, [], ◌∷◌, ◌++◌, get_or, cond, nat_eq, refl, sym, ap, ◌∙◌, subst, vec_len, length}
-use Rattle.std.proofs.lemmas.List.{length-append}
+use Rattle.std.proofs.Common.{arith, ◌≡◌, ◌+◌, ℕ, List, [], ◌∷◌, ◌++◌, get_or, cond, nat_eq, take, Some, None, refl, sym, ap, ◌∙◌, subst, vec_len, length}
+use Rattle.std.proofs.lemmas.List.{append-nil, length-append}
 use Rattle.std.specs.Vec.{vec_capacity}
 use Rattle.ov_base.specs.declared.call.Call.{Call}
 use Rattle.ov_base.specs.declared.reply.Reply.{Reply}
 use Rattle.overlay_core.specs.Views.{core_clients}
-use Rattle.overlay_core.specs.Drives.{calls_of, Drives, Answers, replies_to}
-use Rattle.overlay_core.proofs.Driving.{drives-none, drives-more, drives-stay, keeps-on, kept-on, kept-same, none-before, none-here, open-at-most, passes-more, passes-start, replies-more}
+use Rattle.overlay_core.specs.Drives.{calls_of, Drives, DriveSteps, Answers, replies_to}
+use Rattle.overlay_core.proofs.Driving.{drives-none, drives-more, drives-stay, keeps-on, kept-on, kept-same, none-before, none-here, open-at-most, passes-more, passes-start, replies-more, steps-more}
 use Rattle.overlay_core.proofs.schedule.drive.Goals as goal
 use Rattle.overlay_core.proofs.schedule.drive.Goals.{in-Some, in_default}
 
@@ -14,6 +14,7 @@ loop-index-init g c =
     let none : c.in_ok-replies.replies.items ≡ [] = c.in_ok-replies.ensures.items in
     let empty : length c.in_ok-replies.replies.items ≡ 0 = ap length none in
     record {
+      chain = (refl, refl, none);
       run = drives-none (calls_of c.args.jobs.now) c.args.core.now c.in_ok-replies.replies.items none;
       calls = refl;
       once = λ i. let e : replies_to i c.in_ok-replies.replies.items ≡ 0 = ap (replies_to i) none in omega arith;
@@ -42,6 +43,8 @@ loop-index-preserved g c =
           let capacity : vec_capacity c.match-reply.replies ≡ vec_capacity c.loop-index.replies = ap (λ v. vec_capacity v) w.replies-is ∙ w.push_reserved.ensures.capacity in
           let longer : length c.match-reply.replies.items ≡ length c.loop-index.replies.items + 1 = ap length grown ∙ length-append c.loop-index.replies.items ((i, w.in-Some.reply) ∷ []) in
           record {
+            chain = subst (λ (rs : List (ℕ × Reply)). DriveSteps before c.args.jobs.now (take (c.loop-index.index-index + 1) c.args.schedule.now) rs after c.one-reply.new.jobs) (sym grown)
+                (steps-more before between after c.args.jobs.now c.loop-index.jobs c.one-reply.new.jobs c.args.schedule.now c.loop-index.index-index c.loop-index.replies.items (Some w.in-Some.reply) (omega arith) I.chain w.in-Some.ensures.chain);
             run = subst (λ (rs : List (ℕ × Reply)). Drives calls before rs after) (sym grown) (drives-more calls before between after c.loop-index.replies.items i w.in-Some.reply I.run answers);
             calls = w.in-Some.ensures.calls ∙ I.calls;
             passed = λ n. passes-more (core_clients before) (core_clients between) c.args.jobs.now c.loop-index.jobs c.one-reply.new.jobs c.args.schedule.now c.loop-index.index-index n I.clients (omega arith) (I.passed n) (w.in-Some.ensures.passed n);
@@ -72,6 +75,8 @@ loop-index-preserved g c =
           let capacity : vec_capacity c.match-reply.replies ≡ vec_capacity c.loop-index.replies = ap (λ v. vec_capacity v) w.replies-is in
           let long : length c.match-reply.replies.items ≡ length c.loop-index.replies.items = ap length same in
           record {
+            chain = subst (λ (rs : List (ℕ × Reply)). DriveSteps before c.args.jobs.now (take (c.loop-index.index-index + 1) c.args.schedule.now) rs after c.one-reply.new.jobs) (append-nil c.loop-index.replies.items ∙ sym same)
+                (steps-more before between after c.args.jobs.now c.loop-index.jobs c.one-reply.new.jobs c.args.schedule.now c.loop-index.index-index c.loop-index.replies.items None (omega arith) I.chain w.in_default.ensures.chain);
             run = subst (λ (rs : List (ℕ × Reply)). Drives calls before rs after) (sym same) (drives-stay calls before between after c.loop-index.replies.items I.run (w.in_default.ensures.stays refl));
             calls = w.in_default.ensures.calls ∙ I.calls;
             passed = λ n. passes-more (core_clients before) (core_clients between) c.args.jobs.now c.loop-index.jobs c.one-reply.new.jobs c.args.schedule.now c.loop-index.index-index n I.clients (omega arith) (I.passed n) (w.in_default.ensures.passed n);

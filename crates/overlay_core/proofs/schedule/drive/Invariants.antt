@@ -2,11 +2,13 @@ use Rattle.std.proofs.Common.{◌≡◌, ℕ, ◌+◌, ◌≤◌, vec_len, slice
 use Rattle.std.specs.Vec.{vec_capacity}
 use Rattle.mount_calls.specs.Attaching.{KeepsAttached}
 use Rattle.overlay_core.specs.Views.{CoreKeeps, core_clients, core_finished}
-use Rattle.overlay_core.specs.Drives.{calls_of, Drives, open_count, answered, replies_to, times, GivesNoStep, PassesOver}
+use Rattle.overlay_core.specs.Drives.{calls_of, Drives, DriveSteps, open_count, answered, replies_to, times, GivesNoStep, PassesOver}
 use Rattle.overlay_core.proofs.schedule.drive.Given as goal
 
 abbrev pub invariant-loop-index : goal.invariant-loop-index
 invariant-loop-index g l = record {
+  chain :
+      DriveSteps l.fn.core l.fn.jobs (take l.index-index l.schedule) l.replies.items l.core l.jobs;
   run : Drives (calls_of l.fn.jobs) l.fn.core l.replies.items l.core;
   calls : calls_of l.jobs ≡ calls_of l.fn.jobs;
   once : (i : ℕ) → answered l.jobs i ≡ answered l.fn.jobs i + replies_to i l.replies.items;

@@ -1,12 +1,15 @@
-use Rattle.std.proofs.Common.{arith, rules, ◌≡◌, true, Some, slice_get, get_or, ap, refl}
+use Rattle.std.proofs.Common.{arith, rules, ◌≡◌, ◌≢◌, ◌∙◌, true, false, Some, slice_get, get_or, ap, refl, sym}
+use Rattle.std.proofs.lemmas.Bool.{false≢true}
+use Rattle.std.proofs.lemmas.List.{set-get_or}
 use Rattle.std.proofs.lemmas.Option.{slice_get-get_or}
+use Rattle.mount_calls.specs.Attaching.{is_attached}
 use Rattle.overlay_core.specs.declared.job.Job.{Job}
 use Rattle.overlay_core.specs.declared.job.Standing.TheVariants.{Open}
 use Rattle.overlay_core.specs.Views.{core_clients, has_client}
 use Rattle.overlay_core.specs.Drives.{is_due, one_if_answered, one_if_open}
-use Rattle.overlay_core.proofs.Driving.{calls-set, call-here, once-done, once-none, room-less, room-same, passes-step}
+use Rattle.overlay_core.proofs.Driving.{calls-set, call-here, idle-gone, idle-over, once-done, once-none, one-made, one-skipped, passes-skip, passes-step, room-less, room-same}
 use Rattle.overlay_core.proofs.schedule.one.Given.{Over}
-use Rattle.overlay_core.proofs.schedule.one.Goals.{After-advance}
+use Rattle.overlay_core.proofs.schedule.one.Goals.{After-advance, then-ne-via-then-ne, then-ne-via-else-ne+then-not-is_attached}
 use Rattle.overlay_core.proofs.schedule.one.Goals as goal
 
 -- the job as it was, which is open
@@ -95,3 +98,116 @@ returns-in-More-clause-passed g c =
     let x = (goal.at.returns-in-More-clause-passed g c).After-advance in
     passes-step (core_clients c.args.core.now) c.args.jobs.now c.args.index (job g x)
     c.advance.new.job (here g x) (due g x) c.advance.ensures.job.0 c.advance.ensures.steps
+
+pub returns-in-Done-clause-chain : goal.returns-in-Done-clause-chain
+returns-in-Done-clause-chain g c =
+    let x = (goal.at.returns-in-Done-clause-chain g c).After-advance in
+    let all = c.advance.ensures in
+    let by = c.in-Done.ensures in
+    one-made c.args.core.now c.advance.new.self c.args.jobs.now c.args.index (job g x) c.advance.new.job _ _ (here g x) (due g x) refl
+    record {
+      same = all.job;
+      turns = by.turn;
+      steps = all.steps;
+      step = by.step;
+      at_once = by.at_once;
+      read_only = by.read_only;
+      memory = by.memory;
+      finished = by.finished;
+      clients = all.clients;
+      layers = all.layers;
+      brings = all.brings;
+      refused = by.refused;
+      kept = all.kept;
+    }
+
+pub returns-in-NoMemory-clause-chain : goal.returns-in-NoMemory-clause-chain
+returns-in-NoMemory-clause-chain g c =
+    let x = (goal.at.returns-in-NoMemory-clause-chain g c).After-advance in
+    let all = c.advance.ensures in
+    let by = c.in-NoMemory.ensures in
+    one-made c.args.core.now c.advance.new.self c.args.jobs.now c.args.index (job g x) c.advance.new.job _ _ (here g x) (due g x) refl
+    record {
+      same = all.job;
+      turns = by.turn;
+      steps = all.steps;
+      step = by.step;
+      at_once = by.at_once;
+      read_only = by.read_only;
+      memory = by.memory;
+      finished = by.finished;
+      clients = all.clients;
+      layers = all.layers;
+      brings = all.brings;
+      refused = by.refused;
+      kept = all.kept;
+    }
+
+pub returns-in-More-clause-chain : goal.returns-in-More-clause-chain
+returns-in-More-clause-chain g c =
+    let x = (goal.at.returns-in-More-clause-chain g c).After-advance in
+    let all = c.advance.ensures in
+    let by = c.in-More.ensures in
+    one-made c.args.core.now c.advance.new.self c.args.jobs.now c.args.index (job g x) c.advance.new.job _ _ (here g x) (due g x) refl
+    record {
+      same = all.job;
+      turns = by.turn;
+      steps = all.steps;
+      step = by.step;
+      at_once = by.at_once;
+      read_only = by.read_only;
+      memory = by.memory;
+      finished = by.finished;
+      clients = all.clients;
+      layers = all.layers;
+      brings = all.brings;
+      refused = by.refused;
+      kept = all.kept;
+    }
+
+pub returns-then-ne-clause-chain : goal.returns-then-ne-clause-chain
+returns-then-ne-clause-chain g c =
+    let core = c.args.core.now in
+    let jobs = c.args.jobs.now in
+    let i = c.args.index in
+    let j = get_or jobs i c.index-jobs-index.result in
+    let at : slice_get jobs i ≡ Some j = slice_get-get_or jobs i c.index-jobs-index.result (omega arith) in
+    elim c.then-ne.branch [
+      | then-ne-via-then-ne w ↦
+          let over : j.standing ≢ Open = search rules in
+          rw (w.jobs-is, set-get_or jobs i c.index-jobs-index.result) (one-skipped core jobs i (idle-over (core_clients core) (slice_get jobs i) j at over))
+      | then-ne-via-else-ne+then-not-is_attached w ↦
+          let gone : is_attached (core_clients core) j.client ≡ false = search rules in
+          rw (w.jobs-is, set-get_or jobs i c.index-jobs-index.result) (one-skipped core jobs i (idle-gone (core_clients core) (slice_get jobs i) j at gone))
+    ]
+
+pub returns-then-ne-clause-passed : goal.returns-then-ne-clause-passed
+returns-then-ne-clause-passed g c = λ n.
+    let core = c.args.core.now in
+    let jobs = c.args.jobs.now in
+    let i = c.args.index in
+    let j = get_or jobs i c.index-jobs-index.result in
+    let at : slice_get jobs i ≡ Some j = slice_get-get_or jobs i c.index-jobs-index.result (omega arith) in
+    elim c.then-ne.branch [
+      | then-ne-via-then-ne w ↦
+          let over : j.standing ≢ Open = search rules in
+          rw (w.jobs-is, set-get_or jobs i c.index-jobs-index.result) (passes-skip (core_clients core) jobs i n (idle-over (core_clients core) (slice_get jobs i) j at over))
+      | then-ne-via-else-ne+then-not-is_attached w ↦
+          let gone : is_attached (core_clients core) j.client ≡ false = search rules in
+          rw (w.jobs-is, set-get_or jobs i c.index-jobs-index.result) (passes-skip (core_clients core) jobs i n (idle-gone (core_clients core) (slice_get jobs i) j at gone))
+    ]
+
+pub returns-in-Done-clause-idle : goal.returns-in-Done-clause-idle
+returns-in-Done-clause-idle g c = λ idle.
+    let x = (goal.at.returns-in-Done-clause-idle g c).After-advance in
+    absurd (false≢true (sym idle ∙ due g x))
+
+pub returns-in-More-clause-idle : goal.returns-in-More-clause-idle
+returns-in-More-clause-idle g c = λ idle.
+    let x = (goal.at.returns-in-More-clause-idle g c).After-advance in
+    absurd (false≢true (sym idle ∙ due g x))
+
+pub returns-in-NoMemory-clause-idle : goal.returns-in-NoMemory-clause-idle
+returns-in-NoMemory-clause-idle g c = λ idle.
+    let x = (goal.at.returns-in-NoMemory-clause-idle g c).After-advance in
+    absurd (false≢true (sym idle ∙ due g x))

@@ -18,7 +18,7 @@ pub returns-in-Err-clause-makes : goal.returns-in-Err-clause-makes
 returns-in-Err-clause-makes g c = λ t.
     made-aside g.R.Rule.shows c.args.watched.now c.args.work.now c.keep_begun.new.work c.args.job.now
     c.end.new.self NoMemory (Begin c.args.source) t c.keep_begun.ensures.temps
-    (λ s a. a, c.end.ensures.standing) (c.in-Err.ensures.same, c.end.ensures.number)
+    (λ s a. a, c.end.ensures.standing) ((λ is. cc), c.in-Err.ensures.same, c.end.ensures.number)
 
 pub keep_begun-requires-clause-can : goal.keep_begun-requires-clause-can
 keep_begun-requires-clause-can g c = (c.requires.due None).1

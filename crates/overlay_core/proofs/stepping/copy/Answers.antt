@@ -7,8 +7,8 @@ use Rattle.overlay_core.specs.Steps.{held_by}
 use Rattle.overlay_core.proofs.KeptTemps.{copied-more, held-entry, some-and}
 use Rattle.overlay_core.proofs.stepping.copy.Goals as goal
 
-pub returns-in-Ok-clause-makes : goal.returns-in-Ok-clause-makes
-returns-in-Ok-clause-makes g c =
+pub returns-clause-makes : goal.returns-clause-makes
+returns-clause-makes g c =
     let L = lowers_of c.args.watched.now.mount.layers in
     let work = c.args.work.now in
     let j = c.args.job.now in
@@ -16,5 +16,5 @@ returns-in-Ok-clause-makes g c =
     let number = sym c.in-Some.ensures in
     let some = some-and (held_by work j) (λ t. length t.bytes < lack_size L (File t.source)) c.requires.due in
     copied-more g.R.Rule.shows c.args.watched.now work c.lengthen.new.work j c.copy.new.self n number some.0 some.1
-    c.requires.temps (c.in-Ok.ensures.ok some.0 (ap temp_of (held-entry work j some.0 n number some.1)))
+    c.requires.temps (c.lengthen.ensures some.0 (ap temp_of (held-entry work j some.0 n number some.1)))
     c.copy.ensures.standing c.copy.ensures.number c.copy.ensures.counts

@@ -86,3 +86,15 @@ note-requires-clause-allowed g c = λ s st.
 
 pub returns-in-Begin-clause-waits : goal.returns-in-Begin-clause-waits
 returns-in-Begin-clause-waits g c = c.note.ensures
+
+pub finish_seen-requires-clause-temp : goal.finish_seen-requires-clause-temp
+finish_seen-requires-clause-temp g c =
+    (c.held-temp.ensures.temps (lowers_of c.args.watched.now.mount.layers) c.requires.temps).1
+
+pub finish_seen-requires-in-Finish-clause-temp : goal.finish_seen-requires-in-Finish-clause-temp
+finish_seen-requires-in-Finish-clause-temp g c =
+    (c.held-temp-in-Finish.ensures.temps (lowers_of c.args.watched.now.mount.layers) c.requires.temps).1
+
+pub place-requires-clause-temp : goal.place-requires-clause-temp
+place-requires-clause-temp g c =
+    (c.held-temp-in-Place.ensures.temps (lowers_of c.args.watched.now.mount.layers) c.requires.temps).1

@@ -1,4 +1,4 @@
-use Rattle.locked_history.specs.Holding.{opening_of}
+use Rattle.overlay_core.specs.LegalHistories.{opening_of}
 use Rattle.locked_history.specs.Names.{blank_cells, blank_core, blank_ledger, blank_parts}
 use Rattle.shared_mount_tests.proofs.two_workers.served_named.Given as goal
 

@@ -7,8 +7,9 @@ use Rattle.locked_history.specs.declared.entry.Deed.TheVariants.{Attached}
 use Rattle.locked_history.specs.declared.entry.Entry.{Entry}
 use Rattle.locked_history.specs.Entries.{entry_in, told}
 use Rattle.locked_history.proofs.Boxes.{boxes_attach, boxes_stay}
-use Rattle.locked_history.proofs.Growing.{appends, history_push, known_push, legal_attach, legal_stays, names_push, thin_same}
-use Rattle.locked_history.proofs.Numbering.{numbers_attach, numbers_stay}
+use Rattle.overlay_core.proofs.LegalHistories.{legal_attach, legal_stays}
+use Rattle.overlay_core.proofs.Numbering.{numbers_attach, numbers_stay}
+use Rattle.locked_history.proofs.Growing.{appends, history_push, known_push, names_push}
 use Rattle.locked_history.proofs.locked.Locked.attach.Goals as goal
 
 pub attach-requires : goal.attach-requires
@@ -21,7 +22,7 @@ invariant_of-self g c =
     let new = c.attach.new.self in
     let k = e.stays.1 in
     record {
-      legal = legal_stays s.core new s.legal e.stays.0 (thin_same e.layers);
+      legal = legal_stays s.core new s.legal e.stays.0 e.kept;
       due = numbers_stay s.due k;
       names = s.names;
       known = s.known;
@@ -46,7 +47,7 @@ invariant_of-self-2-clause-legal g c =
     let client = c.in_ok-client.client in
     let tags = c.in-Some-room.arrival.tags in
     let goes : CoreGoes s.core client (runs.Attached tags.items) new = subst (λ (ts : List ℕ). CoreGoes s.core client (runs.Attached ts) new) (sym (rw c.in-Some-room.is at c.requires.tags)) c.in_ok-client.ensures.attached in
-    rw (c.append.ensures.entries, c.filled-entry.ensures, history_push (map (λ n. entry_in n.known) s.notes.items) (record { client = client; number = 1; deed = Attached tags })) (legal_attach s.core new client tags.items s.legal s.due c.in_ok-client.ensures.clients.next goes (thin_same c.in_ok-client.ensures.layers))
+    rw (c.append.ensures.entries, c.filled-entry.ensures, history_push (map (λ n. entry_in n.known) s.notes.items) (record { client = client; number = 1; deed = Attached tags })) (legal_attach s.core new client tags.items s.legal s.due c.in_ok-client.ensures.clients.next goes c.in_ok-client.ensures.kept)
 
 pub invariant_of-self-2-clause-due : goal.invariant_of-self-2-clause-due
 invariant_of-self-2-clause-due g c =

@@ -7,8 +7,9 @@ use Rattle.locked_history.specs.declared.entry.Deed.TheVariants.{Detached}
 use Rattle.locked_history.specs.declared.entry.Entry.{Entry}
 use Rattle.locked_history.specs.Entries.{entry_in, told}
 use Rattle.locked_history.proofs.Boxes.{box_there, boxes_detach}
-use Rattle.locked_history.proofs.Growing.{appends, history_push, known_push, legal_due, names_push, number_is}
-use Rattle.locked_history.proofs.Numbering.{numbers_detach}
+use Rattle.overlay_core.proofs.LegalHistories.{legal_due}
+use Rattle.overlay_core.proofs.Numbering.{number_is, numbers_detach}
+use Rattle.locked_history.proofs.Growing.{appends, history_push, known_push, names_push}
 use Rattle.locked_history.proofs.locked.Locked.detach.Goals as goal
 
 pub unreachable-requires : goal.unreachable-requires
@@ -43,7 +44,7 @@ invariant_of-self-clause-legal g c =
     let s = c.args.self.now in
     let client = c.args.session.client in
     let due = (c.may_leave.ensures.0 c.if-not-may_leave.false).0 in
-    rw (c.append.ensures.entries, c.filled-entry.ensures, history_push (map (λ n. entry_in n.known) s.notes.items) (record { client = client; number = c.args.session.number; deed = Detached })) (legal_due s.core c.detach-hooks.new.self client c.args.session.number runs.Detached s.legal s.due due.0 (number_is s.due client due.0 ∙ sym due.1) refl c.detach-hooks.ensures.detached c.detach-hooks.ensures.kept.thin)
+    rw (c.append.ensures.entries, c.filled-entry.ensures, history_push (map (λ n. entry_in n.known) s.notes.items) (record { client = client; number = c.args.session.number; deed = Detached })) (legal_due s.core c.detach-hooks.new.self client c.args.session.number runs.Detached s.legal s.due due.0 (number_is s.due client due.0 ∙ sym due.1) refl c.detach-hooks.ensures.detached c.detach-hooks.ensures.kept)
 
 pub invariant_of-self-clause-due : goal.invariant_of-self-clause-due
 invariant_of-self-clause-due g c =

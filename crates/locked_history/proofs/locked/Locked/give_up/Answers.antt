@@ -1,8 +1,8 @@
 use Rattle.std.proofs.Common.{◌∙◌, ap, refl, sym}
 use Rattle.overlay_core.proofs.Histories.{kept_places}
 use Rattle.locked_history.proofs.Boxes.{boxes_stay}
-use Rattle.locked_history.proofs.Growing.{legal_stays, same_clients, same_layers, same_stays, thin_same}
-use Rattle.locked_history.proofs.Numbering.{numbers_stay}
+use Rattle.overlay_core.proofs.LegalHistories.{legal_stays, same_clients, same_keeps, same_stays}
+use Rattle.overlay_core.proofs.Numbering.{numbers_stay}
 use Rattle.locked_history.proofs.locked.Locked.give_up.Goals as goal
 
 pub invariant_of-self : goal.invariant_of-self
@@ -12,7 +12,7 @@ invariant_of-self g c =
     let new = c.drop_job.new.self in
     let k = same_clients s.core new e in
     record {
-      legal = legal_stays s.core new s.legal (same_stays s.core new e) (thin_same (same_layers s.core new e));
+      legal = legal_stays s.core new s.legal (same_stays s.core new e) (same_keeps s.core new e);
       due = numbers_stay s.due k;
       names = s.names;
       known = s.known;
@@ -30,8 +30,8 @@ invariant_of-self g c =
       amount = s.amount;
     }
 
-pub returns : goal.returns
-returns g c =
+pub returns-clause-stays : goal.returns-clause-stays
+returns-clause-stays g c =
     let s = c.args.self.now in
     let e = c.drop_job.ensures.same in
     let new = c.drop_job.new.self in
@@ -41,3 +41,6 @@ returns g c =
       clients = same_clients s.core new e;
       finished = e.finished;
     }
+
+pub returns-clause-gives_up : goal.returns-clause-gives_up
+returns-clause-gives_up g c = record { same = c.drop_job.ensures.same; work = c.drop_job.ensures.work }

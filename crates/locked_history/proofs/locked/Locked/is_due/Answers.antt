@@ -2,7 +2,8 @@ use Rattle.std.proofs.Common.{arith, ◌≡◌, ◌<◌, ◌∙◌, length, sym,
 use Rattle.std.specs.Prelude.{slice_index}
 use Rattle.std.proofs.lemmas.Bool.{eq-eqb, eqb-true}
 use Rattle.overlay_core.specs.Views.{core_clients, has_client}
-use Rattle.locked_history.proofs.Growing.{number_is, read_at}
+use Rattle.overlay_core.proofs.Numbering.{number_is}
+use Rattle.locked_history.proofs.Growing.{read_at}
 use Rattle.locked_history.proofs.locked.Locked.is_due.Goals as goal
 
 pub returns-then-is_attached : goal.returns-then-is_attached

@@ -1,4 +1,4 @@
-use Rattle.std.proofs.Common.{arith, ◌≡◌, ◌∙◌, ℕ, ◌+◌, ◌-◌, ◌<◌, is_some, length, map, refl, subst, sym, vec_len}
+use Rattle.std.proofs.Common.{arith, ◌≡◌, ◌∙◌, ℕ, ◌+◌, ◌-◌, ◌<◌, ap, inr, is_some, length, map, refl, subst, sym, vec_len}
 use Rattle.std.proofs.lemmas.List.{length-map}
 use Rattle.ov_base.specs.declared.call.Call.{Call}
 use Rattle.plain_model.specs.Runs as runs
@@ -6,17 +6,20 @@ use Rattle.overlay_core.specs.Views.{CoreGoes, client_count, core_clients, core_
 use Rattle.overlay_core.proofs.Histories.{few, kept_places, step_places}
 use Rattle.locked_history.specs.declared.entry.Deed.TheVariants.{Called}
 use Rattle.locked_history.specs.declared.entry.Entry.{Entry}
+use Rattle.locked_history.specs.Claims.{Claim}
 use Rattle.locked_history.specs.Entries.{entry_in, told}
 use Rattle.locked_history.proofs.Boxes.{boxes_stay}
-use Rattle.locked_history.proofs.Growing.{appends, history_push, known_push, legal_due, legal_stays, names_push, number_is}
-use Rattle.locked_history.proofs.Numbering.{numbers_call, numbers_stay}
+use Rattle.overlay_core.proofs.LegalHistories.{legal_due, legal_stays}
+use Rattle.overlay_core.proofs.Numbering.{number_is, numbers_call, numbers_stay}
+use Rattle.locked_history.proofs.Growing.{appends, history_push, known_push, names_push}
+use Rattle.locked_history.proofs.Guarding.{refused_step}
 use Rattle.locked_history.proofs.locked.Locked.step.Goals as goal
 
 pub advance-requires-clause-bound : goal.advance-requires-clause-bound
 advance-requires-clause-bound g c = few c.args.self.now.core c.args.self.now.places
 
 pub invariant_of-self-clause-legal : goal.invariant_of-self-clause-legal
-invariant_of-self-clause-legal g c = legal_stays c.args.self.now.core c.advance.new.self c.args.self.now.legal c.in-More.ensures.turn.0 c.in-More.ensures.kept.thin
+invariant_of-self-clause-legal g c = legal_stays c.args.self.now.core c.advance.new.self c.args.self.now.legal c.in-More.ensures.turn.0 c.in-More.ensures.kept
 
 pub invariant_of-self-clause-due : goal.invariant_of-self-clause-due
 invariant_of-self-clause-due g c = numbers_stay c.args.self.now.due c.in-More.ensures.clients
@@ -28,7 +31,7 @@ pub invariant_of-self-clause-places : goal.invariant_of-self-clause-places
 invariant_of-self-clause-places g c = kept_places c.args.self.now.core c.advance.new.self c.in-More.ensures.kept.options c.in-More.ensures.clients c.in-More.ensures.finished c.args.self.now.places
 
 pub invariant_of-self-in-NoMemory-clause-legal : goal.invariant_of-self-in-NoMemory-clause-legal
-invariant_of-self-in-NoMemory-clause-legal g c = legal_stays c.args.self.now.core c.advance.new.self c.args.self.now.legal c.in-NoMemory.ensures.turn.0 c.in-NoMemory.ensures.kept.thin
+invariant_of-self-in-NoMemory-clause-legal g c = legal_stays c.args.self.now.core c.advance.new.self c.args.self.now.legal c.in-NoMemory.ensures.turn.0 c.in-NoMemory.ensures.kept
 
 pub invariant_of-self-in-NoMemory-clause-due : goal.invariant_of-self-in-NoMemory-clause-due
 invariant_of-self-in-NoMemory-clause-due g c = numbers_stay c.args.self.now.due c.in-NoMemory.ensures.clients
@@ -50,7 +53,7 @@ invariant_of-self-in-Done-clause-legal g c =
     let reply = c.in-Done.reply in
     let made : CoreGoes s.core c.args.job.client (runs.Called call reply) new = subst (λ (k : Call). CoreGoes s.core c.args.job.client (runs.Called k reply) new) (sym (c.into_call-in-Done.ensures ∙ c.in-Done.ensures.job.1)) c.in-Done.ensures.turn.0 in
     let goes : CoreGoes s.core client (runs.Called call reply) new = subst (λ (n : ℕ). CoreGoes s.core n (runs.Called call reply) new) c.requires.client made in
-    rw (c.append.ensures.entries, c.filled-entry.ensures, history_push (map (λ n. entry_in n.known) s.notes.items) (record { client = client; number = number; deed = Called call reply })) (legal_due s.core new client number (runs.Called call reply) s.legal s.due due.0 (number_is s.due client due.0 ∙ sym due.1) refl goes c.in-Done.ensures.kept.thin)
+    rw (c.append.ensures.entries, c.filled-entry.ensures, history_push (map (λ n. entry_in n.known) s.notes.items) (record { client = client; number = number; deed = Called call reply })) (legal_due s.core new client number (runs.Called call reply) s.legal s.due due.0 (number_is s.due client due.0 ∙ sym due.1) refl goes c.in-Done.ensures.kept)
 
 pub invariant_of-self-in-Done-clause-due : goal.invariant_of-self-in-Done-clause-due
 invariant_of-self-in-Done-clause-due g c =
@@ -92,3 +95,26 @@ returns-in-Done-clause-made g c =
     let told_so = subst (λ (e : Entry). CoreGoes s.core e.client (told e.deed) new) (sym c.filled-entry.ensures) goes in
     let last : vec_len s.notes ≡ length (map (λ n. entry_in n.known) s.notes.items) = s.notes.ok.0 ∙ sym (length-map s.notes.items (λ n. entry_in n.known)) in
     appends s c.append.result c.filled-entry.result.value (vec_len s.notes) c.append.ensures.receipt c.append.ensures.entries last told_so
+
+pub returns-in-Err-clause-guarded : goal.returns-in-Err-clause-guarded
+returns-in-Err-clause-guarded g c =
+    let s = c.args.self.now in
+    let e = c.in-Err.ensures in
+    refused_step (map (λ n. entry_in n.known) s.notes.items) s.core c.args.job c.args.room c.give_up.new.self.core c.in-Err.why c.args.session.client c.args.session.number c.give_up.ensures.gives_up e.refused e.memory
+
+pub returns-in-NoMemory-clause-guarded : goal.returns-in-NoMemory-clause-guarded
+returns-in-NoMemory-clause-guarded g c =
+    let e = c.in-NoMemory.ensures in
+    inr (c.advance.new.job, record { same = e.job; turns = e.turn; steps = e.steps; step = e.step; at_once = e.at_once; read_only = e.read_only; memory = e.memory; finished = e.finished; clients = e.clients; layers = e.layers; brings = e.brings; refused = e.refused; kept = e.kept })
+
+pub returns-in-More-clause-guarded : goal.returns-in-More-clause-guarded
+returns-in-More-clause-guarded g c =
+    let e = c.in-More.ensures in
+    record { same = e.job; turns = e.turn; steps = e.steps; step = e.step; at_once = e.at_once; read_only = e.read_only; memory = e.memory; finished = e.finished; clients = e.clients; layers = e.layers; brings = e.brings; refused = e.refused; kept = e.kept }
+
+pub returns-in-Done-clause-guarded : goal.returns-in-Done-clause-guarded
+returns-in-Done-clause-guarded g c =
+    let e = c.in-Done.ensures in
+    let reply = c.in-Done.reply in
+    let deed = ap (λ (r : Claim). r.entry.deed) c.append.ensures.receipt ∙ ap (λ (n : Entry). n.deed) c.filled-entry.ensures ∙ ap (λ (k : Call). Called k reply) (c.into_call-in-Done.ensures ∙ e.job.1) in
+    (reply, deed, (c.advance.new.job, record { same = e.job; turns = e.turn; steps = e.steps; step = e.step; at_once = e.at_once; read_only = e.read_only; memory = e.memory; finished = e.finished; clients = e.clients; layers = e.layers; brings = e.brings; refused = e.refused; kept = e.kept }))

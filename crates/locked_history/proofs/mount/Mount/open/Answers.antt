@@ -1,6 +1,7 @@
 use Rattle.std.proofs.Common.{arith, ◌≡◌, [], refl}
 use Rattle.overlay_core.specs.Views.{core_clients, next_client}
-use Rattle.locked_history.proofs.Beginning.{boxes_begin, legal_begins, nobody_yet, none_of, numbers_begin}
+use Rattle.overlay_core.proofs.LegalHistories.{legal_begins, nobody_yet, numbers_begin}
+use Rattle.locked_history.proofs.Beginning.{boxes_begin, none_of}
 use Rattle.overlay_core.proofs.Histories.{first_places}
 use Rattle.locked_history.proofs.mount.Mount.open.Goals as goal
 

@@ -1,9 +1,9 @@
 use Rattle.std.proofs.Common.{rules, refl, ◌∙◌}
 use Rattle.std.specs.BTreeMap.{get}
 use Rattle.std.specs.Ordering.{nat_cmp}
-use Rattle.open_handles.specs.Dentries.{Dentries}
-use Rattle.open_handles.specs.Opened as places
-use Rattle.open_handles.specs.Opened.{SameHandles}
+use Rattle.object_table.specs.Dentries.{Dentries}
+use Rattle.object_table.specs.Opened as places
+use Rattle.object_table.specs.Opened.{SameHandles}
 use Rattle.mount_calls.proofs.Serving.{lowest-slot}
 use Rattle.mount_calls.proofs.Holding.{Becomes, client-changes, counts-same, counts-opens, placed-opens, open-and-close, opens-failed}
 use Rattle.mount_calls.proofs.clients.Clients.open.Goals.{After-open-2}

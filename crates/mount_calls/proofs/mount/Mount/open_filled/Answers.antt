@@ -1,11 +1,10 @@
-use Rattle.std.proofs.Common.{◌≡◌, ◌<◌, ℕ, true, None, Some, Ok, rules, refl, ap, sym, ◌∙◌, subst, is_some}
+use Rattle.std.proofs.Common.{◌≡◌, ◌<◌, None, Ok, refl, ap, sym, ◌∙◌, subst, is_some}
 use Rattle.std.proofs.lemmas.Bool.{ltb-true}
 use Rattle.merged_lookup.specs.declared.layers.Layers.{Layers}
 use Rattle.open_handles.specs.declared.open_file.OpenFile.{OpenFile}
 use Rattle.open_handles.specs.declared.open_file.FileSource.TheVariants.{Upper}
 use Rattle.open_handles.specs.FileHolders.{file_holders, HOLDERS_MAX}
-use Rattle.mount_calls.specs.declared.mount.Mount.{Mount}
-use Rattle.mount_calls.specs.Files.{HasFileRoom, file_at}
+use Rattle.mount_calls.specs.Files.{file_at}
 use Rattle.mount_calls.specs.Opening.{OpensFile}
 use Rattle.mount_calls.specs.States.{IsStateOf}
 use Rattle.mount_calls.proofs.Answering.{on-err}

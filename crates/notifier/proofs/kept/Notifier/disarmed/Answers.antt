@@ -1,7 +1,7 @@
 use Rattle.std.proofs.Common.{◌≡◌, ◌-◌, ℕ, None, refl, ap, subst, ◌∙◌, arith}
 use Rattle.std.proofs.lemmas.Int.{to_z-of_z}
 use Rattle.plain_model.specs.Watching.{IGNORED, Only, Subject}
-use Rattle.open_handles.specs.Tracked.{SetsSpot, holders_of, spot_left, spot_of}
+use Rattle.object_table.specs.Objects.{SetsSpot, holders_of, spot_left, spot_of}
 use Rattle.watch_table.proofs.Indexing.{each-own}
 use Rattle.notifier.specs.Notifying.{watchers}
 use Rattle.notifier.proofs.Hearing.{fewer-watch, one-spared}

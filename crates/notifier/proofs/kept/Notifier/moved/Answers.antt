@@ -1,6 +1,6 @@
 use Rattle.std.proofs.Common.{◌≡◌, Some, suc, ap, sym, subst, subst₂, ◌∙◌}
 use Rattle.ov_base.specs.Cookies.{cookie_of}
-use Rattle.open_handles.specs.Tracked.{spot_of}
+use Rattle.object_table.specs.Objects.{spot_of}
 use Rattle.open_handles.specs.TrackedHandles.{TrackedTables, clients_of}
 use Rattle.notice_laws.specs.Notified.{Notified}
 use Rattle.notice_laws.specs.Moves.{Moves, ReWays, of_move}

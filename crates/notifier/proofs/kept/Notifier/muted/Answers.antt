@@ -1,6 +1,6 @@
 use Rattle.std.proofs.Common.{◌≡◌, ℕ, ◌+◌, true, cond, ap, subst, arith}
 use Rattle.plain_model.specs.Machine.{instance_of, watches_of}
-use Rattle.open_handles.specs.Tracked.{holders_of}
+use Rattle.object_table.specs.Objects.{holders_of}
 use Rattle.watch_table.specs.Listening.{is_on}
 use Rattle.notifier.specs.Notifying.{watchers}
 use Rattle.notifier.proofs.Muting.{watchers-apart}

@@ -35,7 +35,7 @@ returns g c = λ before path ready.
       number = handle.object;
       found = found;
       way = handle.way;
-      entered = way-stays holds.mid old.objects path object handle.object holds.given holds.object path handle.way
+      entered = way-stays holds.mid old.objects path object handle.object holds.object path handle.way
           (way-held before.objects holds.mid path handle.way holds.way);
       tells = tells-after shows (emptied ++ both (marks object OPEN)) (opens_to c.args.flags.writes path object c.args.key)
           (record before { objects = old.objects }) lifted new

@@ -1,14 +1,31 @@
-use Rattle.std.proofs.Common.{◌≡◌, List, ◌++◌, Some, sym, ap, subst, ◌∙◌}
+use Rattle.std.proofs.Common.{◌≡◌, List, ◌++◌, Some, is_some, sym, ap, subst, ◌∙◌}
 use Rattle.plain_model.specs.Watching.{CREATE, OPEN, Instance, AllHear}
 use Rattle.open_handles.specs.declared.tracked_client.TrackedHandle.{TrackedHandle}
-use Rattle.open_handles.specs.Tracked.{Upper, spot_of}
+use Rattle.object_table.specs.Objects.{Upper, spot_of}
 use Rattle.open_handles.specs.TrackedHandles.{TrackedTables, SetsTracked, tracked_by}
 use Rattle.notice_laws.specs.Notified.{Notified}
 use Rattle.notice_laws.specs.Opens.{IsHeldWay}
 use Rattle.notice_laws.specs.Telling.{in_way}
-use Rattle.notifier.proofs.HeldForOpens.{still-there, way-held}
+use Rattle.notifier.proofs.HeldForOpens.{nowhere-bare, nowhere-low, on-nowhere, still-there, way-held}
 use Rattle.notifier.proofs.Told.{told-append}
 use Rattle.notifier.proofs.kept.Notifier.opened_new.Goals as goal
+
+-- the file that was prepared is nowhere
+pub rise-requires-clause-there : goal.rise-requires-clause-there
+rise-requires-clause-there g c = ap is_some (on-nowhere c.args.self.now c.args.client c.args.descriptor c.handle-handle.result c.requires.open c.handle-handle.ensures)
+
+pub rise-requires-clause-low : goal.rise-requires-clause-low
+rise-requires-clause-low g c = λ k up.
+    nowhere-low c.args.self.now.objects c.handle-handle.result.object k
+    (on-nowhere c.args.self.now c.args.client c.args.descriptor c.handle-handle.result c.requires.open c.handle-handle.ensures) up
+
+pub rise-requires-clause-bare : goal.rise-requires-clause-bare
+rise-requires-clause-bare g c =
+    nowhere-bare c.args.self.now.objects c.handle-handle.result.object
+    (on-nowhere c.args.self.now c.args.client c.args.descriptor c.handle-handle.result c.requires.open c.handle-handle.ensures)
+
+pub handle-handle-requires : goal.handle-handle-requires
+handle-handle-requires g c = ap is_some c.requires.open.1
 
 pub returns : goal.returns
 returns g c = λ before path ready.

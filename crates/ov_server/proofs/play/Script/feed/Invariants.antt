@@ -7,7 +7,7 @@ abbrev pub invariant-lines : goal.invariant-lines
 invariant-lines g l = record {
   played : GoesOn l.initial.rest l.initial.self.pending.items l.initial.self.lines l.initial.self.stage l.rest l.self.pending.items l.self.lines l.self.stage;
   few : l.self.lines + length l.rest ≤ l.initial.self.lines + length l.initial.rest;
-  well : l.output.failed ≡ l.initial.output.failed;
+  well : g.K.Sink.failures l.output.sink ≡ g.K.Sink.failures l.initial.output.sink;
 }
 
 abbrev pub decreases-lines : goal.decreases-lines

@@ -6,10 +6,10 @@ use Rattle.ov_server.proofs.play.Script.play.Given as goal
 -- What was read is played, as far as its lines have ended, and its lines are at most as many as its bytes. No device has failed.
 abbrev pub invariant-loop-read : goal.invariant-loop-read
 invariant-loop-read g l = record {
-  played : Plays (layers_in l.initial.self.stage.core) (g.R.Read.remaining l.initial.input.reader) (g.R.Read.remaining l.input.reader) l.self.pending.items l.self.lines l.self.stage;
+  played : Plays (layers_in l.initial.self.stage.core) (g.S.Source.remaining l.initial.input) (g.S.Source.remaining l.input) l.self.pending.items l.self.lines l.self.stage;
   few : l.self.lines ≤ 65536 * l._read;
-  left : l.input.reads_left + l._read ≡ l.initial.input.reads_left;
+  reads : g.S.Source.reads l.input ≡ g.S.Source.reads l.initial.input + l._read;
   piece : length l.piece ≡ 65536;
-  input : l.input.failed ≡ l.initial.input.failed;
-  output : l.output.failed ≡ l.initial.output.failed;
+  input : g.S.Source.failures l.input ≡ g.S.Source.failures l.initial.input;
+  output : g.K.Sink.failures l.output.sink ≡ g.K.Sink.failures l.initial.output.sink;
 }

@@ -1,12 +1,12 @@
-use Rattle.std.proofs.Common.{◌≡◌, [], false, length}
+use Rattle.std.proofs.Common.{◌≡◌, [], length}
 use Rattle.ov_session.specs.Devices.{Gains}
 use Rattle.ov_session.proofs.output.SessionOutput.hand_on.Given as goal
 
 abbrev pub invariant-parts : goal.invariant-parts
 invariant-parts g l = record {
-  bytes : Gains (g.W.Write.contents l.fn.self.writer) (g.W.Write.contents l.self.writer)
+  bytes : Gains (g.K.Sink.contents l.fn.self.sink) (g.K.Sink.contents l.self.sink)
       l.fn.self.held.items l.self.held.items [];
-  well : l.self.failed ≡ false;
+  well : g.K.Sink.failures l.self.sink ≡ g.K.Sink.failures l.fn.self.sink;
 }
 
 abbrev pub decreases-parts : goal.decreases-parts

@@ -5,7 +5,7 @@ use Rattle.ov_session.proofs.output.SessionOutput.put.Goals as goal
 
 pub returns-in-Err-clause-put : goal.returns-in-Err-clause-put
 returns-in-Err-clause-put g c =
-    let writer = g.W.Write.contents c.args.self.now.writer in
+    let writer = g.K.Sink.contents c.args.self.now.sink in
     let held = c.args.self.now.held.items in (
       [],
       front_of_none (answer_frame c.args.answer.now),
@@ -15,7 +15,7 @@ returns-in-Err-clause-put g c =
 
 pub returns-else-len-lt-HELD_MOST-clause-put : goal.returns-else-len-lt-HELD_MOST-clause-put
 returns-else-len-lt-HELD_MOST-clause-put g c =
-    put_handed (g.W.Write.contents c.args.self.now.writer)
-    (g.W.Write.contents c.hand_on.new.self.writer) c.args.self.now.held.items
+    put_handed (g.K.Sink.contents c.args.self.now.sink)
+    (g.K.Sink.contents c.hand_on.new.self.sink) c.args.self.now.held.items
     c.append_reply.new.out.items c.hand_on.new.self.held.items c.args.answer.now c.hand_on.result
     c.in_default.ensures.ok c.hand_on.ensures.bytes c.hand_on.ensures.end

@@ -131,7 +131,9 @@ returns-in-NoMemory-clause-turn g c =
     (stays-as old.mount new.mount old.notifier new.notifier c.args.self.now.read_only turns.0, turns.1)
 
 pub returns-in-NoMemory-clause-step : goal.returns-in-NoMemory-clause-step
-returns-in-NoMemory-clause-step g c = λ s a. c.in-NoMemory.ensures.makes.2.steps
+returns-in-NoMemory-clause-step g c = λ s a.
+    let old = c.args.self.now.watched in
+    rw (c.in-NoMemory.ensures.makes.1 s (agrees-plain c.args.self.now.read_only old.mount old.notifier s c.if-self.false a)) c.in-NoMemory.ensures.makes.2.steps
 
 pub returns-in-NoMemory-clause-kept : goal.returns-in-NoMemory-clause-kept
 returns-in-NoMemory-clause-kept g c =

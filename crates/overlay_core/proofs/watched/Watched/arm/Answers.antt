@@ -61,7 +61,7 @@ returns-in-Ok-clause-goes g c =
     let fits = subst (λ o. IfOk o (λ n. n < 2 ^ 31)) c.in-Ok.is said.fits in
     subst (λ z. Goes shows m old client (Called (Arm slot p mask) (Watch z)) m new) (sym (to_z_pos w32 number fits))
     (arm-goes shows m old new client slot p mask object c.requires.there c.in_default.ensures fault c.object_at-object.ensures
-    c.lawful.ensures.given c.lawful-2.ensures.known number arms)
+    c.lawful-2.ensures.known number arms)
 
 pub returns-in-Err-2-clause-goes : goal.returns-in-Err-2-clause-goes
 returns-in-Err-2-clause-goes g c =
@@ -79,4 +79,4 @@ returns-in-Err-2-clause-goes g c =
     let not = subst (λ o. IfErr o (IsArmRefused old client slot p object)) c.in-Err-2.is said.refused in
     let left = subst (λ o. OnErr o (IsLeft old new)) c.in-Err-2.is said.same in
     object-refused g.R.Rule.shows m old new client slot p mask object c.requires.there c.in_default.ensures fault c.object_at-object.ensures
-    c.lawful.ensures.given c.lawful-2.ensures.known errno not left
+    c.lawful-2.ensures.known errno not left

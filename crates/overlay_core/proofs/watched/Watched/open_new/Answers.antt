@@ -42,6 +42,10 @@ returns-in-Err-clause-err g c =
     stays old new from back c.in-Err.ensures.no_memory.states c.in-Err.ensures.no_memory.live
     (λ s t. back-tracks (mount_upper old) s from back c.lawful-in-Err.ensures.known (c.cancel_open.ensures from ready.handle ready.readies) t)
 
+pub opened_new-requires-clause-open : goal.opened_new-requires-clause-open
+opened_new-requires-clause-open g c =
+    let ready = c.in_ok-prepared.ensures.ready in (ready.handle, ready.readies.sets.here, ready.holds.object.here)
+
 pub opened_new-requires-clause-vacant : goal.opened_new-requires-clause-vacant
 opened_new-requires-clause-vacant g c =
     let client = c.args.client in
@@ -55,7 +59,7 @@ opened_new-requires-clause-vacant g c =
     let ready = c.in_ok-prepared.ensures.ready in
     let done : Performed client call reply old new = record { there = c.requires.there; serves = said.answers.serves; lowers = c.open_judged.ensures.lowers; named = said.answers.named; refused = said.answers.refused } in
     made-vacant g.R.Rule.shows client c.args.path.now c.args.flags c.args.judged.mode call refl reply old new from done
-    c.requires.nothing c.lawful.ensures.known c.lawful.ensures.given c.prepare_new-prepared.new.self
+    c.requires.nothing c.lawful.ensures.known c.prepare_new-prepared.new.self
     fd ready c.requires.judged.free c.key_opened-key.result c.key_opened-key.ensures
     (λ e is. let no : Descriptor fd ≡ Refused e = is in cc) c.requires.state
 
@@ -72,7 +76,7 @@ returns-in-Ok-clause-goes g c =
     let ready = c.in_ok-prepared.ensures.ready in
     let done : Performed client call reply old new = record { there = c.requires.there; serves = said.answers.serves; lowers = c.open_judged.ensures.lowers; named = said.answers.named; refused = said.answers.refused } in
     goes-made g.R.Rule.shows client c.args.path.now c.args.flags c.args.judged.mode call refl reply old new from done
-    c.requires.nothing c.lawful.ensures.known c.lawful.ensures.given c.prepare_new-prepared.new.self
+    c.requires.nothing c.lawful.ensures.known c.prepare_new-prepared.new.self
     fd ready c.requires.judged.free c.key_opened-key.result c.key_opened-key.ensures
     (λ e is. let no : Descriptor fd ≡ Refused e = is in cc) c.opened_new.new.self c.lawful-in-Ok.ensures.known
     (c.opened_new.ensures from c.args.path.now ready)

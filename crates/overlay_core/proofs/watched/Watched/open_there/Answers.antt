@@ -60,7 +60,7 @@ opened-requires g c =
       λ writes. (
         c.in_ok-prepared.ensures.room,
         opened-free g.R.Rule.shows client c.args.path.now c.args.flags c.args.judged.mode call refl reply old new from done c.args.object
-            c.requires.stands c.requires.something c.lawful.ensures.known c.lawful.ensures.given c.prepare_open-prepared.new.self
+            c.requires.stands c.requires.something c.lawful.ensures.known c.prepare_open-prepared.new.self
             fd ready c.requires.judged.free c.key_opened-key.result c.key_opened-key.ensures
             (λ e is. let no : Descriptor fd ≡ Refused e = is in cc) c.requires.state writes,
       ),
@@ -79,7 +79,7 @@ returns-in-Ok-clause-goes g c =
     let ready = c.in_ok-prepared.ensures.ready in
     let done : Performed client call reply old new = record { there = c.requires.there; serves = said.answers.serves; lowers = c.open_judged.ensures.lowers; named = said.answers.named; refused = said.answers.refused } in
     goes-opened g.R.Rule.shows client c.args.path.now c.args.flags c.args.judged.mode call refl reply old new from done c.args.object
-    c.requires.stands c.requires.something c.lawful.ensures.known c.lawful.ensures.given c.prepare_open-prepared.new.self
+    c.requires.stands c.requires.something c.lawful.ensures.known c.prepare_open-prepared.new.self
     fd ready c.requires.judged.free c.key_opened-key.result c.key_opened-key.ensures
     (λ e is. let no : Descriptor fd ≡ Refused e = is in cc) c.opened.new.self c.lawful-in-Ok.ensures.known
     (c.opened.ensures from c.args.path.now ready)

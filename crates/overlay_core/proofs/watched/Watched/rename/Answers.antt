@@ -7,7 +7,7 @@ use Rattle.mount_calls.specs.Looking.{IsKeyAt}
 use Rattle.mount_calls.specs.Status.{outcome_reply}
 use Rattle.overlay_core.proofs.MovesHeld.{given-up, held-for}
 use Rattle.overlay_core.proofs.Performing.{goes-as, performed-by, state-of, keeps-same, kept-by}
-use Rattle.overlay_core.proofs.RenamesTold.{as-called, back-agrees, clients-counted, goes-given-up, goes-moved, goes-same, key-told, moved-told, moving-free, moving-place, split-empty, stays-given-up}
+use Rattle.overlay_core.proofs.RenamesTold.{as-called, back-agrees, clients-counted, goes-given-up, goes-moved, goes-same, key-told, moved-told, moving-bare, moving-free, moving-place, split-empty, stays-given-up}
 use Rattle.overlay_core.specs.Watching.{Keeps}
 use Rattle.overlay_core.proofs.watched.Watched.rename.Goals as goal
 
@@ -40,7 +40,7 @@ returns-in-Err-clause-err g c = λ s a.
     c.cancel_move-in-Err.new.self c.args.new.now
     (held-for c.args.self.now.notifier c.cancel_move.new.self c.prepare_move-prepared.new.self c.args.new.now c.cancel_move.ensures.rest
     c.cancel_move.ensures.fewer c.cancel_move.ensures.unpinned c.lawful.ensures.known c.lawful.ensures.counts c.lawful.ensures.held
-    c.lawful.ensures.given c.prepare_move-prepared.ensures.rest c.prepare_move-prepared.ensures.held)
+    c.prepare_move-prepared.ensures.rest c.prepare_move-prepared.ensures.held)
     (given-up c.prepare_move-prepared.new.self c.cancel_move-in-Err.new.self c.cancel_move-in-Err.ensures.rest c.cancel_move-in-Err.ensures.fewer
     c.cancel_move-in-Err.ensures.unpinned c.lawful-in-Err.ensures.known c.lawful-in-Err.ensures.counts c.lawful-in-Err.ensures.held) a
 
@@ -50,26 +50,39 @@ moved-requires-clause-free g c =
     c.args.self.now.notifier c.cancel_move.new.self c.prepare_move-prepared.new.self
     (held-for c.args.self.now.notifier c.cancel_move.new.self c.prepare_move-prepared.new.self c.args.new.now c.cancel_move.ensures.rest
     c.cancel_move.ensures.fewer c.cancel_move.ensures.unpinned c.lawful.ensures.known c.lawful.ensures.counts c.lawful.ensures.held
-    c.lawful.ensures.given c.prepare_move-prepared.ensures.rest c.prepare_move-prepared.ensures.held)
+    c.prepare_move-prepared.ensures.rest c.prepare_move-prepared.ensures.held)
     (performed-by c.requires.there (c.in-Ok-Ok-Some.ensures.makes c.args.client))
     (ap outcome_reply c.in-Ok-Ok-Some.field-0-is)
     (moved-told c.in-Ok-Ok-Some.field-0 c.in-Ok-Ok-Some.field-0-0 (Some c.in-Ok-Ok-Some.key) _ c.in-Ok-Ok-Some.field-0-is c.in-Ok-Ok-Some.field-0-0-is c.in-Ok-Ok-Some.ensures.moves)
     c.lawful-2.ensures.known c.object_seen-object.result c.object_seen-replaced.result (c.object_seen-object.ensures c.args.old.now c.requires.from) (c.object_seen-replaced.ensures c.args.new.now c.requires.onto)
     c.in-Ok-Ok-Some.key (λ lower. key-told c.in-Ok-Ok-Some.field-0 c.in-Ok-Ok-Some.field-0-0 c.in-Ok-Ok-Some.key (IsKeyAt c.rename_moving.new.self.layers c.args.new.now) c.in-Ok-Ok-Some.field-0-is c.in-Ok-Ok-Some.field-0-0-is c.in-Ok-Ok-Some.ensures.key) c.requires.state
 
-pub moved-requires-clause-place : goal.moved-requires-clause-place
-moved-requires-clause-place g c =
+pub moved-requires-clause-bare : goal.moved-requires-clause-bare
+moved-requires-clause-bare g c =
     let below : c.args.new.now ≢ [] = first_of (search rules, grind (arith, common_steps)) in
-    moving-place g.R.Rule.shows c.args.client c.args.old.now c.args.new.now (outcome_reply c.in-Ok-Ok-Some.field-0) c.args.self.now.mount c.rename_moving.new.self
+    moving-bare g.R.Rule.shows c.args.client c.args.old.now c.args.new.now (outcome_reply c.in-Ok-Ok-Some.field-0) c.args.self.now.mount c.rename_moving.new.self
     c.args.self.now.notifier c.cancel_move.new.self c.prepare_move-prepared.new.self
     (held-for c.args.self.now.notifier c.cancel_move.new.self c.prepare_move-prepared.new.self c.args.new.now c.cancel_move.ensures.rest
     c.cancel_move.ensures.fewer c.cancel_move.ensures.unpinned c.lawful.ensures.known c.lawful.ensures.counts c.lawful.ensures.held
-    c.lawful.ensures.given c.prepare_move-prepared.ensures.rest c.prepare_move-prepared.ensures.held)
+    c.prepare_move-prepared.ensures.rest c.prepare_move-prepared.ensures.held)
     (performed-by c.requires.there (c.in-Ok-Ok-Some.ensures.makes c.args.client))
     (ap outcome_reply c.in-Ok-Ok-Some.field-0-is)
     (moved-told c.in-Ok-Ok-Some.field-0 c.in-Ok-Ok-Some.field-0-0 (Some c.in-Ok-Ok-Some.key) _ c.in-Ok-Ok-Some.field-0-is c.in-Ok-Ok-Some.field-0-0-is c.in-Ok-Ok-Some.ensures.moves)
     c.lawful-2.ensures.known c.object_seen-object.result c.object_seen-replaced.result (c.object_seen-object.ensures c.args.old.now c.requires.from) (c.object_seen-replaced.ensures c.args.new.now c.requires.onto)
     c.in-Ok-Ok-Some.key (λ lower. key-told c.in-Ok-Ok-Some.field-0 c.in-Ok-Ok-Some.field-0-0 c.in-Ok-Ok-Some.key (IsKeyAt c.rename_moving.new.self.layers c.args.new.now) c.in-Ok-Ok-Some.field-0-is c.in-Ok-Ok-Some.field-0-0-is c.in-Ok-Ok-Some.ensures.key) c.requires.state below
+
+pub moved-requires-clause-place : goal.moved-requires-clause-place
+moved-requires-clause-place g c =
+    moving-place g.R.Rule.shows c.args.client c.args.old.now c.args.new.now (outcome_reply c.in-Ok-Ok-Some.field-0) c.args.self.now.mount c.rename_moving.new.self
+    c.args.self.now.notifier c.cancel_move.new.self c.prepare_move-prepared.new.self
+    (held-for c.args.self.now.notifier c.cancel_move.new.self c.prepare_move-prepared.new.self c.args.new.now c.cancel_move.ensures.rest
+    c.cancel_move.ensures.fewer c.cancel_move.ensures.unpinned c.lawful.ensures.known c.lawful.ensures.counts c.lawful.ensures.held
+    c.prepare_move-prepared.ensures.rest c.prepare_move-prepared.ensures.held)
+    (performed-by c.requires.there (c.in-Ok-Ok-Some.ensures.makes c.args.client))
+    (ap outcome_reply c.in-Ok-Ok-Some.field-0-is)
+    (moved-told c.in-Ok-Ok-Some.field-0 c.in-Ok-Ok-Some.field-0-0 (Some c.in-Ok-Ok-Some.key) _ c.in-Ok-Ok-Some.field-0-is c.in-Ok-Ok-Some.field-0-0-is c.in-Ok-Ok-Some.ensures.moves)
+    c.lawful-2.ensures.known c.object_seen-object.result c.object_seen-replaced.result (c.object_seen-object.ensures c.args.old.now c.requires.from) (c.object_seen-replaced.ensures c.args.new.now c.requires.onto)
+    c.in-Ok-Ok-Some.key (λ lower. key-told c.in-Ok-Ok-Some.field-0 c.in-Ok-Ok-Some.field-0-0 c.in-Ok-Ok-Some.key (IsKeyAt c.rename_moving.new.self.layers c.args.new.now) c.in-Ok-Ok-Some.field-0-is c.in-Ok-Ok-Some.field-0-0-is c.in-Ok-Ok-Some.ensures.key) c.requires.state
 
 pub returns-in-Ok-Ok-Some-clause-goes : goal.returns-in-Ok-Ok-Some-clause-goes
 returns-in-Ok-Ok-Some-clause-goes g c =
@@ -79,7 +92,7 @@ returns-in-Ok-Ok-Some-clause-goes g c =
     c.args.self.now.notifier c.cancel_move.new.self c.prepare_move-prepared.new.self
     (held-for c.args.self.now.notifier c.cancel_move.new.self c.prepare_move-prepared.new.self c.args.new.now c.cancel_move.ensures.rest
     c.cancel_move.ensures.fewer c.cancel_move.ensures.unpinned c.lawful.ensures.known c.lawful.ensures.counts c.lawful.ensures.held
-    c.lawful.ensures.given c.prepare_move-prepared.ensures.rest c.prepare_move-prepared.ensures.held)
+    c.prepare_move-prepared.ensures.rest c.prepare_move-prepared.ensures.held)
     (performed-by c.requires.there (c.in-Ok-Ok-Some.ensures.makes c.args.client))
     (ap outcome_reply c.in-Ok-Ok-Some.field-0-is)
     (moved-told c.in-Ok-Ok-Some.field-0 c.in-Ok-Ok-Some.field-0-0 (Some c.in-Ok-Ok-Some.key) _ c.in-Ok-Ok-Some.field-0-is c.in-Ok-Ok-Some.field-0-0-is c.in-Ok-Ok-Some.ensures.moves)
@@ -94,7 +107,7 @@ returns-in-Ok-Ok-None-clause-goes g c =
     c.args.self.now.notifier c.cancel_move.new.self c.prepare_move-prepared.new.self
     (held-for c.args.self.now.notifier c.cancel_move.new.self c.prepare_move-prepared.new.self c.args.new.now c.cancel_move.ensures.rest
     c.cancel_move.ensures.fewer c.cancel_move.ensures.unpinned c.lawful.ensures.known c.lawful.ensures.counts c.lawful.ensures.held
-    c.lawful.ensures.given c.prepare_move-prepared.ensures.rest c.prepare_move-prepared.ensures.held)
+    c.prepare_move-prepared.ensures.rest c.prepare_move-prepared.ensures.held)
     (performed-by c.requires.there (c.in-Ok-Ok-None.ensures.makes c.args.client))
     (ap outcome_reply c.in-Ok-Ok-None.field-0-is)
     (moved-told c.in-Ok-Ok-None.field-0 c.in-Ok-Ok-None.field-0-0 None _ c.in-Ok-Ok-None.field-0-is c.in-Ok-Ok-None.field-0-0-is c.in-Ok-Ok-None.ensures.moves)
@@ -110,7 +123,7 @@ returns-in-Ok-Err-clause-goes g c =
     c.args.self.now.notifier c.cancel_move.new.self c.prepare_move-prepared.new.self
     (held-for c.args.self.now.notifier c.cancel_move.new.self c.prepare_move-prepared.new.self c.args.new.now c.cancel_move.ensures.rest
     c.cancel_move.ensures.fewer c.cancel_move.ensures.unpinned c.lawful.ensures.known c.lawful.ensures.counts c.lawful.ensures.held
-    c.lawful.ensures.given c.prepare_move-prepared.ensures.rest c.prepare_move-prepared.ensures.held)
+    c.prepare_move-prepared.ensures.rest c.prepare_move-prepared.ensures.held)
     (performed-by c.requires.there (c.in-Ok-Err.ensures.makes c.args.client))
     c.in-Ok-Err.errno (ap outcome_reply c.in-Ok-Err.field-0-is) c.cancel_move-in-Ok-Err.new.self
     (given-up c.prepare_move-prepared.new.self c.cancel_move-in-Ok-Err.new.self c.cancel_move-in-Ok-Err.ensures.rest c.cancel_move-in-Ok-Err.ensures.fewer
@@ -122,7 +135,7 @@ returns-in-Err-rename_moving-clause-err g c =
     c.prepare_move-prepared.new.self c.cancel_move-in-Err-rename_moving.new.self c.args.new.now
     (held-for c.args.self.now.notifier c.cancel_move.new.self c.prepare_move-prepared.new.self c.args.new.now c.cancel_move.ensures.rest
     c.cancel_move.ensures.fewer c.cancel_move.ensures.unpinned c.lawful.ensures.known c.lawful.ensures.counts c.lawful.ensures.held
-    c.lawful.ensures.given c.prepare_move-prepared.ensures.rest c.prepare_move-prepared.ensures.held)
+    c.prepare_move-prepared.ensures.rest c.prepare_move-prepared.ensures.held)
     (given-up c.prepare_move-prepared.new.self c.cancel_move-in-Err-rename_moving.new.self c.cancel_move-in-Err-rename_moving.ensures.rest c.cancel_move-in-Err-rename_moving.ensures.fewer
     c.cancel_move-in-Err-rename_moving.ensures.unpinned c.lawful-in-Err-rename_moving.ensures.known c.lawful-in-Err-rename_moving.ensures.counts c.lawful-in-Err-rename_moving.ensures.held)
     (c.in-Err-rename_moving.ensures.makes c.args.client).no_memory.states (c.in-Err-rename_moving.ensures.makes c.args.client).no_memory.live

@@ -1,8 +1,10 @@
 use Rattle.std.proofs.Common.{refl}
 use Rattle.merged_lookup.specs.Merged.{lowers_of}
 use Rattle.notice_laws.proofs.Unlinked.{law_of_removed}
+use Rattle.ov_base.specs.declared.call.Call.TheVariants.{Rmdir}
+use Rattle.overlay_core.proofs.Bare.{done-bare, removed-bare}
 use Rattle.overlay_core.proofs.Making.{performs-done, performs-out, performs-refused}
-use Rattle.overlay_core.proofs.Performing.{state-of}
+use Rattle.overlay_core.proofs.Performing.{performed-by, state-of}
 use Rattle.overlay_core.proofs.Watching.{mount_upper}
 use Rattle.overlay_core.proofs.watched.Watched.rmdir.Goals as goal
 
@@ -16,6 +18,16 @@ returns-in_err-reply g c =
 pub returns-in_default : goal.returns-in_default
 returns-in_default g c =
     performs-refused c.in_ok-reply.reply c.requires.there (c.in_ok-reply.ensures c.args.client) (λ s. refl) c.in_default.not-Done
+
+pub removed-requires : goal.removed-requires
+removed-requires g c =
+    let client = c.args.client in
+    let path = c.args.path.now in
+    let old = c.args.self.now.mount in
+    let new = c.rmdir.new.self in
+    let from = c.args.self.now.notifier in
+    done-bare client (Rmdir path) c.in_ok-reply.reply old new from path (performed-by c.requires.there (c.in_ok-reply.ensures client)) c.in-Done.is
+    c.requires.state (λ s tracks passes. removed-bare (mount_upper old) s from tracks (mount_upper new) (lowers_of old.layers) client path passes)
 
 pub returns : goal.returns
 returns g c =

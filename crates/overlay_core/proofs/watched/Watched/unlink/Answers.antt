@@ -1,17 +1,30 @@
-use Rattle.std.proofs.Common.{Ok, subst, refl}
+use Rattle.std.proofs.Common.{Ok, subst, sym, refl}
 use Rattle.ov_base.specs.declared.call.Call.TheVariants.{Unlink}
 use Rattle.ov_base.specs.declared.reply.Reply.TheVariants.{Done, Refused}
 use Rattle.merged_lookup.specs.Merged.{lowers_of}
 use Rattle.mount_calls.specs.Making.{MakesCall}
 use Rattle.mount_calls.specs.Status.{outcome_reply}
 use Rattle.notice_laws.proofs.Unlinked.{law_of_unlinked}
+use Rattle.overlay_core.proofs.Bare.{done-bare, unlinked-bare}
 use Rattle.overlay_core.proofs.Making.{performs-done, performs-out, performs-refused}
+use Rattle.overlay_core.proofs.Performing.{outcome-so}
 use Rattle.overlay_core.proofs.Watching.{mount_upper}
 use Rattle.overlay_core.proofs.watched.Watched.unlink.Goals as goal
 
 pub returns-in_err-object : goal.returns-in_err-object
 returns-in_err-object g c =
     performs-out (c.in_err-object.ensures.makes c.args.client) c.from_residual.result c.from_residual.ensures.0
+
+pub unlinked-requires : goal.unlinked-requires
+unlinked-requires g c =
+    let client = c.args.client in
+    let path = c.args.path.now in
+    let old = c.args.self.now.mount in
+    let new = c.unlink_telling.new.self in
+    let from = c.args.self.now.notifier in
+    done-bare client (Unlink path) Done old new from path
+    (outcome-so client (Unlink path) (Ok c.in-Ok.object) _ old new (sym c.in-Ok.is) c.requires.there (c.in_ok-object.ensures.makes client)) refl
+    c.requires.state (λ s tracks passes. unlinked-bare (mount_upper old) s from tracks (mount_upper new) (lowers_of old.layers) client path passes)
 
 pub returns-in-Ok : goal.returns-in-Ok
 returns-in-Ok g c =

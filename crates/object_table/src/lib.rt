@@ -1,0 +1,13 @@
+//! The objects of a mount that handles and watches hold: each is an entry of one table, under one
+//! number, wherever it goes.
+#![tactic(auto)]
+
+mod children;
+mod dentries;
+mod dentry;
+mod table;
+mod tree;
+
+pub use dentry::Unlisted;
+pub use table::ObjectTable;
+pub use tree::ObjectTree;

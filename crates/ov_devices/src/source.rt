@@ -1,0 +1,37 @@
+// What is read from.
+ghost use Rattle.std.specs.Prelude.{◌≡◌, ◌+◌, ◌<◌, ◌≤◌, ℕ, List, Option, length, MatchResult};
+ghost use Rattle.std.specs.Io.KnownBytes.{Keeps};
+ghost use Rattle.ov_devices.specs.Devices.{Gives, failed};
+
+use crate::fault::Fault;
+
+/// A reader that is read at most 4,294,967,295 times, and counts its reads and those that failed.
+pub trait Source {
+    /// The bytes that reads will give from here on, where they are known.
+    ghost remaining: { Self → Option (List ℕ) };
+
+    /// How many reads were made.
+    ghost reads: { Self → ℕ };
+
+    /// How many of them failed.
+    ghost failures: { Self → ℕ };
+
+    /// How many reads are left.
+    fn reads_left(&self) -> u32
+        ensures { result + reads self.now ≡ 4294967295 };
+
+    /// How many bytes a read gives, 0 at the end; none where it was interrupted, and is to be made
+    /// again.
+    fn read(&mut self, piece: &mut [u8]) -> Result<Option<usize>, Fault>
+        requires room { 0 < length piece.old }
+        requires left { reads self.old < 4294967295 }
+        ensures bytes { MatchResult result
+            (λ read. Gives (remaining self.old) (remaining self.new) read piece.new)
+            (λ _. Keeps (remaining self.old) (remaining self.new)) }
+        ensures room { length piece.new ≡ length piece.old }
+        ensures reads { reads self.new ≡ reads self.old + 1 }
+        ensures failures { failures self.new ≡ failures self.old + failed result };
+
+    /// No more reads are made than that.
+    ghost bounded: { (s : Self) → reads s ≤ 4294967295 };
+}

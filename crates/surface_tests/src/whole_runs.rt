@@ -1,0 +1,70 @@
+// The laws of whole runs at the hooks of the program, beside such a run.
+ghost use Rattle.std.specs.Prelude.{◌≡◌};
+ghost use Rattle.overlay_core.specs.Views.{core_finished};
+
+use crate::cores::mounted;
+use crate::fixtures::{EMPTY, path};
+use ov_base::{Call, Reply};
+use ov_server::hooks_by_slot;
+use overlay_core::{Core, Job, Turn, law_of_links, law_of_whole_runs};
+use std::alloc::Global;
+use std::hash::RandomState;
+use std::process::Abort;
+use std::test::Fail;
+use watch_table::{Callback, Hook, Rule};
+
+// A client comes, makes a call and goes. What was done is a run of which the laws speak.
+fn visit<F: Callback + Copy, H: Rule>(
+    core: &mut Core<F, H>,
+    hooks: Vec<Hook<F, H>>,
+    call: Call,
+) -> Result<Reply, Fail>
+    requires { core_finished core.old ≡ 0 }
+{
+    let Ok(client) = core.attach(hooks) else {
+        return Err(Fail::from("no client"));
+    };
+    if !core.is_attached(client) {
+        return Err(Fail::from("not attached"));
+    }
+    let mut job = Job::new(client, call);
+    let turn = core.complete(&mut job);
+    let _ = job.into_call();
+    let Turn::Done(reply) = turn else {
+        return Err(Fail::from("no reply"));
+    };
+    let _ = core.detach(client);
+    law_of_links::<F, H>();
+    law_of_whole_runs::<F, H>();
+    Ok(reply)
+}
+
+fn visits<F: Callback + Copy, H: Rule>(
+    rt: &impl Abort,
+    alloc: Global,
+    keys: RandomState,
+    hooks: Vec<Hook<F, H>>,
+) -> Result<(), Fail> {
+    let mut core: Core<F, H> = mounted(alloc, keys, EMPTY)?;
+    if core.finished() != 0 {
+        return Err(Fail::from("a history before the first deed"));
+    }
+    let call = Call::Mkdir {
+        path: path(rt, alloc, "/d"),
+        mode: 0o755,
+    };
+    let made = visit(&mut core, hooks, call)?;
+    assert!(rt; matches!(made, Reply::Done));
+    assert_eq!(rt; core.finished(), 3);
+    Ok(())
+}
+
+#[test]
+fn a_visit_is_one_history(rt: HostRuntime) -> Result<(), Fail> {
+    visits(
+        &rt,
+        rt.alloc(),
+        RandomState::new(&rt)?,
+        hooks_by_slot(rt.alloc())?,
+    )
+}
