@@ -99,6 +99,13 @@ impl Mount {
         &self.layers
     }
 
+    /// The layers as they are now, without the clients.
+    pub fn into_layers(self) -> Layers
+        ensures { result ≡ self.layers }
+    {
+        self.layers
+    }
+
     /// Attaches a client and gives its number. Where 64 are attached it is ENFILE.
     pub fn attach(&mut self) -> Result<Result<u64, Errno>, AllocError>
         requires { self.old.clients.next + 1 < 2 ^ 64 }

@@ -52,10 +52,10 @@ impl<F: Callback, R: Rule> Watched<F, R> {
         ensures first { IfOk result (λ watched. watched.mount.clients.next ≡ 0) }
         ensures begins { IfOk result (λ watched. BeginsWith layers (record { redirects = redirects; metacopy = metacopy; read_only = false }) watched.mount watched.notifier) }
     {
-        let Ok(notifier) = Notifier::new(alloc, keys) else {
-            return Err(layers);
-        };
         let mount = Mount::new(alloc, keys, layers, redirects, metacopy)?;
+        let Ok(notifier) = Notifier::new(alloc, keys) else {
+            return Err(mount.into_layers());
+        };
         Ok(Watched { mount, notifier })
     }
 
