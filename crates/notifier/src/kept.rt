@@ -63,7 +63,7 @@ impl<F: Callback, R: Rule> Notifier<F, R> {
         Ok(Notifier {
             objects,
             handles: TrackedHandles::new(alloc),
-            watches: WatchTable::new(alloc, keys),
+            watches: WatchTable::new(alloc),
             renames: 0,
             pinned: None,
         })

@@ -2,6 +2,7 @@ pub mod Hearing
 pub mod Keys
 pub mod Arming
 pub mod Clients
+pub mod Row
 pub mod Telling
 pub mod Outcomes
 pub mod Numbers

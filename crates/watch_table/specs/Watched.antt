@@ -1,22 +1,16 @@
 -- Which clients watch each object, as an index by the objects' numbers has it.
-use Rattle.std.specs.Prelude.{◌≡◌, ◌≢◌, ℕ, List, [], Some, unwrap_or, nat_eq}
-use Rattle.std.specs.HashMap.{HashMap, get}
+use Rattle.std.specs.Prelude.{◌≡◌, ◌≢◌, ℕ, List, [], nat_eq, slice_index_or}
 use Rattle.std.specs.List.{list_any, IsDistinct}
-use Rattle.std.specs.declared.random_state.RandomState.{RandomState}
 use Rattle.plain_model.specs.Watching.{Instance}
 use Rattle.watch_table.specs.Clients.{watches}
 
--- the objects that are watched, each with its clients
+-- the clients of each object, in a row by the objects' numbers
 abbrev pub Watched : Type 0
-Watched = HashMap ℕ (List ℕ) RandomState
+Watched = List (List ℕ)
 
--- the clients that watch the object of a number
+-- the clients that watch the object of a number; an object past the row's end has none
 abbrev pub watchers_of : Watched → ℕ → List ℕ
-watchers_of t object = unwrap_or (get nat_eq t object) []
-
--- only an object that a client watches has an entry
-abbrev pub AreWatched : Watched → Type 0
-AreWatched t = (object : ℕ) → get nat_eq t object ≢ Some []
+watchers_of t object = slice_index_or t object []
 
 -- these clients watch the object now, and every other has the same as before
 pub record SetsWatchers (old new : Watched) (object : ℕ) (clients : List ℕ) : Type 0 where

@@ -21,10 +21,10 @@ use crate::watch::Watch;
 use crate::watched_objects::WatchedObjects;
 use ov_base::{Errno, Notices};
 use std::alloc::{AllocError, Global};
-use std::hash::RandomState;
 use std::marker::Model;
 
-/// The inotify instances of the attached clients, in the order of the clients' numbers. Who watches an object is found by its number.
+/// The inotify instances of the attached clients, in the order of the clients' numbers. Who watches an object stands in a row by the objects'
+/// numbers, which are to be small, as the places of a slab are: the row is as long as the greatest that was ever armed.
 #[derive(Drop)]
 pub struct WatchTable<F: Callback, R: Rule> {
     listeners: Listeners<F, R>,
@@ -57,13 +57,13 @@ fn refresh_all<F: Callback, R: Rule>(
 }
 
 impl<F: Callback, R: Rule> WatchTable<F, R> {
-    /// No client is attached. The numbers of objects are hashed with these keys.
-    pub fn new(alloc: Global, keys: RandomState) -> WatchTable<F, R>
+    /// No client is attached.
+    pub fn new(alloc: Global) -> WatchTable<F, R>
         ensures { result ≡ [] }
     {
         WatchTable {
             listeners: Listeners::new(alloc),
-            objects: WatchedObjects::new(alloc, keys),
+            objects: WatchedObjects::new(alloc),
         }
     }
 
@@ -74,7 +74,7 @@ impl<F: Callback, R: Rule> WatchTable<F, R> {
         self.listeners.lawful();
     }
 
-    /// How many clients watch the object of a number. It takes one look-up.
+    /// How many clients watch the object of a number. It hashes nothing.
     pub fn watchers(&self, object: u64) -> usize
         ensures { result ≡ count_by (λ e. is_on object e.watches) self.now }
     {
@@ -130,7 +130,7 @@ impl<F: Callback, R: Rule> WatchTable<F, R> {
     }
 
     /// Notifies a subject to the watches on the object of a number, and gives how many clients
-    /// watch it no more. It takes no memory, and one look-up where no watch ends.
+    /// watch it no more. It takes no memory.
     pub fn tell_watchers(&mut self, object: u64, subject: &Subject<'_>) -> usize
         requires aim { subject.now.aim ≡ On object }
         requires subject { IsSubject (subject_of subject.now) }

@@ -1,13 +1,11 @@
 // The clients that watch each object.
-ghost use Rattle.std.specs.Prelude.{◌≡◌, ℕ, ◌∷◌, ◌++◌, [], IfOk, OnOk, OnErr, filter, length, nat_eq};
+ghost use Rattle.std.specs.Prelude.{◌≡◌, ℕ, ◌<◌, ◌∷◌, ◌++◌, [], OnOk, OnErr, filter, length, nat_eq};
 ghost use Rattle.watch_table.specs.Clients.{watches};
 ghost use Rattle.watch_table.specs.Watched.{watchers_of, SetsWatchers, SameWatchers};
 
 use crate::hook::{Callback, Rule};
 use crate::listeners::Listeners;
-use indexmap::IndexMap;
 use std::alloc::{AllocError, Global};
-use std::hash::RandomState;
 use std::marker::Model;
 
 // The clients that watch one object, by their numbers.
@@ -28,13 +26,13 @@ impl Model for Watchers {
 }
 
 impl Watchers {
-    // One client.
-    fn one(alloc: Global, client: u64) -> Result<Watchers, AllocError>
-        ensures { IfOk result (λ w. w ≡ client ∷ []) }
+    // Nobody.
+    fn none(alloc: Global) -> Watchers
+        ensures { result ≡ [] }
     {
-        let mut clients = Vec::with_capacity(alloc, 1)?;
-        clients.push_reserved(client);
-        Ok(Watchers { clients })
+        Watchers {
+            clients: Vec::new(alloc),
+        }
     }
 
     fn add(&mut self, client: u64) -> Result<(), AllocError>
@@ -45,12 +43,13 @@ impl Watchers {
         Ok(())
     }
 
-    // Only those stay that still have a watch on the object.
+    // Only those stay that still have a watch on the object; the memory of the others is given back.
     fn keep<F: Callback, R: Rule>(&mut self, listeners: &Listeners<F, R>, object: u64)
         ensures { self.new ≡ filter (watches listeners.now object) self.old }
     {
         self.clients
             .retain(|client| listeners.is_watching(*client, object));
+        self.clients.shrink_to_fit();
     }
 
     fn as_slice(&self) -> &[u64]
@@ -60,11 +59,11 @@ impl Watchers {
     }
 }
 
-// The clients that watch each object, by the object's number, so that who is told of a change is found by one look-up. An object that no
-// client watches has no entry.
+// The clients that watch each object, in a row by the objects' numbers, so that who is told of a change is found without a hash. A number
+// is the place of its object in a table of the caller's, so the row is no longer than that table was at its longest.
 #[derive(Drop)]
 pub(crate) struct WatchedObjects {
-    table: IndexMap<u64, Watchers, RandomState>,
+    row: Vec<Watchers>,
 }
 
 impl Model for WatchedObjects {
@@ -73,69 +72,59 @@ impl Model for WatchedObjects {
     ghost Value = { Watched };
 
     ghost use Rattle.std.specs.Coded.{coded_ℕ, coded_list};
-    ghost use Rattle.indexmap.specs.Layout.{hash_map_code};
-    ghost use Rattle.std.specs.contracts.random_state.RandomState as hasher;
 
-    ghost coded = { hash_map_code coded_ℕ (coded_list coded_ℕ) hasher.the_row.coded };
+    ghost coded = { coded_list (coded_list coded_ℕ) };
 
-    ghost use Rattle.watch_table.specs.Watched.{AreWatched};
-
-    ghost view = { λ w. w.table };
-
-    ghost invariant = { λ w. AreWatched w.table };
+    ghost view = { λ w. w.row.items };
 }
 
 impl WatchedObjects {
-    // No object is watched. Numbers are hashed with these keys.
-    pub(crate) fn new(alloc: Global, keys: RandomState) -> WatchedObjects
+    // No object is watched.
+    pub(crate) fn new(alloc: Global) -> WatchedObjects
         ensures { (n : ℕ) → watchers_of result n ≡ [] }
     {
         WatchedObjects {
-            table: IndexMap::with_hasher(alloc, keys),
+            row: Vec::new(alloc),
         }
     }
 
-    // The clients that watch an object. Where nobody watches any, no number is hashed.
+    // The clients that watch an object.
     pub(crate) fn watchers(&self, object: u64) -> &[u64]
         ensures { result.now ≡ watchers_of self.now object }
     {
-        if self.table.is_empty() {
-            return &[];
-        }
-        match self.table.get(&object) {
+        match self.row.get(object as usize) {
             Some(watchers) => watchers.as_slice(),
             None => &[],
         }
     }
 
-    // One client more watches an object. An allocation failure changes nothing.
+    // Makes the row so long that an object has a place in it. An allocation failure changes nothing.
+    fn reach(&mut self, alloc: Global, object: u64) -> Result<(), AllocError>
+        ensures same { SameWatchers self.old self.new }
+        ensures ok { OnOk result (object < length self.new) }
+    {
+        let places = (object as usize).checked_add(1).ok_or(AllocError)?;
+        if self.row.len() < places {
+            self.row.resize_with(places, || Watchers::none(alloc))?;
+        }
+        Ok(())
+    }
+
+    // One client more watches an object. An allocation failure changes nothing that is seen.
     pub(crate) fn add(&mut self, alloc: Global, object: u64, client: u64) -> Result<(), AllocError>
         ensures ok { OnOk result (SetsWatchers self.old self.new object (watchers_of self.old object ++ client ∷ [])) }
         ensures err { OnErr result (SameWatchers self.old self.new) }
     {
-        match self.table.get_mut(&object) {
-            Some(watchers) => watchers.add(client),
-            None => {
-                let watchers = Watchers::one(alloc, client)?;
-                self.table.insert(object, watchers)?;
-                Ok(())
-            }
-        }
+        self.reach(alloc, object)?;
+        self.row[object as usize].add(client)
     }
 
     // Of the clients that watched an object, those stay that still do. It takes no memory.
     pub(crate) fn refresh<F: Callback, R: Rule>(&mut self, listeners: &Listeners<F, R>, object: u64)
         ensures { SetsWatchers self.old self.new object (filter (watches listeners.now object) (watchers_of self.old object)) }
     {
-        let is_idle = match self.table.get_mut(&object) {
-            Some(watchers) => {
-                watchers.keep(listeners, object);
-                watchers.as_slice().is_empty()
-            }
-            None => false,
-        };
-        if is_idle {
-            let _ = self.table.swap_remove(&object);
+        if let Some(watchers) = self.row.get_mut(object as usize) {
+            watchers.keep(listeners, object);
         }
     }
 }
